@@ -6,7 +6,7 @@ Starts a machine whose serial port is at standard input and output. Waits for th
 last one. Then the machine has to end. Prints how long it took.
 
 The environment says more: STATUS is the status with which the machine has to end, FIRST what is typed behind the banner and
-does not come back, COUNT another number of bytes, BURSTS=1 that they are typed in bursts with pauses, and LAST what is typed in place
+does not come back, COUNT another number of bytes, or one for each line, BURSTS=1 that they are typed in bursts with pauses, and LAST what is typed in place
 of bytes before the last line, and does not come back either. A machine that sends nothing for a while is stopped.
 """
 import os
@@ -17,7 +17,7 @@ import sys
 import threading
 import time
 
-COUNT = int(os.environ.get("COUNT", "10000"))
+COUNTS = [int(count) for count in os.environ.get("COUNT", "10000").split()]
 PATIENCE = 10  # seconds without a byte, after which the machine is stopped
 # Around the sizes of a FIFO and of the rings, so that each is filled again while it is read, and runs empty.
 MOST_IN_A_BURST = 600
@@ -34,7 +34,7 @@ def main():
         expect(machine, lines[0].encode() + b"\r\n", "the banner")
         type_in(machine, [os.environ.get("FIRST", "").encode()])
         for number, line in enumerate(lines[1:], 2):
-            typed = numbers.randbytes(COUNT)
+            typed = numbers.randbytes(COUNTS[min(number - 2, len(COUNTS) - 1)])
             pieces = bursts(typed) if os.environ.get("BURSTS") else [typed]
             if number == len(lines) and "LAST" in os.environ:
                 typed, pieces = b"", [os.environ["LAST"].encode()]

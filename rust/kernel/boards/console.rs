@@ -50,6 +50,8 @@ const PATTERN_PERIOD: usize = 251;
 const SPIN_LIMIT: NonZeroU64 = NonZeroU64::new(10_000).unwrap();
 // How often a wait may give up until the other end is taken to be gone.
 const MOST_STALLS: u32 = 1_000_000;
+/// How many looks for what is typed are made until the other end is taken to be gone: minutes.
+pub const MOST_LOOKS: u32 = 1_000_000_000;
 
 // Thousandths of which the nearest divisor may be off.
 const TOLERANCE: u32 = 20;
@@ -61,6 +63,7 @@ pub enum Failure {
     NotInitialised(InitError),
     BrokenChip(LoopbackError),
     NobodyReads,
+    NobodyTypes,
     #[cfg(has_interrupts)]
     NoRings,
 }
@@ -91,6 +94,7 @@ impl fmt::Display for Failure {
             Failure::NotInitialised(cause) => write!(f, "not initialised: {cause}"),
             Failure::BrokenChip(cause) => write!(f, "broken: {cause}"),
             Failure::NobodyReads => f.write_str("nobody reads"),
+            Failure::NobodyTypes => f.write_str("nobody types"),
             #[cfg(has_interrupts)]
             Failure::NoRings => f.write_str("no rings"),
         }
@@ -163,7 +167,7 @@ fn send_all(console: &mut Console, bytes: &[u8]) -> Result<u32, Failure> {
 // Sends back what is typed, until the mark.
 fn echo(console: &mut Console) -> Result<(), Failure> {
     let mut slots = [0; 64];
-    loop {
+    for _look in 0..MOST_LOOKS {
         let count = console.receive_bytes(&mut slots);
         let typed = &slots[..count];
         let end = typed.iter().position(|byte| *byte == MARK);
@@ -172,6 +176,7 @@ fn echo(console: &mut Console) -> Result<(), Failure> {
             return Ok(());
         }
     }
+    Err(Failure::NobodyTypes)
 }
 
 // Sends the pattern. Returns how often a wait has given up.

@@ -5,23 +5,20 @@
 #[cfg_attr(interrupts = "8259", path = "interrupts/pc.rs")]
 mod controller;
 
-use crate::{Console, Failure, MARK, Registers, say, stop};
+use crate::{Console, Failure, MARK, MOST_LOOKS, Registers, say, stop};
 use core::cell::UnsafeCell;
 use uart_16550::native::spec::registers::{IER, LSR};
-use uart_16550::ring::{HandleEnd, Memory, Uart16550Ring};
+use uart_16550::ring::{MAX_INTERRUPTS, Memory, Uart16550Ring};
 
 const RING_SIZE: usize = 256;
 
-// How many interrupts one run of the handler serves, and how many runs in a row may end otherwise than idle. Each of a sound
-// chip's interrupts moves a byte, and both rings are full before so many.
-const MOST_INTERRUPTS: usize = 32;
-const MOST_IN_A_ROW: u32 = 1024;
+// A chip is stuck if this many rounds of the handler in a row did not end with `Idle`.
+const MAX_UNFINISHED_ROUNDS: u32 = 100;
 
 /// What the handler and the rest of the kernel share.
 struct Shared {
     ring: Option<Uart16550Ring<Registers>>,
     interrupts: u32,
-    in_a_row: u32,
 }
 
 /// A value that is used with interrupts off alone, on one processor.
@@ -33,7 +30,6 @@ unsafe impl<T> Sync for Alone<T> {}
 static SHARED: Alone<Shared> = Alone(UnsafeCell::new(Shared {
     ring: None,
     interrupts: 0,
-    in_a_row: 0,
 }));
 
 static BYTES: Alone<[u8; 2 * RING_SIZE]> = Alone(UnsafeCell::new([0; 2 * RING_SIZE]));
@@ -55,12 +51,11 @@ extern "C" fn handle_interrupt() {
     let claim = controller::claim();
     shared.interrupts += 1;
     let Some(ring) = &mut shared.ring else { stop() };
-    match ring.handle(MOST_INTERRUPTS).end {
-        HandleEnd::Idle => shared.in_a_row = 0,
-        HandleEnd::Unknown | HandleEnd::Limit => shared.in_a_row += 1,
-    }
-    // A broken chip would take the processor for ever.
-    if shared.in_a_row > MOST_IN_A_ROW {
+    let handled = ring.try_handle(4 * MAX_INTERRUPTS, MAX_UNFINISHED_ROUNDS);
+    // A read of the chip is answered when all writes before it have arrived, so the controller sees the line that they have made.
+    ring.inner_mut().spr();
+    // These boards have no broken chip, so there is nobody to start it again.
+    if handled.is_err() {
         stop()
     }
     controller::complete(claim);
@@ -94,10 +89,10 @@ pub fn echo(console: Console) -> Console {
         }
     });
     let (mut is_marked, mut errors) = (false, LSR::empty());
-    loop {
-        let is_over = with(|shared| {
+    let mut is_over = false;
+    for _look in 0..MOST_LOOKS {
+        is_over = with(|shared| {
             let Some(ring) = &mut shared.ring else { stop() };
-            shared.in_a_row = 0;
             if !is_marked {
                 is_marked = move_some(ring);
             }
@@ -107,6 +102,9 @@ pub fn echo(console: Console) -> Console {
         if is_over {
             break;
         }
+    }
+    if !is_over {
+        stop()
     }
     controller::interrupts_off();
     // SAFETY: interrupts are off for good.

@@ -4,9 +4,9 @@
 #![no_main]
 
 use core::fmt::Write;
-use core::num::NonZeroUsize;
+use core::num::{NonZeroU64, NonZeroUsize};
 use uart_16550::native::backend::VolatileMemory;
-use uart_16550::native::embedded_io::Write as _;
+use uart_16550::native::embedded_io::{Read as _, Write as _};
 use uart_16550::native::{BaudRate, Config, Uart16550, Uart16550Tty};
 
 // What the board has, and where: its device tree says so.
@@ -20,6 +20,9 @@ const FINISHED: u32 = 0x5555;
 const FAILED: u32 = 0x3333;
 
 const TYPED: usize = 10_000;
+
+// How many polls in a row a wait makes: more than a quarter of an hour, for somebody who types.
+const PATIENCE: NonZeroU64 = NonZeroU64::new(1_000_000_000).unwrap();
 
 core::arch::global_asm!(
     ".section .text.start, \"ax\"",
@@ -70,6 +73,7 @@ fn start() -> Option<Console> {
     let mut driver = Uart16550::new_with_backend(registers);
     driver.init(config).ok()?;
     driver.test_loopback().ok()?;
+    driver.set_spin_limit(PATIENCE);
     Some(Uart16550Tty::from_inner(driver))
 }
 
@@ -81,7 +85,7 @@ fn echo(console: &mut Console) -> Option<()> {
     while left > 0 {
         let driver = console.inner_mut();
         let wanted = slots.len().min(left);
-        let count = driver.receive_bytes(&mut slots[..wanted]);
+        let count = driver.read(&mut slots[..wanted]).ok()?;
         driver.send_bytes_exact(&slots[..count]).ok()?;
         left -= count;
     }

@@ -1,4 +1,5 @@
-# From the entry by PVH, in 32 bits and without paging, to 64 bits with the first GiB mapped to itself. Then calls kernel_main.
+# From the entry by PVH, in 32 bits and without paging, to 64 bits with the first GiB mapped to itself. Then calls kernel_main. Another
+# processor comes from 16 bits, with the same tables, and calls processor_main.
 # SSE stays off: an instruction of it would fault.
 
     .set PRESENT_WRITABLE, 0x03
@@ -13,6 +14,7 @@
     .set DATA, 16
     .set EXIT_PORT, 0xf4
     .set STACK_SIZE, 65536
+    .set DESCRIPTORS_SIZE, 24
 
 # The note by which a loader finds the entry.
     .section .note.pvh, "a", @note
@@ -50,7 +52,41 @@ map:
     lgdt descriptors_pointer
     ljmp $CODE, $start64
 
+# Where another processor begins. This is copied to a page of the first MiB, and so uses no address of its own but from its beginning.
+    .code16
+    .globl processor_entry
+processor_entry:
+    cli
+    movw %cs, %ax
+    movw %ax, %ds
+    lgdtl copied_pointer - processor_entry
+    movl $root, %eax
+    movl %eax, %cr3
+    movl $CR4_PAE, %eax
+    movl %eax, %cr4
+    movl $EFER, %ecx
+    rdmsr
+    orl $EFER_LONG_MODE, %eax
+    wrmsr
+    movl $CR0_PAGING_AND_PROTECTION, %eax
+    movl %eax, %cr0
+    ljmpl $CODE, $processor64
+copied_pointer:
+    .word DESCRIPTORS_SIZE - 1
+    .long descriptors
+    .globl processor_entry_end
+processor_entry_end:
+
     .code64
+processor64:
+    movw $DATA, %ax
+    movw %ax, %ds
+    movw %ax, %es
+    movw %ax, %ss
+    movq $processor_stack_end, %rsp
+    call processor_main
+    jmp halt
+
 start64:
     movw $DATA, %ax
     movw %ax, %ds
@@ -121,5 +157,11 @@ pages:
 stack:
     .skip STACK_SIZE
 stack_end:
+processor_stack:
+    .skip STACK_SIZE
+processor_stack_end:
+
+# Most kernels have one processor.
+    .weak processor_main
 
     .section .note.GNU-stack, "", @progbits

@@ -2,15 +2,27 @@
 
 use crate::Ports;
 use crate::machine::{self, Controller, End, Shared, end};
+use core::fmt::{self, Write as _};
 use uart_16550::native::Uart16550;
+use uart_16550::native::embedded_io::Write as _;
 use uart_16550::native::spec::registers::{IER, LSR};
-use uart_16550::ring::{HandleEnd, Memory, Uart16550Ring};
+use uart_16550::ring::{MAX_INTERRUPTS, Memory, StuckError, Uart16550Ring};
 
 /// The rings over the port.
 pub type Ring = Uart16550Ring<Ports>;
 
 /// What the handler does with the rings.
-pub type Serve = fn(&mut Ring) -> HandleEnd;
+pub type Serve = fn(&mut Ring);
+
+// A chip is stuck if this many rounds of the handler in a row did not end with `Idle`.
+const MAX_UNFINISHED_ROUNDS: u32 = 100;
+
+/// The handler of the documents. A chip that is stuck has its interrupts off, and the program looks for that.
+pub fn serve(ring: &mut Ring) {
+    let _handled = ring.try_handle(4 * MAX_INTERRUPTS, MAX_UNFINISHED_ROUNDS);
+    // A read of the chip is answered when all writes before it have arrived, so the controller sees the line that they have made.
+    ring.inner_mut().spr();
+}
 
 /// How COM1's interrupt is kept out while the program calls the rings.
 #[derive(Clone, Copy, PartialEq, Eq)]
@@ -36,38 +48,33 @@ pub struct Trial {
 
 const RING_SIZE: usize = 256;
 
-// How often in a row the handler may run with no end of the interrupt, and without a look of the program. Each of a sound chip's
-// interrupts moves a byte, and both rings are full before so many.
-const MOST_IN_A_ROW: u32 = 1024;
+// The interrupts that the rings do not enable themselves.
+const INTERRUPTS: IER = IER::DATA_READY.union(IER::RECEIVER_LINE_STATUS);
+
+// A handler that ends no storm is stopped after so many interrupts: more than two for each byte of the longest echo.
+const MOST_INTERRUPTS: u32 = 1_000_000;
 
 /// The console while interrupts serve it.
 struct Console {
     ring: Option<Ring>,
     serve: Serve,
     interrupts: u32,
-    in_a_row: u32,
-    is_masked: bool,
 }
 
 static CONSOLE: Shared<Console> = Shared::new(Console {
     ring: None,
-    serve: |_ring| HandleEnd::Idle,
+    serve,
     interrupts: 0,
-    in_a_row: 0,
-    is_masked: false,
 });
 
 static RING_MEMORY: Shared<[u8; 2 * RING_SIZE]> = Shared::new([0; 2 * RING_SIZE]);
-
-/// What a program says of an echo that ended with `Masked`.
-pub const MASKED: &str = "COM1's interrupt has no end, and is masked";
 
 /// How an echo ended.
 pub enum Echoed {
     /// All was sent back, with these line errors.
     All(LSR),
-    /// The interrupt came again and again, and was masked.
-    Masked,
+    /// The chip is stuck, for this reason.
+    Stuck(StuckError),
 }
 
 /// The handler of COM1's interrupt.
@@ -78,17 +85,30 @@ extern "C" fn handle_interrupt() {
         let Some(ring) = &mut console.ring else {
             end(End::NoRings)
         };
-        match (console.serve)(ring) {
-            HandleEnd::Idle => console.in_a_row = 0,
-            HandleEnd::Limit | HandleEnd::Unknown => console.in_a_row += 1,
-        }
-        // A broken chip would take the processor for ever.
-        if console.in_a_row > MOST_IN_A_ROW {
-            machine::mask_interrupts();
-            console.is_masked = true;
+        (console.serve)(ring);
+        if console.interrupts > MOST_INTERRUPTS {
+            end(End::Storm)
         }
     });
     machine::end_of_interrupt();
+}
+
+/// Says a line on the console of the rings, by polling.
+pub fn say(ring: &mut Ring, line: fmt::Arguments<'_>) {
+    let said = write!(Polled(ring.inner_mut()), "\r\n{line}\r\n");
+    if said.is_err() || ring.inner_mut().flush().is_err() {
+        end(End::NotSent)
+    }
+}
+
+struct Polled<'a>(&'a mut Uart16550<Ports>);
+
+impl fmt::Write for Polled<'_> {
+    fn write_str(&mut self, text: &str) -> fmt::Result {
+        self.0
+            .send_bytes_exact(text.as_bytes())
+            .map_err(|_| fmt::Error)
+    }
 }
 
 // Moves bytes from the receive ring to the transmit ring, as many as that has room for, and returns how many.
@@ -111,25 +131,26 @@ fn unmask(ring: &mut Ring, exclusion: Exclusion) {
     }
 }
 
-/// Sends back this number of bytes as they are received. Returns how it ended, and the driver.
-pub fn by_interrupts(
-    driver: Uart16550<Ports>,
-    typed: usize,
-    trial: Trial,
-) -> (Echoed, Uart16550<Ports>) {
+/// Returns rings over the driver. To be called once.
+pub fn rings(driver: Uart16550<Ports>) -> Ring {
     let memory = Memory::new(RING_MEMORY.alone());
-    let Ok(ring) = Uart16550Ring::new(memory.global(), driver, RING_SIZE, RING_SIZE) else {
-        end(End::NoRings)
-    };
+    match Uart16550Ring::new(memory.global(), driver, RING_SIZE, RING_SIZE) {
+        Ok(ring) => ring,
+        Err(_) => end(End::NoRings),
+    }
+}
+
+/// Sends back this number of bytes as they are received. Returns how it ended, and the rings, over a chip that interrupts no more.
+pub fn by_interrupts(ring: Ring, typed: usize, trial: Trial) -> (Echoed, Ring) {
     CONSOLE.alone().serve = trial.serve;
     let ring = CONSOLE.alone().ring.insert(ring);
     machine::set_up_interrupts_at(trial.controller);
-    ring.inner_mut()
-        .enable_interrupts(IER::DATA_READY | IER::RECEIVER_LINE_STATUS);
+    // This starts rings again that are stuck.
+    ring.restart(INTERRUPTS);
     let (mut done, mut is_over, mut line) = (0, false, LSR::empty());
+    let mut stuck = None;
     while !is_over {
         CONSOLE.or_sleep(|console| {
-            console.in_a_row = 0;
             let Some(ring) = &mut console.ring else {
                 end(End::NoRings)
             };
@@ -139,24 +160,20 @@ pub fn by_interrupts(
             let count = echo_some(ring);
             done += count;
             line |= ring.take_line() & LSR::ERRORS;
-            if !console.is_masked {
-                unmask(ring, trial.exclusion);
-            }
-            is_over = console.is_masked || done == typed && ring.transmit_len() == 0;
+            unmask(ring, trial.exclusion);
+            stuck = ring.stuck();
+            is_over = stuck.is_some() || done == typed && ring.transmit_len() == 0;
             count > 0 || is_over
         });
     }
     let console = CONSOLE.alone();
-    let Some(ring) = console.ring.take() else {
+    let Some(mut ring) = console.ring.take() else {
         end(End::NoRings)
     };
+    ring.inner_mut().disable_interrupts(IER::all());
     if console.interrupts == 0 {
         end(End::NoInterrupts)
     }
-    let echoed = if console.is_masked {
-        Echoed::Masked
-    } else {
-        Echoed::All(line)
-    };
-    (echoed, ring.into_inner())
+    let echoed = stuck.map_or(Echoed::All(line), Echoed::Stuck);
+    (echoed, ring)
 }

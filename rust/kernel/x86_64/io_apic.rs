@@ -15,10 +15,18 @@ const LEVELS: u32 = 1 << 15;
 const MASKED: u32 = 1 << 16;
 
 const LOCAL_APIC: usize = 0xfee0_0000;
+const NUMBER: usize = LOCAL_APIC + 0x20;
 const END_OF_INTERRUPT: usize = LOCAL_APIC + 0xb0;
 const SPURIOUS: usize = LOCAL_APIC + 0xf0;
 const ENABLED: u32 = 1 << 8;
 const SPURIOUS_VECTOR: u32 = 0xff;
+const COMMAND: usize = LOCAL_APIC + 0x300;
+const COMMAND_TARGET: usize = LOCAL_APIC + 0x310;
+const RESET: u32 = 0x4500;
+const BEGIN_AT_PAGE: u32 = 0x4600;
+
+// Where the number of a processor is, in a register of either part.
+const NUMBER_SHIFT: u32 = 24;
 
 fn write(register: usize, value: u32) {
     let register = core::ptr::with_exposed_provenance_mut::<u32>(register);
@@ -67,9 +75,8 @@ fn map() {
 /// Lets an input in as this vector, on its level or on its edges.
 pub fn set_up(input: u8, vector: u8, on_levels: bool) {
     map();
-    write(SPURIOUS, ENABLED | SPURIOUS_VECTOR);
-    // To the processor with number 0.
-    write_entry(input, 1, 0);
+    enable_for_this_processor();
+    send_to(input, 0);
     let kind = if on_levels { LEVELS } else { 0 };
     write_entry(input, 0, u32::from(vector) | kind);
 }
@@ -84,4 +91,30 @@ pub fn set_masked(input: u8, vector: u8, on_levels: bool, is_masked: bool) {
 /// Tells the processor's part that an interrupt was served.
 pub fn end_of_interrupt() {
     write(END_OF_INTERRUPT, 0);
+}
+
+/// Lets interrupts reach this processor.
+pub fn enable_for_this_processor() {
+    write(SPURIOUS, ENABLED | SPURIOUS_VECTOR);
+}
+
+/// Has the input interrupt the processor with this number from now on.
+pub fn send_to(input: u8, processor: u8) {
+    write_entry(input, 1, u32::from(processor) << NUMBER_SHIFT);
+}
+
+/// Returns the number of this processor.
+pub fn this_processor() -> u8 {
+    let register = core::ptr::with_exposed_provenance::<u32>(NUMBER);
+    // SAFETY: a processor has its part there, and `map` has made the addresses usable.
+    (unsafe { register.read_volatile() } >> NUMBER_SHIFT) as u8
+}
+
+/// Resets the processor with this number, and has it begin at this page of the first MiB.
+pub fn begin(processor: u8, page: u8, wait: impl Fn()) {
+    for command in [RESET, BEGIN_AT_PAGE | u32::from(page)] {
+        write(COMMAND_TARGET, u32::from(processor) << NUMBER_SHIFT);
+        write(COMMAND, command);
+        wait();
+    }
 }

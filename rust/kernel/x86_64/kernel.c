@@ -8,7 +8,9 @@
 #include "u16550.h"
 
 /* How the machine ends, as the emulator's port for it gets it. The emulator's status is twice this and one. */
-enum end { DONE = 0x10, NO_CONSOLE = 0x20, NO_RINGS = 0x21, NOT_SENT = 0x22, NO_INTERRUPTS = 0x23, MASKED = 0x24, PANIC = 0x3f };
+enum end {
+    DONE = 0x10, NO_CONSOLE = 0x20, NO_RINGS = 0x21, NOT_SENT = 0x22, NO_INTERRUPTS = 0x23, STUCK = 0x24, NOBODY_TYPES = 0x26, PANIC = 0x3f
+};
 
 enum {
     COM1 = 0x3f8, COM1_LINE = 4, ISR = 2,
@@ -19,16 +21,16 @@ enum {
                 | U16550_LSR_BREAK_INTERRUPT | U16550_LSR_FIFO_DATA_ERROR
 };
 
-/*
- * How many interrupts one run of the handler serves, and how many runs in a row may end with more to do and without a look of
- * the program. Each of a sound chip's interrupts moves a byte, and both rings are full before so many.
- */
-enum { MOST_SERVED = 4 * U16550_MAX_INTERRUPTS, MOST_IN_A_ROW = 1024 };
+/* How many polls in a row a wait makes: more than a quarter of an hour, for somebody who types. */
+enum { PATIENCE = 1000000000 };
+
+/* How many interrupts one run of the handler serves, and how many runs in a row may leave some unserved before the chip is stuck. */
+enum { MOST_SERVED = 4 * U16550_MAX_INTERRUPTS, MOST_RUNS = 100 };
 
 static struct u16550 console;
 static uint8_t ring_memory[2 * RING_SIZE];
-static volatile uint32_t interrupts, in_a_row;
-static volatile uint8_t is_masked;
+static volatile uint32_t interrupts;
+static volatile int why_stuck;
 
 /* ---- the machine */
 
@@ -127,6 +129,14 @@ static void say(const char *line, size_t len)
 
 #define SAY(line) say(line, sizeof line - 1)
 
+static size_t length_of(const char *text)
+{
+    size_t len = 0;
+    while (text[len] != 0)
+        len++;
+    return len;
+}
+
 static void start(void)
 {
     struct u16550_io ports = { NULL, port_read, port_write };
@@ -136,6 +146,7 @@ static void start(void)
     config.baud_rate = 115200;
     must(u16550_init(&console, &config), NO_CONSOLE);
     must(u16550_test_loopback(&console, NULL), NO_CONSOLE);
+    must(u16550_set_spin_limit(&console, PATIENCE), NO_CONSOLE);
 }
 
 /* Sends back what is received, by polling. */
@@ -143,7 +154,7 @@ static void echo_by_polling(void)
 {
     uint8_t slots[64];
     for (size_t left = TYPED, count; left > 0; left -= count) {
-        must(u16550_receive_bytes(&console, slots, left < sizeof slots ? left : sizeof slots, &count), NO_CONSOLE);
+        must(u16550_read(&console, slots, left < sizeof slots ? left : sizeof slots, &count), NOBODY_TYPES);
         must(u16550_send_bytes_exact(&console, slots, count, NULL), NOT_SENT);
     }
 }
@@ -152,16 +163,17 @@ static void echo_by_polling(void)
 void handle_interrupt(void)
 {
     struct u16550_handled handled;
+    uint8_t scratch;
+    int status;
     interrupts++;
     /* Interrupts are off during all other calls, so none is in the middle, and the controller keeps the edges meanwhile. */
-    must(u16550_ring_handle(&console, MOST_SERVED, &handled), NO_RINGS);
-    if (handled.end == U16550_HANDLE_IDLE) {
-        in_a_row = 0;
-    } else if (++in_a_row > MOST_IN_A_ROW) {
-        /* A broken chip would take the processor for ever. */
-        write_port(PRIMARY + 1, 0xff);
-        is_masked = 1;
-    }
+    status = u16550_ring_try_handle(&console, MOST_SERVED, MOST_RUNS, &handled);
+    if (status == U16550_RING_STUCK_UNKNOWN || status == U16550_RING_STUCK_PENDING)
+        why_stuck = status;
+    else
+        must(status, NO_RINGS);
+    /* A read of the chip is answered when all writes before it have arrived, so the controller sees the line that they have made. */
+    must(u16550_spr(&console, &scratch), NO_CONSOLE);
     write_port(PRIMARY, END_OF_INTERRUPT);
 }
 
@@ -177,6 +189,17 @@ static size_t echo_some(void)
     return count;
 }
 
+/* Says why the chip is stuck, and ends the machine. */
+static void say_stuck(void)
+{
+    const char *why = u16550_text(why_stuck);
+    must(u16550_ring_end(&console), NO_RINGS);
+    SAY("\nCOM1 is stuck: ");
+    say(why, length_of(why));
+    SAY("\n");
+    end(STUCK);
+}
+
 /* Sends back what is received, by interrupts. Returns the line errors. */
 static uint8_t echo_by_interrupts(void)
 {
@@ -189,12 +212,8 @@ static uint8_t echo_by_interrupts(void)
     while (done < TYPED || waiting > 0) {
         size_t count = echo_some();
         done += count;
-        in_a_row = 0;
-        if (is_masked) {
-            must(u16550_ring_end(&console), NO_RINGS);
-            SAY("\nCOM1's interrupt has no end, and is masked\n");
-            end(MASKED);
-        }
+        if (why_stuck != U16550_OK)
+            say_stuck();
         must(u16550_ring_take_line(&console, &line), NO_RINGS);
         errors |= line & LINE_ERRORS;
         must(u16550_ring_transmit_len(&console, &waiting), NO_RINGS);

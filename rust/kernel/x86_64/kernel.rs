@@ -7,12 +7,12 @@ mod echo;
 mod machine;
 
 use core::fmt::Write;
+use core::num::NonZeroU64;
 use echo::{Echoed, Exclusion, Trial};
 use machine::{Controller, End, end};
 use uart_16550::native::backend::X86Ports;
-use uart_16550::native::embedded_io::Write as _;
+use uart_16550::native::embedded_io::{Read as _, Write as _};
 use uart_16550::native::{BaudRate, Config, Uart16550, Uart16550Tty};
-use uart_16550::ring::MAX_INTERRUPTS;
 
 type Ports = X86Ports;
 type Driver = Uart16550<Ports>;
@@ -20,8 +20,8 @@ type Driver = Uart16550<Ports>;
 const COM1: u16 = 0x3f8;
 const TYPED: usize = 10_000;
 
-// The most interrupts that the handler serves when it runs.
-const MOST_SERVED: usize = 4 * MAX_INTERRUPTS;
+// How many polls in a row a wait makes: more than a quarter of an hour, for somebody who types.
+const PATIENCE: NonZeroU64 = NonZeroU64::new(1_000_000_000).unwrap();
 
 #[panic_handler]
 fn panic(_info: &core::panic::PanicInfo<'_>) -> ! {
@@ -48,6 +48,7 @@ fn start() -> Uart16550Tty<Ports> {
     if driver.init(config).is_err() || driver.test_loopback().is_err() {
         end(End::NoConsole)
     }
+    driver.set_spin_limit(PATIENCE);
     Uart16550Tty::from_inner(driver)
 }
 
@@ -57,7 +58,9 @@ fn echo_by_polling(driver: &mut Driver) {
     let mut slots = [0; 64];
     while left > 0 {
         let wanted = slots.len().min(left);
-        let count = driver.receive_bytes(&mut slots[..wanted]);
+        let Ok(count) = driver.read(&mut slots[..wanted]) else {
+            end(End::NobodyTypes)
+        };
         if driver.send_bytes_exact(&slots[..count]).is_err() {
             end(End::NotSent)
         }
@@ -71,26 +74,25 @@ extern "C" fn kernel_main() -> ! {
     say(&mut console, format_args!("console on COM1: loopback ok"));
     echo_by_polling(console.inner_mut());
     say(&mut console, format_args!("\n{TYPED} bytes by polling"));
-    let driver = console.into_inner();
+    let ring = echo::rings(console.into_inner());
     let trial = Trial {
-        serve: |ring| ring.handle(MOST_SERVED).end,
+        serve: echo::serve,
         controller: Controller::I8259,
         exclusion: Exclusion::Processor,
     };
-    let (echoed, driver) = echo::by_interrupts(driver, TYPED, trial);
-    let mut console = Uart16550Tty::from_inner(driver);
+    let (echoed, mut ring) = echo::by_interrupts(ring, TYPED, trial);
     match echoed {
         Echoed::All(line) => {
             let errors = line.bits();
-            say(
-                &mut console,
-                format_args!("\n{TYPED} bytes by interrupts, errors {errors:02x}"),
+            echo::say(
+                &mut ring,
+                format_args!("{TYPED} bytes by interrupts, errors {errors:02x}"),
             );
             end(End::Done)
         }
-        Echoed::Masked => {
-            say(&mut console, format_args!("\n{}", echo::MASKED));
-            end(End::Masked)
+        Echoed::Stuck(cause) => {
+            echo::say(&mut ring, format_args!("COM1 is stuck: {cause}"));
+            end(End::Stuck)
         }
     }
 }

@@ -17,7 +17,9 @@ pub enum End {
     NoRings = 0x21,
     NotSent = 0x22,
     NoInterrupts = 0x23,
-    Masked = 0x24,
+    Stuck = 0x24,
+    Storm = 0x25,
+    NobodyTypes = 0x26,
     Panic = 0x3f,
 }
 
@@ -53,6 +55,14 @@ pub fn end(how: End) -> ! {
     }
 }
 
+/// Sleeps for good, and serves interrupts.
+pub fn sleep() -> ! {
+    loop {
+        // SAFETY: nothing is changed.
+        unsafe { asm!("hlt") }
+    }
+}
+
 // The bits of a page table's entry that say where a page is.
 const PAGE_ADDRESS: u64 = 0x000f_ffff_ffff_f000;
 
@@ -73,28 +83,24 @@ const COM1_VECTOR: u8 = (FIRST_VECTOR + COM1_LINE) as u8;
 
 /// Tells the interrupt controller that an interrupt was served. The handler calls this.
 pub fn end_of_interrupt() {
-    CONTROLLER.in_handler(|controller| match controller {
+    match CONTROLLER.copied() {
         Controller::I8259 => write_port(PRIMARY, END_OF_INTERRUPT),
         Controller::IoApicEdges | Controller::IoApicLevels => io_apic::end_of_interrupt(),
-    });
+    }
 }
 
 /// Lets COM1's interrupt in no more, or again. Interrupts are off, or the handler calls this.
 pub fn set_masked(is_masked: bool) {
-    CONTROLLER.in_handler(|controller| match controller {
+    let controller = CONTROLLER.copied();
+    match controller {
         Controller::I8259 => write_port(PRIMARY + 1, if is_masked { 0xff } else { ALL_BUT_COM1 }),
         Controller::IoApicEdges | Controller::IoApicLevels => io_apic::set_masked(
             COM1_LINE as u8,
             COM1_VECTOR,
-            *controller == Controller::IoApicLevels,
+            controller == Controller::IoApicLevels,
             is_masked,
         ),
-    });
-}
-
-/// Lets no interrupt in any more.
-pub fn mask_interrupts() {
-    set_masked(true);
+    }
 }
 
 /// Lets interrupts in from now on.
@@ -130,13 +136,63 @@ pub fn sleep_unless(is_awake: impl FnOnce() -> bool) {
 unsafe extern "C" {
     fn interrupt_entry();
     fn fault_entry();
+    fn processor_entry();
+    fn processor_entry_end();
 }
 
-/// A value that the interrupt handler shares with the rest of the kernel, which has one processor.
+// A page of the first MiB that nobody uses, where another processor begins.
+const ENTRY_PAGE: u8 = 0x08;
+const PAGE_SIZE: usize = 0x1000;
+
+/// Has the second processor call `processor_main`. The I/O APIC is set up, since that is where processors are told to begin.
+pub fn start_second_processor() {
+    let (entry, end) = (processor_entry as *const u8, processor_entry_end as *const u8);
+    let page = core::ptr::with_exposed_provenance_mut::<u8>(usize::from(ENTRY_PAGE) * PAGE_SIZE);
+    // SAFETY: the page is memory that nobody uses, and the entry is shorter.
+    unsafe { page.copy_from_nonoverlapping(entry, end.addr() - entry.addr()) };
+    io_apic::begin(SECOND, ENTRY_PAGE, wait_ten_milliseconds);
+}
+
+/// The number of the second processor.
+pub const SECOND: u8 = 1;
+
+// As long as a processor needs for its reset. Nothing is at this port, and an access takes about a microsecond.
+fn wait_ten_milliseconds() {
+    const NOTHING: u16 = 0x80;
+    for _ in 0..10_000 {
+        write_port(NOTHING, 0);
+    }
+}
+
+/// Returns the number of this processor, once the I/O APIC is set up.
+pub fn this_processor() -> u8 {
+    io_apic::this_processor()
+}
+
+/// Lets interrupts of the I/O APIC reach this processor too, as soon as its interrupts are on.
+pub fn join_interrupts() {
+    use_table();
+    io_apic::enable_for_this_processor();
+}
+
+/// Has COM1's line at the I/O APIC interrupt this processor from now on.
+pub fn send_interrupts_to(processor: u8) {
+    io_apic::send_to(COM1_LINE as u8, processor);
+}
+
+/// A value that the interrupt handler shares with the rest of a kernel that has one processor.
 pub struct Shared<T>(UnsafeCell<T>);
 
 // SAFETY: it is used with interrupts off alone.
 unsafe impl<T> Sync for Shared<T> {}
+
+impl<T: Copy> Shared<T> {
+    /// Returns the value, of one that does not change while interrupts are on.
+    pub fn copied(&self) -> T {
+        // SAFETY: nobody changes it meanwhile, on no processor.
+        unsafe { *self.0.get() }
+    }
+}
 
 impl<T> Shared<T> {
     pub const fn new(value: T) -> Self {
@@ -186,6 +242,18 @@ struct TablePointer {
 
 static TABLE: Shared<[[u64; 2]; VECTORS]> = Shared::new([[0; 2]; VECTORS]);
 
+// Has this processor use the table.
+fn use_table() {
+    let pointer = TablePointer {
+        limit: (size_of::<[[u64; 2]; VECTORS]>() - 1) as u16,
+        base: TABLE.0.get(),
+    };
+    // SAFETY: the table is there for good.
+    unsafe {
+        asm!("lidt [{}]", in(reg) &raw const pointer, options(readonly, nostack, preserves_flags))
+    };
+}
+
 // What the first 8259 masks if COM1's line is at it.
 const ALL_BUT_COM1: u8 = !(1 << COM1_LINE);
 
@@ -200,14 +268,7 @@ pub fn set_up_interrupts_at(controller: Controller) {
     let table = TABLE.alone();
     *table = [gate(fault_entry); VECTORS];
     table[FIRST_VECTOR + COM1_LINE] = gate(interrupt_entry);
-    let pointer = TablePointer {
-        limit: (size_of_val(table) - 1) as u16,
-        base: table,
-    };
-    // SAFETY: the table is there for good.
-    unsafe {
-        asm!("lidt [{}]", in(reg) &raw const pointer, options(readonly, nostack, preserves_flags))
-    };
+    use_table();
     // Edges, two 8259, their vectors, how they are connected, their mode, and which lines are masked.
     let let_in = match controller {
         Controller::I8259 => ALL_BUT_COM1,

@@ -7,21 +7,21 @@ mod machine;
 
 use core::pin::pin;
 use core::ptr;
-use core::sync::atomic::{AtomicBool, AtomicU32, Ordering};
+use core::sync::atomic::{AtomicBool, Ordering};
 use core::task::{Context, Poll, RawWaker, RawWakerVTable, Waker};
 use machine::{End, end};
 use uart_16550::native::backend::X86Ports;
 use uart_16550::native::spec::registers::{IER, LSR};
 use uart_16550::native::{BaudRate, Config, Uart16550};
-use uart_16550::ring::{HandleEnd, MAX_INTERRUPTS, Memory};
+use uart_16550::ring::{MAX_INTERRUPTS, Memory};
 use uart_16550::shared::{CriticalSection, Shared, SharedError};
 
 const COM1: u16 = 0x3f8;
 const TYPED: usize = 10_000;
 const RING_SIZE: usize = 256;
 
-// How often in a row the handler may run with no end of the interrupt. A broken chip would take the processor for ever.
-const MOST_IN_A_ROW: u32 = 1024;
+// A chip is stuck if this many rounds of the handler in a row did not end with `Idle`. The task is told.
+const MAX_UNFINISHED_ROUNDS: u32 = 100;
 
 /// The section of this kernel, which has one processor.
 struct Masked;
@@ -36,8 +36,6 @@ static PORT: Shared<Masked, X86Ports> = Shared::new(Masked);
 
 static RING_MEMORY: machine::Shared<[u8; 2 * RING_SIZE]> = machine::Shared::new([0; 2 * RING_SIZE]);
 
-static IN_A_ROW: AtomicU32 = AtomicU32::new(0);
-
 #[panic_handler]
 fn panic(_info: &core::panic::PanicInfo<'_>) -> ! {
     end(End::Panic)
@@ -46,16 +44,13 @@ fn panic(_info: &core::panic::PanicInfo<'_>) -> ! {
 /// The handler of COM1's interrupt.
 #[unsafe(no_mangle)]
 extern "C" fn handle_interrupt() {
-    match PORT.with(|ring| ring.handle(4 * MAX_INTERRUPTS).end) {
-        Ok(HandleEnd::Idle) => IN_A_ROW.store(0, Ordering::Relaxed),
-        Ok(HandleEnd::Limit | HandleEnd::Unknown) => {
-            let before = IN_A_ROW.fetch_add(1, Ordering::Relaxed);
-            if before >= MOST_IN_A_ROW {
-                machine::mask_interrupts();
-                end(End::Masked)
-            }
-        }
-        Err(_) => end(End::NoRings),
+    let served = PORT.with(|ring| {
+        let _handled = ring.try_handle(4 * MAX_INTERRUPTS, MAX_UNFINISHED_ROUNDS);
+        // A read of the chip is answered when all writes before it have arrived, so the controller sees the line that they have made.
+        ring.inner_mut().spr();
+    });
+    if served.is_err() {
+        end(End::NoRings)
     }
     machine::end_of_interrupt();
 }
@@ -150,6 +145,7 @@ extern "C" fn kernel_main() -> ! {
     machine::let_interrupts_in();
     match block_on(echo()) {
         Ok(()) => end(End::Done),
+        Err(SharedError::Stuck(_)) => end(End::Stuck),
         Err(_) => end(End::NotSent),
     }
 }
