@@ -50,16 +50,17 @@ unsafe extern "C" fn write(context: *mut c_void, offset: usize, value: u8) {
 // Puts a driver into the memory, over a chip in its own, over these registers.
 //
 // The caller promises what the constructors of the header ask for.
+#[inline(never)]
 unsafe fn new(
     uart: *mut Memory,
     chip: *mut CDesignWare,
     patience: u64,
-    registers: impl FnOnce() -> Result<Device, Failure>,
+    registers: Result<Device, Failure>,
 ) -> c_int {
     let driver = || {
         let chip = usable(chip)?.cast::<Chip>();
         let patience = NonZeroU64::new(patience).ok_or(Failure::ZeroLimit)?;
-        let registers = registers()?;
+        let registers = registers?;
         // SAFETY: the memory is large enough and aligned. A driver over a chip that was there has no call that is not done: if it is
         // this driver, `make` has looked, and otherwise the caller promises it.
         unsafe { chip.write(DesignWare::new(registers, patience)) };
@@ -80,7 +81,7 @@ pub unsafe extern "C" fn u16550_new_design_ware(
     patience: u64,
 ) -> c_int {
     // SAFETY: the caller promises that pointers are null or valid, and that the functions may be called.
-    let registers = || unsafe { Device::new(given(io)?, Place::OFFSETS) };
+    let registers = unsafe { given(io).and_then(|io| Device::new(io, Place::OFFSETS)) };
     // SAFETY: the same.
     unsafe { new(uart, chip, patience, registers) }
 }
@@ -94,7 +95,7 @@ pub unsafe extern "C" fn u16550_new_mmio_design_ware(
     patience: u64,
 ) -> c_int {
     // SAFETY: the caller promises that pointers are null or valid, and that the registers are there.
-    let registers = || unsafe { wide::design_ware(base, given(layout)?) };
+    let registers = unsafe { given(layout).and_then(|layout| wide::design_ware(base, layout)) };
     // SAFETY: the same.
     unsafe { new(uart, chip, patience, registers) }
 }

@@ -22,10 +22,16 @@ pub enum Held {
 impl Held {
     /// Returns the driver, the rings left aside.
     pub fn driver(&mut self) -> Result<&mut Driver, Failure> {
+        self.held_driver().ok_or(Failure::NotMade)
+    }
+
+    // As for `enter`.
+    #[inline(never)]
+    fn held_driver(&mut self) -> Option<&mut Driver> {
         match self {
-            Self::Plain(driver) => Ok(driver),
-            Self::WithRings(ring) => Ok(ring.inner_mut()),
-            Self::Nothing => Err(Failure::NotMade),
+            Self::Plain(driver) => Some(driver),
+            Self::WithRings(ring) => Some(ring.inner_mut()),
+            Self::Nothing => None,
         }
     }
 
@@ -152,6 +158,19 @@ pub unsafe fn make(
     at: *mut Memory,
     driver: impl FnOnce() -> Result<Driver, Failure>,
 ) -> Result<(), Failure> {
+    // SAFETY: the caller promises it.
+    unsafe { check_free(at) }?;
+    let driver = driver()?;
+    // SAFETY: the memory is large enough and aligned, and no call that is not done borrows it.
+    unsafe { put(at.cast(), driver) };
+    Ok(())
+}
+
+// Refuses memory in which a call is not done.
+//
+// Safety: that of `make`.
+#[inline(never)]
+unsafe fn check_free(at: *mut Memory) -> Result<(), Failure> {
     let made = usable(at)?.cast::<Made>();
     // A call that is not done borrows what would be replaced here. It has set the sign, and only this library writes the sign
     // meanwhile: so no such call is overlooked, and that is what safety needs. The sign proves nothing the other way round,
@@ -161,10 +180,17 @@ pub unsafe fn make(
     if unsafe { is_in_call(made) } {
         return Err(Failure::Busy);
     }
-    let driver = driver()?;
+    Ok(())
+}
+
+// Puts a driver into the memory.
+//
+// Safety: the memory is large enough and aligned, and no call that is not done borrows it.
+#[inline(never)]
+unsafe fn put(made: *mut Made, driver: Driver) {
     // An interrupt handler that comes now finds a call that is not done, and never a part of the old driver with a part of the
     // new one. The sign is set before the mark: so a mark without the sign is that of a whole driver.
-    // SAFETY: the memory is large enough and aligned, and no call that is not done borrows it.
+    // SAFETY: the caller promises it.
     unsafe {
         let is_busy = (&raw mut (*made).is_busy).cast::<u32>();
         is_busy.write_volatile(BUSY);
@@ -174,7 +200,6 @@ pub unsafe fn make(
         compiler_fence(Ordering::SeqCst);
         is_busy.write_volatile(FREE);
     }
-    Ok(())
 }
 
 /// Makes a call over what the memory holds, unless a call over it is not done.
@@ -187,6 +212,23 @@ pub unsafe fn with<R>(
     at: *mut Memory,
     call: impl FnOnce(&mut Held) -> Result<R, Failure>,
 ) -> Result<R, Failure> {
+    // SAFETY: the caller promises it.
+    unsafe { enter(at) }?;
+    let made = at.cast::<Made>();
+    // SAFETY: a driver was made, and no other call borrows it.
+    let result = call(unsafe { &mut (*made).held });
+    // SAFETY: this call has entered.
+    unsafe { leave(made) };
+    result
+}
+
+// Begins a call over what the memory holds, unless one is not done.
+//
+// Safety: that of `with`.
+//
+// Each function of the header does this, so there is one copy of it, which returns in a register.
+#[inline(never)]
+unsafe fn enter(at: *mut Memory) -> Result<(), Failure> {
     let made = usable(at)?.cast::<Made>();
     // SAFETY: there is memory.
     if !unsafe { is_made(made) } {
@@ -202,15 +244,19 @@ pub unsafe fn with<R>(
     compiler_fence(Ordering::SeqCst);
     // A handler that came before the sign was set may have ended the driver, and the memory of its rings is the caller's then.
     // SAFETY: there is memory.
-    let result = if unsafe { is_made(made) } {
-        // SAFETY: a driver was made, and no other call borrows it.
-        call(unsafe { &mut (*made).held })
-    } else {
-        Err(Failure::NotMade)
-    };
+    if !unsafe { is_made(made) } {
+        // SAFETY: this call has entered.
+        unsafe { leave(made) };
+        return Err(Failure::NotMade);
+    }
+    Ok(())
+}
+
+// Ends a call that has entered.
+unsafe fn leave(made: *mut Made) {
     compiler_fence(Ordering::SeqCst);
-    is_busy.store(FREE, Ordering::Relaxed);
-    result
+    // SAFETY: a driver was made there.
+    unsafe { &(*made).is_busy }.store(FREE, Ordering::Relaxed);
 }
 
 /// Takes the mark away: there is no driver in the memory any more.

@@ -359,13 +359,44 @@ pub fn status(result: Result<(), Failure>) -> c_int {
     }
 }
 
+// All texts, one behind the other, each with a zero at its end: in a kernel without a loader a table of pointers costs more than the
+// texts, and so does code that chooses among them.
+static TEXTS: [u8; texts_len()] = {
+    let mut texts = [0; texts_len()];
+    let (mut at, mut index) = (0, 0);
+    while index < Failure::ALL.len() {
+        let text = Failure::ALL[index].text().to_bytes_with_nul();
+        let mut from = 0;
+        while from < text.len() {
+            texts[at] = text[from];
+            at += 1;
+            from += 1;
+        }
+        index += 1;
+    }
+    texts
+};
+
+const fn texts_len() -> usize {
+    let (mut len, mut index) = (0, 0);
+    while index < Failure::ALL.len() {
+        len += Failure::ALL[index].text().to_bytes_with_nul().len();
+        index += 1;
+    }
+    len
+}
+
 #[unsafe(no_mangle)]
 pub extern "C" fn u16550_text(status: c_int) -> *const c_char {
     if status == 0 {
         return c"no error".as_ptr();
     }
+    let texts = TEXTS.split_inclusive(|byte| *byte == 0);
     let known = Failure::ALL
         .into_iter()
-        .find(|failure| *failure as c_int == status);
-    known.map_or(c"no known status", Failure::text).as_ptr()
+        .zip(texts)
+        .find(|(failure, _text)| *failure as c_int == status);
+    known.map_or(c"no known status".as_ptr(), |(_failure, text)| {
+        text.as_ptr().cast()
+    })
 }
