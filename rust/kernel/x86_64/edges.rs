@@ -138,7 +138,11 @@ fn mend(ring: &mut Ring) {
 #[unsafe(no_mangle)]
 extern "C" fn kernel_main() -> ! {
     let mut driver = start();
-    if driver.send_bytes_exact(b"what is the handler to do?\r\n").is_err() || driver.flush().is_err() {
+    if driver
+        .send_bytes_exact(b"what is the handler to do?\r\n")
+        .is_err()
+        || driver.flush().is_err()
+    {
         end(End::NotSent)
     }
     let trial = choice(&mut driver);

@@ -146,7 +146,10 @@ const PAGE_SIZE: usize = 0x1000;
 
 /// Has the second processor call `processor_main`. The I/O APIC is set up, since that is where processors are told to begin.
 pub fn start_second_processor() {
-    let (entry, end) = (processor_entry as *const u8, processor_entry_end as *const u8);
+    let (entry, end) = (
+        processor_entry as *const u8,
+        processor_entry_end as *const u8,
+    );
     let page = core::ptr::with_exposed_provenance_mut::<u8>(usize::from(ENTRY_PAGE) * PAGE_SIZE);
     // SAFETY: the page is memory that nobody uses, and the entry is shorter.
     unsafe { page.copy_from_nonoverlapping(entry, end.addr() - entry.addr()) };

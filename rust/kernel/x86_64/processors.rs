@@ -215,7 +215,10 @@ extern "C" fn kernel_main() -> ! {
     // The lock needs this: it asks which processor it is on.
     machine::set_up_interrupts_at(controller);
     let memory = Memory::new(RING_MEMORY.alone());
-    if PORT.start(memory.global(), driver, RING_SIZE, RING_SIZE).is_err() {
+    if PORT
+        .start(memory.global(), driver, RING_SIZE, RING_SIZE)
+        .is_err()
+    {
         end(End::NoRings)
     }
     let enabled = PORT.with(|ring| ring.restart(IER::DATA_READY | IER::RECEIVER_LINE_STATUS));
@@ -228,7 +231,11 @@ extern "C" fn kernel_main() -> ! {
     if finish().is_err() {
         end(End::NoRings)
     }
-    let has_worked = |counters: &[AtomicUsize]| counters.iter().all(|count| count.load(Ordering::Relaxed) > 0);
+    let has_worked = |counters: &[AtomicUsize]| {
+        counters
+            .iter()
+            .all(|count| count.load(Ordering::Relaxed) > 0)
+    };
     if has_worked(&INTERRUPTS) && has_worked(&LOOKS) {
         end(End::Done)
     }

@@ -29,7 +29,8 @@ pub struct CDesignWare([u64; WORDS]);
 type Chip = DesignWare<Device>;
 
 const _: () = assert!(
-    size_of::<Chip>() <= size_of::<CDesignWare>() && align_of::<Chip>() <= align_of::<CDesignWare>()
+    size_of::<Chip>() <= size_of::<CDesignWare>()
+        && align_of::<Chip>() <= align_of::<CDesignWare>()
 );
 
 // The functions by which a driver reaches the chip in its context.
