@@ -7,6 +7,7 @@
 mod echo;
 mod machine;
 
+use core::num::NonZeroU64;
 use echo::{Echoed, Exclusion, Ring, Serve, Trial};
 use machine::{Controller, End, end};
 use uart_16550::native::backend::{Backend, X86Ports};
@@ -18,6 +19,9 @@ use uart_16550::native::{BaudRate, Config, Uart16550};
 const COM1: u16 = 0x3f8;
 const TYPED: usize = 300_000;
 const TYPED_AFTERWARDS: usize = 10_000;
+
+// How many polls in a row a wait makes: minutes, for somebody who types.
+const PATIENCE: NonZeroU64 = NonZeroU64::new(100_000_000).unwrap();
 
 // How many accesses are made before each read, to nothing, so that it takes as long as on a real bus. The other end refills the
 // FIFO meanwhile.
@@ -71,6 +75,7 @@ fn start() -> Uart16550<Ports> {
     if driver.init(config).is_err() {
         end(End::NoConsole)
     }
+    driver.set_spin_limit(PATIENCE);
     driver
 }
 

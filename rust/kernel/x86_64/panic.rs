@@ -17,6 +17,9 @@ use uart_16550::native::{BaudRate, Config, Uart16550};
 const COM1: u16 = 0x3f8;
 const PATIENCE: NonZeroU64 = NonZeroU64::new(1_000_000).unwrap();
 
+// More than a quarter of an hour.
+const FOR_SOMEBODY_WHO_TYPES: NonZeroU64 = NonZeroU64::new(1_000_000_000).unwrap();
+
 const CONFIG: Config = Config {
     baud_rate: BaudRate::Baud115200,
     ..Config::DEFAULT
@@ -83,6 +86,7 @@ extern "C" fn kernel_main() -> ! {
         panics_at: None,
     });
     let mut typed = [0];
+    uart.set_spin_limit(FOR_SOMEBODY_WHO_TYPES);
     if uart.init(CONFIG).is_err()
         || uart
             .send_bytes_exact(b"where is the kernel to panic?\r\n")

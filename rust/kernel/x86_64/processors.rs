@@ -7,6 +7,7 @@
 mod machine;
 
 use core::hint::spin_loop;
+use core::num::NonZeroU64;
 use core::sync::atomic::{AtomicBool, AtomicUsize, Ordering};
 use machine::{Controller, End, end};
 use uart_16550::native::backend::X86Ports;
@@ -19,6 +20,9 @@ use uart_16550::shared::{CriticalSection, Shared, SharedError};
 const COM1: u16 = 0x3f8;
 const TYPED: usize = 50_000;
 const RING_SIZE: usize = 256;
+
+// How many polls in a row a wait makes: minutes, for somebody who types.
+const PATIENCE: NonZeroU64 = NonZeroU64::new(1_000_000_000).unwrap();
 
 // A chip is stuck if this many rounds of the handler in a row did not end with `Idle`.
 const MAX_UNFINISHED_ROUNDS: u32 = 100;
@@ -169,6 +173,7 @@ fn start() -> Uart16550<X86Ports> {
     if driver.init(config).is_err() {
         end(End::NoConsole)
     }
+    driver.set_spin_limit(PATIENCE);
     driver
 }
 
