@@ -175,7 +175,6 @@ calls! {
     tty_inner(tty: &Tty) -> &Uart { tty.inner() }
     tty_inner_mut(tty: &mut Tty) -> &mut Uart { tty.inner_mut() }
     tty_write_text(tty: &mut Tty, text: &str) -> Result<(), StalledError> { tty.write_text(text) }
-    tty_write_raw_text(tty: &mut Tty, text: &[u8]) -> Result<(), StalledError> { tty.write_raw_text(text) }
     tty_write_str(tty: &mut Tty, text: &str) -> fmt::Result { tty.write_str(text) }
 
     pio_read(backend: &mut PioBackend<Device>, offset: u8) -> u8 { backend.read(offset) }
@@ -266,7 +265,6 @@ calls! {
     emergency_take_over(device: Device, patience: NonZeroU64) -> Result<EmergencyConsole<Device>, AttachError> { take_over(device, patience) }
     emergency_set_frame(console: &mut EmergencyConsole<Device>, config: &Config) -> Result<(), InvalidDivisorError> { console.set_frame(config) }
     emergency_send_bytes(console: &mut EmergencyConsole<Device>, bytes: &[u8]) -> Result<(), StalledError> { console.send_bytes(bytes) }
-    emergency_write_raw_text(console: &mut EmergencyConsole<Device>, text: &[u8]) -> Result<(), StalledError> { console.write_raw_text(text) }
     emergency_write_str(console: &mut EmergencyConsole<Device>, text: &str) -> fmt::Result { console.write_str(text) }
     emergency_flush(console: &mut EmergencyConsole<Device>) -> Result<(), StalledError> { console.flush() }
     emergency_into_inner(console: EmergencyConsole<Device>) -> Uart { console.into_inner() }

@@ -198,7 +198,6 @@ EXAMPLES = {
     "uart_16550::tty::Uart16550Tty::inner_mut": compiles(TTY + ", mut slots: [u8; 2]"),
     "uart_16550::tty::Uart16550Tty::into_inner": compiles("terminal: Uart16550Tty<Device>"),
     "uart_16550::tty::Uart16550Tty::write_text": compiles(TTY),
-    "uart_16550::tty::Uart16550Tty::write_raw_text": compiles(TTY),
     "uart_spec::baud::calc_frequency": runs(SPEC),
     "uart_spec::config::BaudRate": runs(SPEC),
     "uart_spec::config::BaudRate::to_integer": compiles(

@@ -537,9 +537,6 @@ int u16550_is_idle(struct u16550 *uart, uint8_t *idle);
  */
 int u16550_write_text(struct u16550 *uart, const char *text, size_t len, size_t *done);
 
-/* The same for a text that need not be UTF-8. */
-int u16550_write_raw_text(struct u16550 *uart, const char *text, size_t len, size_t *done);
-
 /* --------------------------------------------------------------- registers */
 
 /* LSR and MSR are joined with what the driver saved of them, which is then forgotten. */

@@ -886,13 +886,6 @@ static void text(void)
     anew();
     MISUSE(u16550_write_text(&uart, "x\xff", 2, &done), U16550_NOT_UTF8);
     IS(done, 2);
-    d.room = 4;
-    d.sent_len = 0;
-    OK(u16550_write_raw_text(&uart, "x\xff\n", 3, &done));
-    BYTES(d.sent, "x\xff\r\n");
-    d.room = 1;
-    IS(u16550_write_raw_text(&uart, "\xff\n", 2, &done), U16550_STALLED);
-    IS(done, 1);
 }
 
 static void registers(void)
@@ -1287,7 +1280,6 @@ static void refused(struct u16550 *u, int wanted)
     MISUSE(u16550_read_ready(u, &byte), wanted);
     MISUSE(u16550_write_ready(u, &byte), wanted);
     MISUSE(u16550_write_text(u, "t", 1, &count), wanted);
-    MISUSE(u16550_write_raw_text(u, "t", 1, &count), wanted);
     MISUSE(u16550_ier(u, &byte), wanted);
     MISUSE(u16550_isr(u, &byte), wanted);
     MISUSE(u16550_lcr(u, &byte), wanted);
@@ -1393,7 +1385,6 @@ static void nulls(void)
     MISUSE(u16550_read_ready(&uart, NULL), null);
     MISUSE(u16550_write_ready(&uart, NULL), null);
     MISUSE(u16550_write_text(&uart, NULL, 1, &count), null);
-    MISUSE(u16550_write_raw_text(&uart, NULL, 1, &count), null);
     MISUSE(u16550_ier(&uart, NULL), null);
     MISUSE(u16550_isr(&uart, NULL), null);
     MISUSE(u16550_lcr(&uart, NULL), null);
