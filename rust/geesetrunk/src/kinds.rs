@@ -123,6 +123,21 @@ fn interrupt_text(interrupt: InterruptType) -> &'static str {
     }
 }
 
+// Returns what a driver has to do about an interrupt.
+fn service_text(interrupt: InterruptType) -> &'static str {
+    match interrupt {
+        InterruptType::ReceiverLineStatus => "Read LSR",
+        InterruptType::ReceivedDataReady | InterruptType::ReceptionTimeout => {
+            "Read DATA while LSR bit 0 (DR) is set"
+        }
+        InterruptType::ModemStatus => "Read MSR",
+        // A read of ISR is all that these ask for.
+        InterruptType::TransmitterHoldingRegisterEmpty
+        | InterruptType::DmaReceptionEndOfTransfer
+        | InterruptType::DmaTransmissionEndOfTransfer => "Read ISR",
+    }
+}
+
 fn write_note(finding: &Finding, f: &mut fmt::Formatter<'_>) -> fmt::Result {
     match finding {
         Finding::SetUp(setup) => write!(f, "set-up: {setup}"),
@@ -169,8 +184,8 @@ fn write_sent(finding: &Finding, f: &mut fmt::Formatter<'_>) -> fmt::Result {
         ),
         Finding::WordTooShort(byte) => write!(
             f,
-            "{byte:02x} has more bits than a character: it is cut. LCR bits 0 and 1 are the word \
-             length"
+            "{byte:02x} has more bits than a character: it is cut. Set the word length, LCR bits 0 \
+             and 1, to 8"
         ),
         _ => f.write_str(
             "DATA was written while MSR bit 4 (CTS) was clear: if the other end stops what it \
@@ -249,8 +264,9 @@ fn write_interrupt(finding: &Finding, f: &mut fmt::Formatter<'_>) -> fmt::Result
         ),
         Finding::NotServed(identified) => write!(
             f,
-            "ISR showed {} here, and shows it again later: nothing was done about it in between",
-            interrupt_text(identified.interrupt)
+            "ISR showed {} here, and shows it again later: nothing was done about it in between. {}",
+            interrupt_text(identified.interrupt),
+            service_text(identified.interrupt)
         ),
         _ => f.write_str(
             "the interrupt line was up after this, and nothing was accessed for 10 ms until a byte \
