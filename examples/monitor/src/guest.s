@@ -20,6 +20,9 @@
     .set LSR, 0x3fd
     .set END, 0xf4
 
+# Labels begin with .L, so that none is a symbol: where calls are inlined across packages, a label `send` would be taken for the `send` of the
+# C library.
+
     .code16
 guest_start:
     cli
@@ -42,13 +45,13 @@ guest_start:
     movb $0xef, %al
     outb %al, $0x21
     cmpb $2, MODE
-    jne by_edges
+    jne .Lby_edges
     # IRQ 4 alone has levels.
     movw $0x4d0, %dx
     movb $0x10, %al
     outb %al, %dx
-by_edges:
-    movw $(handler - guest_start + LOAD), VECTOR
+.Lby_edges:
+    movw $(.Lhandler - guest_start + LOAD), VECTOR
     movw $0, VECTOR + 2
 
     # The serial port: 8n1, the FIFO on and cleared, trigger level 14, DTR, RTS and OUT2.
@@ -66,114 +69,114 @@ by_edges:
     movb $'>', %al
     outb %al, %dx
     cmpb $0, MODE
-    jne by_interrupts
+    jne .Lby_interrupts
 
-polled:
-    call receive
+.Lpolled:
+    call .Lreceive
     cmpw $0, HELD
-    je polled
-not_empty:
+    je .Lpolled
+.Lnot_empty:
     movw $LSR, %dx
     inb %dx, %al
     testb $0x20, %al
-    jz not_empty
-    call send
+    jz .Lnot_empty
+    call .Lsend
     cmpl $0, COUNT
-    jne polled
-    jmp end
+    jne .Lpolled
+    jmp .Lend
 
-by_interrupts:
+.Lby_interrupts:
     movw $IER, %dx
     movb $0x01, %al
     outb %al, %dx
     sti
-idle:
+.Lidle:
     hlt
-    jmp idle
+    jmp .Lidle
 
-end:
+.Lend:
     outb %al, $END
-stopped:
+.Lstopped:
     cli
     hlt
-    jmp stopped
+    jmp .Lstopped
 
     # Serves the chip as long as it has a cause, at most ROUNDS times: Linux has such a limit too. So the guest may leave the handler while
     # the line is still up, and is to be interrupted again. Only one interrupt is enabled at a time: that of received data if nothing is held, and
     # that of an empty transmitter otherwise. So input waits while output does.
-handler:
+.Lhandler:
     pushaw
     movw $ROUNDS, %bp
-cause:
+.Lcause:
     movw $ISR, %dx
     inb %dx, %al
     testb $0x01, %al
-    jnz handled
+    jnz .Lhandled
     andb $0x0f, %al
     cmpb $0x02, %al
-    je transmitter_is_empty
+    je .Ltransmitter_is_empty
     cmpb $0x04, %al
-    je level_is_reached
-    call receive
-    jmp enable
-level_is_reached:
+    je .Llevel_is_reached
+    call .Lreceive
+    jmp .Lenable
+.Llevel_is_reached:
     # At least as many characters wait as the trigger level says: one instruction reads these.
     movw $14, %cx
     movw %cx, HELD
     movw $BUFFER, %di
     movw $DATA, %dx
     rep insb
-    jmp enable
-transmitter_is_empty:
-    call send
+    jmp .Lenable
+.Ltransmitter_is_empty:
+    call .Lsend
     # The guest ends here, and not where it idles. There it would have to look at COUNT and halt with no interrupt in between, for which
     # `sti` holds interrupts off for one instruction. QEMU forgets that when a virtual machine of an emulated processor exits there.
     cmpl $0, COUNT
-    je end
-enable:
+    je .Lend
+.Lenable:
     movb $0x01, %al
     cmpw $0, HELD
-    je only_data
+    je .Lonly_data
     movb $0x02, %al
-only_data:
+.Lonly_data:
     movw $IER, %dx
     outb %al, %dx
     decw %bp
-    jnz cause
-handled:
+    jnz .Lcause
+.Lhandled:
     movb $0x20, %al
     outb %al, $0x20
     popaw
     iretw
 
     # Receives what waits, at most as much as the FIFO of the transmitter takes. Nothing is held before.
-receive:
+.Lreceive:
     movw $BUFFER, %di
-receive_one:
+.Lreceive_one:
     movw $LSR, %dx
     inb %dx, %al
     testb $0x01, %al
-    jz received
+    jz .Lreceived
     movw $DATA, %dx
     insb
     cmpw $(BUFFER + 16), %di
-    jb receive_one
-received:
+    jb .Lreceive_one
+.Lreceived:
     subw $BUFFER, %di
     movw %di, HELD
     ret
 
     # Sends the complement of what is held. The transmitter is empty.
-send:
+.Lsend:
     movw $BUFFER, %si
     movw HELD, %cx
     movw $DATA, %dx
-send_one:
+.Lsend_one:
     lodsb
     notb %al
     outb %al, %dx
     decl COUNT
-    loop send_one
+    loop .Lsend_one
     movw $0, HELD
     ret
 guest_end:
