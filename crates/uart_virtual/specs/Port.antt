@@ -16,6 +16,7 @@ use Rattle.uart_spec.specs.Bits.{has_any}
 use Rattle.uart_spec.specs.declared.registers.line_status.TheConstants.LSR
 use Rattle.uart_spec.specs.declared.registers.offsets.TheConstants as offsets
 use Rattle.uart_virtual.specs.declared.told.Kind.{Kind}
+use Rattle.uart_virtual.specs.declared.told.Seen.{Seen}
 use Rattle.uart_virtual.specs.declared.told.Told.{Told}
 use Rattle.uart_virtual.specs.declared.told.Todo.{Todo}
 use Rattle.uart_virtual.specs.declared.told.TheConstants.{REST_OF_A_FIFO}
@@ -106,6 +107,11 @@ stays_up (Write offset value) c = is_up c && not (is_loopback c.latches)
 stays_up _ c = is_up c
 
 -- ---- what the monitor is told
+
+-- what is seen of the chip when a call ends
+abbrev pub seen_of : (ended : ChipState) → Seen
+seen_of ended =
+    record { level = is_up ended; has_room = has_room ended; fifo = ended.fifo; ready = length ended.transmitter.wire }
 
 -- the guest's interrupt is signalled: the line is up when the call ends, and it was down before; or the host brings
 -- something; or the line was down within the call, and no earlier signal covers that

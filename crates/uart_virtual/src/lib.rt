@@ -11,5 +11,8 @@ mod port;
 mod tests;
 mod told;
 
-pub use port::{Answer, Received, Restored, VirtualPort, settle};
-pub use told::Todo;
+pub use port::{
+    Answer, Received, Restored, VirtualPort, kind_of_read, kind_of_write, settle, settle_ticks,
+    tell,
+};
+pub use told::{Kind, Seen, Todo, Told};

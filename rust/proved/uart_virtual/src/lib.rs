@@ -16,7 +16,10 @@ extern crate geesetrunk_kit as arrayvec;
 mod port;
 mod told;
 
-pub use port::{Answer, Received, Restored, VirtualPort, settle};
-pub use told::Todo;
+pub use port::{
+    Answer, Received, Restored, VirtualPort, kind_of_read, kind_of_write, settle, settle_ticks,
+    tell,
+};
+pub use told::{Kind, Seen, Todo, Told};
 
 mod by_hand;

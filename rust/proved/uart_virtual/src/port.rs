@@ -2,7 +2,7 @@
 
 mod snapshot;
 
-use crate::told::{Kind, REST_OF_A_FIFO, Todo, Told};
+use crate::told::{Kind, REST_OF_A_FIFO, Seen, Todo, Told};
 use bitflags::Flags;
 pub use snapshot::Restored;
 use uart_live::{Chip, InputError, LiveChip, WIRE_ROOM};
@@ -84,11 +84,11 @@ pub struct Received {
     pub todo: Todo,
 }
 
-// Returns what the guest's access to this register is, as far as signals are concerned. Only a read
-// of ISR is a look. With LSR and MSR, a handler that reads LSR before each byte, as most do, would
-// be signalled for each byte, as long as more wait. A handler that never reads ISR is signalled
-// each time that the line falls and rises, so it cannot wait for ever.
-fn kind_of_read(offset: u8) -> Kind {
+/// Returns what the guest's read of this register is, as far as signals are concerned.
+// Only a read of ISR is a look. With LSR and MSR, a handler that reads LSR before each byte, as
+// most do, would be signalled for each byte, as long as more wait. A handler that never reads ISR
+// is signalled each time that the line falls and rises, so it cannot wait for ever.
+pub fn kind_of_read(offset: u8) -> Kind {
     let offset = offset as usize;
     Kind {
         brings: false,
@@ -97,7 +97,8 @@ fn kind_of_read(offset: u8) -> Kind {
     }
 }
 
-fn kind_of_write(offset: u8) -> Kind {
+/// Returns what the guest's write of this register is, as far as signals are concerned.
+pub fn kind_of_write(offset: u8) -> Kind {
     let offset = offset as usize;
     Kind {
         brings: false,
@@ -106,8 +107,8 @@ fn kind_of_write(offset: u8) -> Kind {
     }
 }
 
-// The ticks that pass in each call.
-fn settle_ticks() -> u16 {
+/// Returns the ticks that pass in each call.
+pub fn settle_ticks() -> u16 {
     SETTLE_TICKS
 }
 
@@ -142,29 +143,45 @@ fn spare_after(kind: Kind, signal: bool, fifo: bool, told: Told) -> u8 {
     }
 }
 
-// Returns what is to be told after a call, and notes that it was told.
+/// Returns what is to be told after a call of this kind, and notes that it was told. `was_up` says
+/// whether the line was up all the time.
+///
+/// A port over another chip, as the one for C, tells its monitor by this too.
 #[inline]
-fn decide(chip: &LiveChip, was_up: bool, told: &mut Told, kind: Kind) -> Todo {
-    let level = chip.is_interrupting();
+pub fn tell(seen: Seen, was_up: bool, told: &mut Told, kind: Kind) -> Todo {
+    let level = seen.level;
+    let has_room = seen.has_room;
     // A rise of the line is not enough. If the host adds to a FIFO while the line is up, or if the
     // line falls and rises in one call, a handler that has already left would not be called again.
     // So input is always signalled, and so is a fall within a call, if no signal covers it.
     let signal = level && (!told.line || (kind.brings || (!was_up && told.spare == 0)));
-    let has_room = chip.receive_room() != 0;
     let todo = Todo {
         signal,
         level,
         has_moved: if level { !told.line } else { told.line },
         has_room: has_room && !told.has_room,
-        ready: WIRE_ROOM - chip.wire_room(),
+        ready: seen.ready,
     };
     *told = Told {
         line: level,
         has_room,
         has_looked: kind.looks || (told.has_looked && !signal),
-        spare: spare_after(kind, signal, chip.has_fifo_on(), *told),
+        spare: spare_after(kind, signal, seen.fifo, *told),
     };
     todo
+}
+
+// Returns what is to be told after a call, and notes that it was told.
+#[inline]
+fn decide(chip: &LiveChip, was_up: bool, told: &mut Told, kind: Kind) -> Todo {
+    let has_room = chip.receive_room() != 0;
+    let seen = Seen {
+        level: chip.is_interrupting(),
+        has_room,
+        fifo: chip.has_fifo_on(),
+        ready: WIRE_ROOM - chip.wire_room(),
+    };
+    tell(seen, was_up, told, kind)
 }
 
 // Returns what is to be told after a call that leaves the line and the room as they were.

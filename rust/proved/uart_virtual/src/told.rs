@@ -48,3 +48,16 @@ pub struct Kind {
     /// The guest reads or writes DATA.
     pub moves_data: bool,
 }
+
+/// What is seen of a chip when a call ends, as far as its monitor is told of it.
+#[derive(Clone, Copy, Debug, PartialEq, Eq)]
+pub struct Seen {
+    /// The level of the interrupt line.
+    pub level: bool,
+    /// There is room for input.
+    pub has_room: bool,
+    /// The guest has the FIFOs on.
+    pub fifo: bool,
+    /// How many bytes of output are ready.
+    pub ready: usize,
+}
