@@ -1,7 +1,8 @@
 #!/bin/sh
 # Counts the instructions of the chip of rust/uart_16550_chip and of vm-superio's serial device with callgrind, as measure-library.sh does
 # those of the library for C. Run it at the top of a checkout. Prints whose code it is, what is called, how many instructions a call takes
-# inside the functions that are counted, and these functions. Without Debian's package librust-vm-superio-dev only the chip is counted.
+# inside the functions that are counted, and these functions; then how often each device triggers the interrupt under Linux's driver.
+# Without Debian's package librust-vm-superio-dev only the chip is counted.
 fail() {
     echo "$0: $*" >&2
     exit 1
@@ -60,11 +61,13 @@ each chip called interrupt called_is_interrupting
 each chip called interrupt-enabled called_is_interrupting
 each chip inlined interrupt inlined_interrupt
 count_all chip device- device_
+"$work/chip/release/triggers"
 
 [ -d /usr/share/cargo/registry/vm-superio-0.7.0 ] ||
     fail "there is no vm-superio 0.7.0: install Debian's package librust-vm-superio-dev"
 # A copy, so that cargo leaves nothing in the checkout. It reads .cargo/config.toml in the folder where it is called.
 cp -r bench/vm-superio "$work/project"
+cp bench/linux.rs "$work"
 (cd "$work/project" && cargo build --quiet --release --offline --target-dir "$work/vm-superio") ||
     fail "the programs of vm-superio cannot be built"
 count_all vm-superio "" ""
@@ -72,3 +75,4 @@ each vm-superio called save called_save
 each vm-superio called restore called_restore
 each vm-superio inlined save inlined_save
 each vm-superio inlined restore inlined_restore
+"$work/vm-superio/release/triggers"
