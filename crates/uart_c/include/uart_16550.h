@@ -1,5 +1,6 @@
 /*
- * uart_16550.h - a 16550A or 16450 serial chip in software, and a driver of such chips.
+ * uart_16550.h - a 16550A or 16450 serial chip in software, a serial port for virtual machine monitors over it, and a driver of
+ * such chips.
  *
  * Link with libuart_c.a. The library allocates nothing, keeps no global, and calls nothing, not even memcpy: all state is
  * in structs of the caller, and two threads may call it at once as long as no struct is in both calls. Whatever bytes a
@@ -28,7 +29,8 @@ enum uart_status {
     UART_BAD_WIRE = 2,   /* the wire has room for at most UART_WIRE_ROOM bytes */
     UART_BAD_ERRORS = 3, /* a character has parity, framing and break errors alone */
     UART_BAD_LINES = 4,  /* the modem lines are CTS, DSR, RI and CD */
-    UART_BAD_CHIP = 5    /* the saved data are those of no sound chip */
+    UART_BAD_CHIP = 5,   /* the saved data are those of no sound chip */
+    UART_BAD_PORT = 6    /* the saved data are those of no port */
 };
 
 /* --------------------------------------------------------------- the registers
@@ -138,7 +140,8 @@ enum uart_status {
  *
  * Its owner makes the guest's accesses with uart_chip_read and uart_chip_write, lets time pass with uart_chip_ticks, brings
  * characters with uart_chip_arrive, takes what goes out with uart_chip_take_wire, and asks for the level of the interrupt
- * line with uart_chip_is_interrupting. No time passes but in uart_chip_ticks.
+ * line with uart_chip_is_interrupting. No time passes but in uart_chip_ticks. A virtual machine monitor rather takes the port
+ * below, which needs no clock, and says when to signal the guest and when there is room for input again.
  */
 
 #define UART_FIFO_SIZE 16
@@ -297,6 +300,114 @@ size_t uart_chip_held_len(const struct uart_chip *chip);
 
 /* The divisor latch, from which a baud rate follows. */
 uint16_t uart_chip_divisor(const struct uart_chip *chip);
+
+/* ------------------------------------------------------------------ the port
+ *
+ * A serial port of a virtual machine: a chip, and what its monitor was told last. Each call lets so much time pass that nothing
+ * is left to happen, so a port needs no clock, and no guest waits for one. A byte that the guest writes is ready for the host
+ * when the call returns, unless the output is full. A character that waits interrupts a guest that has this enabled.
+ *
+ * The monitor makes the guest's accesses with uart_port_read and uart_port_write, brings input with uart_port_receive, and takes
+ * output with uart_port_output and uart_port_take_output. After each call it does what *todo says.
+ *
+ * A copy of the struct is a snapshot, as with the chip. To look at the chip of a port, call uart_chip_receive_room,
+ * uart_chip_waiting_len, uart_chip_held_len or uart_chip_divisor with &port->chip. A call that changes the chip would leave the
+ * monitor untold: call those of the port.
+ */
+
+/* What the monitor was told, as far as the next call depends on it. */
+struct uart_told {
+    uint8_t line;            /* the level of the interrupt line */
+    uint8_t has_room;        /* there was room for input */
+    uint8_t has_looked;      /* the guest has read ISR since the last signal */
+    uint8_t spare;           /* how many more accesses of DATA the last signal covers */
+};
+
+/*
+ * What the monitor has to do after a call. A monitor whose interrupt controller takes edges obeys signal, and one whose
+ * controller takes levels obeys level. Each obeys has_room. The flags are 0 or 1.
+ */
+struct uart_todo {
+    size_t ready;            /* so many bytes of output are ready, at most UART_WIRE_ROOM */
+    uint8_t signal;          /* signal the guest's interrupt once, for example by a write to an eventfd */
+    uint8_t level;           /* set the interrupt line to this level */
+    uint8_t has_moved;       /* that is another level than after the call before */
+    uint8_t has_room;        /* offer input again: there is room now, and there was none before. It is told once */
+};
+
+/* The port. */
+struct uart_port {
+    struct uart_chip chip;
+    struct uart_told told;
+};
+
+/*
+ * A port after power on, without input and output. model is an enum uart_model. No interrupt is enabled, so nothing is to be done.
+ */
+void uart_port_new(struct uart_port *port, uint8_t model);
+
+/* The guest reads the register. Of the offset the lowest three bits count. */
+uint8_t uart_port_read(struct uart_port *port, uint8_t offset, struct uart_todo *todo);
+
+/* The guest writes the register. Of the offset the lowest three bits count. */
+void uart_port_write(struct uart_port *port, uint8_t offset, uint8_t value, struct uart_todo *todo);
+
+/*
+ * The host has input: as many of these bytes are received as there is room for, from the front. Returns how many. If these are
+ * not all, there is no room left, and the first call after which there is room says so in has_room. Offer the others then.
+ * Without FIFO there is room for one byte, with it for UART_FIFO_SIZE, and in loopback for none.
+ */
+size_t uart_port_receive(struct uart_port *port, const uint8_t *bytes, size_t len, struct uart_todo *todo);
+
+/*
+ * One character comes, with these errors: bits of UART_LSR_CHARACTER_ERRORS. A break is the byte 0 with
+ * UART_LSR_BREAK_INTERRUPT. In loopback the character is lost. If there is no room, one is lost, which shows in the overrun flag.
+ *
+ * Returns UART_OK or UART_BAD_ERRORS, which changed neither *port nor *todo.
+ */
+uint32_t uart_port_receive_one(struct uart_port *port, uint8_t byte, uint8_t errors, struct uart_todo *todo);
+
+/*
+ * The modem's inputs become these: bits of UART_MSR_LINES.
+ *
+ * Returns UART_OK or UART_BAD_LINES, which changed neither *port nor *todo.
+ */
+uint32_t uart_port_set_lines(struct uart_port *port, uint8_t inputs, struct uart_todo *todo);
+
+/*
+ * The output that the host has not taken, in order: as many bytes as ready said after the last call. They stay where they are
+ * until the next call with the port. While there are UART_WIRE_ROOM of them, the transmitter keeps what the guest writes, and LSR
+ * tells the guest so.
+ */
+static inline const uint8_t *uart_port_output(const struct uart_port *port)
+{
+    return port->chip.transmitter.wire.items;
+}
+
+/*
+ * The host took so many bytes of the output, from the front, or all if there are fewer. What the transmitter holds goes to the
+ * output as far as there is room now. What the host did not take stays: offer it again later.
+ */
+void uart_port_take_output(struct uart_port *port, size_t count, struct uart_todo *todo);
+
+/* The level of the interrupt line, 1 or 0, which is the level that was told last. No time changes it. */
+uint8_t uart_port_level(const struct uart_port *port);
+
+/* Saves the chip of a port, as uart_chip_save does. What the monitor was told is not saved: it is told anew. */
+void uart_port_save(const struct uart_port *port, struct uart_chip *saved);
+
+/*
+ * Makes a port with a chip that was saved, which may come from anywhere. Its guest goes on as with the port that was saved. If the
+ * interrupt line is up, *todo has a signal, since the last one may have been lost on the way; and it tells of the room that there
+ * is. The chip is refused exactly if it is that of no port, that is, if uart_chip_load refuses it or one of these holds. No chip
+ * of a port that was made or loaded and used by the functions above is refused.
+ *
+ * - a character does not take one tick, or the wire has not room for UART_WIRE_ROOM bytes;
+ * - something is left to happen: timeout_ticks is not timeout_limit, or a byte in the transmitter could go on.
+ *
+ * Returns UART_OK, or UART_BAD_PORT, which changed neither *port nor *todo.
+ */
+uint32_t uart_port_load(struct uart_port *port, const struct uart_chip *saved, struct uart_todo *todo);
 
 /* ---------------------------------------------------------------- the driver
  *

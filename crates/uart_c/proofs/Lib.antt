@@ -3,8 +3,10 @@ pub mod Errors
 pub mod Lengths
 pub mod Levels
 pub mod Marks
+pub mod Ports
 pub mod Queues
 pub mod Runnable
 pub mod Saved
 pub mod Stays
 pub mod Steps
+pub mod Told

@@ -3,6 +3,7 @@ pub mod State
 pub mod Canonical
 pub mod Status
 pub mod Saved
+pub mod Port
 pub mod Driver
 pub mod Calls
 pub mod Steps

@@ -19,6 +19,9 @@ pub const UART_BAD_LINES: u32 = 4;
 /// The saved data are those of no sound chip.
 pub const UART_BAD_CHIP: u32 = 5;
 
+/// The saved data are those of no port.
+pub const UART_BAD_PORT: u32 = 6;
+
 // The calls of the driver: `enum uart_call_kind`.
 
 pub const UART_INIT: u8 = 0;

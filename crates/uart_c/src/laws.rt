@@ -1,7 +1,9 @@
-//! Laws about the numbers that the header has too, and about sound chips.
+//! Laws about the numbers that the header has too, and about sound chips and ports.
 //!
 //! The contract of each function is a law that callers can cite. The functions do nothing.
 ghost use Rattle.std.specs.Prelude.{◌≡◌, [], ◌∷◌};
+ghost use Rattle.uart_c.specs.Port.{MadePortsAreSound, RestoredPortsAreSound};
+ghost use Rattle.uart_c.specs.Port.{SoundPortsStaySound};
 ghost use Rattle.uart_c.specs.Saved.{MadeChipsAreSound, SoundChipsStaySound};
 ghost use Rattle.uart_c.specs.declared.codes.TheConstants as code;
 ghost use Rattle.uart_c.specs.declared.queue.TheConstants.{WIRE_ROOM};
@@ -12,8 +14,8 @@ ghost use Rattle.uart_spec.specs.declared.baud.TheConstants.{FIFO_SIZE};
 /// The numbers of each enum of the header, in its order.
 pub fn codes_are_these()
     ensures status { (code.UART_OK ∷ code.UART_BAD_TICKS ∷ code.UART_BAD_WIRE ∷ code.UART_BAD_ERRORS
-        ∷ code.UART_BAD_LINES ∷ code.UART_BAD_CHIP ∷ [])
-        ≡ (0 ∷ 1 ∷ 2 ∷ 3 ∷ 4 ∷ 5 ∷ []) }
+        ∷ code.UART_BAD_LINES ∷ code.UART_BAD_CHIP ∷ code.UART_BAD_PORT ∷ [])
+        ≡ (0 ∷ 1 ∷ 2 ∷ 3 ∷ 4 ∷ 5 ∷ 6 ∷ []) }
     ensures parity { (code.UART_PARITY_NONE ∷ code.UART_PARITY_ODD ∷ code.UART_PARITY_EVEN
         ∷ code.UART_PARITY_FORCED_1 ∷ code.UART_PARITY_FORCED_0 ∷ [])
         ≡ (0 ∷ 1 ∷ 2 ∷ 3 ∷ 4 ∷ []) }
@@ -82,4 +84,13 @@ pub fn limits_are_these()
 pub fn sound_chips_stay_sound()
     ensures made { MadeChipsAreSound }
     ensures stay { SoundChipsStaySound }
+{}
+
+/// A port that is made or restored is sound, and stays so whatever is done with it: its chip is
+/// sound, its monitor was told what is so, and nothing is left to happen. So the laws of
+/// `uart_virtual` are about it, and `uart_port_load` refuses no port that was saved.
+pub fn sound_ports_stay_sound()
+    ensures made { MadePortsAreSound }
+    ensures restored { RestoredPortsAreSound }
+    ensures stay { SoundPortsStaySound }
 {}

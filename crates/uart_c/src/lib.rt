@@ -14,6 +14,7 @@ mod driver;
 mod exports;
 mod laws;
 mod modem;
+mod port;
 mod queue;
 mod receiver;
 mod sound;

@@ -246,4 +246,20 @@ impl UartWire {
         }
         count
     }
+
+    /// Removes this number of bytes from the front, or all if there are fewer.
+    pub fn remove(&mut self, count: usize)
+        ensures items { spec.wire_of self.new ≡ drop count (spec.wire_of self.old) }
+        ensures capacity { self.new.capacity ≡ self.old.capacity }
+        ensures len { self.old.len ≤ WIRE_ROOM → self.new.len ≤ WIRE_ROOM }
+    {
+        if count >= self.len() {
+            self.len = 0;
+            return;
+        }
+        // One by one: a copy of so many bytes would call memmove.
+        for _ in 0..count {
+            self.pop_front();
+        }
+    }
 }

@@ -80,6 +80,14 @@ impl UartTransmitter {
     {
         self.wire.take(bytes)
     }
+
+    /// Removes this number of bytes from the front of the wire, or all if there are fewer.
+    pub fn remove_wire(&mut self, count: usize)
+        ensures after { transmitter_of self.new ≡ spec.take_wire count (transmitter_of self.old) }
+        ensures canonical { IsCanonicalTransmitter self.old → IsCanonicalTransmitter self.new }
+    {
+        self.wire.remove(count);
+    }
 }
 
 impl TransmitterParts for UartTransmitter {

@@ -1,0 +1,371 @@
+//! The port for a monitor: a chip, and what its monitor was told last. The header says what each
+//! function does.
+//!
+//! What a call leaves, and what its monitor has to do then, is that of a port of `uart_virtual`,
+//! whatever bytes the struct holds.
+ghost use Rattle.std.specs.Prelude.{◌≡◌, ◌≢◌, ◌%◌, bit_and, true, false};
+ghost use Rattle.uart_c.specs.Canonical.{IsCanonical};
+ghost use Rattle.uart_c.specs.Port as port_spec;
+ghost use Rattle.uart_c.specs.Port.{IsCanonicalPort, port_of, told_of};
+ghost use Rattle.uart_c.specs.State.{chip_of, model_of};
+ghost use Rattle.uart_c.specs.declared.codes.TheConstants.{UART_OK, UART_BAD_PORT};
+ghost use Rattle.uart_c.specs.declared.codes.TheConstants.{UART_BAD_ERRORS, UART_BAD_LINES};
+ghost use Rattle.uart_chip.specs.Chip as chip_spec;
+ghost use Rattle.uart_live.specs.Live.{IsLive};
+ghost use Rattle.uart_spec.specs.Bits.{IsWithin, flag};
+ghost use Rattle.uart_spec.specs.declared.baud.TheConstants.{NUM_REGISTERS};
+ghost use Rattle.uart_spec.specs.declared.registers.line_status.TheConstants.LSR;
+ghost use Rattle.uart_spec.specs.declared.registers.modem_status.TheConstants.MSR;
+ghost use Rattle.uart_virtual.specs.Port as spec;
+ghost use Rattle.uart_virtual.specs.Port.{Read, Write, Receive, ReceiveOne, SetLines, TakeOutput};
+ghost use Rattle.uart_virtual.specs.Port.{IsStill};
+
+use crate::chip::UartChip;
+use crate::codes::{UART_BAD_ERRORS, UART_BAD_LINES, UART_BAD_PORT, UART_OK};
+use crate::queue::{WIRE_ROOM, is_on};
+use crate::sound::is_sound;
+use bitflags::Flags;
+use uart_chip::controlling::{
+    ChipParts, advance, arrive_live, change_lines, is_interrupting, is_loopback, read,
+    receive_room, write,
+};
+use uart_chip::transmitting::{held_len, next_move};
+use uart_spec::NUM_REGISTERS;
+use uart_spec::registers::{LSR, MSR};
+use uart_virtual::{Kind, Seen, Todo, Told, kind_of_read, kind_of_write, settle_ticks, tell};
+
+// The ticks that a character of a port takes.
+const CHAR_TICKS: u16 = 1;
+
+/// What a monitor was told, as far as the next call depends on it.
+#[repr(C)]
+#[derive(Clone, Copy)]
+pub struct UartTold {
+    pub line: u8,
+    pub has_room: u8,
+    pub has_looked: u8,
+    pub spare: u8,
+}
+
+/// What a monitor has to do after a call.
+#[repr(C)]
+#[derive(Clone, Copy)]
+pub struct UartTodo {
+    pub ready: usize,
+    pub signal: u8,
+    pub level: u8,
+    pub has_moved: u8,
+    pub has_room: u8,
+}
+
+/// A serial port of a virtual machine.
+#[repr(C)]
+#[derive(Clone, Copy)]
+pub struct UartPort {
+    pub chip: UartChip,
+    pub told: UartTold,
+}
+
+// Nothing was told yet.
+const UNTOLD: UartTold = UartTold {
+    line: 0,
+    has_room: 0,
+    has_looked: 0,
+    spare: 0,
+};
+
+// A call of the host that brings something, and a call that is nothing but time.
+const INPUT: Kind = Kind {
+    brings: true,
+    looks: false,
+    moves_data: false,
+};
+
+const IDLE: Kind = Kind {
+    brings: false,
+    looks: false,
+    moves_data: false,
+};
+
+impl UartTold {
+    // Returns what the monitor was told as a port of `uart_virtual` has it.
+    fn known(self) -> Told
+        ensures { result ≡ told_of self }
+    {
+        Told {
+            line: is_on(self.line),
+            has_room: is_on(self.has_room),
+            has_looked: is_on(self.has_looked),
+            spare: self.spare,
+        }
+    }
+
+    // Returns what the monitor was told as C has it.
+    fn of(told: Told) -> Self
+        ensures { result ≡ port_spec.kept told }
+    {
+        UartTold {
+            line: told.line as u8,
+            has_room: told.has_room as u8,
+            has_looked: told.has_looked as u8,
+            spare: told.spare,
+        }
+    }
+}
+
+// Returns what the monitor has to do as C has it.
+fn shown(todo: Todo) -> UartTodo
+    ensures { result ≡ port_spec.shown todo }
+{
+    UartTodo {
+        ready: todo.ready,
+        signal: todo.signal as u8,
+        level: todo.level as u8,
+        has_moved: todo.has_moved as u8,
+        has_room: todo.has_room as u8,
+    }
+}
+
+// Returns what is seen of the chip when a call ends.
+fn seen(chip: &UartChip) -> Seen
+    ensures { result ≡ spec.seen_of (chip_of chip.now) }
+{
+    Seen {
+        level: is_interrupting(chip),
+        has_room: receive_room(chip) != 0,
+        fifo: chip.fifo(),
+        ready: chip.transmitter.wire.len(),
+    }
+}
+
+// Says what is to be told after a call, and notes that it was told.
+fn decide(port: &mut UartPort, was_up: bool, kind: Kind, todo: &mut UartTodo)
+    ensures chip { port.new.chip ≡ port.old.chip }
+    ensures told { told_of port.new.told ≡
+        spec.tell kind was_up (chip_of port.old.chip) (told_of port.old.told) }
+    ensures todo { todo.new ≡ port_spec.shown
+        (spec.todo_of kind was_up (chip_of port.old.chip) (told_of port.old.told)) }
+    ensures canonical { IsCanonical port.old.chip → IsCanonicalPort port.new }
+{
+    let mut told = port.told.known();
+    *todo = shown(tell(seen(&port.chip), was_up, &mut told, kind));
+    port.told = UartTold::of(told);
+}
+
+// Lets the time of a call pass, and says what is to be told.
+fn finish(port: &mut UartPort, was_up: bool, kind: Kind, todo: &mut UartTodo)
+    ensures chip { chip_of port.new.chip ≡ spec.settle (chip_of port.old.chip) }
+    ensures told { told_of port.new.told ≡
+        spec.tell kind was_up (spec.settle (chip_of port.old.chip)) (told_of port.old.told) }
+    ensures todo { todo.new ≡ port_spec.shown
+        (spec.todo_of kind was_up (spec.settle (chip_of port.old.chip)) (told_of port.old.told)) }
+    ensures canonical { IsCanonical port.old.chip → IsCanonicalPort port.new }
+{
+    advance(&mut port.chip, settle_ticks());
+    decide(port, was_up, kind, todo);
+}
+
+/// Makes a port after power on.
+#[unsafe(no_mangle)]
+pub extern "C" fn uart_port_new(port: &mut UartPort, model: u8)
+    ensures built { port_of port.new ≡ spec.fresh (model_of model) }
+    ensures canonical { IsCanonicalPort port.new }
+{
+    port.chip = UartChip::new(model, CHAR_TICKS, WIRE_ROOM as u8, 0);
+    port.told = UNTOLD;
+    let mut todo = shown(Todo {
+        signal: false,
+        level: false,
+        has_moved: false,
+        has_room: false,
+        ready: 0,
+    });
+    finish(port, true, IDLE, &mut todo);
+}
+
+/// The guest reads a register.
+#[unsafe(no_mangle)]
+pub extern "C" fn uart_port_read(port: &mut UartPort, offset: u8, todo: &mut UartTodo) -> u8
+    ensures answers { result ≡ chip_spec.answer (offset % NUM_REGISTERS) (chip_of port.old.chip) }
+    ensures after { port_of port.new ≡
+        spec.after (Read (offset % NUM_REGISTERS)) (port_of port.old) }
+    ensures todo { todo.new ≡
+        port_spec.shown (spec.todo (Read (offset % NUM_REGISTERS)) (port_of port.old)) }
+    ensures canonical { IsCanonicalPort port.old → IsCanonicalPort port.new }
+{
+    let offset = offset % NUM_REGISTERS as u8;
+    let value = read(&mut port.chip, offset);
+    let was_up = is_interrupting(&port.chip);
+    finish(port, was_up, kind_of_read(offset), todo);
+    value
+}
+
+/// The guest writes a register.
+#[unsafe(no_mangle)]
+pub extern "C" fn uart_port_write(port: &mut UartPort, offset: u8, value: u8, todo: &mut UartTodo)
+    ensures after { port_of port.new ≡
+        spec.after (Write (offset % NUM_REGISTERS) value) (port_of port.old) }
+    ensures todo { todo.new ≡
+        port_spec.shown (spec.todo (Write (offset % NUM_REGISTERS) value) (port_of port.old)) }
+    ensures canonical { IsCanonicalPort port.old → IsCanonicalPort port.new }
+{
+    let offset = offset % NUM_REGISTERS as u8;
+    write(&mut port.chip, offset, value);
+    // What comes back in loopback can take the line down for a moment, while time passes.
+    let was_up = is_interrupting(&port.chip) && !is_loopback(&port.chip);
+    finish(port, was_up, kind_of_write(offset), todo);
+}
+
+// These characters arrive, without errors.
+fn arrive_all(chip: &mut UartChip, bytes: &[u8])
+    ensures after { chip_of chip.new ≡ spec.arrive_all bytes.now (chip_of chip.old) }
+    ensures canonical { IsCanonical chip.old → IsCanonical chip.new }
+{
+    for byte in bytes {
+        arrive_live(chip, *byte, 0);
+    }
+}
+
+/// Characters come in, as many as there is room for. Returns how many.
+#[unsafe(no_mangle)]
+pub extern "C" fn uart_port_receive(port: &mut UartPort, bytes: &[u8], todo: &mut UartTodo) -> usize
+    ensures count { result ≡ spec.accepted bytes.now (chip_of port.old.chip) }
+    ensures after { port_of port.new ≡ spec.after (Receive bytes.now) (port_of port.old) }
+    ensures todo { todo.new ≡
+        port_spec.shown (spec.todo (Receive bytes.now) (port_of port.old)) }
+    ensures canonical { IsCanonicalPort port.old → IsCanonicalPort port.new }
+{
+    let room = receive_room(&port.chip);
+    let count = bytes.len().min(room);
+    let kind = Kind {
+        brings: 0 < count,
+        looks: false,
+        moves_data: false,
+    };
+    arrive_all(&mut port.chip, &bytes[..count]);
+    let was_up = is_interrupting(&port.chip);
+    finish(port, was_up, kind, todo);
+    count
+}
+
+// Whether no other bits are set than those of the mask.
+fn is_within(bits: u8, mask: u8) -> bool
+    ensures within { result ≡ true → IsWithin bits mask }
+    ensures beyond { result ≡ false → bit_and bits mask ≢ bits }
+{
+    bits & mask == bits
+}
+
+/// A character comes in, with errors.
+#[unsafe(no_mangle)]
+pub extern "C" fn uart_port_receive_one(
+    port: &mut UartPort,
+    byte: u8,
+    errors: u8,
+    todo: &mut UartTodo,
+) -> u32
+    ensures accepted { IsWithin errors LSR.CHARACTER_ERRORS.0 → (result ≡ UART_OK) ×
+        (port_of port.new ≡ spec.after (ReceiveOne byte errors) (port_of port.old)) }
+    ensures todo { IsWithin errors LSR.CHARACTER_ERRORS.0 →
+        todo.new ≡ port_spec.shown (spec.todo (ReceiveOne byte errors) (port_of port.old)) }
+    ensures refused { bit_and errors LSR.CHARACTER_ERRORS.0 ≢ errors →
+        (result ≡ UART_BAD_ERRORS) × (port.new ≡ port.old) × (todo.new ≡ todo.old) }
+    ensures canonical { IsCanonicalPort port.old → IsCanonicalPort port.new }
+{
+    if !is_within(errors, LSR::CHARACTER_ERRORS.bits()) {
+        return UART_BAD_ERRORS;
+    }
+    arrive_live(&mut port.chip, byte, errors);
+    let was_up = is_interrupting(&port.chip);
+    finish(port, was_up, INPUT, todo);
+    UART_OK
+}
+
+/// The modem's inputs become these.
+#[unsafe(no_mangle)]
+pub extern "C" fn uart_port_set_lines(port: &mut UartPort, inputs: u8, todo: &mut UartTodo) -> u32
+    ensures accepted { IsWithin inputs MSR.LINES.0 → (result ≡ UART_OK) ×
+        (port_of port.new ≡ spec.after (SetLines inputs) (port_of port.old)) }
+    ensures todo { IsWithin inputs MSR.LINES.0 →
+        todo.new ≡ port_spec.shown (spec.todo (SetLines inputs) (port_of port.old)) }
+    ensures refused { bit_and inputs MSR.LINES.0 ≢ inputs →
+        (result ≡ UART_BAD_LINES) × (port.new ≡ port.old) × (todo.new ≡ todo.old) }
+    ensures canonical { IsCanonicalPort port.old → IsCanonicalPort port.new }
+{
+    if !is_within(inputs, MSR::LINES.bits()) {
+        return UART_BAD_LINES;
+    }
+    change_lines(&mut port.chip, inputs);
+    let was_up = is_interrupting(&port.chip);
+    finish(port, was_up, INPUT, todo);
+    UART_OK
+}
+
+/// The host took so many bytes of the output.
+#[unsafe(no_mangle)]
+pub extern "C" fn uart_port_take_output(port: &mut UartPort, count: usize, todo: &mut UartTodo)
+    ensures after { port_of port.new ≡ spec.after (TakeOutput count) (port_of port.old) }
+    ensures todo { todo.new ≡
+        port_spec.shown (spec.todo (TakeOutput count) (port_of port.old)) }
+    ensures canonical { IsCanonicalPort port.old → IsCanonicalPort port.new }
+{
+    // Room is something that the host brings only if it lets a byte go on that was held.
+    let kind = Kind {
+        brings: held_len(&port.chip.transmitter) != 0,
+        looks: false,
+        moves_data: false,
+    };
+    port.chip.transmitter.remove_wire(count);
+    let was_up = is_interrupting(&port.chip);
+    finish(port, was_up, kind, todo);
+}
+
+/// The level of the interrupt line.
+#[unsafe(no_mangle)]
+pub extern "C" fn uart_port_level(port: &UartPort) -> u8
+    ensures { result ≡ flag (spec.is_up (chip_of port.now.chip)) 1 }
+{
+    is_interrupting(&port.chip) as u8
+}
+
+/// Saves the chip of a port.
+#[unsafe(no_mangle)]
+pub extern "C" fn uart_port_save(port: &UartPort, saved: &mut UartChip)
+    ensures saved { chip_of saved.new ≡ chip_of port.now.chip }
+    ensures canonical { IsCanonical saved.new }
+{
+    saved.restore(&port.chip);
+}
+
+// Nothing is left to happen to a chip with these data, and it has the pace and the room of a port.
+fn is_settled(chip: &UartChip) -> bool
+    ensures settled { result ≡ true → IsStill (chip_of chip.now) }
+    ensures moving { result ≡ false → IsStill (chip_of chip.now) → ⊥ }
+{
+    chip.transmitter.char_ticks == CHAR_TICKS
+        && chip.transmitter.wire.capacity() == WIRE_ROOM
+        && chip.receiver.timeout_ticks == chip.receiver.timeout_limit
+        && next_move(&chip.transmitter, is_loopback(chip)).is_none()
+}
+
+/// Makes a port with a chip that was saved, unless the data are those of no port.
+#[unsafe(no_mangle)]
+pub extern "C" fn uart_port_load(port: &mut UartPort, saved: &UartChip, todo: &mut UartTodo) -> u32
+    ensures accepted { IsLive (chip_of saved.now) → IsStill (chip_of saved.now) →
+        (result ≡ UART_OK) × (port_of port.new ≡ spec.begun (chip_of saved.now)) }
+    ensures todo { IsLive (chip_of saved.now) → IsStill (chip_of saved.now) → todo.new ≡
+        port_spec.shown (spec.todo_of spec.idle true (chip_of saved.now) spec.untold) }
+    ensures dead { (IsLive (chip_of saved.now) → ⊥) →
+        (result ≡ UART_BAD_PORT) × (port.new ≡ port.old) × (todo.new ≡ todo.old) }
+    ensures moving { (IsStill (chip_of saved.now) → ⊥) →
+        (result ≡ UART_BAD_PORT) × (port.new ≡ port.old) × (todo.new ≡ todo.old) }
+    ensures canonical { result ≡ UART_OK → IsCanonicalPort port.new }
+{
+    if !is_sound(saved) || !is_settled(saved) {
+        return UART_BAD_PORT;
+    }
+    port.chip.restore(saved);
+    port.told = UNTOLD;
+    decide(port, true, IDLE, todo);
+    UART_OK
+}
