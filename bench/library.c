@@ -15,6 +15,10 @@ enum { ALL_INTERRUPTS = 0x0f, EACH = 16 };
 
 static struct uart_chip chip, saved;
 
+/* A port of a monitor, and what its monitor has to do. */
+static struct uart_port port;
+static struct uart_todo todo;
+
 /* What was read, so that no call can be left out. It is also what is written. */
 static unsigned digest;
 
@@ -103,6 +107,32 @@ static void interrupt_enabled(void)
     interrupt();
 }
 
+static void port_lsr(void)
+{
+    for (int i = 0; i < EACH; i++)
+        digest += uart_port_read(&port, UART_OFFSET_LSR, &todo);
+}
+
+/* Each byte is taken before the next is written. */
+static void port_data_write(void)
+{
+    for (int i = 0; i < EACH; i++) {
+        uart_port_write(&port, UART_OFFSET_DATA, (uint8_t)digest++, &todo);
+        digest += *uart_port_output(&port);
+        uart_port_take_output(&port, todo.ready, &todo);
+    }
+}
+
+static void port_byte_in_and_read(void)
+{
+    for (int i = 0; i < EACH; i++) {
+        uint8_t byte = (uint8_t)digest;
+
+        digest += (unsigned)uart_port_receive(&port, &byte, 1, &todo);
+        digest += uart_port_read(&port, UART_OFFSET_DATA, &todo);
+    }
+}
+
 __attribute__((noinline)) static void save(void)
 {
     saved = chip;
@@ -136,6 +166,9 @@ static const struct {
     { "byte-in-and-read", byte_in_and_read },
     { "interrupt", interrupt },
     { "interrupt-enabled", interrupt_enabled },
+    { "port-lsr", port_lsr },
+    { "port-data-write", port_data_write },
+    { "port-byte-in-and-read", port_byte_in_and_read },
     { "save-and-restore", save_and_restore },
 };
 
@@ -144,6 +177,8 @@ int main(int count, char **arguments)
     if (count != 3 || uart_chip_new(&chip, UART_16550A, 1, UART_WIRE_ROOM, UART_WHOLE_BYTES) != UART_OK)
         return 1;
     uart_chip_write(&chip, UART_OFFSET_FCR, UART_FCR_FIFO_ENABLE);
+    uart_port_new(&port, UART_16550A);
+    uart_port_write(&port, UART_OFFSET_FCR, UART_FCR_FIFO_ENABLE, &todo);
     for (size_t i = 0; i < sizeof BODIES / sizeof BODIES[0]; i++) {
         if (strcmp(BODIES[i].name, arguments[1]))
             continue;

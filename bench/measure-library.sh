@@ -23,7 +23,7 @@ each() {
     shift
     first=$(count "$body" 1 "$@")
     last=$(count "$body" 257 "$@")
-    echo "$body $first $last" | awk -v functions="$*" '{ printf "%-17s %7.2f  %s\n", $1, ($3 - $2) / 4096, functions }'
+    echo "$body $first $last" | awk -v functions="$*" '{ printf "%-21s %7.2f  %s\n", $1, ($3 - $2) / 4096, functions }'
 }
 
 each lsr uart_chip_read
@@ -38,5 +38,8 @@ each byte-out uart_chip_write uart_chip_ticks uart_chip_take_wire
 each byte-in-and-read uart_chip_arrive uart_chip_read
 each interrupt uart_chip_is_interrupting
 each interrupt-enabled uart_chip_is_interrupting
+each port-lsr uart_port_read
+each port-data-write uart_port_write uart_port_take_output
+each port-byte-in-and-read uart_port_receive uart_port_read
 each save-and-restore save
 each save-and-restore restore
