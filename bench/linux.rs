@@ -84,8 +84,7 @@ impl<D: Device> Linux<D> {
         linux.enable(THRI);
         let status = linux.device.read(LSR);
         let identification = linux.device.read(IIR);
-        linux.has_txen_bug =
-            status & TRANSMITTER_EMPTY != 0 && identification & NO_INTERRUPT != 0;
+        linux.has_txen_bug = status & TRANSMITTER_EMPTY != 0 && identification & NO_INTERRUPT != 0;
         linux.enable(RLSI | RDI);
         linux.handle_interrupts();
         linux.edges.count.set(0);
@@ -152,9 +151,22 @@ impl<D: Device> Linux<D> {
     }
 }
 
-/// Sends and receives so many bytes each, input in pieces of so many or of as many as there is room for, and prints how often the device
-/// triggered.
-fn measure<D: Device>(name: &str, what: &str, device: D, edges: Edges, out: usize, input: usize, piece: usize) {
+/// What is sent and received: how many bytes, and in pieces of how many the input comes, if there is room for so many.
+struct Work {
+    what: &'static str,
+    out: usize,
+    input: usize,
+    piece: usize,
+}
+
+/// Prints how often the device triggers.
+fn measure<D: Device>(name: &str, work: &Work, device: D, edges: &Edges) {
+    let Work {
+        what,
+        out,
+        input,
+        piece,
+    } = *work;
     let mut linux = Linux::new(device, edges.clone());
     let (mut left_out, mut left_in) = (out, input);
     let bytes = [b'y'; MOST_READ];
@@ -172,9 +184,17 @@ fn measure<D: Device>(name: &str, what: &str, device: D, edges: Edges, out: usiz
         }
         linux.handle_interrupts();
         assert_eq!(linux.to_send, 0, "the guest waits for ever");
-        assert_eq!(linux.received, input - left_in, "the guest has not read all");
+        assert_eq!(
+            linux.received,
+            input - left_in,
+            "the guest has not read all"
+        );
     }
-    println!("{name:<10} {what:<34} {:>9} triggers {:>9} runs of the handler", edges.count.get(), linux.runs);
+    println!(
+        "{name:<10} {what:<34} {:>9} triggers {:>9} runs of the handler",
+        edges.count.get(),
+        linux.runs
+    );
 }
 
 /// Counts over a device, which `make` makes with this line.
@@ -189,6 +209,12 @@ pub fn run<D: Device>(name: &str, make: impl Fn(Edges) -> D) {
         ("1 MB each way, in pieces of 16", MEGABYTE, MEGABYTE, 16),
     ] {
         let edges = Edges::default();
-        measure(name, what, make(edges.clone()), edges, out, input, piece);
+        let work = Work {
+            what,
+            out,
+            input,
+            piece,
+        };
+        measure(name, &work, make(edges.clone()), &edges);
     }
 }
