@@ -1,0 +1,146 @@
+-- What a part of a link's run does at one end.
+use Rattle.std.proofs.Common.{◌≡◌, ◌≢◌, ℕ, List, [], ◌∷◌, ◌++◌, map, append_assoc, append-nil, refl, sym, ◌∙◌, ap, subst, bit_or}
+use lib.Bits.{or_zero_r}
+use Rattle.std.proofs.lemmas.List.{map-append}
+use Rattle.uart_events.specs.declared.event.Event.{Event}
+use Rattle.uart_spec.specs.Access.{saved_lsr}
+use Rattle.uart_spec.specs.declared.access.Access.{Access}
+use Rattle.uart_16550.specs.Grammar.{Settings}
+use Rattle.uart_16550.specs.Driver.{settings_of}
+use Rattle.uart_chip.specs.declared.receiver.Character.{Character}
+use Rattle.uart_chip.specs.Machine.{MachineState, at_mark}
+use Rattle.uart_chip.specs.Sound.{IsSound}
+use Rattle.uart_chip.proofs.Bits.{or_assoc}
+use Rattle.uart_chip.proofs.conservation.Went.{Modes, Went, went-trans, went-refl}
+use Rattle.uart_chip.proofs.conservation.Passed.{Passed, passed-mark}
+use Rattle.uart_run.proofs.CallLaws.{InSession}
+use Rattle.uart_ring.specs.Ring.{RingFields, ring_fields, waiting}
+use Rattle.uart_ring.specs.Lossless.{data_written, data_read, untold_line}
+use Rattle.uart_ring.proofs.Losses.{data_written-append, data_read-append}
+use Rattle.uart_ring.proofs.RegisterBits.{saved_lsr-append}
+use Rattle.uart_ring_runs.specs.declared.call.RingCall.{RingCall}
+use Rattle.uart_ring_runs.specs.declared.call.RingCall.TheVariants as call
+use Rattle.uart_ring_runs.specs.declared.call.RingAnswer.{RingAnswer}
+use Rattle.uart_ring_runs.specs.RingRun.{RingState, under, ring_machine, RingCallStep}
+use Rattle.uart_ring_runs.specs.RingBytes.{to_send, to_take, queued_by, gone_in, to_send_with, KeepsOrder}
+use Rattle.uart_ring_runs.proofs.RingPasses.{RingPasses, InLine, ring_passes_call, untold_line_of}
+use Rattle.uart_link.specs.Link.{CabledCallStep, ChangesMachine}
+
+-- from s to t these events came and these accesses were made: what was written to DATA, and then what waits, is what
+-- waited and what was queued, if the order was kept; what left the receive ring and what is left of it was there or was
+-- read from DATA; the driver has the same settings; and what LSR showed is still to be told, unless it was told
+pub record EndPasses (x : Modes) (Order : Type 0) (queued : List ℕ) (NoLine : Type 0) (s t : RingState) (left : List ℕ)
+    (events : List Event) : Type 0 where
+  pub made : List Access
+  pub takes : List Character
+  pub bytes : map (λ character. character.byte) takes ≡ data_read made
+  pub went : Went x (ring_machine s).chip (ring_machine t).chip events made (data_written made) takes
+  pub settings : settings_of (ring_fields t).driver ≡ settings_of (ring_fields s).driver
+  pub sent : Order → data_written made ++ to_send t ≡ to_send s ++ queued
+  pub received : left ++ to_take t ≡ to_take s ++ data_read made
+  pub line : NoLine → untold_line_of t ≡ bit_or (untold_line_of s) (saved_lsr made)
+
+-- events alone, which leave the rings as they are
+pub passes_events : (x : Modes) (Order NoLine : Type 0) (s t : RingState) (events : List Event) →
+    Went x (ring_machine s).chip (ring_machine t).chip events [] [] [] → ring_fields t ≡ ring_fields s →
+    EndPasses x Order [] NoLine s t [] events
+passes_events x Order NoLine s t events went same = record {
+  made = [];
+  takes = [];
+  bytes = refl;
+  went = went;
+  settings = ap (λ (f : RingFields). settings_of f.driver) same;
+  sent = λ o. ap waiting same ∙ sym (append-nil (to_send s));
+  received = ap (λ (f : RingFields). f.receive.items) same ∙ sym (append-nil (to_take s));
+  line = λ n. ap untold_line same ∙ sym (or_zero_r (untold_line_of s));
+}
+
+-- one part and then another
+pub passes-trans : (x : Modes) (A B N O : Type 0) (s t u : RingState) (q p e f : List ℕ) (g h : List Event) →
+    EndPasses x A q N s t e g → EndPasses x B p O t u f h → EndPasses x (A × B) (q ++ p) (N × O) s u (e ++ f) (g ++ h)
+passes-trans x A B N O s t u q p e f g h a b = record {
+  made = a.made ++ b.made;
+  takes = a.takes ++ b.takes;
+  bytes =
+      let byte : Character → ℕ = λ character. character.byte in
+      map-append byte a.takes b.takes ∙ ((λ i. a.bytes i ++ b.bytes i) ∙ sym (data_read-append a.made b.made));
+  went = rw (data_written-append a.made b.made)
+      (went-trans x x _ _ _ g h a.made b.made _ _ a.takes b.takes refl a.went b.went);
+  settings = b.settings ∙ a.settings;
+  sent = λ o. ap (λ zs. zs ++ to_send u) (data_written-append a.made b.made) ∙
+      (append_assoc (data_written a.made) (data_written b.made) (to_send u) ∙ (ap (λ zs. data_written a.made ++ zs) (b.sent o.1) ∙
+      (sym (append_assoc (data_written a.made) (to_send t) p) ∙ (ap (λ zs. zs ++ p) (a.sent o.0) ∙ append_assoc (to_send s) q p))));
+  received = append_assoc e f (to_take u) ∙ (ap (λ zs. e ++ zs) b.received ∙ (sym (append_assoc e (to_take t) (data_read b.made)) ∙
+      (ap (λ zs. zs ++ data_read b.made) a.received ∙ (append_assoc (to_take s) (data_read a.made) (data_read b.made) ∙
+      ap (λ zs. to_take s ++ zs) (sym (data_read-append a.made b.made))))));
+  line = λ n. b.line n.1 ∙ (ap (λ v. bit_or v (saved_lsr b.made)) (a.line n.0) ∙
+      (or_assoc (untold_line_of s) (saved_lsr a.made) (saved_lsr b.made) ∙
+      ap (bit_or (untold_line_of s)) (sym (saved_lsr-append a.made b.made))));
+}
+
+-- a session goes on after a part
+pub in_session-passed : (x : Modes) (Order NoLine : Type 0) (s t : RingState) (q e : List ℕ) (events : List Event) → InSession x (under s) →
+    EndPasses x Order q NoLine s t e events → IsSound (ring_machine t) → InSession x (under t)
+in_session-passed x Order NoLine s t q e events w p sound = record {
+  open_modes = w.open_modes;
+  stands = record { sound = sound; modes = p.went.modes };
+  fifo = ap (λ (settings : Settings). settings.fifo) p.settings ∙ w.fifo;
+}
+
+-- ---- a ring call
+
+-- a call that does not overtake or drop adds what it queues to what waits
+in_order : (c : RingCall) (a : RingAnswer) (bytes : List ℕ) → KeepsOrder c → to_send_with c a bytes ≡ bytes ++ queued_by c a
+in_order (call.QueueUrgent byte) a bytes o = absurd o
+in_order call.ClearTransmit a bytes o = absurd o
+in_order other a bytes o = refl
+
+-- a call: its events are the first of those that were ahead
+pub record CallPasses (x : Modes) (c : RingCall) (a : RingAnswer) (s t : RingState) : Type 0 where
+  pub events : List Event
+  pub ends : EndPasses x (KeepsOrder c) (queued_by c a) (c ≢ call.TakeLine) s t (gone_in c a (to_take s)) events
+  pub ahead : (ring_machine s).ahead ≡ events ++ (ring_machine t).ahead
+  pub sound : IsSound (ring_machine t)
+
+of_ring : (x : Modes) (M : Type 0) (s t : RingState) (c : RingCall) (a : RingAnswer) →
+    RingPasses x (InLine c a s) (c ≢ call.TakeLine) M s t (gone_in c a (to_take s)) → CallPasses x c a s t
+of_ring x M s t c a p = record {
+  events = p.passed.passed.events;
+  ends = record {
+    made = p.made;
+    takes = p.passed.takes;
+    bytes = p.passed.bytes;
+    went = p.passed.passed.went;
+    settings = p.settings;
+    sent = λ o. p.sent ∙ in_order c a (to_send s) o;
+    received = p.received;
+    line = p.line;
+  };
+  ahead = p.passed.passed.ahead;
+  sound = p.passed.passed.sound;
+}
+
+pub call_passes : (x : Modes) (s t : RingState) (c : RingCall) (a : RingAnswer) → InSession x (under s) → RingCallStep s c a t →
+    CallPasses x c a s t
+call_passes x s t c a w h = of_ring x _ s t c a (ring_passes_call x s t c a w h)
+
+-- ---- what is known happens
+
+-- the events up to the next Mark, and what becomes of the machine's schedule then is left open
+pub record Settles (x : Modes) (Order NoLine : Type 0) (s t : RingState) : Type 0 where
+  pub events : List Event
+  pub ends : EndPasses x Order [] NoLine s t [] events
+  pub ahead : (ring_machine s).ahead ≡ events ++ (at_mark (ring_machine s)).ahead
+  pub sound : IsSound (at_mark (ring_machine s))
+
+pub settle_passes : (x : Modes) (Order NoLine : Type 0) (s t : RingState) → InSession x (under s) →
+    (ring_machine t).chip ≡ (at_mark (ring_machine s)).chip → ring_fields t ≡ ring_fields s → Settles x Order NoLine s t
+settle_passes x Order NoLine s t w chip same =
+    let p = passed-mark x (ring_machine s) w.open_modes.loopback w.stands.sound w.stands.modes in
+    let went : Went x (ring_machine s).chip (ring_machine t).chip p.events [] [] [] = rw chip p.went in
+    record {
+      events = p.events;
+      ends = passes_events x Order NoLine s t p.events went same;
+      ahead = p.ahead;
+      sound = p.sound;
+    }

@@ -1,0 +1,11 @@
+pub mod Schedules
+pub mod Arranges
+pub mod Crossings
+pub mod Lefts
+pub mod EndPasses
+pub mod EndActs
+pub mod LinkSteps
+pub mod LinkLaws
+pub mod LinkTold
+pub mod LinkSounds
+pub mod News

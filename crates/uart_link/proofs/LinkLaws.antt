@@ -1,0 +1,189 @@
+-- What a link carries.
+use Rattle.std.proofs.Common.{◌≡◌, ℕ, ◌+◌, ◌≤◌, Bool, true, List, [], ◌∷◌, ◌++◌, length, drop, map, append_assoc, refl, sym, ◌∙◌, ap}
+use Rattle.std.proofs.Common.{subst}
+use Rattle.std.proofs.Common.{arith}
+use Rattle.std.specs.List.{filter}
+use Rattle.std.proofs.lemmas.List.{drop-append-le, map-append, map-id}
+use Rattle.std.proofs.lemmas.List.Elements.{filter-append}
+use Rattle.uart_events.specs.declared.event.Event.{Event}
+use Rattle.uart_events.specs.declared.event.ArrivalMark.TheVariants.{Pending}
+use Rattle.uart_16550.specs.Grammar.{Settings}
+use Rattle.uart_chip.specs.declared.receiver.Character.{Character}
+use Rattle.uart_chip.specs.declared.receiver.Origin.TheVariants.{Arrived}
+use Rattle.uart_chip.specs.Transmitter.{held}
+use Rattle.uart_chip.specs.Receiver.{ReceiverState, mark_at}
+use Rattle.uart_chip.specs.Conserved.{out, stands, waiting, arriving, cut_character}
+use Rattle.uart_chip.specs.Sound.{IsSound}
+use Rattle.uart_chip.proofs.conservation.Went.{Modes, dlab-in, loopback-in}
+use Rattle.uart_run.specs.Ready.{Ready}
+use Rattle.uart_run.specs.Uncut.{IsUncut}
+use Rattle.uart_run.proofs.CallLaws.{InSession}
+use Rattle.uart_run.proofs.Uncuts.{whole_cut}
+use Rattle.uart_ring.specs.Lossless.{data_written, data_read}
+use Rattle.uart_ring_runs.specs.RingRun.{RingState, under, ring_machine}
+use Rattle.uart_ring_runs.specs.RingBytes.{to_send, to_take}
+use Rattle.uart_link.specs.declared.call.Side.TheVariants.{Left, Right}
+use Rattle.uart_link.specs.declared.link.Link.{Link}
+use Rattle.uart_link.specs.Brought.{brought, numbered}
+use Rattle.uart_link.specs.Cable.{on_cable}
+use Rattle.uart_link.specs.Carried.{on_the_way, to_be_taken, receiver_at, not_dropped, IsJoined, BothReady, NoneCut}
+use Rattle.uart_link.specs.Link.{Step, LinkChain}
+use Rattle.uart_link.specs.Parts.{LinkConserves}
+use Rattle.uart_link.proofs.Crossings.{arriving_numbered}
+use Rattle.uart_link.proofs.EndActs.{arrived_after}
+use Rattle.uart_link.proofs.EndPasses.{EndPasses}
+use Rattle.uart_link.proofs.LinkSteps.{Brings, link_chain, joined_after}
+use Rattle.uart_link.proofs.LinkTold.{tells_drops}
+
+-- ---- characters that have not arrived are not dropped
+
+numbered-append : (k : ℕ) (xs ys : List ℕ) → numbered k (xs ++ ys) ≡ numbered k xs ++ numbered (k + length xs) ys
+numbered-append k [] ys = ap (λ n. numbered n ys) (omega arith)
+numbered-append k (x ∷ xs) ys =
+    let e : (k + 1) + length xs ≡ k + length (x ∷ xs) = omega arith in
+    ap (λ zs. record { byte = x; errors = 0; origin = Arrived k } ∷ zs)
+    (numbered-append (k + 1) xs ys ∙ ap (λ n. numbered (k + 1) xs ++ numbered n ys) e)
+
+numbered_stand : (r : ReceiverState) (k : ℕ) (bytes : List ℕ) → ((number : ℕ) → k ≤ number → mark_at r.marks number ≡ Pending) →
+    not_dropped r (numbered k bytes) ≡ bytes
+numbered_stand r k [] h = refl
+numbered_stand r k (byte ∷ bytes) h =
+    let new : Character = record { byte = byte; errors = 0; origin = Arrived k } in
+    let rest = numbered_stand r (k + 1) bytes (λ number g. h number (omega (arith, g))) in
+    let e : stands r new ≡ true = rw (h k (omega arith)) refl in
+    rw e (ap (λ zs. byte ∷ zs) rest)
+
+not_dropped-append : (r : ReceiverState) (xs ys : List Character) → not_dropped r (xs ++ ys) ≡ not_dropped r xs ++ not_dropped r ys
+not_dropped-append r xs ys =
+    let byte : Character → ℕ = λ character. character.byte in
+    ap (map byte) (filter-append (stands r) xs ys) ∙ map-append byte (filter (stands r) xs) (filter (stands r) ys)
+
+-- ---- one direction
+
+-- all that arrived, and then what is on its way, is what was on its way and what was queued: of lists alone
+on_the_way_lists : (came cable held waits written cable_before held_before waits_before queued : List ℕ) →
+    (came ++ cable) ++ held ≡ cable_before ++ (held_before ++ written) → written ++ waits ≡ waits_before ++ queued →
+    came ++ (cable ++ (held ++ waits)) ≡ (cable_before ++ (held_before ++ waits_before)) ++ queued
+on_the_way_lists came cable held waits written cable_before held_before waits_before queued e f =
+    ap (λ zs. came ++ zs) (sym (append_assoc cable held waits)) ∙ (sym (append_assoc came (cable ++ held) waits) ∙
+    (ap (λ zs. zs ++ waits) (sym (append_assoc came cable held) ∙ e) ∙
+    (append_assoc cable_before (held_before ++ written) waits ∙
+    (ap (λ zs. cable_before ++ zs) (append_assoc held_before written waits ∙ (ap (λ zs. held_before ++ zs) f ∙
+    sym (append_assoc held_before waits_before queued))) ∙
+    sym (append_assoc cable_before (held_before ++ waits_before) queued)))))
+
+-- nothing is cut in these modes
+abbrev CutsNothing : Modes → Type 0
+CutsNothing x = x.cut ≡ (λ (byte : ℕ). byte)
+
+module _ (x y : Modes) (A B N O : Type 0) (q p e f : List ℕ) (s t r u : RingState) (g events : List Event)
+    (sends : EndPasses x A q N s t e g)
+    (gets : EndPasses y B p O r u f events) (b : Brings s t r u events)
+    (starts : (ring_machine r).chip.receiver.arrived ≤ length (ring_machine s).chip.transmitter.wire) where
+  all_way : CutsNothing x → A → brought events ++ on_the_way t u ≡ on_the_way s r ++ q
+  all_way whole order =
+      let c = (ring_machine s).chip.transmitter in
+      let d = (ring_machine t).chip.transmitter in
+      let k = (ring_machine r).chip.receiver.arrived in
+      let written = data_written sends.made in
+      let grows : d.wire ++ held d ≡ (c.wire ++ held c) ++ written =
+      sends.went.sends.grows ∙ ap (λ zs. (c.wire ++ held c) ++ zs) (ap (λ (cut : ℕ → ℕ). map cut written) whole ∙ map-id written) in
+      let before : drop k ((c.wire ++ held c) ++ written) ≡ drop k c.wire ++ (held c ++ written) =
+      ap (drop k) (append_assoc c.wire (held c) written) ∙ drop-append-le k c.wire (held c ++ written) starts in
+      let after : drop k (d.wire ++ held d) ≡ (brought events ++ on_cable (ring_machine t).chip (ring_machine u).chip) ++ held d =
+      drop-append-le k d.wire (held d) b.crosses.starts ∙ ap (λ zs. zs ++ held d) b.crosses.same in
+      on_the_way_lists (brought events) _ (held d) (to_send t) written _ (held c) (to_send s) q
+      (sym after ∙ (ap (drop k) grows ∙ before)) (sends.sent order)
+
+  -- what arrived was taken, or waits to be, if it was not dropped
+  all_taken : CutsNothing y →
+      f ++ to_be_taken u ≡ to_take r ++ not_dropped (receiver_at u) ((receiver_at r).queue
+      ++ numbered (receiver_at r).arrived (brought events))
+  all_taken whole =
+      let k = (receiver_at r).arrived in
+      let byte : Character → ℕ = λ character. character.byte in
+      let came : map (cut_character y.cut) (arriving k events) ≡ numbered k (brought events) =
+      ap (λ (cut : ℕ → ℕ). map (cut_character cut) (arriving k events)) whole ∙
+      (map-id (arriving k events) ∙ arriving_numbered k events b.clean) in
+      let stay : not_dropped (receiver_at u) ((receiver_at r).queue ++ numbered k (brought events)) ≡
+      data_read gets.made ++ waiting (ring_machine u) =
+      ap (λ (characters : List Character). not_dropped (receiver_at u) ((receiver_at r).queue ++ characters)) (sym came) ∙
+      (ap (map byte) gets.went.receives.moved.stay ∙ (map-append byte gets.takes (receiver_at u).queue ∙
+      ap (λ zs. zs ++ waiting (ring_machine u)) gets.bytes)) in
+      sym (append_assoc f (to_take u) (waiting (ring_machine u))) ∙ (ap (λ zs. zs ++ waiting (ring_machine u)) gets.received ∙
+      (append_assoc (to_take r) (data_read gets.made) (waiting (ring_machine u)) ∙ ap (λ zs. to_take r ++ zs) (sym stay)))
+
+  carried : CutsNothing x → CutsNothing y → InSession y (under u) → A →
+      f ++ (to_be_taken u ++ on_the_way t u) ≡ to_take r ++ not_dropped (receiver_at u)
+      ((receiver_at r).queue ++ numbered (receiver_at r).arrived (on_the_way s r ++ q))
+  carried whole whole_too session order =
+      let k = (receiver_at r).arrived in
+      let came = brought events in
+      let way = on_the_way t u in
+      let queue = (receiver_at r).queue in
+      let R = receiver_at u in
+      let number : k + length came ≡ R.arrived = sym (number_after) in
+      let rest : not_dropped R (numbered (k + length came) way) ≡ way =
+      ap (λ n. not_dropped R (numbered n way)) number ∙ numbered_stand R R.arrived way session.stands.sound.chip.receiver.marked.to_come in
+      let whole_queue : not_dropped R (queue ++ numbered k (on_the_way s r ++ q)) ≡ not_dropped R (queue ++ numbered k came) ++ way =
+      ap (λ bytes. not_dropped R (queue ++ numbered k bytes)) (sym (all_way whole order)) ∙
+      (ap (λ (characters : List Character). not_dropped R (queue ++ characters)) (numbered-append k came way) ∙
+      (ap (not_dropped R) (sym (append_assoc queue (numbered k came) (numbered (k + length came) way))) ∙
+      (not_dropped-append R (queue ++ numbered k came) (numbered (k + length came) way) ∙
+      ap (λ zs. not_dropped R (queue ++ numbered k came) ++ zs) rest))) in
+      sym (append_assoc f (to_be_taken u) way) ∙ (ap (λ zs. zs ++ way) (all_taken whole_too) ∙
+      (append_assoc (to_take r) (not_dropped R (queue ++ numbered k came)) way ∙ ap (λ zs. to_take r ++ zs) (sym whole_queue)))
+    where
+      number_after : (receiver_at u).arrived ≡ (receiver_at r).arrived + length (brought events)
+      number_after = arrived_after y _ _ events gets.went
+
+-- ---- a part of a run
+
+-- the modes in which a session runs that cuts nothing
+whole_modes : RingState → Modes
+whole_modes s = record {
+  lcr = (ring_machine s).chip.latches.lcr;
+  mcr = (ring_machine s).chip.latches.mcr;
+  fifo = (ring_machine s).chip.fifo;
+  cut = λ byte. byte;
+}
+
+whole_session : (s : RingState) → Ready (under s) → IsUncut (under s) → IsSound (ring_machine s) → InSession (whole_modes s) (under s)
+unfolding whole_modes
+whole_session s ready uncut sound = record {
+  open_modes = record { dlab = ready.dlab; loopback = ready.loopback };
+  stands = record {
+    sound = sound;
+    modes = record { lcr = refl; mcr = refl; fifo = refl; cut = whole_cut (ring_machine s).chip uncut };
+  };
+  fifo = sym ready.fifo;
+}
+
+cuts_nothing : (s : RingState) → CutsNothing (whole_modes s)
+unfolding whole_modes
+cuts_nothing s = refl
+
+ready_after : (x : Modes) (s : RingState) → InSession x (under s) → Ready (under s)
+ready_after x s w = record {
+  dlab = dlab-in x (ring_machine s).chip w.stands.modes ∙ w.open_modes.dlab;
+  loopback = loopback-in x (ring_machine s).chip w.stands.modes ∙ w.open_modes.loopback;
+  fifo = w.stands.modes.fifo ∙ sym w.fifo;
+}
+
+pub link_conserves : (a b : Link) (steps : List Step) → IsSound (ring_machine a.left) → IsSound (ring_machine a.right) →
+    IsJoined a → BothReady a → NoneCut a → LinkChain a steps b → LinkConserves a steps b
+link_conserves a b steps sound_left sound_right joined ready uncut chain =
+    let x = whole_modes a.left in
+    let y = whole_modes a.right in
+    let w = whole_session a.left ready.left uncut.left sound_left in
+    let v = whole_session a.right ready.right uncut.right sound_right in
+    let p = link_chain x y a b steps w v joined chain in
+    record {
+      rightward = carried x y _ _ _ _ _ _ _ _ a.left b.left a.right b.right _ _ p.left p.right p.rightward joined.right.behind
+          (cuts_nothing a.left) (cuts_nothing a.right) p.in_right;
+      leftward = carried y x _ _ _ _ _ _ _ _ a.right b.right a.left b.left _ _ p.right p.left p.leftward joined.left.behind
+          (cuts_nothing a.right) (cuts_nothing a.left) p.in_left;
+      tells = λ end. tells_drops x y a b steps end w v joined chain;
+      ready = record { left = ready_after x b.left p.in_left; right = ready_after y b.right p.in_right };
+      joined = joined_after x y _ _ _ _ a b p;
+    }

@@ -1,0 +1,92 @@
+-- Every call of a link leaves both machines sound, and what is proved of runs.
+use Rattle.std.proofs.Common.{◌≡◌, ◌⊎◌, inl, inr, ℕ, ◌≤◌, List, ◌++◌, length, take, sym, ap, subst}
+use Rattle.uart_spec.specs.Access.{Path}
+use Rattle.uart_spec.specs.declared.access.Access.{Access}
+use Rattle.uart_chip.specs.Chip.{ChipState}
+use Rattle.uart_chip.specs.Machine.{MachineState, MachineStep}
+use Rattle.uart_chip.specs.Sound.{IsSound}
+use Rattle.uart_chip.proofs.soundness.Sounds.{sound_mark, sound_path}
+use Rattle.uart_run.specs.Chains.{RunOf}
+use Rattle.uart_run.proofs.Chains.{chain_keeps, run_whole}
+use Rattle.uart_ring_runs.specs.declared.call.RingCall.{RingCall}
+use Rattle.uart_ring_runs.specs.declared.call.RingCall.TheVariants as call
+use Rattle.uart_ring_runs.specs.declared.call.RingAnswer.{RingAnswer}
+use Rattle.uart_ring_runs.specs.RingRun.{RingState, ring_machine}
+use Rattle.uart_link.specs.declared.call.LinkCall.{LinkCall}
+use Rattle.uart_link.specs.declared.call.Moment.{Moment}
+use Rattle.uart_link.specs.declared.call.Side.{Side}
+use Rattle.uart_link.specs.declared.call.Side.TheVariants.{Left, Right}
+use Rattle.uart_link.specs.declared.link.Link.{Link}
+use Rattle.uart_link.specs.Cable.{settled}
+use Rattle.uart_link.specs.Link.{at_end, other, CabledCallStep, EndStep, LinkCallStep}
+use Rattle.uart_link.specs.Parts.{RanLink}
+use Rattle.uart_link.proofs.EndActs.{sound_settled, sound_arranged}
+use Rattle.uart_link.proofs.LinkLaws.{link_conserves}
+
+-- a call made accesses, or let all moments happen
+abbrev Called : RingState → RingState → Type 0
+Called s t =
+    ((made : List Access) × Path MachineStep (ring_machine s) made (ring_machine t)) ⊎ (ring_machine t ≡ settled (ring_machine s))
+
+called : (s t : RingState) (c : RingCall) (a : RingAnswer) → CabledCallStep s c a t → Called s t
+called s t call.Next a h = inr h.passes.machine
+called s t (call.Queue bytes) a h = inl (h.did.list, h.did.path)
+called s t call.ResumeTransmit a h = inl (h.did.list, h.did.path)
+called s t (call.Take slots) a h = inl (h.did.list, h.did.path)
+called s t call.Service a h = inl (h.did.list, h.did.path)
+called s t (call.Handle limit) a h = inl (h.did.list, h.did.path)
+called s t call.Retrigger a h = inl (h.did.list, h.did.path)
+called s t call.TakeLine a h = inl (h.did.list, h.did.path)
+called s t call.TakeModem a h = inl (h.did.list, h.did.path)
+called s t call.HoldTransmit a h = inl (h.did.list, h.did.path)
+called s t call.ReleaseTransmit a h = inl (h.did.list, h.did.path)
+called s t (call.QueueUrgent byte) a h = inl (h.did.list, h.did.path)
+called s t call.ClearTransmit a h = inl (h.did.list, h.did.path)
+called s t call.ClearReceive a h = inl (h.did.list, h.did.path)
+called s t (call.SetLowMark mark) a h = inl (h.did.list, h.did.path)
+called s t call.TakeLow a h = inl (h.did.list, h.did.path)
+called s t (call.TryHandle limit rounds) a h = inl (h.did.list, h.did.path)
+called s t (call.Restart interrupts) a h = inl (h.did.list, h.did.path)
+
+sound_called : (s t : RingState) → IsSound (ring_machine s) → Called s t → IsSound (ring_machine t)
+sound_called s t w (inl h) = sound_path h.0 (ring_machine s) (ring_machine t) w h.1
+sound_called s t w (inr h) =
+    subst (λ (m : MachineState). IsSound m) (sym h) (sound_settled (ring_machine s) (sound_mark (ring_machine s) w).chip)
+
+sound_end : (moments : List Moment) (there s t : RingState) (c : RingCall) (a : RingAnswer) → IsSound (ring_machine s) →
+    EndStep moments there s c a t → IsSound (ring_machine t)
+sound_end moments there s t c a w h =
+    let m = ring_machine s in
+    let ready = sound_arranged moments (ring_machine there).chip (settled m).chip (sound_mark m w).chip in
+    sound_called h.begins t (subst (λ (o : MachineState). IsSound o) (sym h.arranges.machine) ready) (called h.begins t c a h.called)
+
+-- both machines are sound
+record BothSound (a : Link) : Type 0 where
+  pub left : IsSound (ring_machine a.left)
+  pub right : IsSound (ring_machine a.right)
+
+sound_step : (a b : Link) (side : Side) (moments : List Moment) (c : RingCall) (answer : RingAnswer) → BothSound a →
+    EndStep moments (at_end (other side) a) (at_end side a) c answer (at_end side b) →
+    at_end (other side) b ≡ at_end (other side) a → BothSound b
+sound_step a b Left moments c answer w h same = record {
+  left = sound_end moments a.right a.left b.left c answer w.left h;
+  right = subst (λ (s : RingState). IsSound (ring_machine s)) (sym same) w.right;
+}
+sound_step a b Right moments c answer w h same = record {
+  left = subst (λ (s : RingState). IsSound (ring_machine s)) (sym same) w.left;
+  right = sound_end moments a.left a.right b.right c answer w.right h;
+}
+
+sound_call : (a b : Link) (c : LinkCall) (answer : RingAnswer) → BothSound a → LinkCallStep a c answer b → BothSound b
+sound_call a b c answer w h = sound_step a b c.side c.moments.items c.call answer w h.0 h.1
+
+-- a run of all calls, from sound machines
+pub ran_link : (s t : Link) (calls : List LinkCall) (answers : List RingAnswer) (i : ℕ) → length calls ≤ i → length answers ≤ i →
+    IsSound (ring_machine s.left) → IsSound (ring_machine s.right) → RunOf LinkCallStep s (take i calls) (take i answers) t →
+    RanLink s calls answers t
+ran_link s t calls answers i all slots left right run = record {
+  run = run_whole LinkCallStep s t calls answers i all slots run;
+  parts = λ front part rest a b is before within after joined ready uncut.
+      let sound = chain_keeps LinkCallStep BothSound sound_call s a front (record { left = left; right = right }) before in
+      link_conserves a b part sound.left sound.right joined ready uncut within;
+}

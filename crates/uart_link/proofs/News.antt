@@ -1,0 +1,67 @@
+-- A chip that was just made, at a cable on which nothing has been sent yet.
+use Rattle.std.proofs.Common.{◌≡◌, ℕ, zero, suc, ◌+◌, Bool, true, false, not, nat_lt, List, [], ◌∷◌, ◌++◌, length, drop, replicate}
+use Rattle.std.proofs.Common.{Option, Some, None}
+use Rattle.std.proofs.Common.{refl, arith, sym, ◌∙◌, ap, subst, if◌then◌else◌}
+use Rattle.std.specs.List.{position, prefix_len}
+use Rattle.std.proofs.lemmas.Grind.{common_steps}
+use Rattle.uart_events.specs.declared.event.Chip.{Chip}
+use Rattle.uart_events.specs.declared.event.Event.{Event}
+use Rattle.uart_events.specs.declared.event.Event.TheVariants.{Arrive, Mark}
+use Rattle.uart_events.specs.Build.{has_bad_errors, has_bad_lines, refusal}
+use Rattle.uart_chip.specs.Chip as chip
+use Rattle.uart_chip.specs.Chip.{ChipState}
+use Rattle.uart_chip.specs.Machine.{MachineState, fresh}
+use Rattle.uart_chip.specs.Sound.{IsWhole}
+use Rattle.uart_chip.proofs.soundness.Builds.{whole_fresh}
+use Rattle.uart_link.specs.Cable.{unknown}
+use Rattle.uart_link.specs.Known.{IsKnown}
+use Rattle.uart_link.proofs.Schedules.{arrivals-unknown}
+
+none_at : (p : Event → Bool) (events : List Event) → prefix_len (λ event. not (p event)) events ≡ length events →
+    position p events ≡ None
+none_at p events e = go (nat_lt (prefix_len (λ event. not (p event)) events) (length events)) refl
+  where
+    go : (b : Bool) → nat_lt (prefix_len (λ event. not (p event)) events) (length events) ≡ b →
+        (if b then Some (prefix_len (λ event. not (p event)) events) else None) ≡ None
+    go false l = refl
+    go true l = absurd (grind (arith, common_steps))
+
+pass_errors : (count : ℕ) → prefix_len (λ event. not (has_bad_errors event)) (replicate count (Arrive 0 0)) ≡
+    length (replicate count (Arrive 0 0))
+pass_errors zero = refl
+pass_errors (suc count) = let h = pass_errors count in omega (arith, h)
+
+pass_lines : (count : ℕ) → prefix_len (λ event. not (has_bad_lines event)) (replicate count (Arrive 0 0)) ≡
+    length (replicate count (Arrive 0 0))
+pass_lines zero = refl
+pass_lines (suc count) = let h = pass_lines count in omega (arith, h)
+
+-- blanks are no reason to refuse a machine
+refusal_unknown : (char_ticks capacity count : ℕ) → refusal char_ticks capacity (unknown count) ≡ refusal char_ticks capacity []
+refusal_unknown char_ticks capacity count =
+    let errors : position has_bad_errors (unknown count) ≡ None =
+    none_at has_bad_errors (unknown count) (let h = pass_errors count in omega (arith, h)) in
+    let lines : position has_bad_lines (unknown count) ≡ None =
+    none_at has_bad_lines (unknown count) (let h = pass_lines count in omega (arith, h)) in
+    rw (errors, lines) refl
+
+-- the chip that `new` makes is the fresh machine, of which nothing is known
+pub is_new : (model : Chip) (char_ticks capacity count : ℕ) (events : List Event) (c : ChipState) →
+    c ≡ record (chip.fresh model char_ticks capacity count) { cuts = false } → events ≡ [] →
+    record { chip = c; ahead = drop 0 events ++ unknown count } ≡ fresh model char_ticks capacity (unknown count)
+is_new model char_ticks capacity count events c p q =
+    let f : ℕ → MachineState = λ n. record { chip = chip.fresh model char_ticks capacity n; ahead = unknown count } in
+    ap (λ (d : ChipState). let m : MachineState = record { chip = d; ahead = drop 0 events ++ unknown count } in m) p ∙
+    (ap (λ (es : List Event). let m : MachineState = record {
+      chip = chip.fresh model char_ticks capacity count;
+      ahead = drop 0 es ++ unknown count;
+    } in m) q ∙ ap f (sym (arrivals-unknown count)))
+
+pub known_new : (model : Chip) (char_ticks capacity count : ℕ) (events : List Event) (c : ChipState) →
+    c ≡ record (chip.fresh model char_ticks capacity count) { cuts = false } → events ≡ [] →
+    refusal char_ticks capacity [] ≡ None → IsKnown c (drop 0 events) count
+known_new model char_ticks capacity count events c p q e = record {
+  whole = rw (is_new model char_ticks capacity count events c p q)
+      (whole_fresh model char_ticks capacity (unknown count) (refusal_unknown char_ticks capacity count ∙ e));
+  unmarked = rw q tt;
+}

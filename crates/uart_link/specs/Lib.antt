@@ -1,0 +1,7 @@
+pub mod Cable
+pub mod Known
+pub mod Brought
+pub mod Link
+pub mod Carried
+pub mod Told
+pub mod Parts

@@ -1,0 +1,27 @@
+-- What holds of each part of a link's run.
+use Rattle.std.specs.Prelude.{◌≡◌, List, ◌++◌}
+use Rattle.uart_run.specs.Chains.{RunOf}
+use Rattle.uart_ring_runs.specs.declared.call.RingAnswer.{RingAnswer}
+use Rattle.uart_link.specs.declared.call.LinkCall.{LinkCall}
+use Rattle.uart_link.specs.declared.call.Side.{Side}
+use Rattle.uart_link.specs.declared.call.Side.TheVariants.{Left, Right}
+use Rattle.uart_link.specs.declared.link.Link.{Link}
+use Rattle.uart_link.specs.Carried.{Carries, BothReady, NoneCut, IsJoined}
+use Rattle.uart_link.specs.Link.{Step, LinkCallStep, LinkChain}
+use Rattle.uart_link.specs.Told.{TellsDrops}
+
+-- a part of a run carries the bytes of both ends; a `take_line` at its end tells of a drop; and a part may follow for
+-- which all this holds
+pub record LinkConserves (a : Link) (steps : List Step) (b : Link) : Type 0 where
+  pub rightward : Carries Left a steps b
+  pub leftward : Carries Right a steps b
+  pub tells : (end : Side) → TellsDrops end a steps b
+  pub ready : BothReady b
+  pub joined : IsJoined b
+
+-- these calls, with these answers, lead from s to t; and each part of them conserves that begins when both ends are
+-- ready
+pub record RanLink (s : Link) (calls : List LinkCall) (answers : List RingAnswer) (t : Link) : Type 0 where
+  pub run : RunOf LinkCallStep s calls answers t
+  pub parts : (front part rest : List Step) (a b : Link) → run.links ≡ front ++ (part ++ rest) → LinkChain s front a →
+      LinkChain a part b → LinkChain b rest t → IsJoined a → BothReady a → NoneCut a → LinkConserves a part b

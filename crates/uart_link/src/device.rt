@@ -1,0 +1,292 @@
+//! The chip at one end of a cable.
+ghost use Rattle.std.specs.Prelude.{◌≡◌, ◌≤◌, ◌<◌, ◌+◌, List, [], ◌∷◌, ◌++◌, length, drop};
+ghost use Rattle.std.specs.Prelude.{vec_len, vec_capacity, slice_get, IfOk, IsOkUnless};
+ghost use Rattle.uart_chip.specs.Conserved.{waiting};
+ghost use Rattle.uart_chip.specs.Machine as machine;
+ghost use Rattle.uart_chip.specs.Sound.{IsWhole};
+ghost use Rattle.uart_chip.specs.Transmitter.{held};
+ghost use Rattle.uart_events.specs.Build.{refusal};
+ghost use Rattle.uart_events.specs.declared.event.BuildError.{BuildError};
+ghost use Rattle.uart_link.specs.Cable as spec;
+ghost use Rattle.uart_link.specs.declared.call.Moment.{Moment};
+ghost use Rattle.uart_link.specs.declared.call.TheConstants.{CALL_MOMENTS};
+
+use crate::call::{CALL_MOMENTS, Moment};
+use bitflags::Flags;
+use std::alloc::Global;
+use std::marker::Model;
+use uart_chip::controlling::ChipParts;
+use uart_chip::{ArrivalMark, BuildError, Chip, Event, Uart, arrivals, refusal};
+use uart_spec::backend::Backend;
+use uart_spec::registers::{MCR, MSR, flag};
+
+/// The chip at one end of a cable, as a backend of the driver.
+///
+/// It is a chip under a schedule, as `Device16550` is, but its schedule becomes known call by call:
+/// which characters arrive, and what the modem lines are, depends on the other end.
+// Clauses see a machine whose schedule has what is known, and then, behind a mark, as many blanks
+// as characters may still come. So the definitions and laws of a chip under a schedule apply as
+// they are.
+#[derive(Drop)]
+pub struct CabledChip {
+    uart: Uart,
+    // What is known of the schedule. No event of it is a mark.
+    events: Vec<Event>,
+    cursor: usize,
+    // How many characters may arrive after these events. The journal of the chip is made for a
+    // number of them.
+    remaining: usize,
+}
+
+impl Model for CabledChip {
+    ghost use Rattle.std.specs.Prelude.{◌≤◌, ◌++◌, drop, vec_len, vec_capacity};
+    ghost use Rattle.uart_chip.specs.Machine.{MachineState};
+    ghost use Rattle.uart_link.specs.Cable.{unknown};
+    ghost use Rattle.uart_link.specs.Known.{IsKnown};
+    ghost use Rattle.uart_link.specs.declared.call.TheConstants.{CALL_MOMENTS};
+
+    ghost Value = { MachineState };
+
+    ghost view = { λ m. record {
+      chip = m.uart;
+      ahead = drop m.cursor m.events.items ++ unknown m.remaining;
+    } };
+
+    ghost invariant = { λ m. (m.cursor ≤ vec_len m.events)
+        × (CALL_MOMENTS ≤ vec_capacity m.events)
+        × IsKnown m.uart (drop m.cursor m.events.items) m.remaining };
+}
+
+// Returns the modem lines at one end by the modem control register at the other.
+fn lines_joined(mcr: MCR) -> MSR
+    ensures { result.0 ≡ spec.lines_joined mcr.0 }
+{
+    let cts = flag(mcr.intersects(MCR::RTS), MSR::CTS);
+    let dsr = flag(mcr.intersects(MCR::DTR), MSR::DSR);
+    let cd = flag(mcr.intersects(MCR::DTR), MSR::CD);
+    cts.union(dsr.union(cd))
+}
+
+// Appends the event of a moment to a list with room for it, if it has one, and returns which
+// character is the next one on the cable then. `next` is the next one before.
+fn put_event(
+    events: &mut Vec<Event>,
+    moment: Moment,
+    cable: &[u8],
+    next: usize,
+    lines: MSR,
+) -> usize
+    requires room { vec_len events.old < vec_capacity events.old }
+    requires within { next ≤ length cable.now }
+    ensures items { (others : List Moment) →
+        events.new.items ++ spec.events_of others (drop result cable.now) lines.0 ≡
+        events.old.items ++ spec.events_of (moment ∷ others) (drop next cable.now) lines.0 }
+    ensures within { result ≤ length cable.now }
+    ensures few { vec_len events.new ≤ vec_len events.old + 1 }
+    ensures room { vec_capacity events.old ≤ vec_capacity events.new }
+{
+    match moment {
+        Moment::Ticks(n) => {
+            events.push(Event::Ticks(n)).unwrap();
+            next
+        }
+        Moment::Arrives => {
+            if next < cable.len() {
+                let byte = cable[next];
+                events.push(Event::Arrive { byte, errors: 0 }).unwrap();
+                return next + 1;
+            }
+            next
+        }
+        Moment::Lines => {
+            events.push(Event::Lines(lines.bits())).unwrap();
+            next
+        }
+        Moment::Access => {
+            events.push(Event::Access).unwrap();
+            next
+        }
+    }
+}
+
+// Appends the events of these moments to an empty list with room for them: each character that
+// arrives is the next one of `cable`.
+fn put_events(events: &mut Vec<Event>, moments: &[Moment], cable: &[u8], lines: MSR)
+    requires empty { events.old.items ≡ [] }
+    requires few { length moments.now ≤ CALL_MOMENTS }
+    requires room { CALL_MOMENTS ≤ vec_capacity events.old }
+    ensures items { events.new.items ≡ spec.events_of moments.now cable.now lines.0 }
+    ensures room { vec_capacity events.old ≤ vec_capacity events.new }
+{
+    let mut next = 0;
+    for moment in moments {
+        next = put_event(events, *moment, cable, next, lines);
+    }
+}
+
+impl CabledChip {
+    /// Returns a chip after power-on, at a cable on which nothing has been sent yet.
+    ///
+    /// A character takes `char_ticks` ticks in the shift register. The wire has room for
+    /// `wire_capacity` bytes, which are all that the chip ever sends: when so many have left the
+    /// chip, the transmitter keeps what it holds. At most `arrivals` characters arrive, and those
+    /// behind them stay on the cable. Bytes are sent and received whole, whatever the word length
+    /// is. All memory is allocated here; no later call allocates.
+    ///
+    /// # Errors
+    ///
+    /// The first of these.
+    ///
+    /// - `BadTicks` if `char_ticks` is 0 or more than 1000.
+    /// - `BadWire` if `wire_capacity` is more than 65,536.
+    /// - `OutOfMemory` if memory could not be allocated.
+    ///
+    /// # Examples
+    ///
+    /// ```
+    /// let machine = CabledChip::new(rt.alloc(), Chip::Uart16550A, 4, 64, 64)?;
+    /// let mut uart = Uart16550::new_with_backend(machine);
+    /// uart.init(Config::DEFAULT)?;
+    /// ```
+    pub fn new(
+        alloc: Global,
+        chip: Chip,
+        char_ticks: u16,
+        wire_capacity: usize,
+        arrivals: usize,
+    ) -> Result<Self, BuildError>
+        ensures built { IfOk result (λ m.
+            m ≡ machine.fresh chip char_ticks wire_capacity (spec.unknown arrivals)) }
+        ensures refused { (reason : BuildError) →
+            refusal char_ticks wire_capacity [] ≡ Some reason → result ≡ Err reason }
+        ensures accepted { refusal char_ticks wire_capacity [] ≡ None →
+            IsOkUnless result BuildError.OutOfMemory }
+    {
+        if let Some(reason) = refusal(char_ticks, wire_capacity, &[]) {
+            return Err(reason);
+        }
+        let Ok(uart) = Uart::new(alloc, chip, char_ticks, wire_capacity, arrivals, false) else {
+            return Err(BuildError::OutOfMemory);
+        };
+        let Ok(events) = Vec::with_capacity(alloc, CALL_MOMENTS) else {
+            return Err(BuildError::OutOfMemory);
+        };
+        Ok(Self {
+            uart,
+            events,
+            cursor: 0,
+            remaining: arrivals,
+        })
+    }
+
+    // Performs the events before an access.
+    fn reach_access(&mut self)
+        ensures { self.new ≡ machine.at_access self.old }
+    {
+        while self.cursor < self.events.len() {
+            match self.events[self.cursor] {
+                Event::Access => {
+                    self.cursor += 1;
+                    return;
+                }
+                event => {
+                    self.uart.perform(event);
+                    self.cursor += 1;
+                }
+            }
+        }
+        self.uart.tick();
+    }
+
+    /// Lets all that is known of the schedule happen.
+    pub(crate) fn settle(&mut self)
+        ensures { self.new ≡ spec.settled self.old }
+    {
+        while self.cursor < self.events.len() {
+            self.uart.perform(self.events[self.cursor]);
+            self.cursor += 1;
+        }
+    }
+
+    /// Lets all that is known of the schedule happen, and puts these moments into it. The
+    /// characters that arrive are those that have left the chip at the other end, and the modem
+    /// lines are those that it gives.
+    pub(crate) fn arrange(&mut self, moments: &[Moment], there: &CabledChip)
+        requires { length moments.now ≤ CALL_MOMENTS }
+        ensures { self.new ≡ spec.arranged moments.now there.now.chip self.old }
+    {
+        self.settle();
+        let wire = there.wire();
+        let arrived = self.arrivals() - self.remaining;
+        let first = arrived.min(wire.len());
+        let past = first + self.remaining.min(wire.len() - first);
+        self.cursor = 0;
+        self.events.clear();
+        put_events(&mut self.events, moments, &wire[first..past], there.lines());
+        self.remaining -= arrivals(&self.events);
+    }
+
+    // Returns the modem lines that this chip gives to the other end.
+    fn lines(&self) -> MSR
+        ensures { result.0 ≡ spec.lines_from self.now.chip }
+    {
+        if self.uart.is_loopback() {
+            MSR::empty()
+        } else {
+            lines_joined(self.uart.mcr())
+        }
+    }
+
+    /// Returns the bytes that have left the chip, in order.
+    pub fn wire(&self) -> &[u8]
+        ensures { result.now ≡ self.now.chip.transmitter.wire }
+    {
+        self.uart.transmitter().wire()
+    }
+
+    /// Returns the number of bytes in the transmitter, which are still to be sent.
+    pub fn held_len(&self) -> usize
+        ensures { result ≡ length (held self.now.chip.transmitter) }
+    {
+        self.uart.transmitter().held_len()
+    }
+
+    /// Returns the number of received bytes that have not been read.
+    pub fn waiting_len(&self) -> usize
+        ensures { result ≡ length (waiting self.now) }
+    {
+        self.uart.receiver().waiting_len()
+    }
+
+    /// Returns the number of characters that may arrive at this chip, past and future.
+    pub fn arrivals(&self) -> usize
+        ensures number { result ≡ length self.now.chip.receiver.marks }
+        ensures whole { IsWhole self.now }
+    {
+        self.uart.receiver().arrivals()
+    }
+
+    /// Returns what became of an arrival. Arrivals are counted from 0. `None` if no more can
+    /// arrive.
+    pub fn mark(&self, i: usize) -> Option<ArrivalMark>
+        ensures { result ≡ slice_get self.now.chip.receiver.marks i }
+    {
+        self.uart.receiver().mark(i)
+    }
+}
+
+impl Backend for CabledChip {
+    ghost use Rattle.uart_chip.specs.Machine.{MachineStep};
+
+    ghost step = { MachineStep };
+
+    fn read(&mut self, register_offset: u8) -> u8 {
+        self.reach_access();
+        self.uart.read(register_offset)
+    }
+
+    fn write(&mut self, register_offset: u8, value: u8) {
+        self.reach_access();
+        self.uart.write(register_offset, value);
+    }
+}
