@@ -1,5 +1,5 @@
 -- A chip that was just made, at a cable on which nothing has been sent yet.
-use Rattle.std.proofs.Common.{◌≡◌, ℕ, zero, suc, ◌+◌, Bool, true, false, not, nat_lt, List, [], ◌∷◌, ◌++◌, length, drop, replicate}
+use Rattle.std.proofs.Common.{◌≤◌, ◌≡◌, ℕ, zero, suc, ◌+◌, Bool, true, false, not, nat_lt, List, [], ◌∷◌, ◌++◌, length, drop, replicate}
 use Rattle.std.proofs.Common.{Option, Some, None}
 use Rattle.std.proofs.Common.{refl, arith, sym, ◌∙◌, ap, subst, if◌then◌else◌}
 use Rattle.std.specs.List.{position, prefix_len}
@@ -13,6 +13,8 @@ use Rattle.uart_chip.specs.Chip.{ChipState}
 use Rattle.uart_chip.specs.Machine.{MachineState, fresh}
 use Rattle.uart_chip.specs.Sound.{IsWhole}
 use Rattle.uart_chip.proofs.soundness.Builds.{whole_fresh}
+use Rattle.std.proofs.lemmas.List.{drop_all}
+use Rattle.uart_link.specs.Brought.{IsBrought}
 use Rattle.uart_link.specs.Cable.{unknown}
 use Rattle.uart_link.specs.Known.{IsKnown}
 use Rattle.uart_link.proofs.Schedules.{arrivals-unknown}
@@ -65,3 +67,24 @@ known_new model char_ticks capacity count events c p q e = record {
       (whole_fresh model char_ticks capacity (unknown count) (refusal_unknown char_ticks capacity count ∙ e));
   unmarked = rw q tt;
 }
+
+-- a chip to which nothing has come yet: whatever has left the other one may come
+pub untouched : (s : MachineState) (c : ChipState) (events : List Event) (k count : ℕ) →
+    record { chip = c; ahead = drop k events ++ unknown count } ≡ s → IsKnown c (drop k events) count → length events ≤ k →
+    count ≡ length c.receiver.marks → (wire : List ℕ) → IsBrought wire s
+untouched s c events k count same known all unused wire =
+    let e : drop k events ≡ [] = drop_all k events all in
+    let none : IsKnown c [] count = rw e at known in
+    let h = arrivals-unknown count in
+    let first : c.receiver.arrived ≡ 0 = omega (arith, h, none.whole.sound.foreseen, unused) in
+    let here : IsBrought wire (record { chip = c; ahead = drop k events ++ unknown count }) = record {
+      known = [];
+      count = count;
+      rest = wire;
+      ahead = ap (λ (es : List Event). es ++ unknown count) e;
+      unmarked = tt;
+      clean = tt;
+      behind = omega (arith, first);
+      next = ap (λ n. drop n wire) first;
+    } in
+    subst (λ (m : MachineState). IsBrought wire m) same here

@@ -1,12 +1,13 @@
 //! The chip at one end of a cable.
 ghost use Rattle.std.specs.Prelude.{◌≡◌, ◌≤◌, ◌<◌, ◌+◌, List, [], ◌∷◌, ◌++◌, length, drop};
-ghost use Rattle.std.specs.Prelude.{vec_len, vec_capacity, slice_get, IfOk, IsOkUnless};
+ghost use Rattle.std.specs.Prelude.{ℕ, vec_len, vec_capacity, slice_get, IfOk, IsOkUnless, IsTrue};
 ghost use Rattle.uart_chip.specs.Conserved.{waiting};
 ghost use Rattle.uart_chip.specs.Machine as machine;
 ghost use Rattle.uart_chip.specs.Sound.{IsWhole};
 ghost use Rattle.uart_chip.specs.Transmitter.{held};
 ghost use Rattle.uart_events.specs.Build.{refusal};
 ghost use Rattle.uart_events.specs.declared.event.BuildError.{BuildError};
+ghost use Rattle.uart_link.specs.Brought.{IsBrought};
 ghost use Rattle.uart_link.specs.Cable as spec;
 ghost use Rattle.uart_link.specs.declared.call.Moment.{Moment};
 ghost use Rattle.uart_link.specs.declared.call.TheConstants.{CALL_MOMENTS};
@@ -235,6 +236,23 @@ impl CabledChip {
         } else {
             lines_joined(self.uart.mcr())
         }
+    }
+
+    /// Returns whether nothing has come over the cable yet: no character has arrived, and no moment
+    /// lies ahead.
+    ///
+    /// # Examples
+    ///
+    /// ```
+    /// assert!(rt; CabledChip::new(rt.alloc(), Chip::Uart16550A, 4, 64, 64)?.is_untouched());
+    /// ```
+    pub fn is_untouched(&self) -> bool
+        ensures { IsTrue result → (wire : List ℕ) → IsBrought wire self.now }
+    {
+        if self.cursor < self.events.len() {
+            return false;
+        }
+        self.remaining == self.uart.receiver().arrivals()
     }
 
     /// Returns the bytes that have left the chip, in order.

@@ -1,6 +1,7 @@
 //! Runs of calls over a link.
-ghost use Rattle.std.specs.Prelude.{◌≡◌, ◌≤◌, length, All};
+ghost use Rattle.std.specs.Prelude.{◌≡◌, ◌≤◌, length, All, IfOk, IfErr};
 ghost use Rattle.uart_link.specs.Cable.{arranged};
+ghost use Rattle.uart_link.specs.Carried.{IsJoined};
 ghost use Rattle.uart_link.specs.Link.{ChangesMachine, EndStep, IsLinkRunnable, LinkCallStep};
 ghost use Rattle.uart_link.specs.Parts.{RanLink};
 ghost use Rattle.uart_link.specs.declared.call.TheConstants.{CALL_MOMENTS};
@@ -19,6 +20,39 @@ pub struct Link {
     pub left: Uart16550Ring<CabledChip>,
     /// The rings at the right end.
     pub right: Uart16550Ring<CabledChip>,
+}
+
+impl Link {
+    /// Joins the rings at two ends by a cable, on which nothing has come to either end yet. The
+    /// chips may have been initialised, and may have sent bytes.
+    ///
+    /// # Errors
+    ///
+    /// Returns the rings, if a character has arrived at one of the chips before, or a moment lies
+    /// ahead of it.
+    ///
+    /// # Examples
+    ///
+    /// ```
+    /// let Ok(mut link) = Link::new(left, right) else {
+    ///     return Err(LinkError::Used);
+    /// };
+    /// ```
+    pub fn new(
+        left: Uart16550Ring<CabledChip>,
+        right: Uart16550Ring<CabledChip>,
+    ) -> Result<Self, (Uart16550Ring<CabledChip>, Uart16550Ring<CabledChip>)>
+        ensures joined { IfOk result (λ link. IsJoined link) }
+        ensures ends { IfOk result (λ link. (link.left ≡ left) × (link.right ≡ right)) }
+        ensures refused { IfErr result (λ rings. rings ≡ (left, right)) }
+    {
+        let is_untouched = left.inner().backend().is_untouched();
+        if is_untouched && right.inner().backend().is_untouched() {
+            Ok(Link { left, right })
+        } else {
+            Err((left, right))
+        }
+    }
 }
 
 // Puts these moments ahead of one end, with what comes from the other.

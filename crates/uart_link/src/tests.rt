@@ -60,9 +60,8 @@ fn made(rt: &impl Abort, link: &mut Link, steps: &[(LinkCall, RingAnswer)]) {
 
 #[test]
 fn bytes_cross_the_cable_in_order(rt: HostRuntime) -> Result<(), Fail> {
-    let mut link = Link {
-        left: rings(&rt, 32)?,
-        right: rings(&rt, 32)?,
+    let Ok(mut link) = Link::new(rings(&rt, 32)?, rings(&rt, 32)?) else {
+        panic!(&rt; "nothing has arrived yet");
     };
     let arrives = [Moment::Arrives, Moment::Ticks(4), Moment::Arrives];
     let steps = [
@@ -101,9 +100,8 @@ fn bytes_cross_the_cable_in_order(rt: HostRuntime) -> Result<(), Fail> {
 
 #[test]
 fn a_byte_that_overruns_is_told(rt: HostRuntime) -> Result<(), Fail> {
-    let mut link = Link {
-        left: rings(&rt, 32)?,
-        right: rings(&rt, 32)?,
+    let Ok(mut link) = Link::new(rings(&rt, 32)?, rings(&rt, 32)?) else {
+        panic!(&rt; "nothing has arrived yet");
     };
     let sent = b"0123456789abcdefXY";
     let moments = [Moment::Arrives; 18];
@@ -140,9 +138,8 @@ fn a_byte_that_overruns_is_told(rt: HostRuntime) -> Result<(), Fail> {
 
 #[test]
 fn the_lines_cross_over(rt: HostRuntime) -> Result<(), Fail> {
-    let mut link = Link {
-        left: rings(&rt, 32)?,
-        right: rings(&rt, 32)?,
+    let Ok(mut link) = Link::new(rings(&rt, 32)?, rings(&rt, 32)?) else {
+        panic!(&rt; "nothing has arrived yet");
     };
     // An `init` sets RTS and DTR.
     let up = MSR::CTS.union(MSR::DSR).union(MSR::CD);
