@@ -294,7 +294,7 @@ AROUND = [
     ),
     ("rust/uart_16550/Cargo.toml", "[package]\n", 'cargo-features = ["x"]\n[package]\n', "the section [cargo-features]"),
     ("rust/uart_16550/Cargo.toml", "[lib]\n", "[lib\n", "cannot be read"),
-    ("Cargo.toml", "[workspace]\n", "[profile.release]\noverflow-checks = true\n[workspace]\n", "`overflow-checks` of the profile release"),
+    ("Cargo.toml", "[profile.release]\n", "[profile.release]\noverflow-checks = true\n", "`overflow-checks` of the profile release"),
     ("Cargo.toml", "[patch.crates-io]\n", '[patch.crates-io]\nx = { path = "x" }\n', "more than the stand-in"),
 ]
 
