@@ -1,0 +1,89 @@
+-- The blocks of a session, and its calls.
+use Rattle.std.proofs.Common.{◌≤◌, ◌+◌, ℕ, Bool, List, [], ◌∷◌, ◌++◌, length, map, refl, sym}
+use Rattle.std.proofs.Common.{subst, arith, bit_or}
+use Rattle.uart_spec.specs.declared.access.Access.{Access as RegisterAccess}
+use Rattle.uart_spec.specs.declared.access.Access.TheVariants.{Read, Write}
+use Rattle.uart_spec.specs.declared.registers.line_control.TheConstants.LCR as lcr_bits
+use Rattle.uart_spec.specs.declared.registers.offsets.TheConstants as offsets
+use Rattle.uart_chip.specs.Transmitter.{room as room_of}
+use Rattle.uart_chip.proofs.conservation.Blocks.{AllFit, AllQuiet, Block, Look, Hit, Burst, Other, Divisor, IsFit, accesses_of, flat}
+use Rattle.uart_judges.specs.declared.audit.auditor.Auditor.{Auditor}
+use Rattle.uart_run.proofs.CallBlocks.{InBlocks}
+use Rattle.uart_judges_runs.specs.Calls.{AreTaken, KnowsAsTaken}
+use Rattle.uart_judges_runs.proofs.Recordings.{Goes, Moves, Stays, goes_none, goes_one, goes_then}
+use Rattle.uart_judges_runs.proofs.Kept.{Opened, Reading, Sending, stays_knows, stays_opened, stays_reading, stays_sending}
+use Rattle.uart_judges_runs.proofs.Steps.{closes_again, moves_look, moves_quiet, opens, reading_begins, reading_ends, reads_high, reads_low}
+use Rattle.uart_judges_runs.proofs.Steps.{sending_begins, sending_quiet, sending_sends}
+
+-- an access, and then some
+goes_on : (P Q R : Auditor → Type 0) (x : RegisterAccess) (l : List RegisterAccess) → Stays P → Stays Q → Moves P x Q → Goes Q l R →
+    Goes P (x ∷ l) R
+goes_on P Q R x l p q moves rest = goes_then P Q R (x ∷ []) l (goes_one P Q x p q moves) rest
+
+taken_front : (fifo : Bool) (xs ys : List RegisterAccess) → AreTaken fifo (xs ++ ys) → AreTaken fifo xs
+taken_front fifo [] ys t = tt
+taken_front fifo (x ∷ xs) ys t = (t.0, taken_front fifo xs ys t.1)
+
+taken_back : (fifo : Bool) (xs ys : List RegisterAccess) → AreTaken fifo (xs ++ ys) → AreTaken fifo ys
+taken_back fifo [] ys t = t
+taken_back fifo (x ∷ xs) ys t = taken_back fifo xs ys t.1
+
+-- ---- a burst
+
+sent_all : (fifo : Bool) (k : ℕ) (bytes : List ℕ) → k + length bytes ≤ room_of fifo →
+    Goes (Sending fifo k) (map (Write offsets.DATA) bytes) (KnowsAsTaken fifo)
+sent_all fifo k [] few = λ past entries is p.
+    let r = goes_none (Sending fifo k) (stays_sending fifo k) past entries is p in (r.0, r.1.knows)
+sent_all fifo k (byte ∷ bytes) few =
+    goes_on (Sending fifo k) (Sending fifo (k + 1)) (KnowsAsTaken fifo) (Write offsets.DATA byte) (map (Write offsets.DATA) bytes)
+    (stays_sending fifo k) (stays_sending fifo (k + 1)) (sending_sends fifo k byte (omega arith))
+    (sent_all fifo (k + 1) bytes (omega arith))
+
+checked : (fifo : Bool) (checks : List RegisterAccess) (bytes : List ℕ) → AllQuiet checks → AreTaken fifo checks →
+    length bytes ≤ room_of fifo →
+    Goes (Sending fifo 0) (checks ++ map (Write offsets.DATA) bytes) (KnowsAsTaken fifo)
+checked fifo [] bytes q t few = sent_all fifo 0 bytes (omega arith)
+checked fifo (x ∷ checks) bytes q t few =
+    goes_on (Sending fifo 0) (Sending fifo 0) (KnowsAsTaken fifo) x (checks ++ map (Write offsets.DATA) bytes)
+    (stays_sending fifo 0) (stays_sending fifo 0) (sending_quiet fifo 0 x q.0 t.0) (checked fifo checks bytes q.1 t.1 few)
+
+-- ---- each block
+
+one : (fifo : Bool) (x : RegisterAccess) → Moves (KnowsAsTaken fifo) x (KnowsAsTaken fifo) →
+    Goes (KnowsAsTaken fifo) (x ∷ []) (KnowsAsTaken fifo)
+one fifo x moves = goes_one (KnowsAsTaken fifo) (KnowsAsTaken fifo) x (stays_knows fifo) (stays_knows fifo) moves
+
+goes_block : (fifo : Bool) (block : Block) → IsFit fifo block → AreTaken fifo (accesses_of block) →
+    Goes (KnowsAsTaken fifo) (accesses_of block) (KnowsAsTaken fifo)
+goes_block fifo (Look line) fit t = one fifo (Read offsets.LSR line) (moves_look fifo line)
+goes_block fifo (Hit line byte) fit t =
+    goes_on (KnowsAsTaken fifo) (Reading fifo) (KnowsAsTaken fifo) (Read offsets.LSR line) (Read offsets.DATA byte ∷ [])
+    (stays_knows fifo) (stays_reading fifo) (reading_begins fifo line fit)
+    (goes_one (Reading fifo) (KnowsAsTaken fifo) (Read offsets.DATA byte) (stays_reading fifo) (stays_knows fifo) (reading_ends fifo byte))
+goes_block fifo (Burst line checks bytes) fit t =
+    goes_on (KnowsAsTaken fifo) (Sending fifo 0) (KnowsAsTaken fifo) (Read offsets.LSR line) (checks ++ map (Write offsets.DATA) bytes)
+    (stays_knows fifo) (stays_sending fifo 0) (sending_begins fifo line fit.0)
+    (checked fifo checks bytes fit.1 (taken_front fifo checks (map (Write offsets.DATA) bytes) t.1) fit.2)
+goes_block fifo (Other access) fit t = one fifo access (moves_quiet fifo access fit t.0)
+goes_block fifo (Divisor lcr low high) fit t =
+    let K = KnowsAsTaken fifo in
+    let O = Opened fifo in
+    goes_on K K K (Read offsets.LCR lcr) _ (stays_knows fifo) (stays_knows fifo) (moves_quiet fifo (Read offsets.LCR lcr) refl t.0)
+    (goes_on K O K (Write offsets.LCR (bit_or lcr lcr_bits.DLAB.0)) _ (stays_knows fifo) (stays_opened fifo) (opens fifo lcr)
+    (goes_on O O K (Read offsets.DLL low) _ (stays_opened fifo) (stays_opened fifo) (reads_low fifo low)
+    (goes_on O O K (Read offsets.DLM high) _ (stays_opened fifo) (stays_opened fifo) (reads_high fifo high)
+    (goes_one O K (Write offsets.LCR lcr) (stays_opened fifo) (stays_knows fifo) (closes_again fifo lcr (t.0.dlab refl))))))
+
+pub goes_blocks : (fifo : Bool) (blocks : List Block) → AllFit fifo blocks → AreTaken fifo (flat blocks) →
+    Goes (KnowsAsTaken fifo) (flat blocks) (KnowsAsTaken fifo)
+goes_blocks fifo [] fit t = goes_none (KnowsAsTaken fifo) (stays_knows fifo)
+goes_blocks fifo (block ∷ blocks) fit t =
+    goes_then (KnowsAsTaken fifo) (KnowsAsTaken fifo) (KnowsAsTaken fifo) (accesses_of block) (flat blocks)
+    (goes_block fifo block fit.0 (taken_front fifo (accesses_of block) (flat blocks) t))
+    (goes_blocks fifo blocks fit.1 (taken_back fifo (accesses_of block) (flat blocks) t))
+
+pub goes_in_blocks : (fifo : Bool) (l : List RegisterAccess) (ws rs : List ℕ) → InBlocks fifo l ws rs → AreTaken fifo l →
+    Goes (KnowsAsTaken fifo) l (KnowsAsTaken fifo)
+goes_in_blocks fifo l ws rs b t =
+    subst (λ (l : List RegisterAccess). Goes (KnowsAsTaken fifo) l (KnowsAsTaken fifo)) (sym b.joined)
+    (goes_blocks fifo b.blocks b.fit (subst (λ (l : List RegisterAccess). AreTaken fifo l) b.joined t))

@@ -1,0 +1,176 @@
+-- At one step: which of the findings are none that is about how a call is made.
+use Rattle.std.proofs.Common.{◌≡◌, ℕ, Bool, true, false, not, ◌&&◌, ◌||◌, [], ◌∷◌, Option, Some, None, refl, if◌then◌else◌}
+use Rattle.uart_spec.specs.Bits.{has}
+use Rattle.uart_spec.specs.declared.registers.interrupt_status.ISR.{ISR}
+use Rattle.uart_spec.specs.declared.registers.interrupt_type.InterruptType.{InterruptType}
+use Rattle.uart_spec.specs.declared.registers.line_control.LCR.{LCR}
+use Rattle.uart_spec.specs.declared.registers.line_status.TheConstants.LSR as lsr_bits
+use Rattle.uart_spec.specs.declared.registers.modem_control.MCR.{MCR}
+use Rattle.uart_spec.specs.declared.registers.modem_status.MSR.{MSR}
+use Rattle.uart_judges.specs.Findings.{all_found, arrival, arrived_at, change, chip, chip_at, discard}
+use Rattle.uart_judges.specs.Findings.{empty, empty_in, flow, gate, ignored, latch, left_up, level, level_as, level_at}
+use Rattle.uart_judges.specs.Findings.{line_up, lines_as, missing, note, noted, output, overrun, overrun_in, room}
+use Rattle.uart_judges.specs.Findings.{enables_some, is_cut_off, is_held, served_by, service, transfers}
+use Rattle.uart_judges.specs.Shows.{sends}
+use Rattle.uart_judges.specs.Steps.{is_line_up, loops_back}
+use Rattle.uart_judges.specs.Findings.{set_up, taken, when}
+use Rattle.uart_judges.specs.declared.audit.action.Action.{Action}
+use Rattle.uart_judges.specs.declared.audit.action.Action.TheVariants.{Receives, Sends, ReadsLine}
+use Rattle.uart_judges.specs.declared.audit.action.Action.TheVariants.{IdentifiesInterrupt, LooksAtLine, LooksAtModem}
+use Rattle.uart_judges.specs.declared.audit.auditor.Auditor.{Auditor}
+use Rattle.uart_judges.specs.declared.audit.auditor.Identified.{Identified}
+use Rattle.uart_judges.specs.declared.audit.auditor.Mark.{Mark}
+use Rattle.uart_judges.specs.declared.audit.finding.Finding.{Finding}
+use Rattle.uart_judges.specs.declared.audit.finding.Finding.TheVariants as found
+use Rattle.uart_judges.specs.declared.audit.setup.Setup.{Setup}
+use Rattle.uart_judges.specs.declared.audit.step.Step.{Step}
+use Rattle.uart_judges.specs.declared.audit.unread.Arrived.{Arrived}
+use Rattle.uart_judges.specs.Unread.{front}
+use Rattle.uart_judges_runs.specs.Recorded.{IsNot, NoneIs, is_of_calls}
+
+-- it is no such finding
+pub record Spared (o : Option Finding) : Type 0 where
+  pub is : IsNot is_of_calls o
+
+pub nothing : Spared None
+nothing = record { is = tt }
+
+pub another : {f : Finding} → is_of_calls f ≡ false → Spared (Some f)
+another e = record { is = e }
+
+pub spared_if : (b : Bool) (x y : Option Finding) → Spared x → Spared y → Spared (if b then x else y)
+spared_if true x y p q = p
+spared_if false x y p q = q
+
+pub spared_when : (b : Bool) (f : Finding) → is_of_calls f ≡ false → Spared (when b f)
+spared_when true f p = another p
+spared_when false f p = nothing
+
+-- ---- what is never such a finding
+
+set_up_spared : (told : Option Setup) (now : Setup) → Spared (set_up told now)
+set_up_spared None now = another refl
+set_up_spared (Some before) now = spared_if _ _ _ nothing (another refl)
+
+noted_spared : (told : Option Setup) (now : Setup) (x : Action) → Spared (noted told now x)
+noted_spared told now (Sends byte) = set_up_spared told now
+noted_spared told now (Receives byte) = set_up_spared told now
+noted_spared told now (LooksAtLine lsr) = spared_when _ _ refl
+noted_spared told now (LooksAtModem msr) = spared_when _ _ refl
+noted_spared told now _ = nothing
+
+note_spared : (a : Auditor) (s : Step) → Spared (note a s)
+note_spared a s = noted_spared a.told s.setup s.action
+
+flow_spared : (a : Auditor) (s : Step) → Spared (flow a s)
+flow_spared a s =
+    spared_if (not (sends s.action)) _ _ nothing
+    (spared_if (loops_back s.setup.modem) _ _ nothing (spared_when (is_held a.cts && a.was_cts_set) found.SentWithoutCts refl))
+
+gate_spared : (a : Auditor) (s : Step) → Spared (gate a s)
+gate_spared a s =
+    spared_if (a.has_signalled || is_line_up s) _ _ nothing
+    (spared_if (not (transfers s.action)) _ _ nothing
+    (spared_when (enables_some s.setup.interrupts && is_cut_off s.setup.modem) found.InterruptsCutOff refl))
+
+arrived_spared : (a : Auditor) (oldest : Option Arrived) (x : Action) → Spared (arrived_at a oldest x)
+arrived_spared a None x = nothing
+arrived_spared a (Some oldest) (Receives byte) = spared_if _ _ _ (spared_when _ _ refl) (spared_if _ _ _ (another refl) (another refl))
+arrived_spared a (Some oldest) (LooksAtLine lsr) =
+    spared_if (not (has lsr.0 lsr_bits.DATA_READY.0)) _ _ (another {f = found.ArrivalGone oldest.byte} refl)
+    (spared_when (not (has lsr.0 oldest.errors.0) && not a.unread.is_front_seen) (found.ErrorsHidden oldest) refl)
+arrived_spared a (Some oldest) _ = nothing
+
+arrival_spared : (a : Auditor) (s : Step) → Spared (arrival a s)
+arrival_spared a s = arrived_spared a (front a.unread) s.action
+
+overrun_in_spared : (due : Bool) (x : Action) → Spared (overrun_in due x)
+overrun_in_spared due (LooksAtLine lsr) = spared_when _ _ refl
+overrun_in_spared due _ = nothing
+
+overrun_spared : (a : Auditor) (s : Step) → Spared (overrun a s)
+overrun_spared a s = overrun_in_spared a.is_overrun s.action
+
+missing_spared : (oldest : Option Arrived) (interrupt : Option InterruptType) (gone : Bool) → Spared (missing oldest interrupt gone)
+missing_spared (Some oldest) interrupt gone = nothing
+missing_spared None (Some interrupt) gone = another refl
+missing_spared None None gone = spared_when _ _ refl
+
+empty_in_spared : (a : Auditor) (x : Action) → Spared (empty_in a x)
+empty_in_spared a (LooksAtLine lsr) = spared_if _ _ _ nothing (missing_spared (front a.unread) a.data_interrupt _)
+empty_in_spared a _ = nothing
+
+empty_spared : (a : Auditor) (s : Step) → Spared (empty a s)
+empty_spared a s = empty_in_spared a s.action
+
+served_spared : (before : Option Identified) (now : Option InterruptType) → Spared (served_by before now)
+served_spared (Some before) (Some now) = spared_when _ _ refl
+served_spared (Some before) None = nothing
+served_spared None now = nothing
+
+service_spared : (a : Auditor) (s : Step) → Spared (service a s)
+service_spared a s = served_spared a.unserved _
+
+either_spared : (b : Bool) → is_of_calls (if b then found.ThrEmptyNotRaisedAgain else found.ThrEmptyNotRaised) ≡ false
+either_spared true = refl
+either_spared false = refl
+
+ignored_spared : (written : Option LCR) (read : LCR) → Spared (ignored written read)
+ignored_spared (Some written) read = spared_when _ _ refl
+ignored_spared None read = nothing
+
+chip_at_spared : (a : Auditor) (x : Action) → Spared (chip_at a x)
+chip_at_spared a (IdentifiesInterrupt isr) = spared_when _ _ (either_spared a.is_acknowledged)
+chip_at_spared a (ReadsLine lcr) = ignored_spared a.busy_line lcr
+chip_at_spared a _ = nothing
+
+chip_spared : (a : Auditor) (s : Step) → Spared (chip a s)
+chip_spared a s = chip_at_spared a s.action
+
+level_as_spared : (mcr : Option MCR) (isr : ISR) (level : Option Bool) → Spared (level_as mcr isr level)
+level_as_spared mcr isr (Some up) = spared_when _ _ refl
+level_as_spared mcr isr None = nothing
+
+lines_as_spared : (lines : Option MSR) (shown : MSR) → Spared (lines_as lines shown)
+lines_as_spared (Some inputs) shown = spared_when _ _ refl
+lines_as_spared None shown = nothing
+
+level_at_spared : (a : Auditor) (s : Step) (x : Action) → Spared (level_at a s x)
+level_at_spared a s (IdentifiesInterrupt isr) = level_as_spared s.setup.modem isr s.level
+level_at_spared a s (LooksAtModem msr) = spared_if _ _ _ nothing (lines_as_spared a.lines msr)
+level_at_spared a s _ = nothing
+
+level_spared : (a : Auditor) (s : Step) → Spared (level a s)
+level_spared a s = level_at_spared a s s.action
+
+left_up_spared : (a : Auditor) (s : Step) (up : Option Mark) (now : Option ℕ) → Spared (left_up a s up now)
+left_up_spared a s (Some mark) (Some now) = spared_if _ _ _ nothing (spared_when _ _ refl)
+left_up_spared a s (Some mark) None = nothing
+left_up_spared a s None now = nothing
+
+line_up_spared : (a : Auditor) (s : Step) → Spared (line_up a s)
+line_up_spared a s = spared_if _ _ _ nothing (left_up_spared a s a.up s.time)
+
+-- ---- all of them
+
+-- the six that may be such a finding are none
+pub record SixSpared (a : Auditor) (s : Step) : Type 0 where
+  pub room : Spared (room a s)
+  pub output : Spared (output a s)
+  pub taken : Spared (taken a s)
+  pub latch : Spared (latch a s)
+  pub change : Spared (change a s)
+  pub discard : Spared (discard a s)
+
+pub all_spared : (a : Auditor) (s : Step) → SixSpared a s → NoneIs is_of_calls (all_found a s)
+all_spared a s six =
+    let last : NoneIs is_of_calls (service a s ∷ chip a s ∷ level a s ∷ line_up a s ∷ []) =
+    ((service_spared a s).is, ((chip_spared a s).is, ((level_spared a s).is, ((line_up_spared a s).is, tt)))) in
+    let third : NoneIs is_of_calls
+    (empty a s ∷ latch a s ∷ change a s ∷ discard a s ∷ service a s ∷ chip a s ∷ level a s ∷ line_up a s ∷ []) =
+    ((empty_spared a s).is, (six.latch.is, (six.change.is, (six.discard.is, last)))) in
+    let second : NoneIs is_of_calls
+    (gate a s ∷ taken a s ∷ arrival a s ∷ overrun a s ∷ empty a s ∷ latch a s ∷ change a s ∷ discard a s ∷ service a s ∷ chip a s
+    ∷ level a s ∷ line_up a s ∷ []) =
+    ((gate_spared a s).is, (six.taken.is, ((arrival_spared a s).is, ((overrun_spared a s).is, third)))) in
+    ((note_spared a s).is, (six.room.is, (six.output.is, ((flow_spared a s).is, second))))
