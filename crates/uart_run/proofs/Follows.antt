@@ -8,7 +8,7 @@ use Rattle.uart_run.specs.Run.{State, machine_of, Link, Chain, CallStep, IsRun}
 use Rattle.uart_run.specs.Ready.{ComesTo}
 use Rattle.uart_run.specs.Progress.{IsTimely, Succeeds}
 use Rattle.uart_run.specs.Session.{Follows, AllFollow, Ran}
-use Rattle.uart_run.proofs.Sessions.{session_conserves, sound_call, sound_chain}
+use Rattle.uart_run.proofs.Sessions.{session_conserves, lasts_call, lasts_wired, sound_call, sound_chain}
 use Rattle.uart_run.proofs.FrameLaws.{frames, attach_takes}
 use Rattle.uart_run.proofs.SetupLaws.{frames_when_idle, levels, quiets, restores}
 use Rattle.uart_run.proofs.initialising.SetUp.{arranges}
@@ -54,6 +54,7 @@ follow_chain s t (link ∷ links) w h =
     let begins = subst S (sym h.0) w in
     let follows : Follows link.before link.call link.answer link.after = record {
       ready = follows_ready link.before link.after link.call link.answer begins h.1;
+      wired = λ wired. lasts_call link.before link.after link.call link.answer lasts_wired wired h.1;
       comes_to = comes_to link.before link.after link.call link.answer begins h.1;
       succeeds = succeeds link.before link.after link.call link.answer begins h.1;
     } in

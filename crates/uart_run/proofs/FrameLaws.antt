@@ -1,4 +1,4 @@
--- What a call does in a session that may change its modes: a `set_frame` writes LCR.
+-- What a call does in a session that may change its modes: a `set_frame` writes LCR, a `set_modem_control` MCR.
 use Rattle.std.proofs.Common.{◌≡◌, ◌≢◌, ℕ, Bool, true, false, List, [], ◌∷◌, ◌++◌, ◌%◌, ◌/◌, map, refl, sym, ◌∙◌, ap, subst, bit_or, arith}
 use Rattle.std.proofs.Common.{Result, Ok, Err, ◌+◌, ◌*◌, ◌||◌, bit_and}
 use lib.Bits.{or_zero_r}
@@ -44,10 +44,13 @@ use Rattle.uart_chip.proofs.Bits.{has_or, has_and, has_not, has_one, and_or}
 use Rattle.uart_chip.proofs.conservation.Went.{Modes, fixed}
 use Rattle.uart_chip.proofs.conservation.Passed.{passed-refl, passed-trans}
 use Rattle.uart_chip.proofs.conservation.BlockLaws.{IsOpen, PassedBlocks, nothing_taken, passed_frame, relined, path_as, stands-after}
-use Rattle.uart_run.specs.Run.{State, machine_of, CallStep}
+use Rattle.uart_chip.proofs.conservation.BlockLaws.{passed_quiet}
+use Rattle.uart_run.specs.Run.{State, machine_of, Link, CallStep}
 use Rattle.uart_run.specs.Ready.{Ready, Frames, IsAttached, latches_of}
 use Rattle.uart_run.specs.Session.{IsWithinSession, reported_by, received_by}
 use Rattle.uart_run.specs.Uncut.{IsWithinUncut}
+use Rattle.uart_run.specs.Wired.{IsWired}
+use Rattle.uart_run.proofs.Wired.{wired_step, passed_mcr}
 use Rattle.uart_run.proofs.Latches.{Kept, kept_in, keep, kept_after, kept_step, kept_path, kept_list, kept_access}
 use Rattle.uart_run.proofs.Pieces.{then_parts, next_stages}
 use Rattle.uart_run.proofs.initialising.FifoShown.{fifo_shown}
@@ -234,23 +237,83 @@ goes_break x N M s t on l w ((lcr, is), saved) path =
       };
     }
 
+-- ---- writes of MCR, on a wired machine
+
+pub unlooped_off : (bits : ℕ) → has_any (bit_and (unlooped bits) mcr_bits) MCR.LOOP_BACK.0 ≡ false
+unlooped_off bits = has_and 4 (unlooped bits) mcr_bits refl ∙ has_not 4 bits 239 refl
+
+goes_control : (x : Modes) (N M : Type 0) (s t : State) (bits : ℕ) (l : List Access) → InSession x s → IsWired s →
+    Saving (SetsControl bits) (fields (inner_of s)) l (fields (inner_of t)) → Path MachineStep (machine_of s) l (machine_of t) →
+    Goes x N M s t [] []
+goes_control x N M s t bits l w wired (done, saved) path =
+    let value = unlooped bits in
+    let made : List Access = Write offsets.MCR value ∷ [] in
+    let z : Modes = record x { mcr = bit_and value mcr_bits } in
+    let p = path_as (machine_of s) (machine_of t) l made done.is path in
+    let passed = passed_mcr x (machine_of s) p.0 value w.open_modes (unlooped_off bits) w.stands wired p.1 in
+    record {
+      modes = z;
+      same = refl;
+      open_modes = record { dlab = w.open_modes.dlab; loopback = unlooped_off bits };
+      passes = record {
+        made = made;
+        passed = nothing_taken z (machine_of s) (machine_of t) made [] (rw p.2 passed);
+        fifo = ap (λ (g : Fields). g.fifo) saved;
+        lsr = λ n. ap (λ (g : Fields). g.lsr) saved ∙ ap (λ zs. bit_or (fields (inner_of s)).lsr (saved_lsr zs)) done.is;
+        msr = λ n. ap (λ (g : Fields). g.msr) saved ∙ ap (λ zs. bit_or (fields (inner_of s)).msr (saved_msr zs)) done.is;
+      };
+    }
+
+goes_output : (x : Modes) (N M : Type 0) (s t : State) (output : ℕ) (on : Bool) (l : List Access) → InSession x s → IsWired s →
+    Saving (SetsOutput output on) (fields (inner_of s)) l (fields (inner_of t)) → Path MachineStep (machine_of s) l (machine_of t) →
+    Goes x N M s t [] []
+goes_output x N M s t output on l w wired ((mcr, is), saved) path =
+    let value = unlooped (switched on output mcr) in
+    let made : List Access = Read offsets.MCR mcr ∷ Write offsets.MCR value ∷ [] in
+    let z : Modes = record x { mcr = bit_and value mcr_bits } in
+    let off = unlooped_off (switched on output mcr) in
+    let p = path_as (machine_of s) (machine_of t) l made is path in
+    let q = p.2 in
+    let read = passed_quiet x (machine_of s) p.0 (Read offsets.MCR mcr) w.open_modes w.stands refl p.1 in
+    let written = passed_mcr x p.0 q.0 value w.open_modes off (stands-after x (machine_of s) p.0 (Read offsets.MCR mcr ∷ []) [] [] read)
+    (wired_step (Read offsets.MCR mcr) (machine_of s) p.0 p.1 wired) q.1 in
+    let both = passed-trans x z (machine_of s) p.0 q.0 (Read offsets.MCR mcr ∷ []) (Write offsets.MCR value ∷ []) [] [] [] [] refl
+    read written in
+    record {
+      modes = z;
+      same = refl;
+      open_modes = record { dlab = w.open_modes.dlab; loopback = off };
+      passes = record {
+        made = made;
+        passed = nothing_taken z (machine_of s) (machine_of t) made [] (rw q.2 both);
+        fifo = ap (λ (g : Fields). g.fifo) saved;
+        lsr = λ n. ap (λ (g : Fields). g.lsr) saved ∙ ap (λ zs. bit_or (fields (inner_of s)).lsr (saved_lsr zs)) is;
+        msr = λ n. ap (λ (g : Fields). g.msr) saved ∙ ap (λ zs. bit_or (fields (inner_of s)).msr (saved_msr zs)) is;
+      };
+    }
+
 -- ---- calls within a session
 
 -- what each call of these does, where characters are cut so
-pub record GoOn (Within : Call → Type 0) (cut : ℕ → ℕ) : Type 0 where
-  pub go : (x : Modes) (s t : State) (c : Call) (a : Answer) → x.cut ≡ cut → InSession x s → Within c → CallStep s c a t →
+pub record GoOn (Within : State → Call → Type 0) (cut : ℕ → ℕ) : Type 0 where
+  pub go : (x : Modes) (s t : State) (c : Call) (a : Answer) → x.cut ≡ cut → InSession x s → Within s c → CallStep s c a t →
       Goes x (c ≢ call.Lsr) (c ≢ call.Msr) s t (reported_by c a) (received_by c a)
 
-go_call : (cut : ℕ → ℕ) (x : Modes) (s t : State) (c : Call) (a : Answer) → x.cut ≡ cut → InSession x s → IsWithinSession c →
+-- each call is made in a state in which it may be
+abbrev pub AllAt : (State → Call → Type 0) → List Link → Type 0
+AllAt Within [] = Unit {0}
+AllAt Within (link ∷ links) = Within link.before link.call × AllAt Within links
+
+go_call : (cut : ℕ → ℕ) (x : Modes) (s t : State) (c : Call) (a : Answer) → x.cut ≡ cut → InSession x s → IsWithinSession s c →
     CallStep s c a t → Goes x (c ≢ call.Lsr) (c ≢ call.Msr) s t (reported_by c a) (received_by c a)
 go_call cut x s t (call.Init config) a same w i h = absurd i
 go_call cut x s t (call.InitWith config setup) a same w i h = absurd i
 go_call cut x s t (call.SetFrame config) a same w i h = absurd i
 go_call cut x s t (call.SetFrameWhenIdle config) a same w i h = absurd i
 go_call cut x s t call.Attach a same w i h = absurd i
-go_call cut x s t (call.SetModemControl outputs) a same w i h = absurd i
-go_call cut x s t (call.SetRts on) a same w i h = absurd i
-go_call cut x s t (call.SetDtr on) a same w i h = absurd i
+go_call cut x s t (call.SetModemControl outputs) a same w i h = goes_control x _ _ s t outputs.0 h.did.list w i h.did.does h.did.path
+go_call cut x s t (call.SetRts on) a same w i h = goes_output x _ _ s t MCR.RTS.0 on h.did.list w i h.did.does h.did.path
+go_call cut x s t (call.SetDtr on) a same w i h = goes_output x _ _ s t MCR.DTR.0 on h.did.list w i h.did.does h.did.path
 go_call cut x s t (call.Quiesce outputs fifos) a same w i h = absurd i
 go_call cut x s t (call.Restore dump) a same w i h = absurd i
 go_call cut x s t call.TestLoopback a same w i h = absurd i
@@ -260,21 +323,18 @@ go_call cut x s t other a same w i h = goes_still x _ _ s t _ _ w (passes_call x
 pub go_within : (cut : ℕ → ℕ) → GoOn IsWithinSession cut
 go_within cut = record { go = go_call cut }
 
-go_uncut : (x : Modes) (s t : State) (c : Call) (a : Answer) → x.cut ≡ (λ (byte : ℕ). byte) → InSession x s → IsWithinUncut c →
+go_uncut : (x : Modes) (s t : State) (c : Call) (a : Answer) → x.cut ≡ (λ (byte : ℕ). byte) → InSession x s → IsWithinUncut s c →
     CallStep s c a t → Goes x (c ≢ call.Lsr) (c ≢ call.Msr) s t (reported_by c a) (received_by c a)
 go_uncut x s t (call.Init config) a whole w i h = absurd i
 go_uncut x s t (call.InitWith config setup) a whole w i h = absurd i
 go_uncut x s t call.Attach a whole w i h = absurd i
-go_uncut x s t (call.SetModemControl outputs) a whole w i h = absurd i
-go_uncut x s t (call.SetRts on) a whole w i h = absurd i
-go_uncut x s t (call.SetDtr on) a whole w i h = absurd i
 go_uncut x s t (call.Quiesce outputs fifos) a whole w i h = absurd i
 go_uncut x s t (call.Restore dump) a whole w i h = absurd i
 go_uncut x s t call.TestLoopback a whole w i h = absurd i
 go_uncut x s t (call.SetFrame config) a whole w i h = goes_framed x _ _ s t config h.outcome h.did.list w whole h.did.does h.did.path
 go_uncut x s t (call.SetFrameWhenIdle config) a whole w i h =
     goes_framed_when_idle x _ _ s t config h.outcome h.did.list w whole h.did.does h.did.path
-go_uncut x s t other a whole w i h = go_call (λ (byte : ℕ). byte) x s t other a whole w tt h
+go_uncut x s t other a whole w i h = go_call (λ (byte : ℕ). byte) x s t other a whole w i h
 
 pub go_within_uncut : GoOn IsWithinUncut (λ (byte : ℕ). byte)
 go_within_uncut = record { go = go_uncut }
@@ -361,9 +421,6 @@ set_break_ready s t on l ((lcr, is), saved) path ready =
     (ap (λ (g : Fields). g.fifo) saved ∙ sym ready.fifo)
 
 -- ---- calls that write MCR
-
-pub unlooped_off : (bits : ℕ) → has_any (bit_and (unlooped bits) mcr_bits) MCR.LOOP_BACK.0 ≡ false
-unlooped_off bits = has_and 4 (unlooped bits) mcr_bits refl ∙ has_not 4 bits 239 refl
 
 control_ready : (s t : State) (bits : ℕ) (l made : List Access) → l ≡ made → ((k : Kept) →
     kept_after made k ≡ record k { latches = record k.latches { mcr = bit_and (unlooped bits) mcr_bits } }) →

@@ -16,7 +16,7 @@ use Rattle.uart_run.proofs.initialising.SetUp.{init_with_ready}
 use Rattle.uart_run.proofs.loopback.TestedReady.{tested_ready}
 
 -- a call within a session is a session of its own
-alone : (s t : State) (call : Call) (a : Answer) → IsWithinSession call → IsSound (machine_of s) → CallStep s call a t → Ready s → Ready t
+alone : (s t : State) (call : Call) (a : Answer) → IsWithinSession s call → IsSound (machine_of s) → CallStep s call a t → Ready s → Ready t
 alone s t call a within w h ready =
     let link : Link = record { before = s; call = call; answer = a; after = t } in
     (session_conserves s t (link ∷ []) w (ready, (within, tt)) (refl, h, refl)).ready

@@ -41,7 +41,7 @@ use Rattle.uart_chip.specs.Conserved.{out}
 use Rattle.uart_calls.specs.Meaning.{received_answer, read_answer, with_errors_answer, receive_exact_answer, exact_answer}
 use Rattle.uart_calls.specs.Meaning.{frame_when_idle_answer}
 use Rattle.uart_run.specs.Run.{State, machine_of, CallStep, Link, Chain}
-use Rattle.uart_run.specs.Session.{AllCalls, only_bytes}
+use Rattle.uart_run.specs.Session.{only_bytes}
 use Rattle.uart_run.specs.Served.{HoldsAtLeast, waiting_len, ServesWithErrors, transmitter_of, IsFlushed, Serves, AllServe}
 use Rattle.uart_chip.proofs.Bits.{has_one}
 use Rattle.uart_chip.proofs.conservation.Went.{Modes}
@@ -52,7 +52,7 @@ use Rattle.uart_run.proofs.CallBlocks.{InBlocks, Makes, makes_look, passed_in_bl
 use Rattle.uart_run.proofs.CallBlocks.{try_receive_blocks, receives_blocks, receives_exact_blocks, receives_with_blocks}
 use Rattle.uart_run.proofs.CallKeeps.{reads_blocks, flushes_blocks}
 use Rattle.uart_run.proofs.CallLaws.{InSession}
-use Rattle.uart_run.proofs.FrameLaws.{GoOn, in_session-gone, same_cut, waited, framed_by}
+use Rattle.uart_run.proofs.FrameLaws.{GoOn, AllAt, in_session-gone, same_cut, waited, framed_by}
 use Rattle.uart_run.proofs.ExactErrors.{exactly_received}
 
 -- ---- lists that end with a miss
@@ -322,8 +322,8 @@ serves_call x s t call.IsIdle a w h = idle_serves x s t a h.did.list h.outcome w
 serves_call x s t other a w h = tt
 
 -- each call of a session
-pub serves_chain : {Within : Call → Type 0} {cut : ℕ → ℕ} (k : GoOn Within cut) (x : Modes) (s t : State) (links : List Link) →
-    x.cut ≡ cut → InSession x s → AllCalls Within links → Chain s links t → AllServe links
+pub serves_chain : {Within : State → Call → Type 0} {cut : ℕ → ℕ} (k : GoOn Within cut) (x : Modes) (s t : State) (links : List Link) →
+    x.cut ≡ cut → InSession x s → AllAt Within links → Chain s links t → AllServe links
 serves_chain k x s t [] same w i h = tt
 serves_chain k x s t (link ∷ links) same w i h =
     let W : State → Type 0 = λ v. InSession x v in

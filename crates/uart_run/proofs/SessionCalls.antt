@@ -11,12 +11,12 @@ use Rattle.uart_chip.specs.Sound.{IsSound}
 use Rattle.uart_run.specs.Run.{State, machine_of, Link, Chain}
 use Rattle.uart_run.specs.Ready.{Ready}
 use Rattle.uart_events.specs.declared.call.Call.{Call}
-use Rattle.uart_run.specs.Session.{AllCalls, reported, received, reported_by, received_by}
+use Rattle.uart_run.specs.Session.{reported, received, reported_by, received_by}
 use Rattle.uart_run.specs.Statuses.{AllNoLsr, AllNoMsr}
 use Rattle.uart_chip.proofs.conservation.Went.{Modes, fixed}
 use Rattle.uart_chip.proofs.conservation.BlockLaws.{stands-after}
 use Rattle.uart_run.proofs.CallLaws.{Passes, InSession, passes_none, saved_both}
-use Rattle.uart_run.proofs.FrameLaws.{Goes, GoOn, goes_still, in_session-gone, passed_onwards, same_cut}
+use Rattle.uart_run.proofs.FrameLaws.{Goes, GoOn, AllAt, goes_still, in_session-gone, passed_onwards, same_cut}
 
 -- the modes in which a session runs are those in which it begins
 pub modes_of : State → Modes
@@ -72,8 +72,8 @@ goes-trans x N M O P s t u ws vs rs qs p q = record {
 }
 
 -- the calls of a session in turn
-pub goes_chain : {Within : Call → Type 0} {cut : ℕ → ℕ} (k : GoOn Within cut) (x : Modes) (s t : State) (links : List Link) → x.cut ≡ cut →
-    InSession x s → AllCalls Within links → Chain s links t →
+pub goes_chain : {Within : State → Call → Type 0} {cut : ℕ → ℕ} (k : GoOn Within cut) (x : Modes) (s t : State) (links : List Link) →
+    x.cut ≡ cut → InSession x s → AllAt Within links → Chain s links t →
     Goes x (AllNoLsr links) (AllNoMsr links) s t (reported links) (received links)
 goes_chain k x s t [] same w i h = rw h (goes_still x _ _ s s [] [] w (passes_none x _ _ s w))
 goes_chain {Within} {cut} k x s t (link ∷ links) same w i h =

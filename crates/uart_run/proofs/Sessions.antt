@@ -1,5 +1,5 @@
 -- What a session conserves, carried over its calls.
-use Rattle.std.proofs.Common.{◌≡◌, ℕ, List, ◌++◌, map, ap, sym, ◌∙◌, refl}
+use Rattle.std.proofs.Common.{◌≡◌, ℕ, List, [], ◌∷◌, ◌++◌, map, ap, sym, ◌∙◌, refl, subst}
 use Rattle.uart_chip.specs.Chip.{cut_of}
 use Rattle.uart_spec.specs.Access.{Path}
 use Rattle.uart_spec.specs.declared.access.Access.{Access}
@@ -10,53 +10,19 @@ use Rattle.uart_chip.specs.Machine.{MachineState, MachineStep, at_mark}
 use Rattle.uart_chip.specs.Sound.{IsSound}
 use Rattle.uart_chip.specs.Conserved.{out}
 use Rattle.uart_run.specs.Run.{State, machine_of, Link, Chain, CallStep}
-use Rattle.uart_run.specs.Session.{AllCalls, IsSession, reported, received, Conserves}
-use Rattle.uart_run.specs.Uncut.{IsUncutSession}
+use Rattle.uart_run.specs.Session.{GoesOn, IsWithinSession, AllCalls, IsSession, reported, received, Conserves}
+use Rattle.uart_run.specs.Uncut.{GoesOnUncut, IsWithinUncut, IsUncutSession}
+use Rattle.uart_run.specs.Wired.{IsWiredChip, IsWired}
 use Rattle.uart_chip.proofs.soundness.Sounds.{sound_path, sound_mark}
 use Rattle.uart_chip.proofs.conservation.Went.{Modes, dlab-in, loopback-in}
 use Rattle.uart_chip.proofs.conservation.SessionLaws.{received_kept}
 use Rattle.uart_run.proofs.Chains.{chain_keeps}
 use Rattle.uart_run.proofs.CallLaws.{InSession}
-use Rattle.uart_run.proofs.FrameLaws.{GoOn, go_within, go_within_uncut, same_cut, same_fifo}
+use Rattle.uart_run.proofs.Wired.{wired_path, wired_mark}
+use Rattle.uart_run.proofs.FrameLaws.{GoOn, AllAt, go_within, go_within_uncut, same_cut, same_fifo}
 use Rattle.uart_run.proofs.SessionCalls.{modes_of, modes_cut, in_session, goes_chain}
 use Rattle.uart_run.proofs.StatusSessions.{tells_in}
 use Rattle.uart_run.proofs.Served.{serves_chain}
-
--- ---- what was conserved
-
-pub conserves : {Within : Call → Type 0} {cut : ℕ → ℕ} (k : GoOn Within cut) (x : Modes) (s t : State) (links : List Link) → x.cut ≡ cut →
-    InSession x s → AllCalls Within links → Chain s links t → Conserves s links t
-conserves k x s t links same w within chain =
-    let g = goes_chain k x s t links same w within chain in
-    let p = g.passes in
-    let went = p.passed.passed.went in
-    let y = g.modes in
-    let cuts : cut_of (machine_of s).chip ≡ y.cut = w.stands.modes.cut ∙ sym (same_cut x y g.same) in
-    record {
-      ready = record {
-        dlab = dlab-in y (machine_of t).chip went.modes ∙ g.open_modes.dlab;
-        loopback = loopback-in y (machine_of t).chip went.modes ∙ g.open_modes.loopback;
-        fifo = went.modes.fifo ∙ (same_fifo x y g.same ∙ (sym w.fifo ∙ sym p.fifo));
-      };
-      sent = went.sends.grows ∙ sym (ap (λ (f : ℕ → ℕ). out (machine_of s) ++ map f (reported links)) cuts);
-      no_overflow = went.sends.same_overflows;
-      kept = received_kept y (machine_of s) (machine_of t) p.made (reported links) (received links) cuts p.passed;
-      tells = tells_in k x s t links same w within chain;
-      served = serves_chain k x s t links same w within chain;
-    }
-
--- a session conserves
-pub session_conserves : (s t : State) (links : List Link) → IsSound (machine_of s) → IsSession s links → Chain s links t →
-    Conserves s links t
-session_conserves s t links sound session chain =
-    conserves (go_within (modes_of s).cut) (modes_of s) s t links refl (in_session s session.0 sound) session.1 chain
-
--- and so does one with a `set_frame`, on a machine that cuts nothing
-pub uncut_session_conserves : (s t : State) (links : List Link) → IsSound (machine_of s) →
-    cut_of (machine_of s).chip ≡ (λ (byte : ℕ). byte) →
-    IsUncutSession s links → Chain s links t → Conserves s links t
-uncut_session_conserves s t links sound whole session chain =
-    conserves go_within_uncut (modes_of s) s t links (modes_cut s ∙ whole) (in_session s session.0 sound) session.1 chain
 
 -- ---- what every call keeps
 
@@ -83,3 +49,71 @@ sound_call s t call a w h = lasts_call s t call a lasts_sound w h
 
 pub sound_chain : (s t : State) (links : List Link) → IsSound (machine_of s) → Chain s links t → IsSound (machine_of t)
 sound_chain s t links w h = lasts_chain s t links lasts_sound w h
+
+-- so does that the machine is wired
+pub lasts_wired : Lasts (λ (m : MachineState). IsWiredChip m.chip)
+lasts_wired = record { path = wired_path; mark = wired_mark }
+
+-- ---- where each call is made
+
+-- a call that goes on with a session may be made in a state in which the machine is wired if it was at the start
+goes_on : (W : Type 0) (s : State) (c : Call) → (W → IsWired s) → GoesOn W c → IsWithinSession s c
+goes_on W s (call.SetModemControl outputs) f i = f i
+goes_on W s (call.SetRts on) f i = f i
+goes_on W s (call.SetDtr on) f i = f i
+goes_on W s other f i = i
+
+goes_on_uncut : (W : Type 0) (s : State) (c : Call) → (W → IsWired s) → GoesOnUncut W c → IsWithinUncut s c
+goes_on_uncut W s (call.SetFrame config) f i = tt
+goes_on_uncut W s (call.SetFrameWhenIdle config) f i = tt
+goes_on_uncut W s other f i = goes_on W s other f i
+
+at_each : (W : Type 0) (May : Call → Type 0) (Within : State → Call → Type 0) →
+    ((s : State) (c : Call) → (W → IsWired s) → May c → Within s c) → (s t : State) (links : List Link) → (W → IsWired s) →
+    AllCalls May links → Chain s links t → AllAt Within links
+at_each W May Within each s t [] f i h = tt
+at_each W May Within each s t (link ∷ links) f i h =
+    let here : W → IsWired link.before = λ w. subst IsWired (sym h.0) (f w) in
+    let there : W → IsWired link.after = λ w. lasts_call link.before link.after link.call link.answer lasts_wired (here w) h.1 in (
+      each link.before link.call here i.0,
+      at_each W May Within each link.after t links there i.1 h.2,
+    )
+
+-- ---- what was conserved
+
+pub conserves : {Within : State → Call → Type 0} {cut : ℕ → ℕ} (k : GoOn Within cut) (x : Modes) (s t : State) (links : List Link) →
+    x.cut ≡ cut → InSession x s → AllAt Within links → Chain s links t → Conserves s links t
+conserves k x s t links same w within chain =
+    let g = goes_chain k x s t links same w within chain in
+    let p = g.passes in
+    let went = p.passed.passed.went in
+    let y = g.modes in
+    let cuts : cut_of (machine_of s).chip ≡ y.cut = w.stands.modes.cut ∙ sym (same_cut x y g.same) in
+    record {
+      ready = record {
+        dlab = dlab-in y (machine_of t).chip went.modes ∙ g.open_modes.dlab;
+        loopback = loopback-in y (machine_of t).chip went.modes ∙ g.open_modes.loopback;
+        fifo = went.modes.fifo ∙ (same_fifo x y g.same ∙ (sym w.fifo ∙ sym p.fifo));
+      };
+      sent = went.sends.grows ∙ sym (ap (λ (f : ℕ → ℕ). out (machine_of s) ++ map f (reported links)) cuts);
+      no_overflow = went.sends.same_overflows;
+      kept = received_kept y (machine_of s) (machine_of t) p.made (reported links) (received links) cuts p.passed;
+      tells = tells_in k x s t links same w within chain;
+      served = serves_chain k x s t links same w within chain;
+    }
+
+-- a session conserves
+pub session_conserves : (s t : State) (links : List Link) → IsSound (machine_of s) → IsSession s links → Chain s links t →
+    Conserves s links t
+session_conserves s t links sound session chain =
+    let within = at_each (IsWired s) (GoesOn (IsWired s)) IsWithinSession (goes_on (IsWired s)) s t links (λ w. w) session.1 chain in
+    conserves (go_within (modes_of s).cut) (modes_of s) s t links refl (in_session s session.0 sound) within chain
+
+-- and so does one with a `set_frame`, on a machine that cuts nothing
+pub uncut_session_conserves : (s t : State) (links : List Link) → IsSound (machine_of s) →
+    cut_of (machine_of s).chip ≡ (λ (byte : ℕ). byte) →
+    IsUncutSession s links → Chain s links t → Conserves s links t
+uncut_session_conserves s t links sound whole session chain =
+    let within = at_each (IsWired s) (GoesOnUncut (IsWired s)) IsWithinUncut (goes_on_uncut (IsWired s)) s t links (λ w. w) session.1
+    chain in
+    conserves go_within_uncut (modes_of s) s t links (modes_cut s ∙ whole) (in_session s session.0 sound) within chain

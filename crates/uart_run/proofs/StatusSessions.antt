@@ -16,7 +16,7 @@ use Rattle.uart_chip.specs.declared.receiver.Character.{Character}
 use Rattle.uart_chip.specs.Machine.{MachineState, MachineStep}
 use Rattle.uart_chip.specs.Laws.{reported_front, IsTold, AllTold}
 use Rattle.uart_run.specs.Run.{State, machine_of, CallStep, Link, Chain}
-use Rattle.uart_run.specs.Session.{AllCalls, reported, received}
+use Rattle.uart_run.specs.Session.{reported, received}
 use Rattle.uart_run.specs.Statuses.{AllNoLsr, AllNoMsr, receiver_of, TellsLine, TellsNoOtherDrop, TellsNoOtherChange, Tells}
 use Rattle.uart_chip.proofs.conservation.Went.{Modes, fixed}
 use Rattle.uart_chip.specs.Chip.{cut_of}
@@ -25,12 +25,12 @@ use Rattle.uart_chip.proofs.conservation.SessionLaws.{taken_entered, look_clears
 use Rattle.uart_chip.proofs.statuses.StatusLaws.{LsrTells, lsr_tells, MsrTells, msr_tells}
 use Rattle.uart_run.proofs.Chains.{step_is, ended}
 use Rattle.uart_run.proofs.CallLaws.{Passes, InSession}
-use Rattle.uart_run.proofs.FrameLaws.{GoOn, in_session-gone, same_cut}
+use Rattle.uart_run.proofs.FrameLaws.{GoOn, AllAt, in_session-gone, same_cut}
 use Rattle.uart_run.proofs.SessionCalls.{goes_chain}
 
 -- ---- lists of calls
 
-within-front : (Within : Call → Type 0) (xs ys : List Link) → AllCalls Within (xs ++ ys) → AllCalls Within xs
+within-front : (Within : State → Call → Type 0) (xs ys : List Link) → AllAt Within (xs ++ ys) → AllAt Within xs
 within-front Within [] ys h = tt
 within-front Within (x ∷ xs) ys h = (h.0, within-front Within xs ys h.1)
 
@@ -126,10 +126,10 @@ record AfterIn (T : Modes → MachineState → MachineState → List Access → 
   pub same : fixed modes ≡ fixed x
   pub after : After (T modes) kept s t value
 
-module _ {Within : Call → Type 0} {cut : ℕ → ℕ} (k : GoOn Within cut) {register : ℕ} {saved : Fields → ℕ}
+module _ {Within : State → Call → Type 0} {cut : ℕ → ℕ} (k : GoOn Within cut) {register : ℕ} {saved : Fields → ℕ}
     {T : Modes → MachineState → MachineState → List Access → List ℕ → List Character → ℕ → ℕ → Type 0} {c : Call}
     {NoneOf : List Link → Type 0} (i : (x : Modes) → IsStatus x register saved (T x) c NoneOf) where
-  status_after : (x : Modes) (s n t : State) (links : List Link) (value : ℕ) → x.cut ≡ cut → InSession x s → AllCalls Within links →
+  status_after : (x : Modes) (s n t : State) (links : List Link) (value : ℕ) → x.cut ≡ cut → InSession x s → AllAt Within links →
       NoneOf links → Chain s links n → CallStep n c (Register value) t → AfterIn T x (saved (fields (inner_of s))) s t value
   status_after x s n t links value same w within none chain step =
       let g = goes_chain k x s n links same w within chain in
@@ -148,7 +148,7 @@ module _ {Within : Call → Type 0} {cut : ℕ → ℕ} (k : GoOn Within cut) {r
 
   -- the session ends with that call
   at_end : (x : Modes) (s t : State) (some : List Link) (last : Link) (value : ℕ) → x.cut ≡ cut → InSession x s →
-      AllCalls Within (some ++ last ∷ []) → Chain s (some ++ last ∷ []) t → NoneOf some → last.call ≡ c → last.answer ≡ Register value →
+      AllAt Within (some ++ last ∷ []) → Chain s (some ++ last ∷ []) t → NoneOf some → last.call ≡ c → last.answer ≡ Register value →
       AfterIn T x (saved (fields (inner_of s))) s t value
   at_end x s t some last value same w within chain none is answered =
       ended CallStep s t some last c (Register value) (λ u. AfterIn T x (saved (fields (inner_of s))) s u value)
@@ -157,7 +157,7 @@ module _ {Within : Call → Type 0} {cut : ℕ → ℕ} (k : GoOn Within cut) {r
 
   -- and it begins with one
   since_first : (x : Modes) (s t : State) (first : Link) (some : List Link) (last : Link) (value : ℕ) → x.cut ≡ cut → InSession x s →
-      AllCalls Within (first ∷ (some ++ last ∷ [])) → Chain s (first ∷ (some ++ last ∷ [])) t → NoneOf some → first.call ≡ c →
+      AllAt Within (first ∷ (some ++ last ∷ [])) → Chain s (first ∷ (some ++ last ∷ [])) t → NoneOf some → first.call ≡ c →
       last.call ≡ c → last.answer ≡ Register value →
       Took register saved first.before first.answer first.after
       × (y : Modes) × AfterIn T y (saved (fields (inner_of first.after))) first.after t value
@@ -184,8 +184,8 @@ no_other_change x first t value took a = a.tells.exactly_told took.emptied
     (ap (λ (m : MachineState). m.chip.modem.deltas) took.path.2
     ∙ status_clears (machine_of first.before) took.path.0 took.status took.path.1)
 
-pub tells_in : {Within : Call → Type 0} {cut : ℕ → ℕ} (k : GoOn Within cut) (x : Modes) (s t : State) (links : List Link) → x.cut ≡ cut →
-    InSession x s → AllCalls Within links → Chain s links t → Tells s links t
+pub tells_in : {Within : State → Call → Type 0} {cut : ℕ → ℕ} (k : GoOn Within cut) (x : Modes) (s t : State) (links : List Link) →
+    x.cut ≡ cut → InSession x s → AllAt Within links → Chain s links t → Tells s links t
 tells_in k x s t links same w within chain = record {
   line = λ some last value is none c a.
       let e = at_end k lsr_status x s t some last value same w (rw is at within) (rw is at chain) none c a in

@@ -1,5 +1,6 @@
 pub mod Chains
 pub mod Run
+pub mod Wired
 pub mod Statuses
 pub mod Served
 pub mod Ready

@@ -35,6 +35,7 @@ use Rattle.uart_chip.specs.Chip.{is_loopback, is_transmitter_empty, divisor, int
 use Rattle.uart_chip.specs.Machine.{MachineState}
 use Rattle.uart_run.specs.Run.{State, machine_of}
 use Rattle.uart_run.specs.Served.{transmitter_of, IsFlushed}
+use Rattle.uart_run.specs.Wired.{IsWired}
 
 -- the latches of a state
 abbrev pub latches_of : State → LatchesState
@@ -66,11 +67,12 @@ abbrev pub is_level : Option FifoTriggerLevel → Bool
 is_level (Some level) = true
 is_level None = false
 
--- the state after an `init` that is done, whatever the machine was before it: the state is ready, with the divisor, the
--- frame and the interrupts as configured, MCR 0B, an empty transmitter, and the FIFO on exactly if a level is
--- configured and the chip has one
+-- the state after an `init` that is done, whatever the machine was before it: the state is ready, and the machine
+-- wired, with the divisor, the frame and the interrupts as configured, MCR 0B, an empty transmitter, and the FIFO on
+-- exactly if a level is configured and the chip has one
 pub record IsInitialised (config : Config) (t : State) : Type 0 where
   pub ready : Ready t
+  pub wired : IsWired t
   pub divisor_latch : DivisorOf config (Ok (divisor (latches_of t)))
   pub lcr : (latches_of t).lcr ≡ frame_bits config
   pub mcr : (latches_of t).mcr ≡ 11
@@ -103,6 +105,7 @@ pub record Frames (config : Config) (s : State) (a : Answer) (t : State) : Type 
 -- outputs that were asked for, and the transmitter is empty if there was a wait
 pub record IsSetUp (setup : Setup) (config : Config) (t : State) : Type 0 where
   pub ready : Ready t
+  pub wired : IsWired t
   pub divisor_latch : DivisorOf config (Ok (divisor (latches_of t)))
   pub lcr : (latches_of t).lcr ≡ frame_bits config
   pub mcr : (latches_of t).mcr ≡ bit_and (unlooped setup.outputs.0) mcr_bits

@@ -10,39 +10,45 @@ use Rattle.uart_chip.specs.Chip.{cut_of}
 use Rattle.uart_chip.specs.Conserved.{out, waiting, kept}
 use Rattle.uart_run.specs.Chains.{EachLink}
 use Rattle.uart_run.specs.Run.{State, machine_of, Link, Chain, IsRun}
+use Rattle.uart_run.specs.Wired.{IsWired}
 use Rattle.uart_run.specs.Statuses.{Tells}
 use Rattle.uart_run.specs.Served.{AllServe}
 use Rattle.uart_run.specs.Ready.{Ready, ComesTo}
 use Rattle.uart_run.specs.Progress.{IsTimely, Succeeds}
 
 -- the call is no `init`, `init_with`, `restore`, `quiesce` and no loopback test, which end a session, and no `attach`;
--- it writes no MCR, by which modem lines may change; and it sets no frame, after which a machine may cut characters in
--- another way
-abbrev pub IsWithinSession : Call → Type 0
-IsWithinSession (call.Init config) = ⊥
-IsWithinSession (call.InitWith config setup) = ⊥
-IsWithinSession (call.SetFrame config) = ⊥
-IsWithinSession (call.SetFrameWhenIdle config) = ⊥
-IsWithinSession call.Attach = ⊥
-IsWithinSession (call.SetModemControl outputs) = ⊥
-IsWithinSession (call.SetRts on) = ⊥
-IsWithinSession (call.SetDtr on) = ⊥
-IsWithinSession (call.Quiesce outputs fifos) = ⊥
-IsWithinSession (call.Restore dump) = ⊥
-IsWithinSession call.TestLoopback = ⊥
-IsWithinSession other = Unit {0}
+-- it sets no frame, after which a machine may cut characters in another way; and it writes no MCR, unless that is
+-- allowed
+abbrev pub GoesOn : (WritesControl : Type 0) → Call → Type 0
+GoesOn WritesControl (call.Init config) = ⊥
+GoesOn WritesControl (call.InitWith config setup) = ⊥
+GoesOn WritesControl (call.SetFrame config) = ⊥
+GoesOn WritesControl (call.SetFrameWhenIdle config) = ⊥
+GoesOn WritesControl call.Attach = ⊥
+GoesOn WritesControl (call.SetModemControl outputs) = WritesControl
+GoesOn WritesControl (call.SetRts on) = WritesControl
+GoesOn WritesControl (call.SetDtr on) = WritesControl
+GoesOn WritesControl (call.Quiesce outputs fifos) = ⊥
+GoesOn WritesControl (call.Restore dump) = ⊥
+GoesOn WritesControl call.TestLoopback = ⊥
+GoesOn WritesControl other = Unit {0}
+
+-- the call goes on with a session that began in this state: it may write MCR if the machine was wired, so that no modem
+-- line changes by that
+abbrev pub IsWithinSession : State → Call → Type 0
+IsWithinSession s = GoesOn (IsWired s)
 
 -- this for each call of some links
 abbrev pub AllCalls : (Call → Type 0) → List Link → Type 0
 AllCalls Within [] = Unit {0}
 AllCalls Within (link ∷ links) = Within link.call × AllCalls Within links
 
-abbrev pub AllWithinSession : List Link → Type 0
-AllWithinSession = AllCalls IsWithinSession
+abbrev pub AllWithinSession : State → List Link → Type 0
+AllWithinSession s = AllCalls (IsWithinSession s)
 
 -- a session: it begins in a ready state, and each call in it is one within a session
 abbrev pub IsSession : State → List Link → Type 0
-IsSession s links = Ready s × AllWithinSession links
+IsSession s links = Ready s × AllWithinSession s links
 
 -- ---- what a call reported as sent, and what it received
 
@@ -126,10 +132,11 @@ pub record Conserves (s : State) (links : List Link) (t : State) : Type 0 where
 -- left in any state is covered. A loopback test ends one session, and the next begins after it: nothing is lost between
 -- the two except what the test discards.
 
--- whatever its answer is, it preserves a ready state; it has an outcome that it should have; and if ticks pass, it
--- succeeds
+-- whatever its answer is, it preserves a ready state and a wired machine; it has an outcome that it should have; and if
+-- ticks pass, it succeeds
 pub record Follows (s : State) (call : Call) (a : Answer) (t : State) : Type 0 where
   pub ready : Ready s → Ready t
+  pub wired : IsWired s → IsWired t
   pub comes_to : ComesTo s call a t
   pub succeeds : IsTimely s → Succeeds s call a
 

@@ -15,7 +15,8 @@ use Rattle.uart_run.specs.Served.{AllServe, IsFlushed}
 use Rattle.uart_run.specs.Statuses.{Tells}
 use Rattle.uart_run.specs.Ready.{Ready}
 use Rattle.uart_run.specs.Progress.{IsTimely, HasRoom}
-use Rattle.uart_run.specs.Session.{AllCalls, reported, received, overflows, AllFollow}
+use Rattle.uart_run.specs.Session.{GoesOn, AllCalls, reported, received, overflows, AllFollow}
+use Rattle.uart_run.specs.Wired.{IsWired}
 
 -- This second form follows from the first. It is stated so that nobody has to see that `map (cut_of c) bytes` is
 -- `bytes`.
@@ -28,22 +29,17 @@ IsUncut s = (machine_of s).chip.cuts ≡ false
 abbrev pub entered_uncut : MachineState → MachineState → List Character
 entered_uncut m n = m.chip.receiver.queue ++ arriving m.chip.receiver.arrived (between m n)
 
--- a session: it begins in a ready state, and no call in it is an `init`, an `init_with`, a `restore`, a `quiesce`, a
--- loopback test or an `attach`, or writes MCR. A `set_frame` may be, and a `set_frame_when_idle`
-abbrev pub IsWithinUncut : Call → Type 0
-IsWithinUncut (call.Init config) = ⊥
-IsWithinUncut (call.InitWith config setup) = ⊥
-IsWithinUncut call.Attach = ⊥
-IsWithinUncut (call.SetModemControl outputs) = ⊥
-IsWithinUncut (call.SetRts on) = ⊥
-IsWithinUncut (call.SetDtr on) = ⊥
-IsWithinUncut (call.Quiesce outputs fifos) = ⊥
-IsWithinUncut (call.Restore dump) = ⊥
-IsWithinUncut call.TestLoopback = ⊥
-IsWithinUncut other = Unit {0}
+-- the same calls go on with a session as on any machine, and also a `set_frame` and a `set_frame_when_idle`
+abbrev pub GoesOnUncut : (WritesControl : Type 0) → Call → Type 0
+GoesOnUncut WritesControl (call.SetFrame config) = Unit {0}
+GoesOnUncut WritesControl (call.SetFrameWhenIdle config) = Unit {0}
+GoesOnUncut WritesControl other = GoesOn WritesControl other
+
+abbrev pub IsWithinUncut : State → Call → Type 0
+IsWithinUncut s = GoesOnUncut (IsWired s)
 
 abbrev pub IsUncutSession : State → List Link → Type 0
-IsUncutSession s links = Ready s × AllCalls IsWithinUncut links
+IsUncutSession s links = Ready s × AllCalls (IsWithinUncut s) links
 
 -- the bytes of these that were not dropped, according to the second machine
 abbrev pub kept_uncut : MachineState → MachineState → List ℕ

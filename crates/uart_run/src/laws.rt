@@ -9,7 +9,11 @@ ghost use Rattle.uart_spec.specs.declared.registers.modem_control.TheConstants.M
 ghost use Rattle.uart_16550.specs.declared.driver.Uart16550.{Uart16550};
 ghost use Rattle.uart_spec.specs.declared.received.Received.{Received};
 ghost use Rattle.uart_chip.specs.Chip.{ticks};
-ghost use Rattle.uart_chip.specs.Machine.{MachineState, MachineStep};
+ghost use Rattle.uart_chip.specs.Machine.{MachineState, MachineStep, fresh, cutting, at_mark};
+ghost use Rattle.uart_events.specs.declared.event.Chip.{Chip};
+ghost use Rattle.uart_events.specs.declared.event.Event.{Event};
+ghost use Rattle.uart_spec.specs.declared.access.Access.{Access};
+ghost use Rattle.uart_run.specs.Wired.{IsWiredChip};
 ghost use Rattle.uart_run.specs.Ready.{KeepsReady, Ready};
 ghost use Rattle.uart_run.specs.ReceivedErrors.{ReceivedExactly, under_terminal};
 
@@ -43,6 +47,19 @@ pub fn received_errors_are_exact(uart: &Uart16550<Device16550>)
     // The contract of this call states what holds of every machine.
     let _fifo = uart.backend().fifo_enabled();
 }
+
+/// A new machine is wired, and ticks, a `next` and every access keep that. So a session that begins
+/// in any state of a machine goes on through calls that write MCR.
+pub fn machines_stay_wired()
+    ensures new { (cuts : Bool) (chip : Chip) (char_ticks room : ℕ) (events : List Event) →
+        IsWiredChip (cutting cuts (fresh chip char_ticks room events)).chip }
+    ensures ticking { (n : ℕ) (machine : MachineState) →
+        IsWiredChip machine.chip → IsWiredChip (ticks n machine.chip) }
+    ensures marks { (machine : MachineState) →
+        IsWiredChip machine.chip → IsWiredChip (at_mark machine).chip }
+    ensures accesses { (access : Access) (before after : MachineState) →
+        MachineStep before access after → IsWiredChip before.chip → IsWiredChip after.chip }
+{}
 
 /// `set_rts`, `set_dtr` and `set_break` preserve a state in which a session may begin: they leave
 /// loopback and DLAB off.

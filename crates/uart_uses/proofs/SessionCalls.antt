@@ -13,17 +13,17 @@ use Rattle.uart_run.specs.Chains.{calls_of, answers_of}
 use Rattle.uart_run.specs.Run.{State, Link, Chain}
 use Rattle.uart_run.specs.Session.{IsWithinSession, AllWithinSession, Conserves, Ran, AllFollow}
 
-all_within : (links : List Link) → All IsWithinSession (calls_of links) → AllWithinSession links
-all_within [] within = tt
-all_within (link ∷ links) within = (
-  All-head IsWithinSession link.call (calls_of links) within,
-  all_within links (All-tail IsWithinSession link.call (calls_of links) within),
+all_within : (s : State) (links : List Link) → All (IsWithinSession s) (calls_of links) → AllWithinSession s links
+all_within s [] within = tt
+all_within s (link ∷ links) within = (
+  All-head (IsWithinSession s) link.call (calls_of links) within,
+  all_within s links (All-tail (IsWithinSession s) link.call (calls_of links) within),
 )
 
-pub conserves_all : (s t : State) (calls : List Call) (answers : List Answer) → All IsWithinSession calls → Ran s calls answers t →
+pub conserves_all : (s t : State) (calls : List Call) (answers : List Answer) → All (IsWithinSession s) calls → Ran s calls answers t →
     Ready s → (links : List Link) × Conserves s links t
 conserves_all s t calls answers within ran ready =
-    let each = all_within ran.run.links (subst (λ (cs : List Call). All IsWithinSession cs) (sym ran.run.calls_same) within) in
+    let each = all_within s ran.run.links (subst (λ (cs : List Call). All (IsWithinSession s) cs) (sym ran.run.calls_same) within) in
     (ran.run.links, ran.sessions [] ran.run.links [] s t (sym (append-nil ran.run.links)) refl ran.run.chain refl (ready, each))
 
 initialised_by : (s t : State) (config : Config) (answers : List Answer) (other : Answer) (links : List Link) →

@@ -25,7 +25,7 @@ pub fn begin_session(uart: &mut Uart16550Tty<Device16550>, config: Config) -> bo
 pub fn make_calls(uart: &mut Uart16550Tty<Device16550>, calls: &[Call], answers: &mut [Answer])
     requires ready { Ready uart.old }
     requires runnable { All IsRunnable calls.now }
-    requires within { All IsWithinSession calls.now }
+    requires within { All (IsWithinSession uart.old) calls.now }
     requires slots { length calls.now ≡ length answers.old }
     ensures goes_on { Ready uart.new }
     ensures no_overflow { overflows uart.new ≡ overflows uart.old }

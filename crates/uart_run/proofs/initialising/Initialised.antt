@@ -24,7 +24,9 @@ use Rattle.uart_calls.specs.Meaning.{init_answer}
 use Rattle.uart_run.specs.Run.{State, machine_of, CallStep}
 use Rattle.uart_run.specs.Ready.{Ready, has_fifo, is_level, IsInitialised, Initialises}
 use Rattle.uart_chip.specs.Sound.{IsSound}
+use Rattle.uart_run.specs.Wired.{IsWired}
 use Rattle.uart_run.proofs.Latches.{Kept, kept_in, kept_after, kept_list}
+use Rattle.uart_run.proofs.Wired.{wired_path}
 use Rattle.uart_run.proofs.Pieces.{then_parts, next_stages}
 use Rattle.uart_run.proofs.initialising.Presence.{never_absent}
 use Rattle.uart_run.proofs.KeptLists.{keeps_waits, kept_still}
@@ -57,9 +59,10 @@ enabled config d scr on k =
 -- all that an `init` leaves, by what the registers keep
 initialised : (config : Config) (d scr : ℕ) (on : Bool) (k : Kept) (t : State) → DivisorOf config (Ok d) →
     kept_in (machine_of t).chip ≡ last config d scr on k → on ≡ (is_level config.fifo_trigger_level && has_fifo k.model) →
-    (fields (inner_of t)).fifo ≡ on → IsEmpty (machine_of t).chip.transmitter → IsInitialised config t
-initialised config d scr on k t of kept is_on knows empty = record {
+    (fields (inner_of t)).fifo ≡ on → IsWired t → IsEmpty (machine_of t).chip.transmitter → IsInitialised config t
+initialised config d scr on k t of kept is_on knows wired empty = record {
   ready = ready_by t (last config d scr on k) kept (frame-dlab config) refl knows;
+  wired = wired;
   divisor_latch = subst (λ n. DivisorOf config (Ok n)) (sym (ap (λ (v : Kept). divisor v.latches) kept ∙ div-add-mod d 256)) of;
   lcr = ap (λ (v : Kept). v.latches.lcr) kept;
   mcr = ap (λ (v : Kept). v.latches.mcr) kept;
@@ -101,6 +104,7 @@ done config d on f l m t w of does p =
         initialised config d begins.scr on (kept_in m.chip) t of
         (e.left.kept ∙ (ap (kept_after (Write offsets.IER config.interrupts.0 ∷ [])) set ∙ enabled config d begins.scr on (kept_in m.chip)))
         begins.is_on (e.left.knows ∙ (knows ∙ begins.knows))
+        (wired_path ys m₂ (machine_of t) (wired_path xs m₁ m₂ begins.wired p) q)
         (e.empty (empty_shown (settings_of g) a.back a.between m₂ a.second a.after))
 
 -- ---- refused

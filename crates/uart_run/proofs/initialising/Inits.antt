@@ -24,6 +24,8 @@ use Rattle.uart_chip.proofs.Bits.{has_bit}
 use Rattle.uart_chip.proofs.soundness.Sounds.{sound_path}
 use Rattle.uart_chip.proofs.conservation.BlockLaws.{path_as}
 use Rattle.uart_run.proofs.Latches.{Kept, kept_in, kept_after, kept_list, kept_path, LeftBy}
+use Rattle.uart_run.specs.Wired.{IsWiredChip}
+use Rattle.uart_run.proofs.Wired.{wired_control}
 use Rattle.uart_run.proofs.Pieces.{then_parts, next_stages}
 use Rattle.uart_run.proofs.KeptLists.{keeps_drains, kept_still}
 use Rattle.uart_run.proofs.initialising.FifoSteps.{sets_fifo}
@@ -130,12 +132,21 @@ drained outputs f after l m n dlab t p =
       knows = ap (λ (g : Fields). g.fifo) a.parts.second.1 ∙ ap (λ (g : Fields). g.fifo) a.parts.first.1;
     }
 
+-- which wires the chip
+pub drained_wired : (outputs : ℕ) (f after : Fields) (l : List Access) (m n : MachineState) →
+    Next (Plain DrainsReceiver) (Saving (Only (Write offsets.MCR outputs ∷ []))) f l after → Path MachineStep m l n → IsWiredChip n.chip
+drained_wired outputs f after l m n t p =
+    let a = next_stages (Plain DrainsReceiver) (Saving (Only (Write offsets.MCR outputs ∷ []))) f after l m n t p in
+    wired_control a.parts.between n outputs
+    (path_as a.parts.between n a.parts.back (Write offsets.MCR outputs ∷ []) a.parts.second.0.is a.parts.after)
+
 -- the chip is set up, outside of loopback, and the driver takes the FIFO to be as it is
 pub record Begun (config : Config) (d : ℕ) (on : Bool) (m n : MachineState) (after : Fields) : Type 0 where
   pub scr : ℕ
   pub kept : kept_in n.chip ≡ record { latches = set_up config d raised_outputs scr; fifo = on; model = m.chip.model; cuts = m.chip.cuts }
   pub is_on : on ≡ (is_level config.fifo_trigger_level && has_fifo m.chip.model)
   pub knows : after.fifo ≡ on
+  pub wired : IsWiredChip n.chip
 
 pub begun : (config : Config) (d : ℕ) (on : Bool) (f after : Fields) (l : List Access) (m n : MachineState) → IsSound m →
     Begins config d on f l after → Path MachineStep m l n → Begun config d on m n after
@@ -150,12 +161,13 @@ begun config d on f after l m n w t p =
     b.parts.first.0 b.parts.before)
     (λ dlab. drained raised_outputs c.mid after c.parts.back c.parts.between n dlab c.parts.second c.parts.after)
     (ap (λ (g : Fields). g.fifo) c.parts.first.1)
+    (drained_wired raised_outputs c.mid after c.parts.back c.parts.between n c.parts.second c.parts.after)
   where
     -- nothing is accessed where the driver alone is set
     joined : (m₁ m₂ m₃ : MachineState) (g : Fields) → m₁ ≡ m → m₃ ≡ m₂ → Lined config d on m₁ m₂ →
         (is_dlab_set m₃.chip.latches ≡ false → LeftBy (Write offsets.MCR raised_outputs ∷ []) g after m₃ n) → g.fifo ≡ on →
-        Begun config d on m n after
-    joined m₁ m₂ m₃ g same still line rest knows =
+        IsWiredChip n.chip → Begun config d on m n after
+    joined m₁ m₂ m₃ g same still line rest knows wired =
         let set : kept_in m₃.chip ≡ record {
           latches = set_up config d m₁.chip.latches.mcr line.scr;
           fifo = on;
@@ -183,6 +195,7 @@ begun config d on f after l m n w t p =
               }) same;
           is_on = line.is_on ∙ ap (λ (o : MachineState). is_level config.fifo_trigger_level && has_fifo o.chip.model) same;
           knows = last.knows ∙ knows;
+          wired = wired;
         }
 
 -- ---- the end

@@ -35,6 +35,8 @@ use Rattle.uart_chip.proofs.conservation.BlockLaws.{path_as}
 use Rattle.uart_chip.proofs.lasting.Lasting.{AllSendNothing}
 use Rattle.uart_run.specs.Run.{State, machine_of, CallStep}
 use Rattle.uart_run.specs.Ready.{Ready, has_fifo, is_level, IsSetUp, Arranges}
+use Rattle.uart_run.specs.Wired.{IsWiredChip, IsWired}
+use Rattle.uart_run.proofs.Wired.{wired_path, wired_control}
 use Rattle.uart_run.proofs.Latches.{Kept, kept_in, kept_after, kept_after-append, kept_list, kept_path}
 use Rattle.uart_run.proofs.ListsInTurn.{HoldsInTurn, HoldsOfAll, all_only, all_then, all_few, all_misses}
 use Rattle.uart_run.proofs.Pieces.{then_parts, next_stages}
@@ -119,6 +121,7 @@ record Placed (setup : Setup) (config : Config) (d : ℕ) (on : Bool) (m n : Mac
   }
   pub is_on : on ≡ (is_level config.fifo_trigger_level && has_fifo m.chip.model)
   pub knows : after.fifo ≡ on
+  pub wired : IsWiredChip n.chip
   pub empty : IsEmpty m.chip.transmitter → IsEmpty n.chip.transmitter
 
 placed : (setup : Setup) (config : Config) (d : ℕ) (on : Bool) (f after : Fields) (l : List Access) (m n : MachineState) → IsSound m →
@@ -151,6 +154,7 @@ placed setup config d on f after l m n w t p =
       kept = last.kept ∙ ap (kept_after (Write offsets.MCR outputs ∷ [])) begun;
       is_on = set.is_on ∙ ap (λ (k : Kept). is_level level && has_fifo k.model) first;
       knows = last.knows ∙ ap (λ (g : Fields). g.fifo) b.parts.first.1;
+      wired = wired_control e.parts.between n outputs written;
       empty = λ empty.
           empty_path (Write offsets.MCR outputs ∷ []) e.parts.between n (refl, tt) written
           (empty_path e.parts.front b.parts.between e.parts.between
@@ -181,9 +185,11 @@ enabled setup config d scr on k =
 -- all that an `init_with` leaves, by what the registers keep
 arranged : (setup : Setup) (config : Config) (d scr : ℕ) (on : Bool) (k : Kept) (t : State) → DivisorOf config (Ok d) →
     kept_in (machine_of t).chip ≡ last setup config d scr on k → on ≡ (is_level config.fifo_trigger_level && has_fifo k.model) →
-    (fields (inner_of t)).fifo ≡ on → (setup.wait ≢ NoWait → IsEmpty (machine_of t).chip.transmitter) → IsSetUp setup config t
-arranged setup config d scr on k t of kept is_on knows empty = record {
+    (fields (inner_of t)).fifo ≡ on → IsWired t → (setup.wait ≢ NoWait → IsEmpty (machine_of t).chip.transmitter) →
+    IsSetUp setup config t
+arranged setup config d scr on k t of kept is_on knows wired empty = record {
   ready = ready_by t (last setup config d scr on k) kept (frame-dlab config) (unlooped_off setup.outputs.0) knows;
+  wired = wired;
   divisor_latch = subst (λ n. DivisorOf config (Ok n)) (sym (ap (λ (v : Kept). divisor v.latches) kept ∙ div-add-mod d 256)) of;
   lcr = ap (λ (v : Kept). v.latches.lcr) kept;
   mcr = ap (λ (v : Kept). v.latches.mcr) kept;
@@ -234,7 +240,8 @@ done setup config d on f l m t w of does p =
         arranged setup config d scr on (kept_in m₂.chip) t of
         (e.left.kept ∙ (ap (kept_after (Write offsets.IER config.interrupts.0 ∷ [])) (waited ∙ put.kept)
         ∙ enabled setup config d scr on (kept_in m₂.chip)))
-        put.is_on (e.left.knows ∙ (knows ∙ put.knows)) (λ some. e.empty (awaited put.empty (some_wait setup.wait some)))
+        put.is_on (e.left.knows ∙ (knows ∙ put.knows)) (wired_path zs m₄ (machine_of t) (wired_path ys m₃ m₄ put.wired q) r)
+        (λ some. e.empty (awaited put.empty (some_wait setup.wait some)))
       where
         -- what is empty before the last wait, or after it, is empty after it
         still_empty : (asked : Bool) → WaitsIf asked true (settings_of f₃) ys → IsEmpty m₃.chip.transmitter → IsEmpty m₄.chip.transmitter

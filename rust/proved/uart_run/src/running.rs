@@ -20,7 +20,9 @@ fn run_call(uart: &mut Uart16550Tty<Device16550>, call: &Call) -> Answer {
 ///
 /// A *session* begins in a ready state: DLAB and loopback are off, and the driver knows whether the
 /// FIFO is on. It goes on up to the next `Init`, `InitWith`, `Quiesce`, `Restore`, `Attach` or
-/// `TestLoopback`, or a call that writes MCR or the frame. In each session
+/// `TestLoopback`, or a call that sets the frame. It goes on through a call that writes MCR if it
+/// began with a wired machine, whose modem lines are its inputs. A new machine is wired, and so is
+/// one after an `Init` or an `InitWith` that succeeds, and every call keeps that. In each session
 ///
 /// - the wire and the transmitter grow by exactly the bytes that sends reported;
 /// - no data write meets a full transmitter;

@@ -1,0 +1,171 @@
+-- A wired machine stays wired, and a write of MCR changes no line of one that stays outside of loopback.
+use Rattle.std.proofs.Common.{◌≡◌, ℕ, zero, suc, Bool, true, false, not, ◌==◌, ◌&&◌, List, [], ◌∷◌, refl, sym, ◌∙◌, ap, subst}
+use Rattle.std.proofs.Common.{bit_and, bit_or, if◌then◌else◌, arith}
+use Rattle.std.proofs.lemmas.Grind.{common_steps}
+use Rattle.uart_events.specs.declared.event.Chip.{Chip}
+use Rattle.uart_events.specs.declared.event.Chip.TheVariants.{Uart16550A, Uart16450}
+use Rattle.uart_events.specs.declared.event.Event.{Event}
+use Rattle.uart_events.specs.declared.event.Event.TheVariants.{Ticks, Lines, Access as Gate, Mark}
+use Rattle.uart_spec.specs.Access.{Path}
+use Rattle.uart_spec.specs.Bits.{has_any}
+use Rattle.uart_spec.specs.Lines.{line_changes}
+use Rattle.uart_spec.specs.declared.access.Access.{Access}
+use Rattle.uart_spec.specs.declared.access.Access.TheVariants.{Read, Write}
+use Rattle.uart_spec.specs.declared.registers.fifo_control.TheConstants.FCR
+use Rattle.uart_spec.specs.declared.registers.modem_control.TheConstants.MCR
+use Rattle.uart_spec.specs.declared.registers.modem_status.TheConstants.MSR
+use Rattle.uart_spec.specs.declared.registers.offsets.TheConstants as offsets
+use Rattle.uart_chip.specs.Masks.{mcr_bits}
+use Rattle.uart_chip.specs.Modem.{ModemState, renew, lines_under}
+use Rattle.uart_chip.specs.Receiver.{clear}
+use Rattle.uart_chip.specs.Chip.{ChipState, is_dlab_set, ticks, interrupt, is_thr_empty, after_read, after_write}
+use Rattle.uart_chip.specs.Chip.{trigger_level, switch, reset_receiver, reset_transmitter, set_trigger, is_same, set_fifo, control}
+use Rattle.uart_chip.specs.Machine.{MachineState, MachineStep, perform, before_access, at_access, before_mark, at_mark}
+use Rattle.uart_chip.specs.Sound.{IsSoundChip}
+use Rattle.uart_chip.proofs.soundness.Sounds.{sound_access, sound_write}
+use Rattle.uart_chip.proofs.conservation.Sends.{sends-refl}
+use Rattle.uart_chip.proofs.conservation.Receives.{receives-refl}
+use Rattle.uart_chip.proofs.statuses.Reports.{reports-refl}
+use Rattle.uart_chip.proofs.statuses.LinesChanged.{LinesChanged}
+use Rattle.uart_chip.proofs.conservation.Went.{Modes, IsIn, loopback, loopback-in, marked-in, Went}
+use Rattle.uart_chip.proofs.conservation.Passed.{Passed, passed-effect}
+use Rattle.uart_chip.proofs.conservation.BlockLaws.{IsOpen, Stands}
+use Rattle.uart_run.specs.Wired.{IsWiredChip}
+
+-- ---- what happens to a chip
+
+wired_if : (b : Bool) (c d : ChipState) → IsWiredChip c → IsWiredChip d → IsWiredChip (if b then c else d)
+wired_if true c d p q = p
+wired_if false c d p q = q
+
+pub wired-ticks : (n : ℕ) (c : ChipState) → IsWiredChip c → IsWiredChip (ticks n c)
+wired-ticks zero c w = w
+wired-ticks (suc n) c w = wired-ticks n c w
+
+wired-perform : (event : Event) (c : ChipState) → IsWiredChip c → IsWiredChip (perform event c)
+wired-perform (Ticks n) c w = wired-ticks n c w
+wired-perform (Lines inputs) c w = refl
+wired-perform _ c w = w
+
+wired-before : (events : List Event) (c : ChipState) → IsWiredChip c → IsWiredChip (before_access events c)
+wired-before [] c w = w
+wired-before (Gate ∷ events) c w = w
+wired-before (Mark ∷ events) c w = w
+wired-before (event ∷ events) c w = wired-before events (perform event c) (wired-perform event c w)
+
+wired-before_mark : (events : List Event) (c : ChipState) → IsWiredChip c → IsWiredChip (before_mark events c)
+wired-before_mark [] c w = w
+wired-before_mark (Mark ∷ events) c w = w
+wired-before_mark (event ∷ events) c w = wired-before_mark events (perform event c) (wired-perform event c w)
+
+wired-read : (offset : ℕ) (c : ChipState) → IsWiredChip c → IsWiredChip (after_read offset c)
+wired-read offset c w =
+    wired_if (offset == offsets.DATA) _ _ (wired_if (is_dlab_set c.latches) _ _ w w)
+    (wired_if (offset == offsets.ISR) _ _ (wired_if (is_thr_empty (interrupt c)) _ _ w w)
+    (wired_if (offset == offsets.LSR) _ _ w (wired_if (offset == offsets.MSR) _ _ w w)))
+
+-- a write of FCR
+wired-fifo : (value : ℕ) (c : ChipState) → IsWiredChip c → IsWiredChip (set_fifo value c)
+wired-fifo value c w =
+    let on : Bool = has_any value FCR.FIFO_ENABLE.0 in
+    let d : ChipState = if is_same c.fifo on then c else switch on c in
+    let a : IsWiredChip d = wired_if (is_same c.fifo on) c (switch on c) w w in
+    let e : ChipState = reset_receiver value d in
+    let b : IsWiredChip e = wired_if (has_any value FCR.RX_FIFO_RESET.0) (record d { receiver = clear d.receiver }) d a a in
+    let f : ChipState = reset_transmitter value e in
+    let g : IsWiredChip f = wired_if (has_any value FCR.TX_FIFO_RESET.0)
+    (record e { transmitter = record e.transmitter { queue = []; is_thr_pending = true } }) e b b in
+    wired_if on (set_trigger (trigger_level value) f) d g a
+
+wired-control : (model : Chip) (value : ℕ) (c : ChipState) → IsWiredChip c → IsWiredChip (control model value c)
+wired-control Uart16450 value c w = w
+wired-control Uart16550A value c w = wired-fifo value c w
+
+wired-write : (offset value : ℕ) (c : ChipState) → IsWiredChip c → IsWiredChip (after_write offset value c)
+wired-write offset value c w =
+    wired_if (offset == offsets.DATA) _ _ (wired_if (is_dlab_set c.latches) _ _ w w)
+    (wired_if (offset == offsets.IER) _ _ (wired_if (is_dlab_set c.latches) _ _ w w)
+    (wired_if (offset == offsets.FCR) _ _ (wired-control c.model value c w)
+    (wired_if (offset == offsets.LCR) _ _ w
+    (wired_if (offset == offsets.MCR) _ _ refl
+    (wired_if (offset == offsets.SPR) _ _ w w)))))
+
+-- ---- the machine
+
+pub wired_access : (m : MachineState) → IsWiredChip m.chip → IsWiredChip (at_access m).chip
+wired_access m w = wired-before m.ahead m.chip w
+
+pub wired_step : (access : Access) (m n : MachineState) → MachineStep m access n → IsWiredChip m.chip → IsWiredChip n.chip
+wired_step (Read offset answer) m n s w =
+    let W : MachineState → Type 0 = λ o. IsWiredChip o.chip in
+    subst W (sym s.0) (wired-read offset (at_access m).chip (wired_access m w))
+wired_step (Write offset value) m n s w =
+    let W : MachineState → Type 0 = λ o. IsWiredChip o.chip in
+    subst W (sym s) (wired-write offset value (at_access m).chip (wired_access m w))
+
+pub wired_path : (made : List Access) (m n : MachineState) → IsWiredChip m.chip → Path MachineStep m made n → IsWiredChip n.chip
+wired_path [] m n w p = let W : MachineState → Type 0 = λ o. IsWiredChip o.chip in subst W (sym p) w
+wired_path (access ∷ accesses) m n w p = wired_path accesses p.0 n (wired_step access m p.0 p.1 w) p.2
+
+pub wired_mark : (m : MachineState) → IsWiredChip m.chip → IsWiredChip (at_mark m).chip
+wired_mark m w = wired-before_mark m.ahead m.chip w
+
+-- a write of MCR wires a chip, whatever its lines were
+pub wired_control : (m n : MachineState) (value : ℕ) → Path MachineStep m (Write offsets.MCR value ∷ []) n → IsWiredChip n.chip
+wired_control m n value p =
+    let W : MachineState → Type 0 = λ o. IsWiredChip o.chip in
+    let written : IsWiredChip p.0.chip = subst W (sym p.1) refl in
+    subst W (sym p.2) written
+
+-- ---- a write of MCR in a session
+
+-- without loopback the lines are the inputs
+under_open : (mcr inputs : ℕ) → has_any mcr MCR.LOOP_BACK.0 ≡ false → lines_under mcr inputs ≡ inputs
+under_open mcr inputs e = rw e refl
+
+eq_same : (n : ℕ) → (n == n) ≡ true
+eq_same n = grind (arith, common_steps)
+
+not_both : (b : Bool) → (b && not b) ≡ false
+not_both true = refl
+not_both false = refl
+
+-- what stays has no changes
+same_changes : (lines : ℕ) → line_changes lines lines ≡ 0
+same_changes lines =
+    rw (
+      eq_same (bit_and lines MSR.CTS.0),
+      eq_same (bit_and lines MSR.DSR.0),
+      eq_same (bit_and lines MSR.CD.0),
+      not_both (has_any lines MSR.RI.0),
+    ) refl
+
+changed-control : (mcr : ℕ) (m : ModemState) → has_any mcr MCR.LOOP_BACK.0 ≡ false → m.lines ≡ m.inputs → LinesChanged m (renew mcr m) [] 0
+changed-control mcr m e is =
+    let same : lines_under mcr m.inputs ≡ m.lines = under_open mcr m.inputs e ∙ sym is in
+    record {
+      lines = same;
+      deltas = ap (bit_or m.deltas) (ap (line_changes m.lines) same ∙ same_changes m.lines);
+    }
+
+went-write_mcr : (x : Modes) (c : ChipState) (value : ℕ) → loopback x ≡ false → has_any (bit_and value mcr_bits) MCR.LOOP_BACK.0 ≡ false →
+    IsSoundChip c → IsIn x c → IsWiredChip c →
+    Went (record x { mcr = bit_and value mcr_bits }) c (after_write offsets.MCR value c) [] (Write offsets.MCR value ∷ []) [] []
+went-write_mcr x c value outside stays s w wired = record {
+  modes = record { lcr = w.lcr; mcr = refl; fifo = w.fifo; cut = w.cut };
+  sends = sends-refl c.transmitter;
+  receives = receives-refl x.fifo c.receiver (marked-in x c s w);
+  reports = reports-refl x.fifo c.receiver;
+  modem_lines =
+      changed-control (bit_and value mcr_bits) c.modem stays
+      (wired ∙ under_open c.latches.mcr c.modem.inputs (loopback-in x c w ∙ outside));
+}
+
+-- the outputs are written, and loopback stays off
+pub passed_mcr : (x : Modes) (m n : MachineState) (value : ℕ) → IsOpen x → has_any (bit_and value mcr_bits) MCR.LOOP_BACK.0 ≡ false →
+    Stands x m → IsWiredChip m.chip → MachineStep m (Write offsets.MCR value) n →
+    Passed (record x { mcr = bit_and value mcr_bits }) m n (Write offsets.MCR value ∷ []) [] []
+passed_mcr x m n value o stays w wired s =
+    passed-effect x (record x { mcr = bit_and value mcr_bits }) m n (after_write offsets.MCR value (at_access m).chip)
+    (Write offsets.MCR value) [] [] o.loopback refl w.sound w.modes s (sound_write offsets.MCR value (at_access m) (sound_access m w.sound))
+    (λ p. went-write_mcr x (at_access m).chip value o.loopback stays p.sound.chip p.went.modes (wired_access m wired))
