@@ -1,5 +1,5 @@
 -- What a `set_frame_when_idle`, a `set_trigger_level`, a `quiesce` and a `restore` leave.
-use Rattle.std.proofs.Common.{◌≡◌, ℕ, Bool, true, false, ◌&&◌, List, [], ◌∷◌, ◌++◌, append-nil, Option, Some, None, Result, Ok, Err}
+use Rattle.std.proofs.Common.{◌≡◌, ℕ, Bool, true, false, ◌&&◌, List, [], ◌∷◌, ◌++◌, append-nil, Option, None, Result, Ok, Err}
 use Rattle.std.proofs.Common.{refl, sym, ◌∙◌, ap, subst, bit_and, ◌%◌, ◌/◌, if◌then◌else◌}
 use Rattle.std.proofs.Math.Nat.{div-add-mod}
 use Rattle.bitflags.specs.Sets.{without}
@@ -43,7 +43,7 @@ use Rattle.uart_chip.proofs.conservation.BlockLaws.{path_as}
 use Rattle.uart_chip.proofs.conservation.Effects.{levelled}
 use Rattle.uart_chip.proofs.soundness.Sounds.{sound_path, sound_access}
 use Rattle.uart_run.specs.Run.{State, machine_of, CallStep}
-use Rattle.uart_run.specs.Ready.{Ready, latches_of, has_fifo, is_level, IsFramed, FramesWhenIdle, Levels, IsQuiet, IsRestored}
+use Rattle.uart_run.specs.Ready.{Ready, latches_of, has_fifo, is_level, FramesWhenIdle, Levels, IsQuiet, IsRestored}
 use Rattle.uart_run.proofs.Latches.{Kept, kept_in, keep, kept_after, kept_list, kept_path, kept_access}
 use Rattle.uart_run.proofs.Pieces.{then_parts, next_stages}
 use Rattle.uart_run.proofs.CallLaws.{level_bits_keep}
