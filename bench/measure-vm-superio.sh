@@ -61,6 +61,7 @@ each chip called interrupt called_is_interrupting
 each chip called interrupt-enabled called_is_interrupting
 each chip inlined interrupt inlined_interrupt
 count_all chip device- device_
+each chip called device-byte-in-and-read-enabled called_device_arrive called_device_read
 "$work/chip/release/triggers"
 
 [ -d /usr/share/cargo/registry/vm-superio-0.7.0 ] ||

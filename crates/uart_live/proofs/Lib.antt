@@ -5,4 +5,5 @@ pub mod Saves
 pub mod Rings
 pub mod Wires
 pub mod Journals
+pub mod Quick
 pub mod Sends

@@ -4,3 +4,4 @@ pub mod Laws
 pub mod Saved
 pub mod Refused
 pub mod Ring
+pub mod Quick

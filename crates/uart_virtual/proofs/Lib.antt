@@ -4,3 +4,5 @@ pub mod Sends
 pub mod Waits
 pub mod Stays
 mod Quiet
+mod Passes
+mod Polls

@@ -1,11 +1,12 @@
 -- The port: a live chip, what its monitor was told last, and what each call makes of both.
 use Rattle.std.specs.Prelude.{◌≡◌, ℕ, Bool, true, false, not, ◌&&◌, ◌||◌, ◌==◌, ◌-◌, List}
-use Rattle.std.specs.Prelude.{[], ◌∷◌, length, take, min, is_some, nat_lt, nat_le, None, if◌then◌else◌}
+use Rattle.std.specs.Prelude.{[], ◌∷◌, length, take, min, is_some, nat_lt, nat_le, Option, None, Some, if◌then◌else◌}
 use Rattle.uart_chip.specs.declared.chip.ChipData.{ChipData}
 use Rattle.uart_chip.specs.Chip as chip
 use Rattle.uart_chip.specs.Chip.{ChipState, interrupt, ticks, arrive_live, take_wire}
-use Rattle.uart_chip.specs.Chip.{change_lines, after_read, after_write, is_loopback, receive_room}
+use Rattle.uart_chip.specs.Chip.{change_lines, after_read, after_write, is_loopback, receive_room, cut_of}
 use Rattle.uart_chip.specs.Jumps.{next_move}
+use Rattle.uart_chip.specs.Sending.{sends_at_once}
 use Rattle.uart_chip.specs.Snapshot.{chip_of}
 use Rattle.uart_chip.specs.Transmitter.{held}
 use Rattle.uart_chip.specs.declared.transmitter.TransmitterData.{TransmitterData}
@@ -218,6 +219,35 @@ abbrev pub is_quiet : (offset value : ℕ) → Bool
 is_quiet offset value =
     if offset == offsets.LSR then not (has_any value LSR.LINE_ERRORS.0)
     else not (offset == offsets.DATA) && (not (offset == offsets.ISR) && not (offset == offsets.MSR))
+
+-- what the monitor has to do after a call that changes neither the line nor the room: nothing
+abbrev pub nothing_new : PortState → Todo
+nothing_new p =
+    record {
+      signal = false;
+      level = p.told.line;
+      has_moved = false;
+      has_room = false;
+      ready = length p.chip.transmitter.wire;
+    }
+
+-- the guest has no interrupt enabled, as one that polls
+abbrev pub is_polled : PortState → Bool
+is_polled p = p.chip.latches.ier == 0
+
+-- after a read of DATA the monitor has nothing to do: no interrupt is enabled, there was room before, and no signal
+-- covers others
+abbrev pub reads_polled : PortState → Bool
+reads_polled p = is_polled p && (p.told.has_room && (p.told.spare == 0))
+
+-- the host can take a byte that the guest writes to DATA before it is on the output: it would be alone there at once,
+-- and a fall of the line within the call makes no difference
+abbrev pub passes : PortState → Bool
+passes p = ignores_falls p.told && ((length p.chip.transmitter.wire == 0) && sends_at_once p.chip)
+
+-- this byte
+abbrev pub passing : (value : ℕ) → PortState → Option ℕ
+passing value p = if passes p then Some (cut_of p.chip value) else None
 
 -- ---- snapshots
 

@@ -1,10 +1,12 @@
 //! The port: how each call is carried out, and what is told of it.
 ghost use Rattle.std.specs.Prelude.{◌≡◌, ◌≢◌, ◌<◌, ◌≤◌, length, min, take, bit_and, Err, IsOk, Ok, ◌==◌, true, false, ℕ};
+ghost use Rattle.std.specs.Prelude.{Some, is_some, [], ◌∷◌, ◌&&◌};
 ghost use Rattle.uart_chip.specs.Chip as spec;
 ghost use Rattle.uart_chip.specs.Chip.{ChipState};
 ghost use Rattle.uart_chip.specs.Jumps.{most_jumps};
 ghost use Rattle.uart_chip.specs.Sending.{sends_at_once};
 ghost use Rattle.uart_live.specs.Live.{IsLive};
+ghost use Rattle.uart_live.specs.Quick.{clear_status};
 ghost use Rattle.uart_spec.specs.Bits.{IsWithin};
 ghost use Rattle.uart_live.specs.declared.errors.InputError.{InputError};
 ghost use Rattle.uart_spec.specs.declared.baud.TheConstants.{NUM_REGISTERS};
@@ -219,7 +221,7 @@ pub fn tell(seen: Seen, was_up: bool, told: &mut Told, kind: Kind) -> Todo
 }
 
 // Returns what is to be told after a call, and notes that it was told.
-#[inline]
+#[inline(always)]
 fn decide(chip: &LiveChip, was_up: bool, told: &mut Told, kind: Kind) -> Todo
     requires { IsPaced chip.now }
     ensures live { IsLive chip.now }
@@ -341,6 +343,13 @@ fn read(chip: &mut LiveChip, offset: u8, told: &mut Told) -> Answer
         let todo = finish_read(chip, told, kind_of_read(offset));
         Answer { value, todo }
     }
+}
+
+// Returns whether a fall of the line within a call makes no difference to what is told.
+fn ignores_falls(told: Told) -> bool
+    ensures { result ≡ port.ignores_falls told }
+{
+    !told.line || told.spare != 0
 }
 
 // Returns whether a write can be made by `send`: it is a byte that meets an idle transmitter, and
@@ -501,6 +510,112 @@ impl VirtualPort {
         read(&mut self.chip, offset, &mut self.told)
     }
 
+    /// Reads LSR for the guest, if it shows no error and no character that waits has one. Then the
+    /// monitor has nothing to do. Otherwise returns `None`, and nothing changes.
+    ///
+    /// The value and the effect are those of [`VirtualPort::read`]. A guest that waits makes this
+    /// read again and again.
+    #[inline]
+    pub fn read_clear_status(&mut self) -> Option<u8>
+        ensures value { result ≡ clear_status self.old.chip }
+        ensures read { is_some result ≡ true → self.new ≡ port.after (Read offsets.LSR) self.old }
+        ensures todo { is_some result ≡ true →
+            port.todo (Read offsets.LSR) self.old ≡ port.nothing_new self.old }
+        ensures left { is_some result ≡ false → self.new ≡ self.old }
+    {
+        self.chip.read_clear_status()
+    }
+
+    // Returns whether a read of DATA leaves nothing to be told.
+    #[inline]
+    fn reads_polled(&self) -> bool
+        ensures { result ≡ port.reads_polled self.now }
+    {
+        let is_polled = !self.chip.has_interrupts_on();
+        is_polled && (self.told.has_room && self.told.spare == 0)
+    }
+
+    /// Reads DATA for a guest that polls: if no interrupt is enabled, no signal covers others, and
+    /// there is room for input. Then the monitor has nothing to do. Otherwise returns `None`, and
+    /// nothing changes.
+    ///
+    /// The value and the effect are those of [`VirtualPort::read`].
+    #[inline]
+    pub fn read_polled(&mut self) -> Option<u8>
+        ensures polled { is_some result ≡ port.reads_polled self.old }
+        ensures value { (value : ℕ) → result ≡ Some value →
+            value ≡ spec.answer offsets.DATA self.old.chip }
+        ensures read { is_some result ≡ true → self.new ≡ port.after (Read offsets.DATA) self.old }
+        ensures todo { is_some result ≡ true →
+            port.todo (Read offsets.DATA) self.old ≡ port.nothing_new self.old }
+        ensures left { is_some result ≡ false → self.new ≡ self.old }
+    {
+        if !self.reads_polled() {
+            return None;
+        }
+        let value = self.chip.read_data();
+        LiveChip::expire_timeout(&mut self.chip);
+        Some(value)
+    }
+
+    // Returns whether a byte that the guest writes to DATA would be alone on the output at once,
+    // and a fall of the line makes no difference.
+    #[inline]
+    fn passes(&self) -> bool
+        ensures { result ≡ port.passes self.now }
+    {
+        let is_empty = self.chip.wire_room() == WIRE_ROOM;
+        ignores_falls(self.told) && (is_empty && self.chip.sends_at_once())
+    }
+
+    /// Returns the byte that goes out if the guest writes this value to DATA, if the host can take
+    /// it before it is on the output: if nothing is before it there, and the transmitter is idle.
+    ///
+    /// If the host takes it, call `pass`; if not, `write`.
+    #[inline]
+    pub fn passing(&self, value: u8) -> Option<u8>
+        ensures { result ≡ port.passing value self.now }
+    {
+        if self.passes() {
+            Some(self.chip.cut(value))
+        } else {
+            None
+        }
+    }
+
+    /// Notes that the guest wrote a byte to DATA, and that the host took it. Returns what the
+    /// monitor has to do, or `None` if [`passing`](Self::passing) returns that: then nothing
+    /// changes.
+    ///
+    /// The port is as after `write` and `take_output(1)`, and what has to be done is the same.
+    #[inline]
+    pub fn pass(&mut self) -> Option<Todo>
+        ensures passes { is_some result ≡ port.passes self.old }
+        ensures after { (value : ℕ) → is_some result ≡ true →
+            self.new ≡ port.after (TakeOutput 1) (port.after (Write offsets.DATA value) self.old) }
+        ensures todo { (value : ℕ) (todo : Todo) → result ≡ Some todo →
+            todo ≡ record (port.todo (Write offsets.DATA value) self.old) { ready = 0 } }
+        ensures taken { (value : ℕ) → is_some result ≡ true →
+            port.todo (TakeOutput 1) (port.after (Write offsets.DATA value) self.old) ≡
+            port.nothing_new (port.after (TakeOutput 1)
+            (port.after (Write offsets.DATA value) self.old)) }
+        ensures left { is_some result ≡ false → self.new ≡ self.old }
+    {
+        if !self.passes() {
+            return None;
+        }
+        let _passed = self.chip.pass_wire();
+        // There is as much room for input as there was.
+        let seen = Seen {
+            level: self.chip.is_interrupting(),
+            has_room: self.told.has_room,
+            fifo: self.chip.has_fifo_on(),
+            ready: 0,
+        };
+        let kind = kind_of_write(offsets::DATA as u8);
+        Some(tell(seen, false, &mut self.told, kind))
+    }
+
     /// Writes a value to the register at this offset for the guest. Returns what the monitor has to
     /// do.
     ///
@@ -552,6 +667,27 @@ impl VirtualPort {
         receive_all(&mut self.chip, &input[..count]);
         let todo = finish_unmoved(&mut self.chip, &mut self.told, kind);
         Received { count, todo }
+    }
+
+    /// Receives a byte for a guest that polls: if no interrupt is enabled, and there is room for
+    /// the byte. Then the monitor has nothing to do. Otherwise returns `false`, and nothing
+    /// changes.
+    ///
+    /// The effect is that of [`VirtualPort::receive`].
+    #[inline]
+    pub fn receive_polled(&mut self, byte: u8) -> bool
+        ensures polled { result ≡ (port.is_polled self.old && port.has_room self.old.chip) }
+        ensures received { result ≡ true → self.new ≡ port.after (Receive (byte ∷ [])) self.old }
+        ensures todo { result ≡ true →
+            port.todo (Receive (byte ∷ [])) self.old ≡ port.nothing_new self.old }
+        ensures left { result ≡ false → self.new ≡ self.old }
+    {
+        if self.chip.has_interrupts_on() || !self.chip.arrive_in_room(byte) {
+            return false;
+        }
+        LiveChip::expire_timeout(&mut self.chip);
+        self.told.has_room = self.chip.receive_room() != 0;
+        true
     }
 
     /// Receives a character with these errors: parity, framing and break, as bits of LSR. Returns

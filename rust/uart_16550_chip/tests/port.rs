@@ -367,6 +367,45 @@ fn compare_call(random: &mut Random, port: &mut VirtualPort, plain: &mut Plain) 
     assert_eq!(port.receive_room(), plain.chip.receive_room());
 }
 
+/// Whether nothing has to be done.
+fn is_nothing(todo: Todo) -> bool {
+    !(todo.signal || todo.has_moved || todo.has_room)
+}
+
+/// Makes one of the short calls of the port, and then what it stands for. One that refuses changes nothing, as later calls show.
+fn compare_short_call(random: &mut Random, port: &mut VirtualPort, plain: &mut Plain) {
+    let byte = random.byte();
+    match random.below(4) {
+        0 => {
+            if let Some(value) = port.read_clear_status() {
+                let answer = plain.read(LSR_OFFSET);
+                assert!(answer.value == value && is_nothing(answer.todo));
+            }
+        }
+        1 => {
+            if let Some(value) = port.read_polled() {
+                let answer = plain.read(DATA);
+                assert!(answer.value == value && is_nothing(answer.todo));
+            }
+        }
+        2 => {
+            if port.receive_polled(byte) {
+                let received = plain.receive(&[byte]);
+                assert!(received.count == 1 && is_nothing(received.todo));
+            }
+        }
+        _ => match port.passing(byte) {
+            Some(passed) => {
+                let todo = plain.write(DATA, byte);
+                assert_eq!(plain.chip.wire(), [passed]);
+                assert!(is_nothing(plain.take_output(1)));
+                assert_eq!(port.pass(), Some(Todo { ready: 0, ..todo }));
+            }
+            None => assert_eq!(port.pass(), None),
+        },
+    }
+}
+
 /// Restores a port now and then. Its monitor is told anew.
 fn restore(random: &mut Random, port: &mut VirtualPort, plain: &mut Plain) {
     if random.below(30) > 0 {
@@ -401,6 +440,7 @@ fn each_call_does_what_its_definition_says() {
         let (mut port, mut plain) = (VirtualPort::new(chip), Plain::new(chip));
         for _call in 0..500 {
             compare_call(&mut random, &mut port, &mut plain);
+            compare_short_call(&mut random, &mut port, &mut plain);
             restore(&mut random, &mut port, &mut plain);
         }
     }

@@ -162,5 +162,10 @@ fn main() {
         ("device-lsr-full", full, device_lsr),
         ("device-data-write", IDLE, device_data_write),
         ("device-byte-in-and-read", IDLE, device_byte_in_and_read),
+        (
+            "device-byte-in-and-read-enabled",
+            enabled,
+            device_byte_in_and_read,
+        ),
     ]);
 }

@@ -5,9 +5,12 @@ mod snapshot;
 use crate::errors::{ChipError, InputError};
 use crate::fixed::{FixedFifo, FixedWire, NoMarks, WIRE_ROOM};
 use bitflags::Flags;
-use uart_chip::{Character, Uart};
+use uart_chip::controlling::{ChipParts, cut};
+use uart_chip::receiving::{ReceiverParts, take_front};
+use uart_chip::transmitting::TransmitterParts;
+use uart_chip::{Character, Origin, Uart, room_of};
 use uart_events::{Chip, MAX_CHAR_TICKS};
-use uart_spec::registers::{LSR, MSR};
+use uart_spec::registers::{LSR, MSR, offsets};
 
 // A chip all of whose memory is in arrays, without a schedule. So no call can be refused memory.
 // The wire has room for 64 bytes, as in the library for C: its owner takes them after each `ticks`.
@@ -191,6 +194,89 @@ impl LiveChip {
         self.uart.send_at_once(value);
     }
 
+    /// Notes that a byte which the guest writes to DATA was taken, and does not go onto the wire.
+    /// Returns whether that is possible: whether the chip
+    /// [`sends_at_once`](Self::sends_at_once). If it is not, nothing changes.
+    ///
+    /// If the wire is empty, this does the same as `send_at_once` and `take_wire(1)`, whatever the
+    /// byte is.
+    #[inline]
+    pub fn pass_wire(&mut self) -> bool {
+        let sends = self.uart.sends_at_once();
+        if sends {
+            self.uart.transmitter_mut().set_thr_pending(true);
+        }
+        sends
+    }
+
+    /// Returns the byte that is sent if the guest writes this value to DATA: cut to the word length
+    /// if the chip cuts characters, else the value itself.
+    #[inline]
+    pub fn cut(&self, value: u8) -> u8 {
+        cut(&self.uart, value)
+    }
+
+    /// Receives a byte without errors, if there is room for it. Returns whether there is. If not,
+    /// nothing changes.
+    ///
+    /// The effect is that of [`LiveChip::arrive`]. Most input is of this kind.
+    #[inline]
+    pub fn arrive_in_room(&mut self, byte: u8) -> bool {
+        let room = room_of(self.uart.fifo());
+        if self.uart.is_loopback() || self.uart.receiver().queue_len() >= room {
+            return false;
+        }
+        // Of what can become of an arrival this is the first case, without a test of the others.
+        let byte = cut(&self.uart, byte);
+        let receiver = self.uart.receiver_mut();
+        receiver.put(Character {
+            byte,
+            errors: 0,
+            origin: Origin::Live,
+        });
+        receiver.set_timeout_ticks(0);
+        receiver.set_unscheduled_lost(false);
+        true
+    }
+
+    /// Returns whether the guest has an interrupt enabled. If not, the interrupt line is down.
+    #[inline]
+    pub fn has_interrupts_on(&self) -> bool {
+        !self.uart.ier().is_empty()
+    }
+
+    /// Reads DATA for the guest, as [`LiveChip::read`] does.
+    #[inline]
+    pub fn read_data(&mut self) -> u8 {
+        if self.uart.is_dlab_set() {
+            return self.uart.read(offsets::DATA as u8);
+        }
+        take_front(self.uart.receiver_mut())
+    }
+
+    /// Reads LSR for the guest, if it shows no error and no character that waits has one. Otherwise
+    /// returns `None`, and nothing changes.
+    ///
+    /// The value and the effect are those of [`LiveChip::read`]. A guest that waits makes this read
+    /// again and again.
+    #[inline]
+    pub fn read_clear_status(&mut self) -> Option<u8> {
+        if self.uart.receiver().has_errors() {
+            return None;
+        }
+        let receiver = self.uart.receiver().status();
+        let status = receiver.union(self.uart.transmitter().status());
+        if status.intersects(LSR::LINE_ERRORS) {
+            return None;
+        }
+        // Without an error there is nothing to clear. All that is new is that the front was
+        // reported.
+        if self.uart.receiver().queue_len() > 0 {
+            self.uart.receiver_mut().set_front_reported(true);
+        }
+        Some(status.bits())
+    }
+
     /// Lets `count` ticks pass. Returns the number of jumps that this took, which is at most 18,
     /// whatever `count` is.
     ///
@@ -320,6 +406,7 @@ impl LiveChip {
     /// }
     /// # }
     /// ```
+    #[inline]
     pub fn is_interrupting(&self) -> bool {
         self.uart.is_interrupting()
     }

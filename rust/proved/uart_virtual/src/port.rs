@@ -172,7 +172,7 @@ pub fn tell(seen: Seen, was_up: bool, told: &mut Told, kind: Kind) -> Todo {
 }
 
 // Returns what is to be told after a call, and notes that it was told.
-#[inline]
+#[inline(always)]
 fn decide(chip: &LiveChip, was_up: bool, told: &mut Told, kind: Kind) -> Todo {
     let has_room = chip.receive_room() != 0;
     let seen = Seen {
@@ -242,6 +242,11 @@ fn read(chip: &mut LiveChip, offset: u8, told: &mut Told) -> Answer {
         let todo = finish_read(chip, told, kind_of_read(offset));
         Answer { value, todo }
     }
+}
+
+// Returns whether a fall of the line within a call makes no difference to what is told.
+fn ignores_falls(told: Told) -> bool {
+    !told.line || told.spare != 0
 }
 
 // Returns whether a write can be made by `send`: it is a byte that meets an idle transmitter, and
@@ -351,6 +356,81 @@ impl VirtualPort {
         read(&mut self.chip, offset, &mut self.told)
     }
 
+    /// Reads LSR for the guest, if it shows no error and no character that waits has one. Then the
+    /// monitor has nothing to do. Otherwise returns `None`, and nothing changes.
+    ///
+    /// The value and the effect are those of [`VirtualPort::read`]. A guest that waits makes this
+    /// read again and again.
+    #[inline]
+    pub fn read_clear_status(&mut self) -> Option<u8> {
+        self.chip.read_clear_status()
+    }
+
+    // Returns whether a read of DATA leaves nothing to be told.
+    #[inline]
+    fn reads_polled(&self) -> bool {
+        let is_polled = !self.chip.has_interrupts_on();
+        is_polled && (self.told.has_room && self.told.spare == 0)
+    }
+
+    /// Reads DATA for a guest that polls: if no interrupt is enabled, no signal covers others, and
+    /// there is room for input. Then the monitor has nothing to do. Otherwise returns `None`, and
+    /// nothing changes.
+    ///
+    /// The value and the effect are those of [`VirtualPort::read`].
+    #[inline]
+    pub fn read_polled(&mut self) -> Option<u8> {
+        if !self.reads_polled() {
+            return None;
+        }
+        let value = self.chip.read_data();
+        LiveChip::expire_timeout(&mut self.chip);
+        Some(value)
+    }
+
+    // Returns whether a byte that the guest writes to DATA would be alone on the output at once,
+    // and a fall of the line makes no difference.
+    #[inline]
+    fn passes(&self) -> bool {
+        let is_empty = self.chip.wire_room() == WIRE_ROOM;
+        ignores_falls(self.told) && (is_empty && self.chip.sends_at_once())
+    }
+
+    /// Returns the byte that goes out if the guest writes this value to DATA, if the host can take
+    /// it before it is on the output: if nothing is before it there, and the transmitter is idle.
+    ///
+    /// If the host takes it, call `pass`; if not, `write`.
+    #[inline]
+    pub fn passing(&self, value: u8) -> Option<u8> {
+        if self.passes() {
+            Some(self.chip.cut(value))
+        } else {
+            None
+        }
+    }
+
+    /// Notes that the guest wrote a byte to DATA, and that the host took it. Returns what the
+    /// monitor has to do, or `None` if [`passing`](Self::passing) returns that: then nothing
+    /// changes.
+    ///
+    /// The port is as after `write` and `take_output(1)`, and what has to be done is the same.
+    #[inline]
+    pub fn pass(&mut self) -> Option<Todo> {
+        if !self.passes() {
+            return None;
+        }
+        let _passed = self.chip.pass_wire();
+        // There is as much room for input as there was.
+        let seen = Seen {
+            level: self.chip.is_interrupting(),
+            has_room: self.told.has_room,
+            fifo: self.chip.has_fifo_on(),
+            ready: 0,
+        };
+        let kind = kind_of_write(offsets::DATA as u8);
+        Some(tell(seen, false, &mut self.told, kind))
+    }
+
     /// Writes a value to the register at this offset for the guest. Returns what the monitor has to
     /// do.
     ///
@@ -406,6 +486,21 @@ impl VirtualPort {
         receive_all(&mut self.chip, &input[..count]);
         let todo = finish_unmoved(&mut self.chip, &mut self.told, kind);
         Received { count, todo }
+    }
+
+    /// Receives a byte for a guest that polls: if no interrupt is enabled, and there is room for
+    /// the byte. Then the monitor has nothing to do. Otherwise returns `false`, and nothing
+    /// changes.
+    ///
+    /// The effect is that of [`VirtualPort::receive`].
+    #[inline]
+    pub fn receive_polled(&mut self, byte: u8) -> bool {
+        if self.chip.has_interrupts_on() || !self.chip.arrive_in_room(byte) {
+            return false;
+        }
+        LiveChip::expire_timeout(&mut self.chip);
+        self.told.has_room = self.chip.receive_room() != 0;
+        true
     }
 
     /// Receives a character with these errors: parity, framing and break, as bits of LSR. Returns

@@ -1,0 +1,70 @@
+-- A byte that is taken as soon as it is written, and reads of LSR that show no error.
+use Rattle.std.proofs.Common.{◌≡◌, ℕ, Bool, true, false, not, ◌&&◌, ◌==◌, List, [], ◌∷◌, ◌++◌, length, drop, bit_and, refl, ap, sym, ◌∙◌}
+use Rattle.std.proofs.Common.{subst, arith, if◌then◌else◌}
+use Rattle.std.proofs.lemmas.Grind.{common_steps}
+use Rattle.uart_chip.proofs.Bits.{has_and, has_none}
+use Rattle.uart_chip.proofs.statuses.Status.{status_overrun}
+use Rattle.uart_chip.specs.Chip.{ChipState, after_read, cut_of, line_status, take_wire}
+use Rattle.uart_chip.proofs.soundness.Sounds.{steady_transmitter}
+use Rattle.uart_chip.specs.Sending.{send_at_once}
+use Rattle.uart_live.proofs.Lives.{live-part}
+use Rattle.uart_live.specs.Live.{IsLive}
+use Rattle.uart_live.specs.Quick.{passed}
+use Rattle.uart_spec.specs.Bits.{has_any}
+use Rattle.uart_spec.specs.declared.registers.line_status.TheConstants.LSR
+use Rattle.uart_spec.specs.declared.registers.offsets.TheConstants as offsets
+
+-- on an empty wire the byte would be alone, and then it is taken
+pub pass : (value : ℕ) (c : ChipState) → c.transmitter.wire ≡ [] → passed c ≡ take_wire 1 (send_at_once value c)
+pass value c none =
+    ap (λ (wire : List ℕ). record c { transmitter = record c.transmitter { wire = wire; is_thr_pending = true } })
+    (none ∙ ap (λ (wire : List ℕ). drop 1 (wire ++ cut_of c value ∷ [])) (sym none))
+
+pub live-pass : (c : ChipState) → IsLive c → IsLive (passed c)
+live-pass c w =
+    let t = w.whole.sound.chip.transmitter in
+    live-part c (passed c) w
+    (steady_transmitter c (record c.transmitter { is_thr_pending = true }) w.whole.sound.chip (record {
+      in_room = t.in_room;
+      ticking = t.ticking;
+      at_least_one = t.at_least_one;
+      at_most = t.at_most;
+      on_wire = t.on_wire;
+    }) refl) refl
+    (w.none_lost, w.room)
+
+-- ---- reads of LSR
+
+no_bits : (n : ℕ) → not (n == 0) ≡ false → n ≡ 0
+no_bits n e = grind (arith, common_steps)
+
+-- LSR shows no error, so no character was lost
+no_overrun : (c : ChipState) → has_any (line_status c) LSR.LINE_ERRORS.0 ≡ false → c.receiver.is_overrun ≡ false
+no_overrun c e =
+    sym (status_overrun c) ∙ (sym (has_and 1 (line_status c) LSR.LINE_ERRORS.0 refl) ∙
+    (ap (λ (n : ℕ). has_any n LSR.OVERRUN_ERROR.0) (no_bits (bit_and (line_status c) LSR.LINE_ERRORS.0) e) ∙ has_none 1))
+
+-- then a read of it leaves a chip in which no character waits
+pub clear_read : (c : ChipState) → has_any (line_status c) LSR.LINE_ERRORS.0 ≡ false → length c.receiver.queue ≡ 0 →
+    c ≡ after_read offsets.LSR c
+clear_read c e none =
+    ap (λ (overrun : Bool). record c { receiver = record c.receiver { is_overrun = overrun } }) (no_overrun c e) ∙
+    ap (λ (n : ℕ). record c {
+      receiver = record c.receiver {
+        is_overrun = false;
+        is_front_reported = if n == 0 then c.receiver.is_front_reported else true;
+      };
+    }) (sym none)
+
+-- and has the front reported, if one waits
+pub clear_report : (c : ChipState) → has_any (line_status c) LSR.LINE_ERRORS.0 ≡ false → (length c.receiver.queue == 0) ≡ false →
+    record c { receiver = record c.receiver { is_front_reported = true } } ≡ after_read offsets.LSR c
+clear_report c e some =
+    ap (λ (overrun : Bool). record c { receiver = record c.receiver { is_overrun = overrun; is_front_reported = true } })
+    (no_overrun c e) ∙
+    ap (λ (none : Bool). record c {
+      receiver = record c.receiver {
+        is_overrun = false;
+        is_front_reported = if none then c.receiver.is_front_reported else true;
+      };
+    }) (sym some)

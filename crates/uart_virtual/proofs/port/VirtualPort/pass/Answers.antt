@@ -1,0 +1,90 @@
+use Rattle.std.proofs.Common.{◌≡◌, ◌∙◌, ap, sym, subst, ℕ, true, false, refl}
+use Rattle.uart_spec.specs.declared.registers.offsets.TheConstants as offsets
+use Rattle.uart_chip.specs.Chip.{ChipState}
+use Rattle.uart_live.specs.Quick.{passed}
+use Rattle.uart_virtual.specs.declared.told.Kind.{Kind}
+use Rattle.uart_virtual.specs.declared.told.Seen.{Seen}
+use Rattle.uart_virtual.specs.Port.{PortState, IsPort, Write, TakeOutput, after, todo, nothing_new, passes, tell, todo_of, is_up}
+use Rattle.uart_virtual.proofs.Passes.{sending, passing_parts, seen_passed, passed_port, is_passed, taken_after, same_some}
+use Rattle.uart_virtual.proofs.Passes.{pass_todo, pass_taken}
+use Rattle.uart_virtual.proofs.port.VirtualPort.pass.Goals as goal
+
+pub invariant_of-self : goal.invariant_of-self
+invariant_of-self c =
+    let p : PortState = record { chip = c.self.inside.chip; told = c.self.inside.told } in
+    let e : passes p ≡ true =
+    ap (λ (q : PortState). passes q) c.self.view_is ∙ (sym c.passes.ensures ∙ c.if-not-passes.false) in
+    let chip : c.pass_wire-passed.new.self ≡ passed p.chip =
+    c.pass_wire-passed.ensures.passed (c.pass_wire-passed.ensures.sends ∙ (passing_parts p e).sends) in
+    let shown : Seen = record {
+      level = c.is_interrupting.result;
+      has_room = c.self.inside.told.has_room;
+      fifo = c.has_fifo_on.result;
+      ready = 0;
+    } in
+    let seen =
+    seen_passed p.chip p.told shown c.self.invariant.told (passing_parts p e).none
+    (c.is_interrupting.ensures.pending ∙ ap (λ (x : ChipState). is_up x) chip) refl
+    (c.has_fifo_on.ensures ∙ ap (λ (x : ChipState). x.fifo) chip) refl in
+    let told : c.tell.new.told ≡ tell sending false (passed p.chip) p.told =
+    c.tell.ensures.told (passed p.chip) seen ∙
+    ap (λ (kind : Kind). tell kind false (passed p.chip) p.told) c.kind_of_write-kind.ensures in
+    subst (λ (q : PortState). IsPort q) (sym (is_passed p c.pass_wire-passed.new.self c.tell.new.told chip told))
+    (passed_port p c.self.invariant)
+
+pub returns-clause-after : goal.returns-clause-after
+returns-clause-after c = λ value _.
+    let p : PortState = record { chip = c.self.inside.chip; told = c.self.inside.told } in
+    let e : passes p ≡ true =
+    ap (λ (q : PortState). passes q) c.self.view_is ∙ (sym c.passes.ensures ∙ c.if-not-passes.false) in
+    let chip : c.pass_wire-passed.new.self ≡ passed p.chip =
+    c.pass_wire-passed.ensures.passed (c.pass_wire-passed.ensures.sends ∙ (passing_parts p e).sends) in
+    let shown : Seen = record {
+      level = c.is_interrupting.result;
+      has_room = c.self.inside.told.has_room;
+      fifo = c.has_fifo_on.result;
+      ready = 0;
+    } in
+    let seen =
+    seen_passed p.chip p.told shown c.self.invariant.told (passing_parts p e).none
+    (c.is_interrupting.ensures.pending ∙ ap (λ (x : ChipState). is_up x) chip) refl
+    (c.has_fifo_on.ensures ∙ ap (λ (x : ChipState). x.fifo) chip) refl in
+    let told : c.tell.new.told ≡ tell sending false (passed p.chip) p.told =
+    c.tell.ensures.told (passed p.chip) seen ∙
+    ap (λ (kind : Kind). tell kind false (passed p.chip) p.told) c.kind_of_write-kind.ensures in
+    is_passed p c.pass_wire-passed.new.self c.tell.new.told chip told ∙
+    (sym (taken_after value p c.pass_wire-passed.ensures.live c.self.invariant e) ∙
+    ap (λ (q : PortState). after (TakeOutput 1) (after (Write offsets.DATA value) q)) c.self.view_is)
+
+pub returns-clause-todo : goal.returns-clause-todo
+returns-clause-todo c = λ value it same.
+    let p : PortState = record { chip = c.self.inside.chip; told = c.self.inside.told } in
+    let e : passes p ≡ true =
+    ap (λ (q : PortState). passes q) c.self.view_is ∙ (sym c.passes.ensures ∙ c.if-not-passes.false) in
+    let chip : c.pass_wire-passed.new.self ≡ passed p.chip =
+    c.pass_wire-passed.ensures.passed (c.pass_wire-passed.ensures.sends ∙ (passing_parts p e).sends) in
+    let shown : Seen = record {
+      level = c.is_interrupting.result;
+      has_room = c.self.inside.told.has_room;
+      fifo = c.has_fifo_on.result;
+      ready = 0;
+    } in
+    let seen =
+    seen_passed p.chip p.told shown c.self.invariant.told (passing_parts p e).none
+    (c.is_interrupting.ensures.pending ∙ ap (λ (x : ChipState). is_up x) chip) refl
+    (c.has_fifo_on.ensures ∙ ap (λ (x : ChipState). x.fifo) chip) refl in
+    let result : c.tell.result ≡ todo_of sending false (passed p.chip) p.told =
+    c.tell.ensures.todo (passed p.chip) seen ∙
+    ap (λ (kind : Kind). todo_of kind false (passed p.chip) p.told) c.kind_of_write-kind.ensures in
+    sym (same_some c.tell.result it same) ∙
+    (pass_todo value p c.tell.result c.pass_wire-passed.ensures.live c.self.invariant e result ∙
+    ap (λ (q : PortState). record (todo (Write offsets.DATA value) q) { ready = 0 }) c.self.view_is)
+
+pub returns-clause-taken : goal.returns-clause-taken
+returns-clause-taken c = λ value _.
+    let p : PortState = record { chip = c.self.inside.chip; told = c.self.inside.told } in
+    let e : passes p ≡ true =
+    ap (λ (q : PortState). passes q) c.self.view_is ∙ (sym c.passes.ensures ∙ c.if-not-passes.false) in
+    subst (λ (q : PortState). todo (TakeOutput 1) (after (Write offsets.DATA value) q) ≡
+    nothing_new (after (TakeOutput 1) (after (Write offsets.DATA value) q))) c.self.view_is
+    (pass_taken value p c.pass_wire-passed.ensures.live c.self.invariant e)

@@ -1,0 +1,32 @@
+use Rattle.std.proofs.Common.{◌≡◌, ◌∙◌, ap, sym, subst}
+use Rattle.uart_spec.specs.declared.registers.offsets.TheConstants as offsets
+use Rattle.uart_chip.specs.Chip.{ChipState, after_read}
+use Rattle.uart_live.proofs.Lives.{live-expire, live-read}
+use Rattle.uart_live.specs.Held.{expire}
+use Rattle.uart_live.specs.Live.{IsLive}
+use Rattle.uart_virtual.specs.Port.{PortState, Read, after, todo, nothing_new, reads_polled}
+use Rattle.uart_virtual.proofs.Polls.{ReadsPolled, reads_parts, did_read, read_todo}
+use Rattle.uart_virtual.proofs.port.VirtualPort.read_polled.Goals as goal
+
+pub returns-clause-read : goal.returns-clause-read
+returns-clause-read c = λ _.
+    let p : PortState = record { chip = c.self.inside.chip; told = c.self.inside.told } in
+    let parts : ReadsPolled p =
+    reads_parts p (ap (λ (q : PortState). reads_polled q) c.self.view_is ∙
+    (sym c.reads_polled.ensures ∙ c.if-not-reads_polled.false)) in
+    let w : IsLive (expire (after_read offsets.DATA p.chip)) =
+    live-expire _ (live-read offsets.DATA p.chip c.read_data-value.ensures.live) in
+    did_read p c.expire_timeout.new.self w c.self.invariant parts
+    (c.expire_timeout.ensures ∙ ap (λ (x : ChipState). expire x) c.read_data-value.ensures.after) ∙
+    ap (λ (q : PortState). after (Read offsets.DATA) q) c.self.view_is
+
+pub returns-clause-todo : goal.returns-clause-todo
+returns-clause-todo c = λ _.
+    let p : PortState = record { chip = c.self.inside.chip; told = c.self.inside.told } in
+    let parts : ReadsPolled p =
+    reads_parts p (ap (λ (q : PortState). reads_polled q) c.self.view_is ∙
+    (sym c.reads_polled.ensures ∙ c.if-not-reads_polled.false)) in
+    let w : IsLive (expire (after_read offsets.DATA p.chip)) =
+    live-expire _ (live-read offsets.DATA p.chip c.read_data-value.ensures.live) in
+    subst (λ (q : PortState). todo (Read offsets.DATA) q ≡ nothing_new q) c.self.view_is
+    (read_todo p w c.self.invariant parts.off parts.room)
