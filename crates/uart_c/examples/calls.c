@@ -9,7 +9,7 @@
 #include <stdlib.h>
 #include <string.h>
 
-enum { CALLS = UART_RESTORE + 1, ANSWERS = UART_ANSWER_FIFOS_OFF + 1 };
+enum { CALLS = UART_CHECK_CONFIGURED + 1, ANSWERS = UART_ANSWER_NOT_CONFIGURED + 1 };
 enum { SPIN_LIMIT = 3, TAPE_ROOM = 256 };
 
 /* How the driver is before a call, beside what a new one is. */
@@ -54,6 +54,9 @@ struct row {
     HIT("68") HIT("65") HIT("6c") HIT("6c") HIT("6f") HIT("20") HIT("77") HIT("6f") HIT("72") HIT("6c") HIT("64") HIT("21") \
     HIT("31") HIT("33") HIT("33")
 #define LATCH "r3=1b w3=9b r0=80 r1=01 w3=1b "
+/* As a driver that was just made expects them: 9600 baud, eight data bits, no interrupts; and the divisor latch is opened. */
+#define CHECKED "r3=03 r4=0b r1=00 r3=03 w3=83 "
+#define DIFFERENCE(which, text) {.kind = UART_ANSWER_NOT_CONFIGURED, .value = which, .count = 4, .bytes = text}
 #define THREE_MISSES "r5=00 r5=00 r5=00 "
 
 static const struct row rows[] = {
@@ -164,6 +167,20 @@ static const struct row rows[] = {
      "w3=00 w1=00 w3=80 w0=80 w1=01 w3=00 w3=1b w2=c7 r2=c1 w4=0b w7=a5 w1=05 ", DONE},
     {"restore, no FIFO", NEW, BYTES(UART_RESTORE, "\x05\x01\x1b\x0b\x60\xb0\xa5\x80\x01"),
      "w3=00 w1=00 w3=80 w0=80 w1=01 w3=00 w3=1b w2=06 w4=0b w7=a5 w1=05 ", DONE},
+    {"check_configured", NEW, BYTE(UART_CHECK_CONFIGURED, 0x1b),
+     CHECKED "r3=83 r0=0c r1=00 w3=03 r3=03 w1=00 r2=c1 w1=00 ", DONE},
+    {"check_configured, another frame", NEW, BYTE(UART_CHECK_CONFIGURED, 0x0b), "r3=07 ",
+     DIFFERENCE(UART_CONFIGURATION_LINE_CONTROL, "\x03\0\x07")},
+    {"check_configured, LCR is ignored", NEW, BYTE(UART_CHECK_CONFIGURED, 0x0b), CHECKED "r3=03 w3=03 ",
+     DIFFERENCE(UART_CONFIGURATION_LINE_CONTROL, "\x83\0\x03")},
+    {"check_configured, other outputs", NEW, BYTE(UART_CHECK_CONFIGURED, 0x09), "r3=03 r4=0b ",
+     DIFFERENCE(UART_CONFIGURATION_MODEM_CONTROL, "\x09\0\x0b")},
+    {"check_configured, other interrupts", NEW, BYTE(UART_CHECK_CONFIGURED, 0x0b), "r3=03 r4=0b r1=05 ",
+     DIFFERENCE(UART_CONFIGURATION_INTERRUPTS, "\0\0\x05")},
+    {"check_configured, another divisor", NEW, BYTE(UART_CHECK_CONFIGURED, 0x0b), CHECKED "r3=83 r0=80 r1=01 w3=03 r3=03 ",
+     DIFFERENCE(UART_CONFIGURATION_DIVISOR, "\x0c\0\x80\x01")},
+    {"check_configured, no FIFO", NO_FIFO, BYTE(UART_CHECK_CONFIGURED, 0x0b),
+     CHECKED "r3=83 r0=0c r1=00 w3=03 r3=03 w1=00 r2=c1 w1=00 ", DIFFERENCE(UART_CONFIGURATION_FIFOS, "\0\0\x01")},
 };
 
 /* What is left of a row's list. */

@@ -69,7 +69,7 @@ int main(void)
                              .byte = 1, .len = 3, .bytes = "abc"};
 
     alarm(MOST_SECONDS);
-    for (call.kind = UART_INIT; call.kind <= UART_RESTORE; call.kind++) {
+    for (call.kind = UART_INIT; call.kind <= UART_CHECK_CONFIGURED; call.kind++) {
         call.len = call.kind == UART_RESTORE ? 9 : 3;
         for (int flags = 0; flags < 4; flags++)
             for (size_t i = 0; i < sizeof devices / sizeof *devices; i++) {

@@ -494,7 +494,8 @@ enum uart_call_kind {
     UART_SET_FRAME_WHEN_IDLE = 40, /* as UART_SET_FRAME, once all that was sent is on the line */
     UART_SET_TRIGGER_LEVEL = 41, /* byte: 1, 4, 8 or 14; what is in the FIFOs stays */
     UART_QUIESCE = 42,          /* byte: as in MCR, without loopback; fifos. Disables all interrupts */
-    UART_RESTORE = 43           /* bytes and len, which is 9: as an answer to UART_DUMP has them; empties the FIFOs */
+    UART_RESTORE = 43,          /* bytes and len, which is 9: as an answer to UART_DUMP has them; empties the FIFOs */
+    UART_CHECK_CONFIGURED = 44  /* byte: the outputs that are expected, as in MCR; whether the chip kept what was written */
 };
 
 /* When an initialisation waits until the transmitter is empty. */
@@ -555,7 +556,12 @@ enum uart_answer_kind {
     UART_ANSWER_ATTACH_REFUSED = 15, /* value: an enum uart_attach_error */
     UART_ANSWER_BYTES_WITH_ERRORS = 16, /* bytes, errors and count: each byte, and its errors in the same place */
     UART_ANSWER_FRAME_WHEN_IDLE_REFUSED = 17, /* value: an enum uart_frame_error */
-    UART_ANSWER_FIFOS_OFF = 18       /* a trigger level was not set: the FIFOs are off */
+    UART_ANSWER_FIFOS_OFF = 18,      /* a trigger level was not set: the FIFOs are off */
+    /*
+     * value: an enum uart_configuration_error. bytes and count, which is 4, or 0 without a divisor: what was expected and what is
+     * shown, each with its low byte first; of the FIFOs 1 for on and 0 for off
+     */
+    UART_ANSWER_NOT_CONFIGURED = 19
 };
 
 /* Why an initialisation failed. */
@@ -576,6 +582,16 @@ enum uart_frame_error {
 enum uart_attach_error {
     UART_ATTACH_DIVISOR_LATCH_OPEN = 0, /* UART_LCR_DLAB is set */
     UART_ATTACH_LOOPBACK = 1         /* the chip is in loopback */
+};
+
+/* What does not show what was written. The first difference is told. */
+enum uart_configuration_error {
+    UART_CONFIGURATION_NO_DIVISOR = 0, /* the driver's configuration has no divisor; no access was made */
+    UART_CONFIGURATION_LINE_CONTROL = 1, /* LCR shows another frame; or UART_LCR_DLAB was not set or not cleared */
+    UART_CONFIGURATION_MODEM_CONTROL = 2, /* MCR shows other outputs, or loopback */
+    UART_CONFIGURATION_INTERRUPTS = 3,
+    UART_CONFIGURATION_DIVISOR = 4,
+    UART_CONFIGURATION_FIFOS = 5     /* ISR shows FIFOs that are on where the driver takes them to be off, or the other way round */
 };
 
 /* Why a loopback test failed. */

@@ -58,6 +58,7 @@ init_runs u (call.SetFrameWhenIdle config) p q runs = absurd (omega (arith, p, q
 init_runs u (call.SetTriggerLevel level) p q runs = absurd (omega (arith, p, q.0))
 init_runs u (call.Quiesce outputs fifos) p q runs = absurd (omega (arith, p, q.0))
 init_runs u (call.Restore dump) p q runs = absurd (omega (arith, p, q.0))
+init_runs u (call.CheckConfigured outputs) p q runs = absurd (omega (arith, p, q.0))
 init_runs u call.Next p q runs = absurd q
 init_runs u (call.Text text) p q runs = absurd q
 
@@ -108,6 +109,7 @@ set_frame_runs u (call.SetFrameWhenIdle config) p q runs = absurd (omega (arith,
 set_frame_runs u (call.SetTriggerLevel level) p q runs = absurd (omega (arith, p, q.0))
 set_frame_runs u (call.Quiesce outputs fifos) p q runs = absurd (omega (arith, p, q.0))
 set_frame_runs u (call.Restore dump) p q runs = absurd (omega (arith, p, q.0))
+set_frame_runs u (call.CheckConfigured outputs) p q runs = absurd (omega (arith, p, q.0))
 set_frame_runs u call.Next p q runs = absurd q
 set_frame_runs u (call.Text text) p q runs = absurd q
 
@@ -158,6 +160,7 @@ init_with_runs u (call.SetFrameWhenIdle config) p q runs = absurd (omega (arith,
 init_with_runs u (call.SetTriggerLevel level) p q runs = absurd (omega (arith, p, q.0))
 init_with_runs u (call.Quiesce outputs fifos) p q runs = absurd (omega (arith, p, q.0))
 init_with_runs u (call.Restore dump) p q runs = absurd (omega (arith, p, q.0))
+init_with_runs u (call.CheckConfigured outputs) p q runs = absurd (omega (arith, p, q.0))
 init_with_runs u call.Next p q runs = absurd q
 init_with_runs u (call.Text text) p q runs = absurd q
 
@@ -208,6 +211,7 @@ set_frame_when_idle_runs u (call.SetFrameWhenIdle config) p q runs = subst (λ (
 set_frame_when_idle_runs u (call.SetTriggerLevel level) p q runs = absurd (omega (arith, p, q.0))
 set_frame_when_idle_runs u (call.Quiesce outputs fifos) p q runs = absurd (omega (arith, p, q.0))
 set_frame_when_idle_runs u (call.Restore dump) p q runs = absurd (omega (arith, p, q.0))
+set_frame_when_idle_runs u (call.CheckConfigured outputs) p q runs = absurd (omega (arith, p, q.0))
 set_frame_when_idle_runs u call.Next p q runs = absurd q
 set_frame_when_idle_runs u (call.Text text) p q runs = absurd q
 
@@ -257,6 +261,7 @@ receive_runs u (call.SetFrameWhenIdle config) p q runs = absurd (omega (arith, p
 receive_runs u (call.SetTriggerLevel level) p q runs = absurd (omega (arith, p, q.0))
 receive_runs u (call.Quiesce outputs fifos) p q runs = absurd (omega (arith, p, q.0))
 receive_runs u (call.Restore dump) p q runs = absurd (omega (arith, p, q.0))
+receive_runs u (call.CheckConfigured outputs) p q runs = absurd (omega (arith, p, q.0))
 receive_runs u call.Next p q runs = absurd q
 receive_runs u (call.Text text) p q runs = absurd q
 
@@ -306,6 +311,7 @@ receive_exact_runs u (call.SetFrameWhenIdle config) p q runs = absurd (omega (ar
 receive_exact_runs u (call.SetTriggerLevel level) p q runs = absurd (omega (arith, p, q.0))
 receive_exact_runs u (call.Quiesce outputs fifos) p q runs = absurd (omega (arith, p, q.0))
 receive_exact_runs u (call.Restore dump) p q runs = absurd (omega (arith, p, q.0))
+receive_exact_runs u (call.CheckConfigured outputs) p q runs = absurd (omega (arith, p, q.0))
 receive_exact_runs u call.Next p q runs = absurd q
 receive_exact_runs u (call.Text text) p q runs = absurd q
 
@@ -355,6 +361,7 @@ read_runs u (call.SetFrameWhenIdle config) p q runs = absurd (omega (arith, p, q
 read_runs u (call.SetTriggerLevel level) p q runs = absurd (omega (arith, p, q.0))
 read_runs u (call.Quiesce outputs fifos) p q runs = absurd (omega (arith, p, q.0))
 read_runs u (call.Restore dump) p q runs = absurd (omega (arith, p, q.0))
+read_runs u (call.CheckConfigured outputs) p q runs = absurd (omega (arith, p, q.0))
 read_runs u call.Next p q runs = absurd q
 read_runs u (call.Text text) p q runs = absurd q
 
@@ -405,6 +412,7 @@ receive_with_errors_runs u (call.SetFrameWhenIdle config) p q runs = absurd (ome
 receive_with_errors_runs u (call.SetTriggerLevel level) p q runs = absurd (omega (arith, p, q.0))
 receive_with_errors_runs u (call.Quiesce outputs fifos) p q runs = absurd (omega (arith, p, q.0))
 receive_with_errors_runs u (call.Restore dump) p q runs = absurd (omega (arith, p, q.0))
+receive_with_errors_runs u (call.CheckConfigured outputs) p q runs = absurd (omega (arith, p, q.0))
 receive_with_errors_runs u call.Next p q runs = absurd q
 receive_with_errors_runs u (call.Text text) p q runs = absurd q
 
@@ -457,6 +465,7 @@ runs_as u (call.SetFrameWhenIdle config) b p q runs =
 runs_as u (call.SetTriggerLevel level) b p q runs = tt
 runs_as u (call.Quiesce outputs fifos) b p q runs = tt
 runs_as u (call.Restore dump) b p q runs = tt
+runs_as u (call.CheckConfigured outputs) b p q runs = tt
 runs_as u call.Next b p q runs = tt
 runs_as u (call.Text text) b p q runs = tt
 

@@ -1,5 +1,5 @@
 -- The calls of the driver, their accesses and their answers, as data of C.
-use Rattle.std.specs.Prelude.{◌≡◌, ℕ, List, [], ◌∷◌, ◌++◌, ◌-◌, take, length, replicate, map, if◌then◌else◌}
+use Rattle.std.specs.Prelude.{◌≡◌, ℕ, List, [], ◌∷◌, ◌++◌, ◌-◌, ◌/◌, ◌%◌, take, length, replicate, map, if◌then◌else◌}
 use Rattle.uart_spec.specs.declared.dump.ConfigRegisterDump.{ConfigRegisterDump}
 use Rattle.uart_c.specs.Driver.{config_of}
 use Rattle.uart_c.specs.Queue.{is_on}
@@ -21,6 +21,8 @@ use Rattle.uart_spec.specs.declared.errors.AttachError.{AttachError}
 use Rattle.uart_spec.specs.declared.errors.AttachError.TheVariants as attach_error
 use Rattle.uart_spec.specs.declared.errors.ByteSendError.{ByteSendError}
 use Rattle.uart_spec.specs.declared.errors.ByteSendError.TheVariants as send_error
+use Rattle.uart_spec.specs.declared.errors.ConfigurationError.{ConfigurationError}
+use Rattle.uart_spec.specs.declared.errors.ConfigurationError.TheVariants as configuration_error
 use Rattle.uart_spec.specs.declared.errors.FrameError.{FrameError}
 use Rattle.uart_spec.specs.declared.errors.FrameError.TheVariants as idle_error
 use Rattle.uart_spec.specs.declared.errors.InitError.{InitError}
@@ -121,6 +123,7 @@ IsCall c (call.SetTriggerLevel level) = (c.kind ≡ code.UART_SET_TRIGGER_LEVEL)
 IsCall c (call.Quiesce outputs fifos) =
     (c.kind ≡ code.UART_QUIESCE) × (outputs.0 ≡ c.byte) × (c.fifos ≡ fifos_code fifos)
 IsCall c (call.Restore dump) = (c.kind ≡ code.UART_RESTORE) × IsGiven c (registers_of dump)
+IsCall c (call.CheckConfigured outputs) = (c.kind ≡ code.UART_CHECK_CONFIGURED) × (outputs.0 ≡ c.byte)
 IsCall c call.Next = ⊥
 IsCall c (call.Text text) = ⊥
 
@@ -187,6 +190,26 @@ abbrev pub attach_code : AttachError → ℕ
 attach_code attach_error.DivisorLatchOpen = code.UART_ATTACH_DIVISOR_LATCH_OPEN
 attach_code attach_error.Loopback = code.UART_ATTACH_LOOPBACK
 
+-- what does not show what was written; what was expected and what is shown, each with its low byte first
+abbrev pub different : (which expected shown : ℕ) → UartAnswer
+different which expected shown =
+    record (of_bytes code.UART_ANSWER_NOT_CONFIGURED
+    (expected % 256 ∷ expected / 256 ∷ shown % 256 ∷ shown / 256 ∷ [])) { value = which }
+
+abbrev pub not_configured : ConfigurationError → UartAnswer
+not_configured configuration_error.NoDivisor =
+    of_value code.UART_ANSWER_NOT_CONFIGURED code.UART_CONFIGURATION_NO_DIVISOR 0
+not_configured (configuration_error.LineControl expected shown) =
+    different code.UART_CONFIGURATION_LINE_CONTROL expected.0 shown.0
+not_configured (configuration_error.ModemControl expected shown) =
+    different code.UART_CONFIGURATION_MODEM_CONTROL expected.0 shown.0
+not_configured (configuration_error.Interrupts expected shown) =
+    different code.UART_CONFIGURATION_INTERRUPTS expected.0 shown.0
+not_configured (configuration_error.Divisor expected shown) =
+    different code.UART_CONFIGURATION_DIVISOR expected shown
+not_configured (configuration_error.Fifos expected shown) =
+    different code.UART_CONFIGURATION_FIFOS (flag expected 1) (flag shown 1)
+
 abbrev pub remote_code : RemoteReadyToReceiveError → ℕ
 remote_code remote_error.NoRemoteConnectedNoDSR = code.UART_REMOTE_NO_DSR
 remote_code remote_error.NoRemoteConnectedNoCD = code.UART_REMOTE_NO_CD
@@ -227,4 +250,5 @@ shown (answer.FrameWhenIdleRefused error) =
     of_value code.UART_ANSWER_FRAME_WHEN_IDLE_REFUSED (frame_when_idle_code error) 0
 shown answer.FifosOff = of_kind code.UART_ANSWER_FIFOS_OFF
 shown (answer.AttachRefused error) = of_value code.UART_ANSWER_ATTACH_REFUSED (attach_code error) 0
+shown (answer.NotConfigured error) = not_configured error
 shown (answer.BytesWithErrors received) = of_received received.items

@@ -10,22 +10,24 @@ use crate::codes::{
     UART_ANSWER_COUNT, UART_ANSWER_DONE, UART_ANSWER_DUMP, UART_ANSWER_FIFOS_OFF, UART_ANSWER_FLAG,
     UART_ANSWER_FRAME_REFUSED, UART_ANSWER_FRAME_WHEN_IDLE_REFUSED, UART_ANSWER_INIT_REFUSED,
     UART_ANSWER_LATCH, UART_ANSWER_LOOPBACK_REFUSED, UART_ANSWER_NO_DATA,
-    UART_ANSWER_NOT_CONNECTED, UART_ANSWER_NOT_SENT, UART_ANSWER_RECEIVE_STALLED,
-    UART_ANSWER_REGISTER, UART_ANSWER_STALLED, UART_ATTACH_DIVISOR_LATCH_OPEN,
-    UART_ATTACH_LOOPBACK, UART_FRAME_DIVISOR_OUT_OF_RANGE, UART_FRAME_NO_WHOLE_DIVISOR,
-    UART_FRAME_STALLED, UART_INIT_DEVICE_NOT_PRESENT, UART_INIT_INVALID_BAUD_RATE,
-    UART_INIT_STALLED, UART_LOOPBACK_SEND_ERROR, UART_LOOPBACK_STALLED,
-    UART_LOOPBACK_UNEXPECTED_BYTE, UART_LOOPBACK_UNEXPECTED_MSG, UART_REMOTE_NO_CD,
-    UART_REMOTE_NO_DSR, UART_REMOTE_NOT_CLEAR_TO_SEND, UART_SEND_NO_CAPACITY,
-    UART_SEND_REMOTE_NOT_CLEAR_TO_SEND,
+    UART_ANSWER_NOT_CONFIGURED, UART_ANSWER_NOT_CONNECTED, UART_ANSWER_NOT_SENT,
+    UART_ANSWER_RECEIVE_STALLED, UART_ANSWER_REGISTER, UART_ANSWER_STALLED,
+    UART_ATTACH_DIVISOR_LATCH_OPEN, UART_ATTACH_LOOPBACK, UART_CONFIGURATION_DIVISOR,
+    UART_CONFIGURATION_FIFOS, UART_CONFIGURATION_INTERRUPTS, UART_CONFIGURATION_LINE_CONTROL,
+    UART_CONFIGURATION_MODEM_CONTROL, UART_CONFIGURATION_NO_DIVISOR,
+    UART_FRAME_DIVISOR_OUT_OF_RANGE, UART_FRAME_NO_WHOLE_DIVISOR, UART_FRAME_STALLED,
+    UART_INIT_DEVICE_NOT_PRESENT, UART_INIT_INVALID_BAUD_RATE, UART_INIT_STALLED,
+    UART_LOOPBACK_SEND_ERROR, UART_LOOPBACK_STALLED, UART_LOOPBACK_UNEXPECTED_BYTE,
+    UART_LOOPBACK_UNEXPECTED_MSG, UART_REMOTE_NO_CD, UART_REMOTE_NO_DSR,
+    UART_REMOTE_NOT_CLEAR_TO_SEND, UART_SEND_NO_CAPACITY, UART_SEND_REMOTE_NOT_CLEAR_TO_SEND,
 };
 use arrayvec::ArrayVec;
 use bitflags::Flags;
 use uart_16550::ConfigRegisterDump;
 use uart_calls::{Answer, CALL_BYTES};
 use uart_spec::{
-    AttachError, ByteSendError, FrameError, InitError, InvalidDivisorError, LoopbackError,
-    Received, RemoteReadyToReceiveError,
+    AttachError, ByteSendError, ConfigurationError, FrameError, InitError, InvalidDivisorError,
+    LoopbackError, Received, RemoteReadyToReceiveError,
 };
 
 /// What a call returned. Which of the other fields count depends on its kind.
@@ -203,6 +205,55 @@ fn attach_error(error: AttachError) -> u8
     }
 }
 
+// What was expected and what is shown, each with its low byte first: a divisor has two bytes.
+fn different(which: u8, expected: u16, shown: u16) -> UartAnswer
+    ensures { result ≡ spec.different which expected shown }
+{
+    let bytes = [
+        (expected % 256) as u8,
+        (expected / 256) as u8,
+        (shown % 256) as u8,
+        (shown / 256) as u8,
+    ];
+    UartAnswer {
+        value: which,
+        ..of_bytes(UART_ANSWER_NOT_CONFIGURED, &bytes)
+    }
+}
+
+fn not_configured(error: &ConfigurationError) -> UartAnswer
+    ensures { result ≡ spec.not_configured error.now }
+{
+    match error {
+        ConfigurationError::NoDivisor => {
+            of_value(UART_ANSWER_NOT_CONFIGURED, UART_CONFIGURATION_NO_DIVISOR, 0)
+        }
+        ConfigurationError::LineControl { expected, shown } => different(
+            UART_CONFIGURATION_LINE_CONTROL,
+            u16::from(expected.bits()),
+            u16::from(shown.bits()),
+        ),
+        ConfigurationError::ModemControl { expected, shown } => different(
+            UART_CONFIGURATION_MODEM_CONTROL,
+            u16::from(expected.bits()),
+            u16::from(shown.bits()),
+        ),
+        ConfigurationError::Interrupts { expected, shown } => different(
+            UART_CONFIGURATION_INTERRUPTS,
+            u16::from(expected.bits()),
+            u16::from(shown.bits()),
+        ),
+        ConfigurationError::Divisor { expected, shown } => {
+            different(UART_CONFIGURATION_DIVISOR, *expected, *shown)
+        }
+        ConfigurationError::Fifos { expected, shown } => different(
+            UART_CONFIGURATION_FIFOS,
+            u16::from(*expected),
+            u16::from(*shown),
+        ),
+    }
+}
+
 fn remote_error(error: &RemoteReadyToReceiveError) -> u8
     ensures { result ≡ remote_code error.now }
 {
@@ -267,6 +318,7 @@ pub fn shown(answer: &Answer) -> UartAnswer
         Answer::AttachRefused(error) => {
             of_value(UART_ANSWER_ATTACH_REFUSED, attach_error(*error), 0)
         }
+        Answer::NotConfigured(error) => not_configured(error),
         Answer::BytesWithErrors(received) => of_received(received.as_slice()),
     }
 }

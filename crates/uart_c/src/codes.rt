@@ -112,6 +112,8 @@ pub const UART_QUIESCE: u8 = 42;
 
 pub const UART_RESTORE: u8 = 43;
 
+pub const UART_CHECK_CONFIGURED: u8 = 44;
+
 // When an initialisation waits until the transmitter is empty: `enum uart_wait`.
 
 pub const UART_WAIT_FIRST: u8 = 0;
@@ -180,6 +182,8 @@ pub const UART_ANSWER_FRAME_WHEN_IDLE_REFUSED: u8 = 17;
 
 pub const UART_ANSWER_FIFOS_OFF: u8 = 18;
 
+pub const UART_ANSWER_NOT_CONFIGURED: u8 = 19;
+
 // Why an initialisation failed: `enum uart_init_error`.
 
 pub const UART_INIT_DEVICE_NOT_PRESENT: u8 = 0;
@@ -201,6 +205,20 @@ pub const UART_FRAME_STALLED: u8 = 2;
 pub const UART_ATTACH_DIVISOR_LATCH_OPEN: u8 = 0;
 
 pub const UART_ATTACH_LOOPBACK: u8 = 1;
+
+// What does not show what was written: `enum uart_configuration_error`.
+
+pub const UART_CONFIGURATION_NO_DIVISOR: u8 = 0;
+
+pub const UART_CONFIGURATION_LINE_CONTROL: u8 = 1;
+
+pub const UART_CONFIGURATION_MODEM_CONTROL: u8 = 2;
+
+pub const UART_CONFIGURATION_INTERRUPTS: u8 = 3;
+
+pub const UART_CONFIGURATION_DIVISOR: u8 = 4;
+
+pub const UART_CONFIGURATION_FIFOS: u8 = 5;
 
 // Why a loopback test failed: `enum uart_loopback_error`.
 

@@ -31,11 +31,12 @@ pub fn codes_are_these()
         ∷ code.UART_SET_MODEM_CONTROL ∷ code.UART_SET_RTS ∷ code.UART_SET_DTR
         ∷ code.UART_PEEK_MODEM ∷ code.UART_IS_IDLE ∷ code.UART_RETRIGGER_INTERRUPTS
         ∷ code.UART_RECEIVE_WITH_ERRORS ∷ code.UART_INIT_WITH ∷ code.UART_SET_FRAME_WHEN_IDLE
-        ∷ code.UART_SET_TRIGGER_LEVEL ∷ code.UART_QUIESCE ∷ code.UART_RESTORE ∷ [])
+        ∷ code.UART_SET_TRIGGER_LEVEL ∷ code.UART_QUIESCE ∷ code.UART_RESTORE
+        ∷ code.UART_CHECK_CONFIGURED ∷ [])
         ≡ (0 ∷ 1 ∷ 2 ∷ 3 ∷ 4 ∷ 5 ∷ 6 ∷ 7 ∷ 8 ∷ 9 ∷ 10 ∷ 11 ∷ 12 ∷ 13 ∷ 14
         ∷ 15 ∷ 16 ∷ 17 ∷ 18 ∷ 19 ∷ 20 ∷ 21 ∷ 22 ∷ 23 ∷ 24 ∷ 25 ∷ 26 ∷ 27 ∷ 28
         ∷ 29 ∷ 30 ∷ 31 ∷ 32 ∷ 33 ∷ 34 ∷ 35 ∷ 36 ∷ 37 ∷ 38 ∷ 39 ∷ 40 ∷ 41 ∷ 42
-        ∷ 43 ∷ []) }
+        ∷ 43 ∷ 44 ∷ []) }
     ensures waits { (code.UART_WAIT_FIRST ∷ code.UART_WAIT_LAST ∷ code.UART_WAIT_NEVER ∷ [])
         ≡ (0 ∷ 1 ∷ 2 ∷ []) }
     ensures fifos { (code.UART_FIFOS_KEEP ∷ code.UART_FIFOS_RESET ∷ code.UART_FIFOS_DISABLE ∷ [])
@@ -47,9 +48,9 @@ pub fn codes_are_these()
         ∷ code.UART_ANSWER_NOT_CONNECTED ∷ code.UART_ANSWER_NO_DATA ∷ code.UART_ANSWER_NOT_SENT
         ∷ code.UART_ANSWER_FRAME_REFUSED ∷ code.UART_ANSWER_ATTACH_REFUSED
         ∷ code.UART_ANSWER_BYTES_WITH_ERRORS ∷ code.UART_ANSWER_FRAME_WHEN_IDLE_REFUSED
-        ∷ code.UART_ANSWER_FIFOS_OFF ∷ [])
+        ∷ code.UART_ANSWER_FIFOS_OFF ∷ code.UART_ANSWER_NOT_CONFIGURED ∷ [])
         ≡ (0 ∷ 1 ∷ 2 ∷ 3 ∷ 4 ∷ 5 ∷ 6 ∷ 7 ∷ 8 ∷ 9 ∷ 10 ∷ 11 ∷ 12 ∷ 13 ∷ 14 ∷ 15 ∷ 16 ∷ 17
-        ∷ 18 ∷ []) }
+        ∷ 18 ∷ 19 ∷ []) }
     ensures init { (code.UART_INIT_DEVICE_NOT_PRESENT ∷ code.UART_INIT_INVALID_BAUD_RATE
         ∷ code.UART_INIT_STALLED ∷ [])
         ≡ (0 ∷ 1 ∷ 2 ∷ []) }
@@ -58,6 +59,11 @@ pub fn codes_are_these()
         ≡ (0 ∷ 1 ∷ 2 ∷ []) }
     ensures attach { (code.UART_ATTACH_DIVISOR_LATCH_OPEN ∷ code.UART_ATTACH_LOOPBACK ∷ [])
         ≡ (0 ∷ 1 ∷ []) }
+    ensures configuration { (code.UART_CONFIGURATION_NO_DIVISOR
+        ∷ code.UART_CONFIGURATION_LINE_CONTROL ∷ code.UART_CONFIGURATION_MODEM_CONTROL
+        ∷ code.UART_CONFIGURATION_INTERRUPTS ∷ code.UART_CONFIGURATION_DIVISOR
+        ∷ code.UART_CONFIGURATION_FIFOS ∷ [])
+        ≡ (0 ∷ 1 ∷ 2 ∷ 3 ∷ 4 ∷ 5 ∷ []) }
     ensures loopback { (code.UART_LOOPBACK_SEND_ERROR ∷ code.UART_LOOPBACK_UNEXPECTED_BYTE
         ∷ code.UART_LOOPBACK_UNEXPECTED_MSG ∷ code.UART_LOOPBACK_STALLED ∷ [])
         ≡ (0 ∷ 1 ∷ 2 ∷ 3 ∷ []) }

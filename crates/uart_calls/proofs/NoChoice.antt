@@ -16,7 +16,7 @@ use Rattle.uart_16550.proofs.determined.Calls.{saving_leaves_no_choice, changing
 use Rattle.uart_events.specs.declared.call.Call.{Call}
 use Rattle.uart_events.specs.declared.call.Call.TheVariants as call
 use Rattle.uart_events.specs.Calls.{IsRunnable}
-use Rattle.uart_calls.specs.Meaning.{MakesNoAccess, ShowsFifo, SendsShortText, doing_of, meaning}
+use Rattle.uart_calls.specs.Meaning.{MakesNoAccess, ShowsFifo, ChecksStored, SendsShortText, doing_of, meaning}
 
 no_access_one : LeavesNoChoice {R = Unit {0}} (λ outcome. MakesNoAccess)
 no_access_one f a b l m after after' p q = inl (refl, p.0 ∙ sym q.0, p.1 ∙ sym q.1)
@@ -46,6 +46,10 @@ text_one : (text : List ℕ) → LeavesNoChoice (λ result. Saving (SendsShortTe
 text_one text f a b l m after after' p q =
     saving_leaves_no_choice (SavingCall.write_text text) f a b l m after after' (p.0.1, p.1) (q.0.1, q.1)
 
+checks_stored_one : (outputs : ℕ) → LeavesNoChoice (ChecksStored outputs)
+checks_stored_one outputs f a b l m after after' p q =
+    saving_leaves_no_choice (SavingCall.check_configured f.config outputs) f a b l m after after' p q
+
 pub meaning_leaves_no_choice : (call : Call) → IsRunnable call → LeavesNoChoice (doing_of (meaning call))
 meaning_leaves_no_choice call.Next ok = no_access_one
 meaning_leaves_no_choice (call.Init config) ok = changing_leaves_no_choice (ChangingCall.init config ok)
@@ -60,6 +64,7 @@ meaning_leaves_no_choice (call.SetRts on) ok = saving_leaves_no_choice (SavingCa
 meaning_leaves_no_choice (call.SetDtr on) ok = saving_leaves_no_choice (SavingCall.set_output MCR.DTR.0 on)
 meaning_leaves_no_choice (call.Quiesce outputs fifos) ok = changing_leaves_no_choice (ChangingCall.quiesce outputs.0 fifos)
 meaning_leaves_no_choice (call.Restore dump) ok = changing_leaves_no_choice (ChangingCall.restore dump)
+meaning_leaves_no_choice (call.CheckConfigured outputs) ok = checks_stored_one outputs.0
 meaning_leaves_no_choice call.TestLoopback ok = changing_leaves_no_choice ChangingCall.test_loopback
 meaning_leaves_no_choice call.CheckPresent ok = saving_leaves_no_choice SavingCall.check_present
 meaning_leaves_no_choice call.CheckConnected ok = saving_leaves_no_choice SavingCall.check_connected

@@ -2,6 +2,7 @@
 use Rattle.std.specs.Prelude.{◌≡◌, ◌≤◌, ℕ, Bool, List, [], ◌∷◌, Result, Ok, Err, length}
 use Rattle.uart_spec.specs.declared.errors.ByteReceiveError.{ByteReceiveError}
 use Rattle.uart_spec.specs.declared.errors.ByteSendError.{ByteSendError}
+use Rattle.uart_spec.specs.declared.errors.ConfigurationError.{ConfigurationError}
 use Rattle.uart_spec.specs.declared.errors.FifosOffError.{FifosOffError}
 use Rattle.uart_spec.specs.declared.errors.FrameError.{FrameError}
 use Rattle.uart_spec.specs.declared.errors.InitError.{InitError}
@@ -20,6 +21,7 @@ use Rattle.uart_16550.specs.Init.{ChecksPresence, Inits}
 use Rattle.uart_16550.specs.Frame.{SetsFrame, ShowsIdle, SetsBreak, SetsControl, SetsOutput}
 use Rattle.uart_16550.specs.Setup.{InitsWith, SetsFrameWhenIdle, SetsTrigger, Quiesces, Restores}
 use Rattle.uart_16550.specs.Attach.{Attaches}
+use Rattle.uart_16550.specs.Configured.{ChecksConfigured}
 use Rattle.uart_spec.specs.declared.errors.AttachError.{AttachError}
 use Rattle.uart_spec.specs.declared.registers.modem_control.TheConstants.MCR
 use Rattle.uart_16550.specs.Loopback.{TestsLoopback}
@@ -37,7 +39,7 @@ use Rattle.uart_events.specs.declared.call.Answer.TheVariants.{Done, Flag, Count
 use Rattle.uart_events.specs.declared.call.Answer.TheVariants.{Latch, Dump, Stalled}
 use Rattle.uart_events.specs.declared.call.Answer.TheVariants.{ReceiveStalled, InitRefused, FrameRefused}
 use Rattle.uart_events.specs.declared.call.Answer.TheVariants.{FrameWhenIdleRefused, FifosOff}
-use Rattle.uart_events.specs.declared.call.Answer.TheVariants.{AttachRefused, LoopbackRefused}
+use Rattle.uart_events.specs.declared.call.Answer.TheVariants.{AttachRefused, NotConfigured, LoopbackRefused}
 use Rattle.uart_events.specs.declared.call.Answer.TheVariants.{NotConnected, NoData, NotSent}
 use Rattle.uart_events.specs.declared.call.TheConstants.{CALL_BYTES}
 
@@ -69,6 +71,10 @@ trigger_answer (Err e) = FifosOff
 abbrev pub attach_answer : Result (ℕ × ℕ) AttachError → Answer
 attach_answer (Ok latch) = Latch latch.0 latch.1
 attach_answer (Err e) = AttachRefused e
+
+abbrev pub configured_answer : Result (Unit {0}) ConfigurationError → Answer
+configured_answer (Ok x) = Done
+configured_answer (Err e) = NotConfigured e
 
 abbrev pub loopback_answer : Result (Unit {0}) LoopbackError → Answer
 loopback_answer (Ok x) = Done
@@ -123,6 +129,10 @@ MakesNoAccess f l after = (l ≡ []) × (after ≡ f)
 abbrev pub ShowsFifo : Bool → Doing
 ShowsFifo on f l after = (on ≡ f.fifo) × MakesNoAccess f l after
 
+-- the registers are checked against the configuration that the driver has stored, and these outputs
+abbrev pub ChecksStored : (outputs : ℕ) → Result (Unit {0}) ConfigurationError → Doing
+ChecksStored outputs result f l after = Saving (ChecksConfigured f.config outputs result) f l after
+
 -- one read of a register, which returned this value
 abbrev pub ShowsRegister : (register value : ℕ) → Language
 ShowsRegister register value = Only (Read register value ∷ [])
@@ -170,6 +180,7 @@ meaning (call.SetRts on) = tells_nothing (Saving (SetsOutput MCR.RTS.0 on))
 meaning (call.SetDtr on) = tells_nothing (Saving (SetsOutput MCR.DTR.0 on))
 meaning (call.Quiesce outputs fifos) = tells_nothing (Quiesces outputs.0 fifos)
 meaning (call.Restore dump) = tells_nothing (Restores dump)
+meaning (call.CheckConfigured outputs) = means (ChecksStored outputs.0) configured_answer
 meaning call.TestLoopback = means TestsLoopback loopback_answer
 meaning call.CheckPresent = saves ChecksPresence Flag
 meaning call.CheckConnected = saves Connects connected_answer

@@ -5,6 +5,7 @@ ghost use Rattle.uart_events.specs.Calls.{IsRunnable};
 ghost use Rattle.uart_calls.specs.Meaning.{Called, Performed, meaning};
 ghost use Rattle.uart_calls.specs.Meaning.{attach_answer, frame_answer, loopback_answer, connected_answer};
 ghost use Rattle.uart_calls.specs.Meaning.{frame_when_idle_answer, trigger_answer};
+ghost use Rattle.uart_calls.specs.Meaning.{configured_answer};
 ghost use Rattle.uart_calls.specs.Meaning.{receive_ready_answer, received_answer, sent_answer};
 ghost use Rattle.uart_calls.specs.Meaning.{exact_answer, count_answer, ready_answer};
 
@@ -15,8 +16,9 @@ use uart_16550::embedded_io::{Read, ReadReady, Write, WriteReady};
 use uart_16550::{Uart16550, Uart16550Tty};
 use uart_events::{Answer, CALL_BYTES, Call};
 use uart_spec::{
-    AttachError, ByteReceiveError, ByteSendError, Config, FifosOffError, FrameError, InitError,
-    InvalidDivisorError, LoopbackError, Received, RemoteReadyToReceiveError, Setup, StalledError,
+    AttachError, ByteReceiveError, ByteSendError, Config, ConfigurationError, FifosOffError,
+    FrameError, InitError, InvalidDivisorError, LoopbackError, Received, RemoteReadyToReceiveError,
+    Setup, StalledError,
 };
 
 /// Makes one call of the driver, over any backend, and returns its answer. Allocates no memory.
@@ -70,6 +72,7 @@ pub fn perform<B: Backend>(uart: &mut Uart16550Tty<B>, call: &Call) -> Answer
             uart.inner_mut().restore(dump);
             Answer::Done
         }
+        Call::CheckConfigured(outputs) => configured(uart.inner_mut().check_configured(*outputs)),
         Call::TestLoopback => tested(uart.inner_mut().test_loopback()),
         Call::CheckPresent => Answer::Flag(uart.inner_mut().check_present()),
         Call::CheckConnected => connected(uart.inner_mut().check_connected()),
@@ -230,6 +233,15 @@ fn attached(outcome: Result<(u8, u8), AttachError>) -> Answer
     match outcome {
         Ok((dll, dlm)) => Answer::Latch(dll, dlm),
         Err(error) => Answer::AttachRefused(error),
+    }
+}
+
+fn configured(outcome: Result<(), ConfigurationError>) -> Answer
+    ensures { result ≡ configured_answer outcome }
+{
+    match outcome {
+        Ok(()) => Answer::Done,
+        Err(error) => Answer::NotConfigured(error),
     }
 }
 

@@ -6,8 +6,9 @@ ghost use Rattle.uart_events.specs.Calls.{IsRunnable};
 use arrayvec::{ArrayString, ArrayVec};
 use uart_spec::registers::{FifoTriggerLevel, IER, MCR};
 use uart_spec::{
-    AttachError, ByteSendError, Config, ConfigRegisterDump, FifoAction, FrameError, InitError,
-    InvalidDivisorError, LoopbackError, Received, RemoteReadyToReceiveError, Setup,
+    AttachError, ByteSendError, Config, ConfigRegisterDump, ConfigurationError, FifoAction,
+    FrameError, InitError, InvalidDivisorError, LoopbackError, Received, RemoteReadyToReceiveError,
+    Setup,
 };
 
 /// The most bytes that a call sends or receives.
@@ -45,6 +46,8 @@ pub enum Call {
     Quiesce(MCR, FifoAction),
     /// `Uart16550::restore` of this dump.
     Restore(ConfigRegisterDump),
+    /// `Uart16550::check_configured` with these outputs.
+    CheckConfigured(MCR),
     /// `Uart16550::test_loopback`.
     TestLoopback,
     /// `Uart16550::check_present`.
@@ -167,6 +170,8 @@ pub enum Answer {
     FifosOff,
     /// Why an `Attach` failed.
     AttachRefused(AttachError),
+    /// What a `CheckConfigured` found wrong.
+    NotConfigured(ConfigurationError),
     /// Why a `TestLoopback` failed.
     LoopbackRefused(LoopbackError),
     /// Why a `CheckConnected` failed.

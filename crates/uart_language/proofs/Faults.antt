@@ -174,6 +174,7 @@ item_fault word.SetRts name rest c other = call_field_fault (switch_in) (call.Se
 item_fault word.SetDtr name rest c other = call_field_fault (switch_in) (call.SetDtr) name rest c
 item_fault word.Quiesce name rest c other = call_fields_fault outputs_in fifos_in call.Quiesce name rest c
 item_fault word.Restore name rest c other = call_field_fault (dump_in) (call.Restore) name rest c
+item_fault word.CheckConfigured name rest c other = call_field_fault (outputs_in) (call.CheckConfigured) name rest c
 item_fault word.ReceiveWithErrors name rest c other = call_field_fault count_in (call.ReceiveWithErrors) name rest c
 item_fault word.TrySend name rest c other = call_field_fault (byte_in) (call.TrySend) name rest c
 item_fault word.Enable name rest c other = call_field_fault (interrupts_in) (call.Enable) name rest c

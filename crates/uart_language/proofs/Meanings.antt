@@ -65,6 +65,7 @@ is_read {number = number} le (row.set_rts h) = rw (not_first number le, h) refl
 is_read {number = number} le (row.set_dtr h) = rw (not_first number le, h) refl
 is_read {number = number} le (row.quiesce h a) = rw (not_first number le, h, a) refl
 is_read {number = number} le (row.restore h) = rw (not_first number le, h) refl
+is_read {number = number} le (row.check_configured h) = rw (not_first number le, h) refl
 is_read {number = number} le (row.bare w {c = c} e) = bare_is_read number w c le e
 is_read {number = number} le (row.try_send h) = rw (not_first number le, h) refl
 is_read {number = number} le (row.enable h) = rw (not_first number le, h) refl
@@ -250,6 +251,8 @@ is_meant number word.SetDtr rest s le p c e = call_field number _ (switch_in) (c
 is_meant number word.Quiesce rest s le p c e =
     call_fields number _ outputs_in fifos_in call.Quiesce rest s c e (λ V W x y h k. row.quiesce h k)
 is_meant number word.Restore rest s le p c e = call_field number _ (dump_in) (call.Restore) rest s c e (λ W x h. row.restore h)
+is_meant number word.CheckConfigured rest s le p c e =
+    call_field number _ (outputs_in) (call.CheckConfigured) rest s c e (λ W x h. row.check_configured h)
 is_meant number word.ReceiveWithErrors rest s le p c e =
     call_field number _ count_in (call.ReceiveWithErrors) rest s c e (λ W x h. row.receive_with_errors h)
 is_meant number word.Access rest s le p c e = bare number _ rest s (Happens event.Access) c e row.access

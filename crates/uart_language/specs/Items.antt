@@ -74,6 +74,7 @@ call_of word.SetRts ws = read_as (switch_in (word_at 1 ws)) call.SetRts
 call_of word.SetDtr ws = read_as (switch_in (word_at 1 ws)) call.SetDtr
 call_of word.Quiesce ws = both_read_as (outputs_in (word_at 1 ws)) (fifos_in (word_at 2 ws)) call.Quiesce
 call_of word.Restore ws = read_as (dump_in (word_at 1 ws)) call.Restore
+call_of word.CheckConfigured ws = read_as (outputs_in (word_at 1 ws)) call.CheckConfigured
 call_of word.TrySend ws = read_as (byte_in (word_at 1 ws)) call.TrySend
 call_of word.Enable ws = read_as (interrupts_in (word_at 1 ws)) call.Enable
 call_of word.Disable ws = read_as (interrupts_in (word_at 1 ws)) call.Disable

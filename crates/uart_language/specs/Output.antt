@@ -1,11 +1,13 @@
 -- What is printed.
-use Rattle.std.specs.Prelude.{ℕ, ◌+◌, ◌*◌, ◌/◌, ◌%◌, true, false, List, [], ◌∷◌, ◌++◌, length, map, ◌==◌, if◌then◌else◌}
-use Rattle.std.specs.Prelude.{codes}
+use Rattle.std.specs.Prelude.{ℕ, Bool, ◌+◌, ◌*◌, ◌/◌, ◌%◌, true, false, List, [], ◌∷◌, ◌++◌, length, map, ◌==◌}
+use Rattle.std.specs.Prelude.{codes, if◌then◌else◌}
 use Rattle.std.specs.List.{flat_map}
 use Rattle.std.specs.Char.{digit_char}
 use Rattle.std.specs.Fmt.{decimal}
 use Rattle.uart_spec.specs.declared.errors.AttachError.{AttachError}
 use Rattle.uart_spec.specs.declared.errors.AttachError.TheVariants as attach
+use Rattle.uart_spec.specs.declared.errors.ConfigurationError.{ConfigurationError}
+use Rattle.uart_spec.specs.declared.errors.ConfigurationError.TheVariants as configuration
 use Rattle.uart_spec.specs.declared.errors.FrameError.{FrameError}
 use Rattle.uart_spec.specs.declared.errors.FrameError.TheVariants as frame
 use Rattle.uart_spec.specs.declared.errors.InvalidDivisorError.{InvalidDivisorError}
@@ -80,6 +82,27 @@ abbrev pub attach_error_name : AttachError → List ℕ
 attach_error_name attach.DivisorLatchOpen = codes "DivisorLatchOpen"
 attach_error_name attach.Loopback = codes "Loopback"
 
+-- what was expected, and what a register shows
+abbrev pub difference_text : (expected shown : List ℕ) → List ℕ
+difference_text expected shown = codes " expected " ++ expected ++ codes " shown " ++ shown
+
+abbrev pub truth_text : Bool → List ℕ
+truth_text true = codes "true"
+truth_text false = codes "false"
+
+abbrev pub configuration_error_text : ConfigurationError → List ℕ
+configuration_error_text configuration.NoDivisor = codes "NoDivisor"
+configuration_error_text (configuration.LineControl expected shown) =
+    codes "LineControl" ++ difference_text (hex_byte expected.0) (hex_byte shown.0)
+configuration_error_text (configuration.ModemControl expected shown) =
+    codes "ModemControl" ++ difference_text (hex_byte expected.0) (hex_byte shown.0)
+configuration_error_text (configuration.Interrupts expected shown) =
+    codes "Interrupts" ++ difference_text (hex_byte expected.0) (hex_byte shown.0)
+configuration_error_text (configuration.Divisor expected shown) =
+    codes "Divisor" ++ difference_text (decimal expected) (decimal shown)
+configuration_error_text (configuration.Fifos expected shown) =
+    codes "Fifos" ++ difference_text (truth_text expected) (truth_text shown)
+
 abbrev pub init_error_text : InitError → List ℕ
 init_error_text init.DeviceNotPresent = codes "DeviceNotPresent"
 init_error_text (init.InvalidBaudRate e) = divisor_error_text e
@@ -122,6 +145,7 @@ answer_text (answer.FrameRefused e) = codes "err " ++ divisor_error_text e
 answer_text (answer.FrameWhenIdleRefused e) = codes "err " ++ frame_error_text e
 answer_text answer.FifosOff = codes "err FifosOffError"
 answer_text (answer.AttachRefused e) = codes "err " ++ attach_error_name e
+answer_text (answer.NotConfigured e) = codes "err " ++ configuration_error_text e
 answer_text (answer.LoopbackRefused e) = codes "err " ++ loopback_error_text e
 answer_text (answer.NotConnected e) = codes "err " ++ remote_error_name e
 answer_text answer.NoData = codes "err ByteReceiveError"

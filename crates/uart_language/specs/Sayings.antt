@@ -148,6 +148,8 @@ pub data Means (number : ℕ) : List (List ℕ) → Saying → Type 0 where
       → Means number (codes "quiesce" ∷ HH ∷ A ∷ []) (Calls (call.Quiesce outputs fifos))
   restore : {HEX : List ℕ} {dump : ConfigRegisterDump} → dump_in HEX ≡ Ok dump
       → Means number (codes "restore" ∷ HEX ∷ []) (Calls (call.Restore dump))
+  check_configured : {HH : List ℕ} {outputs : MCR} → outputs_in HH ≡ Ok outputs
+      → Means number (codes "check-configured" ∷ HH ∷ []) (Calls (call.CheckConfigured outputs))
   bare : (w : Word) {c : Call} → bare_call w ≡ Some c → Means number (name_of w ∷ []) (Calls c)
   try_send : {HH : List ℕ} {byte : ℕ} → byte_in HH ≡ Ok byte
       → Means number (codes "try-send" ∷ HH ∷ []) (Calls (call.TrySend byte))

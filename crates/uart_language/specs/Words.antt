@@ -59,6 +59,7 @@ name_of word.SetRts = codes "set-rts"
 name_of word.SetDtr = codes "set-dtr"
 name_of word.Quiesce = codes "quiesce"
 name_of word.Restore = codes "restore"
+name_of word.CheckConfigured = codes "check-configured"
 name_of word.PeekModem = codes "peek-modem"
 name_of word.IsIdle = codes "is-idle"
 name_of word.RetriggerInterrupts = codes "retrigger-interrupts"
@@ -73,8 +74,8 @@ words =
     ∷ word.Fifo ∷ word.Dump ∷ word.TrySend ∷ word.Enable ∷ word.Disable ∷ word.Receive ∷ word.ReceiveExact ∷ word.Read
     ∷ word.Send ∷ word.SendExact ∷ word.Write ∷ word.Text ∷ word.InitWith ∷ word.SetFrame ∷ word.SetFrameWhenIdle
     ∷ word.SetTriggerLevel ∷ word.Attach ∷ word.SetBreak ∷ word.SetModemControl ∷ word.SetRts ∷ word.SetDtr
-    ∷ word.Quiesce ∷ word.Restore ∷ word.PeekModem ∷ word.IsIdle ∷ word.RetriggerInterrupts ∷ word.ReceiveWithErrors
-    ∷ []
+    ∷ word.Quiesce ∷ word.Restore ∷ word.CheckConfigured ∷ word.PeekModem ∷ word.IsIdle ∷ word.RetriggerInterrupts
+    ∷ word.ReceiveWithErrors ∷ []
 
 -- the word that is written like this
 unfoldable pub word_of : List ℕ → Option Word
@@ -110,6 +111,7 @@ fields_of word.SetRts = faulty switch_in ∷ []
 fields_of word.SetDtr = faulty switch_in ∷ []
 fields_of word.Quiesce = faulty outputs_in ∷ faulty fifos_in ∷ []
 fields_of word.Restore = faulty dump_in ∷ []
+fields_of word.CheckConfigured = faulty outputs_in ∷ []
 fields_of word.TrySend = faulty byte_in ∷ []
 fields_of word.Enable = faulty interrupts_in ∷ []
 fields_of word.Disable = faulty interrupts_in ∷ []

@@ -5,6 +5,7 @@ use Rattle.std.proofs.lemmas.Grind.{common_steps}
 use lib.Bits.{or_zero_r}
 use Rattle.uart_spec.specs.declared.errors.ByteSendError.{ByteSendError}
 use Rattle.uart_spec.specs.declared.errors.ByteReceiveError.{ByteReceiveError}
+use Rattle.uart_spec.specs.declared.errors.ConfigurationError.{ConfigurationError}
 use Rattle.uart_spec.specs.declared.errors.FifosOffError.{FifosOffError}
 use Rattle.uart_spec.specs.declared.errors.StalledError.{StalledError}
 use Rattle.uart_spec.specs.declared.registers.fifo_trigger_level.FifoTriggerLevel.{FifoTriggerLevel}
@@ -28,7 +29,7 @@ use Rattle.uart_events.specs.declared.call.Call.TheVariants as call
 use Rattle.uart_events.specs.declared.call.Answer.{Answer}
 use Rattle.uart_events.specs.declared.call.Answer.TheVariants.{Done, Flag, Count, Register}
 use Rattle.uart_chip.specs.Machine.{MachineStep}
-use Rattle.uart_calls.specs.Meaning.{ShowsFifo, SendsShortText, CalledAs, connected_answer, receive_ready_answer}
+use Rattle.uart_calls.specs.Meaning.{ShowsFifo, ChecksStored, SendsShortText, CalledAs, connected_answer, receive_ready_answer}
 use Rattle.uart_calls.specs.Meaning.{received_answer, sent_answer, exact_answer, count_answer}
 use Rattle.uart_calls.specs.Meaning.{ready_answer, latch_answer, bytes_answer, with_errors_answer, receive_exact_answer, read_answer}
 use Rattle.uart_run.specs.Run.{State, machine_of, CallStep}
@@ -45,6 +46,7 @@ use Rattle.uart_run.proofs.CallKeeps.{plain_blocks, connects_blocks, reads_divis
 use Rattle.uart_run.proofs.CallKeeps.{reads_blocks, writes_blocks, flushes_blocks, answers_read_blocks, answers_write_blocks}
 use Rattle.uart_run.proofs.CallKeeps.{sends_each_blocks, sends_beginning_blocks, Keeps, saving_keeps, shows_fifo_keeps}
 use Rattle.uart_run.proofs.CallKeeps.{enables_keeps, disables_keeps, dumps_keeps, takes_lsr_keeps, takes_msr_keeps}
+use Rattle.uart_run.proofs.CheckLists.{check_list, passed_check}
 
 -- from s to t: these accesses wrote these bytes to DATA and read those; the driver takes the FIFO to be as before, and saved what the
 -- statuses showed, unless it told and forgot it
@@ -198,6 +200,22 @@ passes_level x N M s t level (Err e) l w (off, is, same) path =
     passes_quietly x N M s t
     (record { takes = []; bytes = refl; passed = rw still (passed-refl x (machine_of s) w.stands.sound w.stands.modes) }) same
 
+-- ---- `check_configured`
+
+passes_checked : (x : Modes) (N M : Type 0) (s t : State) (outputs : ℕ) (result : Result (Unit {0}) ConfigurationError) (l : List Access) →
+    InSession x s → ChecksStored outputs result (fields (inner_of s)) l (fields (inner_of t)) →
+    Path MachineStep (machine_of s) l (machine_of t) → Passes x N M s t [] []
+passes_checked x N M s t outputs result l w (made, saved) path =
+    let f = fields (inner_of s) in
+    record {
+      made = l;
+      passed = passed_check x (machine_of s) (machine_of t) l w.open_modes w.stands
+          (check_list (settings_of f) f.config outputs result l made) path;
+      fifo = ap (λ (g : Fields). g.fifo) saved;
+      lsr = λ n. ap (λ (g : Fields). g.lsr) saved;
+      msr = λ n. ap (λ (g : Fields). g.msr) saved;
+    }
+
 -- ---- a call in a session
 
 -- the call changes no mode
@@ -233,6 +251,7 @@ passes_call x s t (call.SetRts on) a w i h = absurd i
 passes_call x s t (call.SetDtr on) a w i h = absurd i
 passes_call x s t (call.Quiesce outputs fifos) a w i h = absurd i
 passes_call x s t (call.Restore dump) a w i h = absurd i
+passes_call x s t (call.CheckConfigured outputs) a w i h = passes_checked x _ _ s t outputs.0 h.outcome h.did.list w h.did.does h.did.path
 passes_call x s t call.TestLoopback a w i h = absurd i
 passes_call x s t call.CheckPresent a w i h = passes_silent x _ _ _ Flag s t a w (λ v r. checks_presence_blocks v r) h
 passes_call x s t call.CheckConnected a w i h = passes_silent x _ _ _ connected_answer s t a w (λ v r. connects_blocks v r) h

@@ -8,6 +8,7 @@ pub mod SilentLists
 pub mod KeptLists
 pub mod CallBlocks
 pub mod CallKeeps
+pub mod CheckLists
 pub mod CallLaws
 pub mod FrameLaws
 pub mod SessionCalls

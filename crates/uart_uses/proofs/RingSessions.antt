@@ -1,5 +1,5 @@
 -- A run of ring calls is one session, and what is taken in one with a single `take`.
-use Rattle.std.proofs.Common.{◌≡◌, ℕ, List, [], ◌∷◌, ◌++◌, get_or, refl, sym, ap, ◌∙◌}
+use Rattle.std.proofs.Common.{◌≡◌, ℕ, List, [], ◌∷◌, ◌++◌, get_or, refl, sym, ap, subst, ◌∙◌}
 use Rattle.std.proofs.lemmas.List.{append-nil}
 use Rattle.uart_chip.specs.Conserved.{kept, waiting}
 use Rattle.uart_run.specs.Chains.{NoneIs, calls_of, answers_of}
@@ -10,12 +10,12 @@ use Rattle.uart_ring_runs.specs.declared.call.RingAnswer.{RingAnswer}
 use Rattle.uart_ring_runs.specs.declared.call.RingAnswer.TheVariants as answer
 use Rattle.uart_ring_runs.specs.RingBytes.{taken, taken_by, to_take}
 use Rattle.uart_ring_runs.specs.RingRun.{RingState, RingLink, ring_machine, under}
-use Rattle.uart_ring_runs.specs.RingSession.{RanRing, RingConserves}
+use Rattle.uart_ring_runs.specs.RingSession.{IsWithinRingSession, AllWithinRingSession, RanRing, RingConserves}
 
 pub ring_conserves : (s t : RingState) (calls : List RingCall) (answers : List RingAnswer) (ran : RanRing s calls answers t) →
-    Ready (under s) → RingConserves s ran.run.links t
-ring_conserves s t calls answers ran ready =
-    ran.sessions [] ran.run.links [] s t (sym (append-nil ran.run.links)) refl ran.run.chain refl ready
+    Ready (under s) → AllWithinRingSession s ran.run.links → RingConserves s ran.run.links t
+ring_conserves s t calls answers ran ready within =
+    ran.sessions [] ran.run.links [] s t (sym (append-nil ran.run.links)) refl ran.run.chain refl (ready, within)
 
 last_took : (n : ℕ) (answers : List RingAnswer) (other : RingAnswer) (links : List RingLink) →
     calls_of links ≡ call.Next ∷ call.Service ∷ call.Take n ∷ [] → answers_of links ≡ answers →
@@ -49,13 +49,32 @@ no_clear n (a ∷ b ∷ c ∷ []) calls =
     )
 no_clear n (a ∷ b ∷ c ∷ d ∷ links) calls = absurd (cc (calls))
 
+no_adjust : (s : RingState) (n : ℕ) (links : List RingLink) → calls_of links ≡ call.Next ∷ call.Service ∷ call.Take n ∷ [] →
+    AllWithinRingSession s links
+no_adjust s n [] calls = absurd (cc (calls))
+no_adjust s n (a ∷ []) calls = absurd (cc (calls))
+no_adjust s n (a ∷ b ∷ []) calls = absurd (cc (calls))
+no_adjust s n (a ∷ b ∷ c ∷ []) calls =
+    let next : a.call ≡ call.Next = cc (calls) in
+    let service : b.call ≡ call.Service = cc (calls) in
+    let take : c.call ≡ call.Take n = cc (calls) in
+    let W : RingCall → Type 0 = λ made. IsWithinRingSession s made in
+    (subst W (sym next) tt, (subst W (sym service) tt, (subst W (sym take) tt, tt)))
+no_adjust s n (a ∷ b ∷ c ∷ d ∷ links) calls = absurd (cc (calls))
+
+-- what these calls conserve
+pub marked_conserves : (s t : RingState) (n : ℕ) (answers : List RingAnswer) →
+    (ran : RanRing s (call.Next ∷ call.Service ∷ call.Take n ∷ []) answers t) → Ready (under s) → RingConserves s ran.run.links t
+marked_conserves s t n answers ran ready =
+    ring_conserves s t _ answers ran ready (no_adjust s n ran.run.links ran.run.calls_same)
+
 -- on to a mark, a service, and a `take`: its bytes are those taken
 pub received : (s t : RingState) (n : ℕ) (answers : List RingAnswer) (other : RingAnswer) (bytes : List ℕ) →
     RanRing s (call.Next ∷ call.Service ∷ call.Take n ∷ []) answers t → Ready (under s) →
     bytes ≡ taken_by (call.Take n) (get_or answers 2 other) →
     bytes ++ (to_take t ++ waiting (ring_machine t)) ≡ to_take s ++ kept (ring_machine s) (ring_machine t)
 received s t n answers other bytes ran ready is =
-    let c = ring_conserves s t _ answers ran ready in
+    let c = marked_conserves s t n answers ran ready in
     ap (λ xs. xs ++ (to_take t ++ waiting (ring_machine t)))
     (is ∙ (sym (last_took n answers other ran.run.links ran.run.calls_same ran.run.answers_same) ∙
     sym (c.all_taken (no_clear n ran.run.links ran.run.calls_same)))) ∙ c.kept

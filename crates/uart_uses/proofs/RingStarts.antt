@@ -7,19 +7,22 @@ use Rattle.uart_ring_runs.specs.RingRun.{RingState, RingLink, under}
 use Rattle.uart_ring_runs.specs.RingSession.{RanRing, RingConserves}
 use Rattle.uart_run.specs.Chains.{calls_of, answers_of}
 use Rattle.uart_run.specs.Ready.{Ready}
+use Rattle.uart_run.specs.Wired.{IsWired}
+use Rattle.uart_ring_runs.proofs.RingLasts.{wired_within}
 use Rattle.uart_uses.proofs.RingSessions.{ring_conserves}
 
 -- a run from empty rings
 pub runs_from_empty : (begins ends : RingState) (calls : List RingCall) (answers : List RingAnswer) →
     (to_send begins ≡ []) × (to_take begins ≡ []) → RanRing begins calls answers ends → Ready (under begins) →
+    IsWired (under begins) →
     (s : RingState) × (links : List RingLink) × (to_send s ≡ []) × (to_take s ≡ []) × (calls_of links ≡ calls)
     × (answers_of links ≡ answers) × RingConserves s links ends
-runs_from_empty begins ends calls answers empty ran ready = (
+runs_from_empty begins ends calls answers empty ran ready wired = (
   begins,
   ran.run.links,
   empty.0,
   empty.1,
   ran.run.calls_same,
   ran.run.answers_same,
-  ring_conserves begins ends calls answers ran ready,
+  ring_conserves begins ends calls answers ran ready (wired_within begins ran.run.links wired),
 )

@@ -5,6 +5,7 @@ ghost use Rattle.uart_ring_runs.specs.RingRun.{IsRingRunnable, RingLink, RingSta
 ghost use Rattle.uart_ring_runs.specs.RingSession.{RingConserves};
 ghost use Rattle.uart_run.specs.Chains.{answers_of, calls_of};
 ghost use Rattle.uart_run.specs.Ready.{Ready};
+ghost use Rattle.uart_run.specs.Wired.{IsWired};
 ghost use Rattle.uart_spec.specs.Config.{IsComputable};
 
 use std::alloc::Global;
@@ -26,7 +27,8 @@ pub enum StartError {
     NoRings(RingError),
 }
 
-/// Initialises the driver, and puts it into rings. A session begins, with empty rings.
+/// Initialises the driver, and puts it into rings. A session begins, with empty rings, in which any
+/// ring call may be made.
 pub fn start_rings(
     alloc: Global,
     mut uart: Uart16550<Device16550>,
@@ -34,6 +36,7 @@ pub fn start_rings(
 ) -> Result<Uart16550Ring<Device16550>, StartError>
     requires { IsComputable config }
     ensures begins { IfOk result (λ ring. Ready (under ring)) }
+    ensures wired { IfOk result (λ ring. IsWired (under ring)) }
     ensures empty { IfOk result (λ ring. (to_send ring ≡ []) × (to_take ring ≡ [])) }
 {
     init_leaves_ready(&uart);

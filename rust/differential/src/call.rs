@@ -57,6 +57,7 @@ pub enum Kind {
     SetTriggerLevel,
     Quiesce,
     Restore,
+    CheckConfigured,
     Text,
 }
 
@@ -76,7 +77,7 @@ enum Given {
     Registers,
 }
 
-const KINDS: [(Kind, &str, Given); 45] = [
+const KINDS: [(Kind, &str, Given); 46] = [
     (Kind::Init, "init", Given::Config),
     (Kind::TestLoopback, "loopback", Given::Nothing),
     (Kind::CheckPresent, "present", Given::Nothing),
@@ -125,6 +126,7 @@ const KINDS: [(Kind, &str, Given); 45] = [
     (Kind::SetTriggerLevel, "set-trigger-level", Given::Level),
     (Kind::Quiesce, "quiesce", Given::OutputsAndFifos),
     (Kind::Restore, "restore", Given::Registers),
+    (Kind::CheckConfigured, "check-configured", Given::Byte),
     (Kind::Text, "text", Given::Bytes),
 ];
 
@@ -208,6 +210,10 @@ impl Call {
                 call.setup = random_setup(random);
             }
             Given::Level => call.byte = random.pick(&LEVELS).1,
+            // A check that expects other outputs than those of an initialisation mostly ends there.
+            Given::Byte if kind == Kind::CheckConfigured && random.is_among(224) => {
+                call.byte = MCR::READY.bits();
+            }
             Given::Byte => call.byte = random.byte(),
             Given::OutputsAndFifos => {
                 call.byte = random.byte();

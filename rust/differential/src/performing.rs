@@ -5,8 +5,8 @@ use uart_16550::backend::Backend;
 use uart_16550::embedded_io::{Read, ReadReady, Write, WriteReady};
 use uart_16550::spec::registers::{IER, ISR, LCR, LSR, MCR, MSR};
 use uart_16550::{
-    ConfigRegisterDump, FrameError, InitError, InvalidDivisorError, LoopbackError, Received,
-    StalledError, Uart16550, Uart16550Tty,
+    ConfigRegisterDump, ConfigurationError, FrameError, InitError, InvalidDivisorError,
+    LoopbackError, Received, StalledError, Uart16550, Uart16550Tty,
 };
 
 /// Makes one call, and returns its answer in the words of traces.
@@ -67,6 +67,10 @@ pub fn perform<B: Backend>(terminal: &mut Uart16550Tty<B>, call: &Call) -> Strin
         Kind::Restore => {
             uart.restore(&dump_of(&call.bytes));
             "ok".into()
+        }
+        Kind::CheckConfigured => {
+            let outputs = MCR::from_bits_retain(call.byte);
+            named(uart.check_configured(outputs), configuration_error)
         }
         Kind::Attach => match uart.attach() {
             Ok((dll, dlm)) => format!("ok {dll:02x} {dlm:02x}"),
@@ -239,6 +243,31 @@ fn divisor_error(error: InvalidDivisorError) -> String {
             format!("InvalidBaudRate OutOfRange {divisor}")
         }
     }
+}
+
+fn configuration_error(error: ConfigurationError) -> String {
+    match error {
+        ConfigurationError::NoDivisor => "NoDivisor".into(),
+        ConfigurationError::LineControl { expected, shown } => {
+            different("LineControl", expected.bits(), shown.bits())
+        }
+        ConfigurationError::ModemControl { expected, shown } => {
+            different("ModemControl", expected.bits(), shown.bits())
+        }
+        ConfigurationError::Interrupts { expected, shown } => {
+            different("Interrupts", expected.bits(), shown.bits())
+        }
+        ConfigurationError::Divisor { expected, shown } => {
+            format!("Divisor expected {expected} shown {shown}")
+        }
+        ConfigurationError::Fifos { expected, shown } => {
+            format!("Fifos expected {expected} shown {shown}")
+        }
+    }
+}
+
+fn different(register: &str, expected: u8, shown: u8) -> String {
+    format!("{register} expected {expected:02x} shown {shown:02x}")
 }
 
 fn loopback_error(error: LoopbackError) -> String {

@@ -172,7 +172,25 @@ impl Answer {
             16 => with_errors(self.bytes.into_iter().zip(self.errors).take(self.count)),
             17 => refused(self.value, &FRAME_ERRORS),
             18 => "err FifosOffError".into(),
+            19 => format!("err {}", self.difference()),
             kind => format!("an answer of kind {kind}"),
+        }
+    }
+
+    /// Returns what a check found wrong.
+    fn difference(&self) -> String {
+        let [low, high, shown_low, shown_high, ..] = self.bytes;
+        let expected = u16::from_le_bytes([low, high]);
+        let shown = u16::from_le_bytes([shown_low, shown_high]);
+        match self.value {
+            0 => "NoDivisor".into(),
+            4 => format!("Divisor expected {expected} shown {shown}"),
+            5 => format!("Fifos expected {} shown {}", expected != 0, shown != 0),
+            register => {
+                let names = ["", "LineControl", "ModemControl", "Interrupts"];
+                let name = names.get(usize::from(register)).unwrap_or(&"of no known number");
+                format!("{name} expected {expected:02x} shown {shown:02x}")
+            }
         }
     }
 

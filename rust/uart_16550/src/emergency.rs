@@ -119,7 +119,33 @@ impl<B: Backend> EmergencyConsole<B> {
         self.terminal.inner_mut().checked_set_frame(config)
     }
 
-    /// Sends bytes as they are, for text that is not UTF-8.
+    /// Sends text that need not be UTF-8, with ends of lines as terminals expect them.
+    ///
+    /// # Errors
+    ///
+    /// `StalledError`, with how many bytes of what goes out were sent, if a wait came to its end.
+    ///
+    /// # Examples
+    ///
+    /// ```
+    /// # use core::num::NonZeroU64;
+    /// # use uart_16550::emergency::EmergencyConsole;
+    /// # include!(concat!(env!("CARGO_MANIFEST_DIR"), "/tests/common/board.rs"));
+    /// # fn handle_interrupt() { unreachable!() }
+    /// # fn main() {
+    /// # let patience = NonZeroU64::MIN;
+    /// # let mut console = unsafe { EmergencyConsole::take_over(board::registers(), patience) }.unwrap();
+    /// assert_eq!(console.write_raw_text(b"caf\xe9\n"), Ok(()));
+    /// # assert_eq!(board::chip().sent, b"caf\xe9\r\n");
+    /// # }
+    /// ```
+    pub fn write_raw_text(&mut self, text: &[u8]) -> Result<(), StalledError> {
+        let sent = self.terminal.write_raw_text(text);
+        self.be_patient_if(sent.is_ok());
+        sent
+    }
+
+    /// Sends bytes as they are.
     ///
     /// # Errors
     ///

@@ -46,6 +46,7 @@
 #![doc = include_str!("../HANDLERS.md")]
 
 pub use uart_ring::{
-    HandleEnd, Handled, MAX_CAPACITY, MAX_INTERRUPTS, RingError, StuckError, Uart16550Ring,
+    HandleEnd, Handled, MAX_CAPACITY, MAX_INTERRUPTS, ReceiveMarks, RingError, StuckError,
+    Uart16550Ring,
 };
 pub use geesetrunk_kit_of_rings::alloc::{Global, Memory};

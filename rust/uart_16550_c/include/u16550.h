@@ -537,6 +537,9 @@ int u16550_is_idle(struct u16550 *uart, uint8_t *idle);
  */
 int u16550_write_text(struct u16550 *uart, const char *text, size_t len, size_t *done);
 
+/* The same for a text that need not be UTF-8. */
+int u16550_write_raw_text(struct u16550 *uart, const char *text, size_t len, size_t *done);
+
 /* --------------------------------------------------------------- registers */
 
 /* LSR and MSR are joined with what the driver saved of them, which is then forgotten. */
@@ -671,6 +674,15 @@ int u16550_ring_take_low(struct u16550 *uart, uint8_t *low);
 
 /* Takes received bytes, as many as there are and as there is room for. *count is how many. */
 int u16550_ring_take(struct u16550 *uart, uint8_t *buffer, size_t len, size_t *count);
+
+/*
+ * Holds the other end back by RTS, or lets it go on: RTS goes off if there is room for fewer received bytes than hold, and on if there
+ * is room for at least release. Between the two it stays as it is. The other end has to check CTS. Call it at the end of the handler,
+ * and after each u16550_ring_take and u16550_ring_clear_receive: while the other end is held back no byte arrives, so nothing calls
+ * the handler. docs/INTERRUPTS.md says which marks to choose; release is to be at most the capacity, or RTS never goes on again. MCR is
+ * read, and written if RTS is not so yet: the other outputs as they were, and loopback off.
+ */
+int u16550_ring_adjust_rts(struct u16550 *uart, size_t hold, size_t release);
 
 /*
  * Starts sending again if bytes wait with no interrupt to come: after u16550_init, or when CTS came back and the configuration

@@ -238,11 +238,12 @@ pub unsafe extern "C" fn u16550_write_ready(uart: *mut Memory, ready: *mut u8) -
 }
 
 // Sends a text over a terminal, which has the driver meanwhile.
-fn send_text(driver: &mut Driver, text: &str) -> Result<(), StalledError> {
+#[inline(never)]
+fn send_text(driver: &mut Driver, text: &[u8]) -> Result<(), StalledError> {
     let spare = Uart16550::new_with_backend(*driver.backend());
     let mut terminal = Uart16550Tty::from_inner(spare);
     mem::swap(driver, terminal.inner_mut());
-    let outcome = terminal.write_text(text);
+    let outcome = terminal.write_raw_text(text);
     mem::swap(driver, terminal.inner_mut());
     outcome
 }
@@ -257,7 +258,23 @@ pub unsafe extern "C" fn u16550_write_text(
     let send = |driver: &mut Driver| {
         // SAFETY: the caller promises that pointers are null or valid.
         let text = unsafe { bytes(text.cast(), len) }?;
-        let text = core::str::from_utf8(text).map_err(|_| Failure::NotUtf8)?;
+        core::str::from_utf8(text).map_err(|_| Failure::NotUtf8)?;
+        Ok(send_text(driver, text))
+    };
+    // SAFETY: the same.
+    unsafe { exact(uart, None, done, send) }
+}
+
+#[unsafe(no_mangle)]
+pub unsafe extern "C" fn u16550_write_raw_text(
+    uart: *mut Memory,
+    text: *const c_char,
+    len: usize,
+    done: *mut usize,
+) -> c_int {
+    let send = |driver: &mut Driver| {
+        // SAFETY: the caller promises that pointers are null or valid.
+        let text = unsafe { bytes(text.cast(), len) }?;
         Ok(send_text(driver, text))
     };
     // SAFETY: the same.

@@ -7,7 +7,7 @@ use crate::status::{Failure, status};
 use core::ffi::c_int;
 use core::mem;
 use uart_16550::native::spec::registers::IER;
-use uart_16550::ring::{Memory as RingMemory, Uart16550Ring};
+use uart_16550::ring::{Memory as RingMemory, ReceiveMarks, Uart16550Ring};
 
 type Rings = Uart16550Ring<Device>;
 
@@ -129,12 +129,8 @@ pub unsafe extern "C" fn u16550_ring_take(
 
 #[unsafe(no_mangle)]
 pub unsafe extern "C" fn u16550_ring_resume_transmit(uart: *mut Memory) -> c_int {
-    let resume = |held: &mut Held| {
-        held.ring()?.resume_transmit();
-        Ok(())
-    };
     // SAFETY: the caller promises that the pointer is null or valid.
-    status(unsafe { with(uart, resume) })
+    unsafe { order(uart, |ring| ring.resume_transmit()) }
 }
 
 #[unsafe(no_mangle)]
@@ -149,12 +145,8 @@ pub unsafe extern "C" fn u16550_ring_handle(
 
 #[unsafe(no_mangle)]
 pub unsafe extern "C" fn u16550_ring_retrigger(uart: *mut Memory) -> c_int {
-    let retrigger = |held: &mut Held| {
-        held.ring()?.retrigger();
-        Ok(())
-    };
     // SAFETY: the caller promises that the pointer is null or valid.
-    status(unsafe { with(uart, retrigger) })
+    unsafe { order(uart, |ring| ring.retrigger()) }
 }
 
 #[unsafe(no_mangle)]
@@ -247,6 +239,16 @@ pub unsafe extern "C" fn u16550_ring_set_low_mark(uart: *mut Memory, mark: usize
 pub unsafe extern "C" fn u16550_ring_take_low(uart: *mut Memory, low: *mut u8) -> c_int {
     // SAFETY: the caller promises that pointers are null or valid.
     unsafe { report(uart, low, |ring| Ok(ring.take_low().into())) }
+}
+
+#[unsafe(no_mangle)]
+pub unsafe extern "C" fn u16550_ring_adjust_rts(
+    uart: *mut Memory,
+    hold: usize,
+    release: usize,
+) -> c_int {
+    // SAFETY: the caller promises that the pointer is null or valid.
+    unsafe { order(uart, |ring| ring.adjust_rts(ReceiveMarks { hold, release })) }
 }
 
 #[unsafe(no_mangle)]

@@ -249,10 +249,18 @@ pub unsafe extern "C" fn u16550_set_modem_control(uart: *mut Memory, outputs: u8
     unsafe { perform(uart, set) }
 }
 
-#[unsafe(no_mangle)]
-pub unsafe extern "C" fn u16550_set_rts(uart: *mut Memory, on: u8) -> c_int {
+// Asserts or clears an output: RTS or DTR.
+//
+// Safety: the pointer is null or valid. There is one copy of this, as of `enter`.
+#[inline(never)]
+unsafe fn set_output(uart: *mut Memory, is_rts: bool, on: u8) -> c_int {
     let set = |driver: &mut Driver| {
-        driver.set_rts(flag(on)?);
+        let on = flag(on)?;
+        if is_rts {
+            driver.set_rts(on);
+        } else {
+            driver.set_dtr(on);
+        }
         Ok(())
     };
     // SAFETY: the caller promises that the pointer is null or valid.
@@ -260,13 +268,15 @@ pub unsafe extern "C" fn u16550_set_rts(uart: *mut Memory, on: u8) -> c_int {
 }
 
 #[unsafe(no_mangle)]
-pub unsafe extern "C" fn u16550_set_dtr(uart: *mut Memory, on: u8) -> c_int {
-    let set = |driver: &mut Driver| {
-        driver.set_dtr(flag(on)?);
-        Ok(())
-    };
+pub unsafe extern "C" fn u16550_set_rts(uart: *mut Memory, on: u8) -> c_int {
     // SAFETY: the caller promises that the pointer is null or valid.
-    unsafe { perform(uart, set) }
+    unsafe { set_output(uart, true, on) }
+}
+
+#[unsafe(no_mangle)]
+pub unsafe extern "C" fn u16550_set_dtr(uart: *mut Memory, on: u8) -> c_int {
+    // SAFETY: the caller promises that the pointer is null or valid.
+    unsafe { set_output(uart, false, on) }
 }
 
 #[unsafe(no_mangle)]

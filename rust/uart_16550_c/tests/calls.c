@@ -886,6 +886,13 @@ static void text(void)
     anew();
     MISUSE(u16550_write_text(&uart, "x\xff", 2, &done), U16550_NOT_UTF8);
     IS(done, 2);
+    d.room = 4;
+    d.sent_len = 0;
+    OK(u16550_write_raw_text(&uart, "x\xff\n", 3, &done));
+    BYTES(d.sent, "x\xff\r\n");
+    d.room = 1;
+    IS(u16550_write_raw_text(&uart, "\xff\n", 2, &done), U16550_STALLED);
+    IS(done, 1);
 }
 
 static void registers(void)
@@ -1137,6 +1144,31 @@ static void telling(void)
     IS(count, 0);
 }
 
+/* RTS follows the room for 24 received bytes. */
+static void pacing(void)
+{
+    enum { WITH_RTS = 0x0b, WITHOUT_RTS = 0x09 };
+    size_t count = 99;
+    uint8_t slots[24];
+    rings_ready();
+    OK(u16550_ring_adjust_rts(&uart, 10, 20));
+    IS(d.registers[MCR], WITH_RTS);
+    device_arrive(&d, "0123456789abcd");
+    OK(u16550_ring_service(&uart, &count));
+    OK(u16550_ring_adjust_rts(&uart, 10, 20)); /* room for 10 */
+    IS(d.registers[MCR], WITH_RTS);
+    device_arrive(&d, "e");
+    OK(u16550_ring_service(&uart, &count));
+    OK(u16550_ring_adjust_rts(&uart, 10, 20));
+    IS(d.registers[MCR], WITHOUT_RTS);
+    OK(u16550_ring_take(&uart, slots, 10, &count));
+    OK(u16550_ring_adjust_rts(&uart, 10, 20)); /* room for 19 */
+    IS(d.registers[MCR], WITHOUT_RTS);
+    OK(u16550_ring_take(&uart, slots, 1, &count));
+    OK(u16550_ring_adjust_rts(&uart, 10, 20));
+    IS(d.registers[MCR], WITH_RTS);
+}
+
 /* A chip that shows interrupts for ever. */
 static void storms(void)
 {
@@ -1216,6 +1248,7 @@ static void ring_errors(void)
     MISUSE(u16550_ring_clear_receive(&uart, &count), U16550_NO_RINGS);
     MISUSE(u16550_ring_set_low_mark(&uart, 1), U16550_NO_RINGS);
     MISUSE(u16550_ring_take_low(&uart, &value), U16550_NO_RINGS);
+    MISUSE(u16550_ring_adjust_rts(&uart, 1, 2), U16550_NO_RINGS);
     MISUSE(u16550_ring_try_handle(&uart, 1, 1, &handled), U16550_NO_RINGS);
     MISUSE(u16550_ring_stuck(&uart, &stuck), U16550_NO_RINGS);
     MISUSE(u16550_ring_restart(&uart, 1), U16550_NO_RINGS);
@@ -1280,6 +1313,7 @@ static void refused(struct u16550 *u, int wanted)
     MISUSE(u16550_read_ready(u, &byte), wanted);
     MISUSE(u16550_write_ready(u, &byte), wanted);
     MISUSE(u16550_write_text(u, "t", 1, &count), wanted);
+    MISUSE(u16550_write_raw_text(u, "t", 1, &count), wanted);
     MISUSE(u16550_ier(u, &byte), wanted);
     MISUSE(u16550_isr(u, &byte), wanted);
     MISUSE(u16550_lcr(u, &byte), wanted);
@@ -1314,6 +1348,7 @@ static void refused(struct u16550 *u, int wanted)
     MISUSE(u16550_ring_clear_receive(u, &count), wanted);
     MISUSE(u16550_ring_set_low_mark(u, 1), wanted);
     MISUSE(u16550_ring_take_low(u, &byte), wanted);
+    MISUSE(u16550_ring_adjust_rts(u, 1, 2), wanted);
     MISUSE(u16550_ring_try_handle(u, 1, 1, &handled), wanted);
     MISUSE(u16550_ring_stuck(u, &stuck), wanted);
     MISUSE(u16550_ring_restart(u, 1), wanted);
@@ -1385,6 +1420,7 @@ static void nulls(void)
     MISUSE(u16550_read_ready(&uart, NULL), null);
     MISUSE(u16550_write_ready(&uart, NULL), null);
     MISUSE(u16550_write_text(&uart, NULL, 1, &count), null);
+    MISUSE(u16550_write_raw_text(&uart, NULL, 1, &count), null);
     MISUSE(u16550_ier(&uart, NULL), null);
     MISUSE(u16550_isr(&uart, NULL), null);
     MISUSE(u16550_lcr(&uart, NULL), null);
@@ -1661,6 +1697,7 @@ int main(void)
     rings();
     handling();
     telling();
+    pacing();
     storms();
     ring_errors();
     misuses();

@@ -9,7 +9,7 @@
 
 #include "u16550.h"
 
-enum { CALLS = 40000, NESTED_IN = 16, ROOM = 64, LAST = 78 };
+enum { CALLS = 40000, NESTED_IN = 16, ROOM = 64, LAST = 79 };
 
 void u16550_panic(void)
 {
@@ -199,6 +199,7 @@ static int make(struct u16550 *u, unsigned which, struct room *r)
     case 75: return u16550_ring_take_low(u, &r->value);
     case 76: return u16550_ring_try_handle(u, below(10), below(4), &r->handled);
     case 77: return u16550_ring_restart(u, (uint8_t)below(256));
+    case 78: return u16550_ring_adjust_rts(u, below(20), below(20));
     default: return u16550_ring_take_modem(u, &r->value);
     }
 }

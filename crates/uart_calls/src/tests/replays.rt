@@ -14,7 +14,7 @@ ghost use Rattle.uart_calls.specs.Replays.{CallReplayed};
 use super::assert_equal;
 use crate::Answer::{
     self, Bytes, BytesWithErrors, Count, Done, Flag, InitRefused, Latch, LoopbackRefused, NoData,
-    NotConnected, ReceiveStalled, Register, Stalled,
+    NotConfigured, NotConnected, ReceiveStalled, Register, Stalled,
 };
 use crate::Call::{
     self, CheckConnected, CheckPresent, Disable, DllDlm, Dump, Enable, Flush, Init, ReadReady,
@@ -29,6 +29,7 @@ use std::fmt;
 use std::num::NonZeroU64;
 use std::process::Abort;
 use uart_16550::{ConfigRegisterDump, Uart16550, Uart16550Tty};
+use uart_spec::ConfigurationError::LineControl;
 use uart_spec::InitError::DeviceNotPresent;
 use uart_spec::RemoteReadyToReceiveError::RemoteNotClearToSend;
 use uart_spec::access::Access;
@@ -180,6 +181,14 @@ fn looks_and_registers_over_a_replay(rt: HostRuntime) {
             71,
         ),
         (Call::Attach, Latch(0x60, 0x60), 79),
+        (
+            Call::CheckConfigured(MCR::READY),
+            NotConfigured(LineControl {
+                expected: LCR::from_bits_retain(0x03),
+                shown: LCR::from_bits_retain(0x60),
+            }),
+            80,
+        ),
     ] {
         shows(&rt, &mut terminal, call, answer, count);
     }

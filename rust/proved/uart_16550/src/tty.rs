@@ -296,10 +296,32 @@ impl<B: Backend> Uart16550Tty<B> {
     /// # Ok(()) }
     /// ```
     pub fn write_text(&mut self, text: &str) -> Result<(), StalledError> {
+        self.write_raw_text(text.as_bytes())
+    }
+
+    /// Sends the expansion of text that need not be UTF-8, as `write_text` does.
+    ///
+    /// This is for a console that passes on what others write, as the messages of a log in an older
+    /// code.
+    ///
+    /// # Errors
+    ///
+    /// Those of `write_text`.
+    ///
+    /// # Examples
+    ///
+    /// ```
+    /// # include!(concat!(env!("CARGO_MANIFEST_DIR"), "/examples.rs"));
+    /// # fn main() {}
+    /// # fn example(terminal: &mut Uart16550Tty<Device>) -> Outcome<()> {
+    /// assert_eq!(terminal.write_raw_text(b"caf\xe9\n"), Ok(()));
+    /// # Ok(()) }
+    /// ```
+    pub fn write_raw_text(&mut self, text: &[u8]) -> Result<(), StalledError> {
         // An expansion may be three times as long as its text. So its length need not fit into a
         // `usize`, and the count of a stall ends at the largest one.
         let mut done = 0_usize;
-        for &byte in text.as_bytes() {
+        for &byte in text {
             match self.send_expansion(byte) {
                 Ok(count) => done = done.saturating_add(count),
                 Err(stall) => {

@@ -7,8 +7,9 @@ use uart_16550::embedded_io::{Read, ReadReady, Write, WriteReady};
 use uart_16550::{Uart16550, Uart16550Tty};
 use uart_events::{Answer, CALL_BYTES, Call};
 use uart_spec::{
-    AttachError, ByteReceiveError, ByteSendError, Config, FifosOffError, FrameError, InitError,
-    InvalidDivisorError, LoopbackError, Received, RemoteReadyToReceiveError, Setup, StalledError,
+    AttachError, ByteReceiveError, ByteSendError, Config, ConfigurationError, FifosOffError,
+    FrameError, InitError, InvalidDivisorError, LoopbackError, Received, RemoteReadyToReceiveError,
+    Setup, StalledError,
 };
 
 /// Makes one call of the driver, over any backend, and returns its answer. Allocates no memory.
@@ -59,6 +60,7 @@ pub fn perform<B: Backend>(uart: &mut Uart16550Tty<B>, call: &Call) -> Answer {
             uart.inner_mut().restore(dump);
             Answer::Done
         }
+        Call::CheckConfigured(outputs) => configured(uart.inner_mut().check_configured(*outputs)),
         Call::TestLoopback => tested(uart.inner_mut().test_loopback()),
         Call::CheckPresent => Answer::Flag(uart.inner_mut().check_present()),
         Call::CheckConnected => connected(uart.inner_mut().check_connected()),
@@ -187,6 +189,13 @@ fn attached(outcome: Result<(u8, u8), AttachError>) -> Answer {
     match outcome {
         Ok((dll, dlm)) => Answer::Latch(dll, dlm),
         Err(error) => Answer::AttachRefused(error),
+    }
+}
+
+fn configured(outcome: Result<(), ConfigurationError>) -> Answer {
+    match outcome {
+        Ok(()) => Answer::Done,
+        Err(error) => Answer::NotConfigured(error),
     }
 }
 

@@ -3,8 +3,9 @@
 use arrayvec::{ArrayString, ArrayVec};
 use uart_spec::registers::{FifoTriggerLevel, IER, MCR};
 use uart_spec::{
-    AttachError, ByteSendError, Config, ConfigRegisterDump, FifoAction, FrameError, InitError,
-    InvalidDivisorError, LoopbackError, Received, RemoteReadyToReceiveError, Setup,
+    AttachError, ByteSendError, Config, ConfigRegisterDump, ConfigurationError, FifoAction,
+    FrameError, InitError, InvalidDivisorError, LoopbackError, Received, RemoteReadyToReceiveError,
+    Setup,
 };
 
 /// The most bytes that a call sends or receives.
@@ -42,6 +43,8 @@ pub enum Call {
     Quiesce(MCR, FifoAction),
     /// `Uart16550::restore` of this dump.
     Restore(ConfigRegisterDump),
+    /// `Uart16550::check_configured` with these outputs.
+    CheckConfigured(MCR),
     /// `Uart16550::test_loopback`.
     TestLoopback,
     /// `Uart16550::check_present`.
@@ -162,6 +165,8 @@ pub enum Answer {
     FifosOff,
     /// Why an `Attach` failed.
     AttachRefused(AttachError),
+    /// What a `CheckConfigured` found wrong.
+    NotConfigured(ConfigurationError),
     /// Why a `TestLoopback` failed.
     LoopbackRefused(LoopbackError),
     /// Why a `CheckConnected` failed.

@@ -101,6 +101,7 @@ fn call_of(word: Word, line: &[u8]) -> Result<Call, Cause> {
             Call::Quiesce(outputs, fifos_in(word_at(line, 2))?)
         }
         Word::Restore => Call::Restore(dump_in(word_at(line, 1))?),
+        Word::CheckConfigured => Call::CheckConfigured(outputs_in(word_at(line, 1))?),
         Word::PeekModem => Call::PeekModem,
         Word::IsIdle => Call::IsIdle,
         Word::RetriggerInterrupts => Call::RetriggerInterrupts,

@@ -6,8 +6,8 @@ use bitflags::Flags;
 use std::alloc::{AllocError, Global};
 use uart_events::{Answer, ArrivalMark};
 use uart_spec::{
-    AttachError, ByteSendError, ConfigRegisterDump, FrameError, InitError, InvalidDivisorError,
-    LoopbackError, Received, RemoteReadyToReceiveError,
+    AttachError, ByteSendError, ConfigRegisterDump, ConfigurationError, FrameError, InitError,
+    InvalidDivisorError, LoopbackError, Received, RemoteReadyToReceiveError,
 };
 
 /// Returns a digit below 16 as text, in lower case.
@@ -80,6 +80,66 @@ fn attach_error_name(error: &AttachError) -> &'static [u8] {
     match error {
         AttachError::DivisorLatchOpen => b"DivisorLatchOpen",
         AttachError::Loopback => b"Loopback",
+    }
+}
+
+fn truth(flag: bool) -> &'static [u8] {
+    if flag { b"true" } else { b"false" }
+}
+
+/// Appends two values of a register.
+fn push_registers(out: &mut Vec<u8>, expected: u8, shown: u8) -> Result<(), AllocError> {
+    push_register(out, b" expected ", expected)?;
+    push_register(out, b" shown ", shown)
+}
+
+fn push_divisors(
+    alloc: Global,
+    out: &mut Vec<u8>,
+    expected: u16,
+    shown: u16,
+) -> Result<(), AllocError> {
+    out.extend_from_slice(b" expected ")?;
+    push_number(alloc, out, usize::from(expected))?;
+    out.extend_from_slice(b" shown ")?;
+    push_number(alloc, out, usize::from(shown))
+}
+
+fn push_flags(out: &mut Vec<u8>, expected: bool, shown: bool) -> Result<(), AllocError> {
+    out.extend_from_slice(b" expected ")?;
+    out.extend_from_slice(truth(expected))?;
+    out.extend_from_slice(b" shown ")?;
+    out.extend_from_slice(truth(shown))
+}
+
+/// Appends what a check found wrong.
+fn push_configuration_error(
+    alloc: Global,
+    out: &mut Vec<u8>,
+    error: &ConfigurationError,
+) -> Result<(), AllocError> {
+    match error {
+        ConfigurationError::NoDivisor => out.extend_from_slice(b"NoDivisor"),
+        ConfigurationError::LineControl { expected, shown } => {
+            out.extend_from_slice(b"LineControl")?;
+            push_registers(out, expected.bits(), shown.bits())
+        }
+        ConfigurationError::ModemControl { expected, shown } => {
+            out.extend_from_slice(b"ModemControl")?;
+            push_registers(out, expected.bits(), shown.bits())
+        }
+        ConfigurationError::Interrupts { expected, shown } => {
+            out.extend_from_slice(b"Interrupts")?;
+            push_registers(out, expected.bits(), shown.bits())
+        }
+        ConfigurationError::Divisor { expected, shown } => {
+            out.extend_from_slice(b"Divisor")?;
+            push_divisors(alloc, out, *expected, *shown)
+        }
+        ConfigurationError::Fifos { expected, shown } => {
+            out.extend_from_slice(b"Fifos")?;
+            push_flags(out, *expected, *shown)
+        }
     }
 }
 
@@ -223,6 +283,10 @@ pub fn push_answer(alloc: Global, out: &mut Vec<u8>, answer: &Answer) -> Result<
         Answer::AttachRefused(error) => {
             out.extend_from_slice(b"err ")?;
             out.extend_from_slice(attach_error_name(error))
+        }
+        Answer::NotConfigured(error) => {
+            out.extend_from_slice(b"err ")?;
+            push_configuration_error(alloc, out, error)
         }
         Answer::LoopbackRefused(error) => {
             out.extend_from_slice(b"err ")?;

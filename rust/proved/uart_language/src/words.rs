@@ -99,6 +99,8 @@ pub enum Word {
     Quiesce,
     /// `restore`: the driver's `restore`.
     Restore,
+    /// `check-configured`: the driver's `check_configured`.
+    CheckConfigured,
     /// `peek-modem`: the driver's `peek_modem`.
     PeekModem,
     /// `is-idle`: the driver's `is_idle`.
@@ -109,7 +111,7 @@ pub enum Word {
     ReceiveWithErrors,
 }
 
-const WORDS: [Word; 52] = [
+const WORDS: [Word; 53] = [
     Word::Chip,
     Word::Limit,
     Word::Tick,
@@ -158,6 +160,7 @@ const WORDS: [Word; 52] = [
     Word::SetDtr,
     Word::Quiesce,
     Word::Restore,
+    Word::CheckConfigured,
     Word::PeekModem,
     Word::IsIdle,
     Word::RetriggerInterrupts,
@@ -216,6 +219,7 @@ impl Word {
             Word::SetDtr => b"set-dtr",
             Word::Quiesce => b"quiesce",
             Word::Restore => b"restore",
+            Word::CheckConfigured => b"check-configured",
             Word::PeekModem => b"peek-modem",
             Word::IsIdle => b"is-idle",
             Word::RetriggerInterrupts => b"retrigger-interrupts",
@@ -264,6 +268,7 @@ pub fn has_count(word: Word, count: usize) -> bool {
         | Word::SetRts
         | Word::SetDtr
         | Word::Restore
+        | Word::CheckConfigured
         | Word::ReceiveWithErrors => count == 2,
         _ => count == 1,
     }

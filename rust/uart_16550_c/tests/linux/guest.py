@@ -116,12 +116,12 @@ class Task:
 class Guest:
     """A guest. The serial port of a PCI card, its fifth, is that of a shell, which runs one line after the other."""
 
-    def __init__(self, work, kernel, initramfs, more, append="", processors=1, environment=None):
+    def __init__(self, work, kernel, initramfs, more, append="", processors=1, environment=None, console="ttyS4"):
         self.work, self.tasks, self.count, self.found, self.monitor = work, 0, 0, b"", None
         with open(f"{work}/qemu.log", "wb") as log:
             self.process = subprocess.Popen(
                 ["qemu-system-x86_64", "-accel", "tcg", "-cpu", "max", "-smp", str(processors), "-m", "512", "-display", "none",
-                 "-nodefaults", "-no-reboot", "-kernel", kernel, "-initrd", initramfs, "-append", f"console=ttyS4 8250.nr_uarts=8 panic=-1 quiet {append}",
+                 "-nodefaults", "-no-reboot", "-kernel", kernel, "-initrd", initramfs, "-append", f"console={console} 8250.nr_uarts=8 panic=-1 quiet {append}",
                  "-chardev", f"socket,id=shell,path={work}/shell,server=on,wait=on",
                  "-device", "pci-serial,chardev=shell",
                  "-monitor", f"unix:{work}/monitor,server=on,wait=off", *more],

@@ -9,6 +9,9 @@
  * lines DEVICE CHANGE..                  changes outputs, as +rts or -dtr, and prints all lines after each
  * break DEVICE MILLISECONDS              sends a break
  * flow DEVICE BYTES                      sends with CRTSCTS until all is sent
+ * loop DEVICE BYTES                      sends in the chip's loopback, and counts what comes
+ * find DEVICE                            lets the driver find out which chip this is
+ * chip DEVICE TYPE IRQ                   sets the type of the chip, as linux/serial_core.h has it, and the interrupt; 0 is none
  *
  * A transfer ends when nothing has moved for ten seconds. Each command says `ready` when the port is open, and prints one line at its end.
  */
@@ -27,6 +30,9 @@
 #include <unistd.h>
 
 enum { SENT = 3, RECEIVED = 9, PATIENCE = 10, RATE = 115200 };
+
+/* Of the kernel, which has it in a header that does not go with these. */
+enum { LOOP = 0x8000 };
 
 /* Byte n of a stream: no short period, so that a byte that is missing or doubled shows. guest.py has the same. */
 static uint8_t byte_of(uint32_t n, uint32_t seed)
@@ -253,6 +259,44 @@ static void flow(int port, uint32_t bytes)
     printf("flow: sent %u\n", sent);
 }
 
+static void loop(int port, int bytes)
+{
+    uint8_t out[256], in[256];
+    int bit = LOOP, sent = 0, came = 0;
+    ssize_t count;
+    double last;
+
+    set_rate(port, TCSETS2, RATE, 0, CS8);
+    if (ioctl(port, TIOCMBIS, &bit))
+        fail("TIOCM_LOOP");
+    ready(port);
+    memset(out, 'l', sizeof out);
+    for (last = now(); came < bytes && now() - last < 1;) {
+        if (sent < bytes && (count = write(port, out, bytes - sent < 40 ? bytes - sent : 40)) > 0)
+            sent += count;
+        while ((count = read(port, in, sizeof in)) > 0) {
+            came += count;
+            last = now();
+        }
+        usleep(2000);
+    }
+    ioctl(port, TIOCMBIC, &bit);
+    printf("loop: sent %d, came %d\n", sent, came);
+}
+
+static void set_chip(int port, int type, int irq)
+{
+    struct serial_struct serial;
+
+    if (ioctl(port, TIOCGSERIAL, &serial))
+        fail("TIOCGSERIAL");
+    serial.type = type;
+    serial.irq = irq;
+    if (ioctl(port, TIOCSSERIAL, &serial))
+        fail("TIOCSSERIAL");
+    printf("chip: type %d, irq %d\n", type, irq);
+}
+
 int main(int count, char **words)
 {
     const char *command = count > 2 ? words[1] : "";
@@ -274,6 +318,12 @@ int main(int count, char **words)
         send_break(open_port(words[2], O_NONBLOCK), atoi(more[0]));
     else if (!strcmp(command, "flow") && count == 4)
         flow(open_port(words[2], 0), atoi(more[0]));
+    else if (!strcmp(command, "loop") && count == 4)
+        loop(open_port(words[2], O_NONBLOCK), atoi(more[0]));
+    else if (!strcmp(command, "find") && count == 3)
+        printf("find: %d\n", ioctl(open_port(words[2], O_NONBLOCK), TIOCSERCONFIG));
+    else if (!strcmp(command, "chip") && count == 5)
+        set_chip(open_port(words[2], O_NONBLOCK), atoi(more[0]), atoi(more[1]));
     else {
         fprintf(stderr, "terminal: no such command\n");
         return 1;

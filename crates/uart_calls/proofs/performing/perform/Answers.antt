@@ -17,3 +17,13 @@ pub returns-in-SetTriggerLevel : goal.returns-in-SetTriggerLevel
 returns-in-SetTriggerLevel g c =
     rw (c.in-SetTriggerLevel.is, ← c.inner_mut-in-SetTriggerLevel.ensures.value)
     (record { outcome = c.set_trigger_level.result; answered = c.levelled.ensures; did = c.set_trigger_level.ensures })
+
+pub returns-in-CheckConfigured : goal.returns-in-CheckConfigured
+returns-in-CheckConfigured g c =
+    let made = did_made c.check_configured.ensures in
+    rw (c.in-CheckConfigured.is, ← c.inner_mut-in-CheckConfigured.ensures.value)
+    (record {
+      outcome = c.check_configured.result;
+      answered = c.configured.ensures;
+      did = record { list = made.list; path = made.path; does = made.does };
+    })

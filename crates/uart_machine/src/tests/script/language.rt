@@ -37,6 +37,7 @@ const FAULTS: &[(&str, &str)] = &[
     ("quiesce 0 drop", "line 2: bad hex"),
     ("restore 0001020304050607", "line 2: bad hex"),
     ("restore -", "line 2: bad hex"),
+    ("check-configured", "line 2: wrong count"),
 ];
 
 const FAULTS_OF_THE_FIRST_LINE: &[(&str, &str)] = &[
@@ -180,6 +181,7 @@ set-rts off
 set-dtr on
 quiesce 08 reset
 restore 05c11b0b60b0a58001
+check-configured 1b
 peek-modem
 is-idle
 retrigger-interrupts
@@ -228,6 +230,7 @@ fn later_words_mean_their_calls(rt: HostRuntime) -> Result<(), Fail> {
             Call::SetDtr(true),
             Call::Quiesce(MCR::from_bits_retain(0x08), FifoAction::Reset),
             Call::Restore(dump),
+            Call::CheckConfigured(MCR::from_bits_retain(0x1b)),
             Call::PeekModem,
             Call::IsIdle,
             Call::RetriggerInterrupts,

@@ -1,6 +1,8 @@
 use super::super::{assert_equal, assert_equal_at};
 use arrayvec::ArrayVec;
 use bitflags::Flags;
+use std::alloc::Global;
+use std::process::Abort;
 use std::test::Fail;
 use uart_16550::ConfigRegisterDump;
 use uart_calls::{Answer, CALL_BYTES};
@@ -8,8 +10,8 @@ use uart_chip::ArrivalMark;
 use uart_language::render;
 use uart_spec::registers::{IER, ISR, LCR, LSR, MCR, MSR};
 use uart_spec::{
-    AttachError, ByteSendError, FrameError, InitError, InvalidDivisorError, LoopbackError,
-    NonIntegerDivisorError, Received, RemoteReadyToReceiveError,
+    AttachError, ByteSendError, ConfigurationError, FrameError, InitError, InvalidDivisorError,
+    LoopbackError, NonIntegerDivisorError, Received, RemoteReadyToReceiveError,
 };
 
 fn bytes(values: &[u8]) -> ArrayVec<u8, CALL_BYTES> {
@@ -47,6 +49,65 @@ fn dump() -> ConfigRegisterDump {
         dll: 0x0c,
         dlm: 0x01,
     }
+}
+
+// Asserts that this line is printed for the answer.
+fn assert_line(rt: &impl Abort, alloc: Global, answer: Answer, want: &str) -> Result<(), Fail> {
+    let text = render(alloc, &[answer], &[], &[], &[], &[])?;
+    let mut wanted = want.to_string(alloc)?;
+    wanted.push_str("\nwire -\nheld -\nwaiting -\nmarks -\n")?;
+    assert_equal_at(
+        rt,
+        text.as_slice(),
+        wanted.as_bytes(),
+        format_args!("at {want}"),
+    );
+    Ok(())
+}
+
+#[test]
+fn each_difference_has_its_line(rt: HostRuntime) -> Result<(), Fail> {
+    for (error, want) in [
+        (ConfigurationError::NoDivisor, "err NoDivisor"),
+        (
+            ConfigurationError::LineControl {
+                expected: LCR::from_bits_retain(0x83),
+                shown: LCR::from_bits_retain(0x03),
+            },
+            "err LineControl expected 83 shown 03",
+        ),
+        (
+            ConfigurationError::ModemControl {
+                expected: MCR::from_bits_retain(0x0b),
+                shown: MCR::from_bits_retain(0x1b),
+            },
+            "err ModemControl expected 0b shown 1b",
+        ),
+        (
+            ConfigurationError::Interrupts {
+                expected: IER::from_bits_retain(0x05),
+                shown: IER::empty(),
+            },
+            "err Interrupts expected 05 shown 00",
+        ),
+        (
+            ConfigurationError::Divisor {
+                expected: 1,
+                shown: 65_535,
+            },
+            "err Divisor expected 1 shown 65535",
+        ),
+        (
+            ConfigurationError::Fifos {
+                expected: true,
+                shown: false,
+            },
+            "err Fifos expected true shown false",
+        ),
+    ] {
+        assert_line(&rt, rt.alloc(), Answer::NotConfigured(error), want)?;
+    }
+    Ok(())
 }
 
 #[test]
@@ -145,15 +206,7 @@ fn each_answer_has_its_line(rt: HostRuntime) -> Result<(), Fail> {
             "err RemoteNotClearToSend",
         ),
     ] {
-        let text = render(rt.alloc(), &[answer], &[], &[], &[], &[])?;
-        let mut wanted = want.to_string(rt.alloc())?;
-        wanted.push_str("\nwire -\nheld -\nwaiting -\nmarks -\n")?;
-        assert_equal_at(
-            &rt,
-            text.as_slice(),
-            wanted.as_bytes(),
-            format_args!("at {want}"),
-        );
+        assert_line(&rt, rt.alloc(), answer, want)?;
     }
     Ok(())
 }

@@ -8,19 +8,20 @@ use crate::lists::{Accesses, list};
 use std::fmt;
 use uart_calls::Answer::{
     self, Bytes, BytesWithErrors, Count, Done, Flag, InitRefused, Latch, LoopbackRefused, NoData,
-    NotConnected, NotSent, ReceiveStalled, Register, Stalled,
+    NotConfigured, NotConnected, NotSent, ReceiveStalled, Register, Stalled,
 };
 use uart_calls::Call::{
-    self, CheckConnected, CheckPresent, Disable, DllDlm, Dump, Enable, Flush, ReadReady,
+    self, CheckConfigured, CheckConnected, CheckPresent, Disable, DllDlm, Dump, Enable, Flush, ReadReady,
     ReadyToReceive, ReadyToSend, Receive, ReceiveExact, ReceiveWithErrors, RetriggerInterrupts,
     Send, SendExact, TestLoopback, TryReceive, TrySend, Write, WriteReady,
 };
 use uart_spec::BaudRate::Baud9600;
 use uart_spec::ByteSendError::NoCapacity;
+use uart_spec::ConfigurationError::LineControl;
 use uart_spec::InitError::DeviceNotPresent;
 use uart_spec::LoopbackError;
 use uart_spec::RemoteReadyToReceiveError::NoRemoteConnectedNoDSR;
-use uart_spec::registers::{FifoTriggerLevel, IER, offsets};
+use uart_spec::registers::{FifoTriggerLevel, IER, LCR, MCR, offsets};
 
 fn default_init() -> Call {
     init(Some(FifoTriggerLevel::Fourteen), Baud9600)
@@ -39,6 +40,10 @@ fn looks_at(byte: u8, ready: bool, [enabled, disabled]: [u8; 2], under_dlab: u8)
     let received = unless(NoData);
     let sent = unless(NotSent(NoCapacity));
     let shown = dump([byte; 7], byte, byte);
+    let framed = NotConfigured(LineControl {
+        expected: LCR::from_bits_retain(0x03),
+        shown: LCR::from_bits_retain(byte),
+    });
     let ier = || list().read(offsets::IER, byte);
     let latch = || list().latch(byte, under_dlab, byte, byte);
     for (call, answer, accesses) in [
@@ -65,6 +70,11 @@ fn looks_at(byte: u8, ready: bool, [enabled, disabled]: [u8; 2], under_dlab: u8)
         ),
         (DllDlm, Latch(byte, byte), latch()),
         (Dump, Answer::Dump(shown), latch().registers([byte; 7])),
+        (
+            CheckConfigured(MCR::READY),
+            framed,
+            list().read(offsets::LCR, byte),
+        ),
     ] {
         over(Constant(byte), call, answer, accesses);
     }

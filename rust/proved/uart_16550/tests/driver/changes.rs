@@ -4,13 +4,16 @@
 use crate::driving::Start::{New, NoFifo};
 use crate::driving::{dump, read_back, row};
 use crate::lists::{Accesses, list};
-use uart_calls::Answer::{Done, FifosOff, FrameWhenIdleRefused, InitRefused};
-use uart_calls::Call::{self, InitWith, Quiesce, Restore, SetFrameWhenIdle, SetTriggerLevel};
+use uart_calls::Answer::{Done, FifosOff, FrameWhenIdleRefused, InitRefused, NotConfigured};
+use uart_calls::Call::{
+    self, CheckConfigured, InitWith, Quiesce, Restore, SetFrameWhenIdle, SetTriggerLevel,
+};
 use uart_spec::FifoAction::{Disable, Keep, Reset};
 use uart_spec::registers::FifoTriggerLevel::{Eight, Four, Fourteen, One};
 use uart_spec::registers::{MCR, offsets};
 use uart_spec::{
-    BaudRate, Config, FrameError, InitError, InvalidDivisorError, Setup, TransmitterWait,
+    BaudRate, Config, ConfigurationError, FrameError, InitError, InvalidDivisorError, Setup,
+    TransmitterWait,
 };
 
 /// Returns an initialisation with the default configuration.
@@ -130,4 +133,36 @@ fn ports_are_put_back() {
         assert_eq!(terminal.inner().fifo_enabled(), fifo_enabled);
         assert_eq!(read_back(terminal).interrupts, 0x05);
     }
+}
+
+#[test]
+fn a_check_is_a_call() {
+    let looked = list()
+        .read(offsets::LCR, 0x03)
+        .read(offsets::MCR, 0x0b)
+        .read(offsets::IER, 0x00)
+        .read(offsets::LCR, 0x03)
+        .write(offsets::LCR, 0x83)
+        .read(offsets::LCR, 0x83)
+        .read(offsets::DLL, 12)
+        .read(offsets::DLM, 0)
+        .write(offsets::LCR, 0x03)
+        .read(offsets::LCR, 0x03)
+        .write(offsets::IER, 0x00)
+        .read(offsets::ISR, 0xc1)
+        .write(offsets::IER, 0x00);
+    // Loopback is left out of the outputs that are expected.
+    let outputs = MCR::READY | MCR::LOOP_BACK;
+    row(New, CheckConfigured(outputs), Done, &looked);
+    let fifos = ConfigurationError::Fifos {
+        expected: false,
+        shown: true,
+    };
+    row(NoFifo, CheckConfigured(outputs), NotConfigured(fifos), &looked);
+    let control = ConfigurationError::ModemControl {
+        expected: MCR::DTR,
+        shown: MCR::READY,
+    };
+    let differs = list().read(offsets::LCR, 0x03).read(offsets::MCR, 0x0b);
+    row(New, CheckConfigured(MCR::DTR), NotConfigured(control), &differs);
 }

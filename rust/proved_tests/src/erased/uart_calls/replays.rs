@@ -9,7 +9,7 @@ use geesetrunk_kit::{CollectWith as _, String, ToStringWith as _, ToVecWith as _
 use super::assert_equal;
 use uart_calls::Answer::{
     self, Bytes, BytesWithErrors, Count, Done, Flag, InitRefused, Latch, LoopbackRefused, NoData,
-    NotConnected, ReceiveStalled, Register, Stalled,
+    NotConfigured, NotConnected, ReceiveStalled, Register, Stalled,
 };
 use uart_calls::Call::{
     self, CheckConnected, CheckPresent, Disable, DllDlm, Dump, Enable, Flush, Init, ReadReady,
@@ -24,6 +24,7 @@ use std::fmt;
 use std::num::NonZeroU64;
 use crate::runtime::Abort;
 use uart_16550::{ConfigRegisterDump, Uart16550, Uart16550Tty};
+use uart_spec::ConfigurationError::LineControl;
 use uart_spec::InitError::DeviceNotPresent;
 use uart_spec::RemoteReadyToReceiveError::RemoteNotClearToSend;
 use uart_spec::access::Access;
@@ -175,6 +176,14 @@ fn looks_and_registers_over_a_replay() {
             71,
         ),
         (Call::Attach, Latch(0x60, 0x60), 79),
+        (
+            Call::CheckConfigured(MCR::READY),
+            NotConfigured(LineControl {
+                expected: LCR::from_bits_retain(0x03),
+                shown: LCR::from_bits_retain(0x60),
+            }),
+            80,
+        ),
     ] {
         shows(&rt, &mut terminal, call, answer, count);
     }

@@ -5,6 +5,8 @@ use geesetrunk_kit::{CollectWith as _, String, ToStringWith as _, ToVecWith as _
 use super::super::{assert_equal, assert_equal_at};
 use geesetrunk_kit::ArrayVec;
 use geesetrunk_kit::Flags;
+use geesetrunk_kit::alloc::Global;
+use crate::runtime::Abort;
 use crate::runtime::Fail;
 use uart_16550::ConfigRegisterDump;
 use uart_calls::{Answer, CALL_BYTES};
@@ -12,8 +14,8 @@ use uart_chip::ArrivalMark;
 use uart_language::render;
 use uart_spec::registers::{IER, ISR, LCR, LSR, MCR, MSR};
 use uart_spec::{
-    AttachError, ByteSendError, FrameError, InitError, InvalidDivisorError, LoopbackError,
-    NonIntegerDivisorError, Received, RemoteReadyToReceiveError,
+    AttachError, ByteSendError, ConfigurationError, FrameError, InitError, InvalidDivisorError,
+    LoopbackError, NonIntegerDivisorError, Received, RemoteReadyToReceiveError,
 };
 
 fn bytes(values: &[u8]) -> ArrayVec<u8, CALL_BYTES> {
@@ -51,6 +53,66 @@ fn dump() -> ConfigRegisterDump {
         dll: 0x0c,
         dlm: 0x01,
     }
+}
+
+// Asserts that this line is printed for the answer.
+fn assert_line(rt: &impl Abort, alloc: Global, answer: Answer, want: &str) -> Result<(), Fail> {
+    let text = render(alloc, &[answer], &[], &[], &[], &[])?;
+    let mut wanted = want.to_string_with(alloc)?;
+    wanted.push_str("\nwire -\nheld -\nwaiting -\nmarks -\n")?;
+    assert_equal_at(
+        rt,
+        text.as_slice(),
+        wanted.as_bytes(),
+        format_args!("at {want}"),
+    );
+    Ok(())
+}
+
+#[test]
+fn each_difference_has_its_line() -> Result<(), Fail> {
+    let rt = HostRuntime;
+    for (error, want) in [
+        (ConfigurationError::NoDivisor, "err NoDivisor"),
+        (
+            ConfigurationError::LineControl {
+                expected: LCR::from_bits_retain(0x83),
+                shown: LCR::from_bits_retain(0x03),
+            },
+            "err LineControl expected 83 shown 03",
+        ),
+        (
+            ConfigurationError::ModemControl {
+                expected: MCR::from_bits_retain(0x0b),
+                shown: MCR::from_bits_retain(0x1b),
+            },
+            "err ModemControl expected 0b shown 1b",
+        ),
+        (
+            ConfigurationError::Interrupts {
+                expected: IER::from_bits_retain(0x05),
+                shown: IER::empty(),
+            },
+            "err Interrupts expected 05 shown 00",
+        ),
+        (
+            ConfigurationError::Divisor {
+                expected: 1,
+                shown: 65_535,
+            },
+            "err Divisor expected 1 shown 65535",
+        ),
+        (
+            ConfigurationError::Fifos {
+                expected: true,
+                shown: false,
+            },
+            "err Fifos expected true shown false",
+        ),
+    ] {
+        assert_line(&rt, rt.alloc(), Answer::NotConfigured(error), want)?;
+    }
+    Ok(())
 }
 
 #[test]
@@ -150,15 +212,7 @@ fn each_answer_has_its_line() -> Result<(), Fail> {
             "err RemoteNotClearToSend",
         ),
     ] {
-        let text = render(rt.alloc(), &[answer], &[], &[], &[], &[])?;
-        let mut wanted = want.to_string_with(rt.alloc())?;
-        wanted.push_str("\nwire -\nheld -\nwaiting -\nmarks -\n")?;
-        assert_equal_at(
-            &rt,
-            text.as_slice(),
-            wanted.as_bytes(),
-            format_args!("at {want}"),
-        );
+        assert_line(&rt, rt.alloc(), answer, want)?;
     }
     Ok(())
 }
