@@ -1,11 +1,10 @@
 -- Bytes that cross a cable: those that arrive at one end are the next ones that have left the other.
-use Rattle.std.proofs.Common.{◌≡◌, ℕ, ◌+◌, ◌-◌, ◌≤◌, List, [], ◌∷◌, ◌++◌, length, drop, take, map, refl, sym, ◌∙◌, ap, subst, arith}
-use Rattle.std.proofs.Common.{append_assoc, append-nil, length-append, zero-le, min}
-use Rattle.std.proofs.lemmas.List.{drop-drop, drop-append-le, length-drop, length-map, take-append-drop}
+use Rattle.std.proofs.Common.{◌≡◌, ℕ, ◌+◌, ◌≤◌, List, [], ◌∷◌, ◌++◌, length, drop, refl, sym, ◌∙◌, ap, arith}
+use Rattle.std.proofs.Common.{append_assoc, length-append}
+use Rattle.std.proofs.lemmas.List.{drop-drop, drop-append-le, length-drop}
 use Rattle.std.proofs.Math.Seq.{drop-append_seam}
 use Rattle.uart_events.specs.declared.event.Event.{Event}
-use Rattle.uart_events.specs.declared.event.Event.TheVariants.{Arrive, Access as Gate, Mark}
-use Rattle.uart_chip.specs.declared.receiver.Character.{Character}
+use Rattle.uart_events.specs.declared.event.Event.TheVariants.{Arrive}
 use Rattle.uart_chip.specs.declared.receiver.Origin.TheVariants.{Arrived}
 use Rattle.uart_chip.specs.Conserved.{arriving}
 use Rattle.uart_chip.proofs.conservation.Went.{arriving_cut}

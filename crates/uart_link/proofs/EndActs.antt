@@ -1,26 +1,22 @@
 -- What a call at one end does there, and to what crosses the cable.
-use Rattle.std.proofs.Common.{◌≡◌, ◌≢◌, ◌⊎◌, inl, inr, ℕ, ◌+◌, ◌-◌, ◌≤◌, Bool, true, false, List, [], ◌∷◌, ◌++◌, length, drop, take}
-use Rattle.std.proofs.Common.{min}
-use Rattle.std.proofs.Common.{replicate, append_assoc, append-nil, length-append, zero-le, refl, sym, ◌∙◌, ap, subst, arith}
-use Rattle.std.proofs.Common.{if◌then◌else◌}
+use Rattle.std.proofs.Common.{◌≡◌, ◌≢◌, ℕ, ◌+◌, ◌-◌, ◌≤◌, List, [], ◌∷◌, ◌++◌, length, drop, take}
+use Rattle.std.proofs.Common.{replicate, append_assoc, append-nil, zero-le, refl, sym, ◌∙◌, ap, subst, arith}
 use Rattle.std.proofs.lemmas.List.{append_cancel_right, length-take, take-append-drop}
 use Rattle.uart_events.specs.declared.event.Event.{Event}
 use Rattle.uart_events.specs.declared.event.Event.TheVariants.{Arrive, Mark}
 use Rattle.uart_events.specs.Build.{IsLegal}
 use Rattle.uart_spec.specs.Access.{Path}
 use Rattle.uart_spec.specs.declared.access.Access.{Access}
-use Rattle.uart_spec.specs.Bits.{IsWithin, has_any, flag}
-use Rattle.uart_spec.specs.declared.registers.modem_control.TheConstants.MCR
-use Rattle.uart_spec.specs.declared.registers.modem_status.TheConstants.MSR
 use Rattle.uart_chip.specs.declared.receiver.Character.{Character}
-use Rattle.uart_chip.specs.Chip.{ChipState, is_loopback}
+use Rattle.uart_chip.specs.Chip.{ChipState}
 use Rattle.uart_chip.specs.Transmitter.{TransmitterState}
 use Rattle.uart_chip.specs.Machine.{MachineState, MachineStep, arrivals, at_mark, after_mark}
 use Rattle.uart_chip.specs.Sound.{AllLegal, IsSound, IsSoundChip}
 use Rattle.uart_chip.proofs.Lists.{each-append, each-front, each-back}
 use Rattle.uart_chip.proofs.conservation.Went.{Modes, Went}
-use Rattle.uart_run.proofs.CallLaws.{InSession}
-use Rattle.uart_ring.specs.Ring.{RingFields, ring_fields}
+use Rattle.uart_run.specs.Wired.{IsWired, IsWiredChip}
+use Rattle.uart_run.proofs.Wired.{wired_path, wired_mark}
+use Rattle.uart_ring.specs.Ring.{RingFields}
 use Rattle.uart_ring_runs.specs.declared.call.RingCall.{RingCall}
 use Rattle.uart_ring_runs.specs.declared.call.RingCall.TheVariants as call
 use Rattle.uart_ring_runs.specs.declared.call.RingAnswer.{RingAnswer}
@@ -28,15 +24,15 @@ use Rattle.uart_ring_runs.specs.RingRun.{RingState, RingCallStep, under, ring_ma
 use Rattle.uart_ring_runs.specs.RingBytes.{to_take, queued_by, gone_in, KeepsOrder}
 use Rattle.uart_link.specs.declared.call.Moment.{Moment}
 use Rattle.uart_link.specs.Brought.{brought, AllClean, IsClean, IsBrought}
-use Rattle.uart_link.specs.Cable.{events_of, unknown, to_come, with_ahead, settled, arranged, on_cable, lines_joined, lines_from}
+use Rattle.uart_link.specs.Cable.{unknown, to_come, with_ahead, settled, on_cable, lines_from}
 use Rattle.uart_link.specs.Known.{IsUnmarked, AllUnmarked}
 use Rattle.uart_link.specs.Link.{CabledCallStep, EndStep, LetsPass}
 use Rattle.uart_link.proofs.Arranges.{lines_within, arranged_events}
-use Rattle.uart_link.proofs.Crossings.{brought-append, arriving_count, events_first, clean_events, Crosses, crosses-refl, crosses-trans}
-use Rattle.uart_link.proofs.Crossings.{CrossesNext, crosses_next}
+use Rattle.uart_link.proofs.Crossings.{brought-append, arriving_count, events_first, clean_events, Crosses, crosses-trans}
+use Rattle.uart_link.proofs.Crossings.{crosses_next}
 use Rattle.uart_link.proofs.Lefts.{Left, left_path, left_settled, Grown, path_grows, settled_grows}
 use Rattle.uart_link.proofs.Schedules.{arrivals-known, few_arrivals, legal_events, legal_unknown, unmarked_events}
-use Rattle.uart_link.proofs.EndPasses.{EndPasses, passes-trans, in_session-passed, CallPasses, call_passes, settle_passes}
+use Rattle.uart_link.proofs.EndPasses.{InEnd, EndPasses, passes-trans, in_session-passed, call_passes, settle_passes}
 
 -- ---- soundness
 
@@ -171,15 +167,16 @@ record CallPart (x : Modes) (wire : List ℕ) (c : RingCall) (a : RingAnswer) (s
   pub crossed : Crossed wire (ring_machine s) (ring_machine t) events
   pub now : IsBrought wire (ring_machine t)
   pub grown : Grown (ring_machine s).chip.transmitter.wire (ring_machine t).chip.transmitter
+  pub wired : IsWired (under t)
 
-access_part : (x : Modes) (wire : List ℕ) (s t : RingState) (c : RingCall) (a : RingAnswer) → InSession x (under s) →
+access_part : (x : Modes) (wire : List ℕ) (s t : RingState) (c : RingCall) (a : RingAnswer) → InEnd x s →
     IsBrought wire (ring_machine s) → RingCallStep s c a t → (made : List Access) →
     Path MachineStep (ring_machine s) made (ring_machine t) → CallPart x wire c a s t
 access_part x wire s t c a w b h made path =
     let p = call_passes x s t c a w h in
     let takes = path_crosses wire (ring_machine s) (ring_machine t) p.events b
     (left_path made (ring_machine s) (ring_machine t) b.known b.count b.ahead path) p.ahead
-    (arrived_after x _ _ p.events p.ends.went) in
+    (arrived_after _ _ _ p.events p.ends.went) in
     record {
       events = p.events;
       ends = p.ends;
@@ -187,15 +184,16 @@ access_part x wire s t c a w b h made path =
       crossed = takes.crossed;
       now = takes.now;
       grown = path_grows made (ring_machine s) (ring_machine t) path;
+      wired = wired_path made (ring_machine s) (ring_machine t) w.wired path;
     }
 
-next_part : (x : Modes) (wire : List ℕ) (s t : RingState) (a : RingAnswer) → InSession x (under s) → IsBrought wire (ring_machine s) →
+next_part : (x : Modes) (wire : List ℕ) (s t : RingState) (a : RingAnswer) → InEnd x s → IsBrought wire (ring_machine s) →
     LetsPass a s t → CallPart x wire call.Next a s t
 next_part x wire s t a w b h =
     let m = ring_machine s in
     let chip : (ring_machine t).chip ≡ (at_mark m).chip = ap (λ (o : MachineState). o.chip) h.passes.machine in
-    let p = settle_passes x (KeepsOrder call.Next) (call.Next ≢ call.TakeLine) s t w chip h.passes.rings in
-    let settles = settle_crosses wire m (ring_machine t) p.events b p.ahead (arrived_after x _ _ p.events p.ends.went) in
+    let p = settle_passes x (KeepsOrder call.Next) (call.Next ≢ call.TakeLine) s t w.session chip h.passes.rings in
+    let settles = settle_crosses wire m (ring_machine t) p.events b p.ahead (arrived_after _ _ _ p.events p.ends.went) in
     record {
       events = p.events;
       ends = p.ends;
@@ -212,9 +210,10 @@ next_part x wire s t a w b h =
         next = settles.next;
       };
       grown = subst (λ (o : MachineState). Grown m.chip.transmitter.wire o.chip.transmitter) (sym h.passes.machine) (settled_grows m);
+      wired = subst (λ (d : ChipState). IsWiredChip d) (sym chip) (wired_mark m w.wired);
     }
 
-call_part : (x : Modes) (wire : List ℕ) (s t : RingState) (c : RingCall) (a : RingAnswer) → InSession x (under s) →
+call_part : (x : Modes) (wire : List ℕ) (s t : RingState) (c : RingCall) (a : RingAnswer) → InEnd x s →
     IsBrought wire (ring_machine s) → CabledCallStep s c a t → CallPart x wire c a s t
 call_part x wire s t call.Next a w b h = next_part x wire s t a w b h
 call_part x wire s t (call.Queue bytes) a w b h = access_part x wire s t (call.Queue bytes) a w b h h.did.list h.did.path
@@ -235,12 +234,13 @@ call_part x wire s t call.TakeLow a w b h = access_part x wire s t call.TakeLow 
 call_part x wire s t (call.TryHandle limit rounds) a w b h =
     access_part x wire s t (call.TryHandle limit rounds) a w b h h.did.list h.did.path
 call_part x wire s t (call.Restart interrupts) a w b h = access_part x wire s t (call.Restart interrupts) a w b h h.did.list h.did.path
+call_part x wire s t (call.AdjustRts marks) a w b h = access_part x wire s t (call.AdjustRts marks) a w b h h.did.list h.did.path
 
 -- a call at an end, with its moments
 pub record EndActs (x : Modes) (wire : List ℕ) (c : RingCall) (a : RingAnswer) (s t : RingState) : Type 0 where
   pub events : List Event
   pub ends : EndPasses x (KeepsOrder c) (queued_by c a) (c ≢ call.TakeLine) s t (gone_in c a (to_take s)) events
-  pub session : InSession x (under t)
+  pub session : InEnd x t
   pub crosses : Crosses (ring_machine s).chip.receiver.arrived (brought events) (ring_machine t).chip.receiver.arrived wire
   pub clean : AllClean events
   pub now : IsBrought wire (ring_machine t)
@@ -253,6 +253,7 @@ only_second x B O s u p f events e = record {
   made = e.made;
   takes = e.takes;
   bytes = e.bytes;
+  open_modes = e.open_modes;
   went = e.went;
   settings = e.settings;
   sent = λ o. e.sent (tt, o);
@@ -264,7 +265,7 @@ pub grown-trans : (w v : List ℕ) (t : TransmitterState) → (first : (more : L
 grown-trans w v t first second =
     (first.0 ++ second.0, second.1 ∙ (ap (λ zs. zs ++ second.0) first.1 ∙ append_assoc w first.0 second.0))
 
-pub end_acts : (x : Modes) (moments : List Moment) (there s t : RingState) (c : RingCall) (a : RingAnswer) → InSession x (under s) →
+pub end_acts : (x : Modes) (moments : List Moment) (there s t : RingState) (c : RingCall) (a : RingAnswer) → InEnd x s →
     IsBrought (ring_machine there).chip.transmitter.wire (ring_machine s) → EndStep moments there s c a t →
     EndActs x (ring_machine there).chip.transmitter.wire c a s t
 end_acts x moments there s t c a w b h =
@@ -273,11 +274,14 @@ end_acts x moments there s t c a w b h =
     let wire = far.transmitter.wire in
     let begins = h.begins in
     let chip : (ring_machine begins).chip ≡ (at_mark m).chip = ap (λ (o : MachineState). o.chip) h.arranges.machine in
-    let p = settle_passes x (Unit {0}) (Unit {0}) s begins w chip h.arranges.rings in
+    let p = settle_passes x (Unit {0}) (Unit {0}) s begins w.session chip h.arranges.rings in
     let ready = sound_arranged moments far (settled m).chip p.sound.chip in
     let sound = subst (λ (o : MachineState). IsSound o) (sym h.arranges.machine) ready in
-    let goes = in_session-passed x _ _ s begins _ _ p.events w p.ends sound in
-    let settles = settle_crosses wire m (ring_machine begins) p.events b p.ahead (arrived_after x _ _ p.events p.ends.went) in
+    let goes : InEnd x begins = record {
+      session = in_session-passed x _ _ s begins _ _ p.events w.session p.ends sound;
+      wired = subst (λ (d : ChipState). IsWiredChip d) (sym chip) (wired_mark m w.wired);
+    } in
+    let settles = settle_crosses wire m (ring_machine begins) p.events b p.ahead (arrived_after _ _ _ p.events p.ends.went) in
     let behind : (settled m).chip.receiver.arrived ≤ length wire =
     subst (λ (d : ChipState). d.receiver.arrived ≤ length wire) chip settles.crossed.crosses.ends in
     let ahead = begins_brought wire moments far (ring_machine begins) (settled m).chip refl h.arranges.machine behind in
@@ -293,7 +297,10 @@ end_acts x moments there s t c a w b h =
     record {
       events = p.events ++ q.events;
       ends = only_second x _ _ s t _ _ _ both;
-      session = in_session-passed x _ _ begins t _ _ q.events goes q.ends q.sound;
+      session = record {
+        session = in_session-passed x _ _ begins t _ _ q.events goes.session q.ends q.sound;
+        wired = q.wired;
+      };
       crosses = crossed.crosses;
       clean = crossed.clean;
       now = q.now;
@@ -304,15 +311,22 @@ end_acts x moments there s t c a w b h =
 pub record EndBegins (x : Modes) (s begins : RingState) : Type 0 where
   pub events : List Event
   pub ends : EndPasses x (Unit {0}) [] (Unit {0}) s begins [] events
-  pub session : InSession x (under begins)
+  pub session : InEnd x begins
 
-pub end_begins : (x : Modes) (moments : List Moment) (there s t : RingState) (c : RingCall) (a : RingAnswer) → InSession x (under s) →
+pub end_begins : (x : Modes) (moments : List Moment) (there s t : RingState) (c : RingCall) (a : RingAnswer) → InEnd x s →
     (h : EndStep moments there s c a t) → EndBegins x s h.begins
 end_begins x moments there s t c a w h =
     let far = (ring_machine there).chip in
     let m = ring_machine s in
     let chip : (ring_machine h.begins).chip ≡ (at_mark m).chip = ap (λ (o : MachineState). o.chip) h.arranges.machine in
-    let p = settle_passes x (Unit {0}) (Unit {0}) s h.begins w chip h.arranges.rings in
+    let p = settle_passes x (Unit {0}) (Unit {0}) s h.begins w.session chip h.arranges.rings in
     let ready = sound_arranged moments far (settled m).chip p.sound.chip in
     let sound = subst (λ (o : MachineState). IsSound o) (sym h.arranges.machine) ready in
-    record { events = p.events; ends = p.ends; session = in_session-passed x _ _ s h.begins _ _ p.events w p.ends sound }
+    record {
+      events = p.events;
+      ends = p.ends;
+      session = record {
+        session = in_session-passed x _ _ s h.begins _ _ p.events w.session p.ends sound;
+        wired = subst (λ (d : ChipState). IsWiredChip d) (sym chip) (wired_mark m w.wired);
+      };
+    }

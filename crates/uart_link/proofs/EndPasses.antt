@@ -1,5 +1,5 @@
 -- What a part of a link's run does at one end.
-use Rattle.std.proofs.Common.{◌≡◌, ◌≢◌, ℕ, List, [], ◌∷◌, ◌++◌, map, append_assoc, append-nil, refl, sym, ◌∙◌, ap, subst, bit_or}
+use Rattle.std.proofs.Common.{◌≡◌, ◌≢◌, ℕ, List, [], ◌++◌, map, append_assoc, append-nil, refl, sym, ◌∙◌, ap, subst, bit_or}
 use lib.Bits.{or_zero_r}
 use Rattle.std.proofs.lemmas.List.{map-append}
 use Rattle.uart_events.specs.declared.event.Event.{Event}
@@ -8,12 +8,13 @@ use Rattle.uart_spec.specs.declared.access.Access.{Access}
 use Rattle.uart_16550.specs.Grammar.{Settings}
 use Rattle.uart_16550.specs.Driver.{settings_of}
 use Rattle.uart_chip.specs.declared.receiver.Character.{Character}
-use Rattle.uart_chip.specs.Machine.{MachineState, at_mark}
+use Rattle.uart_chip.specs.Machine.{at_mark}
 use Rattle.uart_chip.specs.Sound.{IsSound}
 use Rattle.uart_chip.proofs.Bits.{or_assoc}
-use Rattle.uart_chip.proofs.conservation.Went.{Modes, Went, went-trans, went-refl}
-use Rattle.uart_chip.proofs.conservation.Passed.{Passed, passed-mark}
-use Rattle.uart_run.proofs.CallLaws.{InSession}
+use Rattle.uart_chip.proofs.conservation.Went.{Modes, Went, went-trans}
+use Rattle.uart_chip.proofs.conservation.Passed.{passed-mark}
+use Rattle.uart_chip.proofs.conservation.BlockLaws.{IsOpen}
+use Rattle.uart_run.specs.Wired.{IsWired}
 use Rattle.uart_ring.specs.Ring.{RingFields, ring_fields, waiting}
 use Rattle.uart_ring.specs.Lossless.{data_written, data_read, untold_line}
 use Rattle.uart_ring.proofs.Losses.{data_written-append, data_read-append}
@@ -23,8 +24,9 @@ use Rattle.uart_ring_runs.specs.declared.call.RingCall.TheVariants as call
 use Rattle.uart_ring_runs.specs.declared.call.RingAnswer.{RingAnswer}
 use Rattle.uart_ring_runs.specs.RingRun.{RingState, under, ring_machine, RingCallStep}
 use Rattle.uart_ring_runs.specs.RingBytes.{to_send, to_take, queued_by, gone_in, to_send_with, KeepsOrder}
+use Rattle.uart_ring_runs.proofs.RingLasts.{wired_call}
+use Rattle.uart_ring_runs.proofs.RingRts.{modes_at, InRingSession}
 use Rattle.uart_ring_runs.proofs.RingPasses.{RingPasses, InLine, ring_passes_call, untold_line_of}
-use Rattle.uart_link.specs.Link.{CabledCallStep, ChangesMachine}
 
 -- from s to t these events came and these accesses were made: what was written to DATA, and then what waits, is what
 -- waited and what was queued, if the order was kept; what left the receive ring and what is left of it was there or was
@@ -34,20 +36,22 @@ pub record EndPasses (x : Modes) (Order : Type 0) (queued : List ℕ) (NoLine : 
   pub made : List Access
   pub takes : List Character
   pub bytes : map (λ character. character.byte) takes ≡ data_read made
-  pub went : Went x (ring_machine s).chip (ring_machine t).chip events made (data_written made) takes
+  pub open_modes : IsOpen (modes_at x t)
+  pub went : Went (modes_at x t) (ring_machine s).chip (ring_machine t).chip events made (data_written made) takes
   pub settings : settings_of (ring_fields t).driver ≡ settings_of (ring_fields s).driver
   pub sent : Order → data_written made ++ to_send t ≡ to_send s ++ queued
   pub received : left ++ to_take t ≡ to_take s ++ data_read made
   pub line : NoLine → untold_line_of t ≡ bit_or (untold_line_of s) (saved_lsr made)
 
 -- events alone, which leave the rings as they are
-pub passes_events : (x : Modes) (Order NoLine : Type 0) (s t : RingState) (events : List Event) →
-    Went x (ring_machine s).chip (ring_machine t).chip events [] [] [] → ring_fields t ≡ ring_fields s →
+pub passes_events : (x : Modes) (Order NoLine : Type 0) (s t : RingState) (events : List Event) → IsOpen (modes_at x t) →
+    Went (modes_at x t) (ring_machine s).chip (ring_machine t).chip events [] [] [] → ring_fields t ≡ ring_fields s →
     EndPasses x Order [] NoLine s t [] events
-passes_events x Order NoLine s t events went same = record {
+passes_events x Order NoLine s t events o went same = record {
   made = [];
   takes = [];
   bytes = refl;
+  open_modes = o;
   went = went;
   settings = ap (λ (f : RingFields). settings_of f.driver) same;
   sent = λ o. ap waiting same ∙ sym (append-nil (to_send s));
@@ -64,8 +68,9 @@ passes-trans x A B N O s t u q p e f g h a b = record {
   bytes =
       let byte : Character → ℕ = λ character. character.byte in
       map-append byte a.takes b.takes ∙ ((λ i. a.bytes i ++ b.bytes i) ∙ sym (data_read-append a.made b.made));
+  open_modes = b.open_modes;
   went = rw (data_written-append a.made b.made)
-      (went-trans x x _ _ _ g h a.made b.made _ _ a.takes b.takes refl a.went b.went);
+      (went-trans (modes_at x t) (modes_at x u) _ _ _ g h a.made b.made _ _ a.takes b.takes refl a.went b.went);
   settings = b.settings ∙ a.settings;
   sent = λ o. ap (λ zs. zs ++ to_send u) (data_written-append a.made b.made) ∙
       (append_assoc (data_written a.made) (data_written b.made) (to_send u) ∙ (ap (λ zs. data_written a.made ++ zs) (b.sent o.1) ∙
@@ -79,13 +84,18 @@ passes-trans x A B N O s t u q p e f g h a b = record {
 }
 
 -- a session goes on after a part
-pub in_session-passed : (x : Modes) (Order NoLine : Type 0) (s t : RingState) (q e : List ℕ) (events : List Event) → InSession x (under s) →
-    EndPasses x Order q NoLine s t e events → IsSound (ring_machine t) → InSession x (under t)
+pub in_session-passed : (x : Modes) (Order NoLine : Type 0) (s t : RingState) (q e : List ℕ) (events : List Event) → InRingSession x s →
+    EndPasses x Order q NoLine s t e events → IsSound (ring_machine t) → InRingSession x t
 in_session-passed x Order NoLine s t q e events w p sound = record {
-  open_modes = w.open_modes;
+  open_modes = p.open_modes;
   stands = record { sound = sound; modes = p.went.modes };
   fifo = ap (λ (settings : Settings). settings.fifo) p.settings ∙ w.fifo;
 }
+
+-- an end in a session: its machine is wired, so each call goes on with the session
+pub record InEnd (x : Modes) (s : RingState) : Type 0 where
+  pub session : InRingSession x s
+  pub wired : IsWired (under s)
 
 -- ---- a ring call
 
@@ -110,6 +120,7 @@ of_ring x M s t c a p = record {
     made = p.made;
     takes = p.passed.takes;
     bytes = p.passed.bytes;
+    open_modes = p.open_modes;
     went = p.passed.passed.went;
     settings = p.settings;
     sent = λ o. p.sent ∙ in_order c a (to_send s) o;
@@ -120,9 +131,8 @@ of_ring x M s t c a p = record {
   sound = p.passed.passed.sound;
 }
 
-pub call_passes : (x : Modes) (s t : RingState) (c : RingCall) (a : RingAnswer) → InSession x (under s) → RingCallStep s c a t →
-    CallPasses x c a s t
-call_passes x s t c a w h = of_ring x _ s t c a (ring_passes_call x s t c a w h)
+pub call_passes : (x : Modes) (s t : RingState) (c : RingCall) (a : RingAnswer) → InEnd x s → RingCallStep s c a t → CallPasses x c a s t
+call_passes x s t c a w h = of_ring x _ s t c a (ring_passes_call x s t c a w.session (wired_call s c w.wired) h)
 
 -- ---- what is known happens
 
@@ -133,14 +143,19 @@ pub record Settles (x : Modes) (Order NoLine : Type 0) (s t : RingState) : Type 
   pub ahead : (ring_machine s).ahead ≡ events ++ (at_mark (ring_machine s)).ahead
   pub sound : IsSound (at_mark (ring_machine s))
 
-pub settle_passes : (x : Modes) (Order NoLine : Type 0) (s t : RingState) → InSession x (under s) →
+pub settle_passes : (x : Modes) (Order NoLine : Type 0) (s t : RingState) → InRingSession x s →
     (ring_machine t).chip ≡ (at_mark (ring_machine s)).chip → ring_fields t ≡ ring_fields s → Settles x Order NoLine s t
 settle_passes x Order NoLine s t w chip same =
-    let p = passed-mark x (ring_machine s) w.open_modes.loopback w.stands.sound w.stands.modes in
-    let went : Went x (ring_machine s).chip (ring_machine t).chip p.events [] [] [] = rw chip p.went in
+    let c = (ring_machine s).chip in
+    let d = (ring_machine t).chip in
+    let p = passed-mark (modes_at x s) (ring_machine s) w.open_modes.loopback w.stands.sound w.stands.modes in
+    let went : Went (modes_at x s) c d p.events [] [] [] = rw chip p.went in
+    let O : ℕ → Type 0 = λ v. IsOpen (record x { mcr = v }) in
+    let W : ℕ → Type 0 = λ v. Went (record x { mcr = v }) c d p.events [] [] [] in
+    let kept = sym went.modes.mcr in
     record {
       events = p.events;
-      ends = passes_events x Order NoLine s t p.events went same;
+      ends = passes_events x Order NoLine s t p.events (subst O kept w.open_modes) (subst W kept went) same;
       ahead = p.ahead;
       sound = p.sound;
     }

@@ -1,5 +1,5 @@
 -- What accesses leave of a schedule of which a part is known, and what they leave on the wire.
-use Rattle.std.proofs.Common.{◌≡◌, ◌⊎◌, inl, inr, ℕ, zero, suc, Bool, true, false, ◌==◌, nat_lt, List, [], ◌∷◌, ◌++◌, length}
+use Rattle.std.proofs.Common.{◌≡◌, ℕ, Bool, true, false, ◌==◌, nat_lt, List, [], ◌∷◌, ◌++◌, length}
 use Rattle.std.proofs.Common.{replicate, Option, Some}
 use Rattle.std.proofs.Common.{None, append_assoc, append-nil, refl, sym, ◌∙◌, ap, if◌then◌else◌}
 use Rattle.uart_events.specs.declared.event.Event.{Event}

@@ -1,4 +1,5 @@
 pub mod Schedules
+pub mod Wireds
 pub mod Arranges
 pub mod Crossings
 pub mod Lefts
@@ -6,6 +7,11 @@ pub mod EndPasses
 pub mod EndActs
 pub mod LinkSteps
 pub mod LinkLaws
+pub mod Held
+pub mod Calm
+pub mod EndFlows
+pub mod Flows
+pub mod Wholes
 pub mod LinkTold
 pub mod LinkSounds
 pub mod News

@@ -1,18 +1,16 @@
 -- What a link carries.
-use Rattle.std.proofs.Common.{◌≡◌, ℕ, ◌+◌, ◌≤◌, Bool, true, List, [], ◌∷◌, ◌++◌, length, drop, map, append_assoc, refl, sym, ◌∙◌, ap}
-use Rattle.std.proofs.Common.{subst}
+use Rattle.std.proofs.Common.{◌≡◌, ℕ, ◌+◌, ◌≤◌, true, List, [], ◌∷◌, ◌++◌, length, drop, map, append_assoc, refl, sym, ◌∙◌, ap}
 use Rattle.std.proofs.Common.{arith}
 use Rattle.std.specs.List.{filter}
 use Rattle.std.proofs.lemmas.List.{drop-append-le, map-append, map-id}
 use Rattle.std.proofs.lemmas.List.Elements.{filter-append}
 use Rattle.uart_events.specs.declared.event.Event.{Event}
 use Rattle.uart_events.specs.declared.event.ArrivalMark.TheVariants.{Pending}
-use Rattle.uart_16550.specs.Grammar.{Settings}
 use Rattle.uart_chip.specs.declared.receiver.Character.{Character}
 use Rattle.uart_chip.specs.declared.receiver.Origin.TheVariants.{Arrived}
 use Rattle.uart_chip.specs.Transmitter.{held}
 use Rattle.uart_chip.specs.Receiver.{ReceiverState, mark_at}
-use Rattle.uart_chip.specs.Conserved.{out, stands, waiting, arriving, cut_character}
+use Rattle.uart_chip.specs.Conserved.{stands, waiting, arriving, cut_character}
 use Rattle.uart_chip.specs.Sound.{IsSound}
 use Rattle.uart_chip.proofs.conservation.Went.{Modes, dlab-in, loopback-in}
 use Rattle.uart_run.specs.Ready.{Ready}
@@ -26,12 +24,16 @@ use Rattle.uart_link.specs.declared.call.Side.TheVariants.{Left, Right}
 use Rattle.uart_link.specs.declared.link.Link.{Link}
 use Rattle.uart_link.specs.Brought.{brought, numbered}
 use Rattle.uart_link.specs.Cable.{on_cable}
-use Rattle.uart_link.specs.Carried.{on_the_way, to_be_taken, receiver_at, not_dropped, IsJoined, BothReady, NoneCut}
+use Rattle.uart_link.specs.Carried.{on_the_way, to_be_taken, receiver_at, not_dropped, Carries, IsJoined, BothReady, NoneCut}
 use Rattle.uart_link.specs.Link.{Step, LinkChain}
 use Rattle.uart_link.specs.Parts.{LinkConserves}
 use Rattle.uart_link.proofs.Crossings.{arriving_numbered}
 use Rattle.uart_link.proofs.EndActs.{arrived_after}
-use Rattle.uart_link.proofs.EndPasses.{EndPasses}
+use Rattle.uart_run.specs.Wired.{IsWired}
+use Rattle.uart_ring_runs.proofs.RingRts.{modes_at, begins_session}
+use Rattle.uart_link.proofs.EndPasses.{InEnd, EndPasses}
+use Rattle.uart_link.proofs.Flows.{drops_nothing}
+use Rattle.uart_link.proofs.Wholes.{delivers}
 use Rattle.uart_link.proofs.LinkSteps.{Brings, link_chain, joined_after}
 use Rattle.uart_link.proofs.LinkTold.{tells_drops}
 
@@ -113,7 +115,7 @@ module _ (x y : Modes) (A B N O : Type 0) (q p e f : List ℕ) (s t r u : RingSt
       sym (append_assoc f (to_take u) (waiting (ring_machine u))) ∙ (ap (λ zs. zs ++ waiting (ring_machine u)) gets.received ∙
       (append_assoc (to_take r) (data_read gets.made) (waiting (ring_machine u)) ∙ ap (λ zs. to_take r ++ zs) (sym stay)))
 
-  carried : CutsNothing x → CutsNothing y → InSession y (under u) → A →
+  carried : CutsNothing x → CutsNothing y → InEnd y u → A →
       f ++ (to_be_taken u ++ on_the_way t u) ≡ to_take r ++ not_dropped (receiver_at u)
       ((receiver_at r).queue ++ numbered (receiver_at r).arrived (on_the_way s r ++ q))
   carried whole whole_too session order =
@@ -124,7 +126,8 @@ module _ (x y : Modes) (A B N O : Type 0) (q p e f : List ℕ) (s t r u : RingSt
       let R = receiver_at u in
       let number : k + length came ≡ R.arrived = sym (number_after) in
       let rest : not_dropped R (numbered (k + length came) way) ≡ way =
-      ap (λ n. not_dropped R (numbered n way)) number ∙ numbered_stand R R.arrived way session.stands.sound.chip.receiver.marked.to_come in
+      ap (λ n. not_dropped R (numbered n way)) number ∙
+      numbered_stand R R.arrived way session.session.stands.sound.chip.receiver.marked.to_come in
       let whole_queue : not_dropped R (queue ++ numbered k (on_the_way s r ++ q)) ≡ not_dropped R (queue ++ numbered k came) ++ way =
       ap (λ bytes. not_dropped R (queue ++ numbered k bytes)) (sym (all_way whole order)) ∙
       (ap (λ (characters : List Character). not_dropped R (queue ++ characters)) (numbered-append k came way) ∙
@@ -135,7 +138,7 @@ module _ (x y : Modes) (A B N O : Type 0) (q p e f : List ℕ) (s t r u : RingSt
       (append_assoc (to_take r) (not_dropped R (queue ++ numbered k came)) way ∙ ap (λ zs. to_take r ++ zs) (sym whole_queue)))
     where
       number_after : (receiver_at u).arrived ≡ (receiver_at r).arrived + length (brought events)
-      number_after = arrived_after y _ _ events gets.went
+      number_after = arrived_after _ _ _ events gets.went
 
 -- ---- a part of a run
 
@@ -163,27 +166,39 @@ cuts_nothing : (s : RingState) → CutsNothing (whole_modes s)
 unfolding whole_modes
 cuts_nothing s = refl
 
-ready_after : (x : Modes) (s : RingState) → InSession x (under s) → Ready (under s)
+whole_end : (s : RingState) → Ready (under s) → IsUncut (under s) → IsSound (ring_machine s) → IsWired (under s) →
+    InEnd (whole_modes s) s
+whole_end s ready uncut sound wired =
+    record { session = begins_session (whole_modes s) s (whole_session s ready uncut sound); wired = wired }
+
+ready_after : (x : Modes) (s : RingState) → InEnd x s → Ready (under s)
 ready_after x s w = record {
-  dlab = dlab-in x (ring_machine s).chip w.stands.modes ∙ w.open_modes.dlab;
-  loopback = loopback-in x (ring_machine s).chip w.stands.modes ∙ w.open_modes.loopback;
-  fifo = w.stands.modes.fifo ∙ sym w.fifo;
+  dlab = dlab-in (modes_at x s) (ring_machine s).chip w.session.stands.modes ∙ w.session.open_modes.dlab;
+  loopback = loopback-in (modes_at x s) (ring_machine s).chip w.session.stands.modes ∙ w.session.open_modes.loopback;
+  fifo = w.session.stands.modes.fifo ∙ sym w.session.fifo;
 }
 
 pub link_conserves : (a b : Link) (steps : List Step) → IsSound (ring_machine a.left) → IsSound (ring_machine a.right) →
-    IsJoined a → BothReady a → NoneCut a → LinkChain a steps b → LinkConserves a steps b
-link_conserves a b steps sound_left sound_right joined ready uncut chain =
+    IsWired (under a.left) → IsWired (under a.right) → IsJoined a → BothReady a → NoneCut a → LinkChain a steps b →
+    LinkConserves a steps b
+link_conserves a b steps sound_left sound_right wired_left wired_right joined ready uncut chain =
     let x = whole_modes a.left in
     let y = whole_modes a.right in
-    let w = whole_session a.left ready.left uncut.left sound_left in
-    let v = whole_session a.right ready.right uncut.right sound_right in
+    let w = whole_end a.left ready.left uncut.left sound_left wired_left in
+    let v = whole_end a.right ready.right uncut.right sound_right wired_right in
     let p = link_chain x y a b steps w v joined chain in
+    let rightward : Carries Left a steps b =
+    carried x y _ _ _ _ _ _ _ _ a.left b.left a.right b.right _ _ p.left p.right p.rightward joined.right.behind
+    (cuts_nothing a.left) (cuts_nothing a.right) p.in_right in
+    let leftward : Carries Right a steps b =
+    carried y x _ _ _ _ _ _ _ _ a.right b.right a.left b.left _ _ p.right p.left p.leftward joined.left.behind
+    (cuts_nothing a.right) (cuts_nothing a.left) p.in_left in
     record {
-      rightward = carried x y _ _ _ _ _ _ _ _ a.left b.left a.right b.right _ _ p.left p.right p.rightward joined.right.behind
-          (cuts_nothing a.left) (cuts_nothing a.right) p.in_right;
-      leftward = carried y x _ _ _ _ _ _ _ _ a.right b.right a.left b.left _ _ p.right p.left p.leftward joined.left.behind
-          (cuts_nothing a.right) (cuts_nothing a.left) p.in_left;
+      rightward = rightward;
+      leftward = leftward;
       tells = λ end. tells_drops x y a b steps end w v joined chain;
+      whole = λ pace paced.
+          delivers a b steps sound_left sound_right rightward leftward (drops_nothing x y pace a b steps w v joined chain paced);
       ready = record { left = ready_after x b.left p.in_left; right = ready_after y b.right p.in_right };
       joined = joined_after x y _ _ _ _ a b p;
     }

@@ -1,19 +1,17 @@
 -- What calls of a link do at both ends, and to the bytes that cross the cable.
-use Rattle.std.proofs.Common.{◌≡◌, ◌≢◌, ℕ, ◌≤◌, List, [], ◌∷◌, ◌++◌, length, length-append, append_assoc, append-nil, drop, refl, sym}
+use Rattle.std.proofs.Common.{◌≡◌, ◌≢◌, ℕ, List, [], ◌∷◌, ◌++◌, length-append, append_assoc, append-nil, refl, sym}
 use Rattle.std.proofs.Common.{◌∙◌}
 use Rattle.std.proofs.Common.{ap, subst, arith}
 use Rattle.std.proofs.lemmas.List.{drop-append-le}
 use Rattle.uart_events.specs.declared.event.Event.{Event}
-use Rattle.uart_chip.specs.Chip.{ChipState}
 use Rattle.uart_chip.specs.Machine.{MachineState}
 use Rattle.uart_chip.proofs.Lists.{each-append}
 use Rattle.uart_chip.proofs.conservation.Went.{Modes, went-refl}
-use Rattle.uart_run.proofs.CallLaws.{InSession}
-use Rattle.uart_ring.specs.Ring.{RingFields, ring_fields}
+use Rattle.uart_ring_runs.proofs.RingRts.{modes_at}
 use Rattle.uart_ring_runs.specs.declared.call.RingCall.{RingCall}
 use Rattle.uart_ring_runs.specs.declared.call.RingCall.TheVariants as call
 use Rattle.uart_ring_runs.specs.declared.call.RingAnswer.{RingAnswer}
-use Rattle.uart_ring_runs.specs.RingRun.{RingState, under, ring_machine}
+use Rattle.uart_ring_runs.specs.RingRun.{RingState, ring_machine}
 use Rattle.uart_ring_runs.specs.RingBytes.{to_take, queued_by, gone_in, KeepsOrder}
 use Rattle.uart_link.specs.declared.call.Moment.{Moment}
 use Rattle.uart_link.specs.declared.call.Side.{Side}
@@ -25,8 +23,8 @@ use Rattle.uart_link.specs.Link.{at_end, other, EndStep, Step, LinkChain}
 use Rattle.uart_link.specs.Told.{NoLineAt}
 use Rattle.uart_link.proofs.Crossings.{brought-append, Crosses, crosses-refl, crosses-trans, crosses-more}
 use Rattle.uart_link.proofs.Lefts.{Grown}
-use Rattle.uart_link.proofs.EndActs.{EndActs, end_acts, grown-trans}
-use Rattle.uart_link.proofs.EndPasses.{EndPasses, passes_events, passes-trans}
+use Rattle.uart_link.proofs.EndActs.{end_acts, grown-trans}
+use Rattle.uart_link.proofs.EndPasses.{InEnd, EndPasses, passes_events, passes-trans}
 
 -- what has left the chip at an end
 abbrev wire_of : RingState → List ℕ
@@ -80,13 +78,13 @@ record OneActs (x y : Modes) (c : RingCall) (a : RingAnswer) (s t r u : RingStat
   pub events : List Event
   pub ends : EndPasses x (KeepsOrder c) (queued_by c a) (c ≢ call.TakeLine) s t (gone_in c a (to_take s)) events
   pub stays : EndPasses y (Unit {0}) [] (Unit {0}) r u [] []
-  pub session : InSession x (under t)
-  pub other_session : InSession y (under u)
+  pub session : InEnd x t
+  pub other_session : InEnd y u
   pub away : Brings s t r u []
   pub back : Brings r u s t events
 
-one_acts : (x y : Modes) (moments : List Moment) (c : RingCall) (a : RingAnswer) (s t r u : RingState) → InSession x (under s) →
-    InSession y (under r) → IsBrought (wire_of r) (ring_machine s) → IsBrought (wire_of s) (ring_machine r) →
+one_acts : (x y : Modes) (moments : List Moment) (c : RingCall) (a : RingAnswer) (s t r u : RingState) → InEnd x s →
+    InEnd y r → IsBrought (wire_of r) (ring_machine s) → IsBrought (wire_of s) (ring_machine r) →
     EndStep moments r s c a t → u ≡ r → OneActs x y c a s t r u
 one_acts x y moments c a s t r u w v b d h same = subst (λ (o : RingState). OneActs x y c a s t r o) (sym same) still
   where
@@ -97,7 +95,8 @@ one_acts x y moments c a s t r u w v b d h same = subst (λ (o : RingState). One
         record {
           events = acts.events;
           ends = acts.ends;
-          stays = passes_events y (Unit {0}) (Unit {0}) r r [] (went-refl y rm.chip v.stands.sound.chip v.stands.modes) refl;
+          stays = passes_events y (Unit {0}) (Unit {0}) r r [] v.session.open_modes
+              (went-refl (modes_at y r) rm.chip v.session.stands.sound.chip v.session.stands.modes) refl;
           session = acts.session;
           other_session = v;
           away = brings_nothing s t r d acts.grown;
@@ -117,20 +116,20 @@ pub record LinkPasses (x y : Modes) (Order NoLine : Side → Type 0) (queued gon
   pub events : Side → List Event
   pub left : EndPasses x (Order Left) (queued Left) (NoLine Left) a.left b.left (gone Left) (events Left)
   pub right : EndPasses y (Order Right) (queued Right) (NoLine Right) a.right b.right (gone Right) (events Right)
-  pub in_left : InSession x (under b.left)
-  pub in_right : InSession y (under b.right)
+  pub in_left : InEnd x b.left
+  pub in_right : InEnd y b.right
   pub rightward : Brings a.left b.left a.right b.right (events Right)
   pub leftward : Brings a.right b.right a.left b.left (events Left)
 
 -- a part of a run that is no call
-pub links-refl : (x y : Modes) (a : Link) → InSession x (under a.left) → InSession y (under a.right) → IsJoined a →
+pub links-refl : (x y : Modes) (a : Link) → InEnd x a.left → InEnd y a.right → IsJoined a →
     LinkPasses x y (λ end. Unit {0}) (λ end. Unit {0}) (λ end. []) (λ end. []) a a
 links-refl x y a w v joined = record {
   events = λ end. [];
-  left = passes_events x (Unit {0}) (Unit {0}) a.left a.left []
-      (went-refl x (ring_machine a.left).chip w.stands.sound.chip w.stands.modes) refl;
-  right = passes_events y (Unit {0}) (Unit {0}) a.right a.right []
-      (went-refl y (ring_machine a.right).chip v.stands.sound.chip v.stands.modes) refl;
+  left = passes_events x (Unit {0}) (Unit {0}) a.left a.left [] w.session.open_modes
+      (went-refl (modes_at x a.left) (ring_machine a.left).chip w.session.stands.sound.chip w.session.stands.modes) refl;
+  right = passes_events y (Unit {0}) (Unit {0}) a.right a.right [] v.session.open_modes
+      (went-refl (modes_at y a.right) (ring_machine a.right).chip v.session.stands.sound.chip v.session.stands.modes) refl;
   in_left = w;
   in_right = v;
   rightward = brings_nothing a.left a.left a.right joined.right ([], sym (append-nil (wire_of a.left)));
@@ -158,7 +157,7 @@ only_at acting end events = []
 
 -- a call at either end
 link_step : (x y : Modes) (a b : Link) (side : Side) (moments : List Moment) (c : RingCall) (answer : RingAnswer) →
-    InSession x (under a.left) → InSession y (under a.right) → IsJoined a →
+    InEnd x a.left → InEnd y a.right → IsJoined a →
     EndStep moments (at_end (other side) a) (at_end side a) c answer (at_end side b) →
     at_end (other side) b ≡ at_end (other side) a →
     LinkPasses x y (λ end. OfEnd end side (KeepsOrder c)) (λ end. OfEnd end side (c ≢ call.TakeLine))
@@ -190,7 +189,7 @@ pub joined_after : (x y : Modes) (Order NoLine : Side → Type 0) (queued gone :
     LinkPasses x y Order NoLine queued gone a b → IsJoined b
 joined_after x y Order NoLine queued gone a b p = record { left = p.leftward.now; right = p.rightward.now }
 
-pub link_chain : (x y : Modes) (a b : Link) (steps : List Step) → InSession x (under a.left) → InSession y (under a.right) →
+pub link_chain : (x y : Modes) (a b : Link) (steps : List Step) → InEnd x a.left → InEnd y a.right →
     IsJoined a → LinkChain a steps b →
     LinkPasses x y (λ end. AllKeepOrderAt end steps) (λ end. NoLineAt end steps) (λ end. queued_at end steps)
     (λ end. gone_at end steps) a b
@@ -200,7 +199,7 @@ link_chain x y a b (step ∷ steps) w v joined h =
     (λ end. queued_at end (step ∷ steps)) (λ end. gone_at end (step ∷ steps)) o b in
     let here = sym h.0 in
     let first = link_step x y step.before step.after step.call.side step.call.moments.items step.call.call step.answer
-    (subst (λ (o : Link). InSession x (under o.left)) here w) (subst (λ (o : Link). InSession y (under o.right)) here v)
+    (subst (λ (o : Link). InEnd x o.left) here w) (subst (λ (o : Link). InEnd y o.right) here v)
     (subst (λ (o : Link). IsJoined o) here joined) h.1.0 h.1.1 in
     let rest = link_chain x y step.after b steps first.in_left first.in_right (joined_after x y _ _ _ _ step.before step.after first) h.2 in
     subst P h.0 (links-trans x y _ _ _ _ _ _ _ _ step.before step.after b first rest)

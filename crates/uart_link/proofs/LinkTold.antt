@@ -1,5 +1,5 @@
 -- That a `take_line` tells of a drop.
-use Rattle.std.proofs.Common.{◌≡◌, ◌≢◌, ◌⊎◌, inl, inr, ℕ, Bool, true, false, not, ◌||◌, ◌==◌, List, [], ◌∷◌, ◌++◌, refl, sym, ◌∙◌, ap}
+use Rattle.std.proofs.Common.{◌≡◌, ◌⊎◌, inl, inr, ℕ, Bool, true, false, not, ◌||◌, ◌==◌, List, [], ◌∷◌, refl, sym, ◌∙◌, ap}
 use Rattle.std.proofs.Common.{subst}
 use Rattle.std.proofs.Common.{bit_and, bit_or}
 use Rattle.std.proofs.lemmas.Nat.{and_assoc}
@@ -17,13 +17,13 @@ use Rattle.uart_chip.proofs.conservation.Receives.{Drop, drop_split, Owed, Shows
 use Rattle.uart_chip.proofs.conservation.SessionLaws.{look_clears, drop_receivers}
 use Rattle.uart_chip.proofs.conservation.Went.{Modes}
 use Rattle.uart_chip.specs.Conserved.{IsDrop}
-use Rattle.uart_run.proofs.CallLaws.{InSession}
+use Rattle.uart_ring_runs.proofs.RingRts.{modes_at}
 use Rattle.uart_run.proofs.Chains.{ended}
 use Rattle.uart_ring.specs.Ring.{ring_fields}
 use Rattle.uart_ring.specs.Status.{TakesLine}
 use Rattle.uart_ring_runs.specs.declared.call.RingAnswer.{RingAnswer}
 use Rattle.uart_ring_runs.specs.declared.call.RingAnswer.TheVariants.{Line}
-use Rattle.uart_ring_runs.specs.RingRun.{RingState, RingCalled, under, ring_machine, line_answer}
+use Rattle.uart_ring_runs.specs.RingRun.{RingState, RingCalled, ring_machine, line_answer}
 use Rattle.uart_ring_runs.proofs.RingPasses.{untold_line_of}
 use Rattle.uart_ring_runs.specs.declared.call.RingCall.{RingCall}
 use Rattle.uart_ring_runs.specs.declared.call.RingCall.TheVariants as call
@@ -35,7 +35,7 @@ use Rattle.uart_link.specs.Carried.{IsJoined}
 use Rattle.uart_link.specs.Link.{at_end, other, EndStep, CabledCallStep, LinkCallStep, Step, LinkChain}
 use Rattle.uart_link.specs.Told.{TellsDrops}
 use Rattle.uart_link.proofs.EndActs.{end_begins}
-use Rattle.uart_link.proofs.EndPasses.{EndPasses, passes-trans}
+use Rattle.uart_link.proofs.EndPasses.{InEnd, EndPasses, passes-trans}
 use Rattle.uart_link.proofs.LinkSteps.{LinkPasses, link_chain}
 
 -- a mask with the flag leaves it
@@ -94,13 +94,13 @@ drop_told r s t seen Told before late shown (inl d) = by (shown (inr d))
 
 -- since r no line status was told: one that is told after s tells of a drop
 pub take_line_tells : (x : Modes) (Order NoLine : Type 0) (r s t : RingState) (q e : List ℕ) (events : List Event)
-    (value : ℕ) → EndPasses x Order q NoLine r s e events → NoLine → InSession x (under s) →
+    (value : ℕ) → EndPasses x Order q NoLine r s e events → NoLine → InEnd x s →
     RingCalled TakesLine line_answer (line_answer value) s t →
     Drop (ring_machine r).chip.receiver (ring_machine t).chip.receiver → has_any value LSR.OVERRUN_ERROR.0 ≡ true
 take_line_tells x Order NoLine r s t q e events value p none w h d =
     let took = took_line s t value h in
     let mid = took.path.0 in
-    let look = passed-look x (ring_machine s) mid took.status w.open_modes.loopback w.stands took.path.1 in
+    let look = passed-look (modes_at x s) (ring_machine s) mid took.status w.session.open_modes.loopback w.session.stands took.path.1 in
     let cleared : mid.chip.receiver.is_overrun ≡ false = look_clears (ring_machine s) mid took.status took.path.1 in
     let saved = (ring_fields s).driver.lsr in
     let noted = (ring_fields s).line in
@@ -144,7 +144,7 @@ take_line_tells x Order NoLine r s t q e events value p none w h d =
 -- a call at an end
 end_tells : (x : Modes) (Order NoLine : Type 0) (q e : List ℕ) (events : List Event) (moments : List Moment)
     (there r s t : RingState) (c : RingCall)
-    (a : RingAnswer) (value : ℕ) → EndPasses x Order q NoLine r s e events → NoLine → InSession x (under s) →
+    (a : RingAnswer) (value : ℕ) → EndPasses x Order q NoLine r s e events → NoLine → InEnd x s →
     EndStep moments there s c a t → c ≡ call.TakeLine → a ≡ line_answer value →
     Drop (ring_machine r).chip.receiver (ring_machine t).chip.receiver → has_any value LSR.OVERRUN_ERROR.0 ≡ true
 end_tells x Order NoLine q e events moments there r s t c a value p none w h is answered d =
@@ -167,8 +167,8 @@ side_tells x y a n u Right Order NoLine queued gone moments c answer value p non
     end_tells y _ _ _ _ _ moments n.left a.right n.right u.right c answer value p.right none p.in_right h is answered
     (drop_receivers _ _ d)
 
-pub tells_drops : (x y : Modes) (a b : Link) (steps : List Step) (end : Side) → InSession x (under a.left) →
-    InSession y (under a.right) → IsJoined a → LinkChain a steps b → TellsDrops end a steps b
+pub tells_drops : (x y : Modes) (a b : Link) (steps : List Step) (end : Side) → InEnd x a.left →
+    InEnd y a.right → IsJoined a → LinkChain a steps b → TellsDrops end a steps b
 tells_drops x y a b steps end w v joined chain some last value is none side taken answered =
     let T : Link → Type 0 = λ u. IsDrop (ring_machine (at_end end a)) (ring_machine (at_end end u)) →
     has_any value LSR.OVERRUN_ERROR.0 ≡ true in

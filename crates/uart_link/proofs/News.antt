@@ -66,6 +66,7 @@ known_new model char_ticks capacity count events c p q e = record {
   whole = rw (is_new model char_ticks capacity count events c p q)
       (whole_fresh model char_ticks capacity (unknown count) (refusal_unknown char_ticks capacity count ∙ e));
   unmarked = rw q tt;
+  wired = rw p refl;
 }
 
 -- a chip to which nothing has come yet: whatever has left the other one may come

@@ -1,19 +1,20 @@
 -- The schedule of a chip at a cable: what is known of it, and behind that what nobody knows yet.
-use Rattle.std.proofs.Common.{◌≡◌, ◌≢◌, ℕ, zero, suc, ◌+◌, ◌-◌, ◌<◌, ◌≤◌, List, [], ◌∷◌, ◌++◌, length, drop, take, replicate, refl}
-use Rattle.std.proofs.Common.{sym, ◌∙◌, ap, subst}
-use Rattle.std.proofs.Common.{slice_index_or, drop-cons, add-one, arith, append_assoc, min, zero-le}
-use Rattle.std.specs.List.{AllByRecursion}
+use Rattle.std.proofs.Common.{◌≡◌, ◌≢◌, ℕ, zero, suc, ◌+◌, ◌-◌, ◌<◌, ◌≤◌, List, [], ◌∷◌, ◌++◌, length, drop, replicate, refl}
+use Rattle.std.proofs.Common.{sym, ◌∙◌, ap}
+use Rattle.std.proofs.Common.{slice_index_or, drop-cons, add-one, arith, zero-le}
 use Rattle.std.proofs.lemmas.List.{drop_all}
 use Rattle.uart_events.specs.declared.event.Event.{Event}
-use Rattle.uart_events.specs.declared.event.Event.TheVariants.{Ticks, Arrive, Lines as Change, Access as Gate, Mark}
+use Rattle.uart_events.specs.declared.event.Event.TheVariants.{Ticks, Arrive, Lines as Change, Mark}
 use Rattle.uart_events.specs.Build.{IsLegal}
 use Rattle.uart_spec.specs.Bits.{IsWithin}
 use Rattle.uart_spec.specs.declared.registers.modem_status.TheConstants.MSR
 use Rattle.uart_chip.specs.Chip.{ChipState}
-use Rattle.uart_chip.specs.Machine.{MachineState, arrivals, perform, at_access}
-use Rattle.uart_chip.specs.Sound.{AllLegal, IsSound, IsWhole}
+use Rattle.uart_chip.specs.Machine.{MachineState, arrivals, perform}
+use Rattle.uart_chip.specs.Sound.{AllLegal, IsSound}
 use Rattle.uart_chip.proofs.Lists.{each-append}
 use Rattle.uart_chip.proofs.soundness.Sounds.{whole_perform}
+use Rattle.uart_run.specs.Wired.{IsWiredChip}
+use Rattle.uart_run.proofs.Wired.{wired-ticks}
 use Rattle.uart_link.specs.declared.call.Moment.{Moment}
 use Rattle.uart_link.specs.declared.call.Moment.TheVariants as moment
 use Rattle.uart_link.specs.Cable.{events_of, unknown, to_come, with_ahead, settled}
@@ -96,6 +97,7 @@ known_ahead c count events k legal unmarked few = record {
     bytes = k.whole.bytes;
   };
   unmarked = unmarked;
+  wired = k.wired;
 }
 
 pub known_arranged : (c : ChipState) (count : ℕ) (events : List Event) → IsKnown c [] count →
@@ -117,11 +119,21 @@ pub record IsOnTheWay (reach : MachineState → MachineState) (start : MachineSt
   pub known : IsKnown c (drop cursor events) count
   pub same : reach (record { chip = c; ahead = drop cursor events ++ unknown count }) ≡ reach start
 
+-- an event leaves a chip wired
+wired_performed : (event : Event) (c : ChipState) → IsWiredChip c → IsWiredChip (perform event c)
+wired_performed (Ticks n) c w = wired-ticks n c w
+wired_performed (Change inputs) c w = refl
+wired_performed _ c w = w
+
 -- what is known after one event of it was performed
 pub known_perform : (event : Event) (events : List Event) (c : ChipState) (count : ℕ) → IsKnown c (event ∷ events) count →
     IsKnown (perform event c) events count
 known_perform event events c count k =
-    record { whole = whole_perform event (events ++ unknown count) c k.whole; unmarked = k.unmarked.1 }
+    record {
+      whole = whole_perform event (events ++ unknown count) c k.whole;
+      unmarked = k.unmarked.1;
+      wired = wired_performed event c k.wired;
+    }
 
 pub goes_on : (reach : MachineState → MachineState) (start : MachineState) (events : List Event) (k count : ℕ) (event : Event)
     (c d : ChipState) → k < length events → event ≡ slice_index_or events k event → d ≡ perform event c →

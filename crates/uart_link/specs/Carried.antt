@@ -1,13 +1,11 @@
 -- What a link carries: where each byte is that was queued at one end.
-use Rattle.std.specs.Prelude.{◌≡◌, ℕ, List, [], ◌∷◌, ◌++◌, map, filter, flat_map}
+use Rattle.std.specs.Prelude.{◌≡◌, ℕ, List, [], ◌∷◌, ◌++◌, map, filter}
 use Rattle.uart_chip.specs.declared.receiver.Character.{Character}
 use Rattle.uart_chip.specs.Transmitter.{held}
 use Rattle.uart_chip.specs.Receiver.{ReceiverState}
 use Rattle.uart_chip.specs.Conserved.{stands, waiting}
 use Rattle.uart_run.specs.Ready.{Ready}
 use Rattle.uart_run.specs.Uncut.{IsUncut}
-use Rattle.uart_ring_runs.specs.declared.call.RingCall.{RingCall}
-use Rattle.uart_ring_runs.specs.declared.call.RingCall.TheVariants as call
 use Rattle.uart_ring_runs.specs.RingRun.{RingState, ring_machine, under}
 use Rattle.uart_ring_runs.specs.RingBytes.{to_send, to_take, queued_by, gone_in, KeepsOrder}
 use Rattle.uart_link.specs.declared.call.Side.{Side}

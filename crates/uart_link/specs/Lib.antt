@@ -4,4 +4,5 @@ pub mod Brought
 pub mod Link
 pub mod Carried
 pub mod Told
+pub mod Flow
 pub mod Parts

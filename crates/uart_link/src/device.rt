@@ -6,6 +6,7 @@ ghost use Rattle.uart_chip.specs.Machine as machine;
 ghost use Rattle.uart_chip.specs.Sound.{IsWhole};
 ghost use Rattle.uart_chip.specs.Transmitter.{held};
 ghost use Rattle.uart_events.specs.Build.{refusal};
+ghost use Rattle.uart_run.specs.Wired.{IsWiredChip};
 ghost use Rattle.uart_events.specs.declared.event.BuildError.{BuildError};
 ghost use Rattle.uart_link.specs.Brought.{IsBrought};
 ghost use Rattle.uart_link.specs.Cable as spec;
@@ -280,6 +281,7 @@ impl CabledChip {
     pub fn arrivals(&self) -> usize
         ensures number { result ≡ length self.now.chip.receiver.marks }
         ensures whole { IsWhole self.now }
+        ensures wired { IsWiredChip self.now.chip }
     {
         self.uart.receiver().arrivals()
     }

@@ -109,6 +109,9 @@ fn make_link_call(link: &mut Link, call: &LinkCall) -> RingAnswer
 ///   sender's transmitter and in its rings. This holds if no call of the sender is a `QueueUrgent`
 ///   or a `ClearTransmit`;
 /// - the first `TakeLine` of an end shows a drop there as the overrun flag;
+/// - no character is dropped at either end, if both programs keep to flow control: both check CTS,
+///   `AdjustRts` follows each run of the handler, with marks that leave room for what may arrive
+///   before it and what is on the cable. The README says it exactly;
 /// - after it, a session may go on at both ends, and they are still joined.
 ///
 /// # Examples

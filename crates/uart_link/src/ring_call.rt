@@ -63,6 +63,10 @@ pub fn make_ring_call(ring: &mut Uart16550Ring<CabledChip>, call: &RingCall) -> 
             ring.restart(*interrupts);
             RingAnswer::Done
         }
+        RingCall::AdjustRts(marks) => {
+            ring.adjust_rts(*marks);
+            RingAnswer::Done
+        }
         RingCall::Next => {
             ring.inner_mut().backend_mut().settle();
             RingAnswer::Done

@@ -31,6 +31,11 @@ use Rattle.uart_ring.specs.Ring.{with_rounds, cleared, without_sent}
 use Rattle.uart_ring.specs.Transmit.{ArmsIfLeft, Pumps, Queues, ResumesTransmit, Holds, Releases, QueuesUrgent, ClearsTransmit}
 use Rattle.uart_ring.specs.Transmit.{SetsLowMark, TakesLow}
 use Rattle.uart_ring.specs.Receive.{PausesIfFull, FillsReceiveRing, EndsPause, TakesBytes, ClearsReceive}
+use Rattle.uart_ring.specs.Receive.{write_if_other, rts_at, MakesRtsIfAny, AdjustsRts}
+use Rattle.uart_ring.specs.declared.ring.receive.ReceiveMarks.{ReceiveMarks}
+use Rattle.uart_spec.specs.declared.registers.modem_control.TheConstants.MCR
+use Rattle.uart_16550.specs.Frame.{switched, unlooped}
+use Rattle.uart_ring.specs.Ring.{free}
 use Rattle.uart_ring.specs.Storm.{LooksOnceMore, CountsUnfinished, CountsRound, HandlesRound, StaysStuck, TriesToHandle, Restarts}
 use Rattle.uart_ring.specs.Storm.{not_paused}
 use Rattle.uart_ring.specs.declared.ring.storm.StuckError.{StuckError}
@@ -478,6 +483,23 @@ sets_low_mark_leave mark f l after t = leaves_sets (with_low_mark mark) f l afte
 
 pub takes_low_leave : (low : Bool) → Implies (TakesLow low) LeavesArmed
 takes_low_leave low f l after t = leaves_sets (with_low false) f l after t.1 (λ e. e)
+
+-- MCR has no part in it
+rts_live : (shown on : Bool) (mcr value : ℕ) (known : ThrEmpty) → IsLive known →
+    IsLive (known_after_all known (Read offsets.MCR mcr ∷ write_if_other shown on (Write offsets.MCR value)))
+rts_live true true mcr value known live = live
+rts_live true false mcr value known live = live
+rts_live false true mcr value known live = live
+rts_live false false mcr value known live = live
+
+makes_rts_leaves : (wanted : Option Bool) → Implies (MakesRtsIfAny wanted) LeavesArmed
+makes_rts_leaves None f l after t = leaves_stays f l after t
+makes_rts_leaves (Some on) f l after (((mcr, is), saved), same) =
+    leaves_live f l after (ap sendable same)
+    (λ known keeps live. rw is (rts_live (has mcr MCR.RTS.0) on mcr (unlooped (switched on MCR.RTS.0 mcr)) known live))
+
+pub adjusts_leave : (marks : ReceiveMarks) → Implies (AdjustsRts marks) LeavesArmed
+adjusts_leave marks f l after t = makes_rts_leaves (rts_at marks (free f.receive)) f l after t
 
 any_ends_pause_leaves : (count : ℕ) → Implies (IfAny count EndsPause) LeavesArmed
 any_ends_pause_leaves zero f l after t = leaves_stays f l after t

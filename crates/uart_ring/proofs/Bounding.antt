@@ -3,6 +3,7 @@ use Rattle.std.proofs.Common.{◌≡◌, ◌≤◌, ◌+◌, ◌-◌, ◌*◌, �
 use Rattle.std.proofs.Common.{length-append, length-take, refl, arith, ap, inl, inr, nat_lt, Option, Some, None, Result}
 use Rattle.std.specs.Prelude.{MatchOption}
 use Rattle.uart_spec.specs.declared.access.Access.{Access}
+use Rattle.uart_spec.specs.declared.access.Access.TheVariants.{Write}
 use Rattle.uart_spec.specs.declared.baud.TheConstants.{FIFO_SIZE}
 use Rattle.uart_spec.specs.declared.errors.ByteSendError.TheVariants.{NoCapacity, RemoteNotClearToSend}
 use Rattle.uart_spec.specs.declared.registers.interrupt_enable.TheConstants.IER
@@ -22,6 +23,11 @@ use Rattle.uart_ring.specs.Ring.{free, is_full, waiting, sendable, without_sent,
 use Rattle.uart_ring.specs.Transmit.{ArmsIfLeft, Pumps, Queues, ResumesTransmit, Holds, Releases, QueuesUrgent, ClearsTransmit}
 use Rattle.uart_ring.specs.Transmit.{SetsLowMark, TakesLow}
 use Rattle.uart_ring.specs.Receive.{PausesIfFull, FillsReceiveRing, EndsPause, TakesBytes, ClearsReceive}
+use Rattle.uart_ring.specs.Receive.{write_if_other, rts_at, MakesRtsIfAny, AdjustsRts}
+use Rattle.uart_ring.specs.declared.ring.receive.ReceiveMarks.{ReceiveMarks}
+use Rattle.uart_spec.specs.Bits.{has}
+use Rattle.uart_spec.specs.declared.registers.modem_control.TheConstants.MCR
+use Rattle.uart_16550.specs.Frame.{switched, unlooped}
 use Rattle.uart_ring.specs.Storm.{every_bit, LooksOnceMore, CountsUnfinished, CountsRound, HandlesRound, StaysStuck, TriesToHandle}
 use Rattle.uart_ring.specs.Storm.{Restarts}
 use Rattle.uart_ring.specs.Storm.{not_paused}
@@ -36,7 +42,7 @@ use Rattle.uart_ring.specs.declared.ring.service.Handled.{Handled}
 use Rattle.uart_ring.specs.Lossless.{Implies}
 use Rattle.uart_ring.proofs.Pausing.{ChangesIer, Pausing, joined_with, rid_of}
 use Rattle.uart_ring.specs.Bounded.{MakesAtMost, most_of_change, most_of_pump, most_of_receiving, most_of_service}
-use Rattle.uart_ring.specs.Bounded.{most_of_retrigger, most_of_handle, most_of_try_handle, most_of_restart}
+use Rattle.uart_ring.specs.Bounded.{most_of_retrigger, most_of_handle, most_of_try_handle, most_of_restart, most_of_adjust}
 
 -- two lists in turn
 both : (l m k : List Access) (x y : ℕ) → l ≡ m ++ k → length m ≤ x → length k ≤ y → length l ≤ x + y
@@ -238,6 +244,20 @@ sets_low_mark_size mark f l after t = omega (arith, ap length t.0)
 
 pub takes_low_size : (low : Bool) → Implies (TakesLow low) (MakesAtMost 0)
 takes_low_size low f l after t = omega (arith, ap length t.1.0)
+
+write_size : (shown on : Bool) (write : Access) → length (write_if_other shown on write) ≤ 1
+write_size true true write = omega arith
+write_size true false write = omega arith
+write_size false true write = omega arith
+write_size false false write = omega arith
+
+makes_rts_size : (wanted : Option Bool) → Implies (MakesRtsIfAny wanted) (MakesAtMost most_of_adjust)
+makes_rts_size None f l after t = omega (arith, ap length t.0)
+makes_rts_size (Some on) f l after (((mcr, is), saved), same) =
+    omega (arith, ap length is, write_size (has mcr MCR.RTS.0) on (Write offsets.MCR (unlooped (switched on MCR.RTS.0 mcr))))
+
+pub adjusts_size : (marks : ReceiveMarks) → Implies (AdjustsRts marks) (MakesAtMost most_of_adjust)
+adjusts_size marks f l after t = makes_rts_size (rts_at marks (free f.receive)) f l after t
 
 any_ends_pause_size : (count : ℕ) → Implies (IfAny count EndsPause) (MakesAtMost most_of_change)
 any_ends_pause_size zero f l after t = omega (arith, ap length t.0)

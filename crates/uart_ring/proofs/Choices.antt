@@ -6,7 +6,7 @@ use Rattle.std.proofs.Common.{sym, ◌∙◌, ap, subst, inl, inr, ◌⊎◌, Op
 use Rattle.std.specs.Prelude.{MatchOption}
 use Rattle.std.proofs.lemmas.Bool.{false≢true}
 use Rattle.uart_spec.specs.declared.access.Access.{Access}
-use Rattle.uart_spec.specs.declared.access.Access.TheVariants.{Read}
+use Rattle.uart_spec.specs.declared.access.Access.TheVariants.{Read, Write}
 use Rattle.uart_spec.specs.Bits.{IsOnlyIfAny}
 use Rattle.uart_spec.specs.Fields.{Identifies}
 use Rattle.uart_spec.specs.declared.baud.TheConstants.{FIFO_SIZE}
@@ -25,7 +25,7 @@ use Rattle.uart_16550.specs.Driver.{Doing, Fields, Next, Saving, settings_of}
 use Rattle.uart_16550.specs.Receive.{Receives}
 use Rattle.uart_16550.specs.Status.{TakesLsr, TakesMsr, Enables}
 use Rattle.uart_16550.specs.Transmit.{Sends}
-use Rattle.uart_16550.proofs.determined.Parting.{SameOrPart, read_determined, so, so_front, so_sym, so_then}
+use Rattle.uart_16550.proofs.determined.Parting.{Determined, SameOrPart, read_determined, so, so_front, so_is, so_read, so_sym, so_then}
 use Rattle.uart_16550.proofs.determined.Doings.{Does, does_next, does_saving, does_so}
 use Rattle.uart_16550.proofs.determined.Receive.{receives_determined}
 use Rattle.uart_16550.proofs.determined.Status.{disables_determined, enables_determined, takes_lsr_determined, takes_msr_determined}
@@ -38,6 +38,11 @@ use Rattle.uart_ring.specs.Ring.{restarted, cleared}
 use Rattle.uart_ring.specs.Transmit.{ArmsIfLeft, Pumps, Queues, ResumesTransmit, Holds, Releases, QueuesUrgent, ClearsTransmit}
 use Rattle.uart_ring.specs.Transmit.{SetsLowMark, TakesLow}
 use Rattle.uart_ring.specs.Receive.{EndsPause, FillsReceiveRing, PausesIfFull, TakesBytes, ClearsReceive}
+use Rattle.uart_ring.specs.Receive.{write_if_other, rts_at, MakesRts, MakesRtsIfAny, AdjustsRts}
+use Rattle.uart_ring.specs.declared.ring.receive.ReceiveMarks.{ReceiveMarks}
+use Rattle.uart_spec.specs.declared.registers.modem_control.TheConstants.MCR
+use Rattle.uart_16550.specs.Frame.{switched, unlooped}
+use Rattle.uart_16550.specs.Grammar.{Settings}
 use Rattle.uart_ring.specs.Storm.{every_bit, TurnsOff, ShowsReason, ShowsStuck, LooksOnceMore, CountsUnfinished, CountsRound, HandlesRound}
 use Rattle.uart_ring.specs.Storm.{StaysStuck, TriesToHandle, Restarts, not_paused, unless_stuck}
 use Rattle.uart_ring.specs.declared.ring.storm.StuckError.{StuckError}
@@ -416,6 +421,25 @@ takes_low_leaves_no_choice =
     no_choice (λ f x y. record {
       at = λ l m a b p q. so (λ r. (p.0 ∙ sym q.0, r.1)) ((sets_same (with_low false) f).at l m a b p.1 q.1);
     })
+
+-- the read of MCR decides whether it is written, and with what
+makes_rts_determined : (on : Bool) (s : Settings) → Determined (Unit {0}) (MakesRts on s) (MakesRts on s)
+makes_rts_determined on s = record {
+  at = λ l m p q. so_is p.1 q.1 (so (λ r. tt) (so_read (λ same. inl (
+    tt {0},
+    ap (λ (mcr : ℕ).
+        write_if_other (has mcr MCR.RTS.0) on (Write offsets.MCR (unlooped (switched on MCR.RTS.0 mcr)))) same,
+  ))));
+}
+
+makes_rts_same : (wanted : Option Bool) (f : RingFields) → RingDoes (Unit {0}) f (MakesRtsIfAny wanted) (MakesRtsIfAny wanted)
+makes_rts_same None f = stays_same f
+makes_rts_same (Some on) f =
+    on_driver {f = f} unchanged unchanged (does_so (λ e. tt) (does_saving f.driver (MakesRts on) (MakesRts on)
+    (makes_rts_determined on (settings_of f.driver)))) (λ e. refl)
+
+pub adjusts_leave_no_choice : (marks : ReceiveMarks) → LeavesNoRingChoice (λ (_ : ⊤). AdjustsRts marks)
+adjusts_leave_no_choice marks = returns_none (λ f. record { at = (makes_rts_same (rts_at marks (free f.receive)) f).at })
 
 pub clears_transmit_leaves_no_choice : LeavesNoRingChoice ClearsTransmit
 clears_transmit_leaves_no_choice =

@@ -4,6 +4,7 @@ pub mod RingDoings
 pub mod Transfers
 pub mod RegisterBits
 pub mod Pausing
+pub mod Rts
 pub mod Losses
 pub mod Arming
 pub mod Bounding

@@ -32,6 +32,12 @@ use Rattle.uart_ring.specs.Ring.{with_hold, with_low_mark, with_low, with_rounds
 use Rattle.uart_ring.specs.Transmit.{ArmsIfLeft, Pumps, Queues, ResumesTransmit, Holds, Releases, QueuesUrgent, ClearsTransmit}
 use Rattle.uart_ring.specs.Transmit.{SetsLowMark, TakesLow}
 use Rattle.uart_ring.specs.Receive.{PausesIfFull, FillsReceiveRing, EndsPause, TakesBytes, ClearsReceive}
+use Rattle.uart_ring.specs.Receive.{write_if_other, rts_at, MakesRtsIfAny, AdjustsRts}
+use Rattle.uart_ring.specs.declared.ring.receive.ReceiveMarks.{ReceiveMarks}
+use Rattle.uart_spec.specs.Bits.{has}
+use Rattle.uart_spec.specs.declared.registers.modem_control.TheConstants.MCR
+use Rattle.uart_16550.specs.Frame.{switched, unlooped}
+use Rattle.uart_ring.specs.Ring.{free}
 use Rattle.uart_ring.specs.Storm.{every_bit, TurnsOff, ShowsStuck, LooksOnceMore, CountsUnfinished, CountsRound, HandlesRound}
 use Rattle.uart_ring.specs.Storm.{StaysStuck, TriesToHandle, Restarts, not_paused}
 use Rattle.uart_ring.specs.declared.ring.storm.StuckError.{StuckError}
@@ -349,6 +355,20 @@ retriggers_carry f l after (((ier, is), saved), same) =
     let moves : Moves [] [] l = rw is (record { written_is = refl; read_is = refl }) in
     carries_still f f l after (saving_saves [] [] f.driver l after.driver moves saved) same refl refl refl refl refl
 
+-- RTS is made so by accesses to MCR alone
+pub rts_moves : (shown on : Bool) (mcr value : ℕ) →
+    Moves [] [] (Read offsets.MCR mcr ∷ write_if_other shown on (Write offsets.MCR value))
+rts_moves true true mcr value = record { written_is = refl; read_is = refl }
+rts_moves true false mcr value = record { written_is = refl; read_is = refl }
+rts_moves false true mcr value = record { written_is = refl; read_is = refl }
+rts_moves false false mcr value = record { written_is = refl; read_is = refl }
+
+makes_rts_carries : (wanted : Option Bool) → Implies (MakesRtsIfAny wanted) Carries
+makes_rts_carries None f l after t = stays_carries f l after t
+makes_rts_carries (Some on) f l after (((mcr, is), saved), same) =
+    let moves : Moves [] [] l = rw is (rts_moves (has mcr MCR.RTS.0) on mcr (unlooped (switched on MCR.RTS.0 mcr))) in
+    carries_still f f l after (saving_saves [] [] f.driver l after.driver moves saved) same refl refl refl refl refl
+
 stops_carry : (end : HandleEnd) → Implies (Stops end) Carries
 stops_carry Idle f l after t = shows_carry None f l after (shows_none true f l after t)
 stops_carry Unknown f l after t = shows_carry None f l after (shows_none false f l after t)
@@ -383,6 +403,9 @@ services_lose_nothing count f l after (end, t) =
 
 pub retriggers_lose_nothing : Implies Retriggers (LosesNothing [] [] 0 0)
 retriggers_lose_nothing f l after t = carried f l after (retriggers_carry f l after t)
+
+pub adjusts_lose_nothing : (marks : ReceiveMarks) → Implies (AdjustsRts marks) (LosesNothing [] [] 0 0)
+adjusts_lose_nothing marks f l after t = carried f l after (makes_rts_carries (rts_at marks (free f.receive)) f l after t)
 
 pub handles_carry : (limit : ℕ) (handled : Handled) → Implies (Handles limit handled) Carries
 handles_carry limit handled f l after t =

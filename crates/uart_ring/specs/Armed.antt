@@ -33,14 +33,15 @@ due_after_read offset answer due =
     else if offset == offsets.ISR then not (shows_thr_empty answer) && due
     else due
 
--- what is known after an access: a byte that was written to DATA is held, IER keeps what is written to it, and after a
--- write of another register nothing is known; after a list of accesses
+-- what is known after an access: a byte that was written to DATA is held, IER keeps what is written to it, the outputs
+-- in MCR have no part in it, and after a write of another register nothing is known; after a list of accesses
 abbrev pub known_after : ThrEmpty → Access → ThrEmpty
 known_after known (Read offset answer) =
     record { enabled = known.enabled; due = due_after_read offset answer known.due }
 known_after known (Write offset value) =
     if offset == offsets.DATA then record { enabled = known.enabled; due = true }
     else if offset == offsets.IER then record { enabled = has value IER.THR_EMPTY.0; due = known.due }
+    else if offset == offsets.MCR then known
     else record { enabled = false; due = false }
 
 abbrev pub known_after_all : ThrEmpty → List Access → ThrEmpty

@@ -12,6 +12,10 @@ MakesAtMost most f l after = length l ≤ most
 abbrev pub most_of_change : ℕ
 most_of_change = 2
 
+-- `adjust_rts`: one read and one write of MCR
+abbrev pub most_of_adjust : ℕ
+most_of_adjust = 2
+
 -- a pump: a send check reads LSR, MCR and MSR, and a full FIFO is written; then a change of IER
 abbrev pub most_of_pump : ℕ
 most_of_pump = 3 + FIFO_SIZE + most_of_change

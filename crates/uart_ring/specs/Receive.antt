@@ -1,11 +1,20 @@
 -- From the chip to the receive ring, and from there to the caller.
-use Rattle.std.specs.Prelude.{◌≡◌, ℕ, true, false, List, length, take, min, MatchBool}
+use Rattle.std.specs.Prelude.{◌≡◌, ℕ, Bool, true, false, List, [], ◌∷◌, length, take, min, nat_lt, nat_le, MatchBool}
+use Rattle.std.specs.Prelude.{Option, Some, None, if◌then◌else◌}
+use Rattle.uart_spec.specs.declared.access.Access.{Access}
+use Rattle.uart_spec.specs.declared.access.Access.TheVariants.{Read, Write}
+use Rattle.uart_spec.specs.Bits.{has}
 use Rattle.uart_spec.specs.declared.baud.TheConstants.{FIFO_SIZE}
 use Rattle.uart_spec.specs.declared.registers.interrupt_enable.TheConstants.IER
+use Rattle.uart_spec.specs.declared.registers.modem_control.TheConstants.MCR
+use Rattle.uart_spec.specs.declared.registers.offsets.TheConstants as offsets
 use Rattle.uart_16550.specs.Driver.{Saving}
+use Rattle.uart_16550.specs.Frame.{switched, unlooped}
+use Rattle.uart_16550.specs.Grammar.{Language}
 use Rattle.uart_16550.specs.Receive.{Receives}
 use Rattle.uart_16550.specs.Status.{Enables, Disables}
-use Rattle.uart_ring.specs.Ring.{RingDoing, OnDriver, Stays, RingNext, IfAny, free, is_full}
+use Rattle.uart_ring.specs.declared.ring.receive.ReceiveMarks.{ReceiveMarks}
+use Rattle.uart_ring.specs.Ring.{RingDoing, OnDriver, Stays, RingNext, IfAny, free, is_full, unchanged}
 use Rattle.uart_ring.specs.Ring.{with_received, without_taken, with_paused}
 
 -- if the receive ring is full, DATA_READY is disabled and receiving is paused
@@ -35,3 +44,32 @@ TakesBytes slots bytes f l after =
 abbrev pub ClearsReceive : ℕ → RingDoing
 ClearsReceive count f l after =
     (count ≡ length f.receive.items) × IfAny count EndsPause (without_taken count f) l after
+
+-- ---- holding the other end back
+
+-- what RTS is to be with so much room for received bytes: off below the one mark, on from the other one on, and in
+-- between it stays as it is
+abbrev pub rts_at : ReceiveMarks → (room : ℕ) → Option Bool
+rts_at marks room =
+    if nat_lt room marks.hold then Some false else if nat_le marks.release room then Some true else None
+
+-- this write, if a bit shows otherwise than it is to be
+abbrev pub write_if_other : (shown wanted : Bool) → Access → List Access
+write_if_other true true write = []
+write_if_other false false write = []
+write_if_other shown wanted write = write ∷ []
+
+-- RTS is made so: MCR is read, and if it shows RTS otherwise, written as `set_rts` writes it
+abbrev pub MakesRts : Bool → Language
+MakesRts on s l =
+    (mcr : ℕ) × (l ≡ Read offsets.MCR mcr ∷
+    write_if_other (has mcr MCR.RTS.0) on (Write offsets.MCR (unlooped (switched on MCR.RTS.0 mcr))))
+
+-- this is made of RTS, or it stays as it is
+abbrev pub MakesRtsIfAny : Option Bool → RingDoing
+MakesRtsIfAny None = Stays
+MakesRtsIfAny (Some on) = OnDriver (Saving (MakesRts on)) unchanged
+
+-- `adjust_rts`: RTS is made as the room in the receive ring says
+abbrev pub AdjustsRts : ReceiveMarks → RingDoing
+AdjustsRts marks f l after = MakesRtsIfAny (rts_at marks (free f.receive)) f l after

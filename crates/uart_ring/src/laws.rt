@@ -7,7 +7,7 @@ ghost use Rattle.uart_ring.specs.Ring.{RingFields};
 ghost use Rattle.uart_ring.specs.Transmit.{Queues, ResumesTransmit};
 ghost use Rattle.uart_ring.specs.Transmit.{Holds, Releases, QueuesUrgent, ClearsTransmit};
 ghost use Rattle.uart_ring.specs.Transmit.{SetsLowMark, TakesLow};
-ghost use Rattle.uart_ring.specs.Receive.{TakesBytes, ClearsReceive};
+ghost use Rattle.uart_ring.specs.Receive.{TakesBytes, ClearsReceive, AdjustsRts};
 ghost use Rattle.uart_ring.specs.Storm.{TriesToHandle, Restarts, LeavesOff, CountsOrIsIdle};
 ghost use Rattle.uart_ring.specs.Status.{TakesLine, TakesModem};
 ghost use Rattle.uart_ring.specs.Service.{Services};
@@ -16,10 +16,11 @@ ghost use Rattle.uart_ring.specs.Lossless.{LosesNothing, LosesOnly, Implies};
 ghost use Rattle.uart_ring.specs.Lossless.{overtaken_by, without_dropped};
 ghost use Rattle.uart_ring.specs.Armed.{Arms, ArmsUnlessHeld, LeavesArmed};
 ghost use Rattle.uart_ring.specs.Choice.{LeavesNoRingChoice};
-ghost use Rattle.uart_ring.specs.Bounded.{MakesAtMost, most_of_change};
+ghost use Rattle.uart_ring.specs.Bounded.{MakesAtMost, most_of_change, most_of_adjust};
 ghost use Rattle.uart_ring.specs.Bounded.{most_of_pump, most_of_service};
 ghost use Rattle.uart_ring.specs.Bounded.{most_of_handle, most_of_retrigger};
 ghost use Rattle.uart_ring.specs.Bounded.{most_of_try_handle, most_of_restart};
+ghost use Rattle.uart_ring.specs.declared.ring.receive.ReceiveMarks.{ReceiveMarks};
 ghost use Rattle.uart_ring.specs.declared.ring.service.Handled.{Handled};
 ghost use Rattle.uart_ring.specs.declared.ring.storm.StuckError.{StuckError};
 ghost use Rattle.uart_ring.specs.declared.ring.TheConstants.{MAX_CAPACITY};
@@ -59,6 +60,8 @@ pub fn ring_calls_lose_nothing()
     ensures try_handle { (limit rounds : ℕ) (result : Result Handled StuckError) →
         Implies (TriesToHandle limit rounds result) (LosesNothing [] [] 0 0) }
     ensures restart { (bits : ℕ) → Implies (Restarts bits) (LosesNothing [] [] 0 0) }
+    ensures adjust_rts { (marks : ReceiveMarks) →
+        Implies (AdjustsRts marks) (LosesNothing [] [] 0 0) }
 {}
 
 /// Rings are armed if no byte waits that may be sent, or if an interrupt is still to come, as far
@@ -100,6 +103,7 @@ pub fn ring_calls_leave_armed()
     ensures try_handle { (limit rounds : ℕ) (result : Result Handled StuckError) →
         Implies (TriesToHandle limit rounds result) LeavesArmed }
     ensures restart { (bits : ℕ) → Implies (Restarts bits) Arms }
+    ensures adjust_rts { (marks : ReceiveMarks) → Implies (AdjustsRts marks) LeavesArmed }
 {}
 
 /// No ring call waits: each makes at most this number of accesses, whatever they return.
@@ -127,6 +131,8 @@ pub fn ring_calls_are_bounded()
     ensures try_handle { (limit rounds : ℕ) (result : Result Handled StuckError) →
         Implies (TriesToHandle limit rounds result) (MakesAtMost (most_of_try_handle limit)) }
     ensures restart { (bits : ℕ) → Implies (Restarts bits) (MakesAtMost most_of_restart) }
+    ensures adjust_rts { (marks : ReceiveMarks) →
+        Implies (AdjustsRts marks) (MakesAtMost most_of_adjust) }
 {}
 
 /// The contract of each ring call determines what the call does: what its reads have returned so
@@ -151,6 +157,8 @@ pub fn ring_calls_leave_no_choice()
     ensures try_handle { (limit rounds : ℕ) →
         LeavesNoRingChoice (TriesToHandle limit rounds) }
     ensures restart { (bits : ℕ) → LeavesNoRingChoice (λ (_ : ⊤). Restarts bits) }
+    ensures adjust_rts { (marks : ReceiveMarks) →
+        LeavesNoRingChoice (λ (_ : ⊤). AdjustsRts marks) }
 {}
 
 /// `try_handle` ends a storm. If it returns that the chip is stuck, its last access writes 0 to

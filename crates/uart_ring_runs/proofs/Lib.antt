@@ -1,4 +1,6 @@
 pub mod RingBlocks
+pub mod RingLasts
+pub mod RingRts
 pub mod RingPasses
 pub mod RingTold
 pub mod RingDue

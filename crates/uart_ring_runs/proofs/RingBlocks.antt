@@ -182,7 +182,7 @@ isr_makes interrupt f l after (isr, shown, t) = isr_read_makes isr f l after t
 abbrev pub MakesRingBlocks : RingDoing
 MakesRingBlocks f l after = MakesBlocks f.driver l after.driver
 
-stays_make : Implies Stays MakesRingBlocks
+pub stays_make : Implies Stays MakesRingBlocks
 stays_make f l after (is, same) =
     rw (is, same) (record { blocks = blocks_none f.driver.fifo; lcr = tt; fifo = refl })
 

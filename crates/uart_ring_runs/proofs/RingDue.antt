@@ -252,6 +252,16 @@ write_ier_holds known value m n off was s =
           (lasts-before IsDue due-tick m.ahead m.chip (due_says m.chip.transmitter (was.1 e))))),
     )
 
+-- a write of MCR touches neither IER nor the transmitter
+write_mcr_holds : (known : ThrEmpty) (value : ℕ) (m n : MachineState) → Holds known m → MachineStep m (Write offsets.MCR value) n →
+    Holds known n
+write_mcr_holds known value m n was s =
+    let same : n.chip.latches.ier ≡ m.chip.latches.ier =
+    ap (λ (k : Kept). k.latches.ier) (kept_step (Write offsets.MCR value) m n s) in (
+      λ e. rw same (was.0 e),
+      λ e. says_due n.chip.transmitter (rw s (lasts-before IsDue due-tick m.ahead m.chip (due_says m.chip.transmitter (was.1 e)))),
+    )
+
 -- ---- one access, and some
 
 -- a read of IER is true of what was known, and what is known after an access holds
@@ -262,17 +272,21 @@ step_holds known (Read offset value) m n leaves off was s =
   where
     ier : offset ≡ offsets.IER → known.enabled ≡ true → has value IER.THR_EMPTY.0 ≡ true
     ier at enabled = rw (ier_answer value m n off (rw at at s)) (was.0 enabled)
-step_holds known (Write offset value) m n leaves off was s = (tt, go (offset == offsets.DATA) (offset == offsets.IER) refl refl)
+step_holds known (Write offset value) m n leaves off was s =
+    (tt, go (offset == offsets.DATA) (offset == offsets.IER) (offset == offsets.MCR) refl refl refl)
   where
-    go : (sends ier : Bool) → (offset == offsets.DATA) ≡ sends → (offset == offsets.IER) ≡ ier →
+    go : (sends ier mcr : Bool) → (offset == offsets.DATA) ≡ sends → (offset == offsets.IER) ≡ ier → (offset == offsets.MCR) ≡ mcr →
         Holds (if sends then record { enabled = known.enabled; due = true }
         else if ier then record { enabled = has value IER.THR_EMPTY.0; due = known.due }
+        else if mcr then known
         else record { enabled = false; due = false }) n
-    go true ier e f =
+    go true ier mcr e f g =
         let at : offset ≡ offsets.DATA = grind (arith, nat_tests) in write_data_holds known value m n off was (rw at at s)
-    go false true e f =
+    go false true mcr e f g =
         let at : offset ≡ offsets.IER = grind (arith, nat_tests) in write_ier_holds known value m n off was (rw at at s)
-    go false false e f = (λ h. absurd (false≢true h), λ h. absurd (false≢true h))
+    go false false true e f g =
+        let at : offset ≡ offsets.MCR = grind (arith, nat_tests) in write_mcr_holds known value m n was (rw at at s)
+    go false false false e f g = (λ h. absurd (false≢true h), λ h. absurd (false≢true h))
 
 pub path_holds : (known : ThrEmpty) (l : List Access) (m n : MachineState) → AllLeaveLcr l → IsDlabOff m → Holds known m →
     Path MachineStep m l n → KeepsIer known l × Holds (known_after_all known l) n

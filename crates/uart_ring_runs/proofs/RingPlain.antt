@@ -1,6 +1,6 @@
 -- That rings which only queue, serve and take are two queues.
 use Rattle.std.proofs.Common.{◌≡◌, ◌⊎◌, ℕ, zero, suc, Bool, true, false, List, [], ◌∷◌, ◌++◌, inl, inr, refl, sym, ◌∙◌, ap}
-use Rattle.std.proofs.Common.{subst, map, length, take, Option, None, option_to_list}
+use Rattle.std.proofs.Common.{subst, map, length, take, Option, None, Some, option_to_list}
 use Rattle.std.specs.List.{AllByRecursion}
 use Rattle.uart_spec.specs.declared.registers.interrupt_enable.TheConstants.IER
 use Rattle.uart_spec.specs.declared.registers.interrupt_type.InterruptType.{InterruptType}
@@ -14,7 +14,9 @@ use Rattle.uart_ring.specs.Ring.{RingDoing, RingFields, RingTimes, IfAny, AreEmp
 use Rattle.uart_ring.specs.Ring.{urgent_left, allowed, unless_held, sendable, with_queued, with_hold, without_taken}
 use Rattle.uart_ring.specs.Ring as ring
 use Rattle.uart_ring.specs.Transmit.{Pumps, Queues, ResumesTransmit, Releases, SetsLowMark, TakesLow}
-use Rattle.uart_ring.specs.Receive.{PausesIfFull, FillsReceiveRing, EndsPause, TakesBytes}
+use Rattle.uart_ring.specs.Receive.{PausesIfFull, FillsReceiveRing, EndsPause, TakesBytes, rts_at, MakesRtsIfAny, AdjustsRts}
+use Rattle.uart_ring.specs.Ring.{free}
+use Rattle.uart_ring.specs.declared.ring.receive.ReceiveMarks.{ReceiveMarks}
 use Rattle.uart_ring.specs.Service.{ServesInterrupt, ServesOne, Stops, ServesUpTo, Services}
 use Rattle.uart_ring.specs.Handle.{Retriggers, RetriggersUnlessIdle, Handles}
 use Rattle.uart_ring.specs.Status.{TakesLine, TakesModem}
@@ -135,6 +137,13 @@ handles_keep limit handled f l after t w =
 restarts_keep : (bits : ℕ) → Implies (Restarts bits) KeepsUntold
 restarts_keep bits f l after t w = resumes_keep t.mid t.back after t.second (as_before _ t.mid t.first.1 (w.0, w.1, refl))
 
+makes_rts_keep : (wanted : Option Bool) → Implies (MakesRtsIfAny wanted) KeepsUntold
+makes_rts_keep None f l after t w = as_before f after t.1 w
+makes_rts_keep (Some on) f l after t w = as_before _ after t.1 w
+
+adjusts_keep : (marks : ReceiveMarks) → Implies (AdjustsRts marks) KeepsUntold
+adjusts_keep marks f l after t w = makes_rts_keep (rts_at marks (free f.receive)) f l after t w
+
 -- ---- calls in turn
 
 call_keeps : (s t : RingState) (c : RingCall) (a : RingAnswer) → IsPlain c → RingCallStep s c a t → AreUntold (ring_fields s) →
@@ -160,6 +169,8 @@ call_keeps s t call.TakeLow a plain h w = takes_low_keep h.outcome (ring_fields 
 call_keeps s t (call.TryHandle limit rounds) a plain h w = absurd plain
 call_keeps s t (call.Restart interrupts) a plain h w =
     restarts_keep interrupts.0 (ring_fields s) h.did.list (ring_fields t) h.did.does w
+call_keeps s t (call.AdjustRts marks) a plain h w =
+    adjusts_keep marks (ring_fields s) h.did.list (ring_fields t) h.did.does w
 call_keeps s t call.Next a plain h w = as_before (ring_fields s) (ring_fields t) h.rings w
 
 -- the rings are untold before each call, and after it

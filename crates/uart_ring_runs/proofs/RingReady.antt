@@ -10,15 +10,15 @@ use Rattle.uart_chip.specs.Machine.{MachineState, MachineStep}
 use Rattle.uart_chip.specs.Sound.{IsSound}
 use Rattle.uart_ring.specs.Ring.{driver_of}
 use Rattle.uart_ring_runs.specs.RingRun.{RingState, under}
-use Rattle.uart_run.specs.Ready.{Ready}
+use Rattle.uart_run.specs.Ready.{IsInitialised}
 use Rattle.uart_run.specs.Run.{State, CallStep}
 use Rattle.uart_run.proofs.initialising.Initialised.{initialises}
 
-pub init_ready : (before after : Uart16550 MachineState) (config : Config) (ring : RingState) → IsSound (backend_of before) →
-    Did MachineStep (Inits {T = Unit {0}} config (Ok tt)) before after → driver_of ring ≡ after → Ready (under ring)
-init_ready before after config ring sound did same =
+pub init_leaves : (before after : Uart16550 MachineState) (config : Config) (ring : RingState) → IsSound (backend_of before) →
+    Did MachineStep (Inits {T = Unit {0}} config (Ok tt)) before after → driver_of ring ≡ after → IsInitialised config (under ring)
+init_leaves before after config ring sound did same =
     let s : State = record { inner = before } in
     let t : State = record { inner = after } in
     let step : CallStep s (call.Init config) Done t = record { outcome = Ok tt; answered = refl; did = did } in
-    let R : Uart16550 MachineState → Type 0 = λ d. Ready (record { inner = d }) in
-    subst R (sym same) ((initialises s t config Done sound step).leaves refl).ready
+    let R : Uart16550 MachineState → Type 0 = λ d. IsInitialised config (record { inner = d }) in
+    subst R (sym same) ((initialises s t config Done sound step).leaves refl)

@@ -11,47 +11,22 @@ use Rattle.uart_chip.proofs.conservation.SessionLaws.{received_kept}
 use Rattle.uart_16550.specs.Grammar.{Settings}
 use Rattle.uart_run.specs.Chains.{RunOf}
 use Rattle.uart_run.specs.Uncut.{IsUncut}
-use Rattle.uart_run.proofs.Chains.{chain_keeps, run_whole}
-use Rattle.uart_run.proofs.CallLaws.{InSession}
+use Rattle.uart_run.proofs.Chains.{run_whole}
 use Rattle.uart_run.proofs.SessionCalls.{modes_of, in_session}
 use Rattle.uart_run.proofs.Sessions.{lasts_sound}
 use Rattle.uart_run.proofs.Uncuts.{whole_cut, entered_whole}
 use Rattle.uart_ring.specs.Lossless.{data_written, data_read}
 use Rattle.uart_ring_runs.specs.declared.call.RingCall.{RingCall}
-use Rattle.uart_ring_runs.specs.declared.call.RingCall.TheVariants as call
 use Rattle.uart_ring_runs.specs.declared.call.RingAnswer.{RingAnswer}
 use Rattle.uart_ring_runs.specs.RingRun.{RingState, under, ring_machine, RingCallStep, RingLink, RingChain}
 use Rattle.uart_ring_runs.specs.RingBytes.{to_send, to_take, queued, gone, to_send_with, AllKeepOrder}
 use Rattle.uart_ring_runs.specs.RingSession.{ConservesBytesUncut, RingConserves, RanRing, AllSendInLine}
+use Rattle.uart_ring_runs.specs.RingSession.{AllWithinRingSession}
+use Rattle.uart_ring_runs.proofs.RingLasts.{first_within, ring_lasts_chain, wired_chain}
+use Rattle.uart_ring_runs.proofs.RingRts.{modes_at, InRingSession, begins_session}
 use Rattle.uart_ring_runs.proofs.RingPasses.{RingPasses, InLine, ring_passes_call, ring_in_session-after, ring_passes_chain, gone_taken}
 use Rattle.uart_ring_runs.proofs.RingTold.{ring_tells}
 use Rattle.uart_ring_runs.proofs.RingArming.{chain_leaves}
-
--- ---- soundness
-
-ring_sound_call : (s t : RingState) (call : RingCall) (a : RingAnswer) → IsSound (ring_machine s) → RingCallStep s call a t →
-    IsSound (ring_machine t)
-ring_sound_call s t call.Next a w h = rw h.machine (lasts_sound.mark (ring_machine s) w)
-ring_sound_call s t (call.Queue bytes) a w h = lasts_sound.path h.did.list (ring_machine s) (ring_machine t) w h.did.path
-ring_sound_call s t call.ResumeTransmit a w h = lasts_sound.path h.did.list (ring_machine s) (ring_machine t) w h.did.path
-ring_sound_call s t (call.Take slots) a w h = lasts_sound.path h.did.list (ring_machine s) (ring_machine t) w h.did.path
-ring_sound_call s t call.Service a w h = lasts_sound.path h.did.list (ring_machine s) (ring_machine t) w h.did.path
-ring_sound_call s t (call.Handle limit) a w h = lasts_sound.path h.did.list (ring_machine s) (ring_machine t) w h.did.path
-ring_sound_call s t call.Retrigger a w h = lasts_sound.path h.did.list (ring_machine s) (ring_machine t) w h.did.path
-ring_sound_call s t call.TakeLine a w h = lasts_sound.path h.did.list (ring_machine s) (ring_machine t) w h.did.path
-ring_sound_call s t call.TakeModem a w h = lasts_sound.path h.did.list (ring_machine s) (ring_machine t) w h.did.path
-ring_sound_call s t call.HoldTransmit a w h = lasts_sound.path h.did.list (ring_machine s) (ring_machine t) w h.did.path
-ring_sound_call s t call.ReleaseTransmit a w h = lasts_sound.path h.did.list (ring_machine s) (ring_machine t) w h.did.path
-ring_sound_call s t (call.QueueUrgent byte) a w h = lasts_sound.path h.did.list (ring_machine s) (ring_machine t) w h.did.path
-ring_sound_call s t call.ClearTransmit a w h = lasts_sound.path h.did.list (ring_machine s) (ring_machine t) w h.did.path
-ring_sound_call s t call.ClearReceive a w h = lasts_sound.path h.did.list (ring_machine s) (ring_machine t) w h.did.path
-ring_sound_call s t (call.SetLowMark mark) a w h = lasts_sound.path h.did.list (ring_machine s) (ring_machine t) w h.did.path
-ring_sound_call s t call.TakeLow a w h = lasts_sound.path h.did.list (ring_machine s) (ring_machine t) w h.did.path
-ring_sound_call s t (call.TryHandle limit rounds) a w h = lasts_sound.path h.did.list (ring_machine s) (ring_machine t) w h.did.path
-ring_sound_call s t (call.Restart interrupts) a w h = lasts_sound.path h.did.list (ring_machine s) (ring_machine t) w h.did.path
-
-ring_sound_chain : (s t : RingState) (links : List RingLink) → IsSound (ring_machine s) → RingChain s links t → IsSound (ring_machine t)
-ring_sound_chain = chain_keeps RingCallStep (λ s. IsSound (ring_machine s)) ring_sound_call
 
 -- ---- what is conserved
 
@@ -78,7 +53,7 @@ bytes_uncut s t links e sent got =
     }
 
 -- what a call sent and what waits after it, cut
-in_line_call : (x : Modes) (N M : Type 0) (s t : RingState) (c : RingCall) (a : RingAnswer) (u : List ℕ) → InSession x (under s) →
+in_line_call : (x : Modes) (N M : Type 0) (s t : RingState) (c : RingCall) (a : RingAnswer) (u : List ℕ) → InRingSession x s →
     (p : RingPasses x (InLine c a s) N M s t u) →
     out (ring_machine t) ++ map (cut_of (ring_machine s).chip) (to_send t) ≡
     out (ring_machine s) ++ map (cut_of (ring_machine s).chip) (to_send_with c a (to_send s))
@@ -91,19 +66,22 @@ in_line_call x N M s t c a u w p =
     ap (λ zs. zs ++ cut (to_send t)) grows ∙ (append_assoc (out m) (cut written) (cut (to_send t)) ∙
     ap (λ zs. out m ++ zs) (sym (map-append (cut_of m.chip) written (to_send t)) ∙ ap cut p.sent))
 
-chain_in_line : (x : Modes) (s t : RingState) (links : List RingLink) → InSession x (under s) → RingChain s links t → AllSendInLine links
-chain_in_line x s t [] w h = tt
-chain_in_line x s t (link ∷ links) w h =
-    let W : RingState → Type 0 = λ v. InSession x (under v) in
+chain_in_line : (x : Modes) (s t : RingState) (links : List RingLink) → InRingSession x s → AllWithinRingSession s links →
+    RingChain s links t → AllSendInLine links
+chain_in_line x s t [] w i h = tt
+chain_in_line x s t (link ∷ links) w i h =
+    let W : RingState → Type 0 = λ v. InRingSession x v in
     let begins = subst W (sym h.0) w in
-    let p = ring_passes_call x link.before link.after link.call link.answer begins h.1 in
+    let j = first_within s t link links i h in
+    let p = ring_passes_call x link.before link.after link.call link.answer begins j.here h.1 in
     let goes = ring_in_session-after x _ _ _ link.before link.after _ begins p in
-    (in_line_call x _ _ link.before link.after link.call link.answer _ begins p, chain_in_line x link.after t links goes h.2)
+    (in_line_call x _ _ link.before link.after link.call link.answer _ begins p, chain_in_line x link.after t links goes j.later h.2)
 
-ring_conserves : (x : Modes) (s t : RingState) (links : List RingLink) → InSession x (under s) → RingChain s links t →
-    RingConserves s links t
-ring_conserves x s t links w chain =
-    let p = ring_passes_chain x s t links w chain in
+ring_conserves : (x : Modes) (s t : RingState) (links : List RingLink) → InRingSession x s → AllWithinRingSession s links →
+    RingChain s links t → RingConserves s links t
+ring_conserves x s t links w within chain =
+    let y = modes_at x t in
+    let p = ring_passes_chain x s t links w within chain in
     let went = p.passed.passed.went in
     let m = ring_machine s in
     let n = ring_machine t in
@@ -116,21 +94,22 @@ ring_conserves x s t links w chain =
     let got : gone links ++ (to_take t ++ waiting n) ≡ to_take s ++ kept m n =
     sym (append_assoc (gone links) (to_take t) (waiting n)) ∙ (ap (λ zs. zs ++ waiting n) p.received ∙
     (append_assoc (to_take s) (data_read p.made) (waiting n) ∙
-    ap (λ zs. to_take s ++ zs) (received_kept x m n p.made written (data_read p.made) w.stands.modes.cut p.passed))) in
+    ap (λ zs. to_take s ++ zs) (received_kept y m n p.made written (data_read p.made) w.stands.modes.cut p.passed))) in
     record {
       ready = record {
-        dlab = dlab-in x n.chip went.modes ∙ w.open_modes.dlab;
-        loopback = loopback-in x n.chip went.modes ∙ w.open_modes.loopback;
+        dlab = dlab-in y n.chip went.modes ∙ p.open_modes.dlab;
+        loopback = loopback-in y n.chip went.modes ∙ p.open_modes.loopback;
         fifo = went.modes.fifo ∙ (sym w.fifo ∙ sym (ap (λ (settings : Settings). settings.fifo) p.settings));
       };
+      wired = λ wired. wired_chain s t links wired chain;
       sent = sent;
-      in_line = chain_in_line x s t links w chain;
+      in_line = chain_in_line x s t links w within chain;
       all_taken = gone_taken links;
       no_overflow = went.sends.same_overflows;
       kept = got;
       uncut = λ e. bytes_uncut s t links e sent got;
-      tells = ring_tells x s t links w chain;
-      armed = chain_leaves x s t links w chain;
+      tells = ring_tells x s t links w within chain;
+      armed = chain_leaves x s t links w within chain;
     }
 
 -- ---- runs
@@ -142,6 +121,8 @@ ran_ring s t calls answers i all slots sound run =
     let r = run_whole RingCallStep s t calls answers i all slots run in
     record {
       run = r;
-      sessions = λ front session rest a b parts before within after ready.
-          ring_conserves (modes_of (under a)) a b session (in_session (under a) ready (ring_sound_chain s a front sound before)) within;
+      sessions = λ front session rest a b parts before within after is.
+          let whole = ring_lasts_chain s a front lasts_sound sound before in
+          let x = modes_of (under a) in
+          ring_conserves x a b session (begins_session x a (in_session (under a) is.0 whole)) is.1 within;
     }

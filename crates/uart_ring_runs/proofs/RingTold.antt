@@ -1,5 +1,6 @@
 -- What `take_line` and `take_modem` tell in a session.
-use Rattle.std.proofs.Common.{◌≡◌, ℕ, min, not, ◌==◌, List, [], ◌∷◌, ◌++◌, refl, arith, sym, ◌∙◌, ap, subst, bit_and, bit_or}
+use Rattle.std.proofs.Common.{◌≡◌, ℕ, Bool, min, not, ◌==◌, List, [], ◌∷◌, ◌++◌, take, Option, refl, arith, sym, ◌∙◌, ap, subst}
+use Rattle.std.proofs.Common.{bit_and, bit_or}
 use Rattle.std.specs.Int.{bit_at}
 use Rattle.std.proofs.lemmas.Nat.Bits.{same_from_bits, bit_at_or, bit_at_and}
 use Rattle.uart_spec.specs.Access.{Path}
@@ -12,14 +13,14 @@ use Rattle.uart_spec.specs.declared.registers.offsets.TheConstants as offsets
 use Rattle.uart_16550.specs.Driver.{Fields}
 use Rattle.uart_chip.specs.declared.receiver.Character.{Character}
 use Rattle.uart_chip.specs.Machine.{MachineState, MachineStep}
-use Rattle.uart_chip.specs.Laws.{reported_front}
+use Rattle.uart_chip.specs.Laws.{reported_front, IsTold, AllTold}
+use Rattle.uart_chip.proofs.Lists.{each-append}
 use Rattle.uart_chip.proofs.conservation.Went.{Modes}
-use Rattle.uart_chip.proofs.conservation.SessionLaws.{look_clears, status_clears}
+use Rattle.uart_chip.proofs.conservation.SessionLaws.{look_clears, status_clears, taken_entered}
 use Rattle.uart_chip.proofs.statuses.StatusLaws.{LsrTells, lsr_tells, MsrTells, msr_tells, told-by, all_told-by}
 use Rattle.uart_run.specs.Chains.{NoneIs}
 use Rattle.uart_run.proofs.Chains.{step_is, ended}
-use Rattle.uart_run.proofs.CallLaws.{InSession}
-use Rattle.uart_run.proofs.StatusSessions.{After, tells_line}
+use Rattle.uart_run.proofs.StatusSessions.{After}
 use Rattle.uart_ring.specs.Ring.{RingDoing, RingFields, ring_fields}
 use Rattle.uart_ring.specs.Status.{TakesLine, TakesModem}
 use Rattle.uart_ring.specs.Lossless.{data_written}
@@ -31,6 +32,10 @@ use Rattle.uart_ring_runs.specs.RingRun.{RingState, under, ring_machine, RingCal
 use Rattle.uart_ring_runs.specs.RingRun.{line_answer, modem_answer}
 use Rattle.uart_ring_runs.specs.RingBytes.{queued, gone, AllKeepOrder}
 use Rattle.uart_ring_runs.specs.RingStatuses.{RingTells}
+use Rattle.uart_run.specs.Statuses.{TellsLine}
+use Rattle.uart_ring_runs.specs.RingSession.{AllWithinRingSession}
+use Rattle.uart_ring_runs.proofs.RingLasts.{FirstWithin, first_within, within-front}
+use Rattle.uart_ring_runs.proofs.RingRts.{with_mcr_of, modes_at, InRingSession}
 use Rattle.uart_ring_runs.proofs.RingPasses.{RingPasses, Ordered, ring_passes_call, ring_passes_chain, ring_in_session-after}
 
 -- ---- bits
@@ -99,6 +104,25 @@ msr_tells-wider x m o made ws ts kept a b h same t = record {
   exactly_told = λ none quiet. same MSR.CHANGES.0 refl ∙ t.exactly_told none quiet;
 }
 
+-- what is told, in the modes in which the session is then
+abbrev LsrTellsNow : Modes → MachineState → MachineState → List Access → List ℕ → List Character → ℕ → ℕ → Type 0
+LsrTellsNow x m o made ws ts kept told = LsrTells (with_mcr_of x o) m o made ws ts kept told
+
+abbrev MsrTellsNow : Modes → MachineState → MachineState → List Access → List ℕ → List Character → ℕ → ℕ → Type 0
+MsrTellsNow x m o made ws ts kept told = MsrTells (with_mcr_of x o) m o made ws ts kept told
+
+lsr_tells-now : (x : Modes) (mcr : ℕ) (m o : MachineState) (made : List Access) (ws : List ℕ) (ts : List Character) (kept told : ℕ) →
+    LsrTells (record x { mcr = mcr }) m o made ws ts kept told → LsrTellsNow x m o made ws ts kept told
+lsr_tells-now x mcr m o made ws ts kept told t =
+    let T : ℕ → Type 0 = λ v. LsrTells (record x { mcr = v }) m o made ws ts kept told in
+    subst T (sym t.passed.went.modes.mcr) t
+
+msr_tells-now : (x : Modes) (mcr : ℕ) (m o : MachineState) (made : List Access) (ws : List ℕ) (ts : List Character) (kept told : ℕ) →
+    MsrTells (record x { mcr = mcr }) m o made ws ts kept told → MsrTellsNow x m o made ws ts kept told
+msr_tells-now x mcr m o made ws ts kept told t =
+    let T : ℕ → Type 0 = λ v. MsrTells (record x { mcr = v }) m o made ws ts kept told in
+    subst T (sym t.passed.went.modes.mcr) t
+
 -- the bits of an answer
 abbrev bits_of : RingAnswer → ℕ
 bits_of (Line line) = line.0
@@ -144,7 +168,7 @@ record IsRingStatus (x : Modes) (r : StatusRegister)
     (T : MachineState → MachineState → List Access → List ℕ → List Character → ℕ → ℕ → Type 0) (c : RingCall)
     (answer_of : ℕ → RingAnswer) : Type 0 where
   pub took : (s t : RingState) (a : RingAnswer) → RingCallStep s c a t → RingTook r s a t
-  pub tells : (s n t : RingState) (links : List RingLink) → InSession x (under s) → NoneIs c links →
+  pub tells : (s n t : RingState) (links : List RingLink) → NoneIs c links →
       (p : RingPasses x (Ordered (AllKeepOrder links) (queued links) s) (NoneIs call.TakeLine links) (NoneIs call.TakeModem links) s n
       (gone links)) (status : ℕ) →
       Path MachineStep (ring_machine n) (Read r.offset status ∷ []) (ring_machine t) →
@@ -169,38 +193,41 @@ took_modem =
     ring_takes modem_register TakesModem modem_answer (λ _ f _ _ d. (d.2.0.0, d.2.0.1, d.1 ∙ ap (λ v. bit_or v f.modem) d.2.0.2))
     (λ _ _ _ _ d. rw (ap (λ (g : RingFields). g.modem) d.2.1, ap (λ (g : Fields). g.msr) d.2.0.3) refl)
 
-line_status : (x : Modes) → IsRingStatus x line_register (LsrTells x) call.TakeLine line_answer
+line_status : (x : Modes) → IsRingStatus x line_register (LsrTellsNow x) call.TakeLine line_answer
 line_status x = record {
   took = took_line;
-  tells = λ _ _ _ _ w none p status path. lsr_tells x _ _ _ _ _ _ status _ _ _ w.open_modes p.passed.passed path (p.line none) refl;
-  wider = lsr_tells-wider x;
+  tells = λ s n t _ none p status path. lsr_tells-now x (ring_machine n).chip.latches.mcr (ring_machine s) (ring_machine t) _ _ _ _ _
+      (lsr_tells (modes_at x n) _ _ _ _ _ _ status _ _ _ p.open_modes p.passed.passed path (p.line none) refl);
+  wider = λ m o. lsr_tells-wider (with_mcr_of x o) m o;
 }
 
-modem_status : (x : Modes) → IsRingStatus x modem_register (MsrTells x) call.TakeModem modem_answer
+modem_status : (x : Modes) → IsRingStatus x modem_register (MsrTellsNow x) call.TakeModem modem_answer
 modem_status x = record {
   took = took_modem;
-  tells = λ _ _ _ _ w none p status path. msr_tells x _ _ _ _ _ _ status _ _ _ w.open_modes p.passed.passed path (p.modem none) refl;
-  wider = msr_tells-wider x;
+  tells = λ s n t _ none p status path. msr_tells-now x (ring_machine n).chip.latches.mcr (ring_machine s) (ring_machine t) _ _ _ _ _
+      (msr_tells (modes_at x n) _ _ _ _ _ _ status _ _ _ p.open_modes p.passed.passed path (p.modem none) refl);
+  wider = λ m o. msr_tells-wider (with_mcr_of x o) m o;
 }
 
 -- ---- in a session
 
 -- a session after its first call
-after_first : (x : Modes) (s : RingState) (first : RingLink) → InSession x (under s) → first.before ≡ s →
-    RingCallStep first.before first.call first.answer first.after → InSession x (under first.after)
-after_first x s first w is step =
-    let W : RingState → Type 0 = λ v. InSession x (under v) in
+after_first : (x : Modes) (s : RingState) (first : RingLink) (links : List RingLink) → InRingSession x s → FirstWithin first links →
+    first.before ≡ s → RingCallStep first.before first.call first.answer first.after → InRingSession x first.after
+after_first x s first links w j is step =
+    let W : RingState → Type 0 = λ v. InRingSession x v in
     let begins = subst W (sym is) w in
     ring_in_session-after x _ _ _ first.before first.after _ begins
-    (ring_passes_call x first.before first.after first.call first.answer begins step)
+    (ring_passes_call x first.before first.after first.call first.answer begins j.here step)
 
 module _ {x : Modes} {r : StatusRegister} {T : MachineState → MachineState → List Access → List ℕ → List Character → ℕ → ℕ → Type 0}
     {c : RingCall} {answer_of : ℕ → RingAnswer} (i : IsRingStatus x r T c answer_of) where
   -- what such a call tells after calls without one
-  ring_status_after : (s n t : RingState) (links : List RingLink) (value : ℕ) → InSession x (under s) → NoneIs c links →
-      RingChain s links n → RingCallStep n c (answer_of value) t → After T (untold r s) (under s) (under t) (bits_of (answer_of value))
-  ring_status_after s n t links value w none chain step =
-      let p = ring_passes_chain x s n links w chain in
+  ring_status_after : (s n t : RingState) (links : List RingLink) (value : ℕ) → InRingSession x s → AllWithinRingSession s links →
+      NoneIs c links → RingChain s links n → RingCallStep n c (answer_of value) t →
+      After T (untold r s) (under s) (under t) (bits_of (answer_of value))
+  ring_status_after s n t links value w within none chain step =
+      let p = ring_passes_chain x s n links w within chain in
       let took = i.took n t (answer_of value) step in
       let made = p.made ++ Read r.offset took.status ∷ [] in
       let noted = r.noted (ring_fields n) in
@@ -212,40 +239,67 @@ module _ {x : Modes} {r : StatusRegister} {T : MachineState → MachineState →
         takes = p.passed.takes;
         tells = subst Told (sym took.told) (i.wider _ _ made (data_written p.made) p.passed.takes (untold r s) _ _
             (λ e h. wider e took.status noted saved r.mask h) (same_within took.status noted saved r.mask)
-            (i.tells s n t links w none p took.status took.path));
+            (i.tells s n t links none p took.status took.path));
       }
 
   -- the session ends with that call
-  ring_at_end : (s t : RingState) (some : List RingLink) (last : RingLink) (value : ℕ) → InSession x (under s) →
-      RingChain s (some ++ last ∷ []) t → NoneIs c some → last.call ≡ c → last.answer ≡ answer_of value →
+  ring_at_end : (s t : RingState) (some : List RingLink) (last : RingLink) (value : ℕ) → InRingSession x s →
+      AllWithinRingSession s (some ++ last ∷ []) → RingChain s (some ++ last ∷ []) t → NoneIs c some → last.call ≡ c →
+      last.answer ≡ answer_of value →
       After T (untold r s) (under s) (under t) (bits_of (answer_of value))
-  ring_at_end s t some last value w chain none is answered =
+  ring_at_end s t some last value w within chain none is answered =
       ended RingCallStep s t some last c (answer_of value) (λ u. After T (untold r s) (under s) (under u) (bits_of (answer_of value)))
-      (λ n u before step. ring_status_after s n u some value w none before step) chain is answered
+      (λ n u before step. ring_status_after s n u some value w (within-front s some (last ∷ []) within) none before step) chain is answered
 
   -- and it begins with one
-  ring_since_first : (s t : RingState) (first : RingLink) (some : List RingLink) (last : RingLink) (value : ℕ) → InSession x (under s) →
-      RingChain s (first ∷ (some ++ last ∷ [])) t → NoneIs c some → first.call ≡ c → last.call ≡ c → last.answer ≡ answer_of value →
+  ring_since_first : (s t : RingState) (first : RingLink) (some : List RingLink) (last : RingLink) (value : ℕ) → InRingSession x s →
+      AllWithinRingSession s (first ∷ (some ++ last ∷ [])) → RingChain s (first ∷ (some ++ last ∷ [])) t → NoneIs c some →
+      first.call ≡ c → last.call ≡ c → last.answer ≡ answer_of value →
       RingTook r first.before first.answer first.after × After T (untold r first.after) (under first.after) (under t)
       (bits_of (answer_of value))
-  ring_since_first s t first some last value w chain none begins is answered =
+  ring_since_first s t first some last value w within chain none begins is answered =
+      let j = first_within s t first (some ++ last ∷ []) within chain in
       let step = step_is RingCallStep first.before first.after first.call c first.answer first.answer begins refl chain.1 in
-      let after = after_first x s first w chain.0 chain.1 in
-      (i.took first.before first.after first.answer step, ring_at_end first.after t some last value after chain.2 none is answered)
+      let after = after_first x s first (some ++ last ∷ []) w j chain.0 chain.1 in
+      (i.took first.before first.after first.answer step, ring_at_end first.after t some last value after j.later chain.2 none is answered)
 
-pub ring_tells : (x : Modes) (s t : RingState) (links : List RingLink) → InSession x (under s) → RingChain s links t →
-    RingTells s links t
-ring_tells x s t links w chain = record {
+-- the character in front is told
+first_told : (fifo : Bool) (old : Option Character) (line : ℕ) (queue : List Character) →
+    ((f : Character) (others : List Character) → queue ≡ f ∷ others → IsTold fifo old line f) → AllTold fifo old line (take 1 queue)
+first_told fifo old line [] h = tt
+first_told fifo old line (f ∷ others) h = (h f others refl, tt)
+
+-- a line status at the end of a session
+line_told : {kept : ℕ} (x : Modes) (s t : RingState) (value : ℕ) → InRingSession x s →
+    After (LsrTellsNow x) kept (under s) (under t) value → TellsLine (under s) (under t) value
+line_told x s t value w a =
+    let m = ring_machine s in
+    let n = ring_machine t in
+    let old = reported_front m.chip.receiver in
+    let queue = n.chip.receiver.queue in
+    let all : AllTold x.fifo old value (a.takes ++ take 1 queue) =
+    each-append (IsTold x.fifo old value) a.takes (take 1 queue) a.tells.taken_told
+    (first_told x.fifo old value queue a.tells.front_told) in
+    record {
+      drop = a.tells.drop_told;
+      taken = a.takes;
+      was_taken = taken_entered (modes_at x t) m n a.made a.written a.takes w.stands.modes.cut a.tells.passed;
+      errors = rw a.tells.passed.went.modes.fifo all;
+    }
+
+pub ring_tells : (x : Modes) (s t : RingState) (links : List RingLink) → InRingSession x s → AllWithinRingSession s links →
+    RingChain s links t → RingTells s links t
+ring_tells x s t links w within chain = record {
   line = λ some last value is none c a.
-      tells_line x (under s) (under t) value w (ring_at_end (line_status x) s t some last value w (rw is at chain) none c a);
+      line_told x s t value w (ring_at_end (line_status x) s t some last value w (rw is at within) (rw is at chain) none c a);
   only_drops = λ first some last value is none b c a.
-      let both = ring_since_first (line_status x) s t first some last value w (rw is at chain) none b c a in
+      let both = ring_since_first (line_status x) s t first some last value w (rw is at within) (rw is at chain) none b c a in
       both.1.tells.told_drop both.0.emptied (ap (λ (m : MachineState). m.chip.receiver.is_overrun) both.0.path.2 ∙
       look_clears (ring_machine first.before) both.0.path.0 both.0.status both.0.path.1);
   changes = λ some last value is none c a.
-      (ring_at_end (modem_status x) s t some last value w (rw is at chain) none c a).tells.changes_told;
+      (ring_at_end (modem_status x) s t some last value w (rw is at within) (rw is at chain) none c a).tells.changes_told;
   only_changes = λ first some last value is none b c a.
-      let both = ring_since_first (modem_status x) s t first some last value w (rw is at chain) none b c a in
+      let both = ring_since_first (modem_status x) s t first some last value w (rw is at within) (rw is at chain) none b c a in
       both.1.tells.exactly_told both.0.emptied (ap (λ (m : MachineState). m.chip.modem.deltas) both.0.path.2 ∙
       status_clears (ring_machine first.before) both.0.path.0 both.0.status both.0.path.1);
 }

@@ -7,7 +7,7 @@ use Rattle.uart_run.specs.Run.{State, machine_of}
 use Rattle.uart_ring.specs.Ring.{RingDoing, RingDid, ring_fields, driver_of}
 use Rattle.uart_ring.specs.Transmit.{Queues, ResumesTransmit, Holds, Releases, QueuesUrgent, ClearsTransmit}
 use Rattle.uart_ring.specs.Transmit.{SetsLowMark, TakesLow}
-use Rattle.uart_ring.specs.Receive.{TakesBytes, ClearsReceive}
+use Rattle.uart_ring.specs.Receive.{TakesBytes, ClearsReceive, AdjustsRts}
 use Rattle.uart_ring.specs.Storm.{TriesToHandle, Restarts}
 use Rattle.uart_ring.specs.Service.{Services}
 use Rattle.uart_ring.specs.Handle.{Retriggers, Handles}
@@ -86,6 +86,7 @@ RingCallStep s (call.TryHandle limit rounds) answer t =
     RingCalled (TriesToHandle limit rounds) answers.Tried answer s t
 RingCallStep s (call.Restart interrupts) answer t =
     RingCalled (λ (_ : ⊤). Restarts interrupts.0) (λ _. Done) answer s t
+RingCallStep s (call.AdjustRts marks) answer t = RingCalled (λ (_ : ⊤). AdjustsRts marks) (λ _. Done) answer s t
 RingCallStep s call.Next answer t = RingGoesOn answer s t
 
 -- ---- lists of calls

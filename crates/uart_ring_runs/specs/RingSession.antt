@@ -9,12 +9,27 @@ use Rattle.uart_run.specs.Ready.{Ready}
 use Rattle.uart_run.specs.Session.{overflows}
 use Rattle.uart_run.specs.Progress.{IsUnchecked}
 use Rattle.uart_run.specs.Uncut.{IsUncut, kept_uncut}
+use Rattle.uart_run.specs.Wired.{IsWired}
 use Rattle.uart_ring_runs.specs.declared.call.RingCall.{RingCall}
 use Rattle.uart_ring_runs.specs.declared.call.RingAnswer.{RingAnswer}
 use Rattle.uart_ring_runs.specs.RingRun.{RingState, under, ring_machine, RingCallStep, RingLink, RingChain}
 use Rattle.uart_ring_runs.specs.RingBytes.{to_send, to_take, queued, taken, gone, to_send_with, AllKeepOrder}
 use Rattle.uart_ring_runs.specs.RingStatuses.{RingTells}
 use Rattle.uart_ring_runs.specs.RingArmed.{AllLeaveRingArmed}
+
+-- the call goes on with a session that began in this state: it may write MCR if the machine was wired, so that no modem
+-- line changes by that; each of these does
+abbrev pub IsWithinRingSession : RingState → RingCall → Type 0
+IsWithinRingSession s (call.AdjustRts marks) = IsWired (under s)
+IsWithinRingSession s other = Unit {0}
+
+abbrev pub AllWithinRingSession : RingState → List RingLink → Type 0
+AllWithinRingSession s [] = Unit {0}
+AllWithinRingSession s (link ∷ links) = IsWithinRingSession s link.call × AllWithinRingSession s links
+
+-- a session of ring calls: it begins in a ready state, and each call goes on with it
+abbrev pub IsRingSession : RingState → List RingLink → Type 0
+IsRingSession s links = Ready (under s) × AllWithinRingSession s links
 
 -- what has been sent or is in the transmitter, and then what waits, grew by what was queued, if no call overtakes or
 -- drops; what was taken or dropped, then the receive ring, then what is in the receiver, is what was in the receive
@@ -37,11 +52,12 @@ abbrev pub AllSendInLine : List RingLink → Type 0
 AllSendInLine [] = Unit {0}
 AllSendInLine (link ∷ links) = SendsInLine link × AllSendInLine links
 
--- a session of ring calls: the bytes that were queued, with characters cut, are conserved, and those that arrived; no
--- data write met a full transmitter; a `take_line` or `take_modem` at the end reports drops, line errors and changes;
--- and there are never bytes that may be sent with no interrupt to come
+-- what a session of ring calls does: the bytes that were queued, with characters cut, are conserved, and those that
+-- arrived; no data write met a full transmitter; a `take_line` or `take_modem` at the end reports drops, line errors
+-- and changes; and there are never bytes that may be sent with no interrupt to come
 pub record RingConserves (s : RingState) (links : List RingLink) (t : RingState) : Type 0 where
   pub ready : Ready (under t)
+  pub wired : IsWired (under s) → IsWired (under t)
   pub sent : AllKeepOrder links → let cut = map (cut_of (ring_machine s).chip) in
       out (ring_machine t) ++ cut (to_send t) ≡ out (ring_machine s) ++ (cut (to_send s) ++ cut (queued links))
   pub in_line : AllSendInLine links
@@ -53,9 +69,9 @@ pub record RingConserves (s : RingState) (links : List RingLink) (t : RingState)
   pub tells : RingTells s links t
   pub armed : IsUnchecked (under s) → AllLeaveRingArmed links
 
--- these calls, with these answers, lead from s to t; and each session in them conserves, which is each part that
--- begins in a ready state: no ring call ends a session
+-- these calls, with these answers, lead from s to t; and each session in them conserves: no ring call ends a session
 pub record RanRing (s : RingState) (calls : List RingCall) (answers : List RingAnswer) (t : RingState) : Type 0 where
   pub run : RunOf RingCallStep s calls answers t
   pub sessions : (front session rest : List RingLink) (a b : RingState) → run.links ≡ front ++ (session ++ rest) →
-      RingChain s front a → RingChain a session b → RingChain b rest t → Ready (under a) → RingConserves a session b
+      RingChain s front a → RingChain a session b → RingChain b rest t → IsRingSession a session →
+      RingConserves a session b

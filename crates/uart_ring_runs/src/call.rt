@@ -5,7 +5,7 @@ ghost use Rattle.uart_ring_runs.specs.RingRun.{IsRingRunnable};
 
 use arrayvec::ArrayVec;
 use uart_calls::CALL_BYTES;
-use uart_ring::{Handled, StuckError};
+use uart_ring::{Handled, ReceiveMarks, StuckError};
 use uart_spec::registers::{IER, LSR, MSR};
 
 /// A call of the rings as data.
@@ -47,6 +47,8 @@ pub enum RingCall {
     TryHandle(usize, u32),
     /// `restart` with these interrupts.
     Restart(IER),
+    /// `adjust_rts` at these marks.
+    AdjustRts(ReceiveMarks),
     /// `Device16550::next`: goes on to the next mark of the schedule.
     Next,
 }

@@ -19,14 +19,15 @@ ghost use Rattle.uart_ring_runs.specs.RingRun.{RingChain, RingLink, RingState};
 ghost use Rattle.uart_ring_runs.specs.RingRun.{ring_machine, under};
 ghost use Rattle.uart_ring_runs.specs.RingSession.{RingConserves};
 ghost use Rattle.uart_run.specs.Ready.{Ready};
+ghost use Rattle.uart_run.specs.Wired.{IsWired};
 ghost use Rattle.uart_spec.specs.declared.config.Config.{Config};
 
 use uart_16550::Uart16550;
 use uart_chip::Device16550;
 
 /// If an `init` of this driver returns `Ok`, a session of ring calls may begin with the driver that
-/// it leaves, whatever the chip did before. The driver may be put into rings then, or be in rings
-/// already, which may hold anything.
+/// it leaves, whatever the chip did before, also one with calls of `adjust_rts`. The driver may be
+/// put into rings then, or be in rings already, which may hold anything.
 ///
 /// # Examples
 ///
@@ -37,9 +38,12 @@ use uart_chip::Device16550;
 /// }
 /// ```
 pub fn init_leaves_ready(uart: &Uart16550<Device16550>)
-    ensures { (config : Config) (after : Uart16550 MachineState) (ring : RingState) →
+    ensures ready { (config : Config) (after : Uart16550 MachineState) (ring : RingState) →
         Did MachineStep (Inits {T = Unit {0}} config (Ok tt)) uart.now after →
         driver_of ring ≡ after → Ready (under ring) }
+    ensures wired { (config : Config) (after : Uart16550 MachineState) (ring : RingState) →
+        Did MachineStep (Inits {T = Unit {0}} config (Ok tt)) uart.now after →
+        driver_of ring ≡ after → IsWired (under ring) }
 {
     // The law takes the driver before its `init`, since it needs that its machine is sound.
     // The contract of this call states that of every machine, so no caller has to bring it.

@@ -61,6 +61,10 @@ fn run_ring_call(ring: &mut Uart16550Ring<Device16550>, call: &RingCall) -> Ring
             ring.restart(*interrupts);
             RingAnswer::Done
         }
+        RingCall::AdjustRts(marks) => {
+            ring.adjust_rts(*marks);
+            RingAnswer::Done
+        }
         RingCall::Next => {
             ring.inner_mut().backend_mut().next();
             RingAnswer::Done
@@ -72,7 +76,9 @@ fn run_ring_call(ring: &mut Uart16550Ring<Device16550>, call: &RingCall) -> Ring
 /// no memory.
 ///
 /// A *session* begins in a ready state: DLAB and loopback are off, and the driver knows whether the
-/// FIFO is on. The rings may hold anything then. In each session
+/// FIFO is on. The rings may hold anything then. If it has an `AdjustRts`, which writes MCR, the
+/// modem lines show the modem's inputs at its start, as they do on every chip that was made and
+/// not put together by hand. In each session
 ///
 /// - what has been sent, what is in the transmitter, and then the bytes that wait have grown by
 ///   exactly the bytes that were queued, and no data write meets a full transmitter. This holds if

@@ -1,13 +1,39 @@
 //! From the chip to the receive ring, and from there to the caller.
-ghost use Rattle.std.specs.Prelude.{◌≡◌, length, take, drop, min};
+ghost use Rattle.std.specs.Prelude.{◌≡◌, length, take, drop, min, Some};
 ghost use Rattle.uart_ring.specs.Ring.{IfAny, RingDid, ring_fields};
 ghost use Rattle.uart_ring.specs.Receive.{PausesIfFull, FillsReceiveRing, EndsPause};
 ghost use Rattle.uart_ring.specs.Receive.{TakesBytes, ClearsReceive};
+ghost use Rattle.uart_ring.specs.Receive.{AdjustsRts, MakesRtsIfAny};
+ghost use Rattle.uart_16550.specs.Frame.{switched};
 
 use super::Uart16550Ring;
+use bitflags::Flags;
 use uart_16550::backend::Backend;
 use uart_spec::FIFO_SIZE;
-use uart_spec::registers::IER;
+use uart_spec::registers::{IER, MCR};
+
+/// How much room in the receive ring turns RTS off, and how much turns it on again.
+///
+/// Between the two RTS stays as it is, so it does not change with each byte. If `release` is less
+/// than `hold`, RTS is off below `hold` and on from there.
+#[derive(Clone, Copy, Debug, PartialEq, Eq)]
+pub struct ReceiveMarks {
+    /// The other end is held back while there is room for fewer bytes than this.
+    pub hold: usize,
+    /// It may go on once there is room for this number of bytes.
+    pub release: usize,
+}
+
+// Returns MCR with RTS asserted or clear.
+fn with_rts(mcr: MCR, on: bool) -> MCR
+    ensures { result.0 ≡ switched on MCR.RTS.0 mcr.0 }
+{
+    if on {
+        mcr.union(MCR::RTS)
+    } else {
+        mcr.difference(MCR::RTS)
+    }
+}
 
 impl<B: Backend> Uart16550Ring<B> {
     // Pauses receiving if the receive ring is full. The data interrupt does not end until the data
@@ -83,5 +109,50 @@ impl<B: Backend> Uart16550Ring<B> {
         self.receive.drop_front(count);
         self.end_pause(count);
         count
+    }
+    // Asserts or clears RTS, unless it is so already.
+    fn make_rts(&mut self, on: bool)
+        ensures { RingDid B.step (MakesRtsIfAny (Some on)) self.old self.new }
+    {
+        // A handler adjusts RTS each time that it runs, and RTS changes seldom. So one read shows
+        // most times that there is nothing to write, where `set_rts` would also write.
+        let mcr = self.uart.mcr();
+        if mcr.contains(MCR::RTS) != on {
+            self.uart.set_modem_control(with_rts(mcr, on));
+        }
+    }
+
+    /// Holds the other end back, or lets it go on, by RTS: clears RTS if the receive ring has room
+    /// for fewer than `marks.hold` bytes, and asserts it if there is room for at least
+    /// `marks.release`. Between the two RTS stays as it is.
+    ///
+    /// The other end has to check CTS before it sends, as `check_cts_before_sending` says. It may
+    /// still send what is in its transmitter. So choose `hold` with room for that, and `release`
+    /// not above the capacity of the receive ring, or RTS would never be asserted again.
+    ///
+    /// Call it at the end of the interrupt handler, and after each `take` and `clear_receive`. A
+    /// handler alone is not enough: while the other end is held back no byte arrives, so nothing
+    /// calls the handler.
+    ///
+    /// Does not wait. Between the marks it makes no access. Otherwise it reads MCR, and if RTS is
+    /// not as it is to be, writes MCR: the other outputs as they were, and loopback off.
+    ///
+    /// # Examples
+    ///
+    /// ```
+    /// ring.take(&mut slots);
+    /// ring.adjust_rts(MARKS);
+    /// ```
+    pub fn adjust_rts(&mut self, marks: ReceiveMarks)
+        ensures { RingDid B.step (AdjustsRts marks) self.old self.new }
+    {
+        let room = self.receive.capacity() - self.receive.len();
+        // The first test comes first, so that marks the wrong way round do not let bytes come for
+        // which there is no room.
+        if room < marks.hold {
+            self.make_rts(false);
+        } else if room >= marks.release {
+            self.make_rts(true);
+        }
     }
 }

@@ -16,5 +16,6 @@ mod queue;
 mod ring;
 
 pub use ring::{
-    HandleEnd, Handled, MAX_CAPACITY, MAX_INTERRUPTS, RingError, StuckError, Uart16550Ring,
+    HandleEnd, Handled, MAX_CAPACITY, MAX_INTERRUPTS, ReceiveMarks, RingError, StuckError,
+    Uart16550Ring,
 };

@@ -8,6 +8,7 @@ mod transmit;
 
 use crate::queue::ByteQueue;
 use bitflags::Flags;
+pub use receive::ReceiveMarks;
 pub use service::{HandleEnd, Handled, MAX_INTERRUPTS};
 use std::alloc::Global;
 pub use storm::StuckError;

@@ -10,13 +10,13 @@ use lists::{
     THR_EMPTY, TIMEOUT, UNKNOWN, answers_in, assert_made, play, rings,
 };
 use proved_uart_ring::{
-    HandleEnd, Handled, MAX_CAPACITY, MAX_INTERRUPTS, RingError, Uart16550Ring,
+    HandleEnd, Handled, MAX_CAPACITY, MAX_INTERRUPTS, ReceiveMarks, RingError, Uart16550Ring,
 };
 use std::num::NonZeroU64;
 use uart_16550::Uart16550;
 use uart_calls::replay::Replay;
 use uart_spec::registers;
-use uart_spec::registers::offsets::{IER, ISR, LSR, MSR};
+use uart_spec::registers::offsets::{IER, ISR, LSR, MCR, MSR};
 
 #[test]
 fn bytes_are_queued_and_sent() {
@@ -124,6 +124,71 @@ fn receiving_is_paused_by_a_full_ring() {
     assert_eq!(ring.take(&mut slots), 1);
     assert_eq!(slots[0], 0x43);
     assert_eq!(ring.take(&mut slots), 0);
+    assert_made(ring.inner().backend(), &steps);
+}
+
+#[test]
+fn rts_follows_the_room() {
+    // MCR as an `init` leaves it, with RTS, is 0x0b, and without it 0x09.
+    let steps = [
+        Read(MCR, 0x0b),          // room for 4, the mark: RTS is on
+        Changed(MCR, 0x09, 0x0b), // it was off, and is switched on
+        Read(ISR, DATA_READY),    // room for 3: between the marks
+        Received(b"A"),
+        Read(LSR, EMPTY),
+        Read(ISR, NONE),
+        Read(ISR, DATA_READY), // room for 1, below the mark
+        Received(b"BC"),
+        Read(LSR, EMPTY),
+        Read(ISR, NONE),
+        Changed(MCR, 0x1b, 0x09), // loopback is switched off with it
+        Read(MCR, 0x09),          // it is off
+        Changed(MCR, 0x09, 0x0b), // room for 4 again
+    ];
+    let answers = answers_in(&steps);
+    let mut ring = rings(&answers, 32, 4);
+    let marks = ReceiveMarks {
+        hold: 2,
+        release: 4,
+    };
+    let mut slots = [0xee; 8];
+    ring.adjust_rts(marks);
+    ring.adjust_rts(marks);
+    assert_eq!(ring.service(), 1);
+    ring.adjust_rts(marks);
+    assert_eq!(ring.service(), 1);
+    ring.adjust_rts(marks);
+    ring.adjust_rts(marks);
+    assert_eq!(ring.take(&mut slots[..1]), 1);
+    ring.adjust_rts(marks);
+    assert_eq!(ring.take(&mut slots), 2);
+    ring.adjust_rts(marks);
+    assert_made(ring.inner().backend(), &steps);
+}
+
+#[test]
+fn marks_the_wrong_way_round() {
+    // Below `hold` RTS is off, whatever `release` is, and from there on it is on.
+    let steps = [
+        Read(MCR, 0x0b),
+        Read(ISR, DATA_READY), // room for 1
+        Received(b"A"),
+        Read(LSR, EMPTY),
+        Read(ISR, NONE),
+        Changed(MCR, 0x0b, 0x09),
+        Changed(MCR, 0x09, 0x0b),
+    ];
+    let answers = answers_in(&steps);
+    let mut ring = rings(&answers, 32, 2);
+    let marks = ReceiveMarks {
+        hold: 2,
+        release: 0,
+    };
+    ring.adjust_rts(marks);
+    assert_eq!(ring.service(), 1);
+    ring.adjust_rts(marks);
+    assert_eq!(ring.clear_receive(), 1);
+    ring.adjust_rts(marks);
     assert_made(ring.inner().backend(), &steps);
 }
 

@@ -2,7 +2,7 @@
 
 use arrayvec::ArrayVec;
 use uart_calls::CALL_BYTES;
-use uart_ring::{Handled, StuckError};
+use uart_ring::{Handled, ReceiveMarks, StuckError};
 use uart_spec::registers::{IER, LSR, MSR};
 
 /// A call of the rings as data.
@@ -44,6 +44,8 @@ pub enum RingCall {
     TryHandle(usize, u32),
     /// `restart` with these interrupts.
     Restart(IER),
+    /// `adjust_rts` at these marks.
+    AdjustRts(ReceiveMarks),
     /// `Device16550::next`: goes on to the next mark of the schedule.
     Next,
 }

@@ -15,4 +15,6 @@ pub returns : goal.returns
 returns c =
     let left = rw (c.backend.ensures, c.inner.ensures) at c.arrivals-left.ensures.whole in
     let right = rw (c.backend-2.ensures, c.inner-2.ensures) at c.arrivals-right.ensures.whole in
-    ran_link _ _ _ _ c.loop-i.i (omega arith) (omega arith) left.sound right.sound c.loop-i.invariant
+    let wired_left = rw (c.backend.ensures, c.inner.ensures) at c.arrivals-left.ensures.wired in
+    let wired_right = rw (c.backend-2.ensures, c.inner-2.ensures) at c.arrivals-right.ensures.wired in
+    ran_link _ _ _ _ c.loop-i.i (omega arith) (omega arith) left.sound right.sound wired_left wired_right c.loop-i.invariant

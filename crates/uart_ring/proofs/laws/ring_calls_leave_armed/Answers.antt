@@ -4,6 +4,7 @@ use Rattle.uart_ring.proofs.Arming.{handles_leave, retriggers_leave}
 use Rattle.uart_ring.proofs.Arming.{holds_leave, releases_arm, releases_arm_unless_held, queues_urgent_arm, queues_urgent_arm_unless_held}
 use Rattle.uart_ring.proofs.Arming.{clears_transmit_leave, clears_receive_leave, sets_low_mark_leave, takes_low_leave, tries_leave}
 use Rattle.uart_ring.proofs.Arming.{restarts_arm}
+use Rattle.uart_ring.proofs.Arming.{adjusts_leave}
 use Rattle.uart_ring.proofs.laws.ring_calls_leave_armed.Goals as goal
 
 pub returns : goal.returns
@@ -30,4 +31,5 @@ returns c = record {
   take_low = takes_low_leave;
   try_handle = tries_leave;
   restart = restarts_arm;
+  adjust_rts = adjusts_leave;
 }

@@ -4,6 +4,7 @@ use Rattle.uart_ring.proofs.Losses.{handles_lose_nothing, retriggers_lose_nothin
 use Rattle.uart_ring.proofs.Losses.{holds_lose_nothing, releases_lose_nothing, queues_urgent_loses_only, clears_transmit_loses_only}
 use Rattle.uart_ring.proofs.Losses.{clears_receive_loses_nothing, sets_low_mark_loses_nothing, takes_low_loses_nothing}
 use Rattle.uart_ring.proofs.Losses.{tries_lose_nothing, restarts_lose_nothing}
+use Rattle.uart_ring.proofs.Losses.{adjusts_lose_nothing}
 use Rattle.uart_ring.proofs.laws.ring_calls_lose_nothing.Goals as goal
 
 pub returns : goal.returns
@@ -25,4 +26,5 @@ returns c = record {
   take_low = takes_low_loses_nothing;
   try_handle = tries_lose_nothing;
   restart = restarts_lose_nothing;
+  adjust_rts = adjusts_lose_nothing;
 }

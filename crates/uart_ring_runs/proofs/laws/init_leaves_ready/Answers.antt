@@ -1,7 +1,10 @@
-use Rattle.uart_ring_runs.proofs.RingReady.{init_ready}
+use Rattle.uart_ring_runs.proofs.RingReady.{init_leaves}
 use Rattle.uart_ring_runs.proofs.laws.init_leaves_ready.Goals as goal
 
 pub returns : goal.returns
 returns c =
     let whole = rw c.backend.ensures at c.fifo_enabled-fifo.ensures.whole in
-    λ config after ring did same. init_ready _ after config ring whole.sound did same
+    record {
+      ready = λ config after ring did same. (init_leaves _ after config ring whole.sound did same).ready;
+      wired = λ config after ring did same. (init_leaves _ after config ring whole.sound did same).wired;
+    }

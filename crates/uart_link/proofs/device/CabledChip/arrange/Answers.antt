@@ -1,4 +1,4 @@
-use Rattle.std.proofs.Common.{◌≡◌, ◌∙◌, ◌+◌, ℕ, length, arith, sym, ap}
+use Rattle.std.proofs.Common.{◌∙◌, ◌+◌, length, arith, sym, ap}
 use Rattle.std.specs.List.{count_by}
 use Rattle.uart_events.specs.Build.{is_arrival}
 use Rattle.uart_chip.specs.Machine.{MachineState}

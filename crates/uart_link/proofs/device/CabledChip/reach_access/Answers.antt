@@ -2,6 +2,7 @@ use Rattle.std.proofs.Common.{◌<◌, length, arith}
 use Rattle.uart_chip.specs.Machine.{at_access}
 use Rattle.uart_chip.proofs.soundness.Schedules.{access_performs}
 use Rattle.uart_chip.proofs.soundness.Sounds.{whole_tick}
+use Rattle.uart_run.proofs.Wired.{wired-ticks}
 use Rattle.uart_link.proofs.Schedules.{goes_on}
 use Rattle.uart_link.proofs.device.CabledChip.reach_access.Goals as goal
 
@@ -21,5 +22,6 @@ invariant_of-self-2 c = (
   record {
     whole = rw c.tick.ensures (whole_tick _ _ c.loop-self.invariant.way.known.whole);
     unmarked = c.loop-self.invariant.way.known.unmarked;
+    wired = rw c.tick.ensures (wired-ticks 1 c.loop-self.self-inside.uart c.loop-self.invariant.way.known.wired);
   },
 )

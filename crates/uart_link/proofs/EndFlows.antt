@@ -1,0 +1,595 @@
+-- What a call at one end does there, in numbers: how many characters came, were moved to the receive ring, and left the driver.
+use Rattle.std.proofs.Common.{◌≡◌, ◌⊎◌, inl, inr, ℕ, zero, suc, ◌+◌, ◌-◌, ◌<◌, ◌≤◌, ◌||◌, nat_lt, Bool, true, false, List, [], ◌∷◌}
+use Rattle.std.proofs.Common.{◌++◌, length, length-append, map}
+use Rattle.std.proofs.Common.{take, refl, replicate, sym, ◌∙◌, ap, subst, arith, filter, Option, Some, None, bit_and, bit_or, if◌then◌else◌}
+use Rattle.std.proofs.lemmas.Grind.{common_steps}
+use Rattle.std.proofs.lemmas.List.{length-map}
+use Rattle.std.proofs.lemmas.List.Sums.{length-filter, count_by-le-length}
+use Rattle.uart_events.specs.declared.event.Event.TheVariants.{Arrive}
+use Rattle.uart_spec.specs.Access.{Path}
+use Rattle.uart_spec.specs.Bits.{has, has_any, flag}
+use Rattle.uart_spec.specs.declared.access.Access.{Access}
+use Rattle.uart_spec.specs.declared.access.Access.TheVariants.{Read, Write}
+use Rattle.uart_spec.specs.declared.registers.modem_control.TheConstants.MCR
+use Rattle.uart_spec.specs.declared.registers.modem_status.TheConstants.MSR
+use Rattle.uart_spec.specs.declared.registers.offsets.TheConstants as offsets
+use Rattle.uart_16550.specs.Frame.{switched, unlooped}
+use Rattle.uart_16550.specs.Driver.{settings_of}
+use Rattle.uart_chip.specs.declared.receiver.Character.{Character}
+use Rattle.uart_chip.specs.Receiver.{ReceiverState}
+use Rattle.uart_chip.specs.Conserved.{out, stands}
+use Rattle.uart_chip.specs.Chip.{ChipState, is_loopback}
+use Rattle.uart_chip.specs.Transmitter as transmitter
+use Rattle.uart_chip.specs.Machine.{MachineState, MachineStep, at_access, before_access, at_mark, arrivals}
+use Rattle.uart_chip.proofs.conservation.Passed.{Passed, passed-mark}
+use Rattle.uart_chip.proofs.Lists.{each-append}
+use Rattle.uart_chip.specs.Masks.{mcr_bits}
+use Rattle.uart_chip.proofs.Bits.{has_one, has_or, has_and, has_not}
+use Rattle.uart_chip.proofs.conservation.BlockLaws.{IsOpen, Stands, path_as}
+use Rattle.uart_chip.proofs.conservation.Receives.{Drop}
+use Rattle.uart_chip.proofs.conservation.Went.{Modes, IsIn, loopback-in, arriving_cut}
+use Rattle.uart_chip.specs.Sound.{IsSound}
+use Rattle.uart_run.proofs.CallBlocks.{InBlocks, passed_in_blocks}
+use Rattle.uart_run.specs.Wired.{IsWired, IsWiredChip}
+use Rattle.uart_run.proofs.CallLaws.{InSession}
+use Rattle.uart_run.proofs.FrameLaws.{unlooped_off}
+use Rattle.uart_run.proofs.Wired.{wired_mark}
+use Rattle.uart_ring.specs.Ring.{RingDoing, RingDid, RingFields, ring_fields, free}
+use Rattle.uart_ring.specs.Receive.{rts_at, write_if_other, MakesRtsIfAny, AdjustsRts}
+use Rattle.uart_ring.specs.declared.ring.receive.ReceiveMarks.{ReceiveMarks}
+use Rattle.uart_ring.specs.Lossless.{data_written, data_read, LosesOnly, with_accepted, overtaken_by, without_dropped, Implies}
+use Rattle.uart_ring.proofs.Losses.{queues_lose_nothing, takes_lose_nothing, services_lose_nothing, resumes_lose_nothing}
+use Rattle.uart_ring.proofs.Losses.{takes_line_loses_nothing, takes_modem_loses_nothing, handles_lose_nothing, retriggers_lose_nothing}
+use Rattle.uart_ring.proofs.Losses.{holds_lose_nothing, releases_lose_nothing, queues_urgent_loses_only, clears_transmit_loses_only}
+use Rattle.uart_ring.proofs.Losses.{clears_receive_loses_nothing, sets_low_mark_loses_nothing, takes_low_loses_nothing, tries_lose_nothing}
+use Rattle.uart_ring.proofs.Losses.{restarts_lose_nothing, rts_moves}
+use Rattle.uart_ring_runs.specs.declared.call.RingCall.{RingCall}
+use Rattle.uart_ring_runs.specs.declared.call.RingCall.TheVariants as call
+use Rattle.uart_ring_runs.specs.declared.call.RingAnswer.{RingAnswer}
+use Rattle.uart_ring_runs.specs.RingRun.{RingState, under, ring_machine}
+use Rattle.uart_ring_runs.specs.RingBytes.{to_take}
+use Rattle.uart_ring_runs.proofs.RingBlocks.{MakesRingBlocks, queues_make, resumes_make, takes_make, services_make}
+use Rattle.uart_ring_runs.proofs.RingBlocks.{takes_line_makes, takes_modem_makes, handles_make, retriggers_make}
+use Rattle.uart_ring_runs.proofs.RingBlocks.{holds_make, releases_make, queues_urgent_make, clears_transmit_make, clears_receive_make}
+use Rattle.uart_ring_runs.proofs.RingBlocks.{sets_low_mark_make, takes_low_make, tries_make, restarts_make}
+use Rattle.uart_ring_runs.proofs.RingRts.{modes_at, begins_session, came_rts}
+use Rattle.uart_link.specs.declared.call.Moment.{Moment}
+use Rattle.uart_link.specs.declared.call.Moment.TheVariants as moment
+use Rattle.uart_link.specs.Cable.{events_of, unknown, to_come, settled, arranged, on_cable, lines_joined, lines_from}
+use Rattle.uart_link.specs.Carried.{receiver_at}
+use Rattle.uart_link.specs.Flow.{receive_room, hold_of}
+use Rattle.uart_link.specs.Link.{CabledCallStep, EndStep}
+use Rattle.uart_link.proofs.Arranges.{arranged_events}
+use Rattle.uart_link.proofs.Calm.{AllLeaveMcr, AllMild, all_mild, blocks_leave, mcr_settled, mcr_path, LeavesCtsClear}
+use Rattle.uart_link.proofs.Calm.{AllLeaveCtsClear, IsHeld, held_path, held_first}
+use Rattle.uart_link.proofs.Calm.{HasRoomTo, room_path, room_settled, room_first}
+use Rattle.uart_link.proofs.EndActs.{sound_arranged}
+use Rattle.uart_link.proofs.EndPasses.{InEnd}
+use Rattle.uart_link.proofs.Held.{HoldsBack, services_held, retriggers_held, handles_held, queues_held, resumes_held, takes_held}
+use Rattle.uart_link.proofs.Held.{takes_line_held, takes_modem_held, holds_held, releases_held, queues_urgent_held, clears_transmit_held}
+use Rattle.uart_link.proofs.Held.{clears_receive_held, sets_low_mark_held, takes_low_held, tries_held, restarts_held}
+
+-- ---- what a ring call does, over any backend
+
+record CallFacts (f : RingFields) (l : List Access) (after : RingFields) : Type 0 where
+  pub blocks : InBlocks f.driver.fifo l (data_written l) (data_read l)
+  pub fewer : length after.receive.items ≤ length f.receive.items + length (data_read l)
+  pub capacity : after.receive.capacity ≡ f.receive.capacity
+  pub held : HoldsBack f l after
+
+-- a ring call made accesses, of which this is known
+record CallDid (s t : RingState) : Type 0 where
+  pub list : List Access
+  pub path : Path MachineStep (ring_machine s) list (ring_machine t)
+  pub facts : CallFacts (ring_fields s) list (ring_fields t)
+
+did : (G : RingDoing) (s t : RingState) (change : List ℕ → List ℕ) (given : List ℕ) (line modem : ℕ) → (d : RingDid MachineStep G s t) →
+    Implies G MakesRingBlocks → LosesOnly change given line modem (ring_fields s) d.list (ring_fields t) → Implies G HoldsBack →
+    CallDid s t ⊎ ((ring_machine t ≡ settled (ring_machine s)) × (ring_fields t ≡ ring_fields s))
+did G s t change given line modem d makes loses held = inl (record {
+  list = d.list;
+  path = d.path;
+  facts = record {
+    blocks = (makes (ring_fields s) d.list (ring_fields t) d.does).blocks;
+    fewer =
+        let f = ring_fields s in
+        let after = ring_fields t in
+        let sizes : length (given ++ after.receive.items) ≡ length (f.receive.items ++ data_read d.list) = ap length loses.received in
+        omega (arith, sizes, length-append given after.receive.items, length-append f.receive.items (data_read d.list));
+    capacity = loses.rooms.1;
+    held = held (ring_fields s) d.list (ring_fields t) d.does;
+  };
+})
+
+-- each call that does not adjust RTS: it made accesses; or all moments happened, and the rings are as they were
+call_did : (s t : RingState) (c : RingCall) (a : RingAnswer) → hold_of c ≡ None → CabledCallStep s c a t →
+    CallDid s t ⊎ ((ring_machine t ≡ settled (ring_machine s)) × (ring_fields t ≡ ring_fields s))
+call_did s t (call.AdjustRts marks) a none h = absurd (cc)
+call_did s t call.Next a none h = inr (h.passes.machine, h.passes.rings)
+call_did s t (call.Queue bytes) a none h =
+    did _ s t (with_accepted (take h.outcome bytes.items)) [] 0 0 h.did (queues_make bytes.items h.outcome)
+    (queues_lose_nothing bytes.items h.outcome (ring_fields s) h.did.list (ring_fields t) h.did.does)
+    (queues_held bytes.items h.outcome)
+call_did s t call.ResumeTransmit a none h =
+    did _ s t (with_accepted []) [] 0 0 h.did resumes_make
+    (resumes_lose_nothing (ring_fields s) h.did.list (ring_fields t) h.did.does)
+    resumes_held
+call_did s t (call.Take slots) a none h =
+    did _ s t (with_accepted []) h.outcome 0 0 h.did (takes_make slots h.outcome)
+    (takes_lose_nothing slots h.outcome (ring_fields s) h.did.list (ring_fields t) h.did.does)
+    (takes_held slots h.outcome)
+call_did s t call.Service a none h =
+    did _ s t (with_accepted []) [] 0 0 h.did (services_make h.outcome)
+    (services_lose_nothing h.outcome (ring_fields s) h.did.list (ring_fields t) h.did.does)
+    (services_held h.outcome)
+call_did s t (call.Handle limit) a none h =
+    did _ s t (with_accepted []) [] 0 0 h.did (handles_make limit h.outcome)
+    (handles_lose_nothing limit h.outcome (ring_fields s) h.did.list (ring_fields t) h.did.does)
+    (handles_held limit h.outcome)
+call_did s t call.Retrigger a none h =
+    did _ s t (with_accepted []) [] 0 0 h.did retriggers_make
+    (retriggers_lose_nothing (ring_fields s) h.did.list (ring_fields t) h.did.does)
+    retriggers_held
+call_did s t call.TakeLine a none h =
+    did _ s t (with_accepted []) [] h.outcome 0 h.did (takes_line_makes h.outcome)
+    (takes_line_loses_nothing h.outcome (ring_fields s) h.did.list (ring_fields t) h.did.does)
+    (takes_line_held h.outcome)
+call_did s t call.TakeModem a none h =
+    did _ s t (with_accepted []) [] 0 h.outcome h.did (takes_modem_makes h.outcome)
+    (takes_modem_loses_nothing h.outcome (ring_fields s) h.did.list (ring_fields t) h.did.does)
+    (takes_modem_held h.outcome)
+call_did s t call.HoldTransmit a none h =
+    did _ s t (with_accepted []) [] 0 0 h.did holds_make
+    (holds_lose_nothing (ring_fields s) h.did.list (ring_fields t) h.did.does)
+    holds_held
+call_did s t call.ReleaseTransmit a none h =
+    did _ s t (with_accepted []) [] 0 0 h.did releases_make
+    (releases_lose_nothing (ring_fields s) h.did.list (ring_fields t) h.did.does)
+    releases_held
+call_did s t (call.QueueUrgent byte) a none h =
+    did _ s t (overtaken_by byte h.outcome) [] 0 0 h.did (queues_urgent_make byte h.outcome)
+    (queues_urgent_loses_only byte h.outcome (ring_fields s) h.did.list (ring_fields t) h.did.does)
+    (queues_urgent_held byte h.outcome)
+call_did s t call.ClearTransmit a none h =
+    did _ s t (without_dropped h.outcome) [] 0 0 h.did (clears_transmit_make h.outcome)
+    (clears_transmit_loses_only h.outcome (ring_fields s) h.did.list (ring_fields t) h.did.does)
+    (clears_transmit_held h.outcome)
+call_did s t call.ClearReceive a none h =
+    did _ s t (with_accepted []) (to_take s) 0 0 h.did (clears_receive_make h.outcome)
+    (clears_receive_loses_nothing (ring_fields s) h.outcome h.did.list (ring_fields t) h.did.does)
+    (clears_receive_held h.outcome)
+call_did s t (call.SetLowMark mark) a none h =
+    did _ s t (with_accepted []) [] 0 0 h.did (sets_low_mark_make mark)
+    (sets_low_mark_loses_nothing mark (ring_fields s) h.did.list (ring_fields t) h.did.does)
+    (sets_low_mark_held mark)
+call_did s t call.TakeLow a none h =
+    did _ s t (with_accepted []) [] 0 0 h.did (takes_low_make h.outcome)
+    (takes_low_loses_nothing h.outcome (ring_fields s) h.did.list (ring_fields t) h.did.does)
+    (takes_low_held h.outcome)
+call_did s t (call.TryHandle limit rounds) a none h =
+    did _ s t (with_accepted []) [] 0 0 h.did (tries_make limit rounds h.outcome)
+    (tries_lose_nothing limit rounds h.outcome (ring_fields s) h.did.list (ring_fields t) h.did.does)
+    (tries_held limit rounds h.outcome)
+call_did s t (call.Restart interrupts) a none h =
+    did _ s t (with_accepted []) [] 0 0 h.did (restarts_make interrupts.0)
+    (restarts_lose_nothing interrupts.0 (ring_fields s) h.did.list (ring_fields t) h.did.does)
+    (restarts_held interrupts.0)
+
+-- ---- what it does to the chip
+
+-- how many characters wait in the receiver; how many bytes are in the receive ring; how many have left the driver
+abbrev pub waits : RingState → ℕ
+waits s = length (receiver_at s).queue
+
+abbrev pub in_ring : RingState → ℕ
+in_ring s = length (to_take s)
+
+abbrev pub sent_of : RingState → ℕ
+sent_of s = length (out (ring_machine s))
+
+-- a stretch in numbers
+record Counts (m n : MachineState) (written taken : ℕ) : Type 0 where
+  pub came : ℕ
+  pub arrived : n.chip.receiver.arrived ≡ m.chip.receiver.arrived + came
+  pub waits : length n.chip.receiver.queue + taken ≤ length m.chip.receiver.queue + came
+  pub grows : length (out n) ≡ length (out m) + written
+
+counts : (x : Modes) (m n : MachineState) (made : List Access) (written : List ℕ) (takes : List Character) →
+    Passed x m n made written takes → Counts m n (length written) (length takes)
+counts x m n made written takes p =
+    let r = m.chip.receiver in
+    let s = n.chip.receiver in
+    let g = p.went.receives in
+    record {
+      came = length (arriving_cut x.cut r.arrived p.events);
+      arrived = g.number;
+      waits =
+          let all = r.queue ++ arriving_cut x.cut r.arrived p.events in
+          let same : length (filter (stands s) all) ≡ length (takes ++ s.queue) = ap length g.moved.stay in
+          let few : length (filter (stands s) all) ≤ length all =
+          subst (λ k. k ≤ length all) (sym (length-filter (stands s) all)) (count_by-le-length (stands s) all) in
+          let both = length-append r.queue (arriving_cut x.cut r.arrived p.events) in
+          omega (arith, same, few, both, length-append takes s.queue);
+      grows =
+          let sizes : length (out n) ≡ length (out m ++ map x.cut written) = ap length p.went.sends.grows in
+          omega (arith, sizes, length-append (out m) (map x.cut written), length-map written x.cut);
+    }
+
+-- from s to t at an end, in numbers: nothing was written if the other end held this one back, no character was dropped for which there
+-- was room, and this was kept of the outputs
+pub record EndFlows (Held Kept : Type 0) (s t : RingState) : Type 0 where
+  pub came : ℕ
+  pub moved : ℕ
+  pub written : ℕ
+  pub arrived : (receiver_at t).arrived ≡ (receiver_at s).arrived + came
+  pub waiting : waits t + moved ≤ waits s + came
+  pub ring : in_ring t ≤ in_ring s + moved
+  pub capacity : (ring_fields t).receive.capacity ≡ (ring_fields s).receive.capacity
+  pub grows : sent_of t ≡ sent_of s + written
+  pub kept : Kept
+  pub checks : (settings_of (ring_fields t).driver).checks ≡ (settings_of (ring_fields s).driver).checks
+  pub held : (settings_of (ring_fields s).driver).checks ≡ true → Held → written ≡ 0
+  pub whole : (ring_machine s).chip.fifo ≡ true → waits s + came ≤ 16 → Drop (receiver_at s) (receiver_at t) → ⊥
+  pub fifo : (ring_machine t).chip.fifo ≡ (ring_machine s).chip.fifo
+
+-- ---- the lines that come with a call
+
+-- the call's moments begin with the lines, and the other end's RTS is off
+abbrev pub IsHeldBack : List Moment → (there : ChipState) → Type 0
+IsHeldBack moments there =
+    ((rest : List Moment) × (moments ≡ moment.Lines ∷ rest)) × (has_any (lines_from there) MSR.CTS.0 ≡ false)
+
+clear_events : (moments : List Moment) (cable : List ℕ) (lines : ℕ) → has_any lines MSR.CTS.0 ≡ false →
+    AllLeaveCtsClear (events_of moments cable lines)
+clear_events [] cable lines e = tt
+clear_events (moment.Ticks n ∷ moments) cable lines e = (tt, clear_events moments cable lines e)
+clear_events (moment.Arrives ∷ moments) [] lines e = clear_events moments [] lines e
+clear_events (moment.Arrives ∷ moments) (byte ∷ cable) lines e = (tt, clear_events moments cable lines e)
+clear_events (moment.Lines ∷ moments) cable lines e = (e, clear_events moments cable lines e)
+clear_events (moment.Access ∷ moments) cable lines e = (tt, clear_events moments cable lines e)
+
+clear_unknown : (count : ℕ) → AllLeaveCtsClear (unknown count)
+clear_unknown count = (tt, blanks count)
+  where
+    blanks : (count : ℕ) → AllLeaveCtsClear (replicate count (Arrive 0 0))
+    blanks zero = tt
+    blanks (suc count) = (tt, blanks count)
+
+-- what lies ahead leaves CTS clear
+clear_arranged : (moments : List Moment) (there c : ChipState) (left : ℕ) → has_any (lines_from there) MSR.CTS.0 ≡ false →
+    AllLeaveCtsClear (arranged_events moments there c ++ unknown left)
+clear_arranged moments there c left e =
+    each-append LeavesCtsClear (arranged_events moments there c) (unknown left)
+    (clear_events moments (take (to_come c) (on_cable there c)) (lines_from there) e) (clear_unknown left)
+
+-- and is so at the first access
+held_arranged : (moments rest : List Moment) (there c : ChipState) (left : ℕ) → moments ≡ moment.Lines ∷ rest →
+    has_any (lines_from there) MSR.CTS.0 ≡ false → has_any c.latches.mcr MCR.LOOP_BACK.0 ≡ false →
+    IsHeld (before_access (arranged_events moments there c ++ unknown left) c)
+held_arranged moments rest there c left is e off =
+    let M : List Moment → Type 0 = λ ms. IsHeld (before_access (arranged_events ms there c ++ unknown left) c) in
+    subst M (sym is) (held_first (lines_from there) (arranged_events rest there c ++ unknown left) c
+    (e, clear_arranged rest there c left e) off)
+
+-- ---- a call at an end
+
+-- what the events before the call do
+record Before (x : Modes) (s begins : RingState) : Type 0 where
+  pub counts : Counts (ring_machine s) (ring_machine begins) 0 0
+  pub session : InSession x (under begins)
+  pub rings : ring_fields begins ≡ ring_fields s
+
+settle_counts : (x : Modes) (m n : MachineState) → IsOpen x → Stands x m → n.chip ≡ (at_mark m).chip → Counts m n 0 0
+settle_counts x m n o w chip =
+    let c = counts x m (at_mark m) [] [] [] (passed-mark x m o.loopback w.sound w.modes) in
+    record {
+      came = c.came;
+      arrived = ap (λ (d : ChipState). d.receiver.arrived) chip ∙ c.arrived;
+      waits = subst (λ (d : ChipState). length d.receiver.queue + 0 ≤ length m.chip.receiver.queue + c.came) (sym chip) c.waits;
+      grows = ap (λ (d : ChipState). length (transmitter.out d.transmitter)) chip ∙ c.grows;
+    }
+
+before_call : (x : Modes) (moments : List Moment) (there s t : RingState) (c : RingCall) (a : RingAnswer) → InSession x (under s) →
+    (h : EndStep moments there s c a t) → Before x s h.begins
+before_call x moments there s t c a w h =
+    let m = ring_machine s in
+    let far = (ring_machine there).chip in
+    let begins = h.begins in
+    let chip : (ring_machine begins).chip ≡ (at_mark m).chip = ap (λ (o : MachineState). o.chip) h.arranges.machine in
+    let p = passed-mark x m w.open_modes.loopback w.stands.sound w.stands.modes in
+    let M : ChipState → Type 0 = λ d. IsIn x d in
+    let S : MachineState → Type 0 = λ o. IsSound o in
+    record {
+      counts = settle_counts x m (ring_machine begins) w.open_modes w.stands chip;
+      session = record {
+        open_modes = w.open_modes;
+        stands = record {
+          sound = subst S (sym h.arranges.machine) (sound_arranged moments far (settled m).chip p.sound.chip);
+          modes = subst M (sym chip) p.went.modes;
+        };
+        fifo = ap (λ (f : RingFields). f.driver.fifo) h.arranges.rings ∙ w.fifo;
+      };
+      rings = h.arranges.rings;
+    }
+
+-- the fields of the driver and of the rings that a call leaves
+record Leaves (f after : RingFields) (taken : ℕ) : Type 0 where
+  pub ring : length after.receive.items ≤ length f.receive.items + taken
+  pub capacity : after.receive.capacity ≡ f.receive.capacity
+  pub checks : (settings_of after.driver).checks ≡ (settings_of f.driver).checks
+
+-- MCR is as it was
+abbrev pub KeepsMcr : (s t : RingState) → Type 0
+KeepsMcr s t = (ring_machine t).chip.latches.mcr ≡ (ring_machine s).chip.latches.mcr
+
+-- what the call itself does
+record Within (fifo : Bool) (Held Kept : Type 0) (begins t : RingState) : Type 0 where
+  pub written : ℕ
+  pub taken : ℕ
+  pub counts : Counts (ring_machine begins) (ring_machine t) written taken
+  pub leaves : Leaves (ring_fields begins) (ring_fields t) taken
+  pub kept : Kept
+  pub is_fifo : (ring_machine t).chip.fifo ≡ fifo
+  pub held : (settings_of (ring_fields begins).driver).checks ≡ true → Held → written ≡ 0
+  pub room : (last : ℕ) (r : ReceiverState) → HasRoomTo last r (ring_machine begins).chip → HasRoomTo last r (ring_machine t).chip
+
+within_accesses : (x : Modes) (moments : List Moment) (there s begins t : RingState) → InSession x (under begins) →
+    ring_machine begins ≡ arranged moments (ring_machine there).chip (ring_machine s) → CallDid begins t →
+    Within x.fifo (IsHeldBack moments (ring_machine there).chip) (KeepsMcr begins t) begins t
+within_accesses x moments there s begins t w machine d =
+    let m = ring_machine begins in
+    let n = ring_machine t in
+    let far = (ring_machine there).chip in
+    let c = (settled (ring_machine s)).chip in
+    let left = to_come c - arrivals (arranged_events moments far c) in
+    let f = ring_fields begins in
+    let B : Bool → Type 0 = λ fifo. InBlocks fifo d.list (data_written d.list) (data_read d.list) in
+    let blocks = subst B w.fifo d.facts.blocks in
+    let q = passed_in_blocks x m n d.list _ _ w.open_modes w.stands blocks d.path in
+    let k = counts x m n d.list (data_written d.list) q.takes q.passed in
+    let sizes : length (map (λ character. character.byte) q.takes) ≡ length (data_read d.list) = ap length q.bytes in
+    let same : length q.takes ≡ length (data_read d.list) = sym (length-map q.takes (λ character. character.byte)) ∙ sizes in
+    let A : List Access → Type 0 = λ l. AllLeaveMcr l in
+    let leaves : AllLeaveMcr d.list = subst A (sym blocks.joined) (blocks_leave x.fifo blocks.blocks blocks.fit) in
+    let off : is_loopback m.chip.latches ≡ false = loopback-in x m.chip w.stands.modes ∙ w.open_modes.loopback in
+    let here : c ≡ m.chip = sym (ap (λ (o : MachineState). o.chip) machine) in
+    record {
+      written = length (data_written d.list);
+      taken = length q.takes;
+      counts = k;
+      leaves = record {
+        ring = omega (arith, d.facts.fewer, same);
+        capacity = d.facts.capacity;
+        checks = d.facts.held.checks;
+      };
+      kept = mcr_path m.chip.latches.mcr d.list m n leaves refl d.path;
+      is_fifo = q.passed.went.modes.fifo;
+      held = λ on back.
+          let E : MachineState → Type 0 = λ o. AllLeaveCtsClear o.ahead in
+          let ahead : AllLeaveCtsClear m.ahead = subst E (sym machine) (clear_arranged moments far c left back.1) in
+          let H : MachineState → Type 0 = λ o. IsHeld (at_access o).chip in
+          let loop : has_any c.latches.mcr MCR.LOOP_BACK.0 ≡ false =
+          ap (λ (o : ChipState). has_any o.latches.mcr MCR.LOOP_BACK.0) here ∙ off in
+          let first : IsHeld (at_access m).chip =
+          subst H (sym machine) (held_arranged moments back.0.0 far c left back.0.1 back.1 loop) in
+          ap length (d.facts.held.held on (held_path d.list m n w.stands.sound first ahead leaves d.path));
+      room = λ last r h. room_path last r d.list m n (all_mild d.list leaves) h d.path;
+    }
+
+within_settled : (x : Modes) (Held : Type 0) (begins t : RingState) → InSession x (under begins) →
+    ring_machine t ≡ settled (ring_machine begins) → ring_fields t ≡ ring_fields begins →
+    Within x.fifo Held (KeepsMcr begins t) begins t
+within_settled x Held begins t w machine rings =
+    let m = ring_machine begins in
+    let chip : (ring_machine t).chip ≡ (at_mark m).chip = ap (λ (o : MachineState). o.chip) machine in
+    record {
+      written = 0;
+      taken = 0;
+      counts = settle_counts x m (ring_machine t) w.open_modes w.stands chip;
+      leaves = record {
+        ring = let e : length (ring_fields t).receive.items ≡ length (ring_fields begins).receive.items =
+            ap (λ (f : RingFields). length f.receive.items) rings in omega (arith, e);
+        capacity = ap (λ (f : RingFields). f.receive.capacity) rings;
+        checks = ap (λ (f : RingFields). (settings_of f.driver).checks) rings;
+      };
+      kept = ap (λ (d : ChipState). d.latches.mcr) chip ∙ mcr_settled m.chip.latches.mcr m.ahead m.chip refl;
+      is_fifo = ap (λ (d : ChipState). d.fifo) chip ∙
+          (passed-mark x m w.open_modes.loopback w.stands.sound w.stands.modes).went.modes.fifo;
+      held = λ on back. refl;
+      room = λ last r h.
+          let R : ChipState → Type 0 = λ d. HasRoomTo last r d in subst R (sym chip) (room_settled last r m.ahead m.chip h);
+    }
+
+-- both together
+join : (x : Modes) (Held Within_kept Kept : Type 0) (s begins t : RingState) → InSession x (under s) → Before x s begins →
+    (ring_machine begins).chip ≡ (at_mark (ring_machine s)).chip → Within x.fifo Held Within_kept begins t → (Within_kept → Kept) →
+    EndFlows Held Kept s t
+join x Held Within_kept Kept s begins t w b chip k keeps =
+    let m = ring_machine s in
+    let f : RingFields → ℕ = λ g. length g.receive.items in
+    let same_ring : in_ring begins ≡ in_ring s = ap f b.rings in
+    let on : (settings_of (ring_fields begins).driver).checks ≡ (settings_of (ring_fields s).driver).checks =
+    ap (λ (g : RingFields). (settings_of g.driver).checks) b.rings in
+    let off : is_loopback m.chip.latches ≡ false = loopback-in x m.chip w.stands.modes ∙ w.open_modes.loopback in
+    record {
+      came = b.counts.came + k.counts.came;
+      moved = k.taken;
+      written = k.written;
+      arrived = omega (arith, b.counts.arrived, k.counts.arrived);
+      waiting = omega (arith, b.counts.waits, k.counts.waits);
+      ring = omega (arith, k.leaves.ring, same_ring);
+      capacity = k.leaves.capacity ∙ ap (λ (g : RingFields). g.receive.capacity) b.rings;
+      grows = omega (arith, b.counts.grows, k.counts.grows);
+      kept = keeps k.kept;
+      checks = k.leaves.checks ∙ on;
+      held = λ checks back. k.held (on ∙ checks) back;
+      whole = λ fifo few d.
+          let last = (receiver_at t).arrived in
+          let r = receiver_at s in
+          let all : length m.chip.receiver.queue + last ≤ 16 + m.chip.receiver.arrived =
+          omega (arith, few, b.counts.arrived, k.counts.arrived) in
+          let R : ChipState → Type 0 = λ d. HasRoomTo last r d in
+          let begun : HasRoomTo last r (ring_machine begins).chip =
+          subst R (sym chip) (room_settled last r m.ahead m.chip (room_first last m.chip fifo off all)) in
+          let ended : HasRoomTo last r (ring_machine t).chip = k.room last r begun in
+          ended.whole (omega arith) d;
+      fifo = k.is_fifo ∙ sym w.stands.modes.fifo;
+    }
+
+-- a call that does not adjust RTS
+plain_flows : (x : Modes) (moments : List Moment) (there s t : RingState) (c : RingCall) (a : RingAnswer) → hold_of c ≡ None →
+    InSession x (under s) → EndStep moments there s c a t →
+    EndFlows (IsHeldBack moments (ring_machine there).chip) (KeepsMcr s t) s t
+plain_flows x moments there s t c a none w h =
+    let b = before_call x moments there s t c a w h in
+    let m = ring_machine s in
+    let chip : (ring_machine h.begins).chip ≡ (at_mark m).chip = ap (λ (o : MachineState). o.chip) h.arranges.machine in
+    join x _ (KeepsMcr h.begins t) (KeepsMcr s t) s h.begins t w b chip (by b (call_did h.begins t c a none h.called))
+    (λ kept. kept ∙ (ap (λ (d : ChipState). d.latches.mcr) chip ∙ mcr_settled m.chip.latches.mcr m.ahead m.chip refl))
+  where
+    by : Before x s h.begins →
+        CallDid h.begins t ⊎ ((ring_machine t ≡ settled (ring_machine h.begins)) × (ring_fields t ≡ ring_fields h.begins)) →
+        Within x.fifo (IsHeldBack moments (ring_machine there).chip) (KeepsMcr h.begins t) h.begins t
+    by b (inl d) = within_accesses x moments there s h.begins t b.session h.arranges.machine d
+    by b (inr n) = within_settled x _ h.begins t b.session n.0 n.1
+
+-- ---- `adjust_rts`
+
+-- RTS of an end is off, as the other end sees it
+abbrev pub IsRtsOff : RingState → Type 0
+IsRtsOff s = has_any (lines_from (ring_machine s).chip) MSR.CTS.0 ≡ false
+
+-- lines without RTS
+no_cts : (mcr : ℕ) → has_any mcr MCR.RTS.0 ≡ false → has_any (lines_joined mcr) MSR.CTS.0 ≡ false
+no_cts mcr off =
+    let on : Bool = has_any mcr MCR.DTR.0 in
+    let cts : has_any (flag (has_any mcr MCR.RTS.0) MSR.CTS.0) MSR.CTS.0 ≡ false =
+    ap (λ b. has_any (flag b MSR.CTS.0) MSR.CTS.0) off in
+    has_or 4 (flag (has_any mcr MCR.RTS.0) MSR.CTS.0) (bit_or (flag on MSR.DSR.0) (flag on MSR.CD.0)) ∙
+    (ap (λ b. b || has_any (bit_or (flag on MSR.DSR.0) (flag on MSR.CD.0)) MSR.CTS.0) cts ∙ others on)
+  where
+    others : (b : Bool) → has_any (bit_or (flag b MSR.DSR.0) (flag b MSR.CD.0)) MSR.CTS.0 ≡ false
+    others true = refl
+    others false = refl
+
+rts_off : (s : RingState) → has_any (ring_machine s).chip.latches.mcr MCR.RTS.0 ≡ false → IsRtsOff s
+rts_off s off = go (is_loopback (ring_machine s).chip.latches)
+  where
+    go : (b : Bool) → has_any (if b then 0 else lines_joined (ring_machine s).chip.latches.mcr) MSR.CTS.0 ≡ false
+    go true = refl
+    go false = no_cts (ring_machine s).chip.latches.mcr off
+
+-- the accesses that make RTS so
+abbrev rts_list : (on : Bool) (mcr : ℕ) → List Access
+rts_list on mcr =
+    Read offsets.MCR mcr ∷ write_if_other (has mcr MCR.RTS.0) on (Write offsets.MCR (unlooped (switched on MCR.RTS.0 mcr)))
+
+rts_mild : (shown on : Bool) (mcr : ℕ) →
+    AllMild (Read offsets.MCR mcr ∷ write_if_other shown on (Write offsets.MCR (unlooped (switched on MCR.RTS.0 mcr))))
+rts_mild true true mcr = (tt, tt)
+rts_mild false false mcr = (tt, tt)
+rts_mild true false mcr = (tt, ((refl, λ e. unlooped_off (switched false MCR.RTS.0 mcr)), tt))
+rts_mild false true mcr = (tt, ((refl, λ e. unlooped_off (switched true MCR.RTS.0 mcr)), tt))
+
+-- what the call does to the fields, and to RTS
+record Adjusted (marks : ReceiveMarks) (begins t : RingState) (l : List Access) : Type 0 where
+  pub read : data_read l ≡ []
+  pub written : data_written l ≡ []
+  pub mild : AllMild l
+  pub receive : (ring_fields t).receive ≡ (ring_fields begins).receive
+  pub checks : (settings_of (ring_fields t).driver).checks ≡ (settings_of (ring_fields begins).driver).checks
+  pub off : receive_room begins < marks.hold → has_any (ring_machine t).chip.latches.mcr MCR.RTS.0 ≡ false
+
+-- RTS is off after these accesses
+now_off : (shown : Bool) (mcr : ℕ) (m n : MachineState) → has mcr MCR.RTS.0 ≡ shown →
+    Path MachineStep m (Read offsets.MCR mcr ∷ write_if_other shown false (Write offsets.MCR (unlooped (switched false MCR.RTS.0 mcr)))) n →
+    has_any n.chip.latches.mcr MCR.RTS.0 ≡ false
+now_off true mcr m n e (mid, read, (last, write, same)) =
+    let mcr_is : n.chip.latches.mcr ≡ bit_and (unlooped (switched false MCR.RTS.0 mcr)) mcr_bits =
+    ap (λ (o : MachineState). o.chip.latches.mcr) same ∙ ap (λ (o : MachineState). o.chip.latches.mcr) write in
+    let low = switched false MCR.RTS.0 mcr in
+    ap (λ v. has_any v MCR.RTS.0) mcr_is ∙ (has_and 1 (unlooped low) mcr_bits refl ∙ (has_and 1 low 239 refl ∙ has_not 1 mcr 253 refl))
+now_off false mcr m n e (mid, read, same) =
+    let mcr_is : n.chip.latches.mcr ≡ mcr =
+    ap (λ (o : MachineState). o.chip.latches.mcr) same ∙ (ap (λ (o : MachineState). o.chip.latches.mcr) read.0 ∙ sym read.1) in
+    ap (λ v. has_any v MCR.RTS.0) mcr_is ∙ (sym (has_one 1 mcr) ∙ e)
+
+-- below the mark RTS is made off
+below_mark : (marks : ReceiveMarks) (room : ℕ) → room < marks.hold → rts_at marks room ≡ Some false
+below_mark marks room h = let e : nat_lt room marks.hold ≡ true = grind (arith, common_steps) in rw e refl
+
+adjusted : (marks : ReceiveMarks) (begins t : RingState) (l : List Access) (wanted : Option Bool) →
+    rts_at marks (receive_room begins) ≡ wanted → MakesRtsIfAny wanted (ring_fields begins) l (ring_fields t) →
+    Path MachineStep (ring_machine begins) l (ring_machine t) → Adjusted marks begins t l
+adjusted marks begins t l None is (none, same) path = record {
+  read = ap data_read none;
+  written = ap data_written none;
+  mild = let A : List Access → Type 0 = λ k. AllMild k in subst A (sym none) tt;
+  receive = ap (λ (f : RingFields). f.receive) same;
+  checks = ap (λ (f : RingFields). (settings_of f.driver).checks) same;
+  off = λ low. absurd (let e = below_mark marks (receive_room begins) low in cc (is, e));
+}
+adjusted marks begins t l (Some on) is (((mcr, list), saved), same) path =
+    let shown = has mcr MCR.RTS.0 in
+    let A : List Access → Type 0 = λ k. AllMild k in
+    let moves = rts_moves shown on mcr (unlooped (switched on MCR.RTS.0 mcr)) in
+    record {
+      read = ap data_read list ∙ moves.read_is;
+      written = ap data_written list ∙ moves.written_is;
+      mild = subst A (sym list) (rts_mild shown on mcr);
+      receive = ap (λ (f : RingFields). f.receive) same;
+      checks = ap (λ g. (settings_of g).checks) saved;
+      off = λ low. off on (sym is ∙ below_mark marks (receive_room begins) low)
+          (path_as (ring_machine begins) (ring_machine t) l _ list path);
+    }
+  where
+    off : (on : Bool) → Some on ≡ Some false →
+        Path MachineStep (ring_machine begins)
+        (Read offsets.MCR mcr ∷ write_if_other (has mcr MCR.RTS.0) on (Write offsets.MCR (unlooped (switched on MCR.RTS.0 mcr))))
+        (ring_machine t) → has_any (ring_machine t).chip.latches.mcr MCR.RTS.0 ≡ false
+    off true e path = absurd (cc)
+    off false e path = now_off (has mcr MCR.RTS.0) mcr (ring_machine begins) (ring_machine t) refl path
+
+-- what a call keeps of the outputs: MCR; or if it adjusts RTS, that is off below the mark
+abbrev pub EndKept : RingCall → (s t : RingState) → Type 0
+EndKept (call.AdjustRts marks) s t = receive_room t < marks.hold → IsRtsOff t
+EndKept other s t = KeepsMcr s t
+
+within_adjusts : (x : Modes) (Held : Type 0) (marks : ReceiveMarks) (s begins t : RingState) → InSession x (under begins) →
+    IsWired (under begins) → RingDid MachineStep (AdjustsRts marks) begins t →
+    Within x.fifo Held (EndKept (call.AdjustRts marks) s t) begins t
+within_adjusts x Held marks s begins t w wired d =
+    let m = ring_machine begins in
+    let n = ring_machine t in
+    let q = came_rts x begins t (rts_at marks (receive_room begins)) d.list (begins_session x begins w) wired d.does d.path in
+    let k = counts _ m n d.list (data_written d.list) q.passed.takes q.passed.passed in
+    let adjusts = adjusted marks begins t d.list (rts_at marks (receive_room begins)) refl d.does d.path in
+    record {
+      written = length (data_written d.list);
+      taken = length q.passed.takes;
+      counts = k;
+      leaves = record {
+        ring = let e : length (ring_fields t).receive.items ≡ length (ring_fields begins).receive.items =
+            ap (λ ring. length ring.items) adjusts.receive in omega (arith, e);
+        capacity = ap (λ ring. ring.capacity) adjusts.receive;
+        checks = adjusts.checks;
+      };
+      kept = λ low. let e : receive_room t ≡ receive_room begins = ap free adjusts.receive in
+          rts_off t (adjusts.off (omega (arith, e, low)));
+      is_fifo = q.passed.passed.went.modes.fifo;
+      held = λ on back. ap length adjusts.written;
+      room = λ last r h. room_path last r d.list m n adjusts.mild h d.path;
+    }
+
+pub end_moves : (x : Modes) (moments : List Moment) (there s t : RingState) (c : RingCall) (a : RingAnswer) → InEnd x s →
+    EndStep moments there s c a t → EndFlows (IsHeldBack moments (ring_machine there).chip) (EndKept c s t) s t
+end_moves x moments there s t (call.AdjustRts marks) a w h =
+    let z = modes_at x s in
+    let m = ring_machine s in
+    let b = before_call z moments there s t (call.AdjustRts marks) a w.session h in
+    let chip : (ring_machine h.begins).chip ≡ (at_mark m).chip = ap (λ (o : MachineState). o.chip) h.arranges.machine in
+    let W : ChipState → Type 0 = λ d. IsWiredChip d in
+    let K : Type 0 = EndKept (call.AdjustRts marks) s t in
+    join z _ K K s h.begins t w.session b chip
+    (within_adjusts z _ marks s h.begins t b.session (subst W (sym chip) (wired_mark m w.wired)) h.called.did) (λ kept. kept)
+end_moves x moments there s t other a w h = plain_flows (modes_at x s) moments there s t other a refl w.session h

@@ -1,0 +1,79 @@
+-- If no character is dropped, all that was queued is taken or is still there.
+use Rattle.std.proofs.Common.{◌≡◌, ℕ, ◌+◌, ◌≤◌, Bool, true, false, List, [], ◌∷◌, ◌++◌, map, append_assoc, refl, sym, ◌∙◌, ap, arith}
+use Rattle.std.specs.List.{filter}
+use Rattle.std.proofs.lemmas.List.{map-append}
+use Rattle.std.proofs.lemmas.List.Elements.{filter-append}
+use Rattle.uart_events.specs.declared.event.ArrivalMark.TheVariants.{Pending}
+use Rattle.uart_chip.specs.declared.receiver.Character.{Character}
+use Rattle.uart_chip.specs.declared.receiver.Origin.{Origin}
+use Rattle.uart_chip.specs.declared.receiver.Origin.TheVariants.{Arrived}
+use Rattle.uart_chip.specs.Receiver.{ReceiverState, mark_at}
+use Rattle.uart_chip.specs.Conserved.{origin_stands, stands, waiting}
+use Rattle.uart_chip.specs.Sound.{AllInQueue, IsSound}
+use Rattle.uart_chip.proofs.conservation.Moves.{waits_stands}
+use Rattle.uart_ring_runs.specs.RingRun.{ring_machine}
+use Rattle.uart_ring_runs.specs.RingBytes.{to_take}
+use Rattle.uart_link.specs.declared.call.Side.{Side}
+use Rattle.uart_link.specs.declared.call.Side.TheVariants.{Left, Right}
+use Rattle.uart_link.specs.declared.link.Link.{Link}
+use Rattle.uart_link.specs.Brought.{numbered}
+use Rattle.uart_link.specs.Carried.{on_the_way, receiver_at, not_dropped, queued_at, Carries}
+use Rattle.uart_link.specs.Flow.{DropsNothing, CarriesAll, Delivers}
+use Rattle.uart_link.specs.Link.{at_end, other, Step}
+
+-- whatever was not dropped at first is not dropped later
+abbrev AllStand : (r s : ReceiverState) → Type 0
+AllStand r s = (o : Origin) → origin_stands r.marks r.is_unscheduled_lost o ≡ true → origin_stands s.marks s.is_unscheduled_lost o ≡ true
+
+all_stand : (end : Side) (a b : Link) → DropsNothing end a b → AllStand (receiver_at (at_end end a)) (receiver_at (at_end end b))
+all_stand end a b none o stood = go (origin_stands s.marks s.is_unscheduled_lost o) refl
+  where
+    s : ReceiverState
+    s = receiver_at (at_end end b)
+
+    go : (x : Bool) → origin_stands s.marks s.is_unscheduled_lost o ≡ x → origin_stands s.marks s.is_unscheduled_lost o ≡ true
+    go true e = e
+    go false e = absurd (none (record { origin = o; stood = stood; lost = e }))
+
+queue_stands : (r s : ReceiverState) → AllStand r s → (characters : List Character) →
+    AllInQueue r.arrived r.marks r.is_unscheduled_lost characters → not_dropped s characters ≡ map (λ character. character.byte) characters
+queue_stands r s all [] h = refl
+queue_stands r s all (character ∷ characters) h =
+    let e : stands s character ≡ true =
+    all character.origin (waits_stands r.arrived r.marks r.is_unscheduled_lost character.origin h.0) in
+    rw e (ap (λ zs. character.byte ∷ zs) (queue_stands r s all characters h.1))
+
+numbered_stands : (r s : ReceiverState) → AllStand r s → ((number : ℕ) → r.arrived ≤ number → mark_at r.marks number ≡ Pending) →
+    (k : ℕ) (bytes : List ℕ) → r.arrived ≤ k → not_dropped s (numbered k bytes) ≡ bytes
+numbered_stands r s all pending k [] h = refl
+numbered_stands r s all pending k (byte ∷ bytes) h =
+    let new : Character = record { byte = byte; errors = 0; origin = Arrived k } in
+    let stood : origin_stands r.marks r.is_unscheduled_lost (Arrived k) ≡ true = rw (pending k h) refl in
+    let e : stands s new ≡ true = all (Arrived k) stood in
+    rw e (ap (λ zs. byte ∷ zs) (numbered_stands r s all pending (k + 1) bytes (omega (arith, h))))
+
+carries_all : (end : Side) (a b : Link) (steps : List Step) → IsSound (ring_machine (at_end (other end) a)) →
+    DropsNothing (other end) a b → Carries end a steps b → CarriesAll end a steps b
+carries_all end a b steps w none carries order =
+    let to = other end in
+    let r = receiver_at (at_end to a) in
+    let s = receiver_at (at_end to b) in
+    let all = all_stand to a b none in
+    let byte : Character → ℕ = λ character. character.byte in
+    let come = on_the_way (at_end end a) (at_end to a) ++ queued_at end steps in
+    let new = numbered r.arrived come in
+    let marked = w.chip.receiver.marked in
+    let split : not_dropped s (r.queue ++ new) ≡ not_dropped s r.queue ++ not_dropped s new =
+    ap (map byte) (filter-append (stands s) r.queue new) ∙ map-append byte (filter (stands s) r.queue) (filter (stands s) new) in
+    let first : not_dropped s r.queue ≡ waiting (ring_machine (at_end to a)) = queue_stands r s all r.queue marked.wait in
+    let second : not_dropped s new ≡ come = numbered_stands r s all marked.to_come r.arrived come (omega arith) in
+    carries order ∙ (ap (λ zs. to_take (at_end to a) ++ zs) (split ∙ (λ i. first i ++ second i)) ∙
+    sym (append_assoc (to_take (at_end to a)) (waiting (ring_machine (at_end to a))) come))
+
+pub delivers : (a b : Link) (steps : List Step) → IsSound (ring_machine a.left) → IsSound (ring_machine a.right) → Carries Left a steps b →
+    Carries Right a steps b → ((end : Side) → DropsNothing end a b) → Delivers a steps b
+delivers a b steps left right rightward leftward none = record { drops_nothing = none; carries_all = all }
+  where
+    all : (end : Side) → CarriesAll end a steps b
+    all Left = carries_all Left a b steps right (none Right) rightward
+    all Right = carries_all Right a b steps left (none Left) leftward

@@ -1,0 +1,233 @@
+//! Two scripts at the two ends of a cable.
+
+mod common;
+
+use common::{EXAMPLES, GEESETRUNK, Random, assert_as_stored, parts, run, run_in};
+use std::collections::HashMap;
+use std::fs;
+use std::path::{Path, PathBuf};
+
+const HELLO: [&str; 2] = ["hello-left.script", "hello-right.script"];
+
+// Runs geesetrunk in the folder with the scripts of links.
+fn run_link(words: &[&str], input: &[u8]) -> (i32, String, String) {
+    let folder = Path::new(EXAMPLES).join("link");
+    let words = [&["link"], words].concat();
+    parts(&run_in(&folder, GEESETRUNK, &words, input))
+}
+
+#[test]
+fn the_picture_is_as_stored() {
+    let stored = Path::new(EXAMPLES).join("link/hello.svg");
+    let (status, picture, _) = run_link(&[HELLO[0], HELLO[1], "--picture"], b"");
+    assert_eq!(status, 0);
+    assert_as_stored(&stored, picture.as_bytes(), &fs::read(&stored).unwrap());
+}
+
+#[test]
+fn a_script_may_come_from_standard_input() {
+    let (_, wanted, _) = run_link(&HELLO, b"");
+    let folder = Path::new(EXAMPLES).join("link");
+    for (files, side) in [(["-", HELLO[1]], 0), ([HELLO[0], "-"], 1)] {
+        let script = fs::read(folder.join(HELLO[side])).unwrap();
+        assert_eq!(run_link(&files, &script).1, wanted);
+    }
+}
+
+#[test]
+fn wrong_uses_have_one_error() {
+    let wrong = |script: &[u8], start: &str, status: i32| {
+        let (found, printed, errors) = run_link(&[HELLO[0], "-"], script);
+        assert_eq!(found, status, "{errors}");
+        assert!(printed.is_empty() && errors.starts_with(start), "{errors}");
+    };
+    let head = b"chip 16550a 4 64\n".as_slice();
+    for (line, start) in [
+        (
+            "arrive 41",
+            "-:3:1: arrive: over a cable the other end brings the characters that arrive\n",
+        ),
+        (
+            "lines b",
+            "-:3:1: lines: over a cable the other end brings the modem lines\n",
+        ),
+        ("sing", "-:3:1: unknown word\n"),
+    ] {
+        wrong(&[head, b"\n", line.as_bytes()].concat(), start, 1);
+    }
+    let (status, _, errors) = run_link(&["-", "-"], head);
+    assert_eq!(
+        (status, errors.as_str()),
+        (
+            2,
+            "standard input is one script: name a file for the other\n"
+        )
+    );
+    let (status, _, errors) = run_link(&[HELLO[0], "nowhere.script"], b"");
+    assert_eq!(status, 2);
+    assert!(
+        errors.starts_with("nowhere.script cannot be read: "),
+        "{errors}"
+    );
+    for delay in ["0", "1000001", "+1", "soon"] {
+        let (status, _, errors) = run_link(&["--delay", delay, HELLO[0], HELLO[1]], b"");
+        assert_eq!(
+            (status, errors.as_str()),
+            (2, "the delay must be a number of ticks from 1 to 1000000\n")
+        );
+    }
+}
+
+// An end waits a million polls for characters that never come, at an end whose calls have returned and
+// at one that waits as long.
+#[test]
+fn long_waits_end() {
+    let idle = Path::new(EXAMPLES).join("send.script");
+    let waits = b"chip 16550a 4 64\nlimit 50000\ninit 14 9600 nocts 00 8\nreceive-exact 9\nlsr\n";
+    for words in [
+        ["-", HELLO[1]],
+        [HELLO[1], "-"],
+        ["-", idle.to_str().unwrap()],
+    ] {
+        let (status, text, errors) = run_link(&words, waits);
+        assert_eq!(status, 0, "{errors}");
+        let is_wait = |line: &&str| line.contains("receive-exact 9 = stalled");
+        assert_eq!(text.lines().filter(is_wait).count(), 1, "{text}");
+    }
+}
+
+// ---- random scripts
+
+fn hex(random: &mut Random) -> String {
+    let count = 1 + random.below(20);
+    (0..count)
+        .map(|_| format!("{:02x}", random.below(256)))
+        .collect()
+}
+
+// A script with an `init` and some calls that neither discard what waits nor look into loopback.
+fn any_script(random: &mut Random) -> String {
+    let chip = random.pick(&["16550a", "16450"]);
+    let ticks = random.pick(&[1, 4, 9]);
+    let level = random.pick(&["off", "1", "14"]);
+    let checks = random.pick(&["cts", "nocts"]);
+    let mut script =
+        format!("chip {chip} {ticks} 300\nlimit 40\ninit {level} 9600 {checks} 00 8\n");
+    for _ in 0..random.below(30) {
+        script += &match random.below(9) {
+            0..=1 => format!("send {}\n", hex(random)),
+            2 => format!("send-exact {}\n", hex(random)),
+            3..=4 => format!("receive {}\n", random.below(20)),
+            5 => format!("next\ntick {}\nnext\n", random.below(100)),
+            6 => format!("set-rts {}\n", random.pick(&["on", "off"])),
+            7 => format!("access\n{}\n", random.pick(&["lsr", "msr"])),
+            _ => "flush\n".into(),
+        };
+    }
+    // What is on its way by then may still come.
+    script + "next\ntick 400\nnext\nreceive 64\n"
+}
+
+// Returns the bytes that hexadecimal digits are, and none for `-`.
+fn bytes_of(digits: &str) -> Vec<u8> {
+    let pairs = digits.as_bytes().chunks_exact(2);
+    let pairs = pairs.map(|pair| std::str::from_utf8(pair).unwrap());
+    pairs
+        .map(|pair| u8::from_str_radix(pair, 16).unwrap())
+        .collect()
+}
+
+// What an end has received, and its last lines by their names.
+fn end_of<'a>(text: &'a str, name: &str) -> (Vec<u8>, HashMap<&'a str, &'a str>) {
+    let (mut received, mut last) = (Vec::new(), HashMap::new());
+    let lines = text
+        .lines()
+        .filter_map(|line| line.strip_prefix(name)?.strip_prefix(' '));
+    for line in lines {
+        match line.split_once(" = ") {
+            Some((call, answer)) if call.contains(": receive ") => {
+                received.extend(bytes_of(answer.strip_prefix("ok ").unwrap()));
+            }
+            Some(_) => {}
+            None => last.extend(line.split_once(' ')),
+        }
+    }
+    (received, last)
+}
+
+// What one end sent is what the other one received, less what was dropped: by the marks of the
+// characters. A character that has not arrived is on the cable.
+fn assert_carried(text: &str, from: &str, to: &str) -> usize {
+    let ((_, sender), (received, receiver)) = (end_of(text, from), end_of(text, to));
+    let sent = bytes_of(sender["wire"]);
+    let marks: Vec<char> = receiver["marks"]
+        .chars()
+        .filter(|mark| *mark != '-')
+        .collect();
+    assert_eq!(sent.len(), marks.len(), "{text}");
+    let marked = |wanted: char| -> Vec<u8> {
+        let chosen = sent.iter().zip(&marks).filter(|(_, mark)| **mark == wanted);
+        chosen.map(|(byte, _)| *byte).collect()
+    };
+    assert_eq!(marked('r'), received, "{text}");
+    assert_eq!(marked('w'), bytes_of(receiver["waiting"]), "{text}");
+    received.len()
+}
+
+#[test]
+fn what_is_sent_is_received_less_what_is_dropped() {
+    let folder = PathBuf::from(env!("CARGO_TARGET_TMPDIR"));
+    let mut random = Random(16550);
+    let mut received = 0;
+    for _ in 0..60 {
+        let left = any_script(&mut random);
+        let right = any_script(&mut random);
+        fs::write(folder.join("left.script"), &left).unwrap();
+        let delay = (1 + random.below(30)).to_string();
+        let words = ["link", "--delay", &delay, "left.script", "-"];
+        let (status, text, errors) = parts(&run_in(&folder, GEESETRUNK, &words, right.as_bytes()));
+        assert_eq!(status, 0, "{left}\n{right}\n{errors}");
+        received += assert_carried(&text, "left", "right");
+        received += assert_carried(&text, "right", "left");
+        // A run has one outcome, whichever thread is faster.
+        let again = parts(&run_in(&folder, GEESETRUNK, &words, right.as_bytes()));
+        assert_eq!(again.1, text);
+        let drawn = [&words[..], &["--picture"]].concat();
+        let (status, picture, _) = parts(&run_in(&folder, GEESETRUNK, &drawn, right.as_bytes()));
+        assert_eq!(status, 0);
+        assert_eq!(
+            picture.matches("<g ").count(),
+            picture.matches("</g>").count()
+        );
+    }
+    assert!(received > 500, "{received}");
+}
+
+#[test]
+fn a_delay_moves_what_arrives() {
+    let tick_of = |delay: &str, answer: &str| {
+        let (_, text, _) = run_link(&["--delay", delay, HELLO[0], HELLO[1]], b"");
+        let line = text
+            .lines()
+            .find(|line| line.ends_with(answer))
+            .unwrap()
+            .to_owned();
+        let tick = line.split([' ', ':']).nth(1).unwrap();
+        tick.parse::<u64>().unwrap()
+    };
+    assert_eq!(
+        tick_of("11", "ok 48656c6c6f") - tick_of("1", "ok 48656c6c6f"),
+        10
+    );
+    // It goes there and back.
+    assert_eq!(tick_of("21", "ok 4f4b") - tick_of("1", "ok 4f4b"), 40);
+}
+
+#[test]
+fn help_names_the_command() {
+    let (_, help, _) = parts(&run(GEESETRUNK, &["--help"], b""));
+    assert!(
+        help.contains("\n  link         Plays two scripts"),
+        "{help}"
+    );
+}

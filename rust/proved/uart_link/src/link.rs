@@ -1,0 +1,106 @@
+//! Runs of calls over a link.
+
+use crate::call::{CALL_MOMENTS, LinkCall, Moment, Side};
+use crate::device::CabledChip;
+use crate::ring_call::make_ring_call;
+use uart_ring::Uart16550Ring;
+use uart_ring_runs::{RingAnswer, RingCall};
+
+/// The rings at the two ends of a cable.
+pub struct Link {
+    /// The rings at the left end.
+    pub left: Uart16550Ring<CabledChip>,
+    /// The rings at the right end.
+    pub right: Uart16550Ring<CabledChip>,
+}
+
+impl Link {
+    /// Joins the rings at two ends by a cable, on which nothing has come to either end yet. The
+    /// chips may have been initialised, and may have sent bytes.
+    ///
+    /// # Errors
+    ///
+    /// Returns the rings, if a character has arrived at one of the chips before, or a moment lies
+    /// ahead of it.
+    ///
+    /// # Examples
+    ///
+    /// ```text
+    /// let Ok(mut link) = Link::new(left, right) else {
+    ///     return Err(LinkError::Used);
+    /// };
+    /// ```
+    pub fn new(
+        left: Uart16550Ring<CabledChip>,
+        right: Uart16550Ring<CabledChip>,
+    ) -> Result<Self, (Uart16550Ring<CabledChip>, Uart16550Ring<CabledChip>)> {
+        let is_untouched = left.inner().backend().is_untouched();
+        if is_untouched && right.inner().backend().is_untouched() {
+            Ok(Link { left, right })
+        } else {
+            Err((left, right))
+        }
+    }
+}
+
+// Puts these moments ahead of one end, with what comes from the other.
+fn arrange(
+    here: &mut Uart16550Ring<CabledChip>,
+    there: &Uart16550Ring<CabledChip>,
+    moments: &[Moment],
+) {
+    let other = there.inner().backend();
+    here.inner_mut().backend_mut().arrange(moments, other);
+}
+
+// Makes a call at one end, with these moments.
+fn make_end_call(
+    here: &mut Uart16550Ring<CabledChip>,
+    there: &Uart16550Ring<CabledChip>,
+    moments: &[Moment],
+    call: &RingCall,
+) -> RingAnswer {
+    arrange(here, there, moments);
+    make_ring_call(here, call)
+}
+
+// Makes one call of a run.
+fn make_link_call(link: &mut Link, call: &LinkCall) -> RingAnswer {
+    let moments = call.moments.as_slice();
+    match call.side {
+        Side::Left => make_end_call(&mut link.left, &link.right, moments, &call.call),
+        Side::Right => make_end_call(&mut link.right, &link.left, moments, &call.call),
+    }
+}
+
+/// Makes the calls in turn, each at its end, and stores the answer of each in its slot. Never
+/// fails, and allocates no memory.
+///
+/// The ends are joined: what is ahead of each is what has left the other. Take a part of the run
+/// that begins when a session may begin at both ends, on chips that cut no characters. In each such
+/// part and in each direction
+///
+/// - the bytes taken or dropped by a `ClearReceive`, those in the receive ring and in the receiver,
+///   and then those on their way are, in this order, those that were there and those that were
+///   queued, less those that the receiver dropped. On their way are bytes on the cable, in the
+///   sender's transmitter and in its rings. This holds if no call of the sender is a `QueueUrgent`
+///   or a `ClearTransmit`;
+/// - the first `TakeLine` of an end shows a drop there as the overrun flag;
+/// - no character is dropped at either end, if both programs keep to flow control: both check CTS,
+///   `AdjustRts` follows each run of the handler, with marks that leave room for what may arrive
+///   before it and what is on the cable. The README says it exactly;
+/// - after it, a session may go on at both ends, and they are still joined.
+///
+/// # Examples
+///
+/// ```text
+/// run_link(&mut link, &calls, &mut answers);
+/// ```
+pub fn run_link(link: &mut Link, calls: &[LinkCall], answers: &mut [RingAnswer]) {
+    // The contracts of these calls state what holds of every chip.
+    let _left = link.left.inner().backend().arrivals();
+    let _right = link.right.inner().backend().arrivals();
+    for i in 0..calls.len() {
+        answers[i] = make_link_call(link, &calls[i]);
+    }
+}
