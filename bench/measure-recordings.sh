@@ -1,5 +1,6 @@
 #!/usr/bin/env bash
-# Measures geesetrunk audit and replay on recordings of 100 MB: of reads that repeat, of single lines, and of QEMU's log.
+# Measures geesetrunk audit and replay on recordings of 100 MB: of reads that repeat, of single lines, and of QEMU's log. Then counts the
+# instructions that 3 MB of single lines take, which needs valgrind.
 #
 # The program is that which cargo builds, unless another one is named.
 set -euo pipefail
@@ -28,4 +29,10 @@ for judge in audit replay; do
         # What is found is thrown away, and so is the exit status, which says whether there is anything.
         /usr/bin/time -f "$judge of $name: %e s, %M kB" "$program" "$judge" "$folder/$name" > /dev/null || true
     done
+done
+
+head -c 3000000 "$folder/single-lines" | sed '$d' > "$folder/counted"
+for judge in audit replay; do
+    valgrind --tool=callgrind --callgrind-out-file=/dev/null "$program" "$judge" "$folder/counted" 2>&1 > /dev/null |
+        awk -v judge="$judge" '/Collected/ { print judge " of 3 MB: " $NF " instructions" }' || true
 done

@@ -13,4 +13,5 @@ pub mod Fitting
 pub mod Explaining
 pub mod Again
 pub mod Audited
+pub mod Frequent
 mod Printed

@@ -11,7 +11,7 @@ use Rattle.uart_judges.specs.TraceLines.{Saying, Nothing, Fresh, Calls, Makes, R
 use Rattle.uart_judges.specs.Reading.{Goes, AreExchanges, Faulty, fault_at, fault_at_end, first_fault, open_after, or_else}
 use Rattle.uart_judges.specs.Reading.{ReadsExchange, ReadsLine, Refuses, RefusesLine}
 use Rattle.uart_judges.specs.Reading.{skip, makes, returns, ended, blank, renews, calls}
-use Rattle.uart_judges.specs.declared.traces.cause.Fault.TheVariants.{NoAnswer, NoCallBefore}
+use Rattle.uart_judges.specs.declared.traces.cause.TraceFault.TheVariants.{NoAnswer, NoCallBefore}
 use Rattle.uart_judges.specs.declared.traces.cause.TraceError.{TraceError}
 use Rattle.uart_judges.specs.declared.traces.exchange.Exchange.{Exchange}
 

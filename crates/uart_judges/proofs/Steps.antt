@@ -10,9 +10,9 @@ use Rattle.uart_language.specs.Text.{lines_of}
 use Rattle.uart_judges.specs.RecordingLines.{says}
 use Rattle.uart_judges.specs.Places.{place, read_as}
 use Rattle.uart_judges.specs.Streams.{IsFilled, IsFirst, IsNext, after_line, next_in}
-use Rattle.uart_judges.specs.declared.recording.cause.Fault.{Fault}
-use Rattle.uart_judges.specs.declared.recording.cause.Fault.TheVariants.{TooLong}
-use Rattle.uart_judges.specs.declared.recording.event.Event.{Event}
+use Rattle.uart_judges.specs.declared.recording.cause.RecordingFault.{RecordingFault}
+use Rattle.uart_judges.specs.declared.recording.cause.RecordingFault.TheVariants.{TooLong}
+use Rattle.uart_judges.specs.declared.recording.entry.Entry.{Entry}
 use Rattle.uart_judges.specs.declared.recording.limits.TheConstants.{MOST_LINE_BYTES}
 use Rattle.uart_judges.specs.declared.recording.place.Place.{Place}
 use Rattle.uart_judges.specs.declared.recording.reading.RecordingError.TheVariants as error
@@ -90,7 +90,7 @@ too_long : (number : ℕ) (line : List ℕ) → MOST_LINE_BYTES < length line �
 too_long number line long = rw (lt-ltb MOST_LINE_BYTES (length line) long) refl
 
 -- after the next line, with so many bytes in the window: what was found, and the lines behind it unless it is too long
-abbrev Read : Place → ℕ → List ℕ → List ℕ → Result (Option Event) Fault → Place → Type 0
+abbrev Read : Place → ℕ → List ℕ → List ℕ → Result (Option Entry) RecordingFault → Place → Type 0
 Read old count items more found new =
     (lines : List (List ℕ)) × (next_in (lines_of (items ++ more)) old ≡ after_line lines (next_in lines) (found, new))
     × ((lines ≡ lines_of (drop (count + 1) items ++ more)) ⊎ (found ≡ Err TooLong))
@@ -100,7 +100,7 @@ one_line : (old : Place) (bytes line : List ℕ) (lines : List (List ℕ)) → l
 unfolding next_in
 one_line old bytes line lines e = ap (λ l. next_in l old) e
 
-read_line : (old : Place) (count : ℕ) (items more : List ℕ) (found : Result (Option Event) Fault) (new : Place) →
+read_line : (old : Place) (count : ℕ) (items more : List ℕ) (found : Result (Option Entry) RecordingFault) (new : Place) →
     count ≤ length items → IsFirst count items more →
     read_as old (says (old.number + 1) (take count items)) ≡ (found, new) → Read old count items more found new
 read_line old count items more found new fits (inl e) r = (
@@ -133,7 +133,7 @@ module _ (old mid new : Place) (bytes items more : List ℕ) (count : ℕ) (rest
       let had : length rest ≡ length items + length more = ap length same ∙ length-append items more in
       omega (arith, most)
 
--- a line that is no event is passed
+-- a line that is no entry is passed
 passes_by : (old mid new : Place) (bytes items more : List ℕ) (count : ℕ) → Goes old (Some bytes) mid (Some (items ++ more)) →
     0 < length items → new.number ≡ mid.number + 1 → Read mid count items more (Ok None) new →
     Goes old (Some bytes) new (Some (drop (count + 1) items ++ more))
@@ -156,34 +156,34 @@ passes old mid new (Some bytes) None items count g f n r = λ few. absurd (let e
 passes old mid new (Some bytes) (Some more) items count g f n r =
     passes_by old mid new bytes items more count g f.0 n (read_line mid count items more (Ok None) new f.1 f.2 r)
 
--- an event is returned
-gives_event : (old mid new : Place) (bytes items more : List ℕ) (count : ℕ) (event : Event) →
+-- an entry is returned
+gives_entry : (old mid new : Place) (bytes items more : List ℕ) (count : ℕ) (entry : Entry) →
     Goes old (Some bytes) mid (Some (items ++ more)) → 0 < length items → new.number ≡ mid.number + 1 →
-    Read mid count items more (Ok (Some event)) new →
-    IsNext old (Some bytes) (Ok (Some event)) new (Some (drop (count + 1) items ++ more))
-gives_event old mid new bytes items more count event g some counted (lines, e, inr f) = absurd (cc)
-gives_event old mid new bytes items more count event g some counted (lines, e, inl f) = λ few.
+    Read mid count items more (Ok (Some entry)) new →
+    IsNext old (Some bytes) (Ok (Some entry)) new (Some (drop (count + 1) items ++ more))
+gives_entry old mid new bytes items more count entry g some counted (lines, e, inr f) = absurd (cc)
+gives_entry old mid new bytes items more count entry g some counted (lines, e, inl f) = λ few.
     let h = g few in
     let same : h.0 ≡ items ++ more = same_rest old mid new bytes items more count h.0 h.1 in (
       drop (count + 1) items ++ more,
       refl,
-      h.2 ∙ ap (λ l. next_in (lines_of l) mid) same ∙ (e ∙ ap (λ l. (Ok (Some event), (new, l))) f),
+      h.2 ∙ ap (λ l. next_in (lines_of l) mid) same ∙ (e ∙ ap (λ l. (Ok (Some entry), (new, l))) f),
       counted_on old mid new bytes items more count h.0 same h.3 some counted,
     )
 
-pub ends_event : (old mid new : Place) (all left : Option (List ℕ)) (items : List ℕ) (count : ℕ) (event : Event) →
+pub ends_entry : (old mid new : Place) (all left : Option (List ℕ)) (items : List ℕ) (count : ℕ) (entry : Entry) →
     Goes old all mid (prepend_known items left) → IsFilled (Some count) items left → new.number ≡ mid.number + 1 →
-    read_as mid (says (mid.number + 1) (take count items)) ≡ (Ok (Some event), new) →
-    IsNext old all (Ok (Some event)) new (prepend_known (drop (count + 1) items) left)
-ends_event old mid new None left items count event g f n r = tt
-ends_event old mid new (Some bytes) None items count event g f n r =
+    read_as mid (says (mid.number + 1) (take count items)) ≡ (Ok (Some entry), new) →
+    IsNext old all (Ok (Some entry)) new (prepend_known (drop (count + 1) items) left)
+ends_entry old mid new None left items count entry g f n r = tt
+ends_entry old mid new (Some bytes) None items count entry g f n r =
     λ few. absurd (let e : None ≡ Some (g few).0 = (g few).1 in cc)
-ends_event old mid new (Some bytes) (Some more) items count event g f n r =
-    gives_event old mid new bytes items more count event g f.0 n
-    (read_line mid count items more (Ok (Some event)) new f.1 f.2 r)
+ends_entry old mid new (Some bytes) (Some more) items count entry g f n r =
+    gives_entry old mid new bytes items more count entry g f.0 n
+    (read_line mid count items more (Ok (Some entry)) new f.1 f.2 r)
 
 -- a fault is returned
-gives_fault : (old mid new : Place) (bytes items more : List ℕ) (count number : ℕ) (fault : Fault) (left : Option (List ℕ)) →
+gives_fault : (old mid new : Place) (bytes items more : List ℕ) (count number : ℕ) (fault : RecordingFault) (left : Option (List ℕ)) →
     Goes old (Some bytes) mid (Some (items ++ more)) → Read mid count items more (Err fault) new →
     IsNext old (Some bytes) (Err (error.Faulty number fault)) new left
 gives_fault old mid new bytes items more count number fault left g (lines, e, f) = λ few.
@@ -193,7 +193,7 @@ gives_fault old mid new bytes items more count number fault left g (lines, e, f)
     h.2 ∙ (ap (λ l. next_in (lines_of l) mid) same ∙ e) in
     (ap (λ t. t.0) found, ap (λ t. t.1.0) found)
 
-pub ends_fault : (old mid new : Place) (all left more : Option (List ℕ)) (items : List ℕ) (count number : ℕ) (fault : Fault) →
+pub ends_fault : (old mid new : Place) (all left more : Option (List ℕ)) (items : List ℕ) (count number : ℕ) (fault : RecordingFault) →
     Goes old all mid (prepend_known items left) → IsFilled (Some count) items left →
     read_as mid (says (mid.number + 1) (take count items)) ≡ (Err fault, new) →
     IsNext old all (Err (error.Faulty number fault)) new more

@@ -9,8 +9,8 @@ use Rattle.uart_judges.specs.declared.audit.action.Action.TheVariants.{ShowsInte
 use Rattle.uart_judges.specs.declared.audit.action.Action.TheVariants.{ControlsFifo, ReadsLine, SetsLine, ReadsModem}
 use Rattle.uart_judges.specs.declared.audit.action.Action.TheVariants.{SetsModem, LooksAtLine, LooksAtModem}
 use Rattle.uart_judges.specs.declared.audit.action.Action.TheVariants.{Arrives, ChangesLines, Other}
-use Rattle.uart_judges.specs.declared.recording.event.Happening.{Happening}
-use Rattle.uart_judges.specs.declared.recording.event.Happening.TheVariants.{Access, Arrive, Interrupt, Lines}
+use Rattle.uart_judges.specs.declared.recording.entry.Happening.{Happening}
+use Rattle.uart_judges.specs.declared.recording.entry.Happening.TheVariants.{Access, Arrive, Interrupt, Lines}
 
 -- a read of offset 0: of the divisor while the latch is open, and else of DATA; if that is not known, of neither
 abbrev pub data_read : (is_open : Option Bool) (answer : ℕ) → Action

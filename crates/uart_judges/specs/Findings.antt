@@ -7,6 +7,7 @@ use Rattle.uart_spec.specs.Bits.{has, has_any}
 use Rattle.uart_spec.specs.Fields.{interrupt_code}
 use Rattle.uart_spec.specs.declared.registers.fifo_control.TheConstants.FCR as fcr_bits
 use Rattle.uart_spec.specs.declared.registers.interrupt_enable.IER.{IER}
+use Rattle.uart_spec.specs.declared.registers.interrupt_enable.TheConstants.IER as ier_bits
 use Rattle.uart_spec.specs.declared.registers.interrupt_status.ISR.{ISR}
 use Rattle.uart_spec.specs.declared.registers.interrupt_status.TheConstants.ISR as isr_bits
 use Rattle.uart_spec.specs.declared.registers.interrupt_type.InterruptType.{InterruptType}
@@ -22,7 +23,7 @@ use Rattle.uart_spec.specs.declared.registers.modem_status.MSR.{MSR}
 use Rattle.uart_spec.specs.declared.registers.modem_status.TheConstants.MSR as msr_bits
 use Rattle.uart_judges.specs.Setups.{same_setup}
 use Rattle.uart_judges.specs.Shows.{arrives, identified, identified_by, is_cut, receives, sends}
-use Rattle.uart_judges.specs.Steps.{depth, is_line_up, loops_back, step_empties}
+use Rattle.uart_judges.specs.Steps.{depth, enables, is_line_up, loops_back, step_empties}
 use Rattle.uart_judges.specs.Unread.{front, second}
 use Rattle.uart_judges.specs.History.{known, step_from}
 use Rattle.uart_judges.specs.declared.audit.action.Action.{Action}
@@ -40,7 +41,7 @@ use Rattle.uart_judges.specs.declared.audit.findings.TheConstants.{HANDLER_TIME}
 use Rattle.uart_judges.specs.declared.audit.setup.Setup.{Setup}
 use Rattle.uart_judges.specs.declared.audit.step.Step.{Step}
 use Rattle.uart_judges.specs.declared.audit.unread.Arrived.{Arrived}
-use Rattle.uart_judges.specs.declared.recording.event.Event.{Event}
+use Rattle.uart_judges.specs.declared.recording.entry.Entry.{Entry}
 
 -- the finding where something holds
 abbrev pub when : Bool → Finding → Option Finding
@@ -87,9 +88,9 @@ abbrev pub cuts : Option LCR → ℕ → Bool
 cuts (Some lcr) byte = is_cut lcr byte
 cuts None byte = false
 
--- loopback is on, a byte was sent in it before and not read back, and LSR showed room since
+-- loopback is on, a byte was sent in it before and not read back, and LSR showed an empty THR since
 abbrev pub loops_again : Auditor → Setup → Bool
-loops_again a now = loops_back now.modem && (a.has_looped && (a.sent == 0))
+loops_again a now = loops_back now.modem && (a.has_looped && a.is_thr_empty)
 
 -- a byte does not go out as it was given: in a break, in loopback, or since it is cut
 abbrev pub given : Auditor → Setup → ℕ → Option Finding
@@ -110,12 +111,16 @@ abbrev pub is_held : Option Bool → Bool
 is_held (Some is_set) = not is_set
 is_held None = false
 
--- MSR showed CTS clear, and it was set before
+-- no interrupt was seen; or that of modem status is enabled, which tells of CTS
+abbrev pub asks_for_cts : Auditor → Setup → Bool
+asks_for_cts a now = not a.has_signalled || enables ier_bits.MODEM_STATUS.0 now.interrupts
+
+-- MSR showed CTS clear, it was set before, and the driver may ask for it
 abbrev pub flow : Auditor → Step → Option Finding
 flow a s =
     if not (sends s.action) then None
     else if loops_back s.setup.modem then None
-    else when (is_held a.cts && a.was_cts_set) found.SentWithoutCts
+    else when ((is_held a.cts && a.was_cts_set) && asks_for_cts a s.setup) found.SentWithoutCts
 
 -- ---- interrupts that do not reach the processor
 
@@ -123,6 +128,15 @@ flow a s =
 abbrev pub enables_some : Option IER → Bool
 enables_some (Some ier) = has_any ier.0 15
 enables_some None = false
+
+-- one of those that bytes cause is enabled: all but modem status
+abbrev pub enables_bytes : Option IER → Bool
+enables_bytes (Some ier) = has_any ier.0 7
+enables_bytes None = false
+
+-- IER is known, and all interrupts are off
+abbrev pub are_off : Option IER → Bool
+are_off interrupts = is_some interrupts && not (enables_some interrupts)
 
 -- MCR has neither OUT2 nor loopback
 abbrev pub is_cut_off : Option MCR → Bool
@@ -133,12 +147,13 @@ is_cut_off None = false
 abbrev pub transfers : Action → Bool
 transfers x = sends x || receives x
 
--- a byte is sent or received while interrupts are enabled and OUT2 is off, and none was seen to reach the processor
+-- a byte is sent or received while such interrupts are enabled and OUT2 is off, and none was seen to reach the
+-- processor
 abbrev pub gate : Auditor → Step → Option Finding
 gate a s =
     if a.has_signalled || is_line_up s then None
     else if not (transfers s.action) then None
-    else when (enables_some s.setup.interrupts && is_cut_off s.setup.modem) found.InterruptsCutOff
+    else when (enables_bytes s.setup.interrupts && is_cut_off s.setup.modem) found.InterruptsCutOff
 
 -- ---- a read of DATA
 
@@ -290,9 +305,15 @@ changed a s _ = None
 abbrev pub change : Auditor → Step → Option Finding
 change a s = if s.has_rested || (a.going_out == 0) then None else changed a s s.action
 
--- a byte waits, and FCR empties the receiver
+-- all interrupts are off, and no byte went either way since the driver was set up
+abbrev pub is_at_rest : Auditor → Setup → Bool
+is_at_rest a now = are_off now.interrupts && not a.is_at_work
+
+-- a byte waits, and FCR empties the receiver, while the driver is not at rest
 abbrev pub discard : Auditor → Step → Option Finding
-discard a s = when (nat_lt 0 a.waiting && step_empties fcr_bits.RX_FIFO_RESET.0 s) found.WaitingDiscarded
+discard a s =
+    when ((nat_lt 0 a.waiting && not (is_at_rest a s.setup)) && step_empties fcr_bits.RX_FIFO_RESET.0 s)
+    found.WaitingDiscarded
 
 -- ---- interrupts
 
@@ -371,10 +392,6 @@ level a s = level_at a s s.action
 abbrev pub is_long_since : Mark → ℕ → Bool
 is_long_since mark now = nat_le HANDLER_TIME (now - mark.time)
 
--- IER is known, and all interrupts are off
-abbrev pub are_off : Option IER → Bool
-are_off interrupts = is_some interrupts && not (enables_some interrupts)
-
 -- the line was up after the latest access, in a handler, so long ago
 abbrev pub left_up : Auditor → Step → Option Mark → Option ℕ → Option Finding
 left_up a s (Some mark) (Some now) =
@@ -395,7 +412,7 @@ all_found a s =
     ∷ empty a s ∷ latch a s ∷ change a s ∷ discard a s ∷ service a s ∷ chip a s ∷ level a s ∷ line_up a s ∷ []
 
 -- the findings at an entry, from the entries before it
-abbrev pub findings_at : Event → List Event → List (Option Finding)
+abbrev pub findings_at : Entry → List Entry → List (Option Finding)
 findings_at e past = all_found (known past) (step_from (known past) e)
 
 -- the latch is open

@@ -41,9 +41,9 @@ use Rattle.uart_judges.specs.declared.audit.setup.Setup.{Setup}
 use Rattle.uart_judges.specs.declared.audit.step.Step.{Step}
 use Rattle.uart_judges.specs.declared.audit.unread.TheConstants.{MOST_UNREAD}
 use Rattle.uart_judges.specs.declared.audit.unread.Unread.{Unread}
-use Rattle.uart_judges.specs.declared.recording.event.Event.{Event}
-use Rattle.uart_judges.specs.declared.recording.event.Happening.{Happening}
-use Rattle.uart_judges.specs.declared.recording.event.Happening.TheVariants.{Access, Interrupt}
+use Rattle.uart_judges.specs.declared.recording.entry.Entry.{Entry}
+use Rattle.uart_judges.specs.declared.recording.entry.Happening.{Happening}
+use Rattle.uart_judges.specs.declared.recording.entry.Happening.TheVariants.{Access, Interrupt}
 
 -- ---- words for lists of steps
 
@@ -412,7 +412,7 @@ is_access (Access access) = true
 is_access _ = false
 
 -- an entry beside what is known before it
-abbrev pub step_from : Auditor → Event → Step
+abbrev pub step_from : Auditor → Entry → Step
 step_from a e = record {
   setup = a.setup;
   action = action a.setup.is_open e.happening;
@@ -424,12 +424,12 @@ step_from a e = record {
 }
 
 -- the entries of a recording as steps
-abbrev pub steps : List Event → List Step
+abbrev pub steps : List Entry → List Step
 steps [] = []
 steps (e ∷ past) = step_from (known_of (steps past)) e ∷ steps past
 
 -- what is known after these entries
-abbrev pub known : List Event → Auditor
+abbrev pub known : List Entry → Auditor
 known past = known_of (steps past)
 
 -- what is known after one more step

@@ -3,7 +3,7 @@ pub mod Traces
 pub mod TraceLines
 pub mod Reading
 pub mod Telling
-pub mod Events
+pub mod Entries
 pub mod Fields
 pub mod RecordingLines
 pub mod Places

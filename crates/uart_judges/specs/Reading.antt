@@ -5,8 +5,8 @@ use Rattle.uart_events.specs.declared.call.Call.{Call}
 use Rattle.uart_language.specs.Sayings.{plain}
 use Rattle.uart_language.specs.Text.{lines_of}
 use Rattle.uart_judges.specs.TraceLines.{Saying, Nothing, Fresh, Calls, Makes, Returns, says}
-use Rattle.uart_judges.specs.declared.traces.cause.Fault.{Fault}
-use Rattle.uart_judges.specs.declared.traces.cause.Fault.TheVariants.{NoAnswer, NoCallBefore}
+use Rattle.uart_judges.specs.declared.traces.cause.TraceFault.{TraceFault}
+use Rattle.uart_judges.specs.declared.traces.cause.TraceFault.TheVariants.{NoAnswer, NoCallBefore}
 use Rattle.uart_judges.specs.declared.traces.cause.TraceError.{TraceError}
 use Rattle.uart_judges.specs.declared.traces.cause.TraceError.TheVariants.{NoTrace, OutOfMemory}
 use Rattle.uart_judges.specs.declared.traces.exchange.Exchange.{Exchange}
@@ -54,7 +54,7 @@ IsTrace bytes xs = AreExchanges 0 true (lines_of bytes) xs
 -- a faulty line, and what is wrong with it
 pub record Faulty : Type 0 where
   pub line : ℕ
-  pub fault : Fault
+  pub fault : TraceFault
 
 -- the line of the call that has no answer yet, after this line
 abbrev pub open_after : ℕ → Saying → Option ℕ → Option ℕ
@@ -72,7 +72,7 @@ misplaced number Fresh (Some before) = Some (record { line = before; fault = NoA
 misplaced number said waiting = None
 
 -- what is wrong with a line by itself, or else at its place
-abbrev pub fault_at : ℕ → Result Saying Fault → Option ℕ → Option Faulty
+abbrev pub fault_at : ℕ → Result Saying TraceFault → Option ℕ → Option Faulty
 fault_at number (Err fault) waiting = Some (record { line = number; fault = fault })
 fault_at number (Ok said) waiting = misplaced number said waiting
 
@@ -87,7 +87,7 @@ fault_at_end (Some before) = Some (record { line = before; fault = NoAnswer })
 fault_at_end None = None
 
 -- the line of a call without an answer, after a line that means this
-abbrev pub open_by : ℕ → Result Saying Fault → Option ℕ → Option ℕ
+abbrev pub open_by : ℕ → Result Saying TraceFault → Option ℕ → Option ℕ
 open_by number (Ok said) waiting = open_after number said waiting
 open_by number (Err fault) waiting = waiting
 
@@ -114,7 +114,7 @@ pub record RefusesLine (number : ℕ) (lines : List (List ℕ)) (error : TraceEr
   pub line : List ℕ
   pub left : List (List ℕ)
   pub first : lines ≡ line ∷ left
-  pub fault : Fault
+  pub fault : TraceFault
   pub means : says line ≡ Err fault
   pub told : error ≡ NoTrace number fault
 

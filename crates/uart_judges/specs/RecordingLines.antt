@@ -8,29 +8,29 @@ use Rattle.uart_language.specs.Fields.{◌>>=◌, byte_in}
 use Rattle.uart_language.specs.Text.{words_of, word_at, has_bad_byte}
 use Rattle.uart_language.specs.declared.cause.Cause.{Cause}
 use Rattle.uart_language.specs.declared.cause.Cause.TheVariants.{BadByte, BadNumber, BadWord, UnknownWord, WrongCount}
-use Rattle.uart_judges.specs.Events.{IsEvent}
+use Rattle.uart_judges.specs.Entries.{IsEntry}
 use Rattle.uart_judges.specs.Fields.{after, before, bits_in, level_in, log_byte_in, log_offset_in, log_time_in}
 use Rattle.uart_judges.specs.Fields.{repeats_in, time_in}
-use Rattle.uart_judges.specs.declared.recording.cause.Fault.{Fault}
-use Rattle.uart_judges.specs.declared.recording.cause.Fault.TheVariants as fault
-use Rattle.uart_judges.specs.declared.recording.event.Happening.{Happening}
-use Rattle.uart_judges.specs.declared.recording.event.Happening.TheVariants as happening
+use Rattle.uart_judges.specs.declared.recording.cause.RecordingFault.{RecordingFault}
+use Rattle.uart_judges.specs.declared.recording.cause.RecordingFault.TheVariants as fault
+use Rattle.uart_judges.specs.declared.recording.entry.Happening.{Happening}
+use Rattle.uart_judges.specs.declared.recording.entry.Happening.TheVariants as happening
 use Rattle.uart_judges.specs.declared.recording.limits.TheConstants.{MOST_LINE_BYTES}
 use Rattle.uart_judges.specs.declared.recording.lines.Direction.{Direction}
 use Rattle.uart_judges.specs.declared.recording.lines.Direction.TheVariants as direction
 use Rattle.uart_judges.specs.declared.recording.lines.Key.{Key}
 use Rattle.uart_judges.specs.declared.recording.lines.Key.TheVariants as key
-use Rattle.uart_judges.specs.declared.recording.lines.Line.{Line}
-use Rattle.uart_judges.specs.declared.recording.lines.Line.TheVariants as line
+use Rattle.uart_judges.specs.declared.recording.lines.RecordingLine.{RecordingLine}
+use Rattle.uart_judges.specs.declared.recording.lines.RecordingLine.TheVariants as line
 use Rattle.uart_judges.specs.declared.recording.lines.Stamp.{Stamp}
 use Rattle.uart_spec.specs.declared.registers.line_status.TheConstants.LSR
 use Rattle.uart_spec.specs.declared.registers.modem_status.TheConstants.MSR
 use Rattle.uart_judges.specs.TraceLines.{before_remark, offset_in}
 
--- if the line is an event, a chip can do what it says, and it has this number
-abbrev pub HasEvent : ℕ → Line → Type 0
-HasEvent number (line.Event event) = IsEvent event × (event.line ≡ number)
-HasEvent number other = ⊤
+-- if the line is an entry, a chip can do what it says, and it has this number
+abbrev pub HasEntry : ℕ → RecordingLine → Type 0
+HasEntry number (line.Entry entry) = IsEntry entry × (entry.line ≡ number)
+HasEntry number other = ⊤
 
 -- ---- a line of our own: KEY FIELDS [LEVEL] [@TIME]
 
@@ -73,9 +73,9 @@ stamp_in count ws =
     else Err WrongCount
 
 -- what happened once, at the line with this number
-abbrev pub happened_at : ℕ → Happening → Stamp → Line
+abbrev pub happened_at : ℕ → Happening → Stamp → RecordingLine
 happened_at number what stamp =
-    line.Event (record { happening = what; times = 1; line = number; time = stamp.time; interrupt = stamp.interrupt })
+    line.Entry (record { happening = what; times = 1; line = number; time = stamp.time; interrupt = stamp.interrupt })
 
 -- an access in this direction
 abbrev pub of_direction : Direction → ℕ → ℕ → Access
@@ -83,7 +83,7 @@ of_direction direction.Read offset byte = Read offset byte
 of_direction direction.Write offset byte = Write offset byte
 
 -- OFFSET VALUE: an access in this direction
-unfoldable pub access_in : Direction → ℕ → List (List ℕ) → Result Line Cause
+unfoldable pub access_in : Direction → ℕ → List (List ℕ) → Result RecordingLine Cause
 access_in way number ws =
     stamp_in 3 ws >>= (λ stamp.
     offset_in (word_at 1 ws) >>= (λ offset.
@@ -91,7 +91,7 @@ access_in way number ws =
     Ok (happened_at number (happening.Access (of_direction way offset byte)) stamp))))
 
 -- ERRORS VALUE: an arrival
-unfoldable pub arrival_in : ℕ → List (List ℕ) → Result Line Cause
+unfoldable pub arrival_in : ℕ → List (List ℕ) → Result RecordingLine Cause
 arrival_in number ws =
     stamp_in 3 ws >>= (λ stamp.
     bits_in LSR.CHARACTER_ERRORS.0 (word_at 1 ws) >>= (λ errors.
@@ -99,28 +99,28 @@ arrival_in number ws =
     Ok (happened_at number (happening.Arrive byte (record { 0 = errors })) stamp))))
 
 -- the interrupt line has this level, which the line has to say
-abbrev pub interrupt_at : ℕ → Stamp → Option Bool → Result Line Cause
+abbrev pub interrupt_at : ℕ → Stamp → Option Bool → Result RecordingLine Cause
 interrupt_at number stamp (Some is_raised) = Ok (happened_at number (happening.Interrupt is_raised) stamp)
 interrupt_at number stamp None = Err WrongCount
 
 -- LEVEL: of the interrupt line, which changed by itself
-unfoldable pub interrupt_in : ℕ → List (List ℕ) → Result Line Cause
+unfoldable pub interrupt_in : ℕ → List (List ℕ) → Result RecordingLine Cause
 interrupt_in number ws = stamp_in 1 ws >>= (λ stamp. interrupt_at number stamp stamp.interrupt)
 
 -- LINES: the modem inputs
-unfoldable pub modem_in : ℕ → List (List ℕ) → Result Line Cause
+unfoldable pub modem_in : ℕ → List (List ℕ) → Result RecordingLine Cause
 modem_in number ws =
     stamp_in 2 ws >>= (λ stamp.
     bits_in MSR.LINES.0 (word_at 1 ws) >>= (λ inputs.
     Ok (happened_at number (happening.Lines (record { 0 = inputs })) stamp)))
 
 -- N: how often the read before is repeated
-unfoldable pub again_in : List (List ℕ) → Result Line Cause
+unfoldable pub again_in : List (List ℕ) → Result RecordingLine Cause
 again_in ws =
     if length ws == 2 then repeats_in (word_at 1 ws) >>= (λ count. Ok (line.Again count)) else Err WrongCount
 
 -- what a line of our own means
-abbrev pub own_in : Option Key → ℕ → List (List ℕ) → Result Line Cause
+abbrev pub own_in : Option Key → ℕ → List (List ℕ) → Result RecordingLine Cause
 own_in (Some key.Read) number ws = access_in direction.Read number ws
 own_in (Some key.Write) number ws = access_in direction.Write number ws
 own_in (Some key.Arrive) number ws = arrival_in number ws
@@ -177,7 +177,7 @@ log_access_in way ws =
     else Err WrongCount
 
 -- what a line of the log means: other events mean nothing
-unfoldable pub logged_in : Option Direction → ℕ → List (List ℕ) → Result Line Cause
+unfoldable pub logged_in : Option Direction → ℕ → List (List ℕ) → Result RecordingLine Cause
 logged_in None number ws = Ok line.Blank
 logged_in (Some way) number ws =
     log_stamp_in (word_at 0 ws) >>= (λ stamp.
@@ -186,7 +186,7 @@ logged_in (Some way) number ws =
 -- ---- any line
 
 -- what a line without its remark means, or what is wrong with it
-unfoldable pub said_in : ℕ → List ℕ → Result Line Cause
+unfoldable pub said_in : ℕ → List ℕ → Result RecordingLine Cause
 said_in number text =
     if length text == 0 then Ok line.Blank
     else if is_log (word_at 0 (words_of text))
@@ -195,11 +195,11 @@ said_in number text =
     else own_in (key_in (word_at 0 (words_of text))) number (words_of text)
 
 -- a fault of a recording
-abbrev pub faulty : Result Line Cause → Result Line Fault
+abbrev pub faulty : Result RecordingLine Cause → Result RecordingLine RecordingFault
 faulty (Ok said) = Ok said
 faulty (Err cause) = Err (fault.Line cause)
 
 -- what the line with this number means, or what is wrong with it
-abbrev pub says : ℕ → List ℕ → Result Line Fault
+abbrev pub says : ℕ → List ℕ → Result RecordingLine RecordingFault
 says number bytes =
     if nat_lt MOST_LINE_BYTES (length bytes) then Err fault.TooLong else faulty (said_in number (before_remark bytes))

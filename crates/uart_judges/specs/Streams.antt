@@ -6,8 +6,8 @@ use Rattle.uart_language.specs.Text.{lines_of}
 use Rattle.uart_judges.specs.RecordingLines.{says}
 use Rattle.uart_judges.specs.Places.{read_as}
 use Rattle.uart_judges.specs.Windows.{items}
-use Rattle.uart_judges.specs.declared.recording.cause.Fault.{Fault}
-use Rattle.uart_judges.specs.declared.recording.event.Event.{Event}
+use Rattle.uart_judges.specs.declared.recording.cause.RecordingFault.{RecordingFault}
+use Rattle.uart_judges.specs.declared.recording.entry.Entry.{Entry}
 use Rattle.uart_judges.specs.declared.recording.limits.TheConstants.{MOST_LINE_BYTES}
 use Rattle.uart_judges.specs.declared.recording.place.Place.{Place}
 use Rattle.uart_judges.specs.declared.recording.reading.RecordingError.{RecordingError}
@@ -16,15 +16,15 @@ use Rattle.uart_judges.specs.declared.recording.window.Window.{Window}
 
 -- what is found, the place after it, and the lines behind it
 abbrev pub Found : Type 0
-Found = Result (Option Event) Fault × (Place × List (List ℕ))
+Found = Result (Option Entry) RecordingFault × (Place × List (List ℕ))
 
--- after a line was read: a line that is no event is passed, and what is found is that of the lines behind it
-abbrev pub after_line : List (List ℕ) → (Place → Found) → Result (Option Event) Fault × Place → Found
+-- after a line was read: a line that is no entry is passed, and what is found is that of the lines behind it
+abbrev pub after_line : List (List ℕ) → (Place → Found) → Result (Option Entry) RecordingFault × Place → Found
 after_line lines more (Ok None, new) = more new
-after_line lines more (Ok (Some event), new) = (Ok (Some event), (new, lines))
+after_line lines more (Ok (Some entry), new) = (Ok (Some entry), (new, lines))
 after_line lines more (Err fault, new) = (Err fault, (new, lines))
 
--- the first event or fault of these lines, each of which is read once and in order
+-- the first entry or fault of these lines, each of which is read once and in order
 unfoldable pub next_in : List (List ℕ) → Place → Found
 next_in [] old = (Ok None, (old, []))
 next_in (line ∷ lines) old = after_line lines (next_in lines) (read_as old (says (old.number + 1) line))
@@ -36,15 +36,15 @@ ahead window left = prepend_known (items window) left
 
 -- this is what was found, and the bytes that are left have the lines behind it, each of which can still be counted; a
 -- reader may fail at any time
-abbrev pub Gives : Found → ℕ → Result (Option Event) RecordingError → Place → Option (List ℕ) → Type 0
-Gives found most (Ok event) new left =
-    (rest : List ℕ) × (left ≡ Some rest) × (found ≡ (Ok event, (new, lines_of rest)))
+abbrev pub Gives : Found → ℕ → Result (Option Entry) RecordingError → Place → Option (List ℕ) → Type 0
+Gives found most (Ok entry) new left =
+    (rest : List ℕ) × (left ≡ Some rest) × (found ≡ (Ok entry, (new, lines_of rest)))
     × (new.number + length rest ≤ most)
 Gives found most (Err (error.Faulty line fault)) new left = (found.0 ≡ Err fault) × (found.1.0 ≡ new)
 Gives found most (Err (error.Unread cause)) new left = ⊤
 
 -- the result is the next of the lines of the bytes that were to be used, unless these are not known
-abbrev pub IsNext : Place → Option (List ℕ) → Result (Option Event) RecordingError → Place → Option (List ℕ) → Type 0
+abbrev pub IsNext : Place → Option (List ℕ) → Result (Option Entry) RecordingError → Place → Option (List ℕ) → Type 0
 IsNext old None result new left = ⊤
 IsNext old (Some bytes) result new left =
     old.number + length bytes ≤ 2 ^ 64 - 1 →

@@ -13,10 +13,10 @@ use Rattle.uart_language.specs.Sayings as script
 use Rattle.uart_language.specs.Text.{words_of, word_at, has_bad_byte}
 use Rattle.uart_language.specs.declared.cause.Cause.{Cause}
 use Rattle.uart_language.specs.declared.cause.Cause.TheVariants.{BadByte, BadNumber, WrongCount}
-use Rattle.uart_judges.specs.declared.traces.cause.Fault.{Fault}
-use Rattle.uart_judges.specs.declared.traces.cause.Fault.TheVariants as fault
-use Rattle.uart_judges.specs.declared.traces.lines.Line.{Line}
-use Rattle.uart_judges.specs.declared.traces.lines.Line.TheVariants as line
+use Rattle.uart_judges.specs.declared.traces.cause.TraceFault.{TraceFault}
+use Rattle.uart_judges.specs.declared.traces.cause.TraceFault.TheVariants as fault
+use Rattle.uart_judges.specs.declared.traces.lines.TraceLine.{TraceLine}
+use Rattle.uart_judges.specs.declared.traces.lines.TraceLine.TheVariants as line
 use Rattle.uart_judges.specs.declared.traces.lines.TheConstants.{AFTER_THE_HEAD}
 
 -- what a line adds to a trace: nothing, a new driver, a call, an access, an answer
@@ -28,7 +28,7 @@ pub data Saying : Type 0 where
   Returns : List ℕ → Saying
 
 -- the meaning of a line that was read; nothing is said about the room that a text does not use
-abbrev pub saying_of : Line → Saying
+abbrev pub saying_of : TraceLine → Saying
 saying_of line.Blank = Nothing
 saying_of line.Fresh = Fresh
 saying_of (line.Call c) = Calls (script.plain c)
@@ -36,7 +36,7 @@ saying_of (line.Access e) = Makes e
 saying_of (line.Answer text) = Returns text.now
 
 -- if it is a call, it can be run
-abbrev pub CanRun : Line → Type 0
+abbrev pub CanRun : TraceLine → Type 0
 CanRun (line.Call c) = IsRunnable c
 CanRun other = ⊤
 
@@ -71,26 +71,26 @@ access_in ws =
     else Err WrongCount
 
 -- an access of this kind, or what is wrong with its line
-abbrev pub made_as : (ℕ → ℕ → Access) → Result (ℕ × ℕ) Cause → Result Saying Fault
+abbrev pub made_as : (ℕ → ℕ → Access) → Result (ℕ × ℕ) Cause → Result Saying TraceFault
 made_as kind (Ok (offset, byte)) = Ok (Makes (kind offset byte))
 made_as kind (Err cause) = Err (fault.Line cause)
 
 -- a call of a script; any other line of a script is no call of the driver
-abbrev pub called_as : Result script.Saying Cause → Result Saying Fault
+abbrev pub called_as : Result script.Saying Cause → Result Saying TraceFault
 called_as (Ok (script.Calls c)) = Ok (Calls c)
 called_as (Ok other) = Err fault.NoDriverCall
 called_as (Err cause) = Err (fault.Line cause)
 
 -- `fresh`, which is a line of its own
-abbrev pub fresh_in : List ℕ → Result Saying Fault
+abbrev pub fresh_in : List ℕ → Result Saying TraceFault
 fresh_in text = if length (words_of text) == 1 then Ok Fresh else Err (fault.Line WrongCount)
 
 -- = ANSWER, where the answer is all that follows the space
-abbrev pub answer_in : List ℕ → Result Saying Fault
+abbrev pub answer_in : List ℕ → Result Saying TraceFault
 answer_in text = if nat_lt (length text) 2 then Err (fault.Line WrongCount) else Ok (Returns (drop 2 text))
 
 -- what a line with this first word means
-abbrev pub said_by : (word text : List ℕ) → Result Saying Fault
+abbrev pub said_by : (word text : List ℕ) → Result Saying TraceFault
 said_by word text =
     if bytes_eq word (codes "fresh") then fresh_in text
     else if bytes_eq word (codes "=") then answer_in text
@@ -99,12 +99,12 @@ said_by word text =
     else called_as (item_at AFTER_THE_HEAD text)
 
 -- what a line without its remark means, or what is wrong with it: a bad byte first
-unfoldable pub said_in : List ℕ → Result Saying Fault
+unfoldable pub said_in : List ℕ → Result Saying TraceFault
 said_in text =
     if has_bad_byte text then Err (fault.Line BadByte)
     else if length text == 0 then Ok Nothing
     else said_by (word_at 0 (words_of text)) text
 
 -- what a line means, or what is wrong with it
-abbrev pub says : List ℕ → Result Saying Fault
+abbrev pub says : List ℕ → Result Saying TraceFault
 says line = said_in (before_remark line)

@@ -13,6 +13,7 @@ mod action;
 mod auditor;
 mod finding;
 mod findings;
+mod frequent;
 mod history;
 mod setup;
 mod shows;

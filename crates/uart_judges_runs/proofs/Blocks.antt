@@ -1,6 +1,7 @@
 -- The blocks of a session, and its calls.
-use Rattle.std.proofs.Common.{◌≤◌, ◌+◌, ℕ, Bool, List, [], ◌∷◌, ◌++◌, length, map, refl, sym}
+use Rattle.std.proofs.Common.{◌≡◌, ◌≤◌, ◌+◌, ℕ, Bool, true, false, List, [], ◌∷◌, ◌++◌, length, map, refl, sym}
 use Rattle.std.proofs.Common.{subst, arith, bit_or}
+use Rattle.uart_spec.specs.Bits.{has}
 use Rattle.uart_spec.specs.declared.access.Access.{Access as RegisterAccess}
 use Rattle.uart_spec.specs.declared.access.Access.TheVariants.{Read, Write}
 use Rattle.uart_spec.specs.declared.registers.line_control.TheConstants.LCR as lcr_bits
@@ -9,24 +10,20 @@ use Rattle.uart_chip.specs.Transmitter.{room as room_of}
 use Rattle.uart_chip.proofs.conservation.Blocks.{AllFit, AllQuiet, Block, Look, Hit, Burst, Other, Divisor, IsFit, accesses_of, flat}
 use Rattle.uart_judges.specs.declared.audit.auditor.Auditor.{Auditor}
 use Rattle.uart_run.proofs.CallBlocks.{InBlocks}
-use Rattle.uart_judges_runs.specs.Calls.{AreTaken, KnowsAsTaken}
+use Rattle.uart_run.proofs.CallKeeps.{quiet_blocks}
+use Rattle.uart_run.proofs.CheckLists.{CheckList, Quiet, Among, LatchList, Ignored, Looked, opened}
+use Rattle.uart_judges_runs.specs.Calls.{AreTaken, IsTaken, KnowsAsTaken}
+use Rattle.uart_judges_runs.proofs.Dlab.{after_block, after_latch, after_quiet, taken_front}
 use Rattle.uart_judges_runs.proofs.Recordings.{Goes, Moves, Stays, goes_none, goes_one, goes_then}
 use Rattle.uart_judges_runs.proofs.Kept.{Opened, Reading, Sending, stays_knows, stays_opened, stays_reading, stays_sending}
-use Rattle.uart_judges_runs.proofs.Steps.{closes_again, moves_look, moves_quiet, opens, reading_begins, reading_ends, reads_high, reads_low}
-use Rattle.uart_judges_runs.proofs.Steps.{sending_begins, sending_quiet, sending_sends}
+use Rattle.uart_judges_runs.proofs.Steps.{closes_again, moves_look, moves_quiet, opens, opens_latch, reading_begins, reading_ends}
+use Rattle.uart_judges_runs.proofs.Steps.{reads_high, reads_low, sending_begins, sending_quiet, sending_sends, shows_open, shows_shut}
+use Rattle.uart_judges_runs.proofs.Steps.{stays_shut}
 
 -- an access, and then some
 goes_on : (P Q R : Auditor → Type 0) (x : RegisterAccess) (l : List RegisterAccess) → Stays P → Stays Q → Moves P x Q → Goes Q l R →
     Goes P (x ∷ l) R
 goes_on P Q R x l p q moves rest = goes_then P Q R (x ∷ []) l (goes_one P Q x p q moves) rest
-
-taken_front : (fifo : Bool) (xs ys : List RegisterAccess) → AreTaken fifo (xs ++ ys) → AreTaken fifo xs
-taken_front fifo [] ys t = tt
-taken_front fifo (x ∷ xs) ys t = (t.0, taken_front fifo xs ys t.1)
-
-taken_back : (fifo : Bool) (xs ys : List RegisterAccess) → AreTaken fifo (xs ++ ys) → AreTaken fifo ys
-taken_back fifo [] ys t = t
-taken_back fifo (x ∷ xs) ys t = taken_back fifo xs ys t.1
 
 -- ---- a burst
 
@@ -45,7 +42,8 @@ checked : (fifo : Bool) (checks : List RegisterAccess) (bytes : List ℕ) → Al
 checked fifo [] bytes q t few = sent_all fifo 0 bytes (omega arith)
 checked fifo (x ∷ checks) bytes q t few =
     goes_on (Sending fifo 0) (Sending fifo 0) (KnowsAsTaken fifo) x (checks ++ map (Write offsets.DATA) bytes)
-    (stays_sending fifo 0) (stays_sending fifo 0) (sending_quiet fifo 0 x q.0 t.0) (checked fifo checks bytes q.1 t.1 few)
+    (stays_sending fifo 0) (stays_sending fifo 0) (sending_quiet fifo 0 x q.0 t.0)
+    (checked fifo checks bytes q.1 (after_quiet fifo (x ∷ []) checks (q.0, tt) t) few)
 
 -- ---- each block
 
@@ -63,7 +61,7 @@ goes_block fifo (Hit line byte) fit t =
 goes_block fifo (Burst line checks bytes) fit t =
     goes_on (KnowsAsTaken fifo) (Sending fifo 0) (KnowsAsTaken fifo) (Read offsets.LSR line) (checks ++ map (Write offsets.DATA) bytes)
     (stays_knows fifo) (stays_sending fifo 0) (sending_begins fifo line fit.0)
-    (checked fifo checks bytes fit.1 (taken_front fifo checks (map (Write offsets.DATA) bytes) t.1) fit.2)
+    (checked fifo checks bytes fit.1 (taken_front fifo false checks (map (Write offsets.DATA) bytes) t.1) fit.2)
 goes_block fifo (Other access) fit t = one fifo access (moves_quiet fifo access fit t.0)
 goes_block fifo (Divisor lcr low high) fit t =
     let K = KnowsAsTaken fifo in
@@ -72,18 +70,81 @@ goes_block fifo (Divisor lcr low high) fit t =
     (goes_on K O K (Write offsets.LCR (bit_or lcr lcr_bits.DLAB.0)) _ (stays_knows fifo) (stays_opened fifo) (opens fifo lcr)
     (goes_on O O K (Read offsets.DLL low) _ (stays_opened fifo) (stays_opened fifo) (reads_low fifo low)
     (goes_on O O K (Read offsets.DLM high) _ (stays_opened fifo) (stays_opened fifo) (reads_high fifo high)
-    (goes_one O K (Write offsets.LCR lcr) (stays_opened fifo) (stays_knows fifo) (closes_again fifo lcr (t.0.dlab refl))))))
+    (goes_one O K (Write offsets.LCR lcr) (stays_opened fifo) (stays_knows fifo) (closes_again fifo lcr (t.0.dlab refl refl))))))
 
 pub goes_blocks : (fifo : Bool) (blocks : List Block) → AllFit fifo blocks → AreTaken fifo (flat blocks) →
     Goes (KnowsAsTaken fifo) (flat blocks) (KnowsAsTaken fifo)
 goes_blocks fifo [] fit t = goes_none (KnowsAsTaken fifo) (stays_knows fifo)
 goes_blocks fifo (block ∷ blocks) fit t =
     goes_then (KnowsAsTaken fifo) (KnowsAsTaken fifo) (KnowsAsTaken fifo) (accesses_of block) (flat blocks)
-    (goes_block fifo block fit.0 (taken_front fifo (accesses_of block) (flat blocks) t))
-    (goes_blocks fifo blocks fit.1 (taken_back fifo (accesses_of block) (flat blocks) t))
+    (goes_block fifo block fit.0 (taken_front fifo false (accesses_of block) (flat blocks) t))
+    (goes_blocks fifo blocks fit.1 (after_block fifo block (flat blocks) fit.0 t))
 
 pub goes_in_blocks : (fifo : Bool) (l : List RegisterAccess) (ws rs : List ℕ) → InBlocks fifo l ws rs → AreTaken fifo l →
     Goes (KnowsAsTaken fifo) l (KnowsAsTaken fifo)
 goes_in_blocks fifo l ws rs b t =
     subst (λ (l : List RegisterAccess). Goes (KnowsAsTaken fifo) l (KnowsAsTaken fifo)) (sym b.joined)
     (goes_blocks fifo b.blocks b.fit (subst (λ (l : List RegisterAccess). AreTaken fifo l) b.joined t))
+
+-- ---- a check
+
+-- the latch is not read: LCR does not show what was written, and is written back
+goes_ignored : (fifo : Bool) (lcr shown : ℕ) (on : Bool) → has shown lcr_bits.DLAB.0 ≡ on → has lcr lcr_bits.DLAB.0 ≡ false →
+    Goes (Opened fifo) (Read offsets.LCR shown ∷ Write offsets.LCR lcr ∷ []) (KnowsAsTaken fifo)
+goes_ignored fifo lcr shown true e off =
+    let K = KnowsAsTaken fifo in
+    let O = Opened fifo in
+    goes_on O O K (Read offsets.LCR shown) _ (stays_opened fifo) (stays_opened fifo) (shows_open fifo shown e)
+    (goes_one O K (Write offsets.LCR lcr) (stays_opened fifo) (stays_knows fifo) (closes_again fifo lcr off))
+goes_ignored fifo lcr shown false e off =
+    let K = KnowsAsTaken fifo in
+    let O = Opened fifo in
+    goes_on O K K (Read offsets.LCR shown) _ (stays_opened fifo) (stays_knows fifo) (shows_shut fifo shown e)
+    (one fifo (Write offsets.LCR lcr) (stays_shut fifo lcr off))
+
+-- the latch is read, and closed
+goes_looked : (fifo : Bool) (lcr low high : ℕ) (l : List RegisterAccess) → has lcr lcr_bits.DLAB.0 ≡ false →
+    Goes (KnowsAsTaken fifo) l (KnowsAsTaken fifo) →
+    Goes (Opened fifo) (Read offsets.LCR (opened lcr) ∷ Read offsets.DLL low ∷ Read offsets.DLM high ∷ Write offsets.LCR lcr ∷ l)
+    (KnowsAsTaken fifo)
+goes_looked fifo lcr low high l off rest =
+    let K = KnowsAsTaken fifo in
+    let O = Opened fifo in
+    goes_on O O K (Read offsets.LCR (opened lcr)) _ (stays_opened fifo) (stays_opened fifo)
+    (shows_open fifo (opened lcr) (opens_latch lcr))
+    (goes_on O O K (Read offsets.DLL low) _ (stays_opened fifo) (stays_opened fifo) (reads_low fifo low)
+    (goes_on O O K (Read offsets.DLM high) _ (stays_opened fifo) (stays_opened fifo) (reads_high fifo high)
+    (goes_on O K K (Write offsets.LCR lcr) l (stays_opened fifo) (stays_knows fifo) (closes_again fifo lcr off) rest)))
+
+-- LCR is read, and the latch opened
+goes_opening : (fifo : Bool) (lcr : ℕ) (l : List RegisterAccess) → IsTaken fifo false (Read offsets.LCR lcr) →
+    Goes (Opened fifo) l (KnowsAsTaken fifo) →
+    Goes (KnowsAsTaken fifo) (Read offsets.LCR lcr ∷ Write offsets.LCR (opened lcr) ∷ l) (KnowsAsTaken fifo)
+goes_opening fifo lcr l t rest =
+    let K = KnowsAsTaken fifo in
+    let O = Opened fifo in
+    goes_on K K K (Read offsets.LCR lcr) _ (stays_knows fifo) (stays_knows fifo) (moves_quiet fifo (Read offsets.LCR lcr) refl t)
+    (goes_on K O K (Write offsets.LCR (opened lcr)) l (stays_knows fifo) (stays_opened fifo) (opens fifo lcr) rest)
+
+goes_latch : (fifo : Bool) (l : List RegisterAccess) → LatchList l → AreTaken fifo l → Goes (KnowsAsTaken fifo) l (KnowsAsTaken fifo)
+goes_latch fifo _ (Ignored lcr shown) t =
+    goes_opening fifo lcr (Read offsets.LCR shown ∷ Write offsets.LCR lcr ∷ []) t.0
+    (goes_ignored fifo lcr shown (has shown lcr_bits.DLAB.0) refl (t.0.dlab refl refl))
+goes_latch fifo _ (Looked lcr low high closed) t =
+    let off = t.0.dlab refl refl in
+    let last : IsTaken fifo false (Read offsets.LCR closed) =
+    subst (λ (b : Bool). IsTaken fifo b (Read offsets.LCR closed)) off t.1.1.1.1.1.1.0 in
+    let reads : List RegisterAccess = Read offsets.LCR (opened lcr) ∷ Read offsets.DLL low ∷ Read offsets.DLM high ∷ [] in
+    goes_opening fifo lcr (reads ++ (Write offsets.LCR lcr ∷ Read offsets.LCR closed ∷ [])) t.0
+    (goes_looked fifo lcr low high (Read offsets.LCR closed ∷ []) off
+    (one fifo (Read offsets.LCR closed) (moves_quiet fifo (Read offsets.LCR closed) refl last)))
+
+pub goes_check : (fifo : Bool) (l : List RegisterAccess) → CheckList l → AreTaken fifo l → Goes (KnowsAsTaken fifo) l (KnowsAsTaken fifo)
+goes_check fifo _ (Quiet quiet q) t = goes_in_blocks fifo quiet [] [] (quiet_blocks fifo quiet q) t
+goes_check fifo _ (Among front latch back p l q) t =
+    let K = KnowsAsTaken fifo in
+    let rest = after_quiet fifo front (latch ++ back) p t in
+    goes_then K K K front (latch ++ back)
+    (goes_in_blocks fifo front [] [] (quiet_blocks fifo front p) (taken_front fifo false front (latch ++ back) t))
+    (goes_then K K K latch back (goes_latch fifo latch l (taken_front fifo false latch back rest))
+    (goes_in_blocks fifo back [] [] (quiet_blocks fifo back q) (after_latch fifo latch back l rest)))

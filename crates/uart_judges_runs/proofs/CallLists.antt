@@ -1,4 +1,4 @@
--- The lists of the calls of a session: each is in blocks, or sets the trigger level.
+-- The lists of the calls of a session: each is in blocks, sets the trigger level, or is that of a check.
 use Rattle.std.proofs.Common.{◌≡◌, ℕ, Bool, true, List, [], ◌∷◌, ◌++◌, Result, Ok, Err, refl, sym, ◌∙◌, ap, subst}
 use Rattle.uart_spec.specs.declared.access.Access.{Access as RegisterAccess}
 use Rattle.uart_spec.specs.declared.access.Access.TheVariants.{Write}
@@ -27,16 +27,18 @@ use Rattle.uart_run.proofs.CallKeeps.{answers_read_blocks, answers_write_blocks,
 use Rattle.uart_run.proofs.CallKeeps.{dumps_keeps, enables_keeps, flushes_blocks, plain_blocks, reads_blocks, reads_divisor_blocks}
 use Rattle.uart_run.proofs.CallKeeps.{retriggers_blocks, sends_beginning_blocks, sends_each_blocks, takes_lsr_keeps}
 use Rattle.uart_run.proofs.CallKeeps.{takes_msr_keeps, writes_blocks}
+use Rattle.uart_run.proofs.CheckLists.{CheckList, check_list}
 use Rattle.uart_judges_runs.specs.Calls.{AreTaken, IsSteady, KnowsAsTaken}
 use Rattle.uart_judges_runs.proofs.Recordings.{Goes, goes_one}
 use Rattle.uart_judges_runs.proofs.Kept.{stays_knows}
 use Rattle.uart_judges_runs.proofs.Steps.{IsLevel, sets_level}
-use Rattle.uart_judges_runs.proofs.Blocks.{goes_in_blocks}
+use Rattle.uart_judges_runs.proofs.Blocks.{goes_check, goes_in_blocks}
 
--- the list is in blocks, whatever is written and read; or it sets the trigger level
+-- the list is in blocks, whatever is written and read; or it sets the trigger level; or it is that of `check_configured`
 pub data IsOfSession (fifo : Bool) (l : List RegisterAccess) : Type 0 where
   blocks : (ws rs : List ℕ) → InBlocks fifo l ws rs → IsOfSession fifo l
   level : (value : ℕ) → fifo ≡ true → IsLevel value → l ≡ Write offsets.FCR value ∷ [] → IsOfSession fifo l
+  check : CheckList l → IsOfSession fifo l
 
 none_made : (fifo : Bool) (l : List RegisterAccess) → l ≡ [] → IsOfSession fifo l
 none_made fifo l is = blocks [] [] (subst (λ (l : List RegisterAccess). InBlocks fifo l [] []) (sym is) (blocks_none fifo))
@@ -89,6 +91,8 @@ list_of (call.SetRts on) f after l a i h = absurd i
 list_of (call.SetDtr on) f after l a i h = absurd i
 list_of (call.Quiesce outputs fifos) f after l a i h = absurd i
 list_of (call.Restore dump) f after l a i h = absurd i
+list_of (call.CheckConfigured outputs) f after l a i h =
+    check (check_list (settings_of f) f.config outputs.0 h.outcome l h.does.0)
 list_of call.TestLoopback f after l a i h = absurd i
 list_of call.CheckPresent f after l a i h = blocks _ _ (checks_presence_blocks (settings_of f) h.outcome l h.does.0)
 list_of call.CheckConnected f after l a i h = blocks _ _ (connects_blocks (settings_of f) h.outcome l h.does.0)
@@ -127,6 +131,7 @@ list_of (call.Text text) f after l a i h = text_list text.bytes (settings_of f) 
 pub goes_list : (fifo : Bool) (l : List RegisterAccess) → IsOfSession fifo l → AreTaken fifo l →
     Goes (KnowsAsTaken fifo) l (KnowsAsTaken fifo)
 goes_list fifo l (blocks ws rs b) t = goes_in_blocks fifo l ws rs b t
+goes_list fifo l (check c) t = goes_check fifo l c t
 goes_list fifo l (level value on v is) t =
     let one : Goes (KnowsAsTaken true) (Write offsets.FCR value ∷ []) (KnowsAsTaken true) =
     goes_one (KnowsAsTaken true) (KnowsAsTaken true) (Write offsets.FCR value) (stays_knows true) (stays_knows true) (sets_level value v) in

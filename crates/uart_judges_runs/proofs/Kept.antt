@@ -12,7 +12,7 @@ use Rattle.uart_spec.specs.declared.registers.modem_control.MCR.{MCR}
 use Rattle.uart_spec.specs.declared.registers.modem_control.TheConstants.MCR as mcr_bits
 use Rattle.uart_chip.specs.Transmitter.{room as room_of}
 use Rattle.uart_judges.specs.Actions.{action}
-use Rattle.uart_judges.specs.Findings.{changed, is_open, latched, put_out, sent_before, taken_from_nothing, when, with_errors}
+use Rattle.uart_judges.specs.Findings.{changed, is_at_rest, is_open, latched, put_out, sent_before, taken_from_nothing, when, with_errors}
 use Rattle.uart_judges.specs.History.{next, next_count, next_latch, next_since, step_from, waiting_after}
 use Rattle.uart_judges.specs.Setups.{next_is_open}
 use Rattle.uart_judges.specs.Shows.{fifo_of, modem_of, receives, sends}
@@ -25,8 +25,8 @@ use Rattle.uart_judges.specs.declared.audit.action.Action.TheVariants.{Identifie
 use Rattle.uart_judges.specs.declared.audit.auditor.Auditor.{Auditor}
 use Rattle.uart_judges.specs.declared.audit.finding.Finding.TheVariants as found
 use Rattle.uart_judges.specs.declared.audit.step.Step.{Step}
-use Rattle.uart_judges.specs.declared.recording.event.Happening.{Happening}
-use Rattle.uart_judges.specs.declared.recording.event.Happening.TheVariants.{Access, Arrive, Interrupt, Lines}
+use Rattle.uart_judges.specs.declared.recording.entry.Happening.{Happening}
+use Rattle.uart_judges.specs.declared.recording.entry.Happening.TheVariants.{Access, Arrive, Interrupt, Lines}
 use Rattle.uart_judges_runs.specs.Calls.{KnowsAsTaken}
 use Rattle.uart_judges_runs.proofs.Recordings.{IsOther, Stays}
 use Rattle.uart_judges_runs.proofs.Spared.{Spared, SixSpared, all_spared, nothing, spared_if}
@@ -53,7 +53,7 @@ six_at a s x is six =
       taken = h.taken;
       latch = h.latch;
       change = spared_if _ _ _ nothing h.change;
-      discard = discarded (nat_lt 0 a.waiting) _ h.discard;
+      discard = discarded (nat_lt 0 a.waiting && not (is_at_rest a s.setup)) _ h.discard;
     }
   where
     discarded : (b c : Bool) → c ≡ false → Spared (when (b && c) found.WaitingDiscarded)

@@ -2,7 +2,14 @@ pub mod Spared
 pub mod Recordings
 pub mod Kept
 pub mod Steps
+pub mod Dlab
 pub mod Blocks
 pub mod CallLists
 pub mod Taken
 pub mod Sessions
+pub mod Does
+pub mod Knows
+pub mod Waits
+pub mod Wire
+pub mod Arrived
+pub mod Lost

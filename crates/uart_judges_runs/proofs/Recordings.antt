@@ -4,15 +4,15 @@ use Rattle.uart_spec.specs.declared.access.Access.{Access as RegisterAccess}
 use Rattle.uart_judges.specs.Findings.{all_found, findings_at}
 use Rattle.uart_judges.specs.History.{known, next, step_from}
 use Rattle.uart_judges.specs.declared.audit.auditor.Auditor.{Auditor}
-use Rattle.uart_judges.specs.declared.recording.event.Event.{Event}
-use Rattle.uart_judges.specs.declared.recording.event.Happening.{Happening}
-use Rattle.uart_judges.specs.declared.recording.event.Happening.TheVariants.{Access, Arrive, Interrupt, Lines}
+use Rattle.uart_judges.specs.declared.recording.entry.Entry.{Entry}
+use Rattle.uart_judges.specs.declared.recording.entry.Happening.{Happening}
+use Rattle.uart_judges.specs.declared.recording.entry.Happening.TheVariants.{Access, Arrive, Interrupt, Lines}
 use Rattle.uart_judges_runs.specs.Recorded.{HasNone, NoneIs, access_in, accesses_in, behind, is_of_calls}
 
 -- ---- one entry
 
 -- from a state of the first kind the entry leads to one of the second, and there is no such finding at it
-abbrev pub Leads : (P Q : Auditor → Type 0) → Event → Type 0
+abbrev pub Leads : (P Q : Auditor → Type 0) → Entry → Type 0
 Leads P Q e = (a : Auditor) → P a → NoneIs is_of_calls (all_found a (step_from a e)) × Q (next a (step_from a e))
 
 -- it is no access
@@ -22,21 +22,21 @@ IsOther _ = Unit {0}
 
 -- whatever happens beside accesses
 abbrev pub Stays : (Auditor → Type 0) → Type 0
-Stays P = (e : Event) → IsOther e.happening → Leads P P e
+Stays P = (e : Entry) → IsOther e.happening → Leads P P e
 
 -- an access, at whatever line, time and level
 abbrev pub Moves : (P : Auditor → Type 0) → RegisterAccess → (Q : Auditor → Type 0) → Type 0
-Moves P x Q = (e : Event) → e.happening ≡ Access x → Leads P Q e
+Moves P x Q = (e : Entry) → e.happening ≡ Access x → Leads P Q e
 
 -- what is known goes on by an entry
-at_entry : (P Q : Auditor → Type 0) (e : Event) (past : List Event) → Leads P Q e → P (known past) →
+at_entry : (P Q : Auditor → Type 0) (e : Entry) (past : List Entry) → Leads P Q e → P (known past) →
     NoneIs is_of_calls (findings_at e past) × Q (known (e ∷ past))
 at_entry P Q e past leads p = leads (known past) p
 
 -- ---- some accesses, with what else happens between
 
 abbrev pub Goes : (P : Auditor → Type 0) → List RegisterAccess → (Q : Auditor → Type 0) → Type 0
-Goes P l Q = (past entries : List Event) → accesses_in entries ≡ l → P (known past) →
+Goes P l Q = (past entries : List Entry) → accesses_in entries ≡ l → P (known past) →
     HasNone is_of_calls past entries × Q (known (behind past entries))
 
 -- an entry is an access, or another one
@@ -57,10 +57,10 @@ rest_is : (x y : RegisterAccess) (l m : List RegisterAccess) → x ∷ l ≡ y �
 rest_is x y l m e = cc
 
 -- what is shown of some entries
-abbrev Shown : (P : Auditor → Type 0) → (past entries : List Event) → Type 0
+abbrev Shown : (P : Auditor → Type 0) → (past entries : List Entry) → Type 0
 Shown P past entries = HasNone is_of_calls past entries × P (known (behind past entries))
 
-none_from : (P : Auditor → Type 0) → Stays P → (past : List Event) (e : Event) (es : List Event) → IsEither e.happening →
+none_from : (P : Auditor → Type 0) → Stays P → (past : List Entry) (e : Entry) (es : List Entry) → IsEither e.happening →
     access_in e.happening ++ accesses_in es ≡ [] → P (known past) →
     (accesses_in es ≡ [] → P (known (e ∷ past)) → Shown P (e ∷ past) es) → Shown P past (e ∷ es)
 none_from P stays past e es (access x h) is p rest =
@@ -76,8 +76,8 @@ goes_none P stays past [] is p = (tt, p)
 goes_none P stays past (e ∷ es) is p =
     none_from P stays past e es (either e.happening) is p (λ left q. goes_none P stays (e ∷ past) es left q)
 
-one_from : (P Q : Auditor → Type 0) (x : RegisterAccess) → Stays P → Stays Q → Moves P x Q → (past : List Event) (e : Event)
-    (es : List Event) → IsEither e.happening → access_in e.happening ++ accesses_in es ≡ x ∷ [] → P (known past) →
+one_from : (P Q : Auditor → Type 0) (x : RegisterAccess) → Stays P → Stays Q → Moves P x Q → (past : List Entry) (e : Entry)
+    (es : List Entry) → IsEither e.happening → access_in e.happening ++ accesses_in es ≡ x ∷ [] → P (known past) →
     (accesses_in es ≡ x ∷ [] → P (known (e ∷ past)) → Shown Q (e ∷ past) es) → Shown Q past (e ∷ es)
 one_from P Q x stays after moves past e es (access y h) is p rest =
     let whole : y ∷ accesses_in es ≡ x ∷ [] = sym (ap (λ (h : Happening). access_in h ++ accesses_in es) h) ∙ is in
@@ -98,23 +98,23 @@ goes_one P Q x stays after moves past (e ∷ es) is p =
 -- ---- one after the other
 
 -- the entries in two parts
-record Parts (entries : List Event) (l m : List RegisterAccess) : Type 0 where
-  pub front : List Event
-  pub back : List Event
+record Parts (entries : List Entry) (l m : List RegisterAccess) : Type 0 where
+  pub front : List Entry
+  pub back : List Entry
   pub whole : entries ≡ front ++ back
   pub first : accesses_in front ≡ l
   pub second : accesses_in back ≡ m
 
-parts_cons : (e : Event) (es : List Event) (l m : List RegisterAccess) → Parts es l m → Parts (e ∷ es) (access_in e.happening ++ l) m
+parts_cons : (e : Entry) (es : List Entry) (l m : List RegisterAccess) → Parts es l m → Parts (e ∷ es) (access_in e.happening ++ l) m
 parts_cons e es l m p = record {
   front = e ∷ p.front;
   back = p.back;
-  whole = ap (λ (es : List Event). e ∷ es) p.whole;
+  whole = ap (λ (es : List Entry). e ∷ es) p.whole;
   first = ap (λ (l : List RegisterAccess). access_in e.happening ++ l) p.first;
   second = p.second;
 }
 
-parts_from : (e : Event) (es : List Event) (x : RegisterAccess) (l m : List RegisterAccess) → IsEither e.happening →
+parts_from : (e : Entry) (es : List Entry) (x : RegisterAccess) (l m : List RegisterAccess) → IsEither e.happening →
     access_in e.happening ++ accesses_in es ≡ x ∷ (l ++ m) → (accesses_in es ≡ l ++ m → Parts es l m) →
     (accesses_in es ≡ x ∷ (l ++ m) → Parts es (x ∷ l) m) → Parts (e ∷ es) (x ∷ l) m
 parts_from e es x l m (access y h) is shorter same =
@@ -128,13 +128,13 @@ parts_from e es x l m (other o none) is shorter same =
     subst (λ (k : List RegisterAccess). Parts (e ∷ es) k m) (ap (λ (k : List RegisterAccess). k ++ (x ∷ l)) none)
     (parts_cons e es (x ∷ l) m rest)
 
-parts : (entries : List Event) (l m : List RegisterAccess) → accesses_in entries ≡ l ++ m → Parts entries l m
+parts : (entries : List Entry) (l m : List RegisterAccess) → accesses_in entries ≡ l ++ m → Parts entries l m
 parts entries [] m is = record { front = []; back = entries; whole = refl; first = refl; second = is }
 parts [] (x ∷ l) m is = absurd (cc)
 parts (e ∷ es) (x ∷ l) m is =
     parts_from e es x l m (either e.happening) is (λ left. parts es l m left) (λ left. parts es (x ∷ l) m left)
 
-both : (P : Auditor → Type 0) (past front back : List Event) → HasNone is_of_calls past front →
+both : (P : Auditor → Type 0) (past front back : List Entry) → HasNone is_of_calls past front →
     HasNone is_of_calls (behind past front) back × P (known (behind (behind past front) back)) →
     HasNone is_of_calls past (front ++ back) × P (known (behind past (front ++ back)))
 both P past [] back h k = k
@@ -146,4 +146,4 @@ goes_then P Q R l m first second past entries is p =
     let a = first past cut.front cut.first p in
     let b = second (behind past cut.front) cut.back cut.second a.1 in
     let r = both R past cut.front cut.back a.0 b in
-    subst (λ (es : List Event). HasNone is_of_calls past es × R (known (behind past es))) (sym cut.whole) r
+    subst (λ (es : List Entry). HasNone is_of_calls past es × R (known (behind past es))) (sym cut.whole) r

@@ -10,7 +10,7 @@ use Rattle.uart_spec.specs.declared.registers.modem_status.MSR.{MSR}
 use Rattle.uart_judges.specs.Findings.{all_found, arrival, arrived_at, change, chip, chip_at, discard}
 use Rattle.uart_judges.specs.Findings.{empty, empty_in, flow, gate, ignored, latch, left_up, level, level_as, level_at}
 use Rattle.uart_judges.specs.Findings.{line_up, lines_as, missing, note, noted, output, overrun, overrun_in, room}
-use Rattle.uart_judges.specs.Findings.{enables_some, is_cut_off, is_held, served_by, service, transfers}
+use Rattle.uart_judges.specs.Findings.{asks_for_cts, enables_bytes, is_cut_off, is_held, served_by, service, transfers}
 use Rattle.uart_judges.specs.Shows.{sends}
 use Rattle.uart_judges.specs.Steps.{is_line_up, loops_back}
 use Rattle.uart_judges.specs.Findings.{set_up, taken, when}
@@ -65,13 +65,14 @@ note_spared a s = noted_spared a.told s.setup s.action
 flow_spared : (a : Auditor) (s : Step) → Spared (flow a s)
 flow_spared a s =
     spared_if (not (sends s.action)) _ _ nothing
-    (spared_if (loops_back s.setup.modem) _ _ nothing (spared_when (is_held a.cts && a.was_cts_set) found.SentWithoutCts refl))
+    (spared_if (loops_back s.setup.modem) _ _ nothing
+    (spared_when ((is_held a.cts && a.was_cts_set) && asks_for_cts a s.setup) found.SentWithoutCts refl))
 
 gate_spared : (a : Auditor) (s : Step) → Spared (gate a s)
 gate_spared a s =
     spared_if (a.has_signalled || is_line_up s) _ _ nothing
     (spared_if (not (transfers s.action)) _ _ nothing
-    (spared_when (enables_some s.setup.interrupts && is_cut_off s.setup.modem) found.InterruptsCutOff refl))
+    (spared_when (enables_bytes s.setup.interrupts && is_cut_off s.setup.modem) found.InterruptsCutOff refl))
 
 arrived_spared : (a : Auditor) (oldest : Option Arrived) (x : Action) → Spared (arrived_at a oldest x)
 arrived_spared a None x = nothing
@@ -152,6 +153,33 @@ line_up_spared : (a : Auditor) (s : Step) → Spared (line_up a s)
 line_up_spared a s = spared_if _ _ _ nothing (left_up_spared a s a.up s.time)
 
 -- ---- all of them
+
+-- those that are never such a finding
+pub record OthersSpared (a : Auditor) (s : Step) : Type 0 where
+  pub note : Spared (note a s)
+  pub flow : Spared (flow a s)
+  pub gate : Spared (gate a s)
+  pub arrival : Spared (arrival a s)
+  pub overrun : Spared (overrun a s)
+  pub empty : Spared (empty a s)
+  pub service : Spared (service a s)
+  pub chip : Spared (chip a s)
+  pub level : Spared (level a s)
+  pub line_up : Spared (line_up a s)
+
+pub all_others : (a : Auditor) (s : Step) → OthersSpared a s
+all_others a s = record {
+  note = note_spared a s;
+  flow = flow_spared a s;
+  gate = gate_spared a s;
+  arrival = arrival_spared a s;
+  overrun = overrun_spared a s;
+  empty = empty_spared a s;
+  service = service_spared a s;
+  chip = chip_spared a s;
+  level = level_spared a s;
+  line_up = line_up_spared a s;
+}
 
 -- the six that may be such a finding are none
 pub record SixSpared (a : Auditor) (s : Step) : Type 0 where

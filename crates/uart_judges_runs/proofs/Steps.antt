@@ -29,14 +29,15 @@ use Rattle.uart_judges.specs.Steps.{action_empties, depth, empties, enables, err
 use Rattle.uart_judges.specs.Unread.{front}
 use Rattle.uart_judges.specs.declared.audit.action.Action.{Action}
 use Rattle.uart_judges.specs.declared.audit.action.Action.TheVariants.{Receives, Sends, ReadsDivisor, SetsLine, LooksAtLine, ControlsFifo}
+use Rattle.uart_judges.specs.declared.audit.action.Action.TheVariants.{ReadsLine}
 use Rattle.uart_judges.specs.declared.audit.auditor.Auditor.{Auditor}
 use Rattle.uart_judges.specs.declared.audit.finding.Finding.{Finding}
 use Rattle.uart_judges.specs.declared.audit.finding.Finding.TheVariants as found
 use Rattle.uart_judges.specs.declared.audit.step.Step.{Step}
 use Rattle.uart_judges.specs.declared.audit.unread.Arrived.{Arrived}
-use Rattle.uart_judges.specs.declared.recording.event.Event.{Event}
-use Rattle.uart_judges.specs.declared.recording.event.Happening.{Happening}
-use Rattle.uart_judges.specs.declared.recording.event.Happening.TheVariants.{Access}
+use Rattle.uart_judges.specs.declared.recording.entry.Entry.{Entry}
+use Rattle.uart_judges.specs.declared.recording.entry.Happening.{Happening}
+use Rattle.uart_judges.specs.declared.recording.entry.Happening.TheVariants.{Access}
 use Rattle.uart_judges_runs.specs.Calls.{IsTaken, KnowsAsTaken, Shows}
 use Rattle.uart_judges_runs.specs.Recorded.{NoneIs, is_of_calls}
 use Rattle.uart_judges_runs.proofs.Recordings.{Moves}
@@ -46,14 +47,14 @@ use Rattle.uart_judges_runs.proofs.Spared.{Spared, all_spared, another, nothing,
 -- ---- still accesses
 
 -- an access that touches neither the data nor the line status nor a mode, and shows the modes as they are taken to be
-quiet_read : (fifo : Bool) (o : Option Bool) (n value : ℕ) → is_quiet (Read n value) ≡ true → Shows fifo n value → is_open o ≡ false →
+quiet_read : (fifo : Bool) (o : Option Bool) (n value : ℕ) → is_quiet (Read n value) ≡ true → Shows fifo false n value → is_open o ≡ false →
     IsStill fifo (action o (Access (Read n value)))
 quiet_read fifo o zero value q t c = absurd (cc)
 quiet_read fifo None (suc zero) value q t c = tt
 quiet_read fifo (Some true) (suc zero) value q t c = absurd (cc)
 quiet_read fifo (Some false) (suc zero) value q t c = tt
 quiet_read fifo o (suc (suc zero)) value q t c = t.fifos refl
-quiet_read fifo o (suc (suc (suc zero))) value q t c = t.dlab refl
+quiet_read fifo o (suc (suc (suc zero))) value q t c = t.dlab refl refl
 quiet_read fifo o (suc (suc (suc (suc zero)))) value q t c = t.loopback refl
 quiet_read fifo o (suc (suc (suc (suc (suc zero))))) value q t c = tt
 quiet_read fifo o (suc (suc (suc (suc (suc (suc zero)))))) value q t c = tt
@@ -76,22 +77,23 @@ quiet_write fifo o (suc (suc (suc (suc (suc (suc (suc zero))))))) value q c = tt
 quiet_write fifo o (suc (suc (suc (suc (suc (suc (suc (suc n)))))))) value q c =
     absurd (grind (arith, common_steps))
 
-quiet_still : (fifo : Bool) (o : Option Bool) (x : RegisterAccess) → is_quiet x ≡ true → IsTaken fifo x → is_open o ≡ false →
+quiet_still : (fifo : Bool) (o : Option Bool) (x : RegisterAccess) → is_quiet x ≡ true → IsTaken fifo false x → is_open o ≡ false →
     IsStill fifo (action o (Access x))
 quiet_still fifo o (Read n value) q t c = quiet_read fifo o n value q t c
 quiet_still fifo o (Write n value) q t c = quiet_write fifo o n value q c
 
-still_as : (fifo : Bool) (o : Option Bool) (e : Event) (x : RegisterAccess) → e.happening ≡ Access x →
+still_as : (fifo : Bool) (o : Option Bool) (e : Entry) (x : RegisterAccess) → e.happening ≡ Access x →
     IsStill fifo (action o (Access x)) → IsStill fifo (action o e.happening)
 still_as fifo o e x is still = subst (λ (h : Happening). IsStill fifo (action o h)) (sym is) still
 
-pub moves_quiet : (fifo : Bool) (x : RegisterAccess) → is_quiet x ≡ true → IsTaken fifo x → Moves (KnowsAsTaken fifo) x (KnowsAsTaken fifo)
+pub moves_quiet : (fifo : Bool) (x : RegisterAccess) → is_quiet x ≡ true → IsTaken fifo false x →
+    Moves (KnowsAsTaken fifo) x (KnowsAsTaken fifo)
 moves_quiet fifo x q t e is a k =
     let s = step_from a e in
     let still : IsStill fifo s.action = still_as fifo a.setup.is_open e x is (quiet_still fifo a.setup.is_open x q t k.dlab) in
     (all_spared a s (spared_still fifo a s still), knows_still fifo a s still k)
 
-pub sending_quiet : (fifo : Bool) (k : ℕ) (x : RegisterAccess) → is_quiet x ≡ true → IsTaken fifo x →
+pub sending_quiet : (fifo : Bool) (k : ℕ) (x : RegisterAccess) → is_quiet x ≡ true → IsTaken fifo false x →
     Moves (Sending fifo k) x (Sending fifo k)
 sending_quiet fifo k x q t e is a w =
     let s = step_from a e in
@@ -106,7 +108,7 @@ moves_look fifo line e is a k =
     let still : IsStill fifo s.action = still_as fifo a.setup.is_open e (Read offsets.LSR line) is tt in
     (all_spared a s (spared_still fifo a s still), knows_still fifo a s still k)
 
-is_look : (o : Option Bool) (e : Event) (line : ℕ) → e.happening ≡ Access (Read offsets.LSR line) →
+is_look : (o : Option Bool) (e : Entry) (line : ℕ) → e.happening ≡ Access (Read offsets.LSR line) →
     action o e.happening ≡ LooksAtLine (record { 0 = line })
 is_look o e line is = ap (action o) is
 
@@ -206,7 +208,7 @@ not_first b x y e p = rw e p
 
 goes_out : (a : Auditor) (s : Step) (byte : ℕ) → loops_back s.setup.modem ≡ false → Spared (given a s.setup byte)
 goes_out a s byte e =
-    let f : loops_again a s.setup ≡ false = and_left (loops_back s.setup.modem) (a.has_looped && (a.sent == 0)) e in
+    let f : loops_again a s.setup ≡ false = and_left (loops_back s.setup.modem) (a.has_looped && a.is_thr_empty) e in
     let looped : Option Finding = Some (found.SentInLoopback byte) in
     let cut : Option Finding = when (cuts s.setup.line byte) (found.WordTooShort byte) in
     let rest : Spared (if loops_again a s.setup then looped else cut) =
@@ -246,7 +248,7 @@ not_closing None lcr x e = nothing
 not_closing (Some true) lcr x e = absurd (cc)
 not_closing (Some false) lcr x e = nothing
 
-opens_latch : (lcr : ℕ) → has (bit_or lcr lcr_bits.DLAB.0) lcr_bits.DLAB.0 ≡ true
+pub opens_latch : (lcr : ℕ) → has (bit_or lcr lcr_bits.DLAB.0) lcr_bits.DLAB.0 ≡ true
 opens_latch lcr = has_one 7 (bit_or lcr 128) ∙ (has_or 7 lcr 128 ∙ or_right (has_any lcr 128) (has_any 128 128) refl)
 
 pub opens : (fifo : Bool) (lcr : ℕ) → Moves (KnowsAsTaken fifo) (Write offsets.LCR (bit_or lcr lcr_bits.DLAB.0)) (Opened fifo)
@@ -278,7 +280,7 @@ since_kept b r h e f = rw (e, f) refl
 from_latch : (a : Auditor) → a.latch.has_looked ≡ false → Spared (when a.latch.has_looked found.ReceivedFromLatch)
 from_latch a e = rw e nothing
 
-reads_divisor : (fifo : Bool) (e : Event) (a : Auditor) → action a.setup.is_open e.happening ≡ ReadsDivisor → Opened fifo a →
+reads_divisor : (fifo : Bool) (e : Entry) (a : Auditor) → action a.setup.is_open e.happening ≡ ReadsDivisor → Opened fifo a →
     NoneIs is_of_calls (all_found a (step_from a e)) × Opened fifo (next a (step_from a e))
 reads_divisor fifo e a x w =
     let s = step_from a e in (
@@ -335,6 +337,61 @@ closes_again fifo lcr off e is a w =
         discard = refl;
       })),
       knows_at fifo a s (SetsLine v) x off w.loopback w.room,
+    )
+
+-- ---- LCR is looked at while the latch is open
+
+looks_spared : (a : Auditor) (s : Step) (v : LCR) → s.action ≡ ReadsLine v → NoneIs is_of_calls (all_found a s)
+looks_spared a s v x = all_spared a s (six_at a s (ReadsLine v) x (record {
+  room = nothing;
+  output = nothing;
+  taken = nothing;
+  latch = nothing;
+  change = nothing;
+  discard = refl;
+}))
+
+-- and shows that it is
+pub shows_open : (fifo : Bool) (shown : ℕ) → has shown lcr_bits.DLAB.0 ≡ true → Moves (Opened fifo) (Read offsets.LCR shown) (Opened fifo)
+shows_open fifo shown on e is a w =
+    let s = step_from a e in
+    let v : LCR = record { 0 = shown } in
+    let x : s.action ≡ ReadsLine v = ap (action a.setup.is_open) is in (
+      looks_spared a s v x,
+      record {
+        opened = ap (next_is_open a.setup.is_open) x ∙ ap Some on;
+        loopback = subst (λ (x : Action). loops_back (option_or (modem_of x) a.setup.modem) ≡ false) (sym x) w.loopback;
+        room = subst (λ (x : Action). room_of fifo ≤ depth (option_or (fifo_of x) a.setup.has_fifo)) (sym x) w.room;
+        not_looked = since_kept a.latch.has_looked _ _ w.not_looked (ap looks_at_line x);
+        not_low = since_kept a.latch.has_low _ _ w.not_low (ap sets_low x);
+      },
+    )
+
+-- or that it is not
+pub shows_shut : (fifo : Bool) (shown : ℕ) → has shown lcr_bits.DLAB.0 ≡ false →
+    Moves (Opened fifo) (Read offsets.LCR shown) (KnowsAsTaken fifo)
+shows_shut fifo shown off e is a w =
+    let s = step_from a e in
+    let v : LCR = record { 0 = shown } in
+    let x : s.action ≡ ReadsLine v = ap (action a.setup.is_open) is in
+    (looks_spared a s v x, knows_at fifo a s (ReadsLine v) x off w.loopback w.room)
+
+-- the latch is closed that was not open
+pub stays_shut : (fifo : Bool) (lcr : ℕ) → has lcr lcr_bits.DLAB.0 ≡ false →
+    Moves (KnowsAsTaken fifo) (Write offsets.LCR lcr) (KnowsAsTaken fifo)
+stays_shut fifo lcr off e is a k =
+    let s = step_from a e in
+    let v : LCR = record { 0 = lcr } in
+    let x : s.action ≡ SetsLine v = ap (action a.setup.is_open) is in (
+      all_spared a s (six_at a s (SetsLine v) x (record {
+        room = nothing;
+        output = nothing;
+        taken = nothing;
+        latch = not_closing s.setup.is_open v (closed a s) k.dlab;
+        change = spared_when _ _ refl;
+        discard = refl;
+      })),
+      knows_at fifo a s (SetsLine v) x off k.loopback k.room,
     )
 
 -- ---- the trigger level

@@ -1,6 +1,5 @@
 -- What a chip is taken for by a driver in a session, and what the judge may know then.
-use Rattle.std.specs.Prelude.{◌≡◌, ◌≤◌, ℕ, Bool, false, List}
-use Rattle.std.specs.List.{AllByRecursion}
+use Rattle.std.specs.Prelude.{◌≡◌, ◌≤◌, ◌==◌, ℕ, Bool, false, if◌then◌else◌, List, [], ◌∷◌}
 use Rattle.uart_spec.specs.Bits.{has}
 use Rattle.uart_spec.specs.declared.access.Access.{Access}
 use Rattle.uart_spec.specs.declared.access.Access.TheVariants.{Read, Write}
@@ -32,18 +31,30 @@ IsSteady (call.Restore dump) = ⊥
 IsSteady call.TestLoopback = ⊥
 IsSteady other = Unit {0}
 
--- what is read shows DLAB and loopback off, and the FIFOs on or off as they are taken to be
-pub record Shows (fifo : Bool) (register answer : ℕ) : Type 0 where
-  pub dlab : register ≡ offsets.LCR → has answer LCR.DLAB.0 ≡ false
+-- whether DLAB was on in the latest write of LCR
+abbrev pub opened_by : Access → Bool → Bool
+opened_by (Write register value) before = if register == offsets.LCR then has value LCR.DLAB.0 else before
+opened_by (Read register answer) before = before
+
+-- what is read shows DLAB off, unless it was on in the latest write of LCR; loopback off; and the FIFOs on or off as
+-- they are taken to be
+pub record Shows (fifo opened : Bool) (register answer : ℕ) : Type 0 where
+  pub dlab : register ≡ offsets.LCR → opened ≡ false → has answer LCR.DLAB.0 ≡ false
   pub loopback : register ≡ offsets.MCR → has answer MCR.LOOP_BACK.0 ≡ false
   pub fifos : register ≡ offsets.ISR → has answer ISR.FIFOS_ENABLED.0 ≡ fifo
 
-abbrev pub IsTaken : Bool → Access → Type 0
-IsTaken fifo (Read register answer) = Shows fifo register answer
-IsTaken fifo (Write register value) = Unit {0}
+abbrev pub IsTaken : (fifo opened : Bool) → Access → Type 0
+IsTaken fifo opened (Read register answer) = Shows fifo opened register answer
+IsTaken fifo opened (Write register value) = Unit {0}
 
+abbrev pub AreTakenFrom : (fifo opened : Bool) → List Access → Type 0
+AreTakenFrom fifo opened [] = Unit {0}
+AreTakenFrom fifo opened (access ∷ accesses) =
+    IsTaken fifo opened access × AreTakenFrom fifo (opened_by access opened) accesses
+
+-- of accesses before which DLAB was off
 abbrev pub AreTaken : Bool → List Access → Type 0
-AreTaken fifo accesses = AllByRecursion (IsTaken fifo) accesses
+AreTaken fifo accesses = AreTakenFrom fifo false accesses
 
 -- the judge does not know that DLAB or loopback is on, nor of less room than a driver that takes the FIFOs to be on or
 -- off has for bytes

@@ -4,16 +4,16 @@ use Rattle.uart_spec.specs.declared.access.Access.{Access as RegisterAccess}
 use Rattle.uart_judges.specs.Findings.{findings_at}
 use Rattle.uart_judges.specs.declared.audit.finding.Finding.{Finding}
 use Rattle.uart_judges.specs.declared.audit.finding.Finding.TheVariants as found
-use Rattle.uart_judges.specs.declared.recording.event.Event.{Event}
-use Rattle.uart_judges.specs.declared.recording.event.Happening.{Happening}
-use Rattle.uart_judges.specs.declared.recording.event.Happening.TheVariants.{Access}
+use Rattle.uart_judges.specs.declared.recording.entry.Entry.{Entry}
+use Rattle.uart_judges.specs.declared.recording.entry.Happening.{Happening}
+use Rattle.uart_judges.specs.declared.recording.entry.Happening.TheVariants.{Access}
 
 -- the accesses of these entries, in order; arrivals, modem inputs and levels are none
 abbrev pub access_in : Happening → List RegisterAccess
 access_in (Access access) = access ∷ []
 access_in _ = []
 
-abbrev pub accesses_in : List Event → List RegisterAccess
+abbrev pub accesses_in : List Entry → List RegisterAccess
 accesses_in [] = []
 accesses_in (entry ∷ entries) = access_in entry.happening ++ accesses_in entries
 
@@ -46,12 +46,12 @@ NoneIs is_such [] = Unit {0}
 NoneIs is_such (finding ∷ findings) = IsNot is_such finding × NoneIs is_such findings
 
 -- at none of these entries, behind those of the past, there is such a finding. The past has the latest entry first
-abbrev pub HasNone : (Finding → Bool) → (past entries : List Event) → Type 0
+abbrev pub HasNone : (Finding → Bool) → (past entries : List Entry) → Type 0
 HasNone is_such past [] = Unit {0}
 HasNone is_such past (entry ∷ entries) =
     NoneIs is_such (findings_at entry past) × HasNone is_such (entry ∷ past) entries
 
 -- all of them, the latest first
-abbrev pub behind : (past entries : List Event) → List Event
+abbrev pub behind : (past entries : List Entry) → List Entry
 behind past [] = past
 behind past (entry ∷ entries) = behind (entry ∷ past) entries

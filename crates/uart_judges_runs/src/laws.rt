@@ -1,25 +1,33 @@
 //! Laws of the judge of a driver, and of our own driver.
 //!
 //! The contract of each function is a law that callers can cite. The functions do nothing.
-ghost use Rattle.std.specs.Prelude.{◌≡◌, List};
+ghost use Rattle.std.specs.Prelude.{◌≡◌, ℕ, false, List, [], ◌∷◌};
 ghost use Rattle.uart_spec.specs.declared.access.Access.{Access};
+ghost use Rattle.uart_spec.specs.declared.access.Access.TheVariants.{Read, Write};
+ghost use Rattle.uart_spec.specs.declared.registers.offsets.TheConstants as offsets;
 ghost use Rattle.uart_16550.specs.Driver.{Fields};
 ghost use Rattle.uart_events.specs.declared.call.Call.{Call};
 ghost use Rattle.uart_events.specs.declared.call.Answer.{Answer};
-ghost use Rattle.uart_chip.specs.Machine.{MachineState};
+ghost use Rattle.uart_events.specs.declared.event.Chip.TheVariants.{Uart16550A};
+ghost use Rattle.uart_chip.specs.Chip.{is_dlab_set};
+ghost use Rattle.uart_chip.specs.Machine.{MachineState, MachineStep};
+ghost use Rattle.uart_chip.specs.Sound.{IsSound};
 ghost use Rattle.uart_judges.specs.History.{known};
-ghost use Rattle.uart_judges.specs.declared.recording.event.Event.{Event};
+ghost use Rattle.uart_judges.specs.declared.recording.entry.Entry.{Entry};
+ghost use Rattle.uart_judges.specs.declared.recording.entry.Happening.TheVariants as happening;
 ghost use Rattle.uart_judges_runs.specs.Calls.{IsSteady, AreTaken, KnowsAsTaken};
+ghost use Rattle.uart_judges_runs.specs.Lost.{IsRight, KnowsWhatIs};
 ghost use Rattle.uart_judges_runs.specs.Recorded.{HasNone, accesses_in, is_of_calls};
 ghost use Rattle.uart_judges_runs.specs.Runs.{IsOpenTo, IsSession};
 ghost use Rattle.uart_calls.specs.Lists.{IsListOf};
 
 /// Of each call in a session, over whatever backend: the recording of its accesses has no finding
-/// that is about how a call is made, with whatever happens between them. The chip is to show DLAB
-/// and loopback off, and the FIFOs as the driver takes them to be.
+/// that is about how a call is made, with whatever happens between them. The chip is to show
+/// loopback off, DLAB off unless the call has just set it, and the FIFOs as the driver takes them
+/// to be.
 pub fn calls_are_not_warned()
     ensures { (call : Call) (before after : Fields) (accesses : List Access) (answer : Answer)
-        (past entries : List Event) → IsSteady call →
+        (past entries : List Entry) → IsSteady call →
         IsListOf call before accesses answer after → AreTaken before.fifo accesses →
         KnowsAsTaken before.fifo (known past) → accesses_in entries ≡ accesses →
         HasNone is_of_calls past entries }
@@ -28,7 +36,30 @@ pub fn calls_are_not_warned()
 /// Of a session over the software chip, whatever its schedule: its recording has no such finding.
 pub fn sessions_are_not_warned()
     ensures { (calls : List Call) (fields : Fields) (accesses : List Access)
-        (old new : MachineState) (past entries : List Event) → IsOpenTo fields old →
+        (old new : MachineState) (past entries : List Entry) → IsOpenTo fields old →
         IsSession calls fields old accesses new → KnowsAsTaken fields.fifo (known past) →
         accesses_in entries ≡ accesses → HasNone is_of_calls past entries }
+{}
+
+/// Of a recording of the software chip, a 16550A under any schedule, made by any driver: each
+/// finding that says that a byte is lost names an access that loses it on the chip. What the judge
+/// knows at the beginning is to be so.
+pub fn lost_bytes_are_lost()
+    ensures { (past entries : List Entry) (left : ℕ) (machine : MachineState) → IsSound machine →
+        KnowsWhatIs (known past) left machine.chip → IsRight past left machine entries }
+{}
+
+/// A judge that knows nothing knows what is so after one access that shows DLAB: of LCR, or a read
+/// of LSR while DLAB is off.
+pub fn one_access_is_enough()
+    ensures read { (old new : MachineState) (e : Entry) (value : ℕ) → old.chip.model ≡ Uart16550A →
+        e.happening ≡ happening.Access (Read offsets.LCR value) →
+        MachineStep old (Read offsets.LCR value) new → KnowsWhatIs (known (e ∷ [])) 0 new.chip }
+    ensures written { (old new : MachineState) (e : Entry) (value : ℕ) →
+        old.chip.model ≡ Uart16550A → e.happening ≡ happening.Access (Write offsets.LCR value) →
+        MachineStep old (Write offsets.LCR value) new → KnowsWhatIs (known (e ∷ [])) 0 new.chip }
+    ensures looked { (old new : MachineState) (e : Entry) (value : ℕ) →
+        old.chip.model ≡ Uart16550A → is_dlab_set old.chip.latches ≡ false →
+        e.happening ≡ happening.Access (Read offsets.LSR value) →
+        MachineStep old (Read offsets.LSR value) new → KnowsWhatIs (known (e ∷ [])) 0 new.chip }
 {}

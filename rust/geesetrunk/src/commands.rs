@@ -18,6 +18,18 @@ const FILES: Operand = Operand {
     help: "The files; standard input is read for -, or if there is none",
 };
 
+const LEFT: Operand = Operand {
+    name: "LEFT",
+    count: Count::One,
+    help: "The script of the left end; standard input is read if it is -",
+};
+
+const RIGHT: Operand = Operand {
+    name: "RIGHT",
+    count: Count::One,
+    help: "The script of the right end; standard input is read if it is -",
+};
+
 const JSON: Flag = Flag {
     name: "json",
     value: None,
@@ -36,6 +48,16 @@ const SETTLED: Flag = Flag {
     help: "Leaves out what the datasheet leaves open",
 };
 
+const COLUMNS: &str = "\
+The columns of a table:
+  tick, line      When it happens, in a run or in a recording
+  access          r or w, the register, the value; xN if it was made N times in turn
+  wire            The byte that was sent
+  arrives         The character that arrives, with its errors, and in a run its mark
+  lines           The modem inputs, as the high digit of MSR
+  held, waiting   How many bytes are in the transmitter and in the receiver
+  irq             The interrupt line, where it changes";
+
 /// What `geesetrunk` can do.
 #[derive(Clone, Copy, Debug, PartialEq, Eq)]
 pub enum Job {
@@ -43,6 +65,8 @@ pub enum Job {
     Report(Task),
     /// Draws the timeline of a script or of a recording.
     Timeline,
+    /// Plays two scripts over a cable.
+    Link,
     /// Judges a recording.
     Judge(Judge),
     /// Judges a trace.
@@ -114,6 +138,25 @@ recording may have any length.",
                     name: "last",
                     value: Some("N"),
                     help: "FILE is a recording: draws so many events [default: 100]",
+                },
+            ],
+            more: Some(COLUMNS),
+        },
+        Command {
+            job: Job::Link,
+            name: "geesetrunk link",
+            about: "Plays two scripts at the two ends of a cable, and prints what each call returned",
+            operands: &[LEFT, RIGHT],
+            flags: &[
+                Flag {
+                    name: "delay",
+                    value: Some("TICKS"),
+                    help: "How long characters and lines are on the cable [default: 1]",
+                },
+                Flag {
+                    name: "picture",
+                    value: None,
+                    help: "Prints both timelines as one SVG picture instead",
                 },
             ],
             more: None,

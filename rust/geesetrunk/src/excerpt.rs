@@ -7,17 +7,17 @@ use crate::moments::{Arrival, Happened, Moment, Seen, parts, register_of};
 use crate::picture::picture_of_recording;
 use crate::table::table_of_recording;
 use crate::text::file_name;
-use std::collections::VecDeque;
+use std::collections::{BTreeSet, VecDeque};
 use std::io::Read;
-use uart_judges::audit::{Finding, Findings, Severity};
-use uart_judges::recording::{Event, Happening, Recording, RecordingError};
+use uart_judges::audit::{Finding, Severity};
+use uart_judges::recording::{Entry, Happening, Recording, RecordingError};
 use uart_spec::access::Access;
 use uart_spec::registers::{LCR, offsets};
 
-/// How many events are drawn unless it is said.
+/// How many entries are drawn unless it is said.
 pub const USUAL_EVENTS: usize = 100;
 
-/// The most events that can be drawn.
+/// The most entries that can be drawn.
 pub const MOST_EVENTS: usize = 10_000;
 
 /// The form of a timeline.
@@ -36,31 +36,67 @@ pub struct Excerpt<'a> {
     pub form: Form,
     /// The file, or `-` for standard input.
     pub file: &'a str,
-    /// The last line to draw. Without it, it is that of the audit's first warning, or of the end if
-    /// there is none.
+    /// The last line to draw. Without it, it is that at which the audit finds its first warning, or
+    /// the end if there is none.
     pub line: Option<u64>,
-    /// How many events to draw at most: the last ones.
+    /// How many entries to draw at most: the last ones.
     pub most: usize,
 }
 
-// An event, and what the audit finds at it.
+// A warning, and the line that it is about, which may be before the one at which it is found.
 #[derive(Clone, Copy)]
-struct Watched {
-    moment: Moment,
-    findings: Findings,
+struct Warning {
+    line: u64,
+    finding: Finding,
 }
 
-// The last events of a recording, as far as it is read.
+// An entry, and what the audit warns of at it.
+struct Watched {
+    moment: Moment,
+    warnings: Vec<Warning>,
+}
+
+// The last entries of a recording, as far as it is read.
 struct Watch {
     audited: Audited,
     is_dlab_set: bool,
     level: Option<bool>,
     most: usize,
     last: VecDeque<Watched>,
+    // What the audit warns of in these entries, and finds behind them.
+    late: Vec<Warning>,
 }
 
-fn is_warning(finding: &Finding) -> bool {
-    finding.severity() == Severity::Warning
+// Returns the warnings of findings at a line.
+fn warnings<'a>(
+    line: u64,
+    findings: impl IntoIterator<Item = &'a Option<Finding>>,
+) -> impl Iterator<Item = Warning> {
+    let found = findings.into_iter().flatten();
+    found
+        .filter(|finding| finding.severity() == Severity::Warning)
+        .map(move |&finding| Warning {
+            line: Kind::Finding(finding).line().unwrap_or(line),
+            finding,
+        })
+}
+
+impl Warning {
+    // Returns its line and its kind. A line that is left up is found again at each byte that arrives.
+    fn key(&self) -> (u64, &'static str) {
+        (self.line, Kind::Finding(self.finding).name())
+    }
+
+    fn text(&self) -> String {
+        format!("line {}: {}", self.line, Kind::Finding(self.finding))
+    }
+}
+
+// Adds a warning, unless there is one of this kind about its line.
+fn add(found: &mut Vec<Warning>, warning: Warning) {
+    if found.iter().all(|known| known.key() != warning.key()) {
+        found.push(warning);
+    }
 }
 
 impl Watch {
@@ -71,6 +107,7 @@ impl Watch {
             level: None,
             most,
             last: VecDeque::new(),
+            late: Vec::new(),
         }
     }
 
@@ -84,37 +121,37 @@ impl Watch {
         Seen { access, register }
     }
 
-    // Returns the level of the interrupt line after an event, if it is another than before.
-    fn new_level(&mut self, event: &Event) -> Option<bool> {
-        let level = match event.happening {
+    // Returns the level of the interrupt line after an entry, if it is another than before.
+    fn new_level(&mut self, entry: &Entry) -> Option<bool> {
+        let level = match entry.happening {
             Happening::Interrupt { is_raised } => Some(is_raised),
-            _ => event.interrupt,
+            _ => entry.interrupt,
         };
         let is_new = level.is_some() && level != self.level;
         self.level = level.or(self.level);
         level.filter(|_| is_new)
     }
 
-    // Returns what the audit finds at an entry: at the first of equal reads in turn at which it finds
-    // something.
-    fn found(&mut self, event: &Event) -> Findings {
-        let mut first = None;
-        self.audited.step(event, |findings, times| {
-            if times > 0 && findings.iter().any(Option::is_some) {
-                first.get_or_insert(*findings);
+    // Returns what the audit warns of at an entry: of equal reads in turn, each kind at a line once.
+    fn found(&mut self, entry: &Entry) -> Vec<Warning> {
+        let mut found: Vec<Warning> = Vec::new();
+        self.audited.step(entry, |findings, times| {
+            for warning in warnings(entry.line, findings).filter(|_| times > 0) {
+                add(&mut found, warning);
             }
         });
-        first.unwrap_or([None; 16])
+        found
     }
 
-    // Keeps an event. Returns whether the audit warns of it.
-    fn step(&mut self, event: &Event) -> bool {
+    // Keeps an entry. Returns whether the audit warns of it.
+    fn step(&mut self, entry: &Entry) -> bool {
         let mut happened = Happened {
-            interrupt: self.new_level(event),
+            interrupt: self.new_level(entry),
             ..Happened::default()
         };
-        let findings = self.found(event);
-        match event.happening {
+        let warnings = self.found(entry);
+        let is_wrong = !warnings.is_empty();
+        match entry.happening {
             Happening::Access(access) => happened.access = Some(self.seen(access)),
             Happening::Arrive { byte, errors } => {
                 happened.arrival = Some(Arrival {
@@ -126,29 +163,48 @@ impl Watch {
             Happening::Lines(lines) => happened.lines = Some(lines.bits()),
             Happening::Interrupt { .. } => {}
         }
-        happened.is_wrong = findings.iter().flatten().any(is_warning);
         let moment = Moment {
-            time: event.line,
+            time: entry.line,
             happened,
             ..Moment::default()
         };
         if self.last.len() == self.most {
             self.last.pop_front();
         }
-        self.last.push_back(Watched { moment, findings });
-        happened.is_wrong
+        self.last.push_back(Watched { moment, warnings });
+        is_wrong
     }
-}
 
-// Returns a line for each warning.
-fn warnings<'a>(
-    line: u64,
-    findings: impl IntoIterator<Item = &'a Option<Finding>>,
-) -> impl Iterator<Item = String> {
-    let found = findings.into_iter().flatten();
-    found
-        .filter(|finding| is_warning(finding))
-        .map(move |&finding| format!("line {line}: {}", Kind::Finding(finding)))
+    // Returns what the audit warns of.
+    fn warnings(&self) -> impl Iterator<Item = Warning> {
+        let found = self.last.iter().flat_map(|watched| &watched.warnings);
+        found.chain(&self.late).copied()
+    }
+
+    // Returns the last entries, of which these lines are wrong.
+    fn moments(&self, wrong: &BTreeSet<u64>) -> impl Iterator<Item = Moment> {
+        self.last.iter().map(|watched| {
+            let mut moment = watched.moment;
+            moment.happened.is_wrong = wrong.contains(&moment.time);
+            moment
+        })
+    }
+
+    // Reads on from this entry while it may be found that a line up to the last one is wrong, and
+    // keeps what is found of those that are drawn. What cannot be read there is not drawn, and so it
+    // is no error.
+    fn read_on<R: Read>(&mut self, entry: Entry, recording: &mut Recording<R>, last: u64) {
+        let first = self.last.front().map_or(0, |watched| watched.moment.time);
+        let mut next = Some(entry);
+        while let Some(entry) = next.filter(|_| self.audited.may_name_up_to(last)) {
+            for warning in self.found(&entry) {
+                if (first..=last).contains(&warning.line) {
+                    add(&mut self.late, warning);
+                }
+            }
+            next = recording.next_entry().ok().flatten();
+        }
+    }
 }
 
 // Reads a recording up to the last line that is drawn. Returns whether that is its end.
@@ -157,11 +213,12 @@ fn read_up_to<R: Read>(
     recording: &mut Recording<R>,
     last: Option<u64>,
 ) -> Result<bool, RecordingError> {
-    while let Some(event) = recording.next_event()? {
-        if last.is_some_and(|last| event.line > last) {
+    while let Some(entry) = recording.next_entry()? {
+        if let Some(last) = last.filter(|&last| entry.line > last) {
+            watch.read_on(entry, recording, last);
             return Ok(false);
         }
-        if watch.step(&event) && last.is_none() {
+        if watch.step(&entry) && last.is_none() {
             return Ok(false);
         }
     }
@@ -177,7 +234,7 @@ fn title(file: &str, moments: &[Moment]) -> String {
     }
 }
 
-/// Reads a recording, and returns the timeline of its last events up to a line, with what the audit
+/// Reads a recording, and returns the timeline of its last entries up to a line, with what the audit
 /// warns of in them.
 ///
 /// # Errors
@@ -187,14 +244,15 @@ pub fn timeline_of(excerpt: &Excerpt<'_>, reader: impl Read) -> Result<String, S
     let mut watch = Watch::new(excerpt.most);
     let mut recording = Recording::new(heap(), reader)?;
     let is_end = read_up_to(&mut watch, &mut recording, excerpt.line)?;
-    let moments: Vec<_> = watch.last.iter().map(|watched| watched.moment).collect();
-    let found = watch.last.iter();
-    let mut lines: Vec<_> = found
-        .flat_map(|watched| warnings(watched.moment.time, &watched.findings))
-        .collect();
+    let mut found: Vec<_> = watch.warnings().collect();
     if is_end {
-        lines.extend(warnings(recording.lines(), &watch.audited.end()));
+        found.extend(warnings(recording.lines(), &watch.audited.end()));
     }
+    let mut known = BTreeSet::new();
+    found.retain(|warning| known.insert(warning.key()));
+    let wrong: BTreeSet<_> = found.iter().map(|warning| warning.line).collect();
+    let moments: Vec<_> = watch.moments(&wrong).collect();
+    let lines: Vec<_> = found.iter().map(Warning::text).collect();
     Ok(match excerpt.form {
         Form::Table => table_of_recording(&moments, &lines),
         Form::Picture => {

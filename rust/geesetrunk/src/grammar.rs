@@ -138,7 +138,7 @@ pub struct Form {
 }
 
 // The first word of a usage is that of the line.
-const FORMS: [Form; 27] = [
+const FORMS: [Form; 28] = [
     Form {
         usage: "chip 16550a|16450 T W [cut]",
         fields: &[Field::Chip, Field::CharTicks, Field::WireRoom, Field::Cut],
@@ -217,6 +217,10 @@ const FORMS: [Form; 27] = [
     Form {
         usage: "restore HEX",
         fields: &[Field::Registers],
+    },
+    Form {
+        usage: "check-configured HH",
+        fields: &[Field::Outputs],
     },
     Form {
         usage: "receive-with-errors N",

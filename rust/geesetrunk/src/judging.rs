@@ -6,8 +6,8 @@ use geesetrunk_kit::alloc::AllocError;
 use std::io::{self, Read};
 use uart_chip::Chip;
 use uart_judges::audit::{Auditor, Finding, Findings, Severity};
-use uart_judges::recording::{Event, Happening, Recording, RecordingError};
-use uart_judges::replay::{Replayer, Start};
+use uart_judges::recording::{Entry, Happening, Recording, RecordingError};
+use uart_judges::replay::{Difference, Replayer, Start};
 use uart_spec::access::Access;
 
 /// Who judges a recording.
@@ -83,8 +83,8 @@ impl Audited {
     /// how many times in turn. A judge that an entry leaves as it was finds the same at each that
     /// follows: from the third equal read on it knows no more, but for bytes that wait, of which
     /// there are at most 16.
-    pub fn step(&mut self, event: &Event, mut tell: impl FnMut(&Findings, u64)) {
-        let (happening, level) = (event.happening, event.interrupt);
+    pub fn step(&mut self, entry: &Entry, mut tell: impl FnMut(&Findings, u64)) {
+        let (happening, level) = (entry.happening, entry.interrupt);
         let is_again = self
             .last
             .is_some_and(|last| last.happening == happening && last.level == level);
@@ -92,10 +92,10 @@ impl Audited {
             return;
         }
         let mut is_quiet = false;
-        if is_again || event.times != 1 {
-            is_quiet = self.repeat(event, &mut tell);
+        if is_again || entry.times != 1 {
+            is_quiet = self.repeat(entry, &mut tell);
         } else {
-            self.once(event, &mut tell);
+            self.once(entry, &mut tell);
         }
         self.last = Some(Last {
             happening,
@@ -105,8 +105,8 @@ impl Audited {
     }
 
     // Makes an entry once.
-    fn once(&mut self, event: &Event, tell: &mut impl FnMut(&Findings, u64)) {
-        let findings = self.auditor.step(event);
+    fn once(&mut self, entry: &Entry, tell: &mut impl FnMut(&Findings, u64)) {
+        let findings = self.auditor.step(entry);
         if findings.iter().any(Option::is_some) {
             tell(&findings, 1);
         }
@@ -114,11 +114,11 @@ impl Audited {
 
     // Makes an entry so many times, up to one that changes nothing: there the findings are those of
     // all that are left. Returns whether there were none, and there would be none later.
-    fn repeat(&mut self, event: &Event, tell: &mut impl FnMut(&Findings, u64)) -> bool {
-        let mut left = event.times;
+    fn repeat(&mut self, entry: &Entry, tell: &mut impl FnMut(&Findings, u64)) -> bool {
+        let mut left = entry.times;
         while left > 0 {
             let before = self.auditor;
-            let findings = self.auditor.step(event);
+            let findings = self.auditor.step(entry);
             let is_settled = self.auditor == before;
             let is_silent = findings.iter().all(Option::is_none);
             let count = if is_settled { left } else { 1 };
@@ -133,6 +133,16 @@ impl Audited {
             }
         }
         false
+    }
+
+    /// Returns whether a finding at an entry that follows may be about a line up to this one.
+    pub fn may_name_up_to(&self, line: u64) -> bool {
+        let unserved = self.auditor.unserved.map(|identified| identified.line);
+        let up = self.auditor.up.map(|mark| mark.line);
+        [unserved, up]
+            .into_iter()
+            .flatten()
+            .any(|named| named <= line)
     }
 
     /// Returns the findings after the last entry.
@@ -150,17 +160,17 @@ struct Judges {
 
 impl Judges {
     // Tells what the auditor finds that is for this judge. Returns whether that was something.
-    fn audit(&mut self, event: &Event, found: &mut Vec<Found>) -> bool {
+    fn audit(&mut self, entry: &Entry, found: &mut Vec<Found>) -> bool {
         let judge = self.judge;
         let before = found.len();
-        self.audited.step(event, |findings, times| {
+        self.audited.step(entry, |findings, times| {
             for &finding in findings.iter().flatten() {
                 let is_of_chip = finding.severity() == Severity::Answer;
                 if is_of_chip != (judge == Judge::Replay) {
                     continue;
                 }
                 let kind = Kind::Finding(finding);
-                let line = kind.line().unwrap_or(event.line);
+                let line = kind.line().unwrap_or(entry.line);
                 // Equal reads in turn have one finding, with how often.
                 match found.last_mut() {
                     Some(last) if last.kind == kind && last.line == line => last.times += times,
@@ -171,39 +181,46 @@ impl Judges {
         found.len() > before
     }
 
-    fn differences(&mut self, event: &Event, found: &mut Vec<Found>) {
-        match event.happening {
+    // Follows an access, and tells what the chip could not have returned.
+    fn differences(&mut self, entry: &Entry, found: &mut Vec<Found>) {
+        match entry.happening {
             Happening::Access(Access::Read(offset, answer)) => {
-                let reported = self.replayer.reads(offset, answer, event.times);
-                let others = event.times.saturating_sub(1);
-                let stretches = if reported.first == reported.others {
-                    [(reported.first, event.times), (None, 0)]
-                } else {
-                    [
-                        (reported.first, event.times.min(1)),
-                        (reported.others, others),
-                    ]
-                };
-                for (difference, times) in stretches {
-                    if let (Some(difference), 1..) = (difference, times) {
-                        let kind = Kind::Difference(difference);
-                        let line = event.line;
-                        found.push(Found { line, kind, times });
-                    }
-                }
+                self.read(offset, answer, entry, found);
             }
             Happening::Access(Access::Write(offset, value)) => self.replayer.write(offset, value),
             _ => {}
         }
     }
 
+    fn read(&mut self, offset: usize, answer: u8, entry: &Entry, found: &mut Vec<Found>) {
+        let (line, times) = (entry.line, entry.times);
+        let mut tell = |difference: Option<Difference>, times| {
+            if let (Some(difference), 1..) = (difference, times) {
+                let kind = Kind::Difference(difference);
+                found.push(Found { line, kind, times });
+            }
+        };
+        // Most reads are not repeated.
+        if times == 1 {
+            tell(self.replayer.read(offset, answer), 1);
+            return;
+        }
+        let reported = self.replayer.reads(offset, answer, times);
+        if reported.first == reported.others {
+            tell(reported.first, times);
+        } else {
+            tell(reported.first, times.min(1));
+            tell(reported.others, times.saturating_sub(1));
+        }
+    }
+
     // Returns what is found at an entry. What the recording contradicts says more than that the
     // chip never returns it, so that comes first, and alone.
-    fn step(&mut self, event: &Event, found: &mut Vec<Found>) {
-        let is_contradicted = self.audit(event, found);
+    fn step(&mut self, entry: &Entry, found: &mut Vec<Found>) {
+        let is_contradicted = self.audit(entry, found);
         if self.judge == Judge::Replay {
             let before = found.len();
-            self.differences(event, found);
+            self.differences(entry, found);
             if is_contradicted {
                 found.truncate(before);
             }
@@ -231,8 +248,8 @@ pub fn judge_recording(
     let mut found = Vec::new();
     // More than are found at an entry.
     found.try_reserve(64).map_err(|_| Stop::OutOfMemory)?;
-    while let Some(event) = recording.next_event()? {
-        judges.step(&event, &mut found);
+    while let Some(entry) = recording.next_entry()? {
+        judges.step(&entry, &mut found);
         for found in found.drain(..) {
             tell(&found).map_err(Stop::Output)?;
         }

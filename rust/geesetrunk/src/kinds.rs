@@ -269,7 +269,7 @@ fn write_interrupt(finding: &Finding, f: &mut fmt::Formatter<'_>) -> fmt::Result
             service_text(identified.interrupt)
         ),
         _ => f.write_str(
-            "the interrupt line was up after this, and nothing was accessed for 10 ms until a byte \
+            "the interrupt line was up after this, and nothing was accessed for a second until a byte \
              arrived: a controller that waits for an edge gets none, and the port is dead. Serve \
              interrupts until ISR bit 0 is set",
         ),

@@ -18,6 +18,7 @@ pub mod history;
 pub mod json;
 pub mod judging;
 pub mod kinds;
+pub mod link;
 pub mod moments;
 pub mod observing;
 pub mod picture;

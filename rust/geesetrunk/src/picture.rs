@@ -1,5 +1,9 @@
 //! Timelines as SVG pictures.
 
+mod of_link;
+
+pub use of_link::{DrawnEnd, picture_of_link};
+
 use crate::boxes::{self, COLUMN, LETTER, STYLE, cut, escaped, letters_in, rectangle};
 use crate::end::End;
 use crate::history::{History, ToldCall};
@@ -295,20 +299,24 @@ impl Drawing<'_> {
         text
     }
 
+    // Returns a row of some moments at this height, and how high it is.
+    fn row(&self, lane: Lane, cells: &[Cell], y: usize) -> (String, usize) {
+        let head = self.head(lane);
+        let content = match lane {
+            Lane::Call => self.calls(cells),
+            _ => self.lane(lane, cells),
+        };
+        let text = format!("<g transform=\"translate({LEFT},{y})\">\n{head}{content}</g>\n");
+        (text, lane.height())
+    }
+
     // Returns the rows of some moments that are not empty, and how high they are together.
     fn band(&self, cells: &[Cell]) -> (String, usize) {
         let (mut text, mut y) = (String::new(), 0);
         for lane in LANES.into_iter().filter(|lane| lane.is_shown(cells)) {
-            let head = self.head(lane);
-            let content = match lane {
-                Lane::Call => self.calls(cells),
-                _ => self.lane(lane, cells),
-            };
-            let _ = write!(
-                text,
-                "<g transform=\"translate({LEFT},{y})\">\n{head}{content}</g>\n"
-            );
-            y += lane.height();
+            let (row, height) = self.row(lane, cells, y);
+            text += &row;
+            y += height;
         }
         (text, y)
     }

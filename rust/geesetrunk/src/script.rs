@@ -31,8 +31,9 @@ pub enum Task {
     Timeline(Form),
 }
 
-// Returns the title of a timeline: the file by its name, without the folders that it lies in.
-fn title(file: &str, script: &Script) -> String {
+/// Returns the title of a timeline: the file by its name, without the folders that it lies in, and the
+/// chip of its script.
+pub fn title(file: &str, script: &Script) -> String {
     let name = file_name(file);
     let chip = match script.chip() {
         Chip::Uart16550A => "16550A",

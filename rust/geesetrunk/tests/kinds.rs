@@ -4,6 +4,7 @@
 mod common;
 
 use common::{EXAMPLES, examples};
+use geesetrunk::excerpt::{Excerpt, Form, USUAL_EVENTS, timeline_of};
 use geesetrunk::judging::{Found, Judge, judge_recording};
 use std::collections::BTreeSet;
 use std::fs;
@@ -25,7 +26,10 @@ fn faults(recording: &[u8]) -> Vec<(u64, &'static str)> {
 }
 
 fn recordings_of_kinds() -> Vec<PathBuf> {
-    let folder = Path::new(EXAMPLES).join("recordings/kinds");
+    recordings_of(&Path::new(EXAMPLES).join("recordings/kinds"))
+}
+
+fn recordings_of(folder: &Path) -> Vec<PathBuf> {
     let mut paths: Vec<_> = fs::read_dir(folder)
         .unwrap()
         .map(|entry| entry.unwrap().path())
@@ -43,6 +47,39 @@ fn each_kind_is_found_alone() {
             .map(|(_, name)| name)
             .collect();
         assert_eq!(names, BTreeSet::from([name]), "{}", path.display());
+    }
+}
+
+// Also a warning that is found later is shown at the line that it is about.
+#[test]
+fn a_timeline_up_to_a_warning_shows_it() {
+    for path in recordings_of_kinds() {
+        let recording = fs::read(&path).unwrap();
+        let mut warnings = Vec::new();
+        let tell = |found: &Found| {
+            if found.kind.severity() == "warning" {
+                warnings.push((found.line, found.kind.to_string()));
+            }
+            Ok(())
+        };
+        judge_recording(Judge::Audit, &recording[..], tell).unwrap();
+        for (line, text) in warnings {
+            let excerpt = Excerpt {
+                form: Form::Table,
+                file: "-",
+                line: Some(line),
+                most: USUAL_EVENTS,
+            };
+            let table = timeline_of(&excerpt, &recording[..]).unwrap();
+            let place = format!("{}, line {line}:\n{table}", path.display());
+            let marked = table.lines().find(|row| {
+                let is_at_line = row.split_whitespace().next() == Some(&line.to_string());
+                is_at_line && row.ends_with("  warning")
+            });
+            assert!(marked.is_some(), "{place}");
+            let text = format!("line {line}: {text}");
+            assert!(table.lines().any(|row| row == text), "{place}");
+        }
     }
 }
 
@@ -86,6 +123,36 @@ fn no_cut_makes_a_fault() {
     }
 }
 
+// What Linux's own driver does to its ports, cut at random at either end. CUTS may say how many cuts
+// each recording has.
+#[test]
+fn no_cut_of_linux_makes_a_fault() {
+    let folder = Path::new(EXAMPLES).join("recordings/linux");
+    let cuts = std::env::var("CUTS").map_or(25, |cuts| cuts.parse().unwrap());
+    let mut state = 1u64;
+    let mut random = |most: usize| {
+        state = state
+            .wrapping_mul(6364136223846793005)
+            .wrapping_add(1442695040888963407);
+        (state >> 33) as usize % (most + 1)
+    };
+    let mut pieces = 0;
+    for path in recordings_of(&folder) {
+        let text = fs::read(&path).unwrap();
+        let lines: Vec<_> = text.split_inclusive(|&byte| byte == b'\n').collect();
+        assert_eq!(faults(&text), [], "{}", path.display());
+        for _ in 0..cuts {
+            let cut = random(lines.len());
+            let (front, back) = lines.split_at(cut);
+            let name = path.display();
+            assert_eq!(faults(&front.concat()), [], "{name} up to line {cut}");
+            assert_eq!(faults(&back.concat()), [], "{name} from line {}", cut + 1);
+            pieces += 2;
+        }
+    }
+    println!("{pieces} pieces");
+}
+
 // What right drivers do, and a judge that asks for more would blame.
 #[test]
 fn right_drivers() {
@@ -114,5 +181,48 @@ fn right_drivers() {
         "r 5 60\na 04 41\nr 5 65\nr 0 41\nr 5 60\n",
     ] {
         assert_eq!(faults(recording.as_bytes()), [], "{recording}");
+    }
+}
+
+// What Linux's own driver does on an emulated PC, and a judge that asks for more would blame.
+#[test]
+fn linux_is_not_blamed() {
+    for (what, recording) in [
+        (
+            "the processor stands still for 20 ms in the middle of a handler, and goes on",
+            "w 3 13 0 @0\nw 2 81 0 @1000\nw 4 0b 0 @2000\nr 5 60 0 @3000\n\
+             w 1 07 1 @95885466000\na 00 31 1 @95891701000\nr 2 cc 1 @95901464000\n\
+             r 5 61 1 @95901470000\nr 0 31 1 @95901512000\nr 5 60 1 @95901563000\n\
+             a 00 20 1 @95901753000\na 00 35 1 @95921428000\nr 6 b0 1 @95921580000\n\
+             w 0 73 1 @95921601000\nw 1 05 1 @95921737000\nr 2 cc 1 @95921750000\n\
+             r 5 61 1 @95921753000\nr 0 20 0 @95921769000\nr 5 61 0 @95921776000\n\
+             r 0 35 0 @95921780000\nr 5 60 0 @95921782000\nr 6 b0 0 @95921787000\n\
+             r 2 c1 0 @95921790000\n",
+        ),
+        (
+            "a byte comes while the port is closed, and its opening empties the receiver",
+            "w 3 13\nw 2 81\nw 4 0b\nr 5 60\nw 0 41\nr 5 60\nw 1 00\nw 4 03\nw 3 13\nw 2 01\n\
+             w 2 07\nw 2 00\nr 0 00\na 00 6c\nw 2 01\nw 2 07\nw 2 00\nr 5 60\nr 0 6c\nw 1 05\n",
+        ),
+        (
+            "the console is polled before the port is opened, and IER has modem status alone",
+            "w 3 13\nw 2 00\nw 4 03\nr 5 60\nw 1 08\nr 5 60\nw 0 5b\n",
+        ),
+        (
+            "the receiver is emptied while the port is resumed, and IER has modem status alone",
+            "w 3 13\nw 2 81\nw 4 00\nw 1 08\nw 2 01\nw 2 07\nw 2 00\nr 5 60\nr 0 00\nw 1 00\n",
+        ),
+        (
+            "a burst in loopback is held up: what it sends is read back behind it",
+            "w 3 13 0 @0\nw 2 81 0 @1000\nw 4 1b 0 @2000\nr 5 60 0 @3000\nw 1 07 1 @4000\n\
+             r 2 c2 0 @5000\nr 5 60 0 @6000\nw 0 6c 0 @7000\nw 0 6c 0 @8000\ni 1 @90000000\n\
+             w 0 6c 1 @90000500\nr 2 cc 1 @90001000\nr 5 61 1 @90002000\nr 0 6c 0 @90003000\n",
+        ),
+        (
+            "CTS is off on a port without flow control: each handler reads MSR",
+            "w 3 13\nw 2 81\nw 4 0b\nr 5 60\nr 6 b0\nw 1 07\nr 2 c2\nr 5 60\nr 6 a1\nw 0 41\n",
+        ),
+    ] {
+        assert_eq!(faults(recording.as_bytes()), [], "{what}");
     }
 }

@@ -2,7 +2,7 @@
 
 use geesetrunk::judging::Audited;
 use geesetrunk::kinds::Kind;
-use uart_judges::recording::{Event, Happening};
+use uart_judges::recording::{Entry, Happening};
 use uart_live::{Chip, LiveChip, WIRE_ROOM};
 use uart_spec::access::Access;
 use uart_spec::registers::LSR;
@@ -41,7 +41,7 @@ impl Slow {
 
     // Returns the names of the warnings at an access.
     fn judged(&mut self, access: Access) -> Vec<&'static str> {
-        let event = Event {
+        let entry = Entry {
             happening: Happening::Access(access),
             times: 1,
             line: 1,
@@ -49,7 +49,7 @@ impl Slow {
             interrupt: None,
         };
         let mut names = Vec::new();
-        self.audited.step(&event, |findings, _| {
+        self.audited.step(&entry, |findings, _| {
             let kinds = findings
                 .iter()
                 .flatten()

@@ -3,7 +3,7 @@
 use geesetrunk::heap;
 use geesetrunk::judging::Audited;
 use uart_judges::audit::{Finding, Severity};
-use uart_judges::recording::{Event, Happening};
+use uart_judges::recording::{Entry, Happening};
 use uart_spec::access::Access;
 use uart_trace::{Listener, tell};
 
@@ -20,7 +20,7 @@ impl Listener for Judged {
 
     fn hear(&mut self, access: Access) {
         self.accesses += 1;
-        let event = Event {
+        let event = Entry {
             happening: Happening::Access(access),
             times: 1,
             line: self.accesses,

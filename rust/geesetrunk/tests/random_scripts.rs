@@ -126,13 +126,17 @@ fn frame(random: &mut Random) -> String {
 
 // A call that changes a port otherwise than by its frame.
 fn change(random: &mut Random) -> String {
-    match random.below(4) {
+    match random.below(5) {
         0 => {
             let call = random.pick(&["set-break", "set-rts", "set-dtr"]);
             format!("{call} {}", random.pick(&["on", "off"]))
         }
         1 => format!("set-modem-control {:02x}", random.below(256)),
         2 => format!("set-trigger-level {}", random.pick(&["1", "4", "8", "14"])),
+        3 => format!(
+            "check-configured {}",
+            random.pick(&["0b", "1b", "00", "08"])
+        ),
         _ => {
             let fifos = random.pick(&["keep", "reset", "disable"]);
             format!("quiesce {:02x} {fifos}", random.below(256))
@@ -142,7 +146,9 @@ fn change(random: &mut Random) -> String {
 
 // The registers of a dump.
 fn registers(random: &mut Random) -> String {
-    (0..9).map(|_| format!("{:02x}", random.below(256))).collect()
+    (0..9)
+        .map(|_| format!("{:02x}", random.below(256)))
+        .collect()
 }
 
 fn line(random: &mut Random) -> String {

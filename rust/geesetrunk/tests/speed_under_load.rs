@@ -78,7 +78,10 @@ impl Told {
             return;
         }
         let answer = answers.next().expect("each call has an answer");
-        let (outcome, value) = answer.as_ref().split_once(' ').unwrap_or((answer.as_ref(), ""));
+        let (outcome, value) = answer
+            .as_ref()
+            .split_once(' ')
+            .unwrap_or((answer.as_ref(), ""));
         match (word, outcome) {
             ("receive", _) => self.received.extend(bytes_of(value)),
             ("send", _) | ("send-exact", "stalled") => {

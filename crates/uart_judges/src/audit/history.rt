@@ -13,7 +13,7 @@ use uart_chip::receiving::characters_of;
 use uart_spec::registers::{FCR, IER, ISR, InterruptType, LCR, LSR, MSR};
 
 // Returns whether something happened, and since then nothing that resets it.
-fn since(before: bool, resets: bool, happens: bool) -> bool
+pub(crate) fn since(before: bool, resets: bool, happens: bool) -> bool
     ensures { result ≡ spec.next_since before resets happens }
 {
     if happens {
@@ -23,7 +23,7 @@ fn since(before: bool, resets: bool, happens: bool) -> bool
 }
 
 // Returns how often something happened since something that resets the count.
-fn count(before: u64, resets: bool, happens: bool) -> u64
+pub(crate) fn count(before: u64, resets: bool, happens: bool) -> u64
     ensures { result ≡ spec.next_count before resets happens }
 {
     let left = if resets { 0 } else { before };
@@ -108,7 +108,7 @@ fn waiting_after_arrival(waiting: u8, setup: Setup) -> u8
 }
 
 // Returns how many received bytes are known to wait.
-fn waiting_after(waiting: u8, step: Step) -> u8
+pub(crate) fn waiting_after(waiting: u8, step: Step) -> u8
     ensures { result ≡ spec.next_waiting waiting step }
 {
     match step.action {
@@ -141,7 +141,7 @@ fn ready_after(ready: Option<bool>, step: Step) -> Option<bool>
 }
 
 // Returns whether the driver has begun to send or to receive.
-fn is_at_work_after(is_at_work: bool, waiting: u8, step: Step) -> bool
+pub(crate) fn is_at_work_after(is_at_work: bool, waiting: u8, step: Step) -> bool
     ensures { result ≡ spec.next_at_work is_at_work waiting step }
 {
     let takes = step.action.receives() && waiting > 0;
@@ -195,7 +195,7 @@ fn data_interrupt_after(before: Option<InterruptType>, step: Step) -> Option<Int
     }
 }
 
-fn latch_after(latch: Latch, action: Action) -> Latch
+pub(crate) fn latch_after(latch: Latch, action: Action) -> Latch
     ensures { result ≡ spec.next_latch latch action }
 {
     let (opens, begins) = (action.opens(), action.begins_divisor());
@@ -238,7 +238,7 @@ fn asks(interrupt: Option<InterruptType>, line: u64) -> Option<Identified>
 }
 
 // Returns the interrupt that was identified, and not served.
-fn unserved_after(unserved: Option<Identified>, step: Step) -> Option<Identified>
+pub(crate) fn unserved_after(unserved: Option<Identified>, step: Step) -> Option<Identified>
     ensures { result ≡ spec.next_unserved unserved step }
 {
     if let Action::IdentifiesInterrupt(isr) = step.action {
@@ -257,7 +257,7 @@ fn unserved_after(unserved: Option<Identified>, step: Step) -> Option<Identified
 }
 
 // Returns the latest access after which the line was up.
-fn up_after(before: Option<Mark>, step: Step) -> Option<Mark>
+pub(crate) fn up_after(before: Option<Mark>, step: Step) -> Option<Mark>
     ensures { result ≡ spec.next_up before step }
 {
     let Some(is_up) = step.level else {

@@ -1,9 +1,11 @@
 //! The characters that arrived and were not read, as far as the recording says so.
-ghost use Rattle.std.specs.Prelude.{◌≡◌, ◌==◌};
+ghost use Rattle.std.specs.Prelude.{◌≡◌, ◌==◌, if◌then◌else◌};
 ghost use Rattle.uart_judges.specs.declared.audit.unread.TheConstants.{MOST_UNREAD};
+ghost use Rattle.uart_judges.specs.Steps.{loops_back};
 ghost use Rattle.uart_judges.specs.Unread as spec;
 
 use crate::audit::action::Action;
+use crate::audit::setup::Setup;
 use crate::audit::step::Step;
 use bitflags::Flags;
 use uart_spec::registers::{FCR, LSR};
@@ -133,7 +135,7 @@ impl Unread {
 
     // Returns what waits after LSR was read. A character that waits and did not arrive by the
     // recording shows that it does not have all of them.
-    fn after_look(self, lsr: LSR) -> Self
+    pub(crate) fn after_look(self, lsr: LSR) -> Self
         ensures { result ≡ spec.after_look self lsr }
     {
         if !lsr.contains(LSR::DATA_READY) {
@@ -150,7 +152,7 @@ impl Unread {
 
     // Returns what waits after DATA was read. If the byte is another than the one that arrived,
     // nothing is known of those behind it.
-    fn after_read(self, byte: u8) -> Self
+    pub(crate) fn after_read(self, byte: u8) -> Self
         ensures { result ≡ spec.after_read self byte }
     {
         match self.front() {
@@ -176,6 +178,15 @@ impl Unread {
             return Unread::unknown();
         }
         self
+    }
+
+    // Goes on by a write of DATA. What comes back in loopback is not followed.
+    pub(crate) fn send(&mut self, setup: Setup)
+        ensures { self.new ≡ if loops_back setup.modem then spec.unknown else self.old }
+    {
+        if setup.loops_back() {
+            *self = Unread::unknown();
+        }
     }
 
     // Returns what waits after a step. What comes back in loopback is not followed.

@@ -1,6 +1,6 @@
 //! Why bytes are not a recording.
 ghost use Rattle.std.specs.Prelude.{◌≡◌};
-ghost use Rattle.uart_judges.specs.declared.recording.cause.Fault.TheVariants.{Line};
+ghost use Rattle.uart_judges.specs.declared.recording.cause.RecordingFault.TheVariants.{Line};
 
 use crate::recording::limits::MOST_LINE_BYTES;
 use thiserror::Error;
@@ -8,7 +8,7 @@ use uart_language::Cause;
 
 /// What is wrong with a line of a recording.
 #[derive(Clone, Copy, Debug, PartialEq, Eq, Error)]
-pub enum Fault {
+pub enum RecordingFault {
     /// The line has more than `MOST_LINE_BYTES` bytes.
     #[error("more than {max} bytes in a line", max = MOST_LINE_BYTES)]
     TooLong,
@@ -20,10 +20,10 @@ pub enum Fault {
     Line(Cause),
 }
 
-impl From<Cause> for Fault {
+impl From<Cause> for RecordingFault {
     ghost from_gives = { λ cause fault. fault ≡ Line cause };
 
-    fn from(cause: Cause) -> Fault {
-        Fault::Line(cause)
+    fn from(cause: Cause) -> RecordingFault {
+        RecordingFault::Line(cause)
     }
 }

@@ -2,14 +2,14 @@
 ghost use Rattle.std.specs.Prelude.{◌≡◌, ℕ, ◌<◌, IfOk, bytes_eq};
 ghost use Rattle.std.specs.List.{list_any};
 ghost use Rattle.uart_language.specs.Text.{words_of};
-ghost use Rattle.uart_judges.specs.Events.{IsOfARegister};
-ghost use Rattle.uart_judges.specs.RecordingLines.{HasEvent, access_in, again_in, alone_in, arrival_in, direction_of, event_name};
+ghost use Rattle.uart_judges.specs.Entries.{IsOfARegister};
+ghost use Rattle.uart_judges.specs.RecordingLines.{HasEntry, access_in, again_in, alone_in, arrival_in, direction_of, event_name};
 ghost use Rattle.uart_judges.specs.RecordingLines.{happened_at, has_time, interrupt_in, is_log, key_in, log_access_in, log_fields_in};
 ghost use Rattle.uart_judges.specs.RecordingLines.{log_stamp_in, logged_in, modem_in, of_direction, own_in, said_in, says, stamp_in, word_of};
 ghost use Rattle.uart_spec.specs.declared.baud.TheConstants.{NUM_REGISTERS};
 
-use crate::recording::cause::Fault;
-use crate::recording::event::{Event, Happening};
+use crate::recording::cause::RecordingFault;
+use crate::recording::entry::{Entry, Happening};
 use crate::recording::fields::{
     after, before, bits_in, level_in, log_byte_in, log_offset_in, log_time_in, repeats_in, time_in,
 };
@@ -22,11 +22,11 @@ use uart_spec::registers::{LSR, MSR};
 
 /// The meaning of a line of a recording.
 #[derive(Clone, Copy, Debug, PartialEq, Eq)]
-pub enum Line {
+pub enum RecordingLine {
     /// Nothing: the line is blank, or has another event of QEMU's log.
     Blank,
     /// Something happened.
-    Event(Event),
+    Entry(Entry),
     /// The read before was made so many times more, and returned the same.
     Again(u64),
 }
@@ -62,7 +62,7 @@ impl Direction {
     }
 }
 
-// What a line says of the state after an event: the level of the interrupt line, and the time.
+// What a line says of the state after what happened: the level of the interrupt line, and the time.
 #[derive(Clone, Copy, Debug, PartialEq, Eq)]
 struct Stamp {
     interrupt: Option<bool>,
@@ -135,10 +135,10 @@ fn stamp_in(count: usize, line: &[u8]) -> Result<Stamp, Cause>
 }
 
 // Returns what happened once, at the line with this number.
-fn happened_at(number: u64, happening: Happening, stamp: Stamp) -> Line
+fn happened_at(number: u64, happening: Happening, stamp: Stamp) -> RecordingLine
     ensures { result ≡ happened_at number happening stamp }
 {
-    Line::Event(Event {
+    RecordingLine::Entry(Entry {
         happening,
         times: 1,
         line: number,
@@ -149,9 +149,9 @@ fn happened_at(number: u64, happening: Happening, stamp: Stamp) -> Line
 
 // Returns the access of a line.
 #[tactic(auto, unfolding(crate::specs::RecordingLines::access_in))]
-fn access_in(direction: Direction, number: u64, line: &[u8]) -> Result<Line, Cause>
+fn access_in(direction: Direction, number: u64, line: &[u8]) -> Result<RecordingLine, Cause>
     ensures read { result ≡ access_in direction number (words_of line.now) }
-    ensures event { IfOk result (HasEvent number) }
+    ensures entry { IfOk result (HasEntry number) }
 {
     let stamp = stamp_in(3, line)?;
     let offset = offset_in(word_at(line, 1))?;
@@ -162,21 +162,21 @@ fn access_in(direction: Direction, number: u64, line: &[u8]) -> Result<Line, Cau
 
 // Returns how often the read before is repeated.
 #[tactic(auto, unfolding(crate::specs::RecordingLines::again_in))]
-fn again_in(line: &[u8]) -> Result<Line, Cause>
+fn again_in(line: &[u8]) -> Result<RecordingLine, Cause>
     ensures read { result ≡ again_in (words_of line.now) }
-    ensures event { (number : ℕ) → IfOk result (HasEvent number) }
+    ensures entry { (number : ℕ) → IfOk result (HasEntry number) }
 {
     if word_count(line) != 2 {
         return Err(Cause::WrongCount);
     }
-    Ok(Line::Again(repeats_in(word_at(line, 1))?))
+    Ok(RecordingLine::Again(repeats_in(word_at(line, 1))?))
 }
 
 // Returns the arrival of a line.
 #[tactic(auto, unfolding(crate::specs::RecordingLines::arrival_in))]
-fn arrival_in(number: u64, line: &[u8]) -> Result<Line, Cause>
+fn arrival_in(number: u64, line: &[u8]) -> Result<RecordingLine, Cause>
     ensures read { result ≡ arrival_in number (words_of line.now) }
-    ensures event { IfOk result (HasEvent number) }
+    ensures entry { IfOk result (HasEntry number) }
 {
     let stamp = stamp_in(3, line)?;
     let errors = bits_in(LSR::CHARACTER_ERRORS.bits(), word_at(line, 1))?;
@@ -188,9 +188,9 @@ fn arrival_in(number: u64, line: &[u8]) -> Result<Line, Cause>
 
 // Returns the level of the interrupt line, which changed by itself.
 #[tactic(auto, unfolding(crate::specs::RecordingLines::interrupt_in))]
-fn interrupt_in(number: u64, line: &[u8]) -> Result<Line, Cause>
+fn interrupt_in(number: u64, line: &[u8]) -> Result<RecordingLine, Cause>
     ensures read { result ≡ interrupt_in number (words_of line.now) }
-    ensures event { IfOk result (HasEvent number) }
+    ensures entry { IfOk result (HasEntry number) }
 {
     let stamp = stamp_in(1, line)?;
     match stamp.interrupt {
@@ -201,9 +201,9 @@ fn interrupt_in(number: u64, line: &[u8]) -> Result<Line, Cause>
 
 // Returns the modem inputs of a line.
 #[tactic(auto, unfolding(crate::specs::RecordingLines::modem_in))]
-fn modem_in(number: u64, line: &[u8]) -> Result<Line, Cause>
+fn modem_in(number: u64, line: &[u8]) -> Result<RecordingLine, Cause>
     ensures read { result ≡ modem_in number (words_of line.now) }
-    ensures event { IfOk result (HasEvent number) }
+    ensures entry { IfOk result (HasEntry number) }
 {
     let stamp = stamp_in(2, line)?;
     let inputs = MSR::from_bits_retain(bits_in(MSR::LINES.bits(), word_at(line, 1))?);
@@ -211,9 +211,9 @@ fn modem_in(number: u64, line: &[u8]) -> Result<Line, Cause>
 }
 
 // Returns the meaning of a line of our own.
-fn own_in(key: Option<Key>, number: u64, line: &[u8]) -> Result<Line, Cause>
+fn own_in(key: Option<Key>, number: u64, line: &[u8]) -> Result<RecordingLine, Cause>
     ensures read { result ≡ own_in key number (words_of line.now) }
-    ensures event { IfOk result (HasEvent number) }
+    ensures entry { IfOk result (HasEntry number) }
 {
     match key {
         Some(Key::Read) => access_in(Direction::Read, number, line),
@@ -320,12 +320,12 @@ fn log_access_in(direction: Direction, line: &[u8]) -> Result<Access, Cause>
 
 // Returns the meaning of a line of the log. Other events than accesses mean nothing.
 #[tactic(auto, unfolding(crate::specs::RecordingLines::logged_in))]
-fn logged_in(direction: Option<Direction>, number: u64, line: &[u8]) -> Result<Line, Cause>
+fn logged_in(direction: Option<Direction>, number: u64, line: &[u8]) -> Result<RecordingLine, Cause>
     ensures read { result ≡ logged_in direction number (words_of line.now) }
-    ensures event { IfOk result (HasEvent number) }
+    ensures entry { IfOk result (HasEntry number) }
 {
     let Some(direction) = direction else {
-        return Ok(Line::Blank);
+        return Ok(RecordingLine::Blank);
     };
     let stamp = log_stamp_in(word_at(line, 0))?;
     let access = log_access_in(direction, line)?;
@@ -334,12 +334,12 @@ fn logged_in(direction: Option<Direction>, number: u64, line: &[u8]) -> Result<L
 
 // Returns the meaning of a line without its remark.
 #[tactic(auto, unfolding(crate::specs::RecordingLines::said_in))]
-fn said_in(number: u64, line: &[u8]) -> Result<Line, Cause>
+fn said_in(number: u64, line: &[u8]) -> Result<RecordingLine, Cause>
     ensures read { result ≡ said_in number line.now }
-    ensures event { IfOk result (HasEvent number) }
+    ensures entry { IfOk result (HasEntry number) }
 {
     if line.is_empty() {
-        return Ok(Line::Blank);
+        return Ok(RecordingLine::Blank);
     }
     let first = word_at(line, 0);
     if is_log(first) {
@@ -356,12 +356,12 @@ fn said_in(number: u64, line: &[u8]) -> Result<Line, Cause>
 /// # Errors
 ///
 /// What is wrong with the line.
-pub fn line_in(number: u64, line: &[u8]) -> Result<Line, Fault>
+pub fn line_in(number: u64, line: &[u8]) -> Result<RecordingLine, RecordingFault>
     ensures read { result ≡ says number line.now }
-    ensures event { IfOk result (HasEvent number) }
+    ensures entry { IfOk result (HasEntry number) }
 {
     if line.len() > MOST_LINE_BYTES {
-        return Err(Fault::TooLong);
+        return Err(RecordingFault::TooLong);
     }
     Ok(said_in(number, before_remark(line))?)
 }

@@ -2,9 +2,9 @@
 ghost use Rattle.std.specs.Prelude.{◌≡◌, ◌<◌, ◌+◌};
 ghost use Rattle.uart_judges.specs.Places.{IsLineRead, repeated};
 
-use crate::recording::cause::Fault;
-use crate::recording::event::{Event, Happening};
-use crate::recording::lines::{Line, line_in};
+use crate::recording::cause::RecordingFault;
+use crate::recording::entry::{Entry, Happening};
+use crate::recording::lines::{RecordingLine, line_in};
 use uart_spec::access::Access;
 
 /// How far a recording is read.
@@ -13,21 +13,21 @@ pub struct Place {
     /// The number of lines that were read.
     pub number: u64,
     /// What happened last.
-    pub last: Option<Event>,
+    pub last: Option<Entry>,
 }
 
 // Returns a read so many times more, at the line with this number, or `None` if what happened is no
 // read. A repeat says nothing about time and level.
-fn repeated(event: Event, line: u64, times: u64) -> Option<Event>
-    ensures { result ≡ repeated event line times }
+fn repeated(entry: Entry, line: u64, times: u64) -> Option<Entry>
+    ensures { result ≡ repeated entry line times }
 {
-    match event.happening {
-        Happening::Access(Access::Read(_, _)) => Some(Event {
+    match entry.happening {
+        Happening::Access(Access::Read(_, _)) => Some(Entry {
             times,
             line,
             time: None,
             interrupt: None,
-            ..event
+            ..entry
         }),
         _ => None,
     }
@@ -50,24 +50,24 @@ impl Place {
     /// # Errors
     ///
     /// What is wrong with the line. It is counted.
-    pub fn read(&mut self, line: &[u8]) -> Result<Option<Event>, Fault>
+    pub fn read(&mut self, line: &[u8]) -> Result<Option<Entry>, RecordingFault>
         requires { self.old.number < u64.MAX }
         ensures read { IsLineRead self.old line.now result self.new }
         ensures counted { self.new.number ≡ self.old.number + 1 }
     {
         self.number += 1;
         match line_in(self.number, line)? {
-            Line::Blank => Ok(None),
-            Line::Event(event) => {
-                self.last = Some(event);
-                Ok(Some(event))
+            RecordingLine::Blank => Ok(None),
+            RecordingLine::Entry(entry) => {
+                self.last = Some(entry);
+                Ok(Some(entry))
             }
-            Line::Again(times) => {
+            RecordingLine::Again(times) => {
                 let number = self.number;
-                let again = self.last.and_then(|event| repeated(event, number, times));
-                let event = again.ok_or(Fault::NoReadBefore)?;
-                self.last = Some(event);
-                Ok(Some(event))
+                let again = self.last.and_then(|entry| repeated(entry, number, times));
+                let entry = again.ok_or(RecordingFault::NoReadBefore)?;
+                self.last = Some(entry);
+                Ok(Some(entry))
             }
         }
     }

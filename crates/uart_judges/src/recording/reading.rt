@@ -2,8 +2,8 @@
 ghost use Rattle.std.specs.Prelude.{◌≡◌, ◌==◌, ◌≤◌, [], IfErr, IfOk};
 ghost use Rattle.std.specs.List.{position};
 
-use crate::recording::cause::Fault;
-use crate::recording::event::Event;
+use crate::recording::cause::RecordingFault;
+use crate::recording::entry::Entry;
 use crate::recording::place::Place;
 use crate::recording::window::{WINDOW_BYTES, Window};
 use std::alloc::{AllocError, Global};
@@ -20,7 +20,7 @@ pub enum RecordingError {
         /// The number of the line.
         line: u64,
         /// What is wrong with it.
-        fault: Fault,
+        fault: RecordingFault,
     },
     /// The reader failed.
     #[error("{0}")]
@@ -33,8 +33,8 @@ pub enum RecordingError {
 ///
 /// ```
 /// let mut recording = Recording::new(alloc, reader)?;
-/// while let Some(event) = recording.next_event()? {
-///     judge.step(&event);
+/// while let Some(entry) = recording.next_entry()? {
+///     judge.step(&entry);
 /// }
 /// ```
 #[derive(Drop)]
@@ -114,14 +114,14 @@ impl<R: Read + Drop> Recording<R> {
         Err(io::Error::from(ErrorKind::Interrupted))
     }
 
-    /// Returns the next event, or `None` at the end. A line that repeats a read is one event.
+    /// Returns the next entry, or `None` at the end. A line that repeats a read is one entry.
     ///
     /// # Errors
     ///
     /// - `Faulty` with the number of the first line that is no line of a recording, and what is
     /// wrong with it.
     /// - `Unread` if the reader failed.
-    pub fn next_event(&mut self) -> Result<Option<Event>, RecordingError>
+    pub fn next_entry(&mut self) -> Result<Option<Entry>, RecordingError>
         ensures next { IsNext self.old.place (ahead self.old.window (R.remaining self.old.reader))
             result self.new.place (ahead self.new.window (R.remaining self.new.reader)) }
         ensures line { IfErr result (IsAtLine self.new.place.number) }
@@ -134,7 +134,7 @@ impl<R: Read + Drop> Recording<R> {
             let found = self.place.read(&self.window.as_slice()[..length]);
             self.window.consume(length + 1);
             match found {
-                Ok(Some(event)) => return Ok(Some(event)),
+                Ok(Some(entry)) => return Ok(Some(entry)),
                 Ok(None) => {}
                 Err(fault) => {
                     return Err(RecordingError::Faulty {

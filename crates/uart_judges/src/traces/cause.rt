@@ -1,6 +1,6 @@
 //! Why bytes are not a trace.
 ghost use Rattle.std.specs.Prelude.{◌≡◌};
-ghost use Rattle.uart_judges.specs.declared.traces.cause.Fault.TheVariants.{Line};
+ghost use Rattle.uart_judges.specs.declared.traces.cause.TraceFault.TheVariants.{Line};
 ghost use Rattle.uart_judges.specs.declared.traces.cause.TraceError.TheVariants.{OutOfMemory};
 
 use std::alloc::{AllocError, AllocFailed};
@@ -9,7 +9,7 @@ use uart_language::Cause;
 
 /// What is wrong with a line of a trace.
 #[derive(Clone, Copy, Debug, PartialEq, Eq, Error)]
-pub enum Fault {
+pub enum TraceFault {
     /// The line has no form that a line of a trace has.
     #[error("{}", .0.text())]
     Line(Cause),
@@ -33,18 +33,18 @@ pub enum TraceError {
         /// The number of the line.
         line: usize,
         /// What is wrong with it.
-        fault: Fault,
+        fault: TraceFault,
     },
     /// Memory for the trace could not be allocated.
     #[error("out of memory")]
     OutOfMemory,
 }
 
-impl From<Cause> for Fault {
+impl From<Cause> for TraceFault {
     ghost from_gives = { λ cause fault. fault ≡ Line cause };
 
-    fn from(cause: Cause) -> Fault {
-        Fault::Line(cause)
+    fn from(cause: Cause) -> TraceFault {
+        TraceFault::Line(cause)
     }
 }
 

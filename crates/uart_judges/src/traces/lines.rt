@@ -10,7 +10,7 @@ ghost use Rattle.uart_judges.specs.TraceLines.{called_as, fresh_in, is_remark};
 ghost use Rattle.uart_judges.specs.TraceLines.{offset_in, said_by, said_in};
 ghost use Rattle.uart_judges.specs.TraceLines.{saying_of, says, without_end};
 
-use crate::traces::cause::Fault;
+use crate::traces::cause::TraceFault;
 use uart_calls::Call;
 use uart_language::{Cause, Item, byte_in, has_bad_byte, item_at, word_at, word_count};
 use uart_spec::access::Access;
@@ -20,7 +20,7 @@ const AFTER_THE_HEAD: u32 = 3;
 
 /// The meaning of a line of a trace.
 #[derive(Drop)]
-pub enum Line<'a> {
+pub enum TraceLine<'a> {
     /// A blank line, which means nothing.
     Blank,
     /// The driver is new from here on.
@@ -89,41 +89,41 @@ fn access_in(line: &[u8]) -> Result<(usize, u8), Cause>
 }
 
 // Returns the driver's call of a line, as in a script.
-fn call_in(line: &[u8]) -> Result<Line<'_>, Fault>
+fn call_in(line: &[u8]) -> Result<TraceLine<'_>, TraceFault>
     ensures read { seen saying_of result ≡ called_as (item_at AFTER_THE_HEAD line.now) }
     ensures runs { IfOk result CanRun }
 {
     match item_at(AFTER_THE_HEAD, line)? {
-        Item::Call(call) => Ok(Line::Call(call)),
-        Item::Blank | Item::Limit(_) | Item::Event(_) | Item::Next => Err(Fault::NoDriverCall),
+        Item::Call(call) => Ok(TraceLine::Call(call)),
+        Item::Blank | Item::Limit(_) | Item::Event(_) | Item::Next => Err(TraceFault::NoDriverCall),
     }
 }
 
 // Returns the meaning of `fresh`, which is a line of its own.
-fn fresh_in(line: &[u8]) -> Result<Line<'_>, Fault>
+fn fresh_in(line: &[u8]) -> Result<TraceLine<'_>, TraceFault>
     ensures read { seen saying_of result ≡ fresh_in line.now }
     ensures runs { IfOk result CanRun }
 {
     if word_count(line) == 1 {
-        Ok(Line::Fresh)
+        Ok(TraceLine::Fresh)
     } else {
-        Err(Fault::Line(Cause::WrongCount))
+        Err(TraceFault::Line(Cause::WrongCount))
     }
 }
 
 // Returns the answer of a line, which follows `= `.
-fn answer_in(line: &[u8]) -> Result<Line<'_>, Fault>
+fn answer_in(line: &[u8]) -> Result<TraceLine<'_>, TraceFault>
     ensures read { seen saying_of result ≡ answer_in line.now }
     ensures runs { IfOk result CanRun }
 {
     match line {
-        [_, _, answer @ ..] => Ok(Line::Answer(answer)),
-        _ => Err(Fault::Line(Cause::WrongCount)),
+        [_, _, answer @ ..] => Ok(TraceLine::Answer(answer)),
+        _ => Err(TraceFault::Line(Cause::WrongCount)),
     }
 }
 
 // Returns the meaning of a line that begins with this word.
-fn line_by<'a>(word: &[u8], line: &'a [u8]) -> Result<Line<'a>, Fault>
+fn line_by<'a>(word: &[u8], line: &'a [u8]) -> Result<TraceLine<'a>, TraceFault>
     ensures read { seen saying_of result ≡ said_by word.now line.now }
     ensures runs { IfOk result CanRun }
 {
@@ -132,11 +132,11 @@ fn line_by<'a>(word: &[u8], line: &'a [u8]) -> Result<Line<'a>, Fault>
         b"=" => answer_in(line),
         b"r" => {
             let (offset, answer) = access_in(line)?;
-            Ok(Line::Access(Access::Read(offset, answer)))
+            Ok(TraceLine::Access(Access::Read(offset, answer)))
         }
         b"w" => {
             let (offset, value) = access_in(line)?;
-            Ok(Line::Access(Access::Write(offset, value)))
+            Ok(TraceLine::Access(Access::Write(offset, value)))
         }
         _ => call_in(line),
     }
@@ -144,22 +144,22 @@ fn line_by<'a>(word: &[u8], line: &'a [u8]) -> Result<Line<'a>, Fault>
 
 // Returns the meaning of a line without its remark.
 #[tactic(auto, unfolding(crate::specs::TraceLines::said_in))]
-fn plain_line(line: &[u8]) -> Result<Line<'_>, Fault>
+fn plain_line(line: &[u8]) -> Result<TraceLine<'_>, TraceFault>
     ensures read { seen saying_of result ≡ said_in line.now }
     ensures runs { IfOk result CanRun }
 {
     if has_bad_byte(line) {
-        return Err(Fault::Line(Cause::BadByte));
+        return Err(TraceFault::Line(Cause::BadByte));
     }
     if line.is_empty() {
-        return Ok(Line::Blank);
+        return Ok(TraceLine::Blank);
     }
     line_by(word_at(line, 0), line)
 }
 
 /// Returns the meaning of a line. A remark, from `#` on, means nothing. A call that is returned can
 /// be run.
-pub fn line_in(line: &[u8]) -> Result<Line<'_>, Fault>
+pub fn line_in(line: &[u8]) -> Result<TraceLine<'_>, TraceFault>
     ensures read { seen saying_of result ≡ says line.now }
     ensures runs { IfOk result CanRun }
 {

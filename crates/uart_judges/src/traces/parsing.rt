@@ -9,21 +9,21 @@ ghost use Rattle.uart_judges.specs.Reading.{ReadsLine, Refuses, RefusesLine};
 ghost use Rattle.uart_judges.specs.Reading.{fault_of, first_fault};
 ghost use Rattle.uart_judges.specs.declared.traces.exchange.Exchange.{Exchange};
 
-use crate::traces::cause::{Fault, TraceError};
+use crate::traces::cause::{TraceError, TraceFault};
 use crate::traces::exchange::Exchange;
-use crate::traces::lines::{Line, line_in};
+use crate::traces::lines::{TraceLine, line_in};
 use std::alloc::Global;
 use uart_calls::Call;
 use uart_language::first_line;
 
-fn fault(line: usize, fault: Fault) -> TraceError
+fn fault(line: usize, fault: TraceFault) -> TraceError
     ensures { result ≡ TraceError.NoTrace line fault }
 {
     TraceError::NoTrace { line, fault }
 }
 
 // Returns the meaning of the first of some lines, which has this number, and the bytes after it.
-fn next_line(number: usize, bytes: &[u8]) -> Result<(Line<'_>, &[u8]), TraceError>
+fn next_line(number: usize, bytes: &[u8]) -> Result<(TraceLine<'_>, &[u8]), TraceError>
     requires { 0 < length bytes.now }
     ensures read { MatchResult result
         (λ x. ReadsLine (lines_of bytes.now) (saying_of x.0) (lines_of x.1.now))
@@ -56,7 +56,7 @@ fn read_exchange(
         call_line + length bytes.now) }
     ensures later { IfOk result (λ x. call_line < x.0.answer_line) }
 {
-    let unanswered = fault(call_line, Fault::NoAnswer);
+    let unanswered = fault(call_line, TraceFault::NoAnswer);
     let mut accesses = Vec::new(alloc);
     let mut access_lines = Vec::new(alloc);
     let mut number = call_line;
@@ -66,12 +66,12 @@ fn read_exchange(
         let (line, left) = next_line(number, rest)?;
         rest = left;
         match line {
-            Line::Blank => {}
-            Line::Access(access) => {
+            TraceLine::Blank => {}
+            TraceLine::Access(access) => {
                 accesses.push(access)?;
                 access_lines.push(number)?;
             }
-            Line::Answer(text) => {
+            TraceLine::Answer(text) => {
                 let exchange = Exchange {
                     is_first,
                     call,
@@ -82,8 +82,8 @@ fn read_exchange(
                 };
                 return Ok((exchange, left));
             }
-            Line::Fresh => return Err(unanswered),
-            Line::Call(_) => return Err(unanswered),
+            TraceLine::Fresh => return Err(unanswered),
+            TraceLine::Call(_) => return Err(unanswered),
         }
     }
     Err(unanswered)
@@ -99,21 +99,21 @@ fn read_trace(alloc: Global, bytes: &[u8]) -> Result<Vec<Exchange>, TraceError>
     let mut rest = bytes;
     while !rest.is_empty() {
         number += 1;
-        let misplaced = fault(number, Fault::NoCallBefore);
+        let misplaced = fault(number, TraceFault::NoCallBefore);
         let (line, left) = next_line(number, rest)?;
         rest = left;
         match line {
-            Line::Blank => {}
-            Line::Fresh => is_first = true,
-            Line::Call(call) => {
+            TraceLine::Blank => {}
+            TraceLine::Fresh => is_first = true,
+            TraceLine::Call(call) => {
                 let (exchange, after) = read_exchange(alloc, is_first, call, number, rest)?;
                 number = exchange.answer_line;
                 rest = after;
                 is_first = false;
                 exchanges.push(exchange)?;
             }
-            Line::Access(_) => return Err(misplaced),
-            Line::Answer(_) => return Err(misplaced),
+            TraceLine::Access(_) => return Err(misplaced),
+            TraceLine::Answer(_) => return Err(misplaced),
         }
     }
     Ok(exchanges)

@@ -7,6 +7,7 @@ use geesetrunk::commands::{GEESETRUNK, Job};
 use geesetrunk::end::{End, Status, ended};
 use geesetrunk::excerpt::{Excerpt, Form, MOST_EVENTS, USUAL_EVENTS, timeline_of};
 use geesetrunk::findings::{Format, judged, stopped, verified};
+use geesetrunk::link::{Link, MOST_DELAY, USUAL_DELAY, link};
 use geesetrunk::script::{Task, report};
 use geesetrunk::streams::{Output, Watched, print, standard_output};
 use geesetrunk::terminal::Style;
@@ -116,6 +117,23 @@ fn timeline(given: &Given) -> Result<(), End> {
     })
 }
 
+fn play_link(given: &Given) -> Result<(), End> {
+    let delay = match given.value("delay").map(number_in) {
+        None => USUAL_DELAY,
+        Some(Some(delay)) if (1..=MOST_DELAY).contains(&delay) => delay,
+        Some(_) => {
+            let cause = format!("the delay must be a number of ticks from 1 to {MOST_DELAY}");
+            return Err(End::failed(cause));
+        }
+    };
+    let operand = |index: usize| given.operands().get(index).map_or("", String::as_str);
+    link(&Link {
+        files: [operand(0), operand(1)],
+        delay,
+        is_drawn: given.has("picture"),
+    })
+}
+
 fn verify(given: &Given) -> Result<(), End> {
     let limit = match given.value("limit") {
         Some(word) => number_in(word),
@@ -145,6 +163,7 @@ fn run(job: Job, given: &Given) -> Result<(), End> {
     match job {
         Job::Report(task) => each(given, |file| report(task, file)),
         Job::Timeline => timeline(given),
+        Job::Link => play_link(given),
         Job::Judge(judge) => each(given, |file| {
             judged(judge, file, format_of(given), given.has("settled"))
         }),

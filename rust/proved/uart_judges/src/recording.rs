@@ -1,10 +1,10 @@
 //! Recordings of a chip's port: which registers a driver read and wrote, what the reads returned,
 //! and what else was seen.
 //!
-//! An [`Event`] is one line of a recording.
+//! An [`Entry`] is what one line of a recording says.
 
 mod cause;
-mod event;
+mod entry;
 mod fields;
 pub mod limits;
 mod lines;
@@ -12,8 +12,8 @@ mod place;
 mod reading;
 mod window;
 
-pub use cause::Fault;
-pub use event::{Event, Happening};
-pub use lines::{Line, line_in};
+pub use cause::RecordingFault;
+pub use entry::{Entry, Happening};
+pub use lines::{RecordingLine, line_in};
 pub use place::Place;
 pub use reading::{Recording, RecordingError};

@@ -10,7 +10,7 @@ mod lines;
 mod parsing;
 mod telling;
 
-pub use cause::{Fault, TraceError};
+pub use cause::{TraceError, TraceFault};
 pub use exchange::Exchange;
 pub use judging::{Stray, judge};
 pub use lines::{before_remark, offset_in};

@@ -3,14 +3,14 @@
 use proved_uart_judges::audit::{
     Arrived, Auditor, CHARACTER_TIME, Finding, HANDLER_TIME, MOST_UNREAD, Severity,
 };
-use proved_uart_judges::recording::{Event, Happening};
+use proved_uart_judges::recording::{Entry, Happening};
 use uart_spec::access::Access::{self, Read, Write};
 use uart_spec::registers::LSR;
 use uart_spec::registers::offsets::{DATA, FCR, IER, ISR, LCR, LSR as STATUS};
 
 /// Returns an entry without level and time.
-fn entry(happening: Happening) -> Event {
-    Event {
+fn entry(happening: Happening) -> Entry {
+    Entry {
         happening,
         times: 1,
         line: 1,
@@ -20,7 +20,7 @@ fn entry(happening: Happening) -> Event {
 }
 
 /// Returns what is found at these entries, without the set-up.
-fn found(entries: impl IntoIterator<Item = Event>) -> Vec<Finding> {
+fn found(entries: impl IntoIterator<Item = Entry>) -> Vec<Finding> {
     let mut auditor = Auditor::new();
     let steps = entries.into_iter().flat_map(|entry| auditor.step(&entry));
     let mut found: Vec<_> = steps.flatten().collect();
@@ -28,11 +28,11 @@ fn found(entries: impl IntoIterator<Item = Event>) -> Vec<Finding> {
     found
 }
 
-fn access(access: Access) -> Event {
+fn access(access: Access) -> Entry {
     entry(Happening::Access(access))
 }
 
-fn arrival(byte: u8) -> Event {
+fn arrival(byte: u8) -> Entry {
     let errors = LSR::from_bits_retain(0);
     entry(Happening::Arrive { byte, errors })
 }
@@ -93,7 +93,7 @@ fn what_arrived_is_kept_in_order() {
 #[test]
 fn seventeen_characters_take_so_much_time() {
     // At divisor 12: 17 characters of 12 bits at 9600 baud.
-    let at = |happening, time| Event {
+    let at = |happening, time| Entry {
         time: Some(time),
         ..entry(Happening::Access(happening))
     };
@@ -117,7 +117,7 @@ fn seventeen_characters_take_so_much_time() {
 
 #[test]
 fn a_handler_has_so_much_time() {
-    let at = |happening, time, interrupt| Event {
+    let at = |happening, time, interrupt| Entry {
         time: Some(time),
         interrupt: Some(interrupt),
         line: 7,
@@ -128,7 +128,7 @@ fn a_handler_has_so_much_time() {
             at(Read(STATUS, 0x61), 1, true),
             at(Write(IER, 0x01), 2, true),
             at(Read(ISR, 0xc4), 3, true),
-            Event {
+            Entry {
                 time: Some(3 + time),
                 ..arrival(b'a')
             },

@@ -1,16 +1,16 @@
-//! How an event is printed, and that it is read back; and a recording that is read in pieces.
+//! How an entry is printed, and that it is read back; and a recording that is read in pieces.
 
 use geesetrunk_kit::alloc::Global;
 use proved_uart_judges::recording::limits::MOST_LINE_BYTES;
-use proved_uart_judges::recording::{Fault, Line, Recording, RecordingError, line_in};
+use proved_uart_judges::recording::{RecordingFault, RecordingLine, Recording, RecordingError, line_in};
 use std::fmt::Write;
 use std::io::{self, Read};
 
-/// Returns the line that an event is printed as, or that a line is no event.
+/// Returns the line that an entry is printed as, or that a line is no entry.
 fn printed(line: &str) -> String {
     match line_in(7, line.as_bytes()) {
-        Ok(Line::Event(event)) => event.to_string(),
-        _ => "no event".into(),
+        Ok(RecordingLine::Entry(entry)) => entry.to_string(),
+        _ => "no entry".into(),
     }
 }
 
@@ -70,13 +70,13 @@ fn recording<R: Read>(reader: R) -> Recording<R> {
     Recording::new(Global::heap(), reader).expect("there is memory")
 }
 
-/// Returns the line and the text of each event, and how the recording ends.
+/// Returns the line and the text of each entry, and how the recording ends.
 fn all_of(reader: impl Read) -> String {
     let mut text = String::new();
     let mut recording = recording(reader);
     for _ in 0..100 {
-        match recording.next_event() {
-            Ok(Some(event)) => write!(text, "{}: {event}; ", event.line).unwrap(),
+        match recording.next_entry() {
+            Ok(Some(entry)) => write!(text, "{}: {entry}; ", entry.line).unwrap(),
             Ok(None) => return format!("{text}{} lines", recording.lines()),
             Err(error) => return format!("{text}{error}"),
         }
@@ -110,10 +110,10 @@ fn the_longest_line() {
     assert_eq!(all_of(bytes.as_slice()), "2: r 5 60; 2 lines");
     bytes.insert(0, b'#');
     assert!(matches!(
-        recording(bytes.as_slice()).next_event(),
+        recording(bytes.as_slice()).next_entry(),
         Err(RecordingError::Faulty {
             line: 1,
-            fault: Fault::TooLong
+            fault: RecordingFault::TooLong
         })
     ));
 }

@@ -1,4 +1,8 @@
-//! The judge.
+//! The judge of a driver.
+//!
+//! A recording has what the driver accessed and what it was answered. It does not show the inside
+//! of the chip, and so mostly not whether a byte was lost. So a driver is blamed for what it did
+//! not look at, as room before it sends, and not for what was lost.
 
 use crate::audit::action::Action;
 use crate::audit::finding::Finding;
@@ -9,7 +13,7 @@ use crate::audit::findings::{
 use crate::audit::setup::Setup;
 use crate::audit::step::{Step, has_rested};
 use crate::audit::unread::Unread;
-use crate::recording::{Event, Happening};
+use crate::recording::{Entry, Happening};
 use uart_spec::registers::{InterruptType, LCR, MSR};
 
 /// What was done to the divisor latch.
@@ -54,7 +58,7 @@ pub struct Mark {
 ///
 /// ```text
 /// let mut auditor = Auditor::new();
-/// for finding in auditor.step(&event).into_iter().flatten() {
+/// for finding in auditor.step(&entry).into_iter().flatten() {
 ///     writeln!(out, "{finding:?}")?;
 /// }
 /// ```
@@ -162,24 +166,34 @@ impl Auditor {
     }
 
     // Returns an entry beside what is known before it.
-    fn step_of(&self, event: &Event) -> Step {
-        let level = match event.happening {
+    fn step_of(&self, entry: &Entry) -> Step {
+        let level = match entry.happening {
             Happening::Interrupt { is_raised } => Some(is_raised),
-            _ => event.interrupt,
+            _ => entry.interrupt,
         };
         Step {
             setup: self.setup,
-            action: Action::new(self.setup.is_open, event.happening),
-            is_access: matches!(event.happening, Happening::Access(_)),
-            line: event.line,
-            time: event.time,
+            action: Action::new(self.setup.is_open, entry.happening),
+            is_access: matches!(entry.happening, Happening::Access(_)),
+            line: entry.line,
+            time: entry.time,
             level,
-            has_rested: has_rested(self.setup.divisor, self.going_out, self.sent_at, event.time),
+            has_rested: has_rested(self.setup.divisor, self.going_out, self.sent_at, entry.time),
         }
     }
 
     // Returns the findings at a step.
     fn findings(&self, step: &Step) -> Findings {
+        match step.action {
+            Action::LooksAtLine(_) => self.found_at_look(step),
+            Action::Sends(_) => self.found_at_send(step),
+            Action::Receives(_) => self.found_at_receipt(step),
+            _ => self.found_at_any(step),
+        }
+    }
+
+    // Returns the findings at a step, whatever it does.
+    fn found_at_any(&self, step: &Step) -> Findings {
         [
             note(self, step),
             room(self, step),
@@ -201,10 +215,10 @@ impl Auditor {
     }
 
     /// Goes on by one entry of a recording, and returns the findings at it, each in its place.
-    pub fn step(&mut self, event: &Event) -> Findings {
-        let step = self.step_of(event);
+    pub fn step(&mut self, entry: &Entry) -> Findings {
+        let step = self.step_of(entry);
         let findings = self.findings(&step);
-        *self = self.after(&step);
+        self.go_on(&step);
         findings
     }
 }

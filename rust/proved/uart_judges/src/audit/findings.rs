@@ -84,7 +84,7 @@ fn loops_again(a: &Auditor, setup: Setup) -> bool {
     if !setup.loops_back() {
         return false;
     }
-    a.has_looped && a.sent == 0
+    a.has_looped && a.is_thr_empty
 }
 
 // Returns a byte that does not go out as it was given.
@@ -109,6 +109,12 @@ fn is_held(cts: Option<bool>) -> bool {
     }
 }
 
+// Returns whether a driver may ask for CTS. One that is interrupted asks for it by the interrupt of
+// modem status: its handler may read MSR for any interrupt, also on a line without flow control.
+fn asks_for_cts(a: &Auditor, setup: Setup) -> bool {
+    !a.has_signalled || setup.enables(IER::MODEM_STATUS)
+}
+
 // Returns a byte that the remote may not take. A line on which CTS was never set has no CTS.
 pub(crate) fn flow(a: &Auditor, s: &Step) -> Option<Finding> {
     if !s.action.sends() {
@@ -117,7 +123,10 @@ pub(crate) fn flow(a: &Auditor, s: &Step) -> Option<Finding> {
     if s.setup.loops_back() {
         return None;
     }
-    when(is_held(a.cts) && a.was_cts_set, Finding::SentWithoutCts)
+    when(
+        (is_held(a.cts) && a.was_cts_set) && asks_for_cts(a, s.setup),
+        Finding::SentWithoutCts,
+    )
 }
 
 // Returns whether an interrupt is known to be enabled.
@@ -127,6 +136,24 @@ fn enables_some(interrupts: Option<IER>) -> bool {
             IER::DATA_READY
                 .union(IER::THR_EMPTY)
                 .union(IER::RECEIVER_LINE_STATUS.union(IER::MODEM_STATUS)),
+        ),
+        None => false,
+    }
+}
+
+// Returns whether all interrupts are known to be disabled.
+fn are_off(interrupts: Option<IER>) -> bool {
+    interrupts.is_some() && !enables_some(interrupts)
+}
+
+// Returns whether an interrupt is known to be enabled that bytes cause. That of modem status alone
+// is no way to send or to receive: a driver that polls may leave it enabled.
+fn enables_bytes(interrupts: Option<IER>) -> bool {
+    match interrupts {
+        Some(ier) => ier.intersects(
+            IER::DATA_READY
+                .union(IER::THR_EMPTY)
+                .union(IER::RECEIVER_LINE_STATUS),
         ),
         None => false,
     }
@@ -155,7 +182,7 @@ pub(crate) fn gate(a: &Auditor, s: &Step) -> Option<Finding> {
         return None;
     }
     when(
-        enables_some(s.setup.interrupts) && is_cut_off(s.setup.modem),
+        enables_bytes(s.setup.interrupts) && is_cut_off(s.setup.modem),
         Finding::InterruptsCutOff,
     )
 }
@@ -393,10 +420,16 @@ pub(crate) fn change(a: &Auditor, s: &Step) -> Option<Finding> {
     }
 }
 
+// Returns whether a driver is at rest: all interrupts are off, and no byte went either way since it
+// was set up. What came while a port was closed is nobody's.
+fn is_at_rest(a: &Auditor, setup: Setup) -> bool {
+    are_off(setup.interrupts) && !a.is_at_work
+}
+
 // Returns received bytes that FCR discards.
 pub(crate) fn discard(a: &Auditor, s: &Step) -> Option<Finding> {
     when(
-        a.waiting > 0 && s.empties(FCR::RX_FIFO_RESET),
+        (a.waiting > 0 && !is_at_rest(a, s.setup)) && s.empties(FCR::RX_FIFO_RESET),
         Finding::WaitingDiscarded,
     )
 }
@@ -481,8 +514,9 @@ pub(crate) fn level(a: &Auditor, s: &Step) -> Option<Finding> {
     }
 }
 
-/// The nanoseconds after which a driver has left its handler, if it accesses nothing: 10 ms.
-pub const HANDLER_TIME: u64 = 10_000_000;
+/// The nanoseconds after which a driver has left its handler, if it accesses nothing: a second. The
+/// processor of a virtual machine may stand still for much longer than a handler takes.
+pub const HANDLER_TIME: u64 = 1_000_000_000;
 
 // Returns whether so much time passed since a mark.
 fn is_long_since(mark: Mark, now: u64) -> bool {
@@ -498,7 +532,7 @@ pub(crate) fn line_up(a: &Auditor, s: &Step) -> Option<Finding> {
     }
     let mark = a.up?;
     let now = s.time?;
-    if s.setup.interrupts.is_some() && !enables_some(s.setup.interrupts) {
+    if are_off(s.setup.interrupts) {
         return None;
     }
     when(

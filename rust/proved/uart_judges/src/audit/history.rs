@@ -11,7 +11,7 @@ use uart_chip::receiving::characters_of;
 use uart_spec::registers::{FCR, IER, ISR, InterruptType, LCR, LSR, MSR};
 
 // Returns whether something happened, and since then nothing that resets it.
-fn since(before: bool, resets: bool, happens: bool) -> bool {
+pub(crate) fn since(before: bool, resets: bool, happens: bool) -> bool {
     if happens {
         return true;
     }
@@ -19,7 +19,7 @@ fn since(before: bool, resets: bool, happens: bool) -> bool {
 }
 
 // Returns how often something happened since something that resets the count.
-fn count(before: u64, resets: bool, happens: bool) -> u64 {
+pub(crate) fn count(before: u64, resets: bool, happens: bool) -> u64 {
     let left = if resets { 0 } else { before };
     if happens {
         return left.saturating_add(1);
@@ -90,7 +90,7 @@ fn waiting_after_arrival(waiting: u8, setup: Setup) -> u8 {
 }
 
 // Returns how many received bytes are known to wait.
-fn waiting_after(waiting: u8, step: Step) -> u8 {
+pub(crate) fn waiting_after(waiting: u8, step: Step) -> u8 {
     match step.action {
         Action::LooksAtLine(lsr) => {
             if lsr.contains(LSR::DATA_READY) {
@@ -119,7 +119,7 @@ fn ready_after(ready: Option<bool>, step: Step) -> Option<bool> {
 }
 
 // Returns whether the driver has begun to send or to receive.
-fn is_at_work_after(is_at_work: bool, waiting: u8, step: Step) -> bool {
+pub(crate) fn is_at_work_after(is_at_work: bool, waiting: u8, step: Step) -> bool {
     let takes = step.action.receives() && waiting > 0;
     since(
         is_at_work,
@@ -165,7 +165,7 @@ fn data_interrupt_after(before: Option<InterruptType>, step: Step) -> Option<Int
     }
 }
 
-fn latch_after(latch: Latch, action: Action) -> Latch {
+pub(crate) fn latch_after(latch: Latch, action: Action) -> Latch {
     let (opens, begins) = (action.opens(), action.begins_divisor());
     Latch {
         was_opened: since(latch.was_opened, false, opens),
@@ -202,7 +202,7 @@ fn asks(interrupt: Option<InterruptType>, line: u64) -> Option<Identified> {
 }
 
 // Returns the interrupt that was identified, and not served.
-fn unserved_after(unserved: Option<Identified>, step: Step) -> Option<Identified> {
+pub(crate) fn unserved_after(unserved: Option<Identified>, step: Step) -> Option<Identified> {
     if let Action::IdentifiesInterrupt(isr) = step.action {
         return asks(identified(isr), step.line);
     }
@@ -219,7 +219,7 @@ fn unserved_after(unserved: Option<Identified>, step: Step) -> Option<Identified
 }
 
 // Returns the latest access after which the line was up.
-fn up_after(before: Option<Mark>, step: Step) -> Option<Mark> {
+pub(crate) fn up_after(before: Option<Mark>, step: Step) -> Option<Mark> {
     let Some(is_up) = step.level else {
         return before;
     };

@@ -1,6 +1,7 @@
 //! The characters that arrived and were not read, as far as the recording says so.
 
 use crate::audit::action::Action;
+use crate::audit::setup::Setup;
 use crate::audit::step::Step;
 use bitflags::Flags;
 use uart_spec::registers::{FCR, LSR};
@@ -112,7 +113,7 @@ impl Unread {
 
     // Returns what waits after LSR was read. A character that waits and did not arrive by the
     // recording shows that it does not have all of them.
-    fn after_look(self, lsr: LSR) -> Self {
+    pub(crate) fn after_look(self, lsr: LSR) -> Self {
         if !lsr.contains(LSR::DATA_READY) {
             return Unread::none();
         }
@@ -127,7 +128,7 @@ impl Unread {
 
     // Returns what waits after DATA was read. If the byte is another than the one that arrived,
     // nothing is known of those behind it.
-    fn after_read(self, byte: u8) -> Self {
+    pub(crate) fn after_read(self, byte: u8) -> Self {
         match self.front() {
             None => self,
             Some(arrived) => {
@@ -149,6 +150,13 @@ impl Unread {
             return Unread::unknown();
         }
         self
+    }
+
+    // Goes on by a write of DATA. What comes back in loopback is not followed.
+    pub(crate) fn send(&mut self, setup: Setup) {
+        if setup.loops_back() {
+            *self = Unread::unknown();
+        }
     }
 
     // Returns what waits after a step. What comes back in loopback is not followed.

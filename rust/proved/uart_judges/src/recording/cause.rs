@@ -5,7 +5,7 @@ use uart_language::Cause;
 
 /// What is wrong with a line of a recording.
 #[derive(Clone, Copy, Debug, PartialEq, Eq)]
-pub enum Fault {
+pub enum RecordingFault {
     /// The line has more than `MOST_LINE_BYTES` bytes.
     TooLong,
     /// A line repeats a read, and what happened before is no read.
@@ -15,7 +15,7 @@ pub enum Fault {
 }
 
 #[automatically_derived]
-impl std::fmt::Display for Fault {
+impl std::fmt::Display for RecordingFault {
     fn fmt(&self, f: &mut std::fmt::Formatter<'_>) -> std::fmt::Result {
         match self {
             Self::TooLong => {
@@ -33,10 +33,10 @@ impl std::fmt::Display for Fault {
 }
 
 #[automatically_derived]
-impl std::error::Error for Fault {}
+impl std::error::Error for RecordingFault {}
 
-impl From<Cause> for Fault {
-    fn from(cause: Cause) -> Fault {
-        Fault::Line(cause)
+impl From<Cause> for RecordingFault {
+    fn from(cause: Cause) -> RecordingFault {
+        RecordingFault::Line(cause)
     }
 }

@@ -1,7 +1,7 @@
 //! The meaning of a line of a recording.
 
-use crate::recording::cause::Fault;
-use crate::recording::event::{Event, Happening};
+use crate::recording::cause::RecordingFault;
+use crate::recording::entry::{Entry, Happening};
 use crate::recording::fields::{
     after, before, bits_in, level_in, log_byte_in, log_offset_in, log_time_in, repeats_in, time_in,
 };
@@ -14,11 +14,11 @@ use uart_spec::registers::{LSR, MSR};
 
 /// The meaning of a line of a recording.
 #[derive(Clone, Copy, Debug, PartialEq, Eq)]
-pub enum Line {
+pub enum RecordingLine {
     /// Nothing: the line is blank, or has another event of QEMU's log.
     Blank,
     /// Something happened.
-    Event(Event),
+    Entry(Entry),
     /// The read before was made so many times more, and returned the same.
     Again(u64),
 }
@@ -51,7 +51,7 @@ impl Direction {
     }
 }
 
-// What a line says of the state after an event: the level of the interrupt line, and the time.
+// What a line says of the state after what happened: the level of the interrupt line, and the time.
 #[derive(Clone, Copy, Debug, PartialEq, Eq)]
 struct Stamp {
     interrupt: Option<bool>,
@@ -115,8 +115,8 @@ fn stamp_in(count: usize, line: &[u8]) -> Result<Stamp, Cause> {
 }
 
 // Returns what happened once, at the line with this number.
-fn happened_at(number: u64, happening: Happening, stamp: Stamp) -> Line {
-    Line::Event(Event {
+fn happened_at(number: u64, happening: Happening, stamp: Stamp) -> RecordingLine {
+    RecordingLine::Entry(Entry {
         happening,
         times: 1,
         line: number,
@@ -126,7 +126,7 @@ fn happened_at(number: u64, happening: Happening, stamp: Stamp) -> Line {
 }
 
 // Returns the access of a line.
-fn access_in(direction: Direction, number: u64, line: &[u8]) -> Result<Line, Cause> {
+fn access_in(direction: Direction, number: u64, line: &[u8]) -> Result<RecordingLine, Cause> {
     let stamp = stamp_in(3, line)?;
     let offset = offset_in(word_at(line, 1))?;
     let byte = byte_in(word_at(line, 2))?;
@@ -135,15 +135,15 @@ fn access_in(direction: Direction, number: u64, line: &[u8]) -> Result<Line, Cau
 }
 
 // Returns how often the read before is repeated.
-fn again_in(line: &[u8]) -> Result<Line, Cause> {
+fn again_in(line: &[u8]) -> Result<RecordingLine, Cause> {
     if word_count(line) != 2 {
         return Err(Cause::WrongCount);
     }
-    Ok(Line::Again(repeats_in(word_at(line, 1))?))
+    Ok(RecordingLine::Again(repeats_in(word_at(line, 1))?))
 }
 
 // Returns the arrival of a line.
-fn arrival_in(number: u64, line: &[u8]) -> Result<Line, Cause> {
+fn arrival_in(number: u64, line: &[u8]) -> Result<RecordingLine, Cause> {
     let stamp = stamp_in(3, line)?;
     let errors = bits_in(LSR::CHARACTER_ERRORS.bits(), word_at(line, 1))?;
     let byte = byte_in(word_at(line, 2))?;
@@ -153,7 +153,7 @@ fn arrival_in(number: u64, line: &[u8]) -> Result<Line, Cause> {
 }
 
 // Returns the level of the interrupt line, which changed by itself.
-fn interrupt_in(number: u64, line: &[u8]) -> Result<Line, Cause> {
+fn interrupt_in(number: u64, line: &[u8]) -> Result<RecordingLine, Cause> {
     let stamp = stamp_in(1, line)?;
     match stamp.interrupt {
         Some(is_raised) => Ok(happened_at(number, Happening::Interrupt { is_raised }, stamp)),
@@ -162,14 +162,14 @@ fn interrupt_in(number: u64, line: &[u8]) -> Result<Line, Cause> {
 }
 
 // Returns the modem inputs of a line.
-fn modem_in(number: u64, line: &[u8]) -> Result<Line, Cause> {
+fn modem_in(number: u64, line: &[u8]) -> Result<RecordingLine, Cause> {
     let stamp = stamp_in(2, line)?;
     let inputs = MSR::from_bits_retain(bits_in(MSR::LINES.bits(), word_at(line, 1))?);
     Ok(happened_at(number, Happening::Lines(inputs), stamp))
 }
 
 // Returns the meaning of a line of our own.
-fn own_in(key: Option<Key>, number: u64, line: &[u8]) -> Result<Line, Cause> {
+fn own_in(key: Option<Key>, number: u64, line: &[u8]) -> Result<RecordingLine, Cause> {
     match key {
         Some(Key::Read) => access_in(Direction::Read, number, line),
         Some(Key::Write) => access_in(Direction::Write, number, line),
@@ -252,9 +252,9 @@ fn log_access_in(direction: Direction, line: &[u8]) -> Result<Access, Cause> {
 }
 
 // Returns the meaning of a line of the log. Other events than accesses mean nothing.
-fn logged_in(direction: Option<Direction>, number: u64, line: &[u8]) -> Result<Line, Cause> {
+fn logged_in(direction: Option<Direction>, number: u64, line: &[u8]) -> Result<RecordingLine, Cause> {
     let Some(direction) = direction else {
-        return Ok(Line::Blank);
+        return Ok(RecordingLine::Blank);
     };
     let stamp = log_stamp_in(word_at(line, 0))?;
     let access = log_access_in(direction, line)?;
@@ -262,9 +262,9 @@ fn logged_in(direction: Option<Direction>, number: u64, line: &[u8]) -> Result<L
 }
 
 // Returns the meaning of a line without its remark.
-fn said_in(number: u64, line: &[u8]) -> Result<Line, Cause> {
+fn said_in(number: u64, line: &[u8]) -> Result<RecordingLine, Cause> {
     if line.is_empty() {
-        return Ok(Line::Blank);
+        return Ok(RecordingLine::Blank);
     }
     let first = word_at(line, 0);
     if is_log(first) {
@@ -281,9 +281,9 @@ fn said_in(number: u64, line: &[u8]) -> Result<Line, Cause> {
 /// # Errors
 ///
 /// What is wrong with the line.
-pub fn line_in(number: u64, line: &[u8]) -> Result<Line, Fault> {
+pub fn line_in(number: u64, line: &[u8]) -> Result<RecordingLine, RecordingFault> {
     if line.len() > MOST_LINE_BYTES {
-        return Err(Fault::TooLong);
+        return Err(RecordingFault::TooLong);
     }
     Ok(said_in(number, before_remark(line))?)
 }

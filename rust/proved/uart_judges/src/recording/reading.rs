@@ -1,7 +1,7 @@
 //! A recording that is read as a stream.
 
-use crate::recording::cause::Fault;
-use crate::recording::event::Event;
+use crate::recording::cause::RecordingFault;
+use crate::recording::entry::Entry;
 use crate::recording::place::Place;
 use crate::recording::window::{WINDOW_BYTES, Window};
 use std::alloc::{AllocError, Global};
@@ -16,7 +16,7 @@ pub enum RecordingError {
         /// The number of the line.
         line: u64,
         /// What is wrong with it.
-        fault: Fault,
+        fault: RecordingFault,
     },
     /// The reader failed.
     Unread(io::Error),
@@ -43,8 +43,8 @@ impl std::error::Error for RecordingError {}
 ///
 /// ```text
 /// let mut recording = Recording::new(alloc, reader)?;
-/// while let Some(event) = recording.next_event()? {
-///     judge.step(&event);
+/// while let Some(entry) = recording.next_entry()? {
+///     judge.step(&entry);
 /// }
 /// ```
 pub struct Recording<R> {
@@ -103,14 +103,14 @@ impl<R: Read> Recording<R> {
         Err(io::Error::from(ErrorKind::Interrupted))
     }
 
-    /// Returns the next event, or `None` at the end. A line that repeats a read is one event.
+    /// Returns the next entry, or `None` at the end. A line that repeats a read is one entry.
     ///
     /// # Errors
     ///
     /// - `Faulty` with the number of the first line that is no line of a recording, and what is
     /// wrong with it.
     /// - `Unread` if the reader failed.
-    pub fn next_event(&mut self) -> Result<Option<Event>, RecordingError> {
+    pub fn next_entry(&mut self) -> Result<Option<Entry>, RecordingError> {
         'lines: while self.place.number < u64::MAX {
             let Some(length) = self.fill_line().map_err(RecordingError::Unread)? else {
                 return Ok(None);
@@ -118,7 +118,7 @@ impl<R: Read> Recording<R> {
             let found = self.place.read(&self.window.as_slice()[..length]);
             self.window.consume(length + 1);
             match found {
-                Ok(Some(event)) => return Ok(Some(event)),
+                Ok(Some(entry)) => return Ok(Some(entry)),
                 Ok(None) => {}
                 Err(fault) => {
                     return Err(RecordingError::Faulty {

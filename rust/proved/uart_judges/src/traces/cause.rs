@@ -5,7 +5,7 @@ use uart_language::Cause;
 
 /// What is wrong with a line of a trace.
 #[derive(Clone, Copy, Debug, PartialEq, Eq)]
-pub enum Fault {
+pub enum TraceFault {
     /// The line has no form that a line of a trace has.
     Line(Cause),
     /// The line is an event of a schedule, or `next`: a trace has only calls of the driver.
@@ -17,7 +17,7 @@ pub enum Fault {
 }
 
 #[automatically_derived]
-impl std::fmt::Display for Fault {
+impl std::fmt::Display for TraceFault {
     fn fmt(&self, f: &mut std::fmt::Formatter<'_>) -> std::fmt::Result {
         match self {
             Self::Line(_0) => { ({ (f.write_fmt(format_args!("{}", _0.text()))) }) }
@@ -29,7 +29,7 @@ impl std::fmt::Display for Fault {
 }
 
 #[automatically_derived]
-impl std::error::Error for Fault {}
+impl std::error::Error for TraceFault {}
 
 /// Why bytes were not read as a trace.
 #[derive(Clone, Copy, Debug, PartialEq, Eq)]
@@ -39,7 +39,7 @@ pub enum TraceError {
         /// The number of the line.
         line: usize,
         /// What is wrong with it.
-        fault: Fault,
+        fault: TraceFault,
     },
     /// Memory for the trace could not be allocated.
     OutOfMemory,
@@ -60,9 +60,9 @@ impl std::fmt::Display for TraceError {
 #[automatically_derived]
 impl std::error::Error for TraceError {}
 
-impl From<Cause> for Fault {
-    fn from(cause: Cause) -> Fault {
-        Fault::Line(cause)
+impl From<Cause> for TraceFault {
+    fn from(cause: Cause) -> TraceFault {
+        TraceFault::Line(cause)
     }
 }
 

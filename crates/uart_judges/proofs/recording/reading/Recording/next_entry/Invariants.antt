@@ -1,7 +1,7 @@
 use Rattle.std.proofs.Common.{◌≤◌, ◌-◌}
 use Rattle.uart_judges.specs.Streams.{ahead}
 use Rattle.uart_judges.proofs.Steps.{Goes}
-use Rattle.uart_judges.proofs.recording.reading.Recording.next_event.Given as goal
+use Rattle.uart_judges.proofs.recording.reading.Recording.next_entry.Given as goal
 
 abbrev pub invariant-lines : goal.invariant-lines
 invariant-lines g l = record {

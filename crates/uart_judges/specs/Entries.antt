@@ -3,9 +3,9 @@ use Rattle.std.specs.Prelude.{◌<◌, ⊤}
 use Rattle.uart_spec.specs.declared.access.Access.{Access as RegisterAccess}
 use Rattle.uart_spec.specs.declared.access.Access.TheVariants.{Read, Write}
 use Rattle.uart_spec.specs.Bits.{IsWithin}
-use Rattle.uart_judges.specs.declared.recording.event.Event.{Event}
-use Rattle.uart_judges.specs.declared.recording.event.Happening.{Happening}
-use Rattle.uart_judges.specs.declared.recording.event.Happening.TheVariants.{Access, Arrive, Interrupt, Lines}
+use Rattle.uart_judges.specs.declared.recording.entry.Entry.{Entry}
+use Rattle.uart_judges.specs.declared.recording.entry.Happening.{Happening}
+use Rattle.uart_judges.specs.declared.recording.entry.Happening.TheVariants.{Access, Arrive, Interrupt, Lines}
 use Rattle.uart_spec.specs.declared.baud.TheConstants.{NUM_REGISTERS}
 use Rattle.uart_spec.specs.declared.registers.line_status.TheConstants.LSR
 use Rattle.uart_spec.specs.declared.registers.modem_status.TheConstants.MSR
@@ -22,6 +22,6 @@ IsHappening (Arrive byte errors) = IsWithin errors.0 LSR.CHARACTER_ERRORS.0
 IsHappening (Interrupt is_raised) = ⊤
 IsHappening (Lines inputs) = IsWithin inputs.0 MSR.LINES.0
 
--- a chip can do what happens at this event
-abbrev pub IsEvent : Event → Type 0
-IsEvent event = IsHappening event.happening
+-- a chip can do what happens at this entry
+abbrev pub IsEntry : Entry → Type 0
+IsEntry entry = IsHappening entry.happening

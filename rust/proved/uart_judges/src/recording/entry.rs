@@ -28,7 +28,7 @@ pub enum Happening {
 
 /// Something that happened, and where a recording says so.
 #[derive(Clone, Copy, Debug, PartialEq, Eq)]
-pub struct Event {
+pub struct Entry {
     /// What happened.
     pub happening: Happening,
     /// How many times in turn it happened: once, but for a read that is repeated.
@@ -53,9 +53,9 @@ impl fmt::Display for Happening {
     }
 }
 
-/// Writes the line of a recording that means this event, in the project's own format. A read that
-/// is not made once is written as a repeat, which means the same behind the event that it repeats.
-impl fmt::Display for Event {
+/// Writes the line of a recording that means this entry, in the project's own format. A read that
+/// is not made once is written as a repeat, which means the same behind the entry that it repeats.
+impl fmt::Display for Entry {
     fn fmt(&self, f: &mut fmt::Formatter<'_>) -> fmt::Result {
         if self.times != 1 {
             return write!(f, "x {}", self.times);

@@ -3,12 +3,12 @@ use Rattle.std.specs.Io.KnownBytes.{prepend_known}
 use Rattle.uart_judges.specs.Places.{IsLineRead}
 use Rattle.uart_judges.specs.Streams.{ahead, IsFilled, IsNext}
 use Rattle.uart_judges.specs.Windows.{items}
-use Rattle.uart_judges.specs.declared.recording.cause.Fault.{Fault}
-use Rattle.uart_judges.specs.declared.recording.event.Event.{Event}
+use Rattle.uart_judges.specs.declared.recording.cause.RecordingFault.{RecordingFault}
+use Rattle.uart_judges.specs.declared.recording.entry.Entry.{Entry}
 use Rattle.uart_judges.specs.declared.recording.place.Place.{Place}
-use Rattle.uart_judges.proofs.Steps.{Goes, ends_at_limit, ends_empty, ends_event, ends_fault, fills, passes}
-use Rattle.uart_judges.proofs.recording.reading.Recording.next_event.Goals as goal
-use Rattle.uart_judges.proofs.recording.reading.Recording.next_event.Goals.{After-map_err, After-read-found}
+use Rattle.uart_judges.proofs.Steps.{Goes, ends_at_limit, ends_empty, ends_entry, ends_fault, fills, passes}
+use Rattle.uart_judges.proofs.recording.reading.Recording.next_entry.Goals as goal
+use Rattle.uart_judges.proofs.recording.reading.Recording.next_entry.Goals.{After-map_err, After-read-found}
 
 -- the bytes that were to be used at first, and those that the reader has left once the window was filled
 abbrev first : (g : _) (c : goal.After-map_err g) → Option (List ℕ)
@@ -30,12 +30,12 @@ filled g c found count was is =
     (h.0, subst (λ (n : Option ℕ). IsFilled n (items mid.window) (left g c)) is h.1)
 
 -- the line is read from the window
-read : (g : _) (c : goal.After-read-found g) (found : Result (Option Event) Fault) → c.read-found.result ≡ found →
+read : (g : _) (c : goal.After-read-found g) (found : Result (Option Entry) RecordingFault) → c.read-found.result ≡ found →
     IsLineRead c.fill_line.new.self.place (take c.in-Some.length (items c.fill_line.new.self.window)) found c.read-found.new.self
 read g c found is =
     let now = c.read-found.new.self in
     subst (λ (l : List ℕ). IsLineRead c.fill_line.new.self.place (take c.in-Some.length l) found now) c.as_slice.ensures.value
-    (c.read-found.ensures.read ∙ ap (λ (r : Result (Option Event) Fault). (r, now)) is)
+    (c.read-found.ensures.read ∙ ap (λ (r : Result (Option Entry) RecordingFault). (r, now)) is)
 
 pub returns-in_default-clause-next : goal.returns-in_default-clause-next
 returns-in_default-clause-next g c =
@@ -49,12 +49,12 @@ returns-in-Ok-Some-clause-next g c =
     let w = at.After-map_err in
     let mid = w.fill_line.new.self in
     let h = filled g w _ _ c.in_ok-length.was c.in-Some.is in
-    let event = rw c.in-Ok-Some.is at c.in-Ok-Some.field-0-is in
-    let is : c.read-found.result ≡ Ok (Some c.in-Ok-Some.event) = cc in
-    subst (λ (l : List ℕ). IsNext w.args.self.now.place (first g w) (Ok (Some c.in-Ok-Some.event)) c.read-found.new.self
+    let entry = rw c.in-Ok-Some.is at c.in-Ok-Some.field-0-is in
+    let is : c.read-found.result ≡ Ok (Some c.in-Ok-Some.entry) = cc in
+    subst (λ (l : List ℕ). IsNext w.args.self.now.place (first g w) (Ok (Some c.in-Ok-Some.entry)) c.read-found.new.self
     (prepend_known l (left g w))) (sym c.consume.ensures)
-    (ends_event w.args.self.now.place mid.place c.read-found.new.self (first g w) (left g w) (items mid.window) c.in-Some.length
-    c.in-Ok-Some.event h.0 h.1 c.read-found.ensures.counted (read g at.After-read-found _ is))
+    (ends_entry w.args.self.now.place mid.place c.read-found.new.self (first g w) (left g w) (items mid.window) c.in-Some.length
+    c.in-Ok-Some.entry h.0 h.1 c.read-found.ensures.counted (read g at.After-read-found _ is))
 
 pub lines-preserved : goal.lines-preserved
 lines-preserved g c =

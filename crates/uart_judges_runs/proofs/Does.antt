@@ -1,0 +1,217 @@
+-- What an action that the judge takes an access for does to the software chip.
+use Rattle.std.proofs.Common.{◌≡◌, ℕ, Bool, true, false, not, ◌&&◌, ◌||◌, ◌==◌, [], refl, if◌then◌else◌}
+use Rattle.std.proofs.Common.{Some, bit_and}
+use Rattle.uart_spec.specs.Bits.{has_any}
+use Rattle.uart_spec.specs.declared.registers.fifo_control.TheConstants.FCR as fcr_bits
+use Rattle.uart_spec.specs.declared.registers.fifo_trigger_level.FifoTriggerLevel.{FifoTriggerLevel}
+use Rattle.uart_spec.specs.declared.registers.offsets.TheConstants as offsets
+use Rattle.uart_events.specs.declared.event.Chip.{Chip}
+use Rattle.uart_events.specs.declared.event.Chip.TheVariants.{Uart16550A, Uart16450}
+use Rattle.uart_chip.specs.Chip.{ChipState, after_read, after_write, answer, control, control_modem, cut_of, enable, interrupt, is_dlab_set}
+use Rattle.uart_chip.specs.Chip.{is_same, is_thr_empty, line_status, set_fifo, set_trigger, switch, trigger_level, with_latches}
+use Rattle.uart_chip.specs.Chip.{with_thr_pending}
+use Rattle.uart_chip.specs.Masks.{mcr_bits}
+use Rattle.uart_chip.specs.Receiver.{clear, take_front}
+use Rattle.uart_chip.specs.Transmitter.{load}
+use Rattle.uart_judges.specs.Actions.{data_read, data_written, ier_read, ier_written, read_action, write_action}
+use Rattle.uart_judges.specs.declared.audit.action.Action.{Action}
+use Rattle.uart_judges.specs.declared.audit.action.Action.TheVariants.{Receives, Sends, SetsDivisorLow, ControlsFifo, ReadsLine, SetsLine}
+use Rattle.uart_judges.specs.declared.audit.action.Action.TheVariants.{ReadsModem, SetsModem, IdentifiesInterrupt, LooksAtLine, Arrives}
+use Rattle.uart_judges.proofs.LatchesHold.{by_number}
+
+-- ---- what does not change
+
+-- modes, queues and the trigger level are the same
+pub record Alike (c d : ChipState) : Type 0 where
+  pub model : d.model ≡ c.model
+  pub lcr : d.latches.lcr ≡ c.latches.lcr
+  pub mcr : d.latches.mcr ≡ c.latches.mcr
+  pub fifo : d.fifo ≡ c.fifo
+  pub queued : d.transmitter.queue ≡ c.transmitter.queue
+  pub waiting : d.receiver.queue ≡ c.receiver.queue
+  pub trigger : d.receiver.trigger ≡ c.receiver.trigger
+
+pub alike_refl : (c : ChipState) → Alike c c
+alike_refl c = record { model = refl; lcr = refl; mcr = refl; fifo = refl; queued = refl; waiting = refl; trigger = refl }
+
+alike_if : (c d e : ChipState) (b : Bool) → Alike c d → Alike c e → Alike c (if b then d else e)
+alike_if c d e true p q = p
+alike_if c d e false p q = q
+
+-- ---- FCR
+
+-- after a write of FCR that leaves the FIFOs on or off, as they were or not, with these resets and this trigger level
+pub record IsControlled (on same receiver transmitter : Bool) (level : FifoTriggerLevel) (c d : ChipState) : Type 0 where
+  pub model : d.model ≡ c.model
+  pub lcr : d.latches.lcr ≡ c.latches.lcr
+  pub mcr : d.latches.mcr ≡ c.latches.mcr
+  pub fifo : d.fifo ≡ on
+  pub queued : d.transmitter.queue ≡ (if not same || (on && transmitter) then [] else c.transmitter.queue)
+  pub waiting : d.receiver.queue ≡ (if not same || (on && receiver) then [] else c.receiver.queue)
+  pub trigger : d.receiver.trigger ≡ (if on then level else c.receiver.trigger)
+
+abbrev pub Controlled : ℕ → ChipState → ChipState → Type 0
+Controlled value c d =
+    IsControlled (has_any value fcr_bits.FIFO_ENABLE.0) (is_same c.fifo (has_any value fcr_bits.FIFO_ENABLE.0))
+    (has_any value fcr_bits.RX_FIFO_RESET.0) (has_any value fcr_bits.TX_FIFO_RESET.0) (trigger_level value) c d
+
+pub same_true : (a b : Bool) → is_same a b ≡ true → a ≡ b
+same_true true true e = refl
+same_true true false e = absurd (cc)
+same_true false true e = absurd (cc)
+same_true false false e = refl
+
+-- `set_fifo`, whatever these tests say
+abbrev done : (value : ℕ) → ChipState → (on same receiver transmitter : Bool) → ChipState
+done value c on same receiver transmitter =
+    let d : ChipState = if same then c else switch on c in
+    let e : ChipState = if receiver then record d { receiver = clear d.receiver } else d in
+    let f : ChipState = if transmitter then record e { transmitter = record e.transmitter { queue = []; is_thr_pending = true } } else e in
+    if on then set_trigger (trigger_level value) f else d
+
+pub controlled : (value : ℕ) (c : ChipState) → Controlled value c (set_fifo value c)
+controlled value c =
+    go (has_any value fcr_bits.FIFO_ENABLE.0) (is_same c.fifo (has_any value fcr_bits.FIFO_ENABLE.0))
+    (has_any value fcr_bits.RX_FIFO_RESET.0) (has_any value fcr_bits.TX_FIFO_RESET.0)
+    (λ e. same_true c.fifo (has_any value fcr_bits.FIFO_ENABLE.0) e)
+  where
+    go : (on same receiver transmitter : Bool) → (same ≡ true → c.fifo ≡ on) →
+        IsControlled on same receiver transmitter (trigger_level value) c (done value c on same receiver transmitter)
+    go true true true true e =
+        record { model = refl; lcr = refl; mcr = refl; fifo = e refl; queued = refl; waiting = refl; trigger = refl }
+    go true true true false e =
+        record { model = refl; lcr = refl; mcr = refl; fifo = e refl; queued = refl; waiting = refl; trigger = refl }
+    go true true false true e =
+        record { model = refl; lcr = refl; mcr = refl; fifo = e refl; queued = refl; waiting = refl; trigger = refl }
+    go true true false false e =
+        record { model = refl; lcr = refl; mcr = refl; fifo = e refl; queued = refl; waiting = refl; trigger = refl }
+    go true false true true e =
+        record { model = refl; lcr = refl; mcr = refl; fifo = refl; queued = refl; waiting = refl; trigger = refl }
+    go true false true false e =
+        record { model = refl; lcr = refl; mcr = refl; fifo = refl; queued = refl; waiting = refl; trigger = refl }
+    go true false false true e =
+        record { model = refl; lcr = refl; mcr = refl; fifo = refl; queued = refl; waiting = refl; trigger = refl }
+    go true false false false e =
+        record { model = refl; lcr = refl; mcr = refl; fifo = refl; queued = refl; waiting = refl; trigger = refl }
+    go false true receiver transmitter e =
+        record { model = refl; lcr = refl; mcr = refl; fifo = e refl; queued = refl; waiting = refl; trigger = refl }
+    go false false receiver transmitter e =
+        record { model = refl; lcr = refl; mcr = refl; fifo = refl; queued = refl; waiting = refl; trigger = refl }
+
+-- ---- an action
+
+abbrev pub Does : Action → ChipState → ChipState → Type 0
+Does (Sends byte) c d = d ≡ record c { transmitter = load c.fifo (cut_of c byte) c.transmitter }
+Does (Receives byte) c d = d ≡ record c { receiver = take_front c.receiver.queue c.receiver }
+Does (ControlsFifo fcr) c d = Controlled fcr.0 c d
+Does (SetsLine lcr) c d = d ≡ with_latches (record c.latches { lcr = lcr.0 }) c
+Does (SetsModem mcr) c d = d ≡ control_modem (bit_and mcr.0 mcr_bits) c
+Does (SetsDivisorLow byte) c d = Alike c d × (d.transmitter ≡ c.transmitter)
+Does (IdentifiesInterrupt isr) c d = Alike c d × (isr.0 ≡ answer offsets.ISR c)
+Does (ReadsLine lcr) c d = Alike c d × (lcr.0 ≡ c.latches.lcr)
+Does (ReadsModem mcr) c d = Alike c d × (mcr.0 ≡ c.latches.mcr)
+Does (LooksAtLine lsr) c d = Alike c d × (lsr.0 ≡ line_status c)
+Does (Arrives byte errors) c d = ⊥
+Does _ c d = Alike c d × Unit {0}
+
+-- ---- each register
+
+-- the offset is none of the first seven
+pub record IsBehind (offset : ℕ) : Type 0 where
+  pub not_data : (offset == offsets.DATA) ≡ false
+  pub not_ier : (offset == offsets.IER) ≡ false
+  pub not_isr : (offset == offsets.ISR) ≡ false
+  pub not_lcr : (offset == offsets.LCR) ≡ false
+  pub not_mcr : (offset == offsets.MCR) ≡ false
+  pub not_lsr : (offset == offsets.LSR) ≡ false
+  pub not_msr : (offset == offsets.MSR) ≡ false
+
+module _ (P : ℕ → Type 0) (front : P offsets.DATA) (ier : P offsets.IER) (isr : P offsets.ISR) (lcr : P offsets.LCR) (mcr : P offsets.MCR)
+    (lsr : P offsets.LSR) (msr : P offsets.MSR) (other : (offset : ℕ) → IsBehind offset → P offset) where
+  pub by_offset : (n : ℕ) → P n
+  by_offset n =
+      pick n (n == offsets.DATA) (n == offsets.IER) (n == offsets.ISR) (n == offsets.LCR) (n == offsets.MCR) (n == offsets.LSR)
+      (n == offsets.MSR)
+      refl refl refl refl refl refl refl
+    where
+      pick : (n : ℕ) (a b c d e f g : Bool) → (n == offsets.DATA) ≡ a → (n == offsets.IER) ≡ b → (n == offsets.ISR) ≡ c →
+          (n == offsets.LCR) ≡ d → (n == offsets.MCR) ≡ e → (n == offsets.LSR) ≡ f → (n == offsets.MSR) ≡ g → P n
+      pick n true b c d e f g h1 h2 h3 h4 h5 h6 h7 = by_number P n offsets.DATA h1 front
+      pick n false true c d e f g h1 h2 h3 h4 h5 h6 h7 = by_number P n offsets.IER h2 ier
+      pick n false false true d e f g h1 h2 h3 h4 h5 h6 h7 = by_number P n offsets.ISR h3 isr
+      pick n false false false true e f g h1 h2 h3 h4 h5 h6 h7 = by_number P n offsets.LCR h4 lcr
+      pick n false false false false true f g h1 h2 h3 h4 h5 h6 h7 = by_number P n offsets.MCR h5 mcr
+      pick n false false false false false true g h1 h2 h3 h4 h5 h6 h7 = by_number P n offsets.LSR h6 lsr
+      pick n false false false false false false true h1 h2 h3 h4 h5 h6 h7 = by_number P n offsets.MSR h7 msr
+      pick n false false false false false false false h1 h2 h3 h4 h5 h6 h7 = other n (record {
+        not_data = h1;
+        not_ier = h2;
+        not_isr = h3;
+        not_lcr = h4;
+        not_mcr = h5;
+        not_lsr = h6;
+        not_msr = h7;
+      })
+
+-- ---- a read
+
+reads_data : (c : ChipState) (value : ℕ) (b : Bool) → Does (data_read (Some b) value) c (if b then c else record c
+    { receiver = take_front c.receiver.queue c.receiver })
+reads_data c value true = (alike_refl c, tt)
+reads_data c value false = refl
+
+reads_ier : (c : ChipState) (value : ℕ) (b : Bool) → Does (ier_read (Some b) value) c c
+reads_ier c value true = (alike_refl c, tt)
+reads_ier c value false = (alike_refl c, tt)
+
+pub does_read : (c : ChipState) (n value : ℕ) → value ≡ answer n c →
+    Does (read_action (Some (is_dlab_set c.latches)) n value) c (after_read n c)
+does_read c n value is =
+    by_offset (λ n. value ≡ answer n c → Does (read_action (Some (is_dlab_set c.latches)) n value) c (after_read n c))
+    (λ e. reads_data c value (is_dlab_set c.latches)) (λ e. reads_ier c value (is_dlab_set c.latches))
+    (λ e. (alike_if c (with_thr_pending false c) c (is_thr_empty (interrupt c)) (alike_with_thr c) (alike_refl c), e))
+    (λ e. (alike_refl c, e)) (λ e. (alike_refl c, e)) (λ e. (alike_report c, e)) (λ e. (alike_modem c, tt))
+    (λ n o e. rw (o.not_data, o.not_ier, o.not_isr, o.not_lcr, o.not_mcr, o.not_lsr, o.not_msr) (alike_refl c, tt)) n is
+  where
+    alike_with_thr : (c : ChipState) → Alike c (with_thr_pending false c)
+    alike_with_thr c = record { model = refl; lcr = refl; mcr = refl; fifo = refl; queued = refl; waiting = refl; trigger = refl }
+
+    alike_report : (c : ChipState) → Alike c (after_read offsets.LSR c)
+    alike_report c = record { model = refl; lcr = refl; mcr = refl; fifo = refl; queued = refl; waiting = refl; trigger = refl }
+
+    alike_modem : (c : ChipState) → Alike c (after_read offsets.MSR c)
+    alike_modem c = record { model = refl; lcr = refl; mcr = refl; fifo = refl; queued = refl; waiting = refl; trigger = refl }
+
+-- ---- a write
+
+writes_data : (c : ChipState) (value : ℕ) (b : Bool) → Does (data_written (Some b) value) c
+    (if b then with_latches (record c.latches { dll = value }) c else record c
+    { transmitter = load c.fifo (cut_of c value) c.transmitter })
+writes_data c value true =
+    (record { model = refl; lcr = refl; mcr = refl; fifo = refl; queued = refl; waiting = refl; trigger = refl }, refl)
+writes_data c value false = refl
+
+writes_ier : (c : ChipState) (value : ℕ) (b : Bool) → Does (ier_written (Some b) value) c
+    (if b then with_latches (record c.latches { dlm = value }) c else enable value c)
+writes_ier c value true =
+    (record { model = refl; lcr = refl; mcr = refl; fifo = refl; queued = refl; waiting = refl; trigger = refl }, tt)
+writes_ier c value false =
+    (record { model = refl; lcr = refl; mcr = refl; fifo = refl; queued = refl; waiting = refl; trigger = refl }, tt)
+
+controls : (model : Chip) (value : ℕ) (c : ChipState) → model ≡ Uart16550A → Controlled value c (control model value c)
+controls Uart16450 value c e = absurd (cc)
+controls Uart16550A value c e = controlled value c
+
+pub does_write : (c : ChipState) (n value : ℕ) → c.model ≡ Uart16550A →
+    Does (write_action (Some (is_dlab_set c.latches)) n value) c (after_write n value c)
+does_write c n value model =
+    by_offset (λ n. Does (write_action (Some (is_dlab_set c.latches)) n value) c (after_write n value c))
+    (writes_data c value (is_dlab_set c.latches)) (writes_ier c value (is_dlab_set c.latches))
+    (controls c.model value c model) refl refl (alike_refl c, tt) (alike_refl c, tt)
+    (λ n o.
+    rw (o.not_data, o.not_ier, o.not_isr, o.not_lcr, o.not_mcr)
+    (alike_if c (with_latches (record c.latches { scr = value }) c) c (n == offsets.SPR) (alike_scr c) (alike_refl c), tt))
+    n
+  where
+    alike_scr : (c : ChipState) → Alike c (with_latches (record c.latches { scr = value }) c)
+    alike_scr c = record { model = refl; lcr = refl; mcr = refl; fifo = refl; queued = refl; waiting = refl; trigger = refl }

@@ -1,0 +1,603 @@
+-- Each finding that says that a byte is lost names an access that loses it.
+use Rattle.std.proofs.Common.{◌≡◌, ◌≤◌, ◌<◌, ℕ, ◌+◌, ◌-◌, ◌^◌, Bool, true, false, not, ◌&&◌, ◌||◌, ◌==◌, List, [], ◌∷◌, length, min, nat_lt}
+use Rattle.std.proofs.Common.{Option, Some, None, refl, sym, ◌∙◌, ap, subst, arith, if◌then◌else◌}
+use Rattle.std.specs.Prelude.{is_some, nat_le}
+use Rattle.std.proofs.lemmas.Grind.{common_steps}
+use Rattle.uart_spec.specs.Bits.{has, has_any}
+use Rattle.uart_spec.specs.declared.access.Access.{Access as RegisterAccess}
+use Rattle.uart_spec.specs.declared.access.Access.TheVariants.{Read, Write}
+use Rattle.uart_spec.specs.declared.registers.fifo_control.FCR.{FCR}
+use Rattle.uart_spec.specs.declared.registers.fifo_control.TheConstants.FCR as fcr_bits
+use Rattle.uart_spec.specs.declared.registers.line_control.TheConstants.LCR as lcr_bits
+use Rattle.uart_spec.specs.declared.registers.offsets.TheConstants as offsets
+use Rattle.uart_events.specs.declared.event.Chip.TheVariants.{Uart16550A}
+use Rattle.uart_spec.specs.declared.registers.line_status.LSR.{LSR}
+use Rattle.uart_spec.specs.declared.registers.modem_control.MCR.{MCR}
+use Rattle.uart_spec.specs.declared.registers.interrupt_type.InterruptType.{InterruptType}
+use Rattle.uart_spec.specs.declared.registers.interrupt_type.InterruptType.TheVariants.{ReceptionTimeout}
+use Rattle.uart_chip.specs.Chip.{ChipState, cut_of, is_dlab_set, is_loopback}
+use Rattle.uart_chip.specs.Machine.{MachineState, MachineStep, at_access}
+use Rattle.uart_chip.specs.Sound.{IsSound}
+use Rattle.uart_chip.specs.Transmitter.{TransmitterState, load, room as room_of}
+use Rattle.uart_chip.proofs.soundness.Sounds.{sound_access, sound_step}
+use Rattle.uart_run.proofs.Latches.{Kept, kept_access}
+use Rattle.uart_judges.specs.Setups.{next_is_open}
+use Rattle.uart_judges.specs.Actions.{action, read_action, write_action}
+use Rattle.uart_judges.specs.Findings.{all_found, change, changed, closed, closes, cuts, discard, findings_at, from_nothing}
+use Rattle.uart_judges.specs.Findings.{given, has_low_alone, is_at_rest, is_for_ier, is_in_break, is_other, is_other_frame, is_zero, latch}
+use Rattle.uart_judges.specs.Findings.{latched, loops_again, output, put_out}
+use Rattle.uart_judges.specs.Findings.{room, sent_before, taken, taken_from_nothing, when, with_errors}
+use Rattle.uart_judges.specs.History.{known, step_from}
+use Rattle.uart_judges.specs.Shows.{receives, sends}
+use Rattle.uart_judges.specs.Steps.{action_empties, depth, empties, loops_back, shows_room}
+use Rattle.uart_judges.specs.Unread.{front}
+use Rattle.uart_judges.specs.declared.audit.action.Action.{Action}
+use Rattle.uart_judges.specs.declared.audit.action.Action.TheVariants.{Sends, ReadsDivisor, SetsDivisorLow, SetsDivisorHigh}
+use Rattle.uart_judges.specs.declared.audit.action.Action.TheVariants.{ControlsFifo, ReadsLine, SetsLine, LooksAtLine}
+use Rattle.uart_judges.specs.declared.audit.action.Action.TheVariants.{Arrives, ChangesLines, Other}
+use Rattle.uart_judges.specs.declared.audit.auditor.Auditor.{Auditor}
+use Rattle.uart_judges.specs.declared.audit.finding.Finding.{Finding}
+use Rattle.uart_judges.specs.declared.audit.finding.Finding.TheVariants as found
+use Rattle.uart_judges.specs.declared.audit.setup.Setup.{Setup}
+use Rattle.uart_judges.specs.declared.audit.step.Step.{Step}
+use Rattle.uart_judges.specs.declared.audit.unread.Arrived.{Arrived}
+use Rattle.uart_judges.specs.declared.recording.entry.Entry.{Entry}
+use Rattle.uart_judges.specs.declared.recording.entry.Happening.{Happening}
+use Rattle.uart_judges.specs.declared.recording.entry.Happening.TheVariants.{Access, Arrive, Interrupt, Lines}
+use Rattle.uart_judges_runs.specs.Lost.{AllLose, Follows, IsDropped, IsNextArrival, IsRight, IsSo, KnowsWhatIs, Loses, LosesIf}
+use Rattle.uart_judges_runs.specs.Lost.{left_after, left_at}
+use Rattle.uart_judges_runs.specs.Recorded.{is_of_calls}
+use Rattle.uart_judges_runs.proofs.Arrived.{after_arrival, sound_arrival}
+use Rattle.uart_judges_runs.proofs.Does.{Does, alike_refl, does_read, does_write}
+use Rattle.uart_judges_runs.proofs.Knows.{IsLooping, IsSent, after_all, after_dlab, after_with, is_cleared}
+use Rattle.uart_judges_runs.proofs.Spared.{Spared, all_others}
+use Rattle.uart_judges_runs.proofs.Waits.{at_the_access}
+use Rattle.uart_judges_runs.proofs.Wire.{stays_inside}
+
+module _ (a : Auditor) (left : ℕ) (c : ChipState) (n : MachineState) where
+  -- the finding loses what it says
+  record Lost (o : Option Finding) : Type 0 where
+    pub is : LosesIf o a left c n
+
+  none_lost : Lost None
+  none_lost = record { is = tt }
+
+  -- a finding that says of no byte that it is lost
+  free : (f : Finding) → is_of_calls f ≡ false → Loses f a left c n
+  free (found.SentBeyondRoom sent space) e = absurd (cc)
+  free (found.SentIntoLatch byte) e = absurd (cc)
+  free (found.SentInLoopback byte) e = absurd (cc)
+  free found.ResetWhileSending e = absurd (cc)
+  free found.WaitingDiscarded e = absurd (cc)
+  free _ e = tt
+
+  free_if : (o : Option Finding) → Spared o → Lost o
+  free_if None s = none_lost
+  free_if (Some f) s = record { is = free f s.is }
+
+  lost_if : (b : Bool) (x y : Option Finding) → (b ≡ true → Lost x) → (b ≡ false → Lost y) → Lost (if b then x else y)
+  lost_if true x y p q = p refl
+  lost_if false x y p q = q refl
+
+  lost_when : (b : Bool) (f : Finding) → (b ≡ true → Loses f a left c n) → Lost (when b f)
+  lost_when true f p = record { is = p refl }
+  lost_when false f p = none_lost
+
+both_left : (b c : Bool) → (b && c) ≡ true → b ≡ true
+both_left true c e = refl
+both_left false c e = absurd (cc)
+
+both_right : (b c : Bool) → (b && c) ≡ true → c ≡ true
+both_right true c e = e
+both_right false c e = absurd (cc)
+
+-- bytes wait, and the driver is not at rest
+abbrev has_to_lose : Auditor → Step → Bool
+has_to_lose a s = nat_lt 0 a.waiting && not (is_at_rest a s.setup)
+
+positive : (n : ℕ) → nat_lt 0 n ≡ true → 1 ≤ n
+positive n e = let h : 0 < n = grind (arith, common_steps) in omega (arith, h)
+
+-- ---- a byte beyond the room
+
+room_known : (o : Option Bool) (on : Bool) → IsSo o (λ b. on ≡ b) → room_of on ≤ depth o
+room_known None true so = omega arith
+room_known None false so = omega arith
+room_known (Some true) true so = omega arith
+room_known (Some true) false so = absurd (cc)
+room_known (Some false) true so = absurd (cc)
+room_known (Some false) false so = omega arith
+
+some_depth : (o : Option Bool) → 1 ≤ depth o
+some_depth None = omega arith
+some_depth (Some true) = omega arith
+some_depth (Some false) = omega arith
+
+-- a byte has gone by time, or it counts
+counted_sent : (rested : Bool) (sent least : ℕ) → 1 ≤ least → least ≤ (if rested then 0 else sent) → least ≤ sent
+counted_sent true sent least one h = absurd (omega (arith, one, h))
+counted_sent false sent least one h = h
+
+is_full : (space most sent queued left : ℕ) → space ≤ most → most ≤ sent → min sent space ≤ queued + left → space ≤ queued + left
+is_full space most sent queued left p q h = omega (arith, p, q, h)
+
+same_length : (fifo : Bool) (byte : ℕ) (queue : List ℕ) → room_of fifo ≤ length queue → length queue ≤ room_of fifo →
+    length (if fifo then queue else byte ∷ []) ≡ length queue
+same_length true byte queue p q = refl
+same_length false byte queue p q = one (length queue) p q
+  where
+    one : (n : ℕ) → 1 ≤ n → n ≤ 1 → 1 ≡ n
+    one n p q = omega (arith, p, q)
+
+same_queue : (fifo : Bool) (byte : ℕ) (queue : List ℕ) → fifo ≡ true → (if fifo then queue else byte ∷ []) ≡ queue
+same_queue true byte queue e = refl
+same_queue false byte queue e = absurd (cc)
+
+not_less : (n m : ℕ) → m ≤ n → nat_lt n m ≡ false
+not_less n m h = grind (arith, common_steps)
+
+dropped : (c : ChipState) (byte : ℕ) → length c.transmitter.queue ≤ room_of c.fifo → room_of c.fifo ≤ length c.transmitter.queue →
+    IsDropped c (record c { transmitter = load c.fifo byte c.transmitter })
+dropped c byte fits full =
+    rw (not_less (length c.transmitter.queue) (room_of c.fifo) full) (record {
+      counted = refl;
+      no_more = same_length c.fifo byte c.transmitter.queue full fits;
+      with_fifo = λ on. same_queue c.fifo byte c.transmitter.queue on;
+    })
+
+no_bytes_left : (space queued left : ℕ) → space ≤ queued + left → left ≡ 0 → space ≤ queued
+no_bytes_left space queued left h e = omega (arith, h, e)
+
+le_of : (n m : ℕ) → nat_le n m ≡ true → n ≤ m
+le_of n m e = grind (arith, common_steps)
+
+module _ (a : Auditor) (left : ℕ) (c : ChipState) (n : MachineState) (s : Step) (same : s.setup ≡ a.setup) (k : KnowsWhatIs a left c)
+    (fits : length c.transmitter.queue ≤ room_of c.fifo) where
+  fifos : IsSo s.setup.has_fifo (λ on. c.fifo ≡ on)
+  fifos = subst (λ (setup : Setup). IsSo setup.has_fifo (λ on. c.fifo ≡ on)) (sym same) k.fifos
+
+  beyond : (byte : ℕ) → Does (Sends byte) c n.chip → nat_le (depth s.setup.has_fifo) (sent_before a s) ≡ true →
+      (room_of c.fifo ≤ length c.transmitter.queue + left) × (left ≡ 0 → IsDropped c n.chip)
+  beyond byte h e =
+      let most : depth s.setup.has_fifo ≤ a.sent =
+      counted_sent s.has_rested a.sent (depth s.setup.has_fifo) (some_depth s.setup.has_fifo) (le_of _ (sent_before a s) e) in
+      let full : room_of c.fifo ≤ length c.transmitter.queue + left =
+      is_full (room_of c.fifo) (depth s.setup.has_fifo) a.sent _ left (room_known s.setup.has_fifo c.fifo fifos) most k.sent in (
+        full,
+        λ none. subst (λ (d : ChipState). IsDropped c d) (sym h)
+            (dropped c (cut_of c byte) fits (no_bytes_left (room_of c.fifo) (length c.transmitter.queue) left full none)),
+      )
+
+  room_lost : (x : Action) → Does x c n.chip → Lost a left c n
+      (if not (sends x) then None
+      else when (nat_le (depth s.setup.has_fifo) (sent_before a s))
+      (found.SentBeyondRoom (min (sent_before a s + 1) (2 ^ 64 - 1)) (depth s.setup.has_fifo)))
+  room_lost (Sends byte) h =
+      lost_when a left c n (nat_le (depth s.setup.has_fifo) (sent_before a s)) _ (λ e. beyond byte h e)
+  room_lost _ h = none_lost a left c n
+
+  -- ---- a byte in loopback
+
+  is_looping : (o : Option MCR) → IsSo o (IsLooping c) → loops_back o ≡ true → is_loopback c.latches ≡ true
+  is_looping None so e = absurd (cc)
+  is_looping (Some mcr) so e = so ∙ e
+
+  loopback : IsSo s.setup.modem (IsLooping c)
+  loopback = subst (λ (setup : Setup). IsSo setup.modem (IsLooping c)) (sym same) k.loopback
+
+  wire_load : (b : Bool) (t u v : TransmitterState) → u.wire ≡ t.wire → v.wire ≡ t.wire → (if b then u else v).wire ≡ t.wire
+  wire_load true t u v p q = p
+  wire_load false t u v p q = q
+
+  in_loopback : (byte : ℕ) → Does (Sends byte) c n.chip → loops_again a s.setup ≡ true → Loses (found.SentInLoopback byte) a left c n
+  in_loopback byte h e =
+      let on : is_loopback c.latches ≡ true = is_looping s.setup.modem loopback (both_left _ _ e) in
+      stays_inside c.transmitter.wire n (ap (λ (c : ChipState). is_loopback c.latches) h ∙ on)
+      (ap (λ (c : ChipState). c.transmitter.wire) h
+      ∙ wire_load (nat_lt (length c.transmitter.queue) (room_of c.fifo)) c.transmitter _ _ refl refl)
+
+  given_lost : (byte : ℕ) → Does (Sends byte) c n.chip → Lost a left c n (given a s.setup byte)
+  given_lost byte h =
+      lost_if a left c n (is_in_break s.setup.line) _ _ (λ _. record { is = tt })
+      (λ _. lost_if a left c n (loops_again a s.setup) _ _ (λ e. record { is = in_loopback byte h e })
+      (λ _. lost_when a left c n (cuts s.setup.line byte) (found.WordTooShort byte) (λ _. tt)))
+
+  output_lost : (x : Action) → Does x c n.chip → Lost a left c n (put_out a s.setup x)
+  output_lost (Sends byte) h = given_lost byte h
+  output_lost _ h = none_lost a left c n
+
+  -- ---- a byte for the divisor
+
+  latched_lost : (x : Action) → Does x c n.chip → Lost a left c n (latched a s x)
+  latched_lost (SetsDivisorLow byte) h =
+      lost_when a left c n (a.latch.has_looked || a.latch.is_low_new) (found.SentIntoLatch byte) (λ _. h.1)
+  latched_lost (SetsDivisorHigh value) h = lost_when a left c n (is_for_ier a s value) (found.InterruptsIntoLatch value) (λ _. tt)
+  latched_lost ReadsDivisor h = lost_when a left c n a.latch.has_looked found.ReceivedFromLatch (λ _. tt)
+  latched_lost (SetsLine lcr) h =
+      lost_if a left c n (closes s.setup.is_open lcr) (closed a s) None
+      (λ _. lost_if a left c n (is_zero s.setup.divisor.low && is_zero s.setup.divisor.high) _ _ (λ _. record { is = tt })
+      (λ _. lost_when a left c n (has_low_alone a.latch) found.HighByteNotSet (λ _. tt)))
+      (λ _. none_lost a left c n)
+  latched_lost _ h = none_lost a left c n
+
+  -- ---- a queue that FCR empties
+
+  queue_gone : {A : Type 0} (queue after : List A) (b : Bool) → b ≡ true → after ≡ (if b then [] else queue) → after ≡ []
+  queue_gone queue after true e f = f
+  queue_gone queue after false e f = absurd (cc)
+
+  reset : (fcr : FCR) → Does (ControlsFifo fcr) c n.chip →
+      (nat_lt 0 a.sent && action_empties fcr_bits.TX_FIFO_RESET.0 s.setup.has_fifo (ControlsFifo fcr)) ≡ true →
+      Loses found.ResetWhileSending a left c n
+  reset fcr h e = (
+    one (length c.transmitter.queue) (room_of c.fifo) a.sent (positive a.sent (both_left _ _ e)) some_room k.sent,
+    queue_gone c.transmitter.queue n.chip.transmitter.queue _ (is_cleared 2 s.setup.has_fifo fcr c fifos (both_right _ _ e)) h.queued,
+  )
+    where
+      one : (queued space sent : ℕ) → 1 ≤ sent → 1 ≤ space → min sent space ≤ queued + left → 1 ≤ queued + left
+      one queued space sent p q h = omega (arith, p, q, h)
+
+      some_room : 1 ≤ room_of c.fifo
+      some_room = some c.fifo
+        where
+          some : (fifo : Bool) → 1 ≤ room_of fifo
+          some true = omega arith
+          some false = omega arith
+
+  changed_lost : (x : Action) → s.action ≡ x → Does x c n.chip → Lost a left c n (changed a s x)
+  changed_lost (SetsLine lcr) is h = lost_when a left c n (is_other_frame s.setup.line lcr) found.FrameChangedWhileSending (λ _. tt)
+  changed_lost (SetsDivisorLow value) is h =
+      lost_when a left c n (is_other s.setup.divisor.low value) found.DivisorChangedWhileSending (λ _. tt)
+  changed_lost (SetsDivisorHigh value) is h =
+      lost_when a left c n (is_other s.setup.divisor.high value) found.DivisorChangedWhileSending (λ _. tt)
+  changed_lost (ControlsFifo fcr) is h =
+      lost_when a left c n _ found.ResetWhileSending
+      (λ e. reset fcr h (ap (λ (x : Action). nat_lt 0 a.sent && action_empties fcr_bits.TX_FIFO_RESET.0 s.setup.has_fifo x) (sym is) ∙ e))
+  changed_lost _ is h = none_lost a left c n
+
+  discarded : (fcr : FCR) → Does (ControlsFifo fcr) c n.chip →
+      (has_to_lose a s && action_empties fcr_bits.RX_FIFO_RESET.0 s.setup.has_fifo (ControlsFifo fcr)) ≡ true →
+      Loses found.WaitingDiscarded a left c n
+  discarded fcr h e = (
+    positive a.waiting (both_left _ _ (both_left _ _ e)),
+    k.waiting,
+    queue_gone c.receiver.queue n.chip.receiver.queue _ (is_cleared 1 s.setup.has_fifo fcr c fifos (both_right _ _ e)) h.waiting,
+  )
+
+  discard_lost : (x : Action) → Does x c n.chip → Lost a left c n
+      (when (has_to_lose a s && action_empties fcr_bits.RX_FIFO_RESET.0 s.setup.has_fifo x) found.WaitingDiscarded)
+  discard_lost (ControlsFifo fcr) h = lost_when a left c n _ found.WaitingDiscarded (λ e. discarded fcr h e)
+  discard_lost _ h = lost_when a left c n _ found.WaitingDiscarded (λ e. absurd (let f : false ≡ true = both_right _ _ e in cc))
+
+-- ---- a read of DATA, which loses nothing
+
+module _ (a : Auditor) (left : ℕ) (c : ChipState) (n : MachineState) where
+  nothing_lost : (again : Bool) (ready : Option Bool) (interrupt : Option InterruptType) →
+      Lost a left c n (from_nothing again ready interrupt)
+  nothing_lost again ready (Some ReceptionTimeout) = none_lost a left c n
+  nothing_lost again (Some false) None = record { is = tt }
+  nothing_lost again (Some false) (Some _) = record { is = tt }
+  nothing_lost again (Some true) None = lost_when a left c n again found.ReceivedWithoutLook (λ _. tt)
+  nothing_lost again (Some true) (Some _) = lost_when a left c n again found.ReceivedWithoutLook (λ _. tt)
+  nothing_lost again None None = lost_when a left c n again found.ReceivedWithoutLook (λ _. tt)
+  nothing_lost again None (Some _) = lost_when a left c n again found.ReceivedWithoutLook (λ _. tt)
+
+  errors_lost : (oldest : Option Arrived) (again : Bool) → Lost a left c n (with_errors oldest again)
+  errors_lost (Some oldest) again = none_lost a left c n
+  errors_lost None again = lost_when a left c n again found.ErrorsNotRead (λ _. tt)
+
+  taken_lost : (s : Step) → Lost a left c n (taken a s)
+  taken_lost s =
+      lost_if a left c n (not (receives s.action)) None
+      (if a.waiting == 0 then taken_from_nothing a else with_errors (front a.unread) a.has_taken)
+      (λ _. none_lost a left c n)
+      (λ _. lost_if a left c n (a.waiting == 0) (taken_from_nothing a) (with_errors (front a.unread) a.has_taken)
+      (λ _. lost_if a left c n a.is_at_work (from_nothing a.has_taken a.ready a.data_interrupt) None
+      (λ _. nothing_lost a.has_taken a.ready a.data_interrupt) (λ _. none_lost a left c n))
+      (λ _. errors_lost (front a.unread) a.has_taken))
+
+  -- the five that need more than their kind
+  record FiveLost (s : Step) : Type 0 where
+    pub room : Lost a left c n (room a s)
+    pub output : Lost a left c n (output a s)
+    pub latch : Lost a left c n (latch a s)
+    pub change : Lost a left c n (change a s)
+    pub discard : Lost a left c n (discard a s)
+
+  all_lost : (s : Step) → FiveLost s → AllLose (all_found a s) a left c n
+  all_lost s five =
+      let others = all_others a s in
+      let is : (o : Option Finding) → Spared o → LosesIf o a left c n = λ o p. (free_if a left c n o p).is in (
+        is _ others.note,
+        (
+          five.room.is,
+          (
+            five.output.is,
+            (
+              is _ others.flow,
+              (
+                is _ others.gate,
+                (
+                  (taken_lost s).is,
+                  (
+                    is _ others.arrival,
+                    (
+                      is _ others.overrun,
+                      (
+                        is _ others.empty,
+                        (
+                          five.latch.is,
+                          (
+                            five.change.is,
+                            (
+                              five.discard.is,
+                              (
+                                is _ others.service,
+                                (
+                                  is _ others.chip,
+                                  (
+                                    is _ others.level,
+                                    (
+                                      is _ others.line_up,
+                                      tt,
+                                    ),
+                                  ),
+                                ),
+                              ),
+                            ),
+                          ),
+                        ),
+                      ),
+                    ),
+                  ),
+                ),
+              ),
+            ),
+          ),
+        ),
+      )
+
+-- ---- an access
+
+lost_at : (a : Auditor) (left : ℕ) (c : ChipState) (n : MachineState) (s : Step) (x : Action) → s.action ≡ x → s.setup ≡ a.setup →
+    KnowsWhatIs a left c → length c.transmitter.queue ≤ room_of c.fifo → Does x c n.chip → AllLose (all_found a s) a left c n
+lost_at a left c n s x is same k fits h =
+    all_lost a left c n s (record {
+      room =
+          subst (λ (x : Action). Lost a left c n
+          (if not (sends x) then None
+          else when (nat_le (depth s.setup.has_fifo) (sent_before a s))
+          (found.SentBeyondRoom (min (sent_before a s + 1) (2 ^ 64 - 1)) (depth s.setup.has_fifo))))
+          (sym is) (room_lost a left c n s same k fits x h);
+      output = subst (λ (x : Action). Lost a left c n (put_out a s.setup x)) (sym is) (output_lost a left c n s same k fits x h);
+      latch = subst (λ (x : Action). Lost a left c n (latched a s x)) (sym is) (latched_lost a left c n s same k fits x h);
+      change =
+          lost_if a left c n (s.has_rested || (a.going_out == 0)) None (changed a s s.action) (λ _. none_lost a left c n)
+          (λ _. subst (λ (x : Action). Lost a left c n (changed a s x)) (sym is) (changed_lost a left c n s same k fits x is h));
+      discard =
+          subst
+          (λ (x : Action). Lost a left c n
+          (when (has_to_lose a s && action_empties fcr_bits.RX_FIFO_RESET.0 s.setup.has_fifo x) found.WaitingDiscarded))
+          (sym is) (discard_lost a left c n s same k fits x h);
+    })
+
+-- ---- another entry
+
+-- it touches no register
+abbrev IsNoAccess : Action → Type 0
+IsNoAccess Other = Unit {0}
+IsNoAccess (ChangesLines inputs) = Unit {0}
+IsNoAccess (Arrives byte errors) = Unit {0}
+IsNoAccess _ = ⊥
+
+quiet_lost : (a : Auditor) (left : ℕ) (c : ChipState) (n : MachineState) (s : Step) (x : Action) → s.action ≡ x → IsNoAccess x →
+    AllLose (all_found a s) a left c n
+quiet_lost a left c n s x is quiet =
+    all_lost a left c n s (record {
+      room =
+          subst (λ (x : Action). Lost a left c n
+          (if not (sends x) then None
+          else when (nat_le (depth s.setup.has_fifo) (sent_before a s))
+          (found.SentBeyondRoom (min (sent_before a s + 1) (2 ^ 64 - 1)) (depth s.setup.has_fifo))))
+          (sym is) (room_none x quiet);
+      output = subst (λ (x : Action). Lost a left c n (put_out a s.setup x)) (sym is) (output_none x quiet);
+      latch = subst (λ (x : Action). Lost a left c n (latched a s x)) (sym is) (latched_none x quiet);
+      change =
+          lost_if a left c n (s.has_rested || (a.going_out == 0)) None (changed a s s.action) (λ _. none_lost a left c n)
+          (λ _. subst (λ (x : Action). Lost a left c n (changed a s x)) (sym is) (changed_none x quiet));
+      discard =
+          subst
+          (λ (x : Action). Lost a left c n
+          (when (has_to_lose a s && action_empties fcr_bits.RX_FIFO_RESET.0 s.setup.has_fifo x) found.WaitingDiscarded))
+          (sym is) (discard_none x quiet);
+    })
+  where
+    room_none : (x : Action) → IsNoAccess x → Lost a left c n
+        (if not (sends x) then None
+        else when (nat_le (depth s.setup.has_fifo) (sent_before a s))
+        (found.SentBeyondRoom (min (sent_before a s + 1) (2 ^ 64 - 1)) (depth s.setup.has_fifo)))
+    room_none Other q = none_lost a left c n
+    room_none (ChangesLines inputs) q = none_lost a left c n
+    room_none (Arrives byte errors) q = none_lost a left c n
+    room_none _ q = absurd q
+
+    output_none : (x : Action) → IsNoAccess x → Lost a left c n (put_out a s.setup x)
+    output_none Other q = none_lost a left c n
+    output_none (ChangesLines inputs) q = none_lost a left c n
+    output_none (Arrives byte errors) q = none_lost a left c n
+    output_none _ q = absurd q
+
+    latched_none : (x : Action) → IsNoAccess x → Lost a left c n (latched a s x)
+    latched_none Other q = none_lost a left c n
+    latched_none (ChangesLines inputs) q = none_lost a left c n
+    latched_none (Arrives byte errors) q = none_lost a left c n
+    latched_none _ q = absurd q
+
+    changed_none : (x : Action) → IsNoAccess x → Lost a left c n (changed a s x)
+    changed_none Other q = none_lost a left c n
+    changed_none (ChangesLines inputs) q = none_lost a left c n
+    changed_none (Arrives byte errors) q = none_lost a left c n
+    changed_none _ q = absurd q
+
+    discard_none : (x : Action) → IsNoAccess x → Lost a left c n
+        (when (has_to_lose a s && action_empties fcr_bits.RX_FIFO_RESET.0 s.setup.has_fifo x) found.WaitingDiscarded)
+    discard_none Other q = lost_when a left c n _ found.WaitingDiscarded (λ e. absurd (let f : false ≡ true = both_right _ _ e in cc))
+    discard_none (ChangesLines inputs) q =
+        lost_when a left c n _ found.WaitingDiscarded (λ e. absurd (let f : false ≡ true = both_right _ _ e in cc))
+    discard_none (Arrives byte errors) q =
+        lost_when a left c n _ found.WaitingDiscarded (λ e. absurd (let f : false ≡ true = both_right _ _ e in cc))
+    discard_none _ q = absurd q
+
+-- ---- a recording
+
+-- what an entry shows: what it says is lost is, and what the judge knows after it is so
+record Shown (past : List Entry) (left : ℕ) (m : MachineState) (e : Entry) (n : MachineState) : Type 0 where
+  pub lost : AllLose (findings_at e past) (known past) (left_at e.happening left m n) (at_access m).chip n
+  pub sound : IsSound n
+  pub knows : KnowsWhatIs (known (e ∷ past)) (left_after past e left m n) n.chip
+
+fits_in : (m : MachineState) → IsSound m → length (at_access m).chip.transmitter.queue ≤ room_of (at_access m).chip.fifo
+fits_in m sound = (sound_access m sound).chip.transmitter.in_room
+
+made : (past : List Entry) (left : ℕ) (m : MachineState) (e : Entry) (n : MachineState) (access : RegisterAccess) (x : Action) →
+    e.happening ≡ Access access → IsSound m → KnowsWhatIs (known past) left m.chip → MachineStep m access n →
+    (step_from (known past) e).action ≡ x → Does x (at_access m).chip n.chip → Shown past left m e n
+made past left m e n access x is sound k step does h =
+    let a = known past in
+    let s = step_from a e in
+    let now = left + (length m.chip.transmitter.queue - length (at_access m).chip.transmitter.queue) in
+    let here = at_the_access a left m sound k in
+    let same : left_at e.happening left m n ≡ now = ap (λ (h : Happening). left_at h left m n) is in
+    record {
+      lost =
+          subst (λ (left : ℕ). AllLose (findings_at e past) (known past) left (at_access m).chip n) (sym same)
+          (lost_at a now (at_access m).chip n s x does refl here (fits_in m sound) h);
+      sound = sound_step m n access sound step;
+      knows =
+          subst (λ (now : ℕ). KnowsWhatIs (known (e ∷ past)) (if shows_room s then 0 else now) n.chip) (sym same)
+          (after_all a now (at_access m).chip n.chip s x does refl h here);
+    }
+
+action_is : (past : List Entry) (left : ℕ) (m : MachineState) (e : Entry) (access : RegisterAccess) → e.happening ≡ Access access →
+    IsSound m → KnowsWhatIs (known past) left m.chip →
+    (step_from (known past) e).action ≡ action (Some (is_dlab_set (at_access m).chip.latches)) (Access access)
+action_is past left m e access is sound k =
+    ap (action (known past).setup.is_open) is ∙
+    ap (λ (o : Option Bool). action o (Access access)) (at_the_access (known past) left m sound k).dlab
+
+passed : (past : List Entry) (left : ℕ) (m : MachineState) (e : Entry) (n : MachineState) (x : Action) (h : Happening) → e.happening ≡ h →
+    IsSound m → KnowsWhatIs (known past) left m.chip → n ≡ m → (step_from (known past) e).action ≡ x → IsNoAccess x →
+    left_at h left m m ≡ left →
+    Does x m.chip m.chip → Shown past left m e n
+passed past left m e n x h is sound k step does quiet still none =
+    let a = known past in
+    let s = step_from a e in
+    let same : left_at e.happening left m m ≡ left = ap (λ (h : Happening). left_at h left m m) is ∙ still in
+    record {
+      lost = quiet_lost a (left_at e.happening left m n) (at_access m).chip n s x does quiet;
+      sound = subst IsSound (sym step) sound;
+      knows =
+          subst (λ (n : MachineState). KnowsWhatIs (known (e ∷ past)) (left_after past e left m n) n.chip) (sym step)
+          (subst (λ (now : ℕ). KnowsWhatIs (known (e ∷ past)) (if shows_room s then 0 else now) m.chip) (sym same)
+          (after_all a left m.chip m.chip s x does refl none k));
+    }
+
+arrived : (past : List Entry) (left : ℕ) (m : MachineState) (e : Entry) (n : MachineState) (byte : ℕ) (errors : LSR) →
+    e.happening ≡ Arrive byte errors → IsSound m → KnowsWhatIs (known past) left m.chip → is_some (known past).setup.has_fifo ≡ true →
+    is_some (known past).setup.modem ≡ true → IsNextArrival byte errors.0 m n → Shown past left m e n
+arrived past left m e n byte errors is sound k fifo modem next_one =
+    let a = known past in
+    let s = step_from a e in
+    let does : s.action ≡ Arrives byte errors = ap (action a.setup.is_open) is in
+    let now = left + (length m.chip.transmitter.queue - length n.chip.transmitter.queue) in
+    let same : left_at e.happening left m n ≡ now = ap (λ (h : Happening). left_at h left m n) is in
+    record {
+      lost = quiet_lost a (left_at e.happening left m n) (at_access m).chip n s (Arrives byte errors) does tt;
+      sound = sound_arrival byte errors.0 m n next_one sound;
+      knows =
+          subst (λ (now : ℕ). KnowsWhatIs (known (e ∷ past)) (if shows_room s then 0 else now) n.chip) (sym same)
+          (after_arrival a left m n s byte errors does refl sound k fifo modem next_one);
+    }
+
+entry : (past : List Entry) (left : ℕ) (m : MachineState) (e : Entry) (n : MachineState) (h : Happening) → e.happening ≡ h → IsSound m →
+    KnowsWhatIs (known past) left m.chip → Follows (known past) h m n → Shown past left m e n
+entry past left m e n (Access (Read offset value)) is sound k step =
+    made past left m e n (Read offset value) _ is sound k step (action_is past left m e (Read offset value) is sound k)
+    (subst (λ (d : ChipState). Does (read_action (Some (is_dlab_set (at_access m).chip.latches)) offset value) (at_access m).chip d)
+    (ap (λ (m : MachineState). m.chip) (sym step.0)) (does_read (at_access m).chip offset value step.1))
+entry past left m e n (Access (Write offset value)) is sound k step =
+    made past left m e n (Write offset value) _ is sound k step (action_is past left m e (Write offset value) is sound k)
+    (subst (λ (d : ChipState). Does (write_action (Some (is_dlab_set (at_access m).chip.latches)) offset value) (at_access m).chip d)
+    (ap (λ (m : MachineState). m.chip) (sym step))
+    (does_write (at_access m).chip offset value (at_the_access (known past) left m sound k).model))
+entry past left m e n (Arrive byte errors) is sound k step = arrived past left m e n byte errors is sound k step.0 step.1 step.2
+entry past left m e n (Interrupt is_raised) is sound k step =
+    passed past left m e n Other (Interrupt is_raised) is sound k step (ap (action (known past).setup.is_open) is) tt refl
+    (alike_refl m.chip, tt)
+entry past left m e n (Lines inputs) is sound k step =
+    passed past left m e n (ChangesLines inputs) (Lines inputs) is sound k step (ap (action (known past).setup.is_open) is) tt refl
+    (alike_refl m.chip, tt)
+
+pub right : (past entries : List Entry) (left : ℕ) (m : MachineState) → IsSound m → KnowsWhatIs (known past) left m.chip →
+    IsRight past left m entries
+right past [] left m sound k = tt
+right past (e ∷ entries) left m sound k = λ n follows.
+    let shown = entry past left m e n e.happening refl sound k follows in
+    (shown.lost, right (e ∷ past) entries (left_after past e left m n) n shown.sound shown.knows)
+
+-- ---- the first entry
+
+none_left : (r : Bool) (c : ChipState) (n : ℕ) → IsSent n (if r then 0 else 0) c → IsSent n 0 c
+none_left true c n h = h
+none_left false c n h = h
+
+-- nothing is known before, and the access shows DLAB
+begun : (m : MachineState) (e : Entry) (d : ChipState) (x : Action) → m.chip.model ≡ Uart16550A → (step_from (known []) e).action ≡ x →
+    Does x (at_access m).chip d → next_is_open None x ≡ Some (is_dlab_set d.latches) → KnowsWhatIs (known (e ∷ [])) 0 d
+begun m e d x model does h dlab =
+    let s = step_from (known []) e in
+    let c = (at_access m).chip in
+    let k = after_with (known []) 0 c d s x does refl h (ap (λ (k : Kept). k.model) (kept_access m) ∙ model) dlab tt tt tt none
+    (no_bytes (room_of c.fifo) (length c.transmitter.queue)) in
+    record {
+      model = k.model;
+      dlab = k.dlab;
+      loopback = k.loopback;
+      fifos = k.fifos;
+      trigger = k.trigger;
+      waiting = k.waiting;
+      sent = none_left (shows_room s) d (known (e ∷ [])).sent k.sent;
+    }
+  where
+    none : 0 ≤ length (at_access m).chip.receiver.queue
+    none = omega arith
+
+    no_bytes : (space queued : ℕ) → min 0 space ≤ queued + 0
+    no_bytes space queued = omega arith
+
+pub begins_read : (m n : MachineState) (e : Entry) (value : ℕ) → m.chip.model ≡ Uart16550A →
+    e.happening ≡ Access (Read offsets.LCR value) → MachineStep m (Read offsets.LCR value) n → KnowsWhatIs (known (e ∷ [])) 0 n.chip
+begins_read m n e value model is step =
+    let c = (at_access m).chip in
+    let x : Action = ReadsLine (record { 0 = value }) in
+    let h : Does x c n.chip = subst (λ (n : MachineState). Does x c n.chip) (sym step.0) (does_read c offsets.LCR value step.1) in
+    begun m e n.chip x model (ap (action None) is) h (after_dlab c n.chip x h)
+
+pub begins_written : (m n : MachineState) (e : Entry) (value : ℕ) → m.chip.model ≡ Uart16550A →
+    e.happening ≡ Access (Write offsets.LCR value) → MachineStep m (Write offsets.LCR value) n → KnowsWhatIs (known (e ∷ [])) 0 n.chip
+begins_written m n e value model is step =
+    let c = (at_access m).chip in
+    let x : Action = SetsLine (record { 0 = value }) in
+    let h : Does x c n.chip = subst (λ (n : MachineState). Does x c n.chip) (sym step)
+    (does_write c offsets.LCR value (ap (λ (k : Kept). k.model) (kept_access m) ∙ model)) in
+    begun m e n.chip x model (ap (action None) is) h (after_dlab c n.chip x h)
+
+pub begins_looked : (m n : MachineState) (e : Entry) (value : ℕ) → m.chip.model ≡ Uart16550A → is_dlab_set m.chip.latches ≡ false →
+    e.happening ≡ Access (Read offsets.LSR value) → MachineStep m (Read offsets.LSR value) n → KnowsWhatIs (known (e ∷ [])) 0 n.chip
+begins_looked m n e value model closed is step =
+    let c = (at_access m).chip in
+    let x : Action = LooksAtLine (record { 0 = value }) in
+    let h : Does x c n.chip = subst (λ (n : MachineState). Does x c n.chip) (sym step.0) (does_read c offsets.LSR value step.1) in
+    begun m e n.chip x model (ap (action None) is) h
+    (ap Some (sym (ap (λ (lcr : ℕ). has_any lcr lcr_bits.DLAB.0) h.0.lcr
+    ∙ (ap (λ (k : Kept). is_dlab_set k.latches) (kept_access m) ∙ closed))))
