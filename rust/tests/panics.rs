@@ -19,7 +19,7 @@ use uart_16550::native::{
 };
 use core::task::{Context, Poll};
 use uart_16550::emergency::EmergencyConsole;
-use uart_16550::ring::{Global, Handled, Memory, RingError, StuckError, Uart16550Ring};
+use uart_16550::ring::{Global, Handled, Memory, ReceiveMarks, RingError, StuckError, Uart16550Ring};
 use uart_16550::shared::{CriticalSection, Shared, SharedError, StartError, Unfinished, Wait};
 use uart_16550::spec::registers::{
     DLL, DLM, FCR, FifoTriggerLevel, IER, ISR, InterruptType, LCR, LSR, MCR, MSR, PSD, Parity, SPR,
@@ -175,6 +175,7 @@ calls! {
     tty_inner(tty: &Tty) -> &Uart { tty.inner() }
     tty_inner_mut(tty: &mut Tty) -> &mut Uart { tty.inner_mut() }
     tty_write_text(tty: &mut Tty, text: &str) -> Result<(), StalledError> { tty.write_text(text) }
+    tty_write_raw_text(tty: &mut Tty, text: &[u8]) -> Result<(), StalledError> { tty.write_raw_text(text) }
     tty_write_str(tty: &mut Tty, text: &str) -> fmt::Result { tty.write_str(text) }
 
     pio_read(backend: &mut PioBackend<Device>, offset: u8) -> u8 { backend.read(offset) }
@@ -238,6 +239,7 @@ calls! {
     ring_clear_receive(ring: &mut Ring) -> usize { ring.clear_receive() }
     ring_set_low_mark(ring: &mut Ring, mark: usize) { ring.set_low_mark(mark) }
     ring_take_low(ring: &mut Ring) -> bool { ring.take_low() }
+    ring_adjust_rts(ring: &mut Ring, marks: ReceiveMarks) { ring.adjust_rts(marks) }
     ring_try_handle(ring: &mut Ring, limit: usize, rounds: u32) -> Result<Handled, StuckError> { ring.try_handle(limit, rounds) }
     ring_restart(ring: &mut Ring, interrupts: IER) { ring.restart(interrupts) }
     ring_inner(ring: &Ring) -> &Uart { ring.inner() }
@@ -265,6 +267,7 @@ calls! {
     emergency_take_over(device: Device, patience: NonZeroU64) -> Result<EmergencyConsole<Device>, AttachError> { take_over(device, patience) }
     emergency_set_frame(console: &mut EmergencyConsole<Device>, config: &Config) -> Result<(), InvalidDivisorError> { console.set_frame(config) }
     emergency_send_bytes(console: &mut EmergencyConsole<Device>, bytes: &[u8]) -> Result<(), StalledError> { console.send_bytes(bytes) }
+    emergency_write_raw_text(console: &mut EmergencyConsole<Device>, text: &[u8]) -> Result<(), StalledError> { console.write_raw_text(text) }
     emergency_write_str(console: &mut EmergencyConsole<Device>, text: &str) -> fmt::Result { console.write_str(text) }
     emergency_flush(console: &mut EmergencyConsole<Device>) -> Result<(), StalledError> { console.flush() }
     emergency_into_inner(console: EmergencyConsole<Device>) -> Uart { console.into_inner() }

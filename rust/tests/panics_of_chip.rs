@@ -64,6 +64,12 @@ calls! {
     chip_write(chip: &mut LiveChip, offset: u8, value: u8) { chip.write(offset, value) }
     chip_sends_at_once(chip: &LiveChip) -> bool { chip.sends_at_once() }
     chip_send_at_once(chip: &mut LiveChip, value: u8) { chip.send_at_once(value) }
+    chip_pass_wire(chip: &mut LiveChip) -> bool { chip.pass_wire() }
+    chip_cut(chip: &LiveChip, value: u8) -> u8 { chip.cut(value) }
+    chip_read_data(chip: &mut LiveChip) -> u8 { chip.read_data() }
+    chip_read_clear_status(chip: &mut LiveChip) -> Option<u8> { chip.read_clear_status() }
+    chip_arrive_in_room(chip: &mut LiveChip, byte: u8) -> bool { chip.arrive_in_room(byte) }
+    chip_has_interrupts_on(chip: &LiveChip) -> bool { chip.has_interrupts_on() }
     chip_ticks(chip: &mut LiveChip, count: u16) -> usize { chip.ticks(count) }
     chip_arrive(chip: &mut LiveChip, byte: u8, errors: LSR) -> Result<(), InputError> { chip.arrive(byte, errors) }
     chip_arrive_holding_timeout(chip: &mut LiveChip, byte: u8, errors: LSR) -> Result<(), InputError> { chip.arrive_holding_timeout(byte, errors) }
@@ -92,6 +98,11 @@ calls! {
     port_new(chip: Chip) -> VirtualPort { VirtualPort::new(chip) }
     port_read(port: &mut VirtualPort, offset: u8) -> Answer { port.read(offset) }
     port_write(port: &mut VirtualPort, offset: u8, value: u8) -> Todo { port.write(offset, value) }
+    port_read_clear_status(port: &mut VirtualPort) -> Option<u8> { port.read_clear_status() }
+    port_read_polled(port: &mut VirtualPort) -> Option<u8> { port.read_polled() }
+    port_passing(port: &VirtualPort, value: u8) -> Option<u8> { port.passing(value) }
+    port_pass(port: &mut VirtualPort) -> Option<Todo> { port.pass() }
+    port_receive_polled(port: &mut VirtualPort, byte: u8) -> bool { port.receive_polled(byte) }
     port_receive(port: &mut VirtualPort, input: &[u8]) -> Received { port.receive(input) }
     port_receive_one(port: &mut VirtualPort, byte: u8, errors: LSR) -> Result<Todo, InputError> { port.receive_one(byte, errors) }
     port_set_lines(port: &mut VirtualPort, inputs: MSR) -> Result<Todo, InputError> { port.set_lines(inputs) }

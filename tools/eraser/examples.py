@@ -198,6 +198,7 @@ EXAMPLES = {
     "uart_16550::tty::Uart16550Tty::inner_mut": compiles(TTY + ", mut slots: [u8; 2]"),
     "uart_16550::tty::Uart16550Tty::into_inner": compiles("terminal: Uart16550Tty<Device>"),
     "uart_16550::tty::Uart16550Tty::write_text": compiles(TTY),
+    "uart_16550::tty::Uart16550Tty::write_raw_text": compiles(TTY),
     "uart_spec::baud::calc_frequency": runs(SPEC),
     "uart_spec::config::BaudRate": runs(SPEC),
     "uart_spec::config::BaudRate::to_integer": compiles(
@@ -210,6 +211,10 @@ EXAMPLES = {
     "uart_spec::setup::Setup": runs(SPEC, "use uart_16550::spec::registers::MCR;"),
     "uart_spec::setup::FifoSize": runs(SPEC),
     "uart_ring::ring::receive::Uart16550Ring::take": compiles(RING + ", mut slots: [u8; 2]", items=["use facade::ring;"]),
+    "uart_ring::ring::receive::Uart16550Ring::adjust_rts": compiles(
+        RING + ", mut slots: [u8; 2]",
+        items=["use facade::ring;", "const MARKS: ring::ReceiveMarks = ring::ReceiveMarks { hold: 48, release: 64 };"],
+    ),
     "uart_ring::ring::service::Uart16550Ring::service": compiles(RING, items=["use facade::ring;"]),
     "uart_ring::ring::service::Uart16550Ring::retrigger": compiles(RING, items=["use facade::ring;"]),
     "uart_ring::ring::service::Uart16550Ring::handle": in_port(),

@@ -76,7 +76,7 @@ def for_tests(crate):
         found.append(dependency(name, package=quoted(f"geesetrunk-{facade}"), path=quoted(f"../../{facade}")))
     for name in table.OF_TESTS.get(crate, []):
         found.append(dependency(name, package=quoted(package(name)), path=quoted(f"../{name}")))
-    if crate == table.OF_RINGS:
+    if crate in table.MAKE_RINGS:
         found.append(dependency(KIT_OF_RINGS, path=quoted(FOLDERS[KIT_OF_RINGS]), features='["alloc"]'))
     head = "\n# For the examples of the documentation, which name the package that users name, and for the tests.\n[dev-dependencies]\n"
     return head + "".join(found) if found else ""

@@ -33,13 +33,15 @@ RULES = [
 # The crates that become packages. What ships is part of a program of a user, on any target. The others are parts of this repository's
 # programs, and of targets of 64 bits.
 SHIPS = "uart_spec uart_16550 uart_ring uart_events uart_chip uart_live uart_virtual".split()
-OF_PROGRAMS = "uart_calls uart_run uart_ring_runs uart_language uart_play uart_judges uart_trace uart_port uart_machine".split()
+OF_PROGRAMS = "uart_calls uart_run uart_ring_runs uart_link uart_language uart_play uart_judges uart_trace uart_port uart_machine".split()
 CRATES = SHIPS + OF_PROGRAMS
 OUTPUT = "rust/proved"
 
 # The libraries that a crate may use, by the package that has them: that of the rings has queues in memory that is given.
 LIBRARIES = "bitflags arrayvec circular_buffer".split()
 OF_RINGS = "uart_ring"
+# The crates whose tests by hand make rings, with queues of the heap.
+MAKE_RINGS = ["uart_ring", "uart_link"]
 
 # The crates that the tests by hand of a package use beside those that the package itself uses.
 OF_TESTS = {

@@ -45,6 +45,11 @@ impl<T> Vec<T> {
         self.0.truncate(len);
     }
 
+    /// Drops all values, and keeps their room.
+    pub fn clear(&mut self) {
+        self.0.truncate(0);
+    }
+
     /// Returns the values.
     #[must_use]
     pub fn as_slice(&self) -> &[T] {

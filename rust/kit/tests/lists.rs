@@ -39,6 +39,8 @@ fn a_list_has_as_many_values_as_are_asked_for() {
     assert_eq!(list.as_slice(), [7, 7, 7, 8, 8]);
     assert_eq!(list.resize(1, 9), Ok(()));
     assert_eq!(list.as_slice(), [7]);
+    list.clear();
+    assert_eq!(list.as_slice(), [0u8; 0]);
     let values = geesetrunk_kit::vec![in Global::heap(); 1u8, 2].unwrap();
     assert_eq!(values.as_slice(), [1, 2]);
 }
