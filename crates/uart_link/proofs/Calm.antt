@@ -35,7 +35,7 @@ use Rattle.uart_chip.specs.Conserved.{origin_stands}
 use Rattle.uart_chip.proofs.conservation.Receives.{Drop, drop_split, no_drop-set}
 use Rattle.uart_chip.proofs.lasting.Lasting.{LastsInEvents, chip_lasts-before, chip_lasts-before_mark}
 use Rattle.uart_chip.proofs.soundness.Sounds.{latches-read, sound_access, sound_step}
-use Rattle.uart_link.proofs.Held.{ShowsHeld, AllShowHeld}
+use Rattle.uart_link.proofs.Held.{ShowsCts, AllShowCts}
 
 -- ---- accesses that reset nothing
 
@@ -141,90 +141,95 @@ mcr_path v (Write offset value ∷ made) m n h p (mid, step, rest) =
     let now = chip_lasts-before (λ c. c.latches.mcr ≡ v) (mcr_lasts v) m.ahead m.chip p in
     mcr_path v made mid n h.1 (rw step ((face_write offset value (at_access m).chip h.0).mcr ∙ now)) rest
 
--- ---- the other end's RTS is off
+-- ---- the other end's RTS stays on or off
 
--- each change of the lines that comes leaves CTS clear
-abbrev pub LeavesCtsClear : Event → Type 0
-LeavesCtsClear (Lines inputs) = has_any inputs MSR.CTS.0 ≡ false
-LeavesCtsClear _ = Unit {0}
+-- each change of the lines that comes leaves CTS so
+abbrev pub LeavesCts : (cts : Bool) → Event → Type 0
+LeavesCts cts (Lines inputs) = has_any inputs MSR.CTS.0 ≡ cts
+LeavesCts cts _ = Unit {0}
 
-abbrev pub AllLeaveCtsClear : List Event → Type 0
-AllLeaveCtsClear events = AllByRecursion LeavesCtsClear events
+abbrev pub AllLeaveCts : (cts : Bool) → List Event → Type 0
+AllLeaveCts cts events = AllByRecursion (LeavesCts cts) events
 
--- loopback is off, and MSR shows CTS clear
-pub record IsHeld (c : ChipState) : Type 0 where
+-- loopback is off, and MSR shows CTS so
+pub record HasCts (cts : Bool) (c : ChipState) : Type 0 where
   pub loopback : has_any c.latches.mcr MCR.LOOP_BACK.0 ≡ false
-  pub clear : has_any c.modem.lines MSR.CTS.0 ≡ false
-
-held_face : (c d : ChipState) → SameFace c d → IsHeld c → IsHeld d
-held_face c d f h = record {
-  loopback = ap (λ v. has_any v MCR.LOOP_BACK.0) f.mcr ∙ h.loopback;
-  clear = ap (λ v. has_any v MSR.CTS.0) f.lines ∙ h.clear;
-}
+  pub line : has_any c.modem.lines MSR.CTS.0 ≡ cts
 
 face_ticks : (n : ℕ) (c : ChipState) → SameFace c (ticks n c)
 face_ticks zero c = record { mcr = refl; lines = refl }
 face_ticks (suc n) c = let f = face_ticks n c in record { mcr = f.mcr; lines = f.lines }
 
-held_lines : (inputs : ℕ) (c : ChipState) → has_any inputs MSR.CTS.0 ≡ false → has_any c.latches.mcr MCR.LOOP_BACK.0 ≡ false →
-    IsHeld (change_lines inputs c)
-held_lines inputs c e h = record { loopback = h; clear = rw h e }
+or_false : (b : Bool) → (b || false) ≡ b
+or_false true = refl
+or_false false = refl
 
-held_before : (events : List Event) (c : ChipState) → AllLeaveCtsClear events → IsHeld c → IsHeld (before_access events c)
-held_before [] c e h = held_face c (tick c) (record { mcr = refl; lines = refl }) h
-held_before (Gate ∷ events) c e h = h
-held_before (Mark ∷ events) c e h = held_face c (tick c) (record { mcr = refl; lines = refl }) h
-held_before (Ticks n ∷ events) c e h = held_before events (ticks n c) e.1 (held_face c (ticks n c) (face_ticks n c) h)
-held_before (Arrive byte errors ∷ events) c e h =
-    held_before events (arrive byte errors c) e.1 (held_face c (arrive byte errors c) (record { mcr = refl; lines = refl }) h)
-held_before (Lines inputs ∷ events) c e h = held_before events (change_lines inputs c) e.1 (held_lines inputs c e.0 h.loopback)
+module _ (cts : Bool) where
+  cts_face : (c d : ChipState) → SameFace c d → HasCts cts c → HasCts cts d
+  cts_face c d f h = record {
+    loopback = ap (λ v. has_any v MCR.LOOP_BACK.0) f.mcr ∙ h.loopback;
+    line = ap (λ v. has_any v MSR.CTS.0) f.lines ∙ h.line;
+  }
 
-clear_after : (events : List Event) → AllLeaveCtsClear events → AllLeaveCtsClear (after_access events)
-clear_after [] e = tt
-clear_after (Gate ∷ events) e = e.1
-clear_after (Mark ∷ events) e = e
-clear_after (event ∷ events) e = clear_after events e.1
+  cts_lines : (inputs : ℕ) (c : ChipState) → has_any inputs MSR.CTS.0 ≡ cts → has_any c.latches.mcr MCR.LOOP_BACK.0 ≡ false →
+      HasCts cts (change_lines inputs c)
+  cts_lines inputs c e h = record { loopback = h; line = rw h e }
 
--- what a read shows then
-shows_held : (offset value : ℕ) (c : ChipState) → IsHeld c → IsWithin c.modem.deltas MSR.CHANGES.0 → value ≡ answer offset c →
-    ShowsHeld (Read offset value)
-shows_held offset value c h w e = (λ is. lines is, λ is. loop is)
-  where
-    lines : offset ≡ offsets.MSR → has value MSR.CTS.0 ≡ false
-    lines is =
-        let shown : value ≡ bit_or c.modem.lines c.modem.deltas = e ∙ ap (λ o. answer o c) is in
-        let low : has_any c.modem.deltas MSR.CTS.0 ≡ false =
-        ap (λ v. has_any v MSR.CTS.0) (sym w) ∙ has_not 4 c.modem.deltas MSR.CHANGES.0 refl in
-        has_one 4 value ∙ (ap (λ v. has_any v MSR.CTS.0) shown ∙ (has_or 4 c.modem.lines c.modem.deltas ∙
-        (ap (λ b. b || has_any c.modem.deltas MSR.CTS.0) h.clear ∙ low)))
+  cts_before : (events : List Event) (c : ChipState) → AllLeaveCts cts events → HasCts cts c → HasCts cts (before_access events c)
+  cts_before [] c e h = cts_face c (tick c) (record { mcr = refl; lines = refl }) h
+  cts_before (Gate ∷ events) c e h = h
+  cts_before (Mark ∷ events) c e h = cts_face c (tick c) (record { mcr = refl; lines = refl }) h
+  cts_before (Ticks n ∷ events) c e h = cts_before events (ticks n c) e.1 (cts_face c (ticks n c) (face_ticks n c) h)
+  cts_before (Arrive byte errors ∷ events) c e h =
+      cts_before events (arrive byte errors c) e.1 (cts_face c (arrive byte errors c) (record { mcr = refl; lines = refl }) h)
+  cts_before (Lines inputs ∷ events) c e h = cts_before events (change_lines inputs c) e.1 (cts_lines inputs c e.0 h.loopback)
 
-    loop : offset ≡ offsets.MCR → has value MCR.LOOP_BACK.0 ≡ false
-    loop is = has_one 4 value ∙ (ap (λ v. has_any v MCR.LOOP_BACK.0) (e ∙ ap (λ o. answer o c) is) ∙ h.loopback)
+  cts_after : (events : List Event) → AllLeaveCts cts events → AllLeaveCts cts (after_access events)
+  cts_after [] e = tt
+  cts_after (Gate ∷ events) e = e.1
+  cts_after (Mark ∷ events) e = e
+  cts_after (event ∷ events) e = cts_after events e.1
 
--- what accesses show, once the lines have come
-pub held_path : (made : List Access) (m n : MachineState) → IsSound m → IsHeld (at_access m).chip → AllLeaveCtsClear m.ahead →
-    AllLeaveMcr made → Path MachineStep m made n → AllShowHeld made
-held_path [] m n s h e q path = tt
-held_path (Read offset value ∷ made) m n s h e q (mid, step, rest) =
-    let c = (at_access m).chip in
-    let sound = sound_access m s in
-    let same : SameFace c (after_read offset c) =
-    record { mcr = ap (λ l. l.mcr) (latches-read offset c); lines = lines-read offset c } in
-    let next : IsHeld mid.chip = rw step.0 (held_face c (after_read offset c) same h) in
-    let ahead : AllLeaveCtsClear mid.ahead = rw step.0 (clear_after m.ahead e) in (
-      shows_held offset value c h sound.chip.modem.deltas step.1,
-      held_path made mid n (sound_step m mid (Read offset value) s step) (held_before mid.ahead mid.chip ahead next) ahead q.1 rest,
-    )
-held_path (Write offset value ∷ made) m n s h e q (mid, step, rest) =
-    let c = (at_access m).chip in
-    let next : IsHeld mid.chip = rw step (held_face c (after_write offset value c) (face_write offset value c q.0) h) in
-    let ahead : AllLeaveCtsClear mid.ahead = rw step (clear_after m.ahead e) in
-    (tt, held_path made mid n (sound_step m mid (Write offset value) s step) (held_before mid.ahead mid.chip ahead next) ahead q.1 rest)
+  -- what a read shows then
+  shows_cts : (offset value : ℕ) (c : ChipState) → HasCts cts c → IsWithin c.modem.deltas MSR.CHANGES.0 → value ≡ answer offset c →
+      ShowsCts cts (Read offset value)
+  shows_cts offset value c h w e = (λ is. lines is, λ is. loop is)
+    where
+      lines : offset ≡ offsets.MSR → has value MSR.CTS.0 ≡ cts
+      lines is =
+          let shown : value ≡ bit_or c.modem.lines c.modem.deltas = e ∙ ap (λ o. answer o c) is in
+          let low : has_any c.modem.deltas MSR.CTS.0 ≡ false =
+          ap (λ v. has_any v MSR.CTS.0) (sym w) ∙ has_not 4 c.modem.deltas MSR.CHANGES.0 refl in
+          has_one 4 value ∙ (ap (λ v. has_any v MSR.CTS.0) shown ∙ (has_or 4 c.modem.lines c.modem.deltas ∙
+          (ap (λ b. has_any c.modem.lines MSR.CTS.0 || b) low ∙ (or_false (has_any c.modem.lines MSR.CTS.0) ∙ h.line))))
 
--- the lines come first
-pub held_first : (inputs : ℕ) (events : List Event) (c : ChipState) → AllLeaveCtsClear (Lines inputs ∷ events) →
-    has_any c.latches.mcr MCR.LOOP_BACK.0 ≡ false → IsHeld (before_access (Lines inputs ∷ events) c)
-held_first inputs events c e h = held_before events (change_lines inputs c) e.1 (held_lines inputs c e.0 h)
+      loop : offset ≡ offsets.MCR → has value MCR.LOOP_BACK.0 ≡ false
+      loop is = has_one 4 value ∙ (ap (λ v. has_any v MCR.LOOP_BACK.0) (e ∙ ap (λ o. answer o c) is) ∙ h.loopback)
+
+  -- what accesses show, once the lines have come
+  pub cts_path : (made : List Access) (m n : MachineState) → IsSound m → HasCts cts (at_access m).chip → AllLeaveCts cts m.ahead →
+      AllLeaveMcr made → Path MachineStep m made n → AllShowCts cts made
+  cts_path [] m n s h e q path = tt
+  cts_path (Read offset value ∷ made) m n s h e q (mid, step, rest) =
+      let c = (at_access m).chip in
+      let sound = sound_access m s in
+      let same : SameFace c (after_read offset c) =
+      record { mcr = ap (λ l. l.mcr) (latches-read offset c); lines = lines-read offset c } in
+      let next : HasCts cts mid.chip = rw step.0 (cts_face c (after_read offset c) same h) in
+      let ahead : AllLeaveCts cts mid.ahead = rw step.0 (cts_after m.ahead e) in (
+        shows_cts offset value c h sound.chip.modem.deltas step.1,
+        cts_path made mid n (sound_step m mid (Read offset value) s step) (cts_before mid.ahead mid.chip ahead next) ahead q.1 rest,
+      )
+  cts_path (Write offset value ∷ made) m n s h e q (mid, step, rest) =
+      let c = (at_access m).chip in
+      let next : HasCts cts mid.chip = rw step (cts_face c (after_write offset value c) (face_write offset value c q.0) h) in
+      let ahead : AllLeaveCts cts mid.ahead = rw step (cts_after m.ahead e) in
+      (tt, cts_path made mid n (sound_step m mid (Write offset value) s step) (cts_before mid.ahead mid.chip ahead next) ahead q.1 rest)
+
+  -- the lines come first
+  pub cts_first : (inputs : ℕ) (events : List Event) (c : ChipState) → AllLeaveCts cts (Lines inputs ∷ events) →
+      has_any c.latches.mcr MCR.LOOP_BACK.0 ≡ false → HasCts cts (before_access (Lines inputs ∷ events) c)
+  cts_first inputs events c e h = cts_before events (change_lines inputs c) e.1 (cts_lines inputs c e.0 h)
 
 -- ---- no character is dropped for which there is room
 

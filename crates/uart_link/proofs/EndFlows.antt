@@ -60,8 +60,8 @@ use Rattle.uart_link.specs.Carried.{receiver_at}
 use Rattle.uart_link.specs.Flow.{receive_room, hold_of}
 use Rattle.uart_link.specs.Link.{CabledCallStep, EndStep}
 use Rattle.uart_link.proofs.Arranges.{arranged_events}
-use Rattle.uart_link.proofs.Calm.{AllLeaveMcr, AllMild, all_mild, blocks_leave, mcr_settled, mcr_path, LeavesCtsClear}
-use Rattle.uart_link.proofs.Calm.{AllLeaveCtsClear, IsHeld, held_path, held_first}
+use Rattle.uart_link.proofs.Calm.{AllLeaveMcr, AllMild, all_mild, blocks_leave, mcr_settled, mcr_path, LeavesCts}
+use Rattle.uart_link.proofs.Calm.{AllLeaveCts, HasCts, cts_path, cts_first}
 use Rattle.uart_link.proofs.Calm.{HasRoomTo, room_path, room_settled, room_first}
 use Rattle.uart_link.proofs.EndActs.{sound_arranged}
 use Rattle.uart_link.proofs.EndPasses.{InEnd}
@@ -239,37 +239,37 @@ abbrev pub IsHeldBack : List Moment → (there : ChipState) → Type 0
 IsHeldBack moments there =
     ((rest : List Moment) × (moments ≡ moment.Lines ∷ rest)) × (has_any (lines_from there) MSR.CTS.0 ≡ false)
 
-clear_events : (moments : List Moment) (cable : List ℕ) (lines : ℕ) → has_any lines MSR.CTS.0 ≡ false →
-    AllLeaveCtsClear (events_of moments cable lines)
-clear_events [] cable lines e = tt
-clear_events (moment.Ticks n ∷ moments) cable lines e = (tt, clear_events moments cable lines e)
-clear_events (moment.Arrives ∷ moments) [] lines e = clear_events moments [] lines e
-clear_events (moment.Arrives ∷ moments) (byte ∷ cable) lines e = (tt, clear_events moments cable lines e)
-clear_events (moment.Lines ∷ moments) cable lines e = (e, clear_events moments cable lines e)
-clear_events (moment.Access ∷ moments) cable lines e = (tt, clear_events moments cable lines e)
+cts_events : (cts : Bool) (moments : List Moment) (cable : List ℕ) (lines : ℕ) → has_any lines MSR.CTS.0 ≡ cts →
+    AllLeaveCts cts (events_of moments cable lines)
+cts_events cts [] cable lines e = tt
+cts_events cts (moment.Ticks n ∷ moments) cable lines e = (tt, cts_events cts moments cable lines e)
+cts_events cts (moment.Arrives ∷ moments) [] lines e = cts_events cts moments [] lines e
+cts_events cts (moment.Arrives ∷ moments) (byte ∷ cable) lines e = (tt, cts_events cts moments cable lines e)
+cts_events cts (moment.Lines ∷ moments) cable lines e = (e, cts_events cts moments cable lines e)
+cts_events cts (moment.Access ∷ moments) cable lines e = (tt, cts_events cts moments cable lines e)
 
-clear_unknown : (count : ℕ) → AllLeaveCtsClear (unknown count)
-clear_unknown count = (tt, blanks count)
+cts_unknown : (cts : Bool) (count : ℕ) → AllLeaveCts cts (unknown count)
+cts_unknown cts count = (tt, blanks count)
   where
-    blanks : (count : ℕ) → AllLeaveCtsClear (replicate count (Arrive 0 0))
+    blanks : (count : ℕ) → AllLeaveCts cts (replicate count (Arrive 0 0))
     blanks zero = tt
     blanks (suc count) = (tt, blanks count)
 
--- what lies ahead leaves CTS clear
-clear_arranged : (moments : List Moment) (there c : ChipState) (left : ℕ) → has_any (lines_from there) MSR.CTS.0 ≡ false →
-    AllLeaveCtsClear (arranged_events moments there c ++ unknown left)
-clear_arranged moments there c left e =
-    each-append LeavesCtsClear (arranged_events moments there c) (unknown left)
-    (clear_events moments (take (to_come c) (on_cable there c)) (lines_from there) e) (clear_unknown left)
+-- what lies ahead leaves CTS as the other end gives it
+pub cts_arranged : (cts : Bool) (moments : List Moment) (there c : ChipState) (left : ℕ) →
+    has_any (lines_from there) MSR.CTS.0 ≡ cts → AllLeaveCts cts (arranged_events moments there c ++ unknown left)
+cts_arranged cts moments there c left e =
+    each-append (LeavesCts cts) (arranged_events moments there c) (unknown left)
+    (cts_events cts moments (take (to_come c) (on_cable there c)) (lines_from there) e) (cts_unknown cts left)
 
 -- and is so at the first access
-held_arranged : (moments rest : List Moment) (there c : ChipState) (left : ℕ) → moments ≡ moment.Lines ∷ rest →
-    has_any (lines_from there) MSR.CTS.0 ≡ false → has_any c.latches.mcr MCR.LOOP_BACK.0 ≡ false →
-    IsHeld (before_access (arranged_events moments there c ++ unknown left) c)
-held_arranged moments rest there c left is e off =
-    let M : List Moment → Type 0 = λ ms. IsHeld (before_access (arranged_events ms there c ++ unknown left) c) in
-    subst M (sym is) (held_first (lines_from there) (arranged_events rest there c ++ unknown left) c
-    (e, clear_arranged rest there c left e) off)
+pub cts_at_first : (cts : Bool) (moments rest : List Moment) (there c : ChipState) (left : ℕ) → moments ≡ moment.Lines ∷ rest →
+    has_any (lines_from there) MSR.CTS.0 ≡ cts → has_any c.latches.mcr MCR.LOOP_BACK.0 ≡ false →
+    HasCts cts (before_access (arranged_events moments there c ++ unknown left) c)
+cts_at_first cts moments rest there c left is e off =
+    let M : List Moment → Type 0 = λ ms. HasCts cts (before_access (arranged_events ms there c ++ unknown left) c) in
+    subst M (sym is) (cts_first cts (lines_from there) (arranged_events rest there c ++ unknown left) c
+    (e, cts_arranged cts rest there c left e) off)
 
 -- ---- a call at an end
 
@@ -365,14 +365,14 @@ within_accesses x moments there s begins t w machine d =
       kept = mcr_path m.chip.latches.mcr d.list m n leaves refl d.path;
       is_fifo = q.passed.went.modes.fifo;
       held = λ on back.
-          let E : MachineState → Type 0 = λ o. AllLeaveCtsClear o.ahead in
-          let ahead : AllLeaveCtsClear m.ahead = subst E (sym machine) (clear_arranged moments far c left back.1) in
-          let H : MachineState → Type 0 = λ o. IsHeld (at_access o).chip in
+          let E : MachineState → Type 0 = λ o. AllLeaveCts false o.ahead in
+          let ahead : AllLeaveCts false m.ahead = subst E (sym machine) (cts_arranged false moments far c left back.1) in
+          let H : MachineState → Type 0 = λ o. HasCts false (at_access o).chip in
           let loop : has_any c.latches.mcr MCR.LOOP_BACK.0 ≡ false =
           ap (λ (o : ChipState). has_any o.latches.mcr MCR.LOOP_BACK.0) here ∙ off in
-          let first : IsHeld (at_access m).chip =
-          subst H (sym machine) (held_arranged moments back.0.0 far c left back.0.1 back.1 loop) in
-          ap length (d.facts.held.held on (held_path d.list m n w.stands.sound first ahead leaves d.path));
+          let first : HasCts false (at_access m).chip =
+          subst H (sym machine) (cts_at_first false moments back.0.0 far c left back.0.1 back.1 loop) in
+          ap length (d.facts.held.held on (cts_path false d.list m n w.stands.sound first ahead leaves d.path));
       room = λ last r h. room_path last r d.list m n (all_mild d.list leaves) h d.path;
     }
 

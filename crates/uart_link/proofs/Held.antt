@@ -38,31 +38,31 @@ use Rattle.uart_ring.specs.declared.ring.service.Handled.{Handled}
 use Rattle.uart_ring.proofs.Losses.{data_written-append, sends_move, receives_move}
 use Rattle.uart_ring.proofs.Pausing.{ChangesIer, Pausing, joined_with, rid_of}
 
--- ---- lists that show that the other end holds this one back
+-- ---- lists that show whether the other end holds this one back
 
--- a read of MSR shows CTS clear, and a read of MCR that loopback is off
-abbrev pub ShowsHeld : Access → Type 0
-ShowsHeld (Read offset answer) =
-    (offset ≡ offsets.MSR → has answer MSR.CTS.0 ≡ false) × (offset ≡ offsets.MCR → has answer MCR.LOOP_BACK.0 ≡ false)
-ShowsHeld (Write offset value) = Unit {0}
+-- a read of MSR shows CTS set or clear, and a read of MCR that loopback is off; each of these accesses does
+abbrev pub ShowsCts : (cts : Bool) → Access → Type 0
+ShowsCts cts (Read offset answer) =
+    (offset ≡ offsets.MSR → has answer MSR.CTS.0 ≡ cts) × (offset ≡ offsets.MCR → has answer MCR.LOOP_BACK.0 ≡ false)
+ShowsCts cts (Write offset value) = Unit {0}
 
-abbrev pub AllShowHeld : List Access → Type 0
-AllShowHeld accesses = AllByRecursion ShowsHeld accesses
+abbrev pub AllShowCts : (cts : Bool) → List Access → Type 0
+AllShowCts cts accesses = AllByRecursion (ShowsCts cts) accesses
 
 -- whether the driver checks CTS stays; and if it does, and all of this shows that it is held back, no byte is written
 pub record HoldsBack (f : RingFields) (l : List Access) (after : RingFields) : Type 0 where
   pub checks : (settings_of after.driver).checks ≡ (settings_of f.driver).checks
-  pub held : (settings_of f.driver).checks ≡ true → AllShowHeld l → data_written l ≡ []
+  pub held : (settings_of f.driver).checks ≡ true → AllShowCts false l → data_written l ≡ []
 
 held-then : (f mid after : RingFields) (front back l : List Access) → l ≡ front ++ back → HoldsBack f front mid →
     HoldsBack mid back after → HoldsBack f l after
 held-then f mid after front back l whole a b = record {
   checks = b.checks ∙ a.checks;
   held = λ on shown.
-      let S : List Access → Type 0 = λ m. AllShowHeld m in
-      let all : AllShowHeld (front ++ back) = subst S whole shown in
-      let first : data_written front ≡ [] = a.held on (each-front ShowsHeld front back all) in
-      let second : data_written back ≡ [] = b.held (a.checks ∙ on) (each-back ShowsHeld front back all) in
+      let S : List Access → Type 0 = λ m. AllShowCts false m in
+      let all : AllShowCts false (front ++ back) = subst S whole shown in
+      let first : data_written front ≡ [] = a.held on (each-front (ShowsCts false) front back all) in
+      let second : data_written back ≡ [] = b.held (a.checks ∙ on) (each-back (ShowsCts false) front back all) in
       ap data_written whole ∙ (data_written-append front back ∙ (λ i. first i ++ second i));
 }
 
@@ -76,31 +76,31 @@ none l is = ap data_written is
 
 -- ---- the driver's lists
 
-lines_held : (s : Settings) (l : List Access) → LinesAllow true s l → AllShowHeld l → ⊥
+lines_held : (s : Settings) (l : List Access) → LinesAllow true s l → AllShowCts false l → ⊥
 lines_held s l (inl t) shown = let h = rw t.1.is at shown in let e = h.0.1 refl in cc (t.1.shows)
 lines_held s l (inr t) shown =
     let h = rw (t.whole, t.first.is, t.second.is) at shown in
     let e = h.1.0.0 refl in
     cc (t.second.shows)
 
-hit_held : (s : Settings) (l : List Access) → s.checks ≡ true → SendHit s l → AllShowHeld l → ⊥
+hit_held : (s : Settings) (l : List Access) → s.checks ≡ true → SendHit s l → AllShowCts false l → ⊥
 hit_held s l on t shown = go s.checks on t
   where
     go : (checks : Bool) → checks ≡ true → MatchBool checks (Then (Asks offsets.LSR LSR.THR_EMPTY.0 true) (LinesAllow true) s l)
         (Asks offsets.LSR LSR.THR_EMPTY.0 true s l) → ⊥
     go true e u =
-        let S : List Access → Type 0 = λ m. AllShowHeld m in
-        lines_held s u.back u.second (each-back ShowsHeld u.front u.back (subst S u.whole shown))
+        let S : List Access → Type 0 = λ m. AllShowCts false m in
+        lines_held s u.back u.second (each-back (ShowsCts false) u.front u.back (subst S u.whole shown))
     go false e u = absurd (cc)
 
-sends_held : (bytes : List ℕ) (sent : ℕ) (s : Settings) (l : List Access) → s.checks ≡ true → Sends bytes sent s l → AllShowHeld l →
+sends_held : (bytes : List ℕ) (sent : ℕ) (s : Settings) (l : List Access) → s.checks ≡ true → Sends bytes sent s l → AllShowCts false l →
     data_written l ≡ []
 sends_held bytes sent s l on (inl t) shown = none l t.2
 sends_held bytes sent s l on (inr (inl t)) shown =
     (sends_move bytes sent s l (inr (inl t))).written_is ∙ ap (λ n. take n bytes) t.1
 sends_held bytes sent s l on (inr (inr t)) shown =
-    let S : List Access → Type 0 = λ m. AllShowHeld m in
-    absurd (hit_held s t.2.front on t.2.first (each-front ShowsHeld t.2.front t.2.back (subst S t.2.whole shown)))
+    let S : List Access → Type 0 = λ m. AllShowCts false m in
+    absurd (hit_held s t.2.front on t.2.first (each-front (ShowsCts false) t.2.front t.2.back (subst S t.2.whole shown)))
 
 changes_written : (change : ℕ → ℕ) (f : Fields) (l : List Access) (after : Fields) → ChangesIer change f l after → data_written l ≡ []
 changes_written change f l after (ier, is, changed) = ap data_written is
@@ -125,10 +125,10 @@ pumps_held f l after (sent, (t, same)) = record {
   checks = arms_checks (sendable (without_sent sent f)) t.mid t.back after.driver t.second ∙
       ap (λ g. (settings_of g).checks) t.first.1;
   held = λ on shown.
-      let S : List Access → Type 0 = λ m. AllShowHeld m in
+      let S : List Access → Type 0 = λ m. AllShowCts false m in
       let first : data_written t.front ≡ [] =
       sends_held (take FIFO_SIZE (sendable f)) sent (settings_of f.driver) t.front on t.first.0
-      (each-front ShowsHeld t.front t.back (subst S t.whole shown)) in
+      (each-front (ShowsCts false) t.front t.back (subst S t.whole shown)) in
       let second : data_written t.back ≡ [] = arms_written (sendable (without_sent sent f)) t.mid t.back after.driver t.second in
       ap data_written t.whole ∙ (data_written-append t.front t.back ∙ (λ i. first i ++ second i));
 }

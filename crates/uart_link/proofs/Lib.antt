@@ -15,3 +15,6 @@ pub mod Wholes
 pub mod LinkTold
 pub mod LinkSounds
 pub mod News
+pub mod Passing
+pub mod Resumes
+pub mod Rounds

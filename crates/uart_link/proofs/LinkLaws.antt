@@ -25,7 +25,8 @@ use Rattle.uart_link.specs.declared.link.Link.{Link}
 use Rattle.uart_link.specs.Brought.{brought, numbered}
 use Rattle.uart_link.specs.Cable.{on_cable}
 use Rattle.uart_link.specs.Carried.{on_the_way, to_be_taken, receiver_at, not_dropped, Carries, IsJoined, BothReady, NoneCut}
-use Rattle.uart_link.specs.Link.{Step, LinkChain}
+use Rattle.uart_link.specs.Link.{at_end, other, Step, LinkChain}
+use Rattle.uart_link.specs.Carried.{AllKeepOrderAt, queued_at, gone_at}
 use Rattle.uart_link.specs.Parts.{LinkConserves}
 use Rattle.uart_link.proofs.Crossings.{arriving_numbered}
 use Rattle.uart_link.proofs.EndActs.{arrived_after}
@@ -33,8 +34,11 @@ use Rattle.uart_run.specs.Wired.{IsWired}
 use Rattle.uart_ring_runs.proofs.RingRts.{modes_at, begins_session}
 use Rattle.uart_link.proofs.EndPasses.{InEnd, EndPasses}
 use Rattle.uart_link.proofs.Flows.{drops_nothing}
-use Rattle.uart_link.proofs.Wholes.{delivers}
-use Rattle.uart_link.proofs.LinkSteps.{Brings, link_chain, joined_after}
+use Rattle.uart_link.proofs.Rounds.{progresses}
+use Rattle.uart_link.proofs.Wholes.{delivers, carries_all}
+use Rattle.uart_link.specs.declared.call.Side.{Side}
+use Rattle.uart_link.specs.Told.{NoLineAt}
+use Rattle.uart_link.proofs.LinkSteps.{Brings, LinkPasses, link_chain, joined_after}
 use Rattle.uart_link.proofs.LinkTold.{tells_drops}
 
 -- ---- characters that have not arrived are not dropped
@@ -178,6 +182,19 @@ ready_after x s w = record {
   fifo = w.session.stands.modes.fifo ∙ sym w.session.fifo;
 }
 
+-- what each direction carries
+carries : (x y : Modes) (a b : Link) (steps : List Step) → InEnd x a.left → InEnd y a.right → IsJoined a → CutsNothing x →
+    CutsNothing y → LinkChain a steps b → (end : Side) → Carries end a steps b
+carries x y a b steps w v joined whole whole_too chain end = by end (link_chain x y a b steps w v joined chain)
+  where
+    by : (end : Side) →
+        LinkPasses x y (λ end. AllKeepOrderAt end steps) (λ end. NoLineAt end steps) (λ end. queued_at end steps)
+        (λ end. gone_at end steps) a b → Carries end a steps b
+    by Left p = carried x y _ _ _ _ _ _ _ _ a.left b.left a.right b.right _ _ p.left p.right p.rightward joined.right.behind whole
+        whole_too p.in_right
+    by Right p = carried y x _ _ _ _ _ _ _ _ a.right b.right a.left b.left _ _ p.right p.left p.leftward joined.left.behind
+        whole_too whole p.in_left
+
 pub link_conserves : (a b : Link) (steps : List Step) → IsSound (ring_machine a.left) → IsSound (ring_machine a.right) →
     IsWired (under a.left) → IsWired (under a.right) → IsJoined a → BothReady a → NoneCut a → LinkChain a steps b →
     LinkConserves a steps b
@@ -187,18 +204,20 @@ link_conserves a b steps sound_left sound_right wired_left wired_right joined re
     let w = whole_end a.left ready.left uncut.left sound_left wired_left in
     let v = whole_end a.right ready.right uncut.right sound_right wired_right in
     let p = link_chain x y a b steps w v joined chain in
-    let rightward : Carries Left a steps b =
-    carried x y _ _ _ _ _ _ _ _ a.left b.left a.right b.right _ _ p.left p.right p.rightward joined.right.behind
-    (cuts_nothing a.left) (cuts_nothing a.right) p.in_right in
-    let leftward : Carries Right a steps b =
-    carried y x _ _ _ _ _ _ _ _ a.right b.right a.left b.left _ _ p.right p.left p.leftward joined.left.behind
-    (cuts_nothing a.right) (cuts_nothing a.left) p.in_left in
+    let all : (part : List Step) (u : Link) → LinkChain a part u → (end : Side) → Carries end a part u = λ part u within end.
+    carries x y a u part w v joined (cuts_nothing a.left) (cuts_nothing a.right) within end in
     record {
-      rightward = rightward;
-      leftward = leftward;
+      rightward = all steps b chain Left;
+      leftward = all steps b chain Right;
       tells = λ end. tells_drops x y a b steps end w v joined chain;
-      whole = λ pace paced.
-          delivers a b steps sound_left sound_right rightward leftward (drops_nothing x y pace a b steps w v joined chain paced);
+      whole = λ pace paced. delivers a b steps sound_left sound_right (all steps b chain Left) (all steps b chain Right)
+          (drops_nothing x y pace a b steps w v joined chain paced);
+      progress = λ end. progresses x y end steps a b w v joined chain
+          (λ part u within none. carries_all end a u part (sound_there end) none (all part u within end));
       ready = record { left = ready_after x b.left p.in_left; right = ready_after y b.right p.in_right };
       joined = joined_after x y _ _ _ _ a b p;
     }
+  where
+    sound_there : (end : Side) → IsSound (ring_machine (at_end (other end) a))
+    sound_there Left = sound_right
+    sound_there Right = sound_left

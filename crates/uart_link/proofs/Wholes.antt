@@ -52,7 +52,7 @@ numbered_stands r s all pending k (byte ∷ bytes) h =
     let e : stands s new ≡ true = all (Arrived k) stood in
     rw e (ap (λ zs. byte ∷ zs) (numbered_stands r s all pending (k + 1) bytes (omega (arith, h))))
 
-carries_all : (end : Side) (a b : Link) (steps : List Step) → IsSound (ring_machine (at_end (other end) a)) →
+pub carries_all : (end : Side) (a b : Link) (steps : List Step) → IsSound (ring_machine (at_end (other end) a)) →
     DropsNothing (other end) a b → Carries end a steps b → CarriesAll end a steps b
 carries_all end a b steps w none carries order =
     let to = other end in

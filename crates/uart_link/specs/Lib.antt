@@ -5,4 +5,5 @@ pub mod Link
 pub mod Carried
 pub mod Told
 pub mod Flow
+pub mod Progress
 pub mod Parts

@@ -1,0 +1,567 @@
+-- Each round brings a byte nearer; so after rounds enough all has been taken that was queued.
+use Rattle.std.proofs.Common.{◌≡◌, ℕ, zero, suc, ◌+◌, ◌-◌, ◌<◌, ◌≤◌, Bool, true, false, List, [], ◌∷◌, ◌++◌, length}
+use Rattle.std.proofs.Common.{take, drop, append_assoc, length-append, refl, sym, ◌∙◌, ap, subst, arith}
+use Rattle.std.proofs.lemmas.Grind.{common_steps}
+use Rattle.std.proofs.lemmas.List.{length-drop, length-map, take-append-le, take-append-drop}
+use Rattle.std.proofs.Math.Seq.{take-append_seam}
+use Rattle.std.proofs.Common.{nat_lt}
+use Rattle.uart_chip.specs.declared.receiver.Origin.{Origin}
+use Rattle.uart_chip.specs.Conserved.{origin_stands}
+use Rattle.uart_chip.specs.Receiver.{ReceiverState}
+use Rattle.uart_chip.specs.Transmitter.{shift_bytes}
+use Rattle.uart_ring_runs.specs.RingBytes.{to_take, gone_in}
+use Rattle.uart_link.specs.Carried.{of_end, receiver_at}
+use Rattle.uart_link.specs.Flow.{DropsNothing}
+use Rattle.uart_link.specs.Progress.{Progresses}
+use Rattle.std.proofs.Common.{map}
+use Rattle.uart_events.specs.declared.event.Event.{Event}
+use Rattle.uart_link.specs.Told.{NoLineAt}
+use Rattle.uart_chip.specs.Conserved.{out}
+use Rattle.uart_spec.specs.Bits.{has_any}
+use Rattle.uart_spec.specs.declared.access.Access.{Access}
+use Rattle.uart_spec.specs.declared.registers.modem_control.TheConstants.MCR
+use Rattle.uart_spec.specs.declared.registers.modem_status.TheConstants.MSR
+use Rattle.uart_16550.specs.Driver.{settings_of}
+use Rattle.uart_chip.specs.Chip.{ChipState, is_loopback}
+use Rattle.uart_chip.specs.Transmitter.{TransmitterState, held}
+use Rattle.uart_chip.specs.Machine.{MachineState, at_access, arrivals}
+use Rattle.uart_chip.specs.Sound.{IsSound}
+use Rattle.uart_chip.proofs.conservation.Went.{Modes, loopback-in}
+use Rattle.uart_chip.proofs.lasting.Lasting.{lasts-before_mark}
+use Rattle.uart_ring.specs.Ring.{RingFields, ring_fields, sendable, waiting}
+use Rattle.uart_ring.specs.Lossless.{data_written}
+use Rattle.uart_ring_runs.specs.declared.call.RingCall.{RingCall}
+use Rattle.uart_ring_runs.specs.declared.call.RingCall.TheVariants as call
+use Rattle.uart_ring_runs.specs.declared.call.RingAnswer.{RingAnswer}
+use Rattle.uart_ring_runs.specs.RingRun.{RingState, ring_machine}
+use Rattle.uart_ring_runs.specs.RingBytes.{to_send}
+use Rattle.uart_ring_runs.proofs.RingBlocks.{resumes_make}
+use Rattle.uart_link.specs.declared.call.Moment.{Moment}
+use Rattle.uart_link.specs.declared.call.Side.{Side}
+use Rattle.uart_link.specs.declared.call.Side.TheVariants.{Left, Right}
+use Rattle.uart_link.specs.declared.link.Link.{Link}
+use Rattle.uart_link.specs.Brought.{IsBrought, brought}
+use Rattle.uart_link.specs.Cable.{to_come, settled, lines_from}
+use Rattle.uart_link.specs.Carried.{to_be_taken, on_the_way, queued_at, gone_at, AllKeepOrderAt, IsJoined}
+use Rattle.uart_link.specs.Flow.{SeesLines, CarriesAll}
+use Rattle.uart_link.specs.Link.{at_end, other, Step, EndStep, LinkChain, LinkCallStep}
+use Rattle.uart_link.specs.Progress.{PassesTime, BringsAll, TakesAll, GoesOn, Comes, HasRounds}
+use Rattle.uart_link.proofs.Arranges.{arranged_events}
+use Rattle.uart_link.proofs.Calm.{AllLeaveMcr, AllLeaveCts, HasCts, cts_path, blocks_leave}
+use Rattle.uart_link.proofs.EndActs.{end_begins}
+use Rattle.uart_link.proofs.EndFlows.{sent_of, cts_arranged, cts_at_first}
+use Rattle.uart_link.proofs.EndPasses.{InEnd, EndPasses}
+use Rattle.uart_link.proofs.Held.{AllShowCts}
+use Rattle.uart_link.proofs.LinkSteps.{Brings, LinkPasses, link_chain, joined_after}
+use Rattle.uart_link.proofs.Passing.{drained, brought_all}
+use Rattle.uart_link.proofs.Resumes.{IsThrEmpty, thr_empty_lasts, resumes_some}
+
+-- ---- numbers
+
+-- how many bytes have left the chip at an end; how many have arrived; how many wait to be sent; and how many there have been
+abbrev gone_out : RingState → ℕ
+gone_out s = length (ring_machine s).chip.transmitter.wire
+
+abbrev come_in : RingState → ℕ
+come_in s = (ring_machine s).chip.receiver.arrived
+
+abbrev unsent : RingState → ℕ
+unsent s = length (to_send s)
+
+abbrev all_of : RingState → ℕ
+all_of s = sent_of s + unsent s
+
+-- from one end to the other
+record Numbers (Order : Type 0) (queued : List ℕ) (s t r u : RingState) : Type 0 where
+  pub all : Order → all_of t ≡ all_of s + length queued
+  pub sent : sent_of s ≤ sent_of t
+  pub gone : gone_out s ≤ gone_out t
+  pub come : come_in r ≤ come_in u
+  pub behind : come_in u ≤ gone_out t
+
+numbers : (x : Modes) (Order NoLine : Type 0) (q e : List ℕ) (s t r u : RingState) (f : List Event) (events : List Event) →
+    EndPasses x Order q NoLine s t e f → Brings s t r u events → Numbers Order q s t r u
+numbers x Order NoLine q e s t r u f events p b =
+    let sizes : sent_of t ≡ length (out (ring_machine s) ++ map x.cut (data_written p.made)) = ap length p.went.sends.grows in
+    let sums = length-append (out (ring_machine s)) (map x.cut (data_written p.made)) in
+    let same = length-map (data_written p.made) x.cut in
+    let grown : gone_out t ≡ length ((ring_machine s).chip.transmitter.wire ++ b.grown.0) = ap length b.grown.1 in
+    let longer = length-append (ring_machine s).chip.transmitter.wire b.grown.0 in
+    let c = b.crosses in
+    let wire = (ring_machine t).chip.transmitter.wire in
+    let crossed : length (drop (come_in r) wire) ≡ length (brought events ++ drop (come_in u) wire) = ap length c.same in
+    let before = length-drop (come_in r) wire in
+    let after = length-drop (come_in u) wire in
+    let parts = length-append (brought events) (drop (come_in u) wire) in
+    record {
+      all = λ order.
+          let kept : length (data_written p.made ++ to_send t) ≡ length (to_send s ++ q) = ap length (p.sent order) in
+          let first = length-append (data_written p.made) (to_send t) in
+          let second = length-append (to_send s) q in
+          omega (arith, sizes, sums, same, kept, first, second);
+      sent = omega (arith, sizes, sums);
+      gone = omega (arith, grown, longer);
+      come = omega (arith, crossed, before, after, parts, c.starts, c.ends);
+      behind = c.ends;
+    }
+
+-- ---- a part of a run
+
+-- both ends are in a session, and joined
+record Going (x y : Modes) (a : Link) : Type 0 where
+  pub left : InEnd x a.left
+  pub right : InEnd y a.right
+  pub joined : IsJoined a
+
+record Went (x y : Modes) (end : Side) (steps : List Step) (a b : Link) : Type 0 where
+  pub numbers : Numbers (AllKeepOrderAt end steps) (queued_at end steps) (at_end end a) (at_end end b) (at_end (other end) a)
+      (at_end (other end) b)
+  pub going : Going x y b
+
+goes : (x y : Modes) (end : Side) (steps : List Step) (a b : Link) → Going x y a → LinkChain a steps b → Went x y end steps a b
+goes x y end steps a b g chain =
+    let p = link_chain x y a b steps g.left g.right g.joined chain in
+    record { numbers = at end p; going = record { left = p.in_left; right = p.in_right; joined = joined_after x y _ _ _ _ a b p } }
+  where
+    at : (end : Side) →
+        LinkPasses x y (λ end. AllKeepOrderAt end steps) (λ end. NoLineAt end steps) (λ end. queued_at end steps)
+        (λ end. gone_at end steps) a b →
+        Numbers (AllKeepOrderAt end steps) (queued_at end steps) (at_end end a) (at_end end b) (at_end (other end) a)
+        (at_end (other end) b)
+    at Left p = numbers x _ _ _ _ a.left b.left a.right b.right _ _ p.left p.rightward
+    at Right p = numbers y _ _ _ _ a.right b.right a.left b.left _ _ p.right p.leftward
+
+-- a part is in two
+record Split (a : Link) (front back : List Step) (b : Link) : Type 0 where
+  pub mid : Link
+  pub first : LinkChain a front mid
+  pub second : LinkChain mid back b
+
+split : (front back : List Step) (a b : Link) → LinkChain a (front ++ back) b → Split a front back b
+split [] back a b h = record { mid = a; first = refl; second = h }
+split (step ∷ front) back a b h =
+    let r = split front back step.after b h.2 in record { mid = r.mid; first = (h.0, h.1, r.first); second = r.second }
+
+joined_chains : (front back : List Step) (a b c : Link) → LinkChain a front b → LinkChain b back c → LinkChain a (front ++ back) c
+joined_chains [] back a b c h k = subst (λ (o : Link). LinkChain o back c) h k
+joined_chains (step ∷ front) back a b c h k = (h.0, h.1, joined_chains front back step.after b c h.2 k)
+
+order_front : (end : Side) (front back : List Step) → AllKeepOrderAt end (front ++ back) → AllKeepOrderAt end front
+order_front end [] back h = tt
+order_front end (step ∷ front) back h = (h.0, order_front end front back h.1)
+
+pub order_back : (end : Side) (front back : List Step) → AllKeepOrderAt end (front ++ back) → AllKeepOrderAt end back
+order_back end [] back h = h
+order_back end (step ∷ front) back h = order_back end front back h.1
+
+-- ---- the first call of a kind
+
+-- such a call was found: the calls up to it, what it did, and the calls after it
+record Found (x y : Modes) (end : Side) (Such : Step → Type 0) (Follow : List Step → Type 0) (steps : List Step) (a b : Link) :
+    Type 0 where
+  pub front : List Step
+  pub step : Step
+  pub back : List Step
+  pub whole : steps ≡ (front ++ step ∷ []) ++ back
+  pub before : Went x y end front a step.before
+  pub does : LinkCallStep step.before step.call step.answer step.after
+  pub after : Went x y end (step ∷ []) step.before step.after
+  pub first : LinkChain a (front ++ step ∷ []) step.after
+  pub second : LinkChain step.after back b
+  pub such : Such step
+  pub follow : Follow back
+
+find : (x y : Modes) (end : Side) (Such : Step → Type 0) (Follow : List Step → Type 0) (steps : List Step) (a b : Link) →
+    Going x y a → LinkChain a steps b → Comes Such Follow steps → Found x y end Such Follow steps a b
+find x y end Such Follow steps a b g chain (front, step, back, whole, such, follow) =
+    let C : List Step → Type 0 = λ zs. LinkChain a zs b in
+    let s = split front (step ∷ back) a b (subst C whole chain) in
+    let T : Link → Type 0 = λ o. LinkChain a front o in
+    let first = subst T (sym s.second.0) s.first in
+    let before = goes x y end front a step.before g first in
+    let one : LinkChain step.before (step ∷ []) step.after = (refl, s.second.1, refl) in
+    record {
+      front = front;
+      step = step;
+      back = back;
+      whole = whole ∙ sym (append_assoc front (step ∷ []) back);
+      before = before;
+      does = s.second.1;
+      after = goes x y end (step ∷ []) step.before step.after before.going one;
+      first = joined_chains front (step ∷ []) a step.before step.after first one;
+      second = s.second.2;
+      such = such;
+      follow = follow;
+    }
+
+-- ---- one call of an end
+
+other_other : (end : Side) → other (other end) ≡ end
+other_other Left = refl
+other_other Right = refl
+
+sound_at : (x y : Modes) (end : Side) (a : Link) → Going x y a → IsSound (ring_machine (at_end end a))
+sound_at x y Left a g = g.left.session.stands.sound
+sound_at x y Right a g = g.right.session.stands.sound
+
+brought_at : (x y : Modes) (end : Side) (a : Link) → Going x y a →
+    IsBrought (ring_machine (at_end (other end) a)).chip.transmitter.wire (ring_machine (at_end end a))
+brought_at x y Left a g = g.joined.left
+brought_at x y Right a g = g.joined.right
+
+-- what such a call of this end does
+does_at : (end : Side) (c : RingCall) (step : Step) → step.call.side ≡ end → step.call.call ≡ c →
+    LinkCallStep step.before step.call step.answer step.after →
+    EndStep step.call.moments.items (at_end (other end) step.before) (at_end end step.before) c step.answer (at_end end step.after)
+does_at end c step side call h =
+    let S : Side → Type 0 = λ z. EndStep step.call.moments.items (at_end (other z) step.before) (at_end z step.before)
+    step.call.call step.answer (at_end z step.after) in
+    let C : RingCall → Type 0 = λ d. EndStep step.call.moments.items (at_end (other end) step.before) (at_end end step.before) d
+    step.answer (at_end end step.after) in
+    subst C call (subst S side h.0)
+
+-- time has passed: all that had left the driver has left the chip
+passed_time : (x y : Modes) (end : Side) (step : Step) → Going x y step.before → Going x y step.after →
+    LinkCallStep step.before step.call step.answer step.after → PassesTime end step →
+    sent_of (at_end end step.after) ≤ gone_out (at_end end step.after)
+passed_time x y end step g k h p =
+    let t = (ring_machine (at_end end step.after)).chip.transmitter in
+    let none : held t ≡ [] = drained _ step.call.moments.items (at_end (other end) step.before) (at_end end step.before)
+    (at_end end step.after) step.answer (sound_at x y end step.before g) (sound_at x y end step.after k)
+    (brought_at x y end step.before g) (does_at end call.Next step p.side p.call h) p.ticks p.room in
+    let both = length-append t.wire (held t) in
+    let zero_held : length (held t) ≡ 0 = ap length none in
+    omega (arith, both, zero_held)
+
+-- all has arrived: what had left the other chip
+brought_time : (x y : Modes) (end : Side) (step : Step) → Going x y step.before →
+    LinkCallStep step.before step.call step.answer step.after → BringsAll (other end) step →
+    gone_out (at_end end step.before) ≤ come_in (at_end (other end) step.after)
+brought_time x y end step g h p =
+    let to = other end in
+    let all : gone_out (at_end (other to) step.before) ≤ come_in (at_end to step.after) =
+    brought_all step.call.moments.items (at_end (other to) step.before) (at_end to step.before) (at_end to step.after) step.answer
+    (sound_at x y to step.before g) (brought_at x y to step.before g) (does_at to call.Next step p.side p.call h) p.arrivals p.room in
+    subst (λ z. gone_out (at_end z step.before) ≤ come_in (at_end to step.after)) (other_other end) all
+
+-- sending goes on: a byte leaves the rings
+resumed : (x : Modes) (moments : List Moment) (there s t : RingState) (a : RingAnswer) → InEnd x s →
+    EndStep moments there s call.ResumeTransmit a t → SeesLines moments →
+    ((ring_fields s).driver.config.check_cts_before_sending ≡ true →
+    has_any (lines_from (ring_machine there).chip) MSR.CTS.0 ≡ true) → sendable (ring_fields s) ≡ waiting (ring_fields s) →
+    0 < unsent s → IsThrEmpty (ring_machine s).chip.transmitter → unsent t < unsent s
+resumed x moments there s t a w h lines clear free some empty =
+    let begins = h.begins in
+    let m = ring_machine begins in
+    let f = ring_fields begins in
+    let d = h.called.did in
+    let far = (ring_machine there).chip in
+    let c = (settled (ring_machine s)).chip in
+    let left = to_come c - arrivals (arranged_events moments far c) in
+    let b = end_begins x moments there s t call.ResumeTransmit a w h in
+    let same : f ≡ ring_fields s = h.arranges.rings in
+    let chip : m.chip ≡ c = ap (λ (o : MachineState). o.chip) h.arranges.machine in
+    let E : ChipState → Type 0 = λ o. IsThrEmpty o.transmitter in
+    let thr : IsThrEmpty m.chip.transmitter = subst E (sym chip)
+    (lasts-before_mark IsThrEmpty thr_empty_lasts.in_tick (ring_machine s).ahead (ring_machine s).chip empty) in
+    let blocks = (resumes_make f d.list (ring_fields t) d.does).blocks in
+    let A : List Access → Type 0 = λ l. AllLeaveMcr l in
+    let leaves : AllLeaveMcr d.list = subst A (sym blocks.joined) (blocks_leave _ blocks.blocks blocks.fit) in
+    let off : is_loopback m.chip.latches ≡ false =
+    loopback-in _ m.chip b.session.session.stands.modes ∙ b.session.session.open_modes.loopback in
+    let loop : has_any c.latches.mcr MCR.LOOP_BACK.0 ≡ false =
+    ap (λ (o : ChipState). has_any o.latches.mcr MCR.LOOP_BACK.0) (sym chip) ∙ off in
+    let shown : (settings_of f.driver).checks ≡ true → AllShowCts true d.list = λ on.
+    let cts = clear (ap (λ (g : RingFields). g.driver.config.check_cts_before_sending) (sym same) ∙ on) in
+    let L : MachineState → Type 0 = λ o. AllLeaveCts true o.ahead in
+    let ahead : AllLeaveCts true m.ahead = subst L (sym h.arranges.machine) (cts_arranged true moments far c left cts) in
+    let H : MachineState → Type 0 = λ o. HasCts true (at_access o).chip in
+    let first : HasCts true (at_access m).chip =
+    subst H (sym h.arranges.machine) (cts_at_first true moments lines.0 far c left lines.1 cts loop) in
+    cts_path true d.list m (ring_machine t) b.session.session.stands.sound first ahead leaves d.path in
+    let F : RingFields → Type 0 = λ g. sendable g ≡ waiting g in
+    let number : length (waiting f) ≡ unsent s = ap (λ (g : RingFields). length (waiting g)) same in
+    let fewer = resumes_some f (ring_fields t) d.list m (ring_machine t) d.does (subst F (sym same) free) (omega (arith, number, some)) thr
+    shown d.path in
+    omega (arith, fewer, number)
+
+-- ---- rounds
+
+-- after the first three calls of a round
+record Served (x y : Modes) (end : Side) (Follow : List Step → Type 0) (steps : List Step) (a b : Link) : Type 0 where
+  pub front : List Step
+  pub back : List Step
+  pub mid : Link
+  pub whole : steps ≡ front ++ back
+  pub first : LinkChain a front mid
+  pub second : LinkChain mid back b
+  pub going : Going x y mid
+  pub none : to_be_taken (at_end (other end) mid) ≡ []
+  pub come : sent_of (at_end end a) ≤ come_in (at_end (other end) mid)
+  pub gone : sent_of (at_end end a) ≤ gone_out (at_end end mid)
+  pub follow : Follow back
+
+served : (x y : Modes) (end : Side) (Follow : List Step → Type 0) (steps : List Step) (a b : Link) → Going x y a →
+    LinkChain a steps b → Comes (PassesTime end) (Comes (BringsAll (other end)) (Comes (TakesAll (other end)) Follow)) steps →
+    Served x y end Follow steps a b
+served x y end Follow steps a b g chain comes =
+    let p = find x y end _ _ steps a b g chain comes in
+    let q = find x y end _ _ p.back p.step.after b p.after.going p.second p.follow in
+    let r = find x y end _ _ q.back q.step.after b q.after.going q.second q.follow in
+    let passed = passed_time x y end p.step p.before.going p.after.going p.does p.such in
+    let brought = brought_time x y end q.step q.before.going q.does q.such in
+    let fronts = p.front ++ p.step ∷ [] in
+    let seconds = q.front ++ q.step ∷ [] in
+    let thirds = r.front ++ r.step ∷ [] in
+    record {
+      front = (fronts ++ seconds) ++ thirds;
+      back = r.back;
+      mid = r.step.after;
+      whole = p.whole ∙ (ap (λ (zs : List Step). fronts ++ zs) (q.whole ∙ ap (λ (zs : List Step). seconds ++ zs) r.whole) ∙
+          (sym (append_assoc fronts seconds (thirds ++ r.back)) ∙ sym (append_assoc (fronts ++ seconds) thirds r.back)));
+      first = joined_chains (fronts ++ seconds) thirds a q.step.after r.step.after
+          (joined_chains fronts seconds a p.step.after q.step.after p.first q.first) r.first;
+      second = r.second;
+      going = r.after.going;
+      none = r.such.none;
+      come = omega (
+        arith,
+        passed,
+        brought,
+        p.before.numbers.sent,
+        p.after.numbers.sent,
+        q.before.numbers.gone,
+        r.before.numbers.come,
+        r.after.numbers.come,
+      );
+      gone = omega (
+        arith,
+        passed,
+        p.before.numbers.sent,
+        p.after.numbers.sent,
+        q.before.numbers.gone,
+        q.after.numbers.gone,
+        r.before.numbers.gone,
+        r.after.numbers.gone,
+      );
+      follow = r.follow;
+    }
+
+-- an end is in a session
+in_end : (x y : Modes) (end : Side) (a : Link) → Going x y a → (z : Modes) × InEnd z (at_end end a)
+in_end x y Left a g = (x, g.left)
+in_end x y Right a g = (y, g.right)
+
+-- nothing is held that has left the chip
+thr_empty : (t : TransmitterState) → length t.wire + length (held t) ≤ length t.wire → IsThrEmpty t
+thr_empty t h = go t.queue refl
+  where
+    go : (queue : List ℕ) → t.queue ≡ queue → queue ≡ []
+    go [] e = refl
+    go (x ∷ xs) e =
+        let parts = length-append (shift_bytes t.shift_register) t.queue in
+        let some : length t.queue ≡ suc (length xs) = ap length e in
+        absurd (omega (arith, h, parts, some))
+
+-- a round: one byte fewer is left to be sent of those that there were at first
+record Round (x y : Modes) (end : Side) (Follow : List Step → Type 0) (goal left : ℕ) (steps : List Step) (a b : Link) : Type 0 where
+  pub front : List Step
+  pub back : List Step
+  pub mid : Link
+  pub whole : steps ≡ front ++ back
+  pub first : LinkChain a front mid
+  pub second : LinkChain mid back b
+  pub going : Going x y mid
+  pub all : goal ≤ all_of (at_end end mid)
+  pub sent : goal ≤ sent_of (at_end end mid) + left
+  pub follow : Follow back
+
+one_round : (x y : Modes) (end : Side) (Follow : List Step → Type 0) (goal left : ℕ) (steps : List Step) (a b : Link) → Going x y a →
+    LinkChain a steps b → AllKeepOrderAt end steps → goal ≤ all_of (at_end end a) → goal ≤ sent_of (at_end end a) + suc left →
+    Comes (PassesTime end) (Comes (BringsAll (other end)) (Comes (TakesAll (other end)) (Comes (GoesOn end) Follow))) steps →
+    Round x y end Follow goal left steps a b
+one_round x y end Follow goal left steps a b g chain order all near comes =
+    let v = served x y end (Comes (GoesOn end) Follow) steps a b g chain comes in
+    let w = find x y end _ _ v.back v.mid b v.going v.second v.follow in
+    let O : List Step → Type 0 = λ zs. AllKeepOrderAt end zs in
+    let whole_order : AllKeepOrderAt end (v.front ++ v.back) = subst O v.whole order in
+    let front_order = order_front end v.front v.back whole_order in
+    let back_order : AllKeepOrderAt end ((w.front ++ w.step ∷ []) ++ w.back) =
+    subst O w.whole (order_back end v.front v.back whole_order) in
+    let last_order = order_front end (w.front ++ w.step ∷ []) w.back back_order in
+    let to_mid = goes x y end v.front a v.mid g v.first in
+    let all_mid = to_mid.numbers.all front_order in
+    let all_before = w.before.numbers.all (order_front end w.front (w.step ∷ []) last_order) in
+    let all_after = w.after.numbers.all (order_back end w.front (w.step ∷ []) last_order) in
+    record {
+      front = v.front ++ (w.front ++ w.step ∷ []);
+      back = w.back;
+      mid = w.step.after;
+      whole = v.whole ∙ (ap (λ (zs : List Step). v.front ++ zs) w.whole ∙
+          sym (append_assoc v.front (w.front ++ w.step ∷ []) w.back));
+      first = joined_chains v.front (w.front ++ w.step ∷ []) a v.mid w.step.after v.first w.first;
+      second = w.second;
+      going = w.after.going;
+      all = omega (arith, all, all_mid, all_before, all_after);
+      sent =
+          let s = at_end end w.step.before in
+          let t = at_end end w.step.after in
+          let e = in_end x y end w.step.before w.before.going in
+          let more = to_mid.numbers.sent in
+          let later = w.before.numbers.sent in
+          let last = w.after.numbers.sent in
+          let room = v.gone in
+          let kept = w.before.numbers.gone in
+          let parts = length-append (ring_machine s).chip.transmitter.wire (held (ring_machine s).chip.transmitter) in
+          further (sent_of (at_end end a)) (sent_of s) (sent_of t) (unsent s) (omega (arith, more, later)) last near
+          (λ same some. let empty : IsThrEmpty (ring_machine s).chip.transmitter =
+          thr_empty (ring_machine s).chip.transmitter (omega (arith, same, room, kept, parts)) in
+          let fewer = resumed e.0 w.step.call.moments.items (at_end (other end) w.step.before) s t w.step.answer e.1
+          (does_at end call.ResumeTransmit w.step w.such.side w.such.call w.does) w.such.lines w.such.clear w.such.free some empty in
+          omega (arith, fewer, all_after))
+          (omega (arith, all, all_mid, all_before));
+      follow = w.follow;
+    }
+  where
+    further : (first before after waits : ℕ) → first ≤ before → before ≤ after → goal ≤ first + suc left →
+        (before ≤ first → 0 < waits → before < after) → goal ≤ before + waits → goal ≤ after + left
+    further first before after waits h k near moves all = go (nat_lt first before) refl
+      where
+        some : (n : ℕ) → waits ≡ n → before ≤ first → goal ≤ after + left
+        some zero e same = omega (arith, e, all, k)
+        some (suc n) e same = let m = moves same (omega (arith, e)) in omega (arith, m, same, near, h)
+
+        go : (b : Bool) → nat_lt first before ≡ b → goal ≤ after + left
+        go true e = let l : first < before = grind (arith, common_steps) in omega (arith, l, k, near)
+        go false e = let l : before ≤ first = grind (arith, common_steps) in some waits refl l
+
+-- at some place all has come that there was at first, and nothing waits to be taken
+record Delivered (x y : Modes) (end : Side) (goal : ℕ) (steps : List Step) (a b : Link) : Type 0 where
+  pub front : List Step
+  pub back : List Step
+  pub mid : Link
+  pub whole : steps ≡ front ++ back
+  pub first : LinkChain a front mid
+  pub second : LinkChain mid back b
+  pub going : Going x y mid
+  pub none : to_be_taken (at_end (other end) mid) ≡ []
+  pub come : goal ≤ come_in (at_end (other end) mid)
+
+delivered : (x y : Modes) (end : Side) (goal left : ℕ) (steps : List Step) (a b : Link) → Going x y a → LinkChain a steps b →
+    AllKeepOrderAt end steps → goal ≤ all_of (at_end end a) → goal ≤ sent_of (at_end end a) + left → HasRounds end (suc left) steps →
+    Delivered x y end goal steps a b
+delivered x y end goal zero steps a b g chain order all near rounds =
+    let v = served x y end _ steps a b g chain rounds in
+    record {
+      front = v.front;
+      back = v.back;
+      mid = v.mid;
+      whole = v.whole;
+      first = v.first;
+      second = v.second;
+      going = v.going;
+      none = v.none;
+      come = omega (arith, near, v.come);
+    }
+delivered x y end goal (suc left) steps a b g chain order all near rounds =
+    let r = one_round x y end (HasRounds end (suc left)) goal left steps a b g chain order all near rounds in
+    let O : List Step → Type 0 = λ zs. AllKeepOrderAt end zs in
+    let d = delivered x y end goal left r.back r.mid b r.going r.second (order_back end r.front r.back (subst O r.whole order)) r.all
+    r.sent r.follow in
+    record {
+      front = r.front ++ d.front;
+      back = d.back;
+      mid = d.mid;
+      whole = r.whole ∙ (ap (λ (zs : List Step). r.front ++ zs) d.whole ∙ sym (append_assoc r.front d.front d.back));
+      first = joined_chains r.front d.front a r.mid d.mid r.first d.first;
+      second = d.second;
+      going = d.going;
+      none = d.none;
+      come = d.come;
+    }
+
+-- ---- what was taken
+
+gone_append : (end : Side) (front back : List Step) → gone_at end (front ++ back) ≡ gone_at end front ++ gone_at end back
+gone_append end [] back = refl
+gone_append end (step ∷ front) back =
+    let one = of_end end step.call.side (gone_in step.call.call step.answer (to_take (at_end step.call.side step.before))) in
+    ap (λ zs. one ++ zs) (gone_append end front back) ∙ sym (append_assoc one (gone_at end front) (gone_at end back))
+
+-- a list that is long enough begins with what the whole begins with
+begins_with : (all gone rest more : List ℕ) → gone ++ rest ≡ all ++ more → length all ≤ length gone →
+    (later : List ℕ) × (gone ≡ all ++ later)
+begins_with all gone rest more e h =
+    let same : take (length all) gone ≡ all =
+    sym (take-append-le (length all) gone rest h) ∙ (ap (take (length all)) e ∙ take-append_seam all more) in
+    (drop (length all) gone, sym (take-append-drop (length all) gone) ∙ ap (λ zs. zs ++ drop (length all) gone) same)
+
+-- no character was dropped before, if none is dropped in the end
+none_before : (end : Side) (a u b : Link) →
+    ((o : Origin) → origin_stands (receiver_at (at_end end b)).marks (receiver_at (at_end end b)).is_unscheduled_lost o ≡ true →
+    origin_stands (receiver_at (at_end end u)).marks (receiver_at (at_end end u)).is_unscheduled_lost o ≡ true) →
+    DropsNothing end a b → DropsNothing end a u
+none_before end a u b falls none d = go (origin_stands s.marks s.is_unscheduled_lost d.origin) refl
+  where
+    s : ReceiverState
+    s = receiver_at (at_end end b)
+
+    go : (v : Bool) → origin_stands s.marks s.is_unscheduled_lost d.origin ≡ v → ⊥
+    go true e = let h = falls d.origin e in cc (d.lost)
+    go false e = none (record { origin = d.origin; stood = d.stood; lost = e })
+
+stands_before : (x y : Modes) (end : Side) (u b : Link) (steps : List Step) → Going x y u → LinkChain u steps b → (o : Origin) →
+    origin_stands (receiver_at (at_end end b)).marks (receiver_at (at_end end b)).is_unscheduled_lost o ≡ true →
+    origin_stands (receiver_at (at_end end u)).marks (receiver_at (at_end end u)).is_unscheduled_lost o ≡ true
+stands_before x y end u b steps g chain = by end (link_chain x y u b steps g.left g.right g.joined chain)
+  where
+    by : (end : Side) →
+        LinkPasses x y (λ end. AllKeepOrderAt end steps) (λ end. NoLineAt end steps) (λ end. queued_at end steps)
+        (λ end. gone_at end steps) u b → (o : Origin) →
+        origin_stands (receiver_at (at_end end b)).marks (receiver_at (at_end end b)).is_unscheduled_lost o ≡ true →
+        origin_stands (receiver_at (at_end end u)).marks (receiver_at (at_end end u)).is_unscheduled_lost o ≡ true
+    by Left p o stands = p.left.went.receives.moved.falls o stands
+    by Right p o stands = p.right.went.receives.moved.falls o stands
+
+-- after rounds enough all has been taken
+pub progresses : (x y : Modes) (end : Side) (steps : List Step) (a b : Link) → InEnd x a.left → InEnd y a.right → IsJoined a →
+    LinkChain a steps b →
+    ((front : List Step) (u : Link) → LinkChain a front u → DropsNothing (other end) a u → CarriesAll end a front u) →
+    Progresses end a steps b
+progresses x y end steps a b w v joined chain carries order none rounds =
+    let to = other end in
+    let s = at_end end a in
+    let g : Going x y a = record { left = w; right = v; joined = joined } in
+    let number : unsent s + 1 ≡ suc (unsent s) = omega arith in
+    let d = delivered x y end (all_of s) (unsent s) steps a b g chain order (omega arith) (omega arith)
+    (subst (λ n. HasRounds end n steps) number rounds) in
+    let O : List Step → Type 0 = λ zs. AllKeepOrderAt end zs in
+    let order_there = order_front end d.front d.back (subst O d.whole order) in
+    let none_there = none_before to a d.mid b (stands_before x y to d.mid b d.back d.going d.second) none in
+    let all = carries d.front d.mid d.first none_there order_there in
+    let n = (goes x y end d.front a d.mid g d.first).numbers in
+    let way = on_the_way (at_end end d.mid) (at_end to d.mid) in
+    let there = to_be_taken (at_end to a) ++ on_the_way s (at_end to a) in
+    let now : gone_at to d.front ++ way ≡ there ++ queued_at end d.front =
+    ap (λ zs. gone_at to d.front ++ (zs ++ way)) (sym d.none) ∙ (all ∙
+    sym (append_assoc (to_be_taken (at_end to a)) (on_the_way s (at_end to a)) (queued_at end d.front))) in
+    let sizes : length (gone_at to d.front ++ way) ≡ length (there ++ queued_at end d.front) = ap length now in
+    let first = length-append (gone_at to d.front) way in
+    let second = length-append there (queued_at end d.front) in
+    let few = way_length (at_end end d.mid) (at_end to d.mid) in
+    let count = n.all order_there in
+    let r = begins_with there (gone_at to d.front) way (queued_at end d.front) now
+    (omega (arith, sizes, first, second, few, count, d.come, n.behind)) in (
+      r.0 ++ gone_at to d.back,
+      ap (λ (zs : List Step). gone_at to zs) d.whole ∙ (gone_append to d.front d.back ∙
+          (ap (λ zs. zs ++ gone_at to d.back) r.1 ∙ append_assoc there r.0 (gone_at to d.back))),
+    )
+  where
+    way_length : (from to : RingState) → length (on_the_way from to) + come_in to ≤ all_of from + (come_in to - gone_out from)
+    way_length from to =
+        let t = (ring_machine from).chip.transmitter in
+        let cable = length-drop (come_in to) t.wire in
+        let first = length-append (drop (come_in to) t.wire) (held t ++ to_send from) in
+        let second = length-append (held t) (to_send from) in
+        let third = length-append t.wire (held t) in
+        omega (arith, cable, first, second, third)

@@ -1,0 +1,109 @@
+-- Progress: if time passes, what is on the cable arrives, and both programs go on, all that was queued is taken.
+use Rattle.std.specs.Prelude.{◌≡◌, ◌≤◌, ◌+◌, ◌*◌, ⊤, ℕ, zero, suc, true, List, [], ◌∷◌, ◌++◌, length}
+use Rattle.uart_spec.specs.Bits.{has_any}
+use Rattle.uart_spec.specs.declared.registers.modem_status.TheConstants.MSR
+use Rattle.uart_chip.specs.Chip.{ChipState}
+use Rattle.uart_chip.specs.Transmitter.{TransmitterState}
+use Rattle.uart_run.specs.Progress.{HasRoom}
+use Rattle.uart_ring.specs.Ring.{ring_fields, sendable, waiting}
+use Rattle.uart_ring_runs.specs.declared.call.RingCall.TheVariants as call
+use Rattle.uart_ring_runs.specs.RingRun.{ring_machine}
+use Rattle.uart_ring_runs.specs.RingBytes.{to_send}
+use Rattle.uart_link.specs.declared.call.Moment.{Moment}
+use Rattle.uart_link.specs.declared.call.Moment.TheVariants as moment
+use Rattle.uart_link.specs.declared.call.Side.{Side}
+use Rattle.uart_link.specs.declared.link.Link.{Link}
+use Rattle.uart_link.specs.Cable.{on_cable, to_come, lines_from}
+use Rattle.uart_link.specs.Carried.{to_be_taken, on_the_way, gone_at, AllKeepOrderAt}
+use Rattle.uart_link.specs.Flow.{SeesLines, DropsNothing}
+use Rattle.uart_link.specs.Link.{at_end, other, Step}
+
+-- ---- what a round is made of
+
+-- the chip of an end, and its transmitter
+abbrev pub chip_at : Side → Link → ChipState
+chip_at end link = (ring_machine (at_end end link)).chip
+
+abbrev pub transmitter_at : Side → Link → TransmitterState
+transmitter_at end link = (chip_at end link).transmitter
+
+-- the ticks that pass in these moments; how many characters may arrive in them
+abbrev pub ticks_in : List Moment → ℕ
+ticks_in [] = 0
+ticks_in (moment.Ticks n ∷ moments) = n + ticks_in moments
+ticks_in (_ ∷ moments) = ticks_in moments
+
+abbrev pub arrives_in : List Moment → ℕ
+arrives_in [] = 0
+arrives_in (moment.Arrives ∷ moments) = 1 + arrives_in moments
+arrives_in (_ ∷ moments) = arrives_in moments
+
+-- the ticks that are enough for a transmitter to send all that it holds, which is 17 characters at most
+abbrev pub enough_ticks : TransmitterState → ℕ
+enough_ticks t = 17 * t.char_ticks
+
+-- Time passes at an end: in a `Next` there are ticks enough for all that its transmitter holds, and the wire has room
+-- for that
+pub record PassesTime (end : Side) (step : Step) : Type 0 where
+  pub side : step.call.side ≡ end
+  pub call : step.call.call ≡ call.Next
+  pub ticks : enough_ticks (transmitter_at end step.before) ≤ ticks_in step.call.moments.items
+  pub room : HasRoom 0 (ring_machine (at_end end step.before))
+
+-- All arrives that is on the cable to an end: in a `Next` of the end there are as many arrivals, and the chip's journal
+-- has room for them
+pub record BringsAll (end : Side) (step : Step) : Type 0 where
+  pub side : step.call.side ≡ end
+  pub call : step.call.call ≡ call.Next
+  pub arrivals : length (on_cable (chip_at (other end) step.before) (chip_at end step.before)) ≤
+      arrives_in step.call.moments.items
+  pub room : length (on_cable (chip_at (other end) step.before) (chip_at end step.before)) ≤
+      to_come (chip_at end step.before)
+
+-- All is taken that has come to an end: its handler has run and its program has taken, so nothing waits in its receiver
+-- and nothing in its receive ring
+pub record TakesAll (end : Side) (step : Step) : Type 0 where
+  pub none : to_be_taken (at_end end step.after) ≡ []
+
+-- An end goes on to send: in a `resume_transmit` that finds the lines as the other end gives them. If its driver checks
+-- CTS, the other end's RTS is on; and nothing that waits is held, and the chip is not stuck
+pub record GoesOn (end : Side) (step : Step) : Type 0 where
+  pub side : step.call.side ≡ end
+  pub call : step.call.call ≡ call.ResumeTransmit
+  pub lines : SeesLines step.call.moments.items
+  pub clear : (ring_fields (at_end end step.before)).driver.config.check_cts_before_sending ≡ true →
+      has_any (lines_from (chip_at (other end) step.before)) MSR.CTS.0 ≡ true
+  pub free : sendable (ring_fields (at_end end step.before)) ≡ waiting (ring_fields (at_end end step.before))
+
+-- ---- rounds
+
+-- among these calls comes such a one, and these follow after it
+abbrev pub Comes : (Step → Type 0) → (List Step → Type 0) → List Step → Type 0
+Comes Such Follow steps =
+    (before : List Step) × (step : Step) × (after : List Step) × (steps ≡ before ++ step ∷ after) × Such step
+    × Follow after
+
+-- So many rounds, from one end to the other. In a round time passes at the sender, all on the cable arrives, the
+-- receiver takes it, and the sender goes on to send: in this order, with any other calls before, between and after
+abbrev pub HasRounds : (end : Side) → (rounds : ℕ) → List Step → Type 0
+HasRounds end zero = λ steps. ⊤
+HasRounds end (suc rounds) =
+    Comes (PassesTime end) (Comes (BringsAll (other end)) (Comes (TakesAll (other end)) (Comes (GoesOn end)
+    (HasRounds end rounds))))
+
+-- ---- what follows
+
+-- what the other end took, begins with all that there was at first: what waited to be taken there, what was on the
+-- cable, in the transmitter and in the rings of this end
+abbrev pub TakesQueued : Side → Link → List Step → Type 0
+TakesQueued end a steps =
+    let to = other end in
+    (later : List ℕ)
+    × (gone_at to steps ≡ (to_be_taken (at_end to a) ++ on_the_way (at_end end a) (at_end to a)) ++ later)
+
+-- If no character is dropped at the other end, and no call lets a byte overtake or drops one, all that was queued is
+-- taken within as many rounds as bytes wait in the rings, and one more for what is in the transmitter and on the cable
+abbrev pub Progresses : Side → Link → List Step → Link → Type 0
+Progresses end a steps b =
+    AllKeepOrderAt end steps → DropsNothing (other end) a b → HasRounds end (length (to_send (at_end end a)) + 1) steps →
+    TakesQueued end a steps
