@@ -17,4 +17,5 @@ pub mod LinkSounds
 pub mod News
 pub mod Passing
 pub mod Resumes
+pub mod Taking
 pub mod Rounds

@@ -6,7 +6,10 @@ use Rattle.std.proofs.lemmas.List.{length-drop, length-map, take-append-le, take
 use Rattle.std.proofs.Math.Seq.{take-append_seam}
 use Rattle.std.proofs.Common.{nat_lt}
 use Rattle.uart_chip.specs.declared.receiver.Origin.{Origin}
-use Rattle.uart_chip.specs.Conserved.{origin_stands}
+use Rattle.uart_chip.specs.declared.receiver.Character.{Character}
+use Rattle.std.proofs.Common.{filter}
+use Rattle.std.proofs.lemmas.List.Sums.{length-filter, count_by-le-length}
+use Rattle.uart_chip.specs.Conserved.{origin_stands, stands, waiting as received}
 use Rattle.uart_chip.specs.Receiver.{ReceiverState}
 use Rattle.uart_chip.specs.Transmitter.{shift_bytes}
 use Rattle.uart_ring_runs.specs.RingBytes.{to_take, gone_in}
@@ -26,7 +29,7 @@ use Rattle.uart_chip.specs.Chip.{ChipState, is_loopback}
 use Rattle.uart_chip.specs.Transmitter.{TransmitterState, held}
 use Rattle.uart_chip.specs.Machine.{MachineState, at_access, arrivals}
 use Rattle.uart_chip.specs.Sound.{IsSound}
-use Rattle.uart_chip.proofs.conservation.Went.{Modes, loopback-in}
+use Rattle.uart_chip.proofs.conservation.Went.{Modes, Went as Stretch, arriving_cut, loopback-in}
 use Rattle.uart_chip.proofs.lasting.Lasting.{lasts-before_mark}
 use Rattle.uart_ring.specs.Ring.{RingFields, ring_fields, sendable, waiting}
 use Rattle.uart_ring.specs.Lossless.{data_written}
@@ -45,11 +48,12 @@ use Rattle.uart_link.specs.Cable.{to_come, settled, lines_from}
 use Rattle.uart_link.specs.Carried.{to_be_taken, on_the_way, queued_at, gone_at, AllKeepOrderAt, IsJoined}
 use Rattle.uart_link.specs.Flow.{SeesLines, CarriesAll}
 use Rattle.uart_link.specs.Link.{at_end, other, Step, EndStep, LinkChain, LinkCallStep}
-use Rattle.uart_link.specs.Progress.{PassesTime, BringsAll, TakesAll, GoesOn, Comes, HasRounds}
+use Rattle.uart_link.proofs.Taking.{handled_all, taken_all}
+use Rattle.uart_link.specs.Progress.{PassesTime, BringsAll, HandlesAll, TakesAll, GoesOn, Comes, HasRounds}
 use Rattle.uart_link.proofs.Arranges.{arranged_events}
 use Rattle.uart_link.proofs.Calm.{AllLeaveMcr, AllLeaveCts, HasCts, cts_path, blocks_leave}
 use Rattle.uart_link.proofs.EndActs.{end_begins}
-use Rattle.uart_link.proofs.EndFlows.{sent_of, cts_arranged, cts_at_first}
+use Rattle.uart_link.proofs.EndFlows.{sent_of, waits, cts_arranged, cts_at_first}
 use Rattle.uart_link.proofs.EndPasses.{InEnd, EndPasses}
 use Rattle.uart_link.proofs.Held.{AllShowCts}
 use Rattle.uart_link.proofs.LinkSteps.{Brings, LinkPasses, link_chain, joined_after}
@@ -68,8 +72,26 @@ come_in s = (ring_machine s).chip.receiver.arrived
 abbrev unsent : RingState → ℕ
 unsent s = length (to_send s)
 
+
 abbrev all_of : RingState → ℕ
 all_of s = sent_of s + unsent s
+
+-- no more characters wait than waited and came
+more_wait : (x : Modes) (c d : ChipState) (events : List Event) (made : List Access) (written : List ℕ) (takes : List Character) →
+    Stretch x c d events made written takes →
+    length d.receiver.queue + c.receiver.arrived ≤ length c.receiver.queue + d.receiver.arrived
+more_wait x c d events made written takes w =
+    let r = c.receiver in
+    let s = d.receiver in
+    let came = arriving_cut x.cut r.arrived events in
+    let same : length (filter (stands s) (r.queue ++ came)) ≡ length (takes ++ s.queue) = ap length w.receives.moved.stay in
+    let few : length (filter (stands s) (r.queue ++ came)) ≤ length (r.queue ++ came) =
+    subst (λ k. k ≤ length (r.queue ++ came)) (sym (length-filter (stands s) (r.queue ++ came)))
+    (count_by-le-length (stands s) (r.queue ++ came)) in
+    let all = length-append r.queue came in
+    let parts = length-append takes s.queue in
+    let number = w.receives.number in
+    omega (arith, same, few, all, parts, number)
 
 -- from one end to the other
 record Numbers (Order : Type 0) (queued : List ℕ) (s t r u : RingState) : Type 0 where
@@ -78,10 +100,11 @@ record Numbers (Order : Type 0) (queued : List ℕ) (s t r u : RingState) : Type
   pub gone : gone_out s ≤ gone_out t
   pub come : come_in r ≤ come_in u
   pub behind : come_in u ≤ gone_out t
+  pub waiting : waits u + come_in r ≤ waits r + come_in u
 
-numbers : (x : Modes) (Order NoLine : Type 0) (q e : List ℕ) (s t r u : RingState) (f : List Event) (events : List Event) →
-    EndPasses x Order q NoLine s t e f → Brings s t r u events → Numbers Order q s t r u
-numbers x Order NoLine q e s t r u f events p b =
+numbers : (x y : Modes) (A B N O : Type 0) (q p e g : List ℕ) (s t r u : RingState) (f : List Event) (events : List Event) →
+    EndPasses x A q N s t e f → EndPasses y B p O r u g events → Brings s t r u events → Numbers A q s t r u
+numbers x y A B N O q past e g s t r u f events p o b =
     let sizes : sent_of t ≡ length (out (ring_machine s) ++ map x.cut (data_written p.made)) = ap length p.went.sends.grows in
     let sums = length-append (out (ring_machine s)) (map x.cut (data_written p.made)) in
     let same = length-map (data_written p.made) x.cut in
@@ -103,6 +126,7 @@ numbers x Order NoLine q e s t r u f events p b =
       gone = omega (arith, grown, longer);
       come = omega (arith, crossed, before, after, parts, c.starts, c.ends);
       behind = c.ends;
+      waiting = more_wait _ _ _ _ _ _ _ o.went;
     }
 
 -- ---- a part of a run
@@ -128,8 +152,8 @@ goes x y end steps a b g chain =
         (λ end. gone_at end steps) a b →
         Numbers (AllKeepOrderAt end steps) (queued_at end steps) (at_end end a) (at_end end b) (at_end (other end) a)
         (at_end (other end) b)
-    at Left p = numbers x _ _ _ _ a.left b.left a.right b.right _ _ p.left p.rightward
-    at Right p = numbers y _ _ _ _ a.right b.right a.left b.left _ _ p.right p.leftward
+    at Left p = numbers x y _ _ _ _ _ _ _ _ a.left b.left a.right b.right _ _ p.left p.right p.rightward
+    at Right p = numbers y x _ _ _ _ _ _ _ _ a.right b.right a.left b.left _ _ p.right p.left p.leftward
 
 -- a part is in two
 record Split (a : Link) (front back : List Step) (b : Link) : Type 0 where
@@ -244,6 +268,20 @@ brought_time x y end step g h p =
     (sound_at x y to step.before g) (brought_at x y to step.before g) (does_at to call.Next step p.side p.call h) p.arrivals p.room in
     subst (λ z. gone_out (at_end z step.before) ≤ come_in (at_end to step.after)) (other_other end) all
 
+-- the handler has run: nothing waits in the receiver
+handled_time : (end : Side) (step : Step) → LinkCallStep step.before step.call step.answer step.after → HandlesAll end step →
+    waits (at_end end step.after) ≡ 0
+handled_time end step h p = ap length (handled_all step.call.moments.items (at_end (other end) step.before) (at_end end step.before)
+    (at_end end step.after) p.limit p.handled step.answer (does_at end (call.Handle p.limit) step p.side p.call h) p.answer p.idle p.enabled
+    p.told)
+
+-- and the program has taken: nothing is left in the receive ring
+taken_time : (end : Side) (step : Step) → LinkCallStep step.before step.call step.answer step.after → TakesAll end step →
+    to_take (at_end end step.after) ≡ []
+taken_time end step h p =
+    taken_all step.call.moments.items (at_end (other end) step.before) (at_end end step.before) (at_end end step.after) p.slots p.bytes
+    step.answer (does_at end (call.Take p.slots) step p.side p.call h) p.answer p.more_slots
+
 -- sending goes on: a byte leaves the rings
 resumed : (x : Modes) (moments : List Moment) (there s t : RingState) (a : RingAnswer) → InEnd x s →
     EndStep moments there s call.ResumeTransmit a t → SeesLines moments →
@@ -287,7 +325,12 @@ resumed x moments there s t a w h lines clear free some empty =
 
 -- ---- rounds
 
--- after the first three calls of a round
+-- the first four calls of a round, and what follows
+abbrev FirstOf : Side → (List Step → Type 0) → List Step → Type 0
+FirstOf end Follow =
+    let to = other end in Comes (PassesTime end) (Comes (BringsAll to) (Comes (HandlesAll to) (Comes (TakesAll to) Follow)))
+
+-- after these
 record Served (x y : Modes) (end : Side) (Follow : List Step → Type 0) (steps : List Step) (a b : Link) : Type 0 where
   pub front : List Step
   pub back : List Step
@@ -296,56 +339,51 @@ record Served (x y : Modes) (end : Side) (Follow : List Step → Type 0) (steps 
   pub first : LinkChain a front mid
   pub second : LinkChain mid back b
   pub going : Going x y mid
-  pub none : to_be_taken (at_end (other end) mid) ≡ []
-  pub come : sent_of (at_end end a) ≤ come_in (at_end (other end) mid)
+  pub none : to_take (at_end (other end) mid) ≡ []
+  pub come : sent_of (at_end end a) + waits (at_end (other end) mid) ≤ come_in (at_end (other end) mid)
   pub gone : sent_of (at_end end a) ≤ gone_out (at_end end mid)
   pub follow : Follow back
 
 served : (x y : Modes) (end : Side) (Follow : List Step → Type 0) (steps : List Step) (a b : Link) → Going x y a →
-    LinkChain a steps b → Comes (PassesTime end) (Comes (BringsAll (other end)) (Comes (TakesAll (other end)) Follow)) steps →
+    LinkChain a steps b → FirstOf end Follow steps →
     Served x y end Follow steps a b
 served x y end Follow steps a b g chain comes =
     let p = find x y end _ _ steps a b g chain comes in
     let q = find x y end _ _ p.back p.step.after b p.after.going p.second p.follow in
-    let r = find x y end _ _ q.back q.step.after b q.after.going q.second q.follow in
+    let h = find x y end _ _ q.back q.step.after b q.after.going q.second q.follow in
+    let r = find x y end _ _ h.back h.step.after b h.after.going h.second h.follow in
     let passed = passed_time x y end p.step p.before.going p.after.going p.does p.such in
     let brought = brought_time x y end q.step q.before.going q.does q.such in
-    let fronts = p.front ++ p.step ∷ [] in
-    let seconds = q.front ++ q.step ∷ [] in
-    let thirds = r.front ++ r.step ∷ [] in
+    let handled = handled_time (other end) h.step h.does h.such in
+    let n = p.before.numbers in
+    let o = q.before.numbers in
+    let first = p.front ++ p.step ∷ [] in
+    let second = q.front ++ q.step ∷ [] in
+    let third = h.front ++ h.step ∷ [] in
+    let fourth = r.front ++ r.step ∷ [] in
     record {
-      front = (fronts ++ seconds) ++ thirds;
+      front = first ++ (second ++ (third ++ fourth));
       back = r.back;
       mid = r.step.after;
-      whole = p.whole ∙ (ap (λ (zs : List Step). fronts ++ zs) (q.whole ∙ ap (λ (zs : List Step). seconds ++ zs) r.whole) ∙
-          (sym (append_assoc fronts seconds (thirds ++ r.back)) ∙ sym (append_assoc (fronts ++ seconds) thirds r.back)));
-      first = joined_chains (fronts ++ seconds) thirds a q.step.after r.step.after
-          (joined_chains fronts seconds a p.step.after q.step.after p.first q.first) r.first;
+      whole = in_one first second third fourth steps p.back q.back h.back r.back p.whole q.whole h.whole r.whole;
+      first = joined_chains first (second ++ (third ++ fourth)) a p.step.after r.step.after p.first
+          (joined_chains second (third ++ fourth) p.step.after q.step.after r.step.after q.first
+          (joined_chains third fourth q.step.after h.step.after r.step.after h.first r.first));
       second = r.second;
       going = r.after.going;
-      none = r.such.none;
-      come = omega (
-        arith,
-        passed,
-        brought,
-        p.before.numbers.sent,
-        p.after.numbers.sent,
-        q.before.numbers.gone,
-        r.before.numbers.come,
-        r.after.numbers.come,
-      );
-      gone = omega (
-        arith,
-        passed,
-        p.before.numbers.sent,
-        p.after.numbers.sent,
-        q.before.numbers.gone,
-        q.after.numbers.gone,
-        r.before.numbers.gone,
-        r.after.numbers.gone,
-      );
+      none = taken_time (other end) r.step r.does r.such;
+      come = omega (arith, passed, brought, handled, n.sent, p.after.numbers.sent, o.gone, h.before.numbers.come,
+          h.after.numbers.come, r.before.numbers.waiting, r.after.numbers.waiting);
+      gone = omega (arith, passed, n.sent, p.after.numbers.sent, o.gone, q.after.numbers.gone, h.before.numbers.gone,
+          h.after.numbers.gone, r.before.numbers.gone, r.after.numbers.gone);
       follow = r.follow;
     }
+  where
+    in_one : (first second third fourth steps one two three rest : List Step) → steps ≡ first ++ one → one ≡ second ++ two →
+        two ≡ third ++ three → three ≡ fourth ++ rest → steps ≡ (first ++ (second ++ (third ++ fourth))) ++ rest
+    in_one first second third fourth steps one two three rest a b c d =
+        rw (a, b, c, d, append_assoc first (second ++ (third ++ fourth)) rest, append_assoc second (third ++ fourth) rest,
+        append_assoc third fourth rest) refl
 
 -- an end is in a session
 in_end : (x y : Modes) (end : Side) (a : Link) → Going x y a → (z : Modes) × InEnd z (at_end end a)
@@ -378,7 +416,7 @@ record Round (x y : Modes) (end : Side) (Follow : List Step → Type 0) (goal le
 
 one_round : (x y : Modes) (end : Side) (Follow : List Step → Type 0) (goal left : ℕ) (steps : List Step) (a b : Link) → Going x y a →
     LinkChain a steps b → AllKeepOrderAt end steps → goal ≤ all_of (at_end end a) → goal ≤ sent_of (at_end end a) + suc left →
-    Comes (PassesTime end) (Comes (BringsAll (other end)) (Comes (TakesAll (other end)) (Comes (GoesOn end) Follow))) steps →
+    FirstOf end (Comes (GoesOn end) Follow) steps →
     Round x y end Follow goal left steps a b
 one_round x y end Follow goal left steps a b g chain order all near comes =
     let v = served x y end (Comes (GoesOn end) Follow) steps a b g chain comes in
@@ -444,8 +482,8 @@ record Delivered (x y : Modes) (end : Side) (goal : ℕ) (steps : List Step) (a 
   pub first : LinkChain a front mid
   pub second : LinkChain mid back b
   pub going : Going x y mid
-  pub none : to_be_taken (at_end (other end) mid) ≡ []
-  pub come : goal ≤ come_in (at_end (other end) mid)
+  pub none : to_take (at_end (other end) mid) ≡ []
+  pub come : goal + waits (at_end (other end) mid) ≤ come_in (at_end (other end) mid)
 
 delivered : (x y : Modes) (end : Side) (goal left : ℕ) (steps : List Step) (a b : Link) → Going x y a → LinkChain a steps b →
     AllKeepOrderAt end steps → goal ≤ all_of (at_end end a) → goal ≤ sent_of (at_end end a) + left → HasRounds end (suc left) steps →
@@ -542,16 +580,21 @@ progresses x y end steps a b w v joined chain carries order none rounds =
     let n = (goes x y end d.front a d.mid g d.first).numbers in
     let way = on_the_way (at_end end d.mid) (at_end to d.mid) in
     let there = to_be_taken (at_end to a) ++ on_the_way s (at_end to a) in
-    let now : gone_at to d.front ++ way ≡ there ++ queued_at end d.front =
-    ap (λ zs. gone_at to d.front ++ (zs ++ way)) (sym d.none) ∙ (all ∙
-    sym (append_assoc (to_be_taken (at_end to a)) (on_the_way s (at_end to a)) (queued_at end d.front))) in
-    let sizes : length (gone_at to d.front ++ way) ≡ length (there ++ queued_at end d.front) = ap length now in
-    let first = length-append (gone_at to d.front) way in
+    let left = to_be_taken (at_end to d.mid) ++ way in
+    let now : gone_at to d.front ++ left ≡ there ++ queued_at end d.front =
+    all ∙ sym (append_assoc (to_be_taken (at_end to a)) (on_the_way s (at_end to a)) (queued_at end d.front)) in
+    let sizes : length (gone_at to d.front ++ left) ≡ length (there ++ queued_at end d.front) = ap length now in
+    let first = length-append (gone_at to d.front) left in
+    let third = length-append (to_be_taken (at_end to d.mid)) way in
+    let fourth = length-append (to_take (at_end to d.mid)) (received (ring_machine (at_end to d.mid))) in
+    let ring : length (to_take (at_end to d.mid)) ≡ 0 = ap length d.none in
+    let chars : length (received (ring_machine (at_end to d.mid))) ≡ waits (at_end to d.mid) =
+    length-map (receiver_at (at_end to d.mid)).queue (λ character. character.byte) in
     let second = length-append there (queued_at end d.front) in
     let few = way_length (at_end end d.mid) (at_end to d.mid) in
     let count = n.all order_there in
-    let r = begins_with there (gone_at to d.front) way (queued_at end d.front) now
-    (omega (arith, sizes, first, second, few, count, d.come, n.behind)) in (
+    let r = begins_with there (gone_at to d.front) left (queued_at end d.front) now
+    (omega (arith, sizes, first, second, third, fourth, ring, chars, few, count, d.come, n.behind)) in (
       r.0 ++ gone_at to d.back,
       ap (λ (zs : List Step). gone_at to zs) d.whole ∙ (gone_append to d.front d.back ∙
           (ap (λ zs. zs ++ gone_at to d.back) r.1 ∙ append_assoc there r.0 (gone_at to d.back))),

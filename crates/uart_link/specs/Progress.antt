@@ -1,13 +1,18 @@
 -- Progress: if time passes, what is on the cable arrives, and both programs go on, all that was queued is taken.
-use Rattle.std.specs.Prelude.{◌≡◌, ◌≤◌, ◌+◌, ◌*◌, ⊤, ℕ, zero, suc, true, List, [], ◌∷◌, ◌++◌, length}
+use Rattle.std.specs.Prelude.{◌≡◌, ◌⊎◌, ◌≤◌, ◌<◌, ◌+◌, ◌*◌, ⊤, ℕ, zero, suc, true, false, List, [], ◌∷◌, ◌++◌, length}
 use Rattle.uart_spec.specs.Bits.{has_any}
+use Rattle.uart_spec.specs.declared.registers.fifo_trigger_level.FifoTriggerLevel.TheVariants.{One}
+use Rattle.uart_spec.specs.declared.registers.interrupt_enable.TheConstants.IER
 use Rattle.uart_spec.specs.declared.registers.modem_status.TheConstants.MSR
 use Rattle.uart_chip.specs.Chip.{ChipState}
 use Rattle.uart_chip.specs.Transmitter.{TransmitterState}
 use Rattle.uart_run.specs.Progress.{HasRoom}
 use Rattle.uart_ring.specs.Ring.{ring_fields, sendable, waiting}
+use Rattle.uart_ring.specs.declared.ring.service.HandleEnd.TheVariants.{Idle}
+use Rattle.uart_ring.specs.declared.ring.service.Handled.{Handled}
+use Rattle.uart_ring_runs.specs.declared.call.RingAnswer.TheVariants as answers
 use Rattle.uart_ring_runs.specs.declared.call.RingCall.TheVariants as call
-use Rattle.uart_ring_runs.specs.RingRun.{ring_machine}
+use Rattle.uart_ring_runs.specs.RingRun.{ring_machine, taken_answer}
 use Rattle.uart_ring_runs.specs.RingBytes.{to_send}
 use Rattle.uart_link.specs.declared.call.Moment.{Moment}
 use Rattle.uart_link.specs.declared.call.Moment.TheVariants as moment
@@ -60,10 +65,26 @@ pub record BringsAll (end : Side) (step : Step) : Type 0 where
   pub room : length (on_cable (chip_at (other end) step.before) (chip_at end step.before)) ≤
       to_come (chip_at end step.before)
 
--- All is taken that has come to an end: its handler has run and its program has taken, so nothing waits in its receiver
--- and nothing in its receive ring
+-- The handler of an end runs until no interrupt is pending. DATA_READY is enabled, which it is not while receiving is
+-- paused; and each character is told of, for the FIFO is off or the trigger level is One
+pub record HandlesAll (end : Side) (step : Step) : Type 0 where
+  pub side : step.call.side ≡ end
+  pub limit : ℕ
+  pub call : step.call.call ≡ call.Handle limit
+  pub handled : Handled
+  pub answer : step.answer ≡ answers.Handled handled
+  pub idle : handled.end ≡ Idle
+  pub enabled : has_any (chip_at end step.after).latches.ier IER.DATA_READY.0 ≡ true
+  pub told : ((chip_at end step.after).fifo ≡ false) ⊎ ((chip_at end step.after).receiver.trigger ≡ One)
+
+-- The program of an end takes all that is in the receive ring: it has more slots than bytes come
 pub record TakesAll (end : Side) (step : Step) : Type 0 where
-  pub none : to_be_taken (at_end end step.after) ≡ []
+  pub side : step.call.side ≡ end
+  pub slots : ℕ
+  pub call : step.call.call ≡ call.Take slots
+  pub bytes : List ℕ
+  pub answer : step.answer ≡ taken_answer bytes
+  pub more_slots : length bytes < slots
 
 -- An end goes on to send: in a `resume_transmit` that finds the lines as the other end gives them. If its driver checks
 -- CTS, the other end's RTS is on; and nothing that waits is held, and the chip is not stuck
@@ -84,12 +105,14 @@ Comes Such Follow steps =
     × Follow after
 
 -- So many rounds, from one end to the other. In a round time passes at the sender, all on the cable arrives, the
--- receiver takes it, and the sender goes on to send: in this order, with any other calls before, between and after
+-- receiver's handler runs, its program takes, and the sender goes on to send: in this order, with any other calls
+-- before, between and after
 abbrev pub HasRounds : (end : Side) → (rounds : ℕ) → List Step → Type 0
 HasRounds end zero = λ steps. ⊤
 HasRounds end (suc rounds) =
-    Comes (PassesTime end) (Comes (BringsAll (other end)) (Comes (TakesAll (other end)) (Comes (GoesOn end)
-    (HasRounds end rounds))))
+    let to = other end in
+    Comes (PassesTime end) (Comes (BringsAll to) (Comes (HandlesAll to) (Comes (TakesAll to) (Comes (GoesOn end)
+    (HasRounds end rounds)))))
 
 -- ---- what follows
 

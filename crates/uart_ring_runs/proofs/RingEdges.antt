@@ -138,6 +138,20 @@ idle_list f l after t =
     let shown = t.first.0 in
     (shown.0, shown.2, rw (shown.3.0.is, t.second.0) at t.whole)
 
+-- after a `handle` that ended so the line is low
+pub handled_down : (limit : ℕ) (handled : Handled) (f : RingFields) (l : List Access) (after : RingFields) →
+    Handles limit handled f l after → handled.end ≡ Idle → (m n : MachineState) → Path MachineStep m l n → is_line_up n ≡ false
+handled_down limit handled f l after t idle m n path =
+    let h = handled_later limit handled f l after t in
+    let E : HandleEnd → Type 0 = λ end. Ends end h.mid h.back after in
+    let last = idle_list h.mid h.back after (subst E idle h.second) in
+    let P : List Access → Type 0 = λ k. Path MachineStep m k n in
+    down_last h.front h.back m n (subst P h.whole path) (λ o p. shown last.0 last.1 o (subst (λ k. Path MachineStep o k n) last.2 p))
+  where
+    shown : (isr : ℕ) → has isr ISR.INTERRUPT_STATUS.0 ≡ true → (o : MachineState) → Path MachineStep o (Read offsets.ISR isr ∷ []) n →
+        is_line_up n ≡ false
+    shown isr bit o p = ap is_line_up p.2 ∙ idle_read isr o p.0 bit p.1
+
 ends_down : (end : HandleEnd) (f : RingFields) (l : List Access) (after : RingFields) → Ends end f l after → AlwaysDown l
 ends_down Idle f l after t = let read = idle_list f l after t in subst AlwaysDown (sym read.2) (idle_down read.0 read.1)
 ends_down Unknown f l after t =

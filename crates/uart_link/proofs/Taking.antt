@@ -1,0 +1,114 @@
+-- What an end does to take all that has come: its handler runs until no interrupt is pending, and its program takes.
+use Rattle.std.proofs.Common.{◌≡◌, ◌⊎◌, inl, inr, ℕ, zero, suc, ◌+◌, ◌<◌, ◌≤◌, ◌==◌, ◌&&◌, Bool, true, false, nat_lt, nat_le, List, [], ◌∷◌}
+use Rattle.std.proofs.Common.{Option, Some, None, MatchBool, length, take, drop, if◌then◌else◌, refl, sym, ◌∙◌, ap, subst, arith}
+use Rattle.std.proofs.lemmas.Grind.{common_steps}
+use Rattle.std.proofs.lemmas.List.{length-take, drop_all}
+use Rattle.std.specs.Prelude.{is_some}
+use Rattle.uart_spec.specs.Bits.{has_any}
+use Rattle.uart_spec.specs.declared.access.Access.{Access}
+use Rattle.uart_spec.specs.declared.registers.fifo_trigger_level.FifoTriggerLevel.{FifoTriggerLevel}
+use Rattle.uart_spec.specs.declared.registers.fifo_trigger_level.FifoTriggerLevel.TheVariants.{One}
+use Rattle.uart_spec.specs.declared.registers.interrupt_enable.TheConstants.IER
+use Rattle.uart_spec.specs.declared.registers.interrupt_type.InterruptType.{InterruptType}
+use Rattle.uart_spec.specs.declared.registers.interrupt_type.InterruptType.TheVariants.{ReceiverLineStatus, ReceivedDataReady}
+use Rattle.uart_16550.specs.Status.{Enables}
+use Rattle.uart_chip.specs.declared.receiver.Character.{Character}
+use Rattle.uart_chip.specs.Chip.{ChipState, interrupt}
+use Rattle.uart_chip.specs.Receiver.{ReceiverState, is_data_pending, characters_of}
+use Rattle.uart_ring.specs.Ring.{RingFields, ring_fields, IfAny, OnDriver, Stays, with_paused, without_taken}
+use Rattle.uart_ring.specs.Receive.{EndsPause, TakesBytes}
+use Rattle.uart_ring.specs.declared.ring.service.HandleEnd.TheVariants.{Idle}
+use Rattle.uart_ring.specs.declared.ring.service.Handled.{Handled}
+use Rattle.uart_ring_runs.specs.Edges.{is_line_up}
+use Rattle.uart_ring_runs.specs.declared.call.RingCall.TheVariants as call
+use Rattle.uart_ring_runs.specs.declared.call.RingAnswer.{RingAnswer}
+use Rattle.uart_ring_runs.specs.declared.call.RingAnswer.TheVariants as answers
+use Rattle.uart_ring_runs.specs.RingRun.{RingState, ring_machine, taken_answer}
+use Rattle.uart_ring_runs.specs.RingBytes.{to_take, taken_by}
+use Rattle.uart_ring_runs.proofs.RingEdges.{handled_down}
+use Rattle.uart_link.specs.declared.call.Moment.{Moment}
+use Rattle.uart_link.specs.Carried.{receiver_at}
+use Rattle.uart_link.specs.Link.{EndStep}
+
+-- ---- the handler
+
+none_pending : (fifo : Bool) (r : ReceiverState) → is_data_pending fifo r ≡ false → (fifo ≡ false) ⊎ (r.trigger ≡ One) →
+    r.queue ≡ []
+none_pending fifo r e told = go fifo refl told
+  where
+    empty : nat_lt 0 (length r.queue) ≡ false → r.queue ≡ []
+    empty h = by r.queue refl
+      where
+        by : (queue : List Character) → r.queue ≡ queue → queue ≡ []
+        by [] q = refl
+        by (x ∷ xs) q = let k : length r.queue ≡ suc (length xs) = ap length q in absurd (grind (arith, common_steps))
+
+    go : (b : Bool) → fifo ≡ b → (b ≡ false) ⊎ (r.trigger ≡ One) → r.queue ≡ []
+    go false f told = empty (rw f at e)
+    go true f (inl off) = absurd (cc)
+    go true f (inr one) = empty (rw (f, one) at e)
+
+-- no interrupt is pending, and DATA_READY is enabled
+none_received : (c : ChipState) → interrupt c ≡ None → has_any c.latches.ier IER.DATA_READY.0 ≡ true →
+    is_data_pending c.fifo c.receiver ≡ false
+none_received c none enabled =
+    let pending : Bool = is_data_pending c.fifo c.receiver in
+    let both : (has_any c.latches.ier IER.DATA_READY.0 && pending) ≡ false = second _ _ _ none in
+    ap (λ b. b && pending) (sym enabled) ∙ both
+  where
+    second : (a b : Bool) (others : Option InterruptType) →
+        (if a then Some ReceiverLineStatus else if b then Some ReceivedDataReady else others) ≡ None → b ≡ false
+    second true b others e = absurd (cc)
+    second false true others e = absurd (cc)
+    second false false others e = refl
+
+pub handled_all : (moments : List Moment) (there s t : RingState) (limit : ℕ) (handled : Handled) (a : RingAnswer) →
+    EndStep moments there s (call.Handle limit) a t → a ≡ answers.Handled handled → handled.end ≡ Idle →
+    has_any (ring_machine t).chip.latches.ier IER.DATA_READY.0 ≡ true →
+    ((ring_machine t).chip.fifo ≡ false) ⊎ ((receiver_at t).trigger ≡ One) → (receiver_at t).queue ≡ []
+handled_all moments there s t limit handled a h answer idle enabled told =
+    let c = (ring_machine t).chip in
+    let d = h.called.did in
+    let same : h.called.outcome ≡ handled = ap (handled_of handled) (sym h.called.answered ∙ answer) in
+    let down : is_line_up (ring_machine t) ≡ false =
+    handled_down limit h.called.outcome (ring_fields h.begins) d.list (ring_fields t) d.does (ap (λ o. o.end) same ∙ idle)
+    (ring_machine h.begins) (ring_machine t) d.path in
+    none_pending c.fifo c.receiver (none_received c (is_none (interrupt c) down) enabled) told
+  where
+    handled_of : Handled → RingAnswer → Handled
+    handled_of other (answers.Handled handled) = handled
+    handled_of other a = other
+
+    is_none : (i : Option InterruptType) → is_some i ≡ false → i ≡ None
+    is_none None e = refl
+    is_none (Some interrupt) e = absurd (cc)
+
+-- ---- the program
+
+-- the end of a pause leaves the receive ring
+pause_ends : (f : RingFields) (l : List Access) (after : RingFields) → EndsPause f l after → after.receive ≡ f.receive
+pause_ends f l after t = go f.is_paused t
+  where
+    go : (paused : Bool) → MatchBool paused (OnDriver (Enables IER.DATA_READY.0) (with_paused false) f l after) (Stays f l after) →
+        after.receive ≡ f.receive
+    go true t = ap (λ (g : RingFields). g.receive) t.1
+    go false t = ap (λ (g : RingFields). g.receive) t.1
+
+pub taken_all : (moments : List Moment) (there s t : RingState) (slots : ℕ) (bytes : List ℕ) (a : RingAnswer) →
+    EndStep moments there s (call.Take slots) a t → a ≡ taken_answer bytes → length bytes < slots → to_take t ≡ []
+taken_all moments there s t slots bytes a h answer few =
+    let d = h.called.did in
+    let f = ring_fields h.begins in
+    let got = h.called.outcome in
+    let same : got ≡ bytes = ap (taken_by (call.Take slots)) (sym h.called.answered ∙ answer) in
+    let is : got ≡ take slots f.receive.items = d.does.0 in
+    let size : length got ≡ length (take slots f.receive.items) = ap length is in
+    let short : length got ≡ length bytes = ap length same in
+    let least = length-take slots f.receive.items in
+    let left : (ring_fields t).receive ≡ (without_taken (length got) f).receive = go (length got) got d.does.1 in
+    ap (λ ring. ring.items) left ∙ drop_all (length got) f.receive.items (omega (arith, size, short, least, few))
+  where
+    go : (count : ℕ) (got : List ℕ) → IfAny count EndsPause (without_taken (length got) (ring_fields h.begins)) h.called.did.list
+        (ring_fields t) → (ring_fields t).receive ≡ (without_taken (length got) (ring_fields h.begins)).receive
+    go zero got t = ap (λ (g : RingFields). g.receive) t.1
+    go (suc n) got t = pause_ends (without_taken (length got) (ring_fields h.begins)) _ _ t
