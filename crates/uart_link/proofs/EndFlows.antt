@@ -1,5 +1,5 @@
 -- What a call at one end does there, in numbers: how many characters came, were moved to the receive ring, and left the driver.
-use Rattle.std.proofs.Common.{◌≡◌, ◌⊎◌, inl, inr, ℕ, zero, suc, ◌+◌, ◌-◌, ◌<◌, ◌≤◌, ◌||◌, nat_lt, Bool, true, false, List, [], ◌∷◌}
+use Rattle.std.proofs.Common.{◌≡◌, ◌⊎◌, inl, inr, ℕ, zero, suc, ◌+◌, ◌-◌, ◌<◌, ◌≤◌, ◌||◌, nat_lt, nat_le, Bool, true, false, List, [], ◌∷◌}
 use Rattle.std.proofs.Common.{◌++◌, length, length-append, map}
 use Rattle.std.proofs.Common.{take, refl, replicate, sym, ◌∙◌, ap, subst, arith, filter, Option, Some, None, bit_and, bit_or, if◌then◌else◌}
 use Rattle.std.proofs.lemmas.Grind.{common_steps}
@@ -459,25 +459,38 @@ plain_flows x moments there s t c a none w h =
 abbrev pub IsRtsOff : RingState → Type 0
 IsRtsOff s = has_any (lines_from (ring_machine s).chip) MSR.CTS.0 ≡ false
 
--- lines without RTS
-no_cts : (mcr : ℕ) → has_any mcr MCR.RTS.0 ≡ false → has_any (lines_joined mcr) MSR.CTS.0 ≡ false
-no_cts mcr off =
+-- CTS of the other end is RTS
+cts_is_rts : (mcr : ℕ) → has_any (lines_joined mcr) MSR.CTS.0 ≡ has_any mcr MCR.RTS.0
+cts_is_rts mcr =
+    let rts : Bool = has_any mcr MCR.RTS.0 in
     let on : Bool = has_any mcr MCR.DTR.0 in
-    let cts : has_any (flag (has_any mcr MCR.RTS.0) MSR.CTS.0) MSR.CTS.0 ≡ false =
-    ap (λ b. has_any (flag b MSR.CTS.0) MSR.CTS.0) off in
-    has_or 4 (flag (has_any mcr MCR.RTS.0) MSR.CTS.0) (bit_or (flag on MSR.DSR.0) (flag on MSR.CD.0)) ∙
-    (ap (λ b. b || has_any (bit_or (flag on MSR.DSR.0) (flag on MSR.CD.0)) MSR.CTS.0) cts ∙ others on)
+    has_or 4 (flag rts MSR.CTS.0) (bit_or (flag on MSR.DSR.0) (flag on MSR.CD.0)) ∙
+    (ap (λ b. b || has_any (bit_or (flag on MSR.DSR.0) (flag on MSR.CD.0)) MSR.CTS.0) (its rts) ∙
+    (ap (λ b. rts || b) (others on) ∙ no_other rts))
   where
+    its : (b : Bool) → has_any (flag b MSR.CTS.0) MSR.CTS.0 ≡ b
+    its true = refl
+    its false = refl
+
     others : (b : Bool) → has_any (bit_or (flag b MSR.DSR.0) (flag b MSR.CD.0)) MSR.CTS.0 ≡ false
     others true = refl
     others false = refl
+
+    no_other : (b : Bool) → (b || false) ≡ b
+    no_other true = refl
+    no_other false = refl
 
 rts_off : (s : RingState) → has_any (ring_machine s).chip.latches.mcr MCR.RTS.0 ≡ false → IsRtsOff s
 rts_off s off = go (is_loopback (ring_machine s).chip.latches)
   where
     go : (b : Bool) → has_any (if b then 0 else lines_joined (ring_machine s).chip.latches.mcr) MSR.CTS.0 ≡ false
     go true = refl
-    go false = no_cts (ring_machine s).chip.latches.mcr off
+    go false = cts_is_rts (ring_machine s).chip.latches.mcr ∙ off
+
+-- RTS of an end is on
+pub rts_on : (s : RingState) → is_loopback (ring_machine s).chip.latches ≡ false →
+    has_any (ring_machine s).chip.latches.mcr MCR.RTS.0 ≡ true → has_any (lines_from (ring_machine s).chip) MSR.CTS.0 ≡ true
+rts_on s off on = rw off (cts_is_rts (ring_machine s).chip.latches.mcr ∙ on)
 
 -- the accesses that make RTS so
 abbrev rts_list : (on : Bool) (mcr : ℕ) → List Access
@@ -498,25 +511,48 @@ record Adjusted (marks : ReceiveMarks) (begins t : RingState) (l : List Access) 
   pub mild : AllMild l
   pub receive : (ring_fields t).receive ≡ (ring_fields begins).receive
   pub checks : (settings_of (ring_fields t).driver).checks ≡ (settings_of (ring_fields begins).driver).checks
-  pub off : receive_room begins < marks.hold → has_any (ring_machine t).chip.latches.mcr MCR.RTS.0 ≡ false
+  pub made : (on : Bool) → rts_at marks (receive_room begins) ≡ Some on → has_any (ring_machine t).chip.latches.mcr MCR.RTS.0 ≡ on
 
--- RTS is off after these accesses
-now_off : (shown : Bool) (mcr : ℕ) (m n : MachineState) → has mcr MCR.RTS.0 ≡ shown →
-    Path MachineStep m (Read offsets.MCR mcr ∷ write_if_other shown false (Write offsets.MCR (unlooped (switched false MCR.RTS.0 mcr)))) n →
-    has_any n.chip.latches.mcr MCR.RTS.0 ≡ false
-now_off true mcr m n e (mid, read, (last, write, same)) =
-    let mcr_is : n.chip.latches.mcr ≡ bit_and (unlooped (switched false MCR.RTS.0 mcr)) mcr_bits =
-    ap (λ (o : MachineState). o.chip.latches.mcr) same ∙ ap (λ (o : MachineState). o.chip.latches.mcr) write in
+-- RTS as MCR showed it, or as it was written
+shown_rts : (mcr : ℕ) (m mid n : MachineState) → MachineStep m (Read offsets.MCR mcr) mid → n ≡ mid →
+    has_any n.chip.latches.mcr MCR.RTS.0 ≡ has_any mcr MCR.RTS.0
+shown_rts mcr m mid n read same =
+    ap (λ (o : MachineState). has_any o.chip.latches.mcr MCR.RTS.0) same ∙
+    ap (λ v. has_any v MCR.RTS.0) (ap (λ (o : MachineState). o.chip.latches.mcr) read.0 ∙ sym read.1)
+
+written_rts : (value : ℕ) (mid last n : MachineState) → MachineStep mid (Write offsets.MCR (unlooped value)) last → n ≡ last →
+    has_any n.chip.latches.mcr MCR.RTS.0 ≡ has_any (bit_and (unlooped value) mcr_bits) MCR.RTS.0
+written_rts value mid last n write same =
+    ap (λ (o : MachineState). has_any o.chip.latches.mcr MCR.RTS.0) same ∙
+    ap (λ (o : MachineState). has_any o.chip.latches.mcr MCR.RTS.0) write
+
+-- RTS is so after these accesses
+now_rts : (shown on : Bool) (mcr : ℕ) (m n : MachineState) → has mcr MCR.RTS.0 ≡ shown →
+    Path MachineStep m (Read offsets.MCR mcr ∷ write_if_other shown on (Write offsets.MCR (unlooped (switched on MCR.RTS.0 mcr)))) n →
+    has_any n.chip.latches.mcr MCR.RTS.0 ≡ on
+now_rts true true mcr m n e (mid, read, same) = shown_rts mcr m mid n read same ∙ (sym (has_one 1 mcr) ∙ e)
+now_rts false false mcr m n e (mid, read, same) = shown_rts mcr m mid n read same ∙ (sym (has_one 1 mcr) ∙ e)
+now_rts true false mcr m n e (mid, read, (last, write, same)) =
     let low = switched false MCR.RTS.0 mcr in
-    ap (λ v. has_any v MCR.RTS.0) mcr_is ∙ (has_and 1 (unlooped low) mcr_bits refl ∙ (has_and 1 low 239 refl ∙ has_not 1 mcr 253 refl))
-now_off false mcr m n e (mid, read, same) =
-    let mcr_is : n.chip.latches.mcr ≡ mcr =
-    ap (λ (o : MachineState). o.chip.latches.mcr) same ∙ (ap (λ (o : MachineState). o.chip.latches.mcr) read.0 ∙ sym read.1) in
-    ap (λ v. has_any v MCR.RTS.0) mcr_is ∙ (sym (has_one 1 mcr) ∙ e)
+    written_rts low mid last n write same ∙ (has_and 1 (unlooped low) mcr_bits refl ∙ (has_and 1 low 239 refl ∙ has_not 1 mcr 253 refl))
+now_rts false true mcr m n e (mid, read, (last, write, same)) =
+    let high = switched true MCR.RTS.0 mcr in
+    written_rts high mid last n write same ∙ (has_and 1 (unlooped high) mcr_bits refl ∙ (has_and 1 high 239 refl ∙
+    (has_or 1 mcr MCR.RTS.0 ∙ or_true (has_any mcr MCR.RTS.0))))
+  where
+    or_true : (b : Bool) → (b || true) ≡ true
+    or_true true = refl
+    or_true false = refl
 
 -- below the mark RTS is made off
 below_mark : (marks : ReceiveMarks) (room : ℕ) → room < marks.hold → rts_at marks room ≡ Some false
 below_mark marks room h = let e : nat_lt room marks.hold ≡ true = grind (arith, common_steps) in rw e refl
+
+-- and on where both marks are reached
+above_marks : (marks : ReceiveMarks) (room : ℕ) → marks.hold ≤ room → marks.release ≤ room → rts_at marks room ≡ Some true
+above_marks marks room h r =
+    let e : nat_lt room marks.hold ≡ false = grind (arith, common_steps) in
+    let f : nat_le marks.release room ≡ true = grind (arith, common_steps) in rw (e, f) refl
 
 adjusted : (marks : ReceiveMarks) (begins t : RingState) (l : List Access) (wanted : Option Bool) →
     rts_at marks (receive_room begins) ≡ wanted → MakesRtsIfAny wanted (ring_fields begins) l (ring_fields t) →
@@ -527,7 +563,7 @@ adjusted marks begins t l None is (none, same) path = record {
   mild = let A : List Access → Type 0 = λ k. AllMild k in subst A (sym none) tt;
   receive = ap (λ (f : RingFields). f.receive) same;
   checks = ap (λ (f : RingFields). (settings_of f.driver).checks) same;
-  off = λ low. absurd (let e = below_mark marks (receive_room begins) low in cc (is, e));
+  made = λ on e. absurd (cc (is, e));
 }
 adjusted marks begins t l (Some on) is (((mcr, list), saved), same) path =
     let shown = has mcr MCR.RTS.0 in
@@ -539,16 +575,18 @@ adjusted marks begins t l (Some on) is (((mcr, list), saved), same) path =
       mild = subst A (sym list) (rts_mild shown on mcr);
       receive = ap (λ (f : RingFields). f.receive) same;
       checks = ap (λ g. (settings_of g).checks) saved;
-      off = λ low. off on (sym is ∙ below_mark marks (receive_room begins) low)
-          (path_as (ring_machine begins) (ring_machine t) l _ list path);
+      made = λ wanted e.
+          let same : on ≡ wanted = some_is on wanted (sym is ∙ e) in
+          now_rts shown on mcr (ring_machine begins) (ring_machine t) refl
+          (path_as (ring_machine begins) (ring_machine t) l _ list path) ∙ same;
     }
   where
-    off : (on : Bool) → Some on ≡ Some false →
-        Path MachineStep (ring_machine begins)
-        (Read offsets.MCR mcr ∷ write_if_other (has mcr MCR.RTS.0) on (Write offsets.MCR (unlooped (switched on MCR.RTS.0 mcr))))
-        (ring_machine t) → has_any (ring_machine t).chip.latches.mcr MCR.RTS.0 ≡ false
-    off true e path = absurd (cc)
-    off false e path = now_off (has mcr MCR.RTS.0) mcr (ring_machine begins) (ring_machine t) refl path
+    some_is : (a b : Bool) → Some a ≡ Some b → a ≡ b
+    some_is a b e = ap (λ o. of o) e
+      where
+        of : Option Bool → Bool
+        of None = a
+        of (Some b) = b
 
 -- what a call keeps of the outputs: MCR; or if it adjusts RTS, that is off below the mark
 abbrev pub EndKept : RingCall → (s t : RingState) → Type 0
@@ -575,7 +613,7 @@ within_adjusts x Held marks s begins t w wired d =
         checks = adjusts.checks;
       };
       kept = λ low. let e : receive_room t ≡ receive_room begins = ap free adjusts.receive in
-          rts_off t (adjusts.off (omega (arith, e, low)));
+          rts_off t (adjusts.made false (below_mark marks (receive_room begins) (omega (arith, e, low))));
       is_fifo = q.passed.passed.went.modes.fifo;
       held = λ on back. ap length adjusts.written;
       room = λ last r h. room_path last r d.list m n adjusts.mild h d.path;
@@ -593,3 +631,33 @@ end_moves x moments there s t (call.AdjustRts marks) a w h =
     join z _ K K s h.begins t w.session b chip
     (within_adjusts z _ marks s h.begins t b.session (subst W (sym chip) (wired_mark m w.wired)) h.called.did) (λ kept. kept)
 end_moves x moments there s t other a w h = plain_flows (modes_at x s) moments there s t other a refl w.session h
+
+-- ---- the accesses of a call
+
+-- a call made accesses that reset nothing, or let all moments happen
+pub calm_call : (x : Modes) (s t : RingState) (c : RingCall) (a : RingAnswer) → InEnd x s → CabledCallStep s c a t →
+    ((made : List Access) × Path MachineStep (ring_machine s) made (ring_machine t) × AllMild made)
+    ⊎ (ring_machine t ≡ settled (ring_machine s))
+calm_call x s t (call.AdjustRts marks) a w h =
+    let d = h.did in
+    let adjusts = adjusted marks s t d.list (rts_at marks (receive_room s)) refl d.does d.path in inl (d.list, d.path, adjusts.mild)
+calm_call x s t other a w h = by (call_did s t other a refl h)
+  where
+    by : CallDid s t ⊎ ((ring_machine t ≡ settled (ring_machine s)) × (ring_fields t ≡ ring_fields s)) →
+        ((made : List Access) × Path MachineStep (ring_machine s) made (ring_machine t) × AllMild made)
+        ⊎ (ring_machine t ≡ settled (ring_machine s))
+    by (inl d) =
+        let blocks = d.facts.blocks in
+        let A : List Access → Type 0 = λ l. AllMild l in
+        inl (d.list, d.path, subst A (sym blocks.joined) (all_mild _ (blocks_leave _ blocks.blocks blocks.fit)))
+    by (inr n) = inr n.0
+
+-- an `adjust_rts` with marks that the room reaches makes RTS on
+pub adjusts_on : (moments : List Moment) (there s t : RingState) (marks : ReceiveMarks) (a : RingAnswer) →
+    EndStep moments there s (call.AdjustRts marks) a t → marks.hold ≤ receive_room t → marks.release ≤ receive_room t →
+    has_any (ring_machine t).chip.latches.mcr MCR.RTS.0 ≡ true
+adjusts_on moments there s t marks a h hold release =
+    let d = h.called.did in
+    let adjusts = adjusted marks h.begins t d.list (rts_at marks (receive_room h.begins)) refl d.does d.path in
+    let e : receive_room t ≡ receive_room h.begins = ap free adjusts.receive in
+    adjusts.made true (above_marks marks (receive_room h.begins) (omega (arith, e, hold)) (omega (arith, e, release)))

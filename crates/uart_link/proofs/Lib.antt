@@ -15,7 +15,9 @@ pub mod Wholes
 pub mod LinkTold
 pub mod LinkSounds
 pub mod News
+pub mod Budgets
 pub mod Passing
+pub mod Stretches
 pub mod Resumes
 pub mod Taking
 pub mod Rounds

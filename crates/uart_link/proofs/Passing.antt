@@ -1,204 +1,444 @@
--- What a `Next` at one end does: the transmitter sends what it holds, and what is on the cable arrives.
-use Rattle.std.proofs.Common.{◌≡◌, ℕ, zero, suc, ◌+◌, ◌-◌, ◌≤◌, List, [], ◌∷◌, ◌++◌, length, take, replicate}
-use Rattle.std.proofs.Common.{zero-le, refl, sym, ◌∙◌, ap, subst, arith, Bool}
-use Rattle.std.proofs.lemmas.List.{length-drop, take_all}
+-- Time passes at an end, and characters arrive there: what ticks and arrivals bring, whatever calls are made meanwhile.
+use Rattle.std.proofs.Common.{◌≡◌, ℕ, zero, suc, ◌+◌, ◌-◌, ◌*◌, ◌≤◌, ◌==◌, Bool, true, false, nat_lt, List, [], ◌∷◌, ◌++◌}
+use Rattle.std.proofs.Common.{length, Option, Some, None, min, if◌then◌else◌, bit_and, length-append}
+use Rattle.std.proofs.Common.{zero-le, refl, sym, ◌∙◌, ap, subst, arith}
+use Rattle.std.proofs.lemmas.Grind.{common_steps}
 use Rattle.uart_events.specs.declared.event.Event.{Event}
-use Rattle.uart_events.specs.declared.event.Event.TheVariants.{Ticks, Arrive, Lines, Access as Gate, Mark}
-use Rattle.uart_chip.specs.Chip.{ChipState, is_loopback, tick, ticks}
-use Rattle.uart_chip.specs.Transmitter.{TransmitterState, held, out}
-use Rattle.uart_chip.specs.Machine.{MachineState, arrivals, perform, before_mark, after_mark}
-use Rattle.uart_chip.specs.Sound.{IsSound, IsSoundChip, IsSoundTransmitter}
-use Rattle.uart_chip.proofs.soundness.Sounds.{steady_ticks, steady_arrive, sound_perform, sound_mark}
-use Rattle.uart_run.specs.Progress.{left, HasRoom}
-use Rattle.uart_run.proofs.EmptyTransmitter.{sent_shown}
-use Rattle.uart_run.proofs.progress.Left.{Nearer, nearer-refl, nearer-trans, nearer-less, nearer-tick, left-most}
-use Rattle.uart_run.proofs.progress.WaitEnds.{all_empty}
-use Rattle.uart_ring_runs.specs.declared.call.RingCall.TheVariants as call
-use Rattle.uart_ring_runs.specs.declared.call.RingAnswer.{RingAnswer}
-use Rattle.uart_ring_runs.specs.RingRun.{RingState, ring_machine}
+use Rattle.uart_events.specs.declared.event.Event.TheVariants.{Ticks, Arrive, Lines}
+use Rattle.uart_spec.specs.declared.access.Access.TheVariants.{Write}
+use Rattle.uart_spec.specs.declared.registers.offsets.TheConstants as offsets
+use Rattle.uart_chip.specs.Masks.{mcr_bits}
+use Rattle.uart_chip.specs.declared.transmitter.Shifting.{Shifting}
+use Rattle.uart_chip.specs.Chip.{ChipState, is_loopback, is_dlab_set, is_thr_empty, interrupt, tick, ticks, after_read, after_write, cut_of}
+use Rattle.uart_chip.specs.Chip.{control_modem, with_latches}
+use Rattle.uart_chip.specs.Transmitter as transmitter
+use Rattle.uart_chip.specs.Transmitter.{TransmitterState, shift, refill, out, load, room, shift_bytes}
+use Rattle.uart_chip.specs.Machine.{perform}
+use Rattle.uart_chip.specs.Sound.{IsSound, IsSoundChip, IsSoundTransmitter, IsTicking}
+use Rattle.uart_chip.proofs.soundness.Sounds.{steady_tick, steady_ticks, steady_arrive, steady_read, steady_write, latches-read}
+use Rattle.uart_chip.proofs.conservation.Sends.{sends-tick}
 use Rattle.uart_link.specs.declared.call.Moment.{Moment}
 use Rattle.uart_link.specs.declared.call.Moment.TheVariants as moment
-use Rattle.uart_link.specs.Brought.{IsBrought}
-use Rattle.uart_link.specs.Cable.{events_of, unknown, to_come, settled, on_cable, lines_from}
-use Rattle.uart_link.specs.Known.{AllUnmarked}
-use Rattle.uart_link.specs.Link.{EndStep}
-use Rattle.uart_link.specs.Progress.{ticks_in, arrives_in, enough_ticks}
-use Rattle.uart_link.proofs.Arranges.{arranged_events}
-use Rattle.uart_link.proofs.EndActs.{sound_arranged}
-use Rattle.uart_link.proofs.Lefts.{left_settled}
-use Rattle.uart_link.proofs.Schedules.{arrivals-known, unmarked_events}
+use Rattle.uart_link.specs.Cable.{events_of, unknown}
+use Rattle.uart_link.specs.Progress.{ticks_in, arrives_in}
+use Rattle.uart_link.proofs.Budgets.{ahead_of, Spends}
+use Rattle.uart_link.proofs.Calm.{IsMild}
 
 -- ---- moments as events
 
--- the ticks of these events
-abbrev event_ticks : List Event → ℕ
-event_ticks [] = 0
-event_ticks (Ticks n ∷ events) = n + event_ticks events
-event_ticks (_ ∷ events) = event_ticks events
+-- the ticks of an event; the characters that arrive in it
+abbrev pub ticks_of : Event → ℕ
+ticks_of (Ticks n) = n
+ticks_of _ = 0
 
-ticks_events : (moments : List Moment) (cable : List ℕ) (lines : ℕ) → event_ticks (events_of moments cable lines) ≡ ticks_in moments
-ticks_events [] cable lines = refl
-ticks_events (moment.Ticks n ∷ moments) cable lines = ap (λ k. n + k) (ticks_events moments cable lines)
-ticks_events (moment.Arrives ∷ moments) [] lines = ticks_events moments [] lines
-ticks_events (moment.Arrives ∷ moments) (byte ∷ cable) lines = ticks_events moments cable lines
-ticks_events (moment.Lines ∷ moments) cable lines = ticks_events moments cable lines
-ticks_events (moment.Access ∷ moments) cable lines = ticks_events moments cable lines
+abbrev pub arrives_of : Event → ℕ
+arrives_of (Arrive byte errors) = 1
+arrives_of _ = 0
 
--- as many characters arrive as may, if as many are on the cable
-all_arrive : (moments : List Moment) (cable : List ℕ) (lines : ℕ) → length cable ≤ arrives_in moments →
-    length cable ≤ arrivals (events_of moments cable lines)
-all_arrive [] cable lines h = h
-all_arrive (moment.Ticks n ∷ moments) cable lines h = all_arrive moments cable lines h
-all_arrive (moment.Arrives ∷ moments) [] lines h = zero-le
-all_arrive (moment.Arrives ∷ moments) (byte ∷ cable) lines h =
-    let r = all_arrive moments cable lines (omega (arith, h)) in omega (arith, r)
-all_arrive (moment.Lines ∷ moments) cable lines h = all_arrive moments cable lines h
-all_arrive (moment.Access ∷ moments) cable lines h = all_arrive moments cable lines h
+pub ticks_ahead : (moments : List Moment) (cable : List ℕ) (lines count : ℕ) →
+    ahead_of ticks_of (events_of moments cable lines ++ unknown count) ≡ ticks_in moments
+ticks_ahead [] cable lines count = refl
+ticks_ahead (moment.Ticks n ∷ moments) cable lines count = ap (λ k. n + k) (ticks_ahead moments cable lines count)
+ticks_ahead (moment.Arrives ∷ moments) [] lines count = ticks_ahead moments [] lines count
+ticks_ahead (moment.Arrives ∷ moments) (byte ∷ cable) lines count =
+    let r = ticks_ahead moments cable lines count in omega (arith, r)
+ticks_ahead (moment.Lines ∷ moments) cable lines count = let r = ticks_ahead moments cable lines count in omega (arith, r)
+ticks_ahead (moment.Access ∷ moments) cable lines count = let r = ticks_ahead moments cable lines count in omega (arith, r)
 
--- ---- time passes
+-- as many characters arrive as may, or all that are on the cable
+pub arrives_ahead : (moments : List Moment) (cable : List ℕ) (lines count : ℕ) →
+    min (arrives_in moments) (length cable) ≤ ahead_of arrives_of (events_of moments cable lines ++ unknown count)
+arrives_ahead [] cable lines count = omega arith
+arrives_ahead (moment.Ticks n ∷ moments) cable lines count =
+    let r = arrives_ahead moments cable lines count in omega (arith, r)
+arrives_ahead (moment.Arrives ∷ moments) [] lines count = omega arith
+arrives_ahead (moment.Arrives ∷ moments) (byte ∷ cable) lines count =
+    let r = arrives_ahead moments cable lines count in omega (arith, r)
+arrives_ahead (moment.Lines ∷ moments) cable lines count =
+    let r = arrives_ahead moments cable lines count in omega (arith, r)
+arrives_ahead (moment.Access ∷ moments) cable lines count =
+    let r = arrives_ahead moments cable lines count in omega (arith, r)
 
--- the wire takes all that is to go out
-abbrev Fits : TransmitterState → Type 0
-Fits t = length (out t) ≤ t.capacity
+-- ---- the ticks until so many bytes have left a transmitter
 
-fits_on : (k : ℕ) (t u : TransmitterState) → Nearer k t u → Fits t → Fits u
-fits_on k t u a h = let c = a.capacity in omega (arith, a.no_longer, c, h)
+-- where so many of the bytes that it holds are still to leave
+abbrev pub need_of : (char_ticks : ℕ) → Option Shifting → ℕ → ℕ
+need_of char_ticks place zero = 0
+need_of char_ticks None (suc bytes) = 1 + char_ticks * suc bytes
+need_of char_ticks (Some s) (suc bytes) = s.ticks_left + char_ticks * bytes
 
-nearer_ticks : (n : ℕ) (c : ChipState) → IsSoundChip c → Fits c.transmitter → Nearer n c.transmitter (ticks n c).transmitter
-nearer_ticks zero c w h = nearer-refl c.transmitter
-nearer_ticks (suc n) c w h =
-    let d = ticks n c in
-    let a = nearer_ticks n c w h in
-    let fits = fits_on n c.transmitter d.transmitter a h in
-    let b : Nearer 1 d.transmitter (tick d).transmitter =
-    nearer-tick d.fifo (is_loopback d.latches) d.transmitter (steady_ticks n c w).sound.transmitter (λ e. fits) in
-    nearer-less (suc n) (n + 1) c.transmitter (tick d).transmitter (omega arith)
-    (nearer-trans n 1 c.transmitter d.transmitter (tick d).transmitter a b)
+abbrev pub need : ℕ → TransmitterState → ℕ
+need goal t = need_of t.char_ticks t.shift_register (goal - length t.wire)
 
-nearer_events : (events : List Event) (c : ChipState) (count : ℕ) → IsSound (record { chip = c; ahead = events ++ unknown count }) →
-    AllUnmarked events → Fits c.transmitter →
-    Nearer (event_ticks events) c.transmitter (before_mark (events ++ unknown count) c).transmitter
-nearer_events [] c count w u h = nearer-refl c.transmitter
-nearer_events (Ticks n ∷ events) c count w u h =
-    let d = ticks n c in
-    let a = nearer_ticks n c w.chip h in
-    let b = nearer_events events d count (sound_perform (Ticks n) (events ++ unknown count) c w) u.1
-    (fits_on n c.transmitter d.transmitter a h) in
-    nearer-trans n (event_ticks events) c.transmitter d.transmitter _ a b
-nearer_events (Mark ∷ events) c count w u h = absurd (u.0 refl)
-nearer_events (event ∷ events) c count w u h =
-    nearer_events events (perform event c) count (sound_perform event (events ++ unknown count) c w) u.1 h
+-- one more character
+times : (n k : ℕ) → n * suc k ≡ n + n * k
+times n k = grind (arith, common_steps)
 
--- ---- characters arrive
+-- after a tick, or after a part of it
+record Sooner (goal : ℕ) (t u : TransmitterState) : Type 0 where
+  pub fewer : need goal u ≤ need goal t - 1
+  pub capacity : u.capacity ≡ t.capacity
+  pub char_ticks : u.char_ticks ≡ t.char_ticks
 
-arrived_events : (events : List Event) (c : ChipState) (count : ℕ) → IsSound (record { chip = c; ahead = events ++ unknown count }) →
-    AllUnmarked events → (before_mark (events ++ unknown count) c).receiver.arrived ≡ c.receiver.arrived + arrivals events
-arrived_events [] c count w u = omega arith
-arrived_events (Ticks n ∷ events) c count w u =
-    let e = (steady_ticks n c w.chip).number in
-    let r = arrived_events events (ticks n c) count (sound_perform (Ticks n) (events ++ unknown count) c w) u.1 in
-    omega (arith, e, r)
-arrived_events (Arrive byte errors ∷ events) c count w u =
-    let f = w.foreseen in
-    let e = (steady_arrive byte errors c w.chip (omega (arith, f)) w.legal.0).number in
-    let r = arrived_events events (perform (Arrive byte errors) c) count (sound_perform (Arrive byte errors) (events ++ unknown count) c w) u.1 in
-    omega (arith, e, r)
-arrived_events (Mark ∷ events) c count w u = absurd (u.0 refl)
-arrived_events (Lines inputs ∷ events) c count w u =
-    arrived_events events (perform (Lines inputs) c) count (sound_perform (Lines inputs) (events ++ unknown count) c w) u.1
-arrived_events (Gate ∷ events) c count w u =
-    arrived_events events c count (sound_perform Gate (events ++ unknown count) c w) u.1
+-- nothing is needed where all has left
+none_needed : (char_ticks : ℕ) (place : Option Shifting) (n : ℕ) → n ≡ 0 → need_of char_ticks place n ≡ 0
+none_needed char_ticks place n e = rw e refl
 
--- ---- a `Next`
-
--- the moments of a `Next` happen after what was known before it
-next_chip : (moments : List Moment) (there s t : RingState) (a : RingAnswer) → EndStep moments there s call.Next a t →
-    let far = (ring_machine there).chip in
-    let c = (settled (ring_machine s)).chip in
-    (ring_machine t).chip ≡
-    before_mark (arranged_events moments far c ++ unknown (to_come c - arrivals (arranged_events moments far c))) c
-next_chip moments there s t a h =
-    ap (λ (o : MachineState). o.chip) h.called.passes.machine ∙ ap (λ (o : MachineState). (settled o).chip) h.arranges.machine
-
--- a machine is sound, with what is known of its schedule
-sound_known : (wire : List ℕ) (m : MachineState) → (b : IsBrought wire m) → IsSound m →
-    IsSound (record { chip = m.chip; ahead = b.known ++ unknown b.count })
-sound_known wire m b w =
-    let S : List Event → Type 0 = λ es. IsSound (record { chip = m.chip; ahead = es }) in
-    subst S b.ahead (record { chip = w.chip; foreseen = w.foreseen; legal = w.legal })
-
-settled_known : (wire : List ℕ) (m : MachineState) → (b : IsBrought wire m) →
-    before_mark (b.known ++ unknown b.count) m.chip ≡ (settled m).chip
-settled_known wire m b = ap (λ (es : List Event). before_mark es m.chip) (sym b.ahead)
-
-holds_nothing : (fifo : Bool) (t : TransmitterState) → IsSoundTransmitter fifo t → left t ≡ 0 → held t ≡ []
-holds_nothing fifo t w e =
-    let s = sent_shown t (all_empty t.char_ticks w.at_least_one t.shift_register t.queue w.ticking e) in
-    rw (s.queue, s.place) refl
-
--- with ticks enough the transmitter holds nothing in the end
-pub drained : (wire : List ℕ) (moments : List Moment) (there s t : RingState) (a : RingAnswer) → IsSound (ring_machine s) →
-    IsSound (ring_machine t) → IsBrought wire (ring_machine s) → EndStep moments there s call.Next a t →
-    enough_ticks (ring_machine s).chip.transmitter ≤ ticks_in moments → HasRoom 0 (ring_machine s) →
-    held (ring_machine t).chip.transmitter ≡ []
-drained wire moments there s t a w v b h enough room =
-    let m = ring_machine s in
-    let far = (ring_machine there).chip in
-    let c = (settled m).chip in
-    let events = arranged_events moments far c in
-    let count = to_come c - arrivals events in
-    let fits : Fits m.chip.transmitter = omega (arith, room) in
-    let N : ChipState → Type 0 = λ d. Nearer (event_ticks b.known) m.chip.transmitter d.transmitter in
-    let first : Nearer (event_ticks b.known) m.chip.transmitter c.transmitter =
-    subst N (settled_known wire m b) (nearer_events b.known m.chip b.count (sound_known wire m b w) b.unmarked fits) in
-    let sound : IsSound (record { chip = c; ahead = events ++ unknown count }) = sound_arranged moments far c (sound_mark m w).chip in
-    let second = nearer_events events c count sound (unmarked_events moments (take (to_come c) (on_cable far c)) (lines_from far))
-    (fits_on (event_ticks b.known) m.chip.transmitter c.transmitter first fits) in
-    let both = nearer-trans (event_ticks b.known) (event_ticks events) m.chip.transmitter c.transmitter _ first second in
-    let passed : event_ticks events ≡ ticks_in moments = ticks_events moments (take (to_come c) (on_cable far c)) (lines_from far) in
-    let most = left-most m.chip.fifo m.chip.transmitter w.chip.transmitter in
-    let same = next_chip moments there s t a h in
-    let none : left (ring_machine t).chip.transmitter ≡ 0 =
-    ap (λ (d : ChipState). left d.transmitter) same ∙ omega (arith, both.fewer, passed, most, enough) in
-    holds_nothing (ring_machine t).chip.fifo (ring_machine t).chip.transmitter v.chip.transmitter none
-
--- with arrivals enough all has arrived that had left the other chip
-pub brought_all : (moments : List Moment) (there s t : RingState) (a : RingAnswer) →
-    let far = (ring_machine there).chip in
-    let here = (ring_machine s).chip in
-    IsSound (ring_machine s) → IsBrought far.transmitter.wire (ring_machine s) → EndStep moments there s call.Next a t →
-    length (on_cable far here) ≤ arrives_in moments → length (on_cable far here) ≤ to_come here →
-    length far.transmitter.wire ≤ (ring_machine t).chip.receiver.arrived
-brought_all moments there s t a w b h enough room =
-    let m = ring_machine s in
-    let far = (ring_machine there).chip in
-    let wire = far.transmitter.wire in
-    let c = (settled m).chip in
-    let cable = on_cable far c in
-    let events = arranged_events moments far c in
-    let count = to_come c - arrivals events in
-    let known = sound_known wire m b w in
-    let before : c.receiver.arrived ≡ m.chip.receiver.arrived + arrivals b.known =
-    ap (λ (d : ChipState). d.receiver.arrived) (sym (settled_known wire m b)) ∙ arrived_events b.known m.chip b.count known b.unmarked in
-    let old = known.foreseen in
-    let parts = arrivals-known b.known b.count in
-    let now = (sound_mark m w).foreseen in
-    let blanks : after_mark m.ahead ≡ replicate b.count (Arrive 0 0) = ap after_mark b.ahead ∙ left_settled b.known b.count b.unmarked in
-    let number : arrivals (after_mark m.ahead) ≡ b.count = ap arrivals blanks ∙ count_blanks b.count in
-    let come : to_come c ≡ b.count = omega (arith, now, number) in
-    let short = length-drop c.receiver.arrived wire in
-    let long = length-drop m.chip.receiver.arrived wire in
-    let few : length cable ≤ to_come c = omega (arith, short, long, before, come, room, old, parts) in
-    let all : take (to_come c) cable ≡ cable = take_all (to_come c) cable few in
-    let arrive : length cable ≤ arrivals (events_of moments (take (to_come c) cable) (lines_from far)) =
-    subst (λ zs. length cable ≤ arrivals (events_of moments zs (lines_from far))) (sym all)
-    (all_arrive moments cable (lines_from far) (omega (arith, short, long, before, enough))) in
-    let sound : IsSound (record { chip = c; ahead = events ++ unknown count }) = sound_arranged moments far c (sound_mark m w).chip in
-    let after : (ring_machine t).chip.receiver.arrived ≡ c.receiver.arrived + arrivals events =
-    ap (λ (d : ChipState). d.receiver.arrived) (next_chip moments there s t a h) ∙
-    arrived_events events c count sound (unmarked_events moments (take (to_come c) cable) (lines_from far)) in
-    omega (arith, after, arrive, short)
+sooner_none : (goal : ℕ) (t : TransmitterState) (queue : List ℕ) → t.shift_register ≡ None → t.queue ≡ queue → goal ≤ length (out t) →
+    Sooner goal t (refill None queue t)
+sooner_none goal t [] e f have =
+    let long : length (out t) ≡ length t.wire + 0 = rw (e, f) (simp length-append (omega arith)) in
+    record {
+      fewer = let none = none_needed t.char_ticks t.shift_register (goal - length t.wire) (omega (arith, have, long)) in
+          omega (arith, none);
+      capacity = refl;
+      char_ticks = refl;
+    }
+sooner_none goal t (x ∷ []) e f have = record {
+  fewer = rw e (by t.char_ticks (goal - length t.wire));
+  capacity = refl;
+  char_ticks = refl;
+}
   where
-    count_blanks : (count : ℕ) → arrivals (replicate count (Arrive 0 0)) ≡ count
-    count_blanks zero = refl
-    count_blanks (suc count) = let h = count_blanks count in omega (arith, h)
+    by : (n j : ℕ) → need_of n (Some (record { byte = x; ticks_left = n })) j ≤ need_of n None j - 1
+    by n zero = omega arith
+    by n (suc j) = let p = times n j in omega (arith, p)
+sooner_none goal t (x ∷ y ∷ xs) e f have = record {
+  fewer = rw e (by t.char_ticks (goal - length t.wire));
+  capacity = refl;
+  char_ticks = refl;
+}
+  where
+    by : (n j : ℕ) → need_of n (Some (record { byte = x; ticks_left = n })) j ≤ need_of n None j - 1
+    by n zero = omega arith
+    by n (suc j) = let p = times n j in omega (arith, p)
+
+-- a character has left the shift register for the wire, and the next one takes its place
+sooner_freed : (goal : ℕ) (s : Shifting) (t u : TransmitterState) → t.shift_register ≡ Some s → 1 ≤ s.ticks_left →
+    u.shift_register ≡ None → u.queue ≡ t.queue → length u.wire ≡ length t.wire + 1 → u.char_ticks ≡ t.char_ticks →
+    u.capacity ≡ t.capacity → goal ≤ length (out t) → Sooner goal t (refill None u.queue u)
+sooner_freed goal s t u e some f g wire c k have = go u.queue refl
+  where
+    long : length (out t) ≡ length t.wire + suc (length t.queue)
+    long = rw e (length-append t.wire (s.byte ∷ t.queue))
+
+    -- one character fewer is to leave
+    next : (n j : ℕ) (byte : ℕ) → need_of n (Some (record { byte = byte; ticks_left = n })) (j - 1) ≤ need_of n (Some s) j - 1
+    next n zero byte = omega arith
+    next n (suc zero) byte = omega arith
+    next n (suc (suc j)) byte =
+        let p = times n j in
+        let e : suc (suc j) - 1 ≡ suc j = omega arith in rw e (omega (arith, p, some))
+
+    filled : (byte : ℕ) → need_of u.char_ticks (Some (record { byte = byte; ticks_left = u.char_ticks })) (goal - length u.wire) ≤
+        need goal t - 1
+    filled byte =
+        let j : goal - length u.wire ≡ (goal - length t.wire) - 1 = omega (arith, wire) in
+        rw (j, c, e) (next t.char_ticks (goal - length t.wire) byte)
+
+    go : (queue : List ℕ) → u.queue ≡ queue → Sooner goal t (refill None queue u)
+    go [] q =
+        let few : length t.queue ≡ 0 = ap length (sym g ∙ q) in
+        let none = none_needed u.char_ticks u.shift_register (goal - length u.wire) (omega (arith, have, long, few, wire)) in
+        record { fewer = omega (arith, none); capacity = k; char_ticks = c }
+    go (x ∷ []) q = record { fewer = filled x; capacity = k; char_ticks = c }
+    go (x ∷ y ∷ xs) q = record { fewer = filled x; capacity = k; char_ticks = c }
+
+sooner_shifted : (goal : ℕ) (t u : TransmitterState) → shift false t.shift_register t ≡ u →
+    Sooner goal t (refill u.shift_register u.queue u) → Sooner goal t (transmitter.tick false t)
+sooner_shifted goal t u e n = subst (λ (v : TransmitterState). Sooner goal t (refill v.shift_register v.queue v)) (sym e) n
+
+sooner_some : (goal : ℕ) (s : Shifting) (t : TransmitterState) → t.shift_register ≡ Some s → 1 ≤ s.ticks_left → goal ≤ length (out t) →
+    goal ≤ t.capacity → Sooner goal t (transmitter.tick false t)
+sooner_some goal s t e some have room = go (nat_lt 1 s.ticks_left) refl
+  where
+    shifts : (u : TransmitterState) → shift false (Some s) t ≡ u → shift false t.shift_register t ≡ u
+    shifts u h = ap (λ place. shift false place t) e ∙ h
+
+    less : (n j : ℕ) → need_of n (Some (record { byte = s.byte; ticks_left = s.ticks_left - 1 })) j ≤ need_of n (Some s) j - 1
+    less n zero = omega arith
+    less n (suc j) = omega (arith, some)
+
+    sent : (free : Bool) → nat_lt (length t.wire) t.capacity ≡ free → nat_lt 1 s.ticks_left ≡ false →
+        Sooner goal t (transmitter.tick false t)
+    sent true h f =
+        let u : TransmitterState = record t { shift_register = None; wire = t.wire ++ s.byte ∷ [] } in
+        sooner_shifted goal t u (shifts u (rw (f, h) refl))
+        (sooner_freed goal s t u e some refl refl (length-append t.wire (s.byte ∷ [])) refl refl have)
+    sent false h f =
+        let full : t.capacity ≤ length t.wire = grind (arith, common_steps) in
+        let none = none_needed t.char_ticks t.shift_register (goal - length t.wire) (omega (arith, full, room)) in
+        let stays : Sooner goal t (refill t.shift_register t.queue t) = subst (λ (place : Option Shifting).
+        Sooner goal t (refill place t.queue t)) (sym e) (record { fewer = omega (arith, none); capacity = refl; char_ticks = refl }) in
+        sooner_shifted goal t t (shifts t (rw (f, h) refl)) stays
+
+    go : (more : Bool) → nat_lt 1 s.ticks_left ≡ more → Sooner goal t (transmitter.tick false t)
+    go true f =
+        let u : TransmitterState = record t { shift_register = Some (record { byte = s.byte; ticks_left = s.ticks_left - 1 }) } in
+        sooner_shifted goal t u (shifts u (rw f refl))
+        (record { fewer = rw e (less t.char_ticks (goal - length t.wire)); capacity = refl; char_ticks = refl })
+    go false f = sent (nat_lt (length t.wire) t.capacity) refl f
+
+sooner_tick : (goal : ℕ) (fifo : Bool) (t : TransmitterState) → IsSoundTransmitter fifo t → goal ≤ length (out t) → goal ≤ t.capacity →
+    Sooner goal t (transmitter.tick false t)
+sooner_tick goal fifo t w have room = go t.shift_register refl
+  where
+    go : (place : Option Shifting) → t.shift_register ≡ place → Sooner goal t (transmitter.tick false t)
+    go None e =
+        sooner_shifted goal t t (ap (λ place. shift false place t) e)
+        (subst (λ (place : Option Shifting). Sooner goal t (refill place t.queue t)) (sym e) (sooner_none goal t t.queue e refl have))
+    go (Some s) e = let ticking : IsTicking t.char_ticks (Some s) = rw e at w.ticking in sooner_some goal s t e ticking.0 have room
+
+-- ---- the ticks that are due at an end
+
+-- outside of loopback, so many ticks are enough for so many bytes to leave, which the transmitter has, and the wire has
+-- room for
+pub record DueTicks (goal : ℕ) (c : ChipState) (ticks : ℕ) : Type 0 where
+  pub loopback : is_loopback c.latches ≡ false
+  pub have : goal ≤ length (out c.transmitter)
+  pub room : goal ≤ c.transmitter.capacity
+  pub few : need goal c.transmitter ≤ ticks
+
+due_less : (goal : ℕ) (c : ChipState) (j k : ℕ) → j ≤ k → DueTicks goal c j → DueTicks goal c k
+due_less goal c j k h d = record { loopback = d.loopback; have = d.have; room = d.room; few = omega (arith, h, d.few) }
+
+due_tick : (goal : ℕ) (c : ChipState) (n : ℕ) → IsSoundChip c → DueTicks goal c n → DueTicks goal (tick c) (n - 1)
+due_tick goal c n w d =
+    let t = c.transmitter in
+    let s = sooner_tick goal c.fifo t w.transmitter d.have d.room in
+    let same : (tick c).transmitter ≡ transmitter.tick false t = ap (λ b. transmitter.tick b t) d.loopback in
+    let grown : length (out (transmitter.tick false t)) ≡ length (out t ++ []) = ap length (sends-tick t).grows in
+    let sum = length-append (out t) [] in
+    let capacity = s.capacity in
+    let T : TransmitterState → Type 0 = λ u. DueTicks goal (record (tick c) { transmitter = u }) (n - 1) in
+    let after : DueTicks goal (record (tick c) { transmitter = transmitter.tick false t }) (n - 1) = record {
+      loopback = d.loopback;
+      have = let h = d.have in omega (arith, h, grown, sum);
+      room = let h = d.room in omega (arith, h, capacity);
+      few = let h = d.few in omega (arith, h, s.fewer);
+    } in
+    subst T (sym same) after
+
+due_ticks : (goal n : ℕ) (c : ChipState) (k : ℕ) → IsSoundChip c → DueTicks goal c (n + k) → DueTicks goal (ticks n c) k
+due_ticks goal zero c k w d = due_less goal c (0 + k) k (omega arith) d
+due_ticks goal (suc n) c k w d =
+    let more : suc n + k ≤ n + (k + 1) = omega arith in
+    let a = due_ticks goal n c (k + 1) w (due_less goal c (suc n + k) (n + (k + 1)) more d) in
+    due_less goal (tick (ticks n c)) ((k + 1) - 1) k (omega arith) (due_tick goal (ticks n c) (k + 1) (steady_ticks n c w).sound a)
+
+-- what is due stays, if the transmitter has at least what it had
+record Keeps (t u : TransmitterState) : Type 0 where
+  pub wire : u.wire ≡ t.wire
+  pub place : u.shift_register ≡ t.shift_register
+  pub queue : length t.queue ≤ length u.queue
+  pub capacity : u.capacity ≡ t.capacity
+  pub char_ticks : u.char_ticks ≡ t.char_ticks
+
+keeps-refl : (t : TransmitterState) → Keeps t t
+keeps-refl t = record { wire = refl; place = refl; queue = omega arith; capacity = refl; char_ticks = refl }
+
+due_kept : (goal : ℕ) (c d : ChipState) (n : ℕ) → is_loopback d.latches ≡ false → Keeps c.transmitter d.transmitter →
+    DueTicks goal c n → DueTicks goal d n
+due_kept goal c d n off k h =
+    let t = c.transmitter in
+    let u = d.transmitter in
+    let before = length-append t.wire (shift_bytes t.shift_register ++ t.queue) in
+    let after = length-append u.wire (shift_bytes u.shift_register ++ u.queue) in
+    let held_before = length-append (shift_bytes t.shift_register) t.queue in
+    let held_after = length-append (shift_bytes u.shift_register) u.queue in
+    let wire : length u.wire ≡ length t.wire = ap length k.wire in
+    let place : length (shift_bytes u.shift_register) ≡ length (shift_bytes t.shift_register) =
+    ap (λ p. length (shift_bytes p)) k.place in
+    let same : need goal u ≡ need goal t = rw (k.wire, k.place, k.char_ticks) refl in
+    record {
+      loopback = off;
+      have = let have = h.have in omega (arith, have, before, after, held_before, held_after, wire, place, k.queue);
+      room = let room = h.room in let e = k.capacity in omega (arith, room, e);
+      few = let few = h.few in omega (arith, few, same);
+    }
+
+-- ---- what accesses leave
+
+keeps_if : (t : TransmitterState) (c d : ChipState) (b : Bool) → Keeps t c.transmitter → Keeps t d.transmitter →
+    Keeps t (if b then c else d).transmitter
+keeps_if t c d true p q = p
+keeps_if t c d false p q = q
+
+-- only the interrupt is told or not
+keeps_pending : (t : TransmitterState) (pending : Bool) → Keeps t (record t { is_thr_pending = pending })
+keeps_pending t pending = record { wire = refl; place = refl; queue = omega arith; capacity = refl; char_ticks = refl }
+
+read_keeps : (offset : ℕ) (c : ChipState) → Keeps c.transmitter (after_read offset c).transmitter
+read_keeps offset c =
+    let t = c.transmitter in
+    let same = keeps-refl t in
+    keeps_if t _ _ (offset == offsets.DATA) (keeps_if t _ _ (is_dlab_set c.latches) same same)
+    (keeps_if t _ _ (offset == offsets.ISR) (keeps_if t _ _ (is_thr_empty (interrupt c)) (keeps_pending t false) same)
+    (keeps_if t _ _ (offset == offsets.LSR) same (keeps_if t _ _ (offset == offsets.MSR) same same)))
+
+-- a byte is put last, or one that waits without FIFO is replaced
+load_keeps : (fifo : Bool) (byte : ℕ) (t : TransmitterState) → IsSoundTransmitter fifo t → Keeps t (load fifo byte t)
+load_keeps fifo byte t w = go (nat_lt (length t.queue) (room fifo)) refl
+  where
+    kept : (on : Bool) → length t.queue ≤ room on → length t.queue ≤ length (if on then t.queue else byte ∷ [])
+    kept true r = omega arith
+    kept false r = r
+
+    go : (free : Bool) → nat_lt (length t.queue) (room fifo) ≡ free → Keeps t (load fifo byte t)
+    go true e = rw e (record {
+      wire = refl;
+      place = refl;
+      queue = let k = length-append t.queue (byte ∷ []) in omega (arith, k);
+      capacity = refl;
+      char_ticks = refl;
+    })
+    go false e = rw e (record { wire = refl; place = refl; queue = kept fifo w.in_room; capacity = refl; char_ticks = refl })
+
+write_keeps : (offset value : ℕ) (c : ChipState) → IsMild (Write offset value) → IsSoundChip c →
+    Keeps c.transmitter (after_write offset value c).transmitter
+write_keeps offset value c mild w =
+    let t = c.transmitter in
+    let same = keeps-refl t in
+    rw mild.0 (keeps_if t _ _ (offset == offsets.DATA)
+    (keeps_if t _ _ (is_dlab_set c.latches) same (load_keeps c.fifo (cut_of c value) t w.transmitter))
+    (keeps_if t _ _ (offset == offsets.IER) (keeps_if t _ _ (is_dlab_set c.latches) same (keeps_pending t _))
+    (keeps_if t _ _ (offset == offsets.LCR) same
+    (keeps_if t _ _ (offset == offsets.MCR) same (keeps_if t _ _ (offset == offsets.SPR) same same)))))
+
+-- and loopback stays off
+off_if : (c d : ChipState) (b : Bool) → is_loopback c.latches ≡ false → is_loopback d.latches ≡ false →
+    is_loopback (if b then c else d).latches ≡ false
+off_if c d true p q = p
+off_if c d false p q = q
+
+write_off : (offset value : ℕ) (c : ChipState) → IsMild (Write offset value) → is_loopback c.latches ≡ false →
+    is_loopback (after_write offset value c).latches ≡ false
+write_off offset value c mild off =
+    rw mild.0 (off_if _ _ (offset == offsets.DATA) (off_if _ _ (is_dlab_set c.latches) off off)
+    (off_if _ _ (offset == offsets.IER) (off_if _ _ (is_dlab_set c.latches) off off)
+    (off_if _ _ (offset == offsets.LCR) off (controls (offset == offsets.MCR) refl))))
+  where
+    controls : (b : Bool) → (offset == offsets.MCR) ≡ b →
+        is_loopback (if b then control_modem (bit_and value mcr_bits) c
+        else if offset == offsets.SPR then with_latches (record c.latches { scr = value }) c else c).latches ≡ false
+    controls true e = mild.1 e
+    controls false e = off_if _ _ (offset == offsets.SPR) off off
+
+read_off : (offset : ℕ) (c : ChipState) → is_loopback c.latches ≡ false → is_loopback (after_read offset c).latches ≡ false
+read_off offset c off = ap (λ l. is_loopback l) (latches-read offset c) ∙ off
+
+pub ticks_spend : (goal : ℕ) → Spends ticks_of (DueTicks goal)
+ticks_spend goal = record {
+  in_event = in_event;
+  in_tick = λ c n w h. due_less goal (tick c) (n - 1) n (omega arith) (due_tick goal c n w h);
+  in_read = λ offset c n w h.
+      due_kept goal c (after_read offset c) n (read_off offset c h.loopback) (read_keeps offset c) h;
+  in_write = λ offset value c n mild w h.
+      due_kept goal c (after_write offset value c) n (write_off offset value c mild h.loopback) (write_keeps offset value c mild w) h;
+}
+  where
+    in_event : (event : Event) (events : List Event) (c : ChipState) (n : ℕ) → IsSound (record { chip = c; ahead = event ∷ events }) →
+        DueTicks goal c (ticks_of event + n) → DueTicks goal (perform event c) n
+    in_event (Ticks k) events c n s h = due_ticks goal k c n s.chip h
+    in_event (Arrive byte errors) events c n s h =
+        due_kept goal c _ n h.loopback (keeps-refl c.transmitter) (due_less goal c (0 + n) n (omega arith) h)
+    in_event (Lines inputs) events c n s h =
+        due_kept goal c _ n h.loopback (keeps-refl c.transmitter) (due_less goal c (0 + n) n (omega arith) h)
+    in_event event events c n s h = due_less goal c (0 + n) n (omega arith) h
+
+-- ---- the arrivals that are due at an end
+
+-- so many arrivals are enough for so many characters to have arrived, and the chip's journal has room for these
+pub record DueArrivals (goal : ℕ) (c : ChipState) (count : ℕ) : Type 0 where
+  pub room : goal ≤ length c.receiver.marks
+  pub few : goal ≤ c.receiver.arrived + count
+
+due_steady : (goal : ℕ) (c d : ChipState) (n k : ℕ) → length d.receiver.marks ≡ length c.receiver.marks →
+    c.receiver.arrived + n ≤ d.receiver.arrived + k → DueArrivals goal c n → DueArrivals goal d k
+due_steady goal c d n k known number h = record {
+  room = let r = h.room in omega (arith, r, known);
+  few = let f = h.few in omega (arith, f, number);
+}
+
+pub arrivals_spend : (goal : ℕ) → Spends arrives_of (DueArrivals goal)
+arrivals_spend goal = record {
+  in_event = in_event;
+  in_tick = λ c n w h. let s = steady_tick c w in let e = s.number in due_steady goal c (tick c) n n s.known (omega (arith, e)) h;
+  in_read = λ offset c n w h. let s = steady_read offset c w in
+      let e = s.number in due_steady goal c (after_read offset c) n n s.known (omega (arith, e)) h;
+  in_write = λ offset value c n mild w h. let s = steady_write offset value c w in
+      let e = s.number in due_steady goal c (after_write offset value c) n n s.known (omega (arith, e)) h;
+}
+  where
+    in_event : (event : Event) (events : List Event) (c : ChipState) (n : ℕ) → IsSound (record { chip = c; ahead = event ∷ events }) →
+        DueArrivals goal c (arrives_of event + n) → DueArrivals goal (perform event c) n
+    in_event (Ticks k) events c n s h =
+        let t = steady_ticks k c s.chip in
+        let e = t.number in due_steady goal c (ticks k c) (0 + n) n t.known (omega (arith, e)) h
+    in_event (Arrive byte errors) events c n s h =
+        let f = s.foreseen in
+        let t = steady_arrive byte errors c s.chip (omega (arith, f)) s.legal.0 in
+        let e = t.number in due_steady goal c (perform (Arrive byte errors) c) (1 + n) n t.known (omega (arith, e)) h
+    in_event (Lines inputs) events c n s h = due_steady goal c (perform (Lines inputs) c) (0 + n) n refl (omega arith) h
+    in_event event events c n s h = due_steady goal c c (0 + n) n refl (omega arith) h
+
+-- ---- the room of an end
+
+-- outside of loopback: how many bytes the wire has room for, how many arrivals the journal has, and the ticks of a
+-- character. Nothing changes them
+pub record HasRooms (bytes arrivals ticks : ℕ) (c : ChipState) (none : ℕ) : Type 0 where
+  pub loopback : is_loopback c.latches ≡ false
+  pub capacity : c.transmitter.capacity ≡ bytes
+  pub marks : length c.receiver.marks ≡ arrivals
+  pub char_ticks : c.transmitter.char_ticks ≡ ticks
+
+module _ (bytes arrivals ticks_each : ℕ) where
+  abbrev Rooms : ChipState → ℕ → Type 0
+  Rooms = HasRooms bytes arrivals ticks_each
+
+  rooms_kept : (c d : ChipState) (n k : ℕ) → is_loopback d.latches ≡ false → Keeps c.transmitter d.transmitter →
+      length d.receiver.marks ≡ length c.receiver.marks → Rooms c n → Rooms d k
+  rooms_kept c d n k off kept known h = record {
+    loopback = off;
+    capacity = kept.capacity ∙ h.capacity;
+    marks = known ∙ h.marks;
+    char_ticks = kept.char_ticks ∙ h.char_ticks;
+  }
+
+  rooms_tick : (c : ChipState) (n k : ℕ) → IsSoundChip c → Rooms c n → Rooms (tick c) k
+  rooms_tick c n k w h =
+      let t = c.transmitter in
+      let s = sooner_tick 0 c.fifo t w.transmitter zero-le zero-le in
+      let same : (tick c).transmitter ≡ transmitter.tick false t = ap (λ b. transmitter.tick b t) h.loopback in
+      record {
+        loopback = h.loopback;
+        capacity = ap (λ (u : TransmitterState). u.capacity) same ∙ (s.capacity ∙ h.capacity);
+        marks = (steady_tick c w).known ∙ h.marks;
+        char_ticks = ap (λ (u : TransmitterState). u.char_ticks) same ∙ (s.char_ticks ∙ h.char_ticks);
+      }
+
+  rooms_ticks : (count : ℕ) (c : ChipState) (n k : ℕ) → IsSoundChip c → Rooms c n → Rooms (ticks count c) k
+  rooms_ticks zero c n k w h = rooms_kept c c n k h.loopback (keeps-refl c.transmitter) refl h
+  rooms_ticks (suc count) c n k w h = rooms_tick (ticks count c) n k (steady_ticks count c w).sound (rooms_ticks count c n n w h)
+
+  pub rooms_spend : Spends arrives_of Rooms
+  rooms_spend = record {
+    in_event = in_event;
+    in_tick = λ c n w h. rooms_tick c n n w h;
+    in_read = λ offset c n w h.
+        rooms_kept c (after_read offset c) n n (read_off offset c h.loopback) (read_keeps offset c) (steady_read offset c w).known h;
+    in_write = λ offset value c n mild w h.
+        rooms_kept c (after_write offset value c) n n (write_off offset value c mild h.loopback) (write_keeps offset value c mild w)
+        (steady_write offset value c w).known h;
+  }
+    where
+      in_event : (event : Event) (events : List Event) (c : ChipState) (n : ℕ) → IsSound (record { chip = c; ahead = event ∷ events }) →
+          Rooms c (arrives_of event + n) → Rooms (perform event c) n
+      in_event (Ticks k) events c n s h = rooms_ticks k c (0 + n) n s.chip h
+      in_event (Arrive byte errors) events c n s h =
+          let f = s.foreseen in
+          rooms_kept c (perform (Arrive byte errors) c) (1 + n) n h.loopback (keeps-refl c.transmitter)
+          (steady_arrive byte errors c s.chip (omega (arith, f)) s.legal.0).known h
+      in_event (Lines inputs) events c n s h =
+          rooms_kept c (perform (Lines inputs) c) (0 + n) n h.loopback (keeps-refl c.transmitter) refl h
+      in_event event events c n s h = rooms_kept c c (0 + n) n h.loopback (keeps-refl c.transmitter) refl h

@@ -28,7 +28,6 @@ use Rattle.uart_16550.specs.Driver.{settings_of}
 use Rattle.uart_chip.specs.Chip.{ChipState, is_loopback}
 use Rattle.uart_chip.specs.Transmitter.{TransmitterState, held}
 use Rattle.uart_chip.specs.Machine.{MachineState, at_access, arrivals}
-use Rattle.uart_chip.specs.Sound.{IsSound}
 use Rattle.uart_chip.proofs.conservation.Went.{Modes, Went as Stretch, arriving_cut, loopback-in}
 use Rattle.uart_chip.proofs.lasting.Lasting.{lasts-before_mark}
 use Rattle.uart_ring.specs.Ring.{RingFields, ring_fields, sendable, waiting}
@@ -43,21 +42,28 @@ use Rattle.uart_link.specs.declared.call.Moment.{Moment}
 use Rattle.uart_link.specs.declared.call.Side.{Side}
 use Rattle.uart_link.specs.declared.call.Side.TheVariants.{Left, Right}
 use Rattle.uart_link.specs.declared.link.Link.{Link}
-use Rattle.uart_link.specs.Brought.{IsBrought, brought}
-use Rattle.uart_link.specs.Cable.{to_come, settled, lines_from}
+use Rattle.uart_link.specs.Brought.{brought}
+use Rattle.uart_link.specs.Cable.{to_come, settled, on_cable, lines_from}
 use Rattle.uart_link.specs.Carried.{to_be_taken, on_the_way, queued_at, gone_at, AllKeepOrderAt, IsJoined}
 use Rattle.uart_link.specs.Flow.{SeesLines, CarriesAll}
 use Rattle.uart_link.specs.Link.{at_end, other, Step, EndStep, LinkChain, LinkCallStep}
 use Rattle.uart_link.proofs.Taking.{handled_all, taken_all}
-use Rattle.uart_link.specs.Progress.{PassesTime, BringsAll, HandlesAll, TakesAll, GoesOn, Comes, HasRounds}
+use Rattle.uart_link.specs.Progress.{PassTime, BringAll, HandlesAll, TakesAll, GoesOn, Begin, Comes, HasRounds, arrives_in}
+use Rattle.uart_link.specs.Progress.{in_calls_at, enough_ticks, chip_at, transmitter_at}
 use Rattle.uart_link.proofs.Arranges.{arranged_events}
 use Rattle.uart_link.proofs.Calm.{AllLeaveMcr, AllLeaveCts, HasCts, cts_path, blocks_leave}
 use Rattle.uart_link.proofs.EndActs.{end_begins}
-use Rattle.uart_link.proofs.EndFlows.{sent_of, waits, cts_arranged, cts_at_first}
+use Rattle.uart_link.proofs.EndFlows.{sent_of, waits, cts_arranged, cts_at_first, EndKept, KeepsMcr, end_moves, adjusts_on, rts_on}
+use Rattle.uart_link.specs.Progress.{NoneAdjusts, KeepsRtsOn}
+use Rattle.std.proofs.Common.{None}
+use Rattle.uart_link.specs.Flow.{hold_of}
+use Rattle.uart_link.specs.Carried.{OfEnd}
 use Rattle.uart_link.proofs.EndPasses.{InEnd, EndPasses}
 use Rattle.uart_link.proofs.Held.{AllShowCts}
 use Rattle.uart_link.proofs.LinkSteps.{Brings, LinkPasses, link_chain, joined_after}
-use Rattle.uart_link.proofs.Passing.{drained, brought_all}
+use Rattle.std.proofs.Common.{◌*◌}
+use Rattle.uart_ring_runs.specs.RingBytes.{queued_by}
+use Rattle.uart_link.proofs.Stretches.{Going, going_after, in_end, does_at, time_passes, all_arrives, same_rooms}
 use Rattle.uart_link.proofs.Resumes.{IsThrEmpty, thr_empty_lasts, resumes_some}
 
 -- ---- numbers
@@ -71,7 +77,6 @@ come_in s = (ring_machine s).chip.receiver.arrived
 
 abbrev unsent : RingState → ℕ
 unsent s = length (to_send s)
-
 
 abbrev all_of : RingState → ℕ
 all_of s = sent_of s + unsent s
@@ -130,12 +135,6 @@ numbers x y A B N O q past e g s t r u f events p o b =
     }
 
 -- ---- a part of a run
-
--- both ends are in a session, and joined
-record Going (x y : Modes) (a : Link) : Type 0 where
-  pub left : InEnd x a.left
-  pub right : InEnd y a.right
-  pub joined : IsJoined a
 
 record Went (x y : Modes) (end : Side) (steps : List Step) (a b : Link) : Type 0 where
   pub numbers : Numbers (AllKeepOrderAt end steps) (queued_at end steps) (at_end end a) (at_end end b) (at_end (other end) a)
@@ -218,55 +217,97 @@ find x y end Such Follow steps a b g chain (front, step, back, whole, such, foll
       follow = follow;
     }
 
+-- such calls come first
+record Cut (x y : Modes) (end : Side) (Such Follow : List Step → Type 0) (steps : List Step) (a b : Link) : Type 0 where
+  pub part : List Step
+  pub rest : List Step
+  pub mid : Link
+  pub whole : steps ≡ part ++ rest
+  pub first : LinkChain a part mid
+  pub second : LinkChain mid rest b
+  pub during : Went x y end part a mid
+  pub such : Such part
+  pub follow : Follow rest
+
+cut : (x y : Modes) (end : Side) (Such Follow : List Step → Type 0) (steps : List Step) (a b : Link) → Going x y a →
+    LinkChain a steps b → Begin Such Follow steps → Cut x y end Such Follow steps a b
+cut x y end Such Follow steps a b g chain (part, rest, whole, such, follow) =
+    let C : List Step → Type 0 = λ zs. LinkChain a zs b in
+    let s = split part rest a b (subst C whole chain) in
+    record {
+      part = part;
+      rest = rest;
+      mid = s.mid;
+      whole = whole;
+      first = s.first;
+      second = s.second;
+      during = goes x y end part a s.mid g s.first;
+      such = such;
+      follow = follow;
+    }
+
+-- ---- room
+
+-- a character takes so many ticks, and there is room for so many bytes
+record Roomy (end : Side) (ticks total : ℕ) (a : Link) : Type 0 where
+  pub pace : enough_ticks (transmitter_at end a) ≡ ticks
+  pub wire : total ≤ (transmitter_at end a).capacity
+  pub arrivals : total ≤ length (chip_at (other end) a).receiver.marks
+
+roomy_after : (x y : Modes) (end : Side) (ticks total : ℕ) (steps : List Step) (a b : Link) → Going x y a → LinkChain a steps b →
+    Roomy end ticks total a → Roomy end ticks total b
+roomy_after x y end ticks total steps a b g chain r =
+    let here = same_rooms x y end steps a b g chain in
+    let there = same_rooms x y (other end) steps a b g chain in
+    record {
+      pace = ap (λ n. 17 * n) here.char_ticks ∙ r.pace;
+      wire = let h = r.wire in let e = here.capacity in omega (arith, h, e);
+      arrivals = let h = r.arrivals in let e = there.marks in omega (arith, h, e);
+    }
+
+queued_append : (end : Side) (front back : List Step) →
+    length (queued_at end (front ++ back)) ≡ length (queued_at end front) + length (queued_at end back)
+queued_append end [] back = omega arith
+queued_append end (step ∷ front) back =
+    let one = of_end end step.call.side (queued_by step.call.call step.answer) in
+    let rest = queued_append end front back in
+    let all = length-append one (queued_at end (front ++ back)) in
+    let some = length-append one (queued_at end front) in
+    omega (arith, rest, all, some)
+
 -- ---- one call of an end
 
 other_other : (end : Side) → other (other end) ≡ end
 other_other Left = refl
 other_other Right = refl
 
-sound_at : (x y : Modes) (end : Side) (a : Link) → Going x y a → IsSound (ring_machine (at_end end a))
-sound_at x y Left a g = g.left.session.stands.sound
-sound_at x y Right a g = g.right.session.stands.sound
-
-brought_at : (x y : Modes) (end : Side) (a : Link) → Going x y a →
-    IsBrought (ring_machine (at_end (other end) a)).chip.transmitter.wire (ring_machine (at_end end a))
-brought_at x y Left a g = g.joined.left
-brought_at x y Right a g = g.joined.right
-
--- what such a call of this end does
-does_at : (end : Side) (c : RingCall) (step : Step) → step.call.side ≡ end → step.call.call ≡ c →
-    LinkCallStep step.before step.call step.answer step.after →
-    EndStep step.call.moments.items (at_end (other end) step.before) (at_end end step.before) c step.answer (at_end end step.after)
-does_at end c step side call h =
-    let S : Side → Type 0 = λ z. EndStep step.call.moments.items (at_end (other z) step.before) (at_end z step.before)
-    step.call.call step.answer (at_end z step.after) in
-    let C : RingCall → Type 0 = λ d. EndStep step.call.moments.items (at_end (other end) step.before) (at_end end step.before) d
-    step.answer (at_end end step.after) in
-    subst C call (subst S side h.0)
-
 -- time has passed: all that had left the driver has left the chip
-passed_time : (x y : Modes) (end : Side) (step : Step) → Going x y step.before → Going x y step.after →
-    LinkCallStep step.before step.call step.answer step.after → PassesTime end step →
-    sent_of (at_end end step.after) ≤ gone_out (at_end end step.after)
-passed_time x y end step g k h p =
-    let t = (ring_machine (at_end end step.after)).chip.transmitter in
-    let none : held t ≡ [] = drained _ step.call.moments.items (at_end (other end) step.before) (at_end end step.before)
-    (at_end end step.after) step.answer (sound_at x y end step.before g) (sound_at x y end step.after k)
-    (brought_at x y end step.before g) (does_at end call.Next step p.side p.call h) p.ticks p.room in
-    let both = length-append t.wire (held t) in
-    let zero_held : length (held t) ≡ 0 = ap length none in
-    omega (arith, both, zero_held)
+passed_time : (x y : Modes) (end : Side) (ticks total : ℕ) (part : List Step) (a b : Link) → Going x y a → LinkChain a part b →
+    Roomy end ticks total a → all_of (at_end end a) ≤ total → PassTime ticks end part → sent_of (at_end end a) ≤ gone_out (at_end end b)
+passed_time x y end ticks total part a b g chain r few p =
+    let room = r.wire in
+    let same = r.pace in
+    time_passes x y end part a b g chain p.happened (let h = p.enough in omega (arith, h, same)) (omega (arith, few, room))
 
 -- all has arrived: what had left the other chip
-brought_time : (x y : Modes) (end : Side) (step : Step) → Going x y step.before →
-    LinkCallStep step.before step.call step.answer step.after → BringsAll (other end) step →
-    gone_out (at_end end step.before) ≤ come_in (at_end (other end) step.after)
-brought_time x y end step g h p =
+brought_time : (x y : Modes) (end : Side) (ticks total : ℕ) (part : List Step) (a b : Link) → Going x y a → LinkChain a part b →
+    Roomy end ticks total a → all_of (at_end end a) ≤ total → BringAll (other end) part →
+    gone_out (at_end end a) ≤ come_in (at_end (other end) b)
+brought_time x y end ticks total part a b g chain r few p =
     let to = other end in
-    let all : gone_out (at_end (other to) step.before) ≤ come_in (at_end to step.after) =
-    brought_all step.call.moments.items (at_end (other to) step.before) (at_end to step.before) (at_end to step.after) step.answer
-    (sound_at x y to step.before g) (brought_at x y to step.before g) (does_at to call.Next step p.side p.call h) p.arrivals p.room in
-    subst (λ z. gone_out (at_end z step.before) ≤ come_in (at_end to step.after)) (other_other end) all
+    let C : List Step → Type 0 = λ zs. LinkChain a zs b in
+    let begun = subst C p.begin chain in
+    let here : p.first.before ≡ a = begun.0 in
+    let enough : length (on_cable (chip_at (other to) a) (chip_at to a)) ≤ in_calls_at arrives_in to part =
+    subst (λ (o : Link). length (on_cable (chip_at (other to) o) (chip_at to o)) ≤ in_calls_at arrives_in to part) here p.enough in
+    let t = transmitter_at end a in
+    let sum = length-append t.wire (held t) in
+    let marks = r.arrivals in
+    let short : gone_out (at_end end a) ≤ length (chip_at to a).receiver.marks = omega (arith, sum, few, marks) in
+    let room : gone_out (at_end (other to) a) ≤ length (chip_at to a).receiver.marks =
+    subst (λ z. gone_out (at_end z a) ≤ length (chip_at to a).receiver.marks) (sym (other_other end)) short in
+    let all : gone_out (at_end (other to) a) ≤ come_in (at_end to b) = all_arrives x y to part a b g chain p.happened enough room in
+    subst (λ z. gone_out (at_end z a) ≤ come_in (at_end to b)) (other_other end) all
 
 -- the handler has run: nothing waits in the receiver
 handled_time : (end : Side) (step : Step) → LinkCallStep step.before step.call step.answer step.after → HandlesAll end step →
@@ -325,10 +366,10 @@ resumed x moments there s t a w h lines clear free some empty =
 
 -- ---- rounds
 
--- the first four calls of a round, and what follows
-abbrev FirstOf : Side → (List Step → Type 0) → List Step → Type 0
-FirstOf end Follow =
-    let to = other end in Comes (PassesTime end) (Comes (BringsAll to) (Comes (HandlesAll to) (Comes (TakesAll to) Follow)))
+-- the first four parts of a round, and what follows
+abbrev FirstOf : Side → ℕ → (List Step → Type 0) → List Step → Type 0
+FirstOf end ticks Follow =
+    let to = other end in Begin (PassTime ticks end) (Begin (BringAll to) (Comes (HandlesAll to) (Comes (TakesAll to) Follow)))
 
 -- after these
 record Served (x y : Modes) (end : Side) (Follow : List Step → Type 0) (steps : List Step) (a b : Link) : Type 0 where
@@ -344,51 +385,69 @@ record Served (x y : Modes) (end : Side) (Follow : List Step → Type 0) (steps 
   pub gone : sent_of (at_end end a) ≤ gone_out (at_end end mid)
   pub follow : Follow back
 
-served : (x y : Modes) (end : Side) (Follow : List Step → Type 0) (steps : List Step) (a b : Link) → Going x y a →
-    LinkChain a steps b → FirstOf end Follow steps →
-    Served x y end Follow steps a b
-served x y end Follow steps a b g chain comes =
-    let p = find x y end _ _ steps a b g chain comes in
-    let q = find x y end _ _ p.back p.step.after b p.after.going p.second p.follow in
-    let h = find x y end _ _ q.back q.step.after b q.after.going q.second q.follow in
+served : (x y : Modes) (end : Side) (ticks total : ℕ) (Follow : List Step → Type 0) (steps : List Step) (a b : Link) → Going x y a →
+    LinkChain a steps b → AllKeepOrderAt end steps → Roomy end ticks total a →
+    all_of (at_end end a) + length (queued_at end steps) ≤ total → FirstOf end ticks Follow steps → Served x y end Follow steps a b
+served x y end ticks total Follow steps a b g chain order roomy fits comes =
+    let p = cut x y end _ _ steps a b g chain comes in
+    let q = cut x y end _ _ p.rest p.mid b p.during.going p.second p.follow in
+    let h = find x y end _ _ q.rest q.mid b q.during.going q.second q.follow in
     let r = find x y end _ _ h.back h.step.after b h.after.going h.second h.follow in
-    let passed = passed_time x y end p.step p.before.going p.after.going p.does p.such in
-    let brought = brought_time x y end q.step q.before.going q.does q.such in
+    let O : List Step → Type 0 = λ zs. AllKeepOrderAt end zs in
+    let all = p.during.numbers.all (order_front end p.part p.rest (subst O p.whole order)) in
+    let sum : length (queued_at end steps) ≡ length (queued_at end p.part) + length (queued_at end p.rest) =
+    ap (λ (zs : List Step). length (queued_at end zs)) p.whole ∙ queued_append end p.part p.rest in
+    let passed = passed_time x y end ticks total p.part a p.mid g p.first roomy (omega (arith, fits)) p.such in
+    let brought = brought_time x y end ticks total q.part p.mid q.mid p.during.going q.first
+    (roomy_after x y end ticks total p.part a p.mid g p.first roomy) (omega (arith, all, sum, fits)) q.such in
     let handled = handled_time (other end) h.step h.does h.such in
-    let n = p.before.numbers in
-    let o = q.before.numbers in
-    let first = p.front ++ p.step ∷ [] in
-    let second = q.front ++ q.step ∷ [] in
     let third = h.front ++ h.step ∷ [] in
     let fourth = r.front ++ r.step ∷ [] in
     record {
-      front = first ++ (second ++ (third ++ fourth));
+      front = p.part ++ (q.part ++ (third ++ fourth));
       back = r.back;
       mid = r.step.after;
-      whole = in_one first second third fourth steps p.back q.back h.back r.back p.whole q.whole h.whole r.whole;
-      first = joined_chains first (second ++ (third ++ fourth)) a p.step.after r.step.after p.first
-          (joined_chains second (third ++ fourth) p.step.after q.step.after r.step.after q.first
-          (joined_chains third fourth q.step.after h.step.after r.step.after h.first r.first));
+      whole = in_one p.part q.part third fourth steps p.rest q.rest h.back r.back p.whole q.whole h.whole r.whole;
+      first = joined_chains p.part (q.part ++ (third ++ fourth)) a p.mid r.step.after p.first
+          (joined_chains q.part (third ++ fourth) p.mid q.mid r.step.after q.first
+          (joined_chains third fourth q.mid h.step.after r.step.after h.first r.first));
       second = r.second;
       going = r.after.going;
       none = taken_time (other end) r.step r.does r.such;
-      come = omega (arith, passed, brought, handled, n.sent, p.after.numbers.sent, o.gone, h.before.numbers.come,
-          h.after.numbers.come, r.before.numbers.waiting, r.after.numbers.waiting);
-      gone = omega (arith, passed, n.sent, p.after.numbers.sent, o.gone, q.after.numbers.gone, h.before.numbers.gone,
-          h.after.numbers.gone, r.before.numbers.gone, r.after.numbers.gone);
+      come = omega (
+        arith,
+        passed,
+        brought,
+        handled,
+        h.before.numbers.come,
+        h.after.numbers.come,
+        r.before.numbers.waiting,
+        r.after.numbers.waiting,
+      );
+      gone = omega (
+        arith,
+        passed,
+        q.during.numbers.gone,
+        h.before.numbers.gone,
+        h.after.numbers.gone,
+        r.before.numbers.gone,
+        r.after.numbers.gone,
+      );
       follow = r.follow;
     }
   where
     in_one : (first second third fourth steps one two three rest : List Step) → steps ≡ first ++ one → one ≡ second ++ two →
         two ≡ third ++ three → three ≡ fourth ++ rest → steps ≡ (first ++ (second ++ (third ++ fourth))) ++ rest
     in_one first second third fourth steps one two three rest a b c d =
-        rw (a, b, c, d, append_assoc first (second ++ (third ++ fourth)) rest, append_assoc second (third ++ fourth) rest,
-        append_assoc third fourth rest) refl
-
--- an end is in a session
-in_end : (x y : Modes) (end : Side) (a : Link) → Going x y a → (z : Modes) × InEnd z (at_end end a)
-in_end x y Left a g = (x, g.left)
-in_end x y Right a g = (y, g.right)
+        rw (
+          a,
+          b,
+          c,
+          d,
+          append_assoc first (second ++ (third ++ fourth)) rest,
+          append_assoc second (third ++ fourth) rest,
+          append_assoc third fourth rest,
+        ) refl
 
 -- nothing is held that has left the chip
 thr_empty : (t : TransmitterState) → length t.wire + length (held t) ≤ length t.wire → IsThrEmpty t
@@ -402,7 +461,8 @@ thr_empty t h = go t.queue refl
         absurd (omega (arith, h, parts, some))
 
 -- a round: one byte fewer is left to be sent of those that there were at first
-record Round (x y : Modes) (end : Side) (Follow : List Step → Type 0) (goal left : ℕ) (steps : List Step) (a b : Link) : Type 0 where
+record Round (x y : Modes) (end : Side) (ticks total : ℕ) (Follow : List Step → Type 0) (goal left : ℕ) (steps : List Step) (a b : Link) :
+    Type 0 where
   pub front : List Step
   pub back : List Step
   pub mid : Link
@@ -412,14 +472,17 @@ record Round (x y : Modes) (end : Side) (Follow : List Step → Type 0) (goal le
   pub going : Going x y mid
   pub all : goal ≤ all_of (at_end end mid)
   pub sent : goal ≤ sent_of (at_end end mid) + left
+  pub roomy : Roomy end ticks total mid
+  pub fits : all_of (at_end end mid) + length (queued_at end back) ≤ total
   pub follow : Follow back
 
-one_round : (x y : Modes) (end : Side) (Follow : List Step → Type 0) (goal left : ℕ) (steps : List Step) (a b : Link) → Going x y a →
-    LinkChain a steps b → AllKeepOrderAt end steps → goal ≤ all_of (at_end end a) → goal ≤ sent_of (at_end end a) + suc left →
-    FirstOf end (Comes (GoesOn end) Follow) steps →
-    Round x y end Follow goal left steps a b
-one_round x y end Follow goal left steps a b g chain order all near comes =
-    let v = served x y end (Comes (GoesOn end) Follow) steps a b g chain comes in
+one_round : (x y : Modes) (end : Side) (ticks total : ℕ) (Follow : List Step → Type 0) (goal left : ℕ) (steps : List Step) (a b : Link) →
+    Going x y a → LinkChain a steps b → AllKeepOrderAt end steps → Roomy end ticks total a →
+    all_of (at_end end a) + length (queued_at end steps) ≤ total → goal ≤ all_of (at_end end a) →
+    goal ≤ sent_of (at_end end a) + suc left → FirstOf end ticks (Comes (GoesOn end) Follow) steps →
+    Round x y end ticks total Follow goal left steps a b
+one_round x y end ticks total Follow goal left steps a b g chain order roomy fits all near comes =
+    let v = served x y end ticks total (Comes (GoesOn end) Follow) steps a b g chain order roomy fits comes in
     let w = find x y end _ _ v.back v.mid b v.going v.second v.follow in
     let O : List Step → Type 0 = λ zs. AllKeepOrderAt end zs in
     let whole_order : AllKeepOrderAt end (v.front ++ v.back) = subst O v.whole order in
@@ -458,6 +521,16 @@ one_round x y end Follow goal left steps a b g chain order all near comes =
           (does_at end call.ResumeTransmit w.step w.such.side w.such.call w.does) w.such.lines w.such.clear w.such.free some empty in
           omega (arith, fewer, all_after))
           (omega (arith, all, all_mid, all_before));
+      roomy = roomy_after x y end ticks total (w.front ++ w.step ∷ []) v.mid w.step.after v.going w.first
+          (roomy_after x y end ticks total v.front a v.mid g v.first roomy);
+      fits =
+          let whole_sum : length (queued_at end steps) ≡ length (queued_at end v.front) + length (queued_at end v.back) =
+          ap (λ (zs : List Step). length (queued_at end zs)) v.whole ∙ queued_append end v.front v.back in
+          let back_sum : length (queued_at end v.back) ≡
+          length (queued_at end (w.front ++ w.step ∷ [])) + length (queued_at end w.back) =
+          ap (λ (zs : List Step). length (queued_at end zs)) w.whole ∙ queued_append end (w.front ++ w.step ∷ []) w.back in
+          let last_sum = queued_append end w.front (w.step ∷ []) in
+          omega (arith, fits, all_mid, all_before, all_after, whole_sum, back_sum, last_sum);
       follow = w.follow;
     }
   where
@@ -485,11 +558,12 @@ record Delivered (x y : Modes) (end : Side) (goal : ℕ) (steps : List Step) (a 
   pub none : to_take (at_end (other end) mid) ≡ []
   pub come : goal + waits (at_end (other end) mid) ≤ come_in (at_end (other end) mid)
 
-delivered : (x y : Modes) (end : Side) (goal left : ℕ) (steps : List Step) (a b : Link) → Going x y a → LinkChain a steps b →
-    AllKeepOrderAt end steps → goal ≤ all_of (at_end end a) → goal ≤ sent_of (at_end end a) + left → HasRounds end (suc left) steps →
+delivered : (x y : Modes) (end : Side) (ticks total goal left : ℕ) (steps : List Step) (a b : Link) → Going x y a → LinkChain a steps b →
+    AllKeepOrderAt end steps → Roomy end ticks total a → all_of (at_end end a) + length (queued_at end steps) ≤ total →
+    goal ≤ all_of (at_end end a) → goal ≤ sent_of (at_end end a) + left → HasRounds end ticks (suc left) steps →
     Delivered x y end goal steps a b
-delivered x y end goal zero steps a b g chain order all near rounds =
-    let v = served x y end _ steps a b g chain rounds in
+delivered x y end ticks total goal zero steps a b g chain order roomy fits all near rounds =
+    let v = served x y end ticks total _ steps a b g chain order roomy fits rounds in
     record {
       front = v.front;
       back = v.back;
@@ -501,11 +575,11 @@ delivered x y end goal zero steps a b g chain order all near rounds =
       none = v.none;
       come = omega (arith, near, v.come);
     }
-delivered x y end goal (suc left) steps a b g chain order all near rounds =
-    let r = one_round x y end (HasRounds end (suc left)) goal left steps a b g chain order all near rounds in
+delivered x y end ticks total goal (suc left) steps a b g chain order roomy fits all near rounds =
+    let r = one_round x y end ticks total (HasRounds end ticks (suc left)) goal left steps a b g chain order roomy fits all near rounds in
     let O : List Step → Type 0 = λ zs. AllKeepOrderAt end zs in
-    let d = delivered x y end goal left r.back r.mid b r.going r.second (order_back end r.front r.back (subst O r.whole order)) r.all
-    r.sent r.follow in
+    let d = delivered x y end ticks total goal left r.back r.mid b r.going r.second (order_back end r.front r.back (subst O r.whole order))
+    r.roomy r.fits r.all r.sent r.follow in
     record {
       front = r.front ++ d.front;
       back = d.back;
@@ -566,13 +640,20 @@ pub progresses : (x y : Modes) (end : Side) (steps : List Step) (a b : Link) →
     LinkChain a steps b →
     ((front : List Step) (u : Link) → LinkChain a front u → DropsNothing (other end) a u → CarriesAll end a front u) →
     Progresses end a steps b
-progresses x y end steps a b w v joined chain carries order none rounds =
+progresses x y end steps a b w v joined chain carries order none journals rounds =
     let to = other end in
     let s = at_end end a in
     let g : Going x y a = record { left = w; right = v; joined = joined } in
     let number : unsent s + 1 ≡ suc (unsent s) = omega arith in
-    let d = delivered x y end (all_of s) (unsent s) steps a b g chain order (omega arith) (omega arith)
-    (subst (λ n. HasRounds end n steps) number rounds) in
+    let ticks = enough_ticks (transmitter_at end a) in
+    let total = all_of s + length (queued_at end steps) in
+    let roomy : Roomy end ticks total a = record {
+      pace = refl;
+      wire = let h = journals.wire in omega (arith, h);
+      arrivals = let h = journals.arrivals in omega (arith, h);
+    } in
+    let d = delivered x y end ticks total (all_of s) (unsent s) steps a b g chain order roomy (omega arith) (omega arith) (omega arith)
+    (subst (λ n. HasRounds end ticks n steps) number rounds) in
     let O : List Step → Type 0 = λ zs. AllKeepOrderAt end zs in
     let order_there = order_front end d.front d.back (subst O d.whole order) in
     let none_there = none_before to a d.mid b (stands_before x y to d.mid b d.back d.going d.second) none in
@@ -608,3 +689,62 @@ progresses x y end steps a b w v joined chain carries order none rounds =
         let second = length-append (held t) (to_send from) in
         let third = length-append t.wire (held t) in
         omega (arith, cable, first, second, third)
+
+-- ---- RTS
+
+-- a call that does not adjust RTS leaves MCR
+kept_mcr : (c : RingCall) (s t : RingState) → hold_of c ≡ None → EndKept c s t → KeepsMcr s t
+kept_mcr (call.AdjustRts marks) s t none k = absurd (cc)
+kept_mcr other s t none k = k
+
+step_keeps_mcr : (x y : Modes) (end : Side) (step : Step) → Going x y step.before →
+    LinkCallStep step.before step.call step.answer step.after → OfEnd end step.call.side (hold_of step.call.call ≡ None) →
+    KeepsMcr (at_end end step.before) (at_end end step.after)
+step_keeps_mcr x y end step g h none = go end step.call.side refl refl h.0 h.1 none
+  where
+    E : Side → Type 0
+    E d = EndStep step.call.moments.items (at_end (other d) step.before) (at_end d step.before) step.call.call step.answer
+        (at_end d step.after)
+
+    acts : E end → hold_of step.call.call ≡ None → KeepsMcr (at_end end step.before) (at_end end step.after)
+    acts h none =
+        let e = in_end x y end step.before g in
+        kept_mcr step.call.call _ _ none (end_moves e.0 step.call.moments.items _ _ _ step.call.call step.answer e.1 h).kept
+
+    S : Side → Type 0
+    S d = at_end d step.after ≡ at_end d step.before
+
+    stays : S end → KeepsMcr (at_end end step.before) (at_end end step.after)
+    stays same = ap (λ (s : RingState). (ring_machine s).chip.latches.mcr) same
+
+    go : (e side : Side) → end ≡ e → step.call.side ≡ side → E side → S (other side) → OfEnd e side (hold_of step.call.call ≡ None) →
+        KeepsMcr (at_end end step.before) (at_end end step.after)
+    go Left Left e f h same none = acts (subst E (sym e) h) none
+    go Right Right e f h same none = acts (subst E (sym e) h) none
+    go Left Right e f h same none = stays (subst S (sym e) same)
+    go Right Left e f h same none = stays (subst S (sym e) same)
+
+keeps_mcr : (x y : Modes) (end : Side) (steps : List Step) (a b : Link) → Going x y a → LinkChain a steps b → NoneAdjusts end steps →
+    KeepsMcr (at_end end a) (at_end end b)
+keeps_mcr x y end [] a b g chain none = ap (λ (o : Link). (ring_machine (at_end end o)).chip.latches.mcr) chain
+keeps_mcr x y end (step ∷ steps) a b g chain none =
+    let here = sym chain.0 in
+    let g' = subst (λ (o : Link). Going x y o) here g in
+    let one : LinkChain step.before (step ∷ []) step.after = (refl, chain.1, refl) in
+    keeps_mcr x y end steps step.after b (going_after x y (step ∷ []) step.before step.after g' one) chain.2 none.1 ∙
+    (step_keeps_mcr x y end step g' chain.1 none.0 ∙
+    ap (λ (o : Link). (ring_machine (at_end end o)).chip.latches.mcr) chain.0)
+
+pub keeps_rts_on : (x y : Modes) (end : Side) (steps : List Step) (a b : Link) → InEnd x a.left → InEnd y a.right → IsJoined a →
+    LinkChain a steps b → KeepsRtsOn end steps b
+keeps_rts_on x y end steps a b w v joined chain comes =
+    let f = find x y end _ _ steps a b (record { left = w; right = v; joined = joined }) chain comes in
+    let p = f.such in
+    let step = f.step in
+    let on = adjusts_on step.call.moments.items (at_end (other end) step.before) (at_end end step.before) (at_end end step.after) p.marks
+    step.answer (does_at end (call.AdjustRts p.marks) step p.side p.call f.does) p.hold p.release in
+    let same = keeps_mcr x y end f.back step.after b f.after.going f.second f.follow in
+    let e = in_end x y end b (going_after x y f.back step.after b f.after.going f.second) in
+    rts_on (at_end end b)
+    (loopback-in _ (ring_machine (at_end end b)).chip e.1.session.stands.modes ∙ e.1.session.open_modes.loopback)
+    (ap (λ v. has_any v MCR.RTS.0) same ∙ on)

@@ -1,5 +1,5 @@
 -- Progress: if time passes, what is on the cable arrives, and both programs go on, all that was queued is taken.
-use Rattle.std.specs.Prelude.{◌≡◌, ◌⊎◌, ◌≤◌, ◌<◌, ◌+◌, ◌*◌, ⊤, ℕ, zero, suc, true, false, List, [], ◌∷◌, ◌++◌, length}
+use Rattle.std.specs.Prelude.{◌≡◌, ◌⊎◌, ◌≤◌, ◌<◌, ◌+◌, ◌*◌, ⊤, ℕ, zero, suc, true, false, List, [], ◌∷◌, ◌++◌, length, None}
 use Rattle.uart_spec.specs.Bits.{has_any}
 use Rattle.uart_spec.specs.declared.registers.fifo_trigger_level.FifoTriggerLevel.TheVariants.{One}
 use Rattle.uart_spec.specs.declared.registers.interrupt_enable.TheConstants.IER
@@ -18,9 +18,12 @@ use Rattle.uart_link.specs.declared.call.Moment.{Moment}
 use Rattle.uart_link.specs.declared.call.Moment.TheVariants as moment
 use Rattle.uart_link.specs.declared.call.Side.{Side}
 use Rattle.uart_link.specs.declared.link.Link.{Link}
-use Rattle.uart_link.specs.Cable.{on_cable, to_come, lines_from}
-use Rattle.uart_link.specs.Carried.{to_be_taken, on_the_way, gone_at, AllKeepOrderAt}
-use Rattle.uart_link.specs.Flow.{SeesLines, DropsNothing}
+use Rattle.uart_link.specs.Cable.{on_cable, lines_from}
+use Rattle.uart_chip.specs.Conserved.{out}
+use Rattle.uart_link.specs.declared.call.Side.TheVariants.{Left, Right}
+use Rattle.uart_link.specs.Carried.{queued_at, to_be_taken, on_the_way, gone_at, AllKeepOrderAt, OfEnd}
+use Rattle.uart_ring.specs.declared.ring.receive.ReceiveMarks.{ReceiveMarks}
+use Rattle.uart_link.specs.Flow.{SeesLines, DropsNothing, receive_room, hold_of}
 use Rattle.uart_link.specs.Link.{at_end, other, Step}
 
 -- ---- what a round is made of
@@ -43,27 +46,42 @@ arrives_in [] = 0
 arrives_in (moment.Arrives ∷ moments) = 1 + arrives_in moments
 arrives_in (_ ∷ moments) = arrives_in moments
 
+-- this number at a call of the end; at a call of the other end nothing; and the sum over the moments of all calls
+abbrev pub of_side : (end side : Side) → ℕ → ℕ
+of_side Left Left number = number
+of_side Right Right number = number
+of_side end side number = 0
+
+abbrev pub in_calls_at : (number_in : List Moment → ℕ) → Side → List Step → ℕ
+in_calls_at number_in end [] = 0
+in_calls_at number_in end (step ∷ steps) =
+    of_side end step.call.side (number_in step.call.moments.items) + in_calls_at number_in end steps
+
 -- the ticks that are enough for a transmitter to send all that it holds, which is 17 characters at most
 abbrev pub enough_ticks : TransmitterState → ℕ
 enough_ticks t = 17 * t.char_ticks
 
--- Time passes at an end: in a `Next` there are ticks enough for all that its transmitter holds, and the wire has room
--- for that
-pub record PassesTime (end : Side) (step : Step) : Type 0 where
-  pub side : step.call.side ≡ end
-  pub call : step.call.call ≡ call.Next
-  pub ticks : enough_ticks (transmitter_at end step.before) ≤ ticks_in step.call.moments.items
-  pub room : HasRoom 0 (ring_machine (at_end end step.before))
+-- these calls end with a `Next` of an end: all moments of its calls have happened
+pub record EndInNext (end : Side) (steps : List Step) : Type 0 where
+  pub others : List Step
+  pub last : Step
+  pub whole : steps ≡ others ++ last ∷ []
+  pub side : last.call.side ≡ end
+  pub call : last.call.call ≡ call.Next
 
--- All arrives that is on the cable to an end: in a `Next` of the end there are as many arrivals, and the chip's journal
--- has room for them
-pub record BringsAll (end : Side) (step : Step) : Type 0 where
-  pub side : step.call.side ≡ end
-  pub call : step.call.call ≡ call.Next
-  pub arrivals : length (on_cable (chip_at (other end) step.before) (chip_at end step.before)) ≤
-      arrives_in step.call.moments.items
-  pub room : length (on_cable (chip_at (other end) step.before) (chip_at end step.before)) ≤
-      to_come (chip_at end step.before)
+-- time passes at an end: there are so many ticks in these calls
+pub record PassTime (ticks : ℕ) (end : Side) (steps : List Step) : Type 0 where
+  pub happened : EndInNext end steps
+  pub enough : ticks ≤ in_calls_at ticks_in end steps
+
+-- all arrives that is on the cable to an end when these calls begin: there are as many arrivals in them
+pub record BringAll (end : Side) (steps : List Step) : Type 0 where
+  pub happened : EndInNext end steps
+  pub first : Step
+  pub others : List Step
+  pub begin : steps ≡ first ∷ others
+  pub enough : length (on_cable (chip_at (other end) first.before) (chip_at end first.before)) ≤
+      in_calls_at arrives_in end steps
 
 -- The handler of an end runs until no interrupt is pending. DATA_READY is enabled, which it is not while receiving is
 -- paused; and each character is told of, for the FIFO is off or the trigger level is One
@@ -86,6 +104,10 @@ pub record TakesAll (end : Side) (step : Step) : Type 0 where
   pub answer : step.answer ≡ taken_answer bytes
   pub more_slots : length bytes < slots
 
+-- RTS of an end is on, as the other end finds it
+abbrev pub IsRtsOn : Side → Link → Type 0
+IsRtsOn end link = has_any (lines_from (chip_at end link)) MSR.CTS.0 ≡ true
+
 -- An end goes on to send: in a `resume_transmit` that finds the lines as the other end gives them. If its driver checks
 -- CTS, the other end's RTS is on; and nothing that waits is held, and the chip is not stuck
 pub record GoesOn (end : Side) (step : Step) : Type 0 where
@@ -93,7 +115,7 @@ pub record GoesOn (end : Side) (step : Step) : Type 0 where
   pub call : step.call.call ≡ call.ResumeTransmit
   pub lines : SeesLines step.call.moments.items
   pub clear : (ring_fields (at_end end step.before)).driver.config.check_cts_before_sending ≡ true →
-      has_any (lines_from (chip_at (other end) step.before)) MSR.CTS.0 ≡ true
+      IsRtsOn (other end) step.before
   pub free : sendable (ring_fields (at_end end step.before)) ≡ waiting (ring_fields (at_end end step.before))
 
 -- ---- rounds
@@ -104,15 +126,46 @@ Comes Such Follow steps =
     (before : List Step) × (step : Step) × (after : List Step) × (steps ≡ before ++ step ∷ after) × Such step
     × Follow after
 
--- So many rounds, from one end to the other. In a round time passes at the sender, all on the cable arrives, the
--- receiver's handler runs, its program takes, and the sender goes on to send: in this order, with any other calls
--- before, between and after
-abbrev pub HasRounds : (end : Side) → (rounds : ℕ) → List Step → Type 0
-HasRounds end zero = λ steps. ⊤
-HasRounds end (suc rounds) =
+-- the first of these calls are such, and the others follow
+abbrev pub Begin : (List Step → Type 0) → (List Step → Type 0) → List Step → Type 0
+Begin Such Follow steps = (part rest : List Step) × (steps ≡ part ++ rest) × Such part × Follow rest
+
+-- So many rounds, from one end to the other, each with so many ticks at the sender. In a round time passes at the
+-- sender, all on the cable arrives, the receiver's handler runs, its program takes, and the sender goes on to send: in
+-- this order, with any other calls before, between and after
+abbrev pub HasRounds : (end : Side) → (ticks rounds : ℕ) → List Step → Type 0
+HasRounds end ticks zero = λ steps. ⊤
+HasRounds end ticks (suc rounds) =
     let to = other end in
-    Comes (PassesTime end) (Comes (BringsAll to) (Comes (HandlesAll to) (Comes (TakesAll to) (Comes (GoesOn end)
-    (HasRounds end rounds)))))
+    Begin (PassTime ticks end) (Begin (BringAll to) (Comes (HandlesAll to) (Comes (TakesAll to) (Comes (GoesOn end)
+    (HasRounds end ticks rounds)))))
+
+-- The two chips have room for all that is sent in such a part: the sender's wire, and the receiver's journal of
+-- arrivals. Chips in software keep what they have sent, and what became of each arrival
+pub record HasJournals (end : Side) (a : Link) (steps : List Step) : Type 0 where
+  pub wire : HasRoom (length (to_send (at_end end a)) + length (queued_at end steps)) (ring_machine (at_end end a))
+  pub arrivals :
+      length (out (ring_machine (at_end end a))) + (length (to_send (at_end end a)) + length (queued_at end steps)) ≤
+      length (chip_at (other end) a).receiver.marks
+
+-- ---- RTS
+
+-- an end lets the other one go on: in an `adjust_rts` after which the receive ring has as much room as both marks ask
+pub record TurnsRtsOn (end : Side) (step : Step) : Type 0 where
+  pub side : step.call.side ≡ end
+  pub marks : ReceiveMarks
+  pub call : step.call.call ≡ call.AdjustRts marks
+  pub hold : marks.hold ≤ receive_room (at_end end step.after)
+  pub release : marks.release ≤ receive_room (at_end end step.after)
+
+-- no call of an end adjusts RTS
+abbrev pub NoneAdjusts : Side → List Step → Type 0
+NoneAdjusts end [] = ⊤
+NoneAdjusts end (step ∷ steps) = OfEnd end step.call.side (hold_of step.call.call ≡ None) × NoneAdjusts end steps
+
+-- RTS stays on that was turned on, until the end adjusts it again
+abbrev pub KeepsRtsOn : Side → List Step → Link → Type 0
+KeepsRtsOn end steps b = Comes (TurnsRtsOn end) (NoneAdjusts end) steps → IsRtsOn end b
 
 -- ---- what follows
 
@@ -128,5 +181,6 @@ TakesQueued end a steps =
 -- taken within as many rounds as bytes wait in the rings, and one more for what is in the transmitter and on the cable
 abbrev pub Progresses : Side → Link → List Step → Link → Type 0
 Progresses end a steps b =
-    AllKeepOrderAt end steps → DropsNothing (other end) a b → HasRounds end (length (to_send (at_end end a)) + 1) steps →
+    AllKeepOrderAt end steps → DropsNothing (other end) a b → HasJournals end a steps →
+    HasRounds end (enough_ticks (transmitter_at end a)) (length (to_send (at_end end a)) + 1) steps →
     TakesQueued end a steps
