@@ -20,4 +20,5 @@ pub mod Passing
 pub mod Stretches
 pub mod Resumes
 pub mod Taking
+pub mod SendsOn
 pub mod Rounds

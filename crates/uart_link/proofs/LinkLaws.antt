@@ -34,7 +34,7 @@ use Rattle.uart_run.specs.Wired.{IsWired}
 use Rattle.uart_ring_runs.proofs.RingRts.{modes_at, begins_session}
 use Rattle.uart_link.proofs.EndPasses.{InEnd, EndPasses}
 use Rattle.uart_link.proofs.Flows.{drops_nothing}
-use Rattle.uart_link.proofs.Rounds.{progresses, keeps_rts_on}
+use Rattle.uart_link.proofs.Rounds.{progresses, empties_receiver, keeps_rts_on}
 use Rattle.uart_link.proofs.Wholes.{delivers, carries_all}
 use Rattle.uart_link.specs.declared.call.Side.{Side}
 use Rattle.uart_link.specs.Told.{NoLineAt}
@@ -214,6 +214,7 @@ link_conserves a b steps sound_left sound_right wired_left wired_right joined re
           (drops_nothing x y pace a b steps w v joined chain paced);
       progress = λ end. progresses x y end steps a b w v joined chain
           (λ part u within none. carries_all end a u part (sound_there end) none (all part u within end));
+      handled = λ end. empties_receiver x y end steps a b w v joined chain;
       rts = λ end. keeps_rts_on x y end steps a b w v joined chain;
       ready = record { left = ready_after x b.left p.in_left; right = ready_after y b.right p.in_right };
       joined = joined_after x y _ _ _ _ a b p;

@@ -23,48 +23,39 @@ use Rattle.uart_chip.specs.Conserved.{out}
 use Rattle.uart_spec.specs.Bits.{has_any}
 use Rattle.uart_spec.specs.declared.access.Access.{Access}
 use Rattle.uart_spec.specs.declared.registers.modem_control.TheConstants.MCR
-use Rattle.uart_spec.specs.declared.registers.modem_status.TheConstants.MSR
-use Rattle.uart_16550.specs.Driver.{settings_of}
-use Rattle.uart_chip.specs.Chip.{ChipState, is_loopback}
+use Rattle.uart_chip.specs.Chip.{ChipState}
 use Rattle.uart_chip.specs.Transmitter.{TransmitterState, held}
-use Rattle.uart_chip.specs.Machine.{MachineState, at_access, arrivals}
 use Rattle.uart_chip.proofs.conservation.Went.{Modes, Went as Stretch, arriving_cut, loopback-in}
-use Rattle.uart_chip.proofs.lasting.Lasting.{lasts-before_mark}
-use Rattle.uart_ring.specs.Ring.{RingFields, ring_fields, sendable, waiting}
 use Rattle.uart_ring.specs.Lossless.{data_written}
 use Rattle.uart_ring_runs.specs.declared.call.RingCall.{RingCall}
 use Rattle.uart_ring_runs.specs.declared.call.RingCall.TheVariants as call
-use Rattle.uart_ring_runs.specs.declared.call.RingAnswer.{RingAnswer}
 use Rattle.uart_ring_runs.specs.RingRun.{RingState, ring_machine}
 use Rattle.uart_ring_runs.specs.RingBytes.{to_send}
-use Rattle.uart_ring_runs.proofs.RingBlocks.{resumes_make}
-use Rattle.uart_link.specs.declared.call.Moment.{Moment}
 use Rattle.uart_link.specs.declared.call.Side.{Side}
 use Rattle.uart_link.specs.declared.call.Side.TheVariants.{Left, Right}
 use Rattle.uart_link.specs.declared.link.Link.{Link}
 use Rattle.uart_link.specs.Brought.{brought}
-use Rattle.uart_link.specs.Cable.{to_come, settled, on_cable, lines_from}
+use Rattle.uart_link.specs.Cable.{on_cable}
 use Rattle.uart_link.specs.Carried.{to_be_taken, on_the_way, queued_at, gone_at, AllKeepOrderAt, IsJoined}
-use Rattle.uart_link.specs.Flow.{SeesLines, CarriesAll}
+use Rattle.uart_link.specs.Flow.{CarriesAll}
 use Rattle.uart_link.specs.Link.{at_end, other, Step, EndStep, LinkChain, LinkCallStep}
 use Rattle.uart_link.proofs.Taking.{handled_all, taken_all}
-use Rattle.uart_link.specs.Progress.{PassTime, BringAll, HandlesAll, TakesAll, GoesOn, Begin, Comes, HasRounds, arrives_in}
+use Rattle.uart_link.specs.Progress.{PassTime, BringAll, HandlesAll, TakesAll, Begin, Comes, HasRounds, arrives_in}
 use Rattle.uart_link.specs.Progress.{in_calls_at, enough_ticks, chip_at, transmitter_at}
-use Rattle.uart_link.proofs.Arranges.{arranged_events}
-use Rattle.uart_link.proofs.Calm.{AllLeaveMcr, AllLeaveCts, HasCts, cts_path, blocks_leave}
-use Rattle.uart_link.proofs.EndActs.{end_begins}
-use Rattle.uart_link.proofs.EndFlows.{sent_of, waits, cts_arranged, cts_at_first, EndKept, KeepsMcr, end_moves, adjusts_on, rts_on}
-use Rattle.uart_link.specs.Progress.{NoneAdjusts, KeepsRtsOn}
+use Rattle.uart_link.proofs.EndFlows.{sent_of, waits, EndKept, KeepsMcr, end_moves, adjusts_on, rts_on}
+use Rattle.uart_link.specs.Progress.{NoneAdjusts, KeepsRtsOn, EmptiesReceiver}
 use Rattle.std.proofs.Common.{None}
 use Rattle.uart_link.specs.Flow.{hold_of}
 use Rattle.uart_link.specs.Carried.{OfEnd}
 use Rattle.uart_link.proofs.EndPasses.{InEnd, EndPasses}
-use Rattle.uart_link.proofs.Held.{AllShowCts}
 use Rattle.uart_link.proofs.LinkSteps.{Brings, LinkPasses, link_chain, joined_after}
 use Rattle.std.proofs.Common.{◌*◌}
 use Rattle.uart_ring_runs.specs.RingBytes.{queued_by}
 use Rattle.uart_link.proofs.Stretches.{Going, going_after, in_end, does_at, time_passes, all_arrives, same_rooms}
-use Rattle.uart_link.proofs.Resumes.{IsThrEmpty, thr_empty_lasts, resumes_some}
+use Rattle.std.proofs.Common.{inl, inr}
+use Rattle.uart_link.proofs.Resumes.{IsThrEmpty}
+use Rattle.uart_link.proofs.SendsOn.{resumed, handled_on}
+use Rattle.uart_link.specs.Progress.{SendsOn}
 
 -- ---- numbers
 
@@ -310,11 +301,15 @@ brought_time x y end ticks total part a b g chain r few p =
     subst (λ z. gone_out (at_end z a) ≤ come_in (at_end to b)) (other_other end) all
 
 -- the handler has run: nothing waits in the receiver
+handled_queue : (end : Side) (step : Step) → LinkCallStep step.before step.call step.answer step.after → HandlesAll end step →
+    (chip_at end step.after).receiver.queue ≡ []
+handled_queue end step h p = handled_all step.call.moments.items (at_end (other end) step.before) (at_end end step.before)
+    (at_end end step.after) p.limit p.handled step.answer (does_at end (call.Handle p.limit) step p.side p.call h) p.answer p.idle p.enabled
+    p.told
+
 handled_time : (end : Side) (step : Step) → LinkCallStep step.before step.call step.answer step.after → HandlesAll end step →
     waits (at_end end step.after) ≡ 0
-handled_time end step h p = ap length (handled_all step.call.moments.items (at_end (other end) step.before) (at_end end step.before)
-    (at_end end step.after) p.limit p.handled step.answer (does_at end (call.Handle p.limit) step p.side p.call h) p.answer p.idle p.enabled
-    p.told)
+handled_time end step h p = ap length (handled_queue end step h p)
 
 -- and the program has taken: nothing is left in the receive ring
 taken_time : (end : Side) (step : Step) → LinkCallStep step.before step.call step.answer step.after → TakesAll end step →
@@ -324,45 +319,17 @@ taken_time end step h p =
     step.answer (does_at end (call.Take p.slots) step p.side p.call h) p.answer p.more_slots
 
 -- sending goes on: a byte leaves the rings
-resumed : (x : Modes) (moments : List Moment) (there s t : RingState) (a : RingAnswer) → InEnd x s →
-    EndStep moments there s call.ResumeTransmit a t → SeesLines moments →
-    ((ring_fields s).driver.config.check_cts_before_sending ≡ true →
-    has_any (lines_from (ring_machine there).chip) MSR.CTS.0 ≡ true) → sendable (ring_fields s) ≡ waiting (ring_fields s) →
-    0 < unsent s → IsThrEmpty (ring_machine s).chip.transmitter → unsent t < unsent s
-resumed x moments there s t a w h lines clear free some empty =
-    let begins = h.begins in
-    let m = ring_machine begins in
-    let f = ring_fields begins in
-    let d = h.called.did in
-    let far = (ring_machine there).chip in
-    let c = (settled (ring_machine s)).chip in
-    let left = to_come c - arrivals (arranged_events moments far c) in
-    let b = end_begins x moments there s t call.ResumeTransmit a w h in
-    let same : f ≡ ring_fields s = h.arranges.rings in
-    let chip : m.chip ≡ c = ap (λ (o : MachineState). o.chip) h.arranges.machine in
-    let E : ChipState → Type 0 = λ o. IsThrEmpty o.transmitter in
-    let thr : IsThrEmpty m.chip.transmitter = subst E (sym chip)
-    (lasts-before_mark IsThrEmpty thr_empty_lasts.in_tick (ring_machine s).ahead (ring_machine s).chip empty) in
-    let blocks = (resumes_make f d.list (ring_fields t) d.does).blocks in
-    let A : List Access → Type 0 = λ l. AllLeaveMcr l in
-    let leaves : AllLeaveMcr d.list = subst A (sym blocks.joined) (blocks_leave _ blocks.blocks blocks.fit) in
-    let off : is_loopback m.chip.latches ≡ false =
-    loopback-in _ m.chip b.session.session.stands.modes ∙ b.session.session.open_modes.loopback in
-    let loop : has_any c.latches.mcr MCR.LOOP_BACK.0 ≡ false =
-    ap (λ (o : ChipState). has_any o.latches.mcr MCR.LOOP_BACK.0) (sym chip) ∙ off in
-    let shown : (settings_of f.driver).checks ≡ true → AllShowCts true d.list = λ on.
-    let cts = clear (ap (λ (g : RingFields). g.driver.config.check_cts_before_sending) (sym same) ∙ on) in
-    let L : MachineState → Type 0 = λ o. AllLeaveCts true o.ahead in
-    let ahead : AllLeaveCts true m.ahead = subst L (sym h.arranges.machine) (cts_arranged true moments far c left cts) in
-    let H : MachineState → Type 0 = λ o. HasCts true (at_access o).chip in
-    let first : HasCts true (at_access m).chip =
-    subst H (sym h.arranges.machine) (cts_at_first true moments lines.0 far c left lines.1 cts loop) in
-    cts_path true d.list m (ring_machine t) b.session.session.stands.sound first ahead leaves d.path in
-    let F : RingFields → Type 0 = λ g. sendable g ≡ waiting g in
-    let number : length (waiting f) ≡ unsent s = ap (λ (g : RingFields). length (waiting g)) same in
-    let fewer = resumes_some f (ring_fields t) d.list m (ring_machine t) d.does (subst F (sym same) free) (omega (arith, number, some)) thr
-    shown d.path in
-    omega (arith, fewer, number)
+sent_on : (x y : Modes) (end : Side) (step : Step) → Going x y step.before → LinkCallStep step.before step.call step.answer step.after →
+    SendsOn end step → 0 < unsent (at_end end step.before) → IsThrEmpty (transmitter_at end step.before) →
+    unsent (at_end end step.after) < unsent (at_end end step.before)
+sent_on x y end step g h (inl p) some empty =
+    let e = in_end x y end step.before g in
+    resumed e.0 step.call.moments.items (at_end (other end) step.before) (at_end end step.before) (at_end end step.after) step.answer e.1
+    (does_at end call.ResumeTransmit step p.side p.call h) p.lines p.clear p.free some empty
+sent_on x y end step g h (inr p) some empty =
+    let e = in_end x y end step.before g in
+    handled_on e.0 step.call.moments.items (at_end (other end) step.before) (at_end end step.before) (at_end end step.after) p.limit
+    p.handled step.answer e.1 (does_at end (call.Handle p.limit) step p.side p.call h) p.answer p.idle p.unchecked p.armed p.free some empty
 
 -- ---- rounds
 
@@ -479,10 +446,10 @@ record Round (x y : Modes) (end : Side) (ticks total : ℕ) (Follow : List Step 
 one_round : (x y : Modes) (end : Side) (ticks total : ℕ) (Follow : List Step → Type 0) (goal left : ℕ) (steps : List Step) (a b : Link) →
     Going x y a → LinkChain a steps b → AllKeepOrderAt end steps → Roomy end ticks total a →
     all_of (at_end end a) + length (queued_at end steps) ≤ total → goal ≤ all_of (at_end end a) →
-    goal ≤ sent_of (at_end end a) + suc left → FirstOf end ticks (Comes (GoesOn end) Follow) steps →
+    goal ≤ sent_of (at_end end a) + suc left → FirstOf end ticks (Comes (SendsOn end) Follow) steps →
     Round x y end ticks total Follow goal left steps a b
 one_round x y end ticks total Follow goal left steps a b g chain order roomy fits all near comes =
-    let v = served x y end ticks total (Comes (GoesOn end) Follow) steps a b g chain order roomy fits comes in
+    let v = served x y end ticks total (Comes (SendsOn end) Follow) steps a b g chain order roomy fits comes in
     let w = find x y end _ _ v.back v.mid b v.going v.second v.follow in
     let O : List Step → Type 0 = λ zs. AllKeepOrderAt end zs in
     let whole_order : AllKeepOrderAt end (v.front ++ v.back) = subst O v.whole order in
@@ -507,7 +474,6 @@ one_round x y end ticks total Follow goal left steps a b g chain order roomy fit
       sent =
           let s = at_end end w.step.before in
           let t = at_end end w.step.after in
-          let e = in_end x y end w.step.before w.before.going in
           let more = to_mid.numbers.sent in
           let later = w.before.numbers.sent in
           let last = w.after.numbers.sent in
@@ -515,10 +481,9 @@ one_round x y end ticks total Follow goal left steps a b g chain order roomy fit
           let kept = w.before.numbers.gone in
           let parts = length-append (ring_machine s).chip.transmitter.wire (held (ring_machine s).chip.transmitter) in
           further (sent_of (at_end end a)) (sent_of s) (sent_of t) (unsent s) (omega (arith, more, later)) last near
-          (λ same some. let empty : IsThrEmpty (ring_machine s).chip.transmitter =
-          thr_empty (ring_machine s).chip.transmitter (omega (arith, same, room, kept, parts)) in
-          let fewer = resumed e.0 w.step.call.moments.items (at_end (other end) w.step.before) s t w.step.answer e.1
-          (does_at end call.ResumeTransmit w.step w.such.side w.such.call w.does) w.such.lines w.such.clear w.such.free some empty in
+          (λ same some. let empty : IsThrEmpty (transmitter_at end w.step.before) =
+          thr_empty (transmitter_at end w.step.before) (omega (arith, same, room, kept, parts)) in
+          let fewer = sent_on x y end w.step w.before.going w.does w.such some empty in
           omega (arith, fewer, all_after))
           (omega (arith, all, all_mid, all_before));
       roomy = roomy_after x y end ticks total (w.front ++ w.step ∷ []) v.mid w.step.after v.going w.first
@@ -748,3 +713,13 @@ keeps_rts_on x y end steps a b w v joined chain comes =
     rts_on (at_end end b)
     (loopback-in _ (ring_machine (at_end end b)).chip e.1.session.stands.modes ∙ e.1.session.open_modes.loopback)
     (ap (λ v. has_any v MCR.RTS.0) same ∙ on)
+
+-- ---- the handler
+
+pub empties_receiver : (x y : Modes) (end : Side) (steps : List Step) (a b : Link) → InEnd x a.left → InEnd y a.right → IsJoined a →
+    LinkChain a steps b → EmptiesReceiver end steps b
+empties_receiver x y end steps a b w v joined chain comes =
+    let f = find x y end _ _ steps a b (record { left = w; right = v; joined = joined }) chain comes in
+    let C : List Step → Type 0 = λ zs. LinkChain f.step.after zs b in
+    let here : b ≡ f.step.after = subst C f.follow f.second in
+    ap (λ (o : Link). (chip_at end o).receiver.queue) here ∙ handled_queue end f.step f.does f.such

@@ -61,23 +61,28 @@ none_received c none enabled =
     second false true others e = absurd (cc)
     second false false others e = refl
 
+-- after a `handle` that ended so no interrupt is pending
+pub handled_down_after : (moments : List Moment) (there s t : RingState) (limit : ℕ) (handled : Handled) (a : RingAnswer) →
+    EndStep moments there s (call.Handle limit) a t → a ≡ answers.Handled handled → handled.end ≡ Idle → is_line_up (ring_machine t) ≡ false
+handled_down_after moments there s t limit handled a h answer idle =
+    let d = h.called.did in
+    let same : h.called.outcome ≡ handled = ap (handled_of handled) (sym h.called.answered ∙ answer) in
+    handled_down limit h.called.outcome (ring_fields h.begins) d.list (ring_fields t) d.does (ap (λ o. o.end) same ∙ idle)
+    (ring_machine h.begins) (ring_machine t) d.path
+  where
+    handled_of : Handled → RingAnswer → Handled
+    handled_of other (answers.Handled handled) = handled
+    handled_of other a = other
+
 pub handled_all : (moments : List Moment) (there s t : RingState) (limit : ℕ) (handled : Handled) (a : RingAnswer) →
     EndStep moments there s (call.Handle limit) a t → a ≡ answers.Handled handled → handled.end ≡ Idle →
     has_any (ring_machine t).chip.latches.ier IER.DATA_READY.0 ≡ true →
     ((ring_machine t).chip.fifo ≡ false) ⊎ ((receiver_at t).trigger ≡ One) → (receiver_at t).queue ≡ []
 handled_all moments there s t limit handled a h answer idle enabled told =
     let c = (ring_machine t).chip in
-    let d = h.called.did in
-    let same : h.called.outcome ≡ handled = ap (handled_of handled) (sym h.called.answered ∙ answer) in
-    let down : is_line_up (ring_machine t) ≡ false =
-    handled_down limit h.called.outcome (ring_fields h.begins) d.list (ring_fields t) d.does (ap (λ o. o.end) same ∙ idle)
-    (ring_machine h.begins) (ring_machine t) d.path in
+    let down = handled_down_after moments there s t limit handled a h answer idle in
     none_pending c.fifo c.receiver (none_received c (is_none (interrupt c) down) enabled) told
   where
-    handled_of : Handled → RingAnswer → Handled
-    handled_of other (answers.Handled handled) = handled
-    handled_of other a = other
-
     is_none : (i : Option InterruptType) → is_some i ≡ false → i ≡ None
     is_none None e = refl
     is_none (Some interrupt) e = absurd (cc)

@@ -13,6 +13,7 @@ use Rattle.uart_ring.specs.declared.ring.service.Handled.{Handled}
 use Rattle.uart_ring_runs.specs.declared.call.RingAnswer.TheVariants as answers
 use Rattle.uart_ring_runs.specs.declared.call.RingCall.TheVariants as call
 use Rattle.uart_ring_runs.specs.RingRun.{ring_machine, taken_answer}
+use Rattle.uart_ring_runs.specs.RingArmed.{IsRingArmed}
 use Rattle.uart_ring_runs.specs.RingBytes.{to_send}
 use Rattle.uart_link.specs.declared.call.Moment.{Moment}
 use Rattle.uart_link.specs.declared.call.Moment.TheVariants as moment
@@ -118,6 +119,24 @@ pub record GoesOn (end : Side) (step : Step) : Type 0 where
       IsRtsOn (other end) step.before
   pub free : sendable (ring_fields (at_end end step.before)) ≡ waiting (ring_fields (at_end end step.before))
 
+-- An end goes on to send in its handler, which runs until no interrupt is pending: its driver does not check CTS, and it
+-- finds the rings armed, as every call that accepts a byte leaves them; and nothing that waits is held, and the chip is
+-- not stuck
+pub record HandlesOn (end : Side) (step : Step) : Type 0 where
+  pub side : step.call.side ≡ end
+  pub limit : ℕ
+  pub call : step.call.call ≡ call.Handle limit
+  pub handled : Handled
+  pub answer : step.answer ≡ answers.Handled handled
+  pub idle : handled.end ≡ Idle
+  pub unchecked : (ring_fields (at_end end step.before)).driver.config.check_cts_before_sending ≡ false
+  pub armed : IsRingArmed (at_end end step.before)
+  pub free : sendable (ring_fields (at_end end step.after)) ≡ waiting (ring_fields (at_end end step.after))
+
+-- an end goes on to send, in the one way or the other
+abbrev pub SendsOn : Side → Step → Type 0
+SendsOn end step = GoesOn end step ⊎ HandlesOn end step
+
 -- ---- rounds
 
 -- among these calls comes such a one, and these follow after it
@@ -137,7 +156,7 @@ abbrev pub HasRounds : (end : Side) → (ticks rounds : ℕ) → List Step → T
 HasRounds end ticks zero = λ steps. ⊤
 HasRounds end ticks (suc rounds) =
     let to = other end in
-    Begin (PassTime ticks end) (Begin (BringAll to) (Comes (HandlesAll to) (Comes (TakesAll to) (Comes (GoesOn end)
+    Begin (PassTime ticks end) (Begin (BringAll to) (Comes (HandlesAll to) (Comes (TakesAll to) (Comes (SendsOn end)
     (HasRounds end ticks rounds)))))
 
 -- The two chips have room for all that is sent in such a part: the sender's wire, and the receiver's journal of
@@ -148,7 +167,12 @@ pub record HasJournals (end : Side) (a : Link) (steps : List Step) : Type 0 wher
       length (out (ring_machine (at_end end a))) + (length (to_send (at_end end a)) + length (queued_at end steps)) ≤
       length (chip_at (other end) a).receiver.marks
 
--- ---- RTS
+-- ---- the handler, and RTS
+
+-- after such a run of the handler, which is the last of these calls, no character waits in the receiver
+abbrev pub EmptiesReceiver : Side → List Step → Link → Type 0
+EmptiesReceiver end steps b =
+    Comes (HandlesAll end) (λ others. others ≡ []) steps → (chip_at end b).receiver.queue ≡ []
 
 -- an end lets the other one go on: in an `adjust_rts` after which the receive ring has as much room as both marks ask
 pub record TurnsRtsOn (end : Side) (step : Step) : Type 0 where

@@ -61,7 +61,7 @@ none_accepted (inl h) = h
 none_accepted (inr some) = absurd (omega (arith, some))
 
 -- each call
-call_leaves : (s t : RingState) (call : RingCall) (a : RingAnswer) → IsUnchecked (under s) → IsDlabOff (ring_machine s) →
+pub call_leaves : (s t : RingState) (call : RingCall) (a : RingAnswer) → IsUnchecked (under s) → IsDlabOff (ring_machine s) →
     RingCallStep s call a t → IsRingArmed s ⊎ RearmsRing call a → IsRingArmed t
 call_leaves s t (call.Queue bytes) a unchecked off h armed =
     let makes = queues_make bytes.items h.outcome _ _ _ h.did.does in
