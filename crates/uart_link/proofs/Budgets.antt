@@ -5,15 +5,15 @@ use Rattle.uart_events.specs.declared.event.Event.TheVariants.{Access as Gate, M
 use Rattle.uart_spec.specs.Access.{Path}
 use Rattle.uart_spec.specs.declared.access.Access.{Access}
 use Rattle.uart_spec.specs.declared.access.Access.TheVariants.{Read, Write}
+use Rattle.uart_chip.proofs.conservation.Went.{Modes}
+use Rattle.uart_chip.proofs.soundness.Sounds.{sound_perform, sound_access, sound_step}
 use Rattle.uart_chip.specs.Chip.{ChipState, tick, after_read, after_write}
 use Rattle.uart_chip.specs.Machine.{MachineState, MachineStep, perform, before_access, after_access, before_mark, at_access}
 use Rattle.uart_chip.specs.Sound.{IsSound, IsSoundChip}
-use Rattle.uart_chip.proofs.soundness.Sounds.{sound_perform, sound_access, sound_step}
-use Rattle.uart_ring_runs.specs.declared.call.RingCall.{RingCall}
-use Rattle.uart_ring_runs.specs.declared.call.RingAnswer.{RingAnswer}
 use Rattle.uart_ring_runs.specs.RingRun.{RingState, ring_machine}
+use Rattle.uart_ring_runs.specs.declared.call.RingAnswer.{RingAnswer}
+use Rattle.uart_ring_runs.specs.declared.call.RingCall.{RingCall}
 use Rattle.uart_link.specs.declared.call.Moment.{Moment}
-use Rattle.uart_chip.proofs.conservation.Went.{Modes}
 use Rattle.uart_link.specs.Cable.{settled, arranged}
 use Rattle.uart_link.specs.Link.{EndStep}
 use Rattle.uart_link.proofs.Calm.{IsMild, AllMild}

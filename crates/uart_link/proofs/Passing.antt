@@ -1,22 +1,21 @@
 -- Time passes at an end, and characters arrive there: what ticks and arrivals bring, whatever calls are made meanwhile.
-use Rattle.std.proofs.Common.{◌≡◌, ℕ, zero, suc, ◌+◌, ◌-◌, ◌*◌, ◌≤◌, ◌==◌, Bool, true, false, nat_lt, List, [], ◌∷◌, ◌++◌}
-use Rattle.std.proofs.Common.{length, Option, Some, None, min, if◌then◌else◌, bit_and, length-append}
-use Rattle.std.proofs.Common.{zero-le, refl, sym, ◌∙◌, ap, subst, arith}
+use Rattle.std.proofs.Common.{◌≡◌, ℕ, zero, suc, ◌+◌, ◌-◌, ◌*◌, ◌≤◌, ◌==◌, Bool, true, false, nat_lt, List, [], ◌∷◌, ◌++◌, length, Option}
+use Rattle.std.proofs.Common.{Some, None, min, if◌then◌else◌, bit_and, length-append, zero-le, refl, sym, ◌∙◌, ap, subst, arith}
 use Rattle.std.proofs.lemmas.Grind.{common_steps}
 use Rattle.uart_events.specs.declared.event.Event.{Event}
 use Rattle.uart_events.specs.declared.event.Event.TheVariants.{Ticks, Arrive, Lines}
 use Rattle.uart_spec.specs.declared.access.Access.TheVariants.{Write}
 use Rattle.uart_spec.specs.declared.registers.offsets.TheConstants as offsets
-use Rattle.uart_chip.specs.Masks.{mcr_bits}
-use Rattle.uart_chip.specs.declared.transmitter.Shifting.{Shifting}
+use Rattle.uart_chip.proofs.conservation.Sends.{sends-tick}
+use Rattle.uart_chip.proofs.soundness.Sounds.{steady_tick, steady_ticks, steady_arrive, steady_read, steady_write, latches-read}
 use Rattle.uart_chip.specs.Chip.{ChipState, is_loopback, is_dlab_set, is_thr_empty, interrupt, tick, ticks, after_read, after_write, cut_of}
 use Rattle.uart_chip.specs.Chip.{control_modem, with_latches}
-use Rattle.uart_chip.specs.Transmitter as transmitter
-use Rattle.uart_chip.specs.Transmitter.{TransmitterState, shift, refill, out, load, room, shift_bytes}
 use Rattle.uart_chip.specs.Machine.{perform}
+use Rattle.uart_chip.specs.Masks.{mcr_bits}
 use Rattle.uart_chip.specs.Sound.{IsSound, IsSoundChip, IsSoundTransmitter, IsTicking}
-use Rattle.uart_chip.proofs.soundness.Sounds.{steady_tick, steady_ticks, steady_arrive, steady_read, steady_write, latches-read}
-use Rattle.uart_chip.proofs.conservation.Sends.{sends-tick}
+use Rattle.uart_chip.specs.Transmitter.{TransmitterState, shift, refill, out, load, room, shift_bytes}
+use Rattle.uart_chip.specs.Transmitter as transmitter
+use Rattle.uart_chip.specs.declared.transmitter.Shifting.{Shifting}
 use Rattle.uart_link.specs.declared.call.Moment.{Moment}
 use Rattle.uart_link.specs.declared.call.Moment.TheVariants as moment
 use Rattle.uart_link.specs.Cable.{events_of, unknown}

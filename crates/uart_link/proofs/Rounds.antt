@@ -1,61 +1,44 @@
 -- Each round brings a byte nearer; so after rounds enough all has been taken that was queued.
-use Rattle.std.proofs.Common.{◌≡◌, ℕ, zero, suc, ◌+◌, ◌-◌, ◌<◌, ◌≤◌, Bool, true, false, List, [], ◌∷◌, ◌++◌, length}
-use Rattle.std.proofs.Common.{take, drop, append_assoc, length-append, refl, sym, ◌∙◌, ap, subst, arith}
+use Rattle.std.proofs.Common.{◌≡◌, ℕ, zero, suc, ◌+◌, ◌-◌, ◌<◌, ◌≤◌, Bool, true, false, List, [], ◌∷◌, ◌++◌, length, take, drop}
+use Rattle.std.proofs.Common.{append_assoc, length-append, refl, sym, ◌∙◌, ap, subst, arith, nat_lt, filter, map, None, ◌*◌, inl, inr}
 use Rattle.std.proofs.lemmas.Grind.{common_steps}
 use Rattle.std.proofs.lemmas.List.{length-drop, length-map, take-append-le, take-append-drop}
 use Rattle.std.proofs.Math.Seq.{take-append_seam}
-use Rattle.std.proofs.Common.{nat_lt}
-use Rattle.uart_chip.specs.declared.receiver.Origin.{Origin}
-use Rattle.uart_chip.specs.declared.receiver.Character.{Character}
-use Rattle.std.proofs.Common.{filter}
 use Rattle.std.proofs.lemmas.List.Sums.{length-filter, count_by-le-length}
-use Rattle.uart_chip.specs.Conserved.{origin_stands, stands, waiting as received}
-use Rattle.uart_chip.specs.Receiver.{ReceiverState}
-use Rattle.uart_chip.specs.Transmitter.{shift_bytes}
-use Rattle.uart_ring_runs.specs.RingBytes.{to_take, gone_in}
-use Rattle.uart_link.specs.Carried.{of_end, receiver_at}
-use Rattle.uart_link.specs.Flow.{DropsNothing}
-use Rattle.uart_link.specs.Progress.{Progresses}
-use Rattle.std.proofs.Common.{map}
 use Rattle.uart_events.specs.declared.event.Event.{Event}
-use Rattle.uart_link.specs.Told.{NoLineAt}
-use Rattle.uart_chip.specs.Conserved.{out}
 use Rattle.uart_spec.specs.Bits.{has_any}
 use Rattle.uart_spec.specs.declared.access.Access.{Access}
 use Rattle.uart_spec.specs.declared.registers.modem_control.TheConstants.MCR
-use Rattle.uart_chip.specs.Chip.{ChipState}
-use Rattle.uart_chip.specs.Transmitter.{TransmitterState, held}
 use Rattle.uart_chip.proofs.conservation.Went.{Modes, Went as Stretch, arriving_cut, loopback-in}
+use Rattle.uart_chip.specs.Chip.{ChipState}
+use Rattle.uart_chip.specs.Conserved.{origin_stands, stands, waiting as received, out}
+use Rattle.uart_chip.specs.Receiver.{ReceiverState}
+use Rattle.uart_chip.specs.Transmitter.{shift_bytes, TransmitterState, held}
+use Rattle.uart_chip.specs.declared.receiver.Character.{Character}
+use Rattle.uart_chip.specs.declared.receiver.Origin.{Origin}
 use Rattle.uart_ring.specs.Lossless.{data_written}
+use Rattle.uart_ring_runs.specs.RingBytes.{to_take, gone_in, to_send, queued_by}
+use Rattle.uart_ring_runs.specs.RingRun.{RingState, ring_machine}
 use Rattle.uart_ring_runs.specs.declared.call.RingCall.{RingCall}
 use Rattle.uart_ring_runs.specs.declared.call.RingCall.TheVariants as call
-use Rattle.uart_ring_runs.specs.RingRun.{RingState, ring_machine}
-use Rattle.uart_ring_runs.specs.RingBytes.{to_send}
 use Rattle.uart_link.specs.declared.call.Side.{Side}
 use Rattle.uart_link.specs.declared.call.Side.TheVariants.{Left, Right}
 use Rattle.uart_link.specs.declared.link.Link.{Link}
 use Rattle.uart_link.specs.Brought.{brought}
 use Rattle.uart_link.specs.Cable.{on_cable}
-use Rattle.uart_link.specs.Carried.{to_be_taken, on_the_way, queued_at, gone_at, AllKeepOrderAt, IsJoined}
-use Rattle.uart_link.specs.Flow.{CarriesAll}
+use Rattle.uart_link.specs.Carried.{of_end, receiver_at, to_be_taken, on_the_way, queued_at, gone_at, AllKeepOrderAt, IsJoined, OfEnd}
+use Rattle.uart_link.specs.Flow.{DropsNothing, CarriesAll, hold_of}
 use Rattle.uart_link.specs.Link.{at_end, other, Step, EndStep, LinkChain, LinkCallStep}
-use Rattle.uart_link.proofs.Taking.{handled_all, taken_all}
-use Rattle.uart_link.specs.Progress.{PassTime, BringAll, HandlesAll, TakesAll, Begin, Comes, HasRounds, arrives_in}
-use Rattle.uart_link.specs.Progress.{in_calls_at, enough_ticks, chip_at, transmitter_at}
+use Rattle.uart_link.specs.Progress.{Progresses, PassTime, BringAll, HandlesAll, TakesAll, Begin, Comes, HasRounds, arrives_in, in_calls_at}
+use Rattle.uart_link.specs.Progress.{enough_ticks, chip_at, transmitter_at, NoneAdjusts, KeepsRtsOn, EmptiesReceiver, SendsOn}
+use Rattle.uart_link.specs.Told.{NoLineAt}
 use Rattle.uart_link.proofs.EndFlows.{sent_of, waits, EndKept, KeepsMcr, end_moves, adjusts_on, rts_on}
-use Rattle.uart_link.specs.Progress.{NoneAdjusts, KeepsRtsOn, EmptiesReceiver}
-use Rattle.std.proofs.Common.{None}
-use Rattle.uart_link.specs.Flow.{hold_of}
-use Rattle.uart_link.specs.Carried.{OfEnd}
 use Rattle.uart_link.proofs.EndPasses.{InEnd, EndPasses}
 use Rattle.uart_link.proofs.LinkSteps.{Brings, LinkPasses, link_chain, joined_after}
-use Rattle.std.proofs.Common.{◌*◌}
-use Rattle.uart_ring_runs.specs.RingBytes.{queued_by}
-use Rattle.uart_link.proofs.Stretches.{Going, going_after, in_end, does_at, time_passes, all_arrives, same_rooms}
-use Rattle.std.proofs.Common.{inl, inr}
 use Rattle.uart_link.proofs.Resumes.{IsThrEmpty}
 use Rattle.uart_link.proofs.SendsOn.{resumed, handled_on}
-use Rattle.uart_link.specs.Progress.{SendsOn}
+use Rattle.uart_link.proofs.Stretches.{Going, going_after, in_end, does_at, time_passes, all_arrives, same_rooms}
+use Rattle.uart_link.proofs.Taking.{handled_all, taken_all}
 
 -- ---- numbers
 
@@ -303,9 +286,10 @@ brought_time x y end ticks total part a b g chain r few p =
 -- the handler has run: nothing waits in the receiver
 handled_queue : (end : Side) (step : Step) → LinkCallStep step.before step.call step.answer step.after → HandlesAll end step →
     (chip_at end step.after).receiver.queue ≡ []
-handled_queue end step h p = handled_all step.call.moments.items (at_end (other end) step.before) (at_end end step.before)
-    (at_end end step.after) p.limit p.handled step.answer (does_at end (call.Handle p.limit) step p.side p.call h) p.answer p.idle p.enabled
-    p.told
+handled_queue end step h p =
+    let r = p.runs in
+    handled_all step.call.moments.items (at_end (other end) step.before) (at_end end step.before) (at_end end step.after) r.limit r.handled
+    step.answer (does_at end (call.Handle r.limit) step r.side r.call h) r.answer r.idle p.enabled p.told
 
 handled_time : (end : Side) (step : Step) → LinkCallStep step.before step.call step.answer step.after → HandlesAll end step →
     waits (at_end end step.after) ≡ 0
@@ -328,8 +312,9 @@ sent_on x y end step g h (inl p) some empty =
     (does_at end call.ResumeTransmit step p.side p.call h) p.lines p.clear p.free some empty
 sent_on x y end step g h (inr p) some empty =
     let e = in_end x y end step.before g in
-    handled_on e.0 step.call.moments.items (at_end (other end) step.before) (at_end end step.before) (at_end end step.after) p.limit
-    p.handled step.answer e.1 (does_at end (call.Handle p.limit) step p.side p.call h) p.answer p.idle p.unchecked p.armed p.free some empty
+    let r = p.runs in
+    handled_on e.0 step.call.moments.items (at_end (other end) step.before) (at_end end step.before) (at_end end step.after) r.limit
+    r.handled step.answer e.1 (does_at end (call.Handle r.limit) step r.side r.call h) r.answer r.idle p.unchecked p.armed p.free some empty
 
 -- ---- rounds
 
@@ -573,6 +558,15 @@ begins_with all gone rest more e h =
     sym (take-append-le (length all) gone rest h) ∙ (ap (take (length all)) e ∙ take-append_seam all more) in
     (drop (length all) gone, sym (take-append-drop (length all) gone) ∙ ap (λ zs. zs ++ drop (length all) gone) same)
 
+-- so does what was taken in more calls
+all_gone : (end : Side) (front back steps : List Step) (there later : List ℕ) → steps ≡ front ++ back →
+    gone_at end front ≡ there ++ later → (more : List ℕ) × (gone_at end steps ≡ there ++ more)
+all_gone end front back steps there later whole e = (
+  later ++ gone_at end back,
+  ap (λ (zs : List Step). gone_at end zs) whole ∙ (gone_append end front back ∙
+      (ap (λ zs. zs ++ gone_at end back) e ∙ append_assoc there later (gone_at end back))),
+)
+
 -- no character was dropped before, if none is dropped in the end
 none_before : (end : Side) (a u b : Link) →
     ((o : Origin) → origin_stands (receiver_at (at_end end b)).marks (receiver_at (at_end end b)).is_unscheduled_lost o ≡ true →
@@ -640,11 +634,8 @@ progresses x y end steps a b w v joined chain carries order none journals rounds
     let few = way_length (at_end end d.mid) (at_end to d.mid) in
     let count = n.all order_there in
     let r = begins_with there (gone_at to d.front) left (queued_at end d.front) now
-    (omega (arith, sizes, first, second, third, fourth, ring, chars, few, count, d.come, n.behind)) in (
-      r.0 ++ gone_at to d.back,
-      ap (λ (zs : List Step). gone_at to zs) d.whole ∙ (gone_append to d.front d.back ∙
-          (ap (λ zs. zs ++ gone_at to d.back) r.1 ∙ append_assoc there r.0 (gone_at to d.back))),
-    )
+    (omega (arith, sizes, first, second, third, fourth, ring, chars, few, count, d.come, n.behind)) in
+    all_gone to d.front d.back steps there r.0 d.whole r.1
   where
     way_length : (from to : RingState) → length (on_the_way from to) + come_in to ≤ all_of from + (come_in to - gone_out from)
     way_length from to =

@@ -1,8 +1,8 @@
 -- An end with an empty transmitter goes on to send: at least one byte leaves its rings.
-use Rattle.std.proofs.Common.{◌≡◌, inl, inr, ℕ, zero, suc, ◌≤◌, ◌+◌, ◌-◌, ◌<◌, ◌==◌, ◌&&◌, ◌||◌, not, Bool, true, false, List, [], ◌++◌, length}
-use Rattle.std.proofs.Common.{Option, Some, length-append, if◌then◌else◌, refl, sym, ◌∙◌, ap, subst, arith}
-use Rattle.std.proofs.lemmas.List.{length-map}
+use Rattle.std.proofs.Common.{◌≡◌, inl, inr, ℕ, zero, suc, ◌≤◌, ◌+◌, ◌-◌, ◌<◌, ◌==◌, ◌&&◌, ◌||◌, not, Bool, true, false, List, [], ◌++◌}
+use Rattle.std.proofs.Common.{length, Option, Some, length-append, if◌then◌else◌, refl, sym, ◌∙◌, ap, subst, arith}
 use Rattle.std.specs.Prelude.{is_some}
+use Rattle.std.proofs.lemmas.List.{length-map}
 use Rattle.uart_spec.specs.Bits.{has, has_any}
 use Rattle.uart_spec.specs.declared.access.Access.{Access}
 use Rattle.uart_spec.specs.declared.registers.interrupt_enable.TheConstants.IER
@@ -11,27 +11,27 @@ use Rattle.uart_spec.specs.declared.registers.interrupt_type.InterruptType.TheVa
 use Rattle.uart_spec.specs.declared.registers.modem_control.TheConstants.MCR
 use Rattle.uart_spec.specs.declared.registers.modem_status.TheConstants.MSR
 use Rattle.uart_16550.specs.Driver.{settings_of}
-use Rattle.uart_chip.specs.Chip.{ChipState, is_loopback, interrupt}
-use Rattle.uart_chip.specs.Machine.{MachineState, at_access, at_mark, arrivals}
 use Rattle.uart_chip.proofs.Bits.{has_one}
 use Rattle.uart_chip.proofs.conservation.Went.{Modes, loopback-in, dlab-in}
 use Rattle.uart_chip.proofs.lasting.Lasting.{lasts-before_mark}
-use Rattle.uart_ring.specs.Ring.{RingFields, ring_fields, sendable, waiting}
+use Rattle.uart_chip.specs.Chip.{ChipState, is_loopback, interrupt}
+use Rattle.uart_chip.specs.Machine.{MachineState, at_access, at_mark, arrivals}
 use Rattle.uart_ring.specs.Armed.{IsArmed}
 use Rattle.uart_ring.specs.Lossless.{data_written}
+use Rattle.uart_ring.specs.Ring.{RingFields, ring_fields, sendable, waiting}
 use Rattle.uart_ring.specs.declared.ring.service.HandleEnd.TheVariants.{Idle}
 use Rattle.uart_ring.specs.declared.ring.service.Handled.{Handled}
-use Rattle.uart_ring_runs.specs.Edges.{is_line_up}
-use Rattle.uart_ring_runs.specs.declared.call.RingCall.TheVariants as call
-use Rattle.uart_ring_runs.specs.declared.call.RingAnswer.{RingAnswer}
-use Rattle.uart_ring_runs.specs.declared.call.RingAnswer.TheVariants as answers
-use Rattle.uart_ring_runs.specs.RingArmed.{thr_empty_of, is_due, IsRingArmed}
-use Rattle.uart_ring_runs.specs.RingRun.{RingState, ring_machine}
-use Rattle.uart_ring_runs.specs.RingBytes.{to_send}
 use Rattle.uart_ring_runs.proofs.RingArming.{call_leaves}
 use Rattle.uart_ring_runs.proofs.RingBlocks.{resumes_make}
 use Rattle.uart_ring_runs.proofs.RingDue.{mark_holds}
 use Rattle.uart_ring_runs.proofs.RingRts.{modes_at}
+use Rattle.uart_ring_runs.specs.Edges.{is_line_up}
+use Rattle.uart_ring_runs.specs.RingArmed.{thr_empty_of, is_due, IsRingArmed}
+use Rattle.uart_ring_runs.specs.RingBytes.{to_send}
+use Rattle.uart_ring_runs.specs.RingRun.{RingState, ring_machine}
+use Rattle.uart_ring_runs.specs.declared.call.RingAnswer.{RingAnswer}
+use Rattle.uart_ring_runs.specs.declared.call.RingAnswer.TheVariants as answers
+use Rattle.uart_ring_runs.specs.declared.call.RingCall.TheVariants as call
 use Rattle.uart_link.specs.declared.call.Moment.{Moment}
 use Rattle.uart_link.specs.Cable.{to_come, settled, lines_from}
 use Rattle.uart_link.specs.Flow.{SeesLines}
@@ -107,7 +107,8 @@ some_queued c down enabled due =
   where
     fourth : (a b d e : Bool) (others : Option InterruptType) →
         is_some (if a then Some interrupts.ReceiverLineStatus else if b then Some interrupts.ReceivedDataReady
-        else if d then Some interrupts.ReceptionTimeout else if e then Some interrupts.TransmitterHoldingRegisterEmpty else others) ≡ false →
+        else if d then Some interrupts.ReceptionTimeout
+        else if e then Some interrupts.TransmitterHoldingRegisterEmpty else others) ≡ false →
         e ≡ false
     fourth true b d e others h = absurd (cc)
     fourth false true d e others h = absurd (cc)
@@ -150,11 +151,13 @@ handled_on x moments there s t limit handled a w h answer idle unchecked armed f
     let place = p.ends.went.sends.place in
     let sizes = length-map (data_written p.ends.made) (modes_at x t).cut in
     let none : length m.chip.transmitter.queue ≡ 0 = ap length thr in
-    by (length (to_send s)) (length (to_send t)) (length (data_written p.ends.made)) after down free (omega (arith, kept, sum, other, number))
+    by (length (to_send s)) (length (to_send t)) (length (data_written p.ends.made)) after down free
+    (omega (arith, kept, sum, other, number))
     (omega (arith, place, sizes, none)) some refl
   where
     by : (before now written : ℕ) → IsRingArmed t → is_line_up (ring_machine t) ≡ false →
-        sendable (ring_fields t) ≡ waiting (ring_fields t) → written + now ≡ before → length (ring_machine t).chip.transmitter.queue ≤ written →
+        sendable (ring_fields t) ≡ waiting (ring_fields t) → written + now ≡ before →
+        length (ring_machine t).chip.transmitter.queue ≤ written →
         0 < before → length (to_send t) ≡ now → now < before
     by before now written (inl done) down free all few some same =
         let e : length (to_send t) ≡ 0 = ap length (sym free ∙ done) in omega (arith, e, same, some)

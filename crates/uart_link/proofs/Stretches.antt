@@ -1,36 +1,36 @@
 -- What passes at an end in calls of a link: time, and arrivals.
-use Rattle.std.proofs.Common.{◌≡◌, ℕ, zero, suc, ◌+◌, ◌-◌, ◌≤◌, Bool, List, [], ◌∷◌, ◌++◌, length, length-append}
-use Rattle.std.proofs.Common.{take, Option, Some, None, refl, sym, ◌∙◌, ap, subst, arith}
+use Rattle.std.proofs.Common.{◌≡◌, ℕ, zero, suc, ◌+◌, ◌-◌, ◌≤◌, Bool, List, [], ◌∷◌, ◌++◌, length, length-append, take, Option, Some, None}
+use Rattle.std.proofs.Common.{refl, sym, ◌∙◌, ap, subst, arith}
 use Rattle.std.proofs.lemmas.List.{length-drop, length-take}
 use Rattle.uart_events.specs.declared.event.Event.{Event}
-use Rattle.uart_chip.specs.declared.transmitter.Shifting.{Shifting}
+use Rattle.uart_chip.proofs.conservation.Went.{Modes, loopback-in}
 use Rattle.uart_chip.specs.Chip.{ChipState}
-use Rattle.uart_chip.specs.Transmitter.{TransmitterState, held, shift_bytes}
 use Rattle.uart_chip.specs.Machine.{MachineState, arrivals}
 use Rattle.uart_chip.specs.Sound.{IsSoundTransmitter, IsTicking}
-use Rattle.uart_chip.proofs.conservation.Went.{Modes, loopback-in}
-use Rattle.uart_run.specs.Progress.{left, left_of}
+use Rattle.uart_chip.specs.Transmitter.{TransmitterState, held, shift_bytes}
+use Rattle.uart_chip.specs.declared.transmitter.Shifting.{Shifting}
 use Rattle.uart_run.proofs.progress.Left.{left-most}
+use Rattle.uart_run.specs.Progress.{left, left_of}
+use Rattle.uart_ring_runs.specs.RingRun.{RingState, ring_machine}
 use Rattle.uart_ring_runs.specs.declared.call.RingCall.{RingCall}
 use Rattle.uart_ring_runs.specs.declared.call.RingCall.TheVariants as call
-use Rattle.uart_ring_runs.specs.RingRun.{RingState, ring_machine}
 use Rattle.uart_link.specs.declared.call.Moment.{Moment}
 use Rattle.uart_link.specs.declared.call.Side.{Side}
 use Rattle.uart_link.specs.declared.call.Side.TheVariants.{Left, Right}
 use Rattle.uart_link.specs.declared.link.Link.{Link}
 use Rattle.uart_link.specs.Cable.{to_come, settled, arranged, on_cable, lines_from}
 use Rattle.uart_link.specs.Carried.{IsJoined, AllKeepOrderAt, queued_at, gone_at}
-use Rattle.uart_link.specs.Told.{NoLineAt}
-use Rattle.uart_link.proofs.Lefts.{Grown}
 use Rattle.uart_link.specs.Link.{at_end, other, Step, EndStep, LinkChain, LinkCallStep}
 use Rattle.uart_link.specs.Progress.{ticks_in, arrives_in, of_side, in_calls_at, enough_ticks, EndInNext}
+use Rattle.uart_link.specs.Told.{NoLineAt}
 use Rattle.uart_link.proofs.Arranges.{arranged_events}
 use Rattle.uart_link.proofs.Budgets.{ahead_of, Spends, DueAt, spend_call}
 use Rattle.uart_link.proofs.EndFlows.{sent_of}
 use Rattle.uart_link.proofs.EndPasses.{InEnd}
+use Rattle.uart_link.proofs.Lefts.{Grown}
 use Rattle.uart_link.proofs.LinkSteps.{LinkPasses, link_chain, joined_after}
-use Rattle.uart_link.proofs.Passing.{ticks_of, arrives_of, ticks_ahead, arrives_ahead, need, need_of, DueTicks, ticks_spend}
-use Rattle.uart_link.proofs.Passing.{DueArrivals, arrivals_spend, HasRooms, rooms_spend}
+use Rattle.uart_link.proofs.Passing.{ticks_of, arrives_of, ticks_ahead, arrives_ahead, need, need_of, DueTicks, ticks_spend, DueArrivals}
+use Rattle.uart_link.proofs.Passing.{arrivals_spend, HasRooms, rooms_spend}
 
 -- ---- both ends in a session
 
@@ -75,13 +75,15 @@ wire_grows x y end steps a b g chain = by end
         let e : length (ring_machine t).chip.transmitter.wire ≡ length ((ring_machine s).chip.transmitter.wire ++ h.0) = ap length h.1 in
         let l = length-append (ring_machine s).chip.transmitter.wire h.0 in omega (arith, e, l)
 
-    by : (end : Side) → length (ring_machine (at_end end a)).chip.transmitter.wire ≤ length (ring_machine (at_end end b)).chip.transmitter.wire
+    by : (end : Side) →
+        length (ring_machine (at_end end a)).chip.transmitter.wire ≤ length (ring_machine (at_end end b)).chip.transmitter.wire
     by Left = longer a.left b.left p.rightward.grown
     by Right = longer a.right b.right p.leftward.grown
 
 -- ---- calls of a link
 
-module _ (weight : Event → ℕ) (Due : ChipState → ℕ → Type 0) (w : Spends weight Due) (number_in : List Moment → ℕ) (Holds : Link → Type 0) (x y : Modes)
+module _ (weight : Event → ℕ) (Due : ChipState → ℕ → Type 0) (w : Spends weight Due) (number_in : List Moment → ℕ)
+    (Holds : Link → Type 0) (x y : Modes)
     (end : Side) (lasts : (steps : List Step) (a b : Link) → Going x y a → LinkChain a steps b → Holds a → Holds b)
     (arrange : (o : Link) (moments : List Moment) (n : ℕ) → Holds o →
     Due (settled (ring_machine (at_end end o))).chip (number_in moments + n) →
@@ -200,7 +202,8 @@ time_passes x y end steps a b g chain happened enough room =
     all_left : (goal : ℕ) (fifo : Bool) (t : TransmitterState) → IsSoundTransmitter fifo t → need goal t ≤ 0 → goal ≤ length t.wire
     all_left goal fifo t w few = go t.shift_register (goal - length t.wire) refl refl w.ticking few
       where
-        go : (place : Option Shifting) (n : ℕ) → goal - length t.wire ≡ n → t.shift_register ≡ place → IsTicking t.char_ticks t.shift_register →
+        go : (place : Option Shifting) (n : ℕ) → goal - length t.wire ≡ n → t.shift_register ≡ place →
+            IsTicking t.char_ticks t.shift_register →
             need_of t.char_ticks t.shift_register (goal - length t.wire) ≤ 0 → goal ≤ length t.wire
         go place zero e f w few = omega (arith, e)
         go None (suc n) e f w few = let h : need_of t.char_ticks None (suc n) ≤ 0 = rw (e, f) at few in absurd (omega (arith, h))

@@ -1,29 +1,30 @@
 -- Progress: if time passes, what is on the cable arrives, and both programs go on, all that was queued is taken.
-use Rattle.std.specs.Prelude.{◌≡◌, ◌⊎◌, ◌≤◌, ◌<◌, ◌+◌, ◌*◌, ⊤, ℕ, zero, suc, true, false, List, [], ◌∷◌, ◌++◌, length, None}
+use Rattle.std.specs.Prelude.{◌≡◌, ◌⊎◌, ◌≤◌, ◌<◌, ◌+◌, ◌*◌, ⊤, ℕ, zero, suc, true, false, List, [], ◌∷◌, ◌++◌, length}
+use Rattle.std.specs.Prelude.{None}
 use Rattle.uart_spec.specs.Bits.{has_any}
 use Rattle.uart_spec.specs.declared.registers.fifo_trigger_level.FifoTriggerLevel.TheVariants.{One}
 use Rattle.uart_spec.specs.declared.registers.interrupt_enable.TheConstants.IER
 use Rattle.uart_spec.specs.declared.registers.modem_status.TheConstants.MSR
 use Rattle.uart_chip.specs.Chip.{ChipState}
+use Rattle.uart_chip.specs.Conserved.{out}
 use Rattle.uart_chip.specs.Transmitter.{TransmitterState}
 use Rattle.uart_run.specs.Progress.{HasRoom}
 use Rattle.uart_ring.specs.Ring.{ring_fields, sendable, waiting}
+use Rattle.uart_ring.specs.declared.ring.receive.ReceiveMarks.{ReceiveMarks}
 use Rattle.uart_ring.specs.declared.ring.service.HandleEnd.TheVariants.{Idle}
 use Rattle.uart_ring.specs.declared.ring.service.Handled.{Handled}
-use Rattle.uart_ring_runs.specs.declared.call.RingAnswer.TheVariants as answers
-use Rattle.uart_ring_runs.specs.declared.call.RingCall.TheVariants as call
-use Rattle.uart_ring_runs.specs.RingRun.{ring_machine, taken_answer}
 use Rattle.uart_ring_runs.specs.RingArmed.{IsRingArmed}
 use Rattle.uart_ring_runs.specs.RingBytes.{to_send}
+use Rattle.uart_ring_runs.specs.RingRun.{RingState, ring_machine, taken_answer}
+use Rattle.uart_ring_runs.specs.declared.call.RingAnswer.TheVariants as answers
+use Rattle.uart_ring_runs.specs.declared.call.RingCall.TheVariants as call
 use Rattle.uart_link.specs.declared.call.Moment.{Moment}
 use Rattle.uart_link.specs.declared.call.Moment.TheVariants as moment
 use Rattle.uart_link.specs.declared.call.Side.{Side}
+use Rattle.uart_link.specs.declared.call.Side.TheVariants.{Left, Right}
 use Rattle.uart_link.specs.declared.link.Link.{Link}
 use Rattle.uart_link.specs.Cable.{on_cable, lines_from}
-use Rattle.uart_chip.specs.Conserved.{out}
-use Rattle.uart_link.specs.declared.call.Side.TheVariants.{Left, Right}
 use Rattle.uart_link.specs.Carried.{queued_at, to_be_taken, on_the_way, gone_at, AllKeepOrderAt, OfEnd}
-use Rattle.uart_ring.specs.declared.ring.receive.ReceiveMarks.{ReceiveMarks}
 use Rattle.uart_link.specs.Flow.{SeesLines, DropsNothing, receive_room, hold_of}
 use Rattle.uart_link.specs.Link.{at_end, other, Step}
 
@@ -84,15 +85,19 @@ pub record BringAll (end : Side) (steps : List Step) : Type 0 where
   pub enough : length (on_cable (chip_at (other end) first.before) (chip_at end first.before)) ≤
       in_calls_at arrives_in end steps
 
--- The handler of an end runs until no interrupt is pending. DATA_READY is enabled, which it is not while receiving is
--- paused; and each character is told of, for the FIFO is off or the trigger level is One
-pub record HandlesAll (end : Side) (step : Step) : Type 0 where
+-- the handler of an end runs until no interrupt is pending
+pub record HandlerRuns (end : Side) (step : Step) : Type 0 where
   pub side : step.call.side ≡ end
   pub limit : ℕ
   pub call : step.call.call ≡ call.Handle limit
   pub handled : Handled
   pub answer : step.answer ≡ answers.Handled handled
   pub idle : handled.end ≡ Idle
+
+-- The handler runs and moves all that waits in the receiver: DATA_READY is enabled, which it is not while receiving is
+-- paused, and each character is told of, since the FIFO is off or the trigger level is One
+pub record HandlesAll (end : Side) (step : Step) : Type 0 where
+  pub runs : HandlerRuns end step
   pub enabled : has_any (chip_at end step.after).latches.ier IER.DATA_READY.0 ≡ true
   pub told : ((chip_at end step.after).fifo ≡ false) ⊎ ((chip_at end step.after).receiver.trigger ≡ One)
 
@@ -119,16 +124,10 @@ pub record GoesOn (end : Side) (step : Step) : Type 0 where
       IsRtsOn (other end) step.before
   pub free : sendable (ring_fields (at_end end step.before)) ≡ waiting (ring_fields (at_end end step.before))
 
--- An end goes on to send in its handler, which runs until no interrupt is pending: its driver does not check CTS, and it
--- finds the rings armed, as every call that accepts a byte leaves them; and nothing that waits is held, and the chip is
--- not stuck
+-- An end goes on to send in its handler. Its driver does not check CTS, and it finds the rings armed, as every call
+-- that accepts a byte leaves them; and nothing that waits is held, and the chip is not stuck
 pub record HandlesOn (end : Side) (step : Step) : Type 0 where
-  pub side : step.call.side ≡ end
-  pub limit : ℕ
-  pub call : step.call.call ≡ call.Handle limit
-  pub handled : Handled
-  pub answer : step.answer ≡ answers.Handled handled
-  pub idle : handled.end ≡ Idle
+  pub runs : HandlerRuns end step
   pub unchecked : (ring_fields (at_end end step.before)).driver.config.check_cts_before_sending ≡ false
   pub armed : IsRingArmed (at_end end step.before)
   pub free : sendable (ring_fields (at_end end step.after)) ≡ waiting (ring_fields (at_end end step.after))
@@ -149,9 +148,9 @@ Comes Such Follow steps =
 abbrev pub Begin : (List Step → Type 0) → (List Step → Type 0) → List Step → Type 0
 Begin Such Follow steps = (part rest : List Step) × (steps ≡ part ++ rest) × Such part × Follow rest
 
--- So many rounds, from one end to the other, each with so many ticks at the sender. In a round time passes at the
--- sender, all on the cable arrives, the receiver's handler runs, its program takes, and the sender goes on to send: in
--- this order, with any other calls before, between and after
+-- So many rounds, from one end to the other, each with so many ticks at the sender or more. In a round time passes at
+-- the sender, all on the cable arrives, the receiver's handler runs, its program takes, and the sender goes on to send:
+-- in this order, with any other calls before, between and after
 abbrev pub HasRounds : (end : Side) → (ticks rounds : ℕ) → List Step → Type 0
 HasRounds end ticks zero = λ steps. ⊤
 HasRounds end ticks (suc rounds) =
@@ -201,10 +200,16 @@ TakesQueued end a steps =
     (later : List ℕ)
     × (gone_at to steps ≡ (to_be_taken (at_end to a) ++ on_the_way (at_end end a) (at_end to a)) ++ later)
 
--- If no character is dropped at the other end, and no call lets a byte overtake or drops one, all that was queued is
--- taken within as many rounds as bytes wait in the rings, and one more for what is in the transmitter and on the cable
+-- the rounds that are enough: as many as bytes wait in the rings, and one more for what is in the transmitter and on
+-- the cable
+abbrev pub enough_rounds : RingState → ℕ
+enough_rounds s = length (to_send s) + 1
+
+-- If no character is dropped at the other end, no call lets a byte overtake or drops one, and there is room, all that
+-- was queued is taken within rounds enough with ticks enough. So at most `enough_rounds` times `enough_ticks` have to
+-- pass
 abbrev pub Progresses : Side → Link → List Step → Link → Type 0
 Progresses end a steps b =
     AllKeepOrderAt end steps → DropsNothing (other end) a b → HasJournals end a steps →
-    HasRounds end (enough_ticks (transmitter_at end a)) (length (to_send (at_end end a)) + 1) steps →
+    HasRounds end (enough_ticks (transmitter_at end a)) (enough_rounds (at_end end a)) steps →
     TakesQueued end a steps
