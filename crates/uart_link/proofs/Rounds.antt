@@ -30,7 +30,7 @@ use Rattle.uart_link.specs.Carried.{of_end, receiver_at, to_be_taken, on_the_way
 use Rattle.uart_link.specs.Flow.{DropsNothing, CarriesAll, hold_of}
 use Rattle.uart_link.specs.Link.{at_end, other, Step, EndStep, LinkChain, LinkCallStep}
 use Rattle.uart_link.specs.Progress.{Progresses, PassTime, BringAll, HandlesAll, TakesAll, Begin, Comes, HasRounds, arrives_in, in_calls_at}
-use Rattle.uart_link.specs.Progress.{enough_ticks, chip_at, transmitter_at, NoneAdjusts, KeepsRtsOn, EmptiesReceiver, SendsOn}
+use Rattle.uart_link.specs.Progress.{enough_ticks, chip_at, transmitter_at, NoneAdjusts, KeepsRtsOn, NoneArrives, EmptiesReceiver, SendsOn}
 use Rattle.uart_link.specs.Told.{NoLineAt}
 use Rattle.uart_link.proofs.EndFlows.{sent_of, waits, EndKept, KeepsMcr, end_moves, adjusts_on, rts_on}
 use Rattle.uart_link.proofs.EndPasses.{InEnd, EndPasses}
@@ -288,8 +288,8 @@ handled_queue : (end : Side) (step : Step) → LinkCallStep step.before step.cal
     (chip_at end step.after).receiver.queue ≡ []
 handled_queue end step h p =
     let r = p.runs in
-    handled_all step.call.moments.items (at_end (other end) step.before) (at_end end step.before) (at_end end step.after) r.limit r.handled
-    step.answer (does_at end (call.Handle r.limit) step r.side r.call h) r.answer r.idle p.enabled p.told
+    handled_all step.call.moments.items (at_end (other end) step.before) (at_end end step.before) (at_end end step.after) step.call.call
+    step.answer (does_at end step.call.call step r.side refl h) r.served p.enabled p.told
 
 handled_time : (end : Side) (step : Step) → LinkCallStep step.before step.call step.answer step.after → HandlesAll end step →
     waits (at_end end step.after) ≡ 0
@@ -313,8 +313,8 @@ sent_on x y end step g h (inl p) some empty =
 sent_on x y end step g h (inr p) some empty =
     let e = in_end x y end step.before g in
     let r = p.runs in
-    handled_on e.0 step.call.moments.items (at_end (other end) step.before) (at_end end step.before) (at_end end step.after) r.limit
-    r.handled step.answer e.1 (does_at end (call.Handle r.limit) step r.side r.call h) r.answer r.idle p.unchecked p.armed p.free some empty
+    handled_on e.0 step.call.moments.items (at_end (other end) step.before) (at_end end step.before) (at_end end step.after) step.call.call
+    step.answer e.1 (does_at end step.call.call step r.side refl h) r.served p.unchecked p.armed p.free some empty
 
 -- ---- rounds
 
@@ -707,10 +707,32 @@ keeps_rts_on x y end steps a b w v joined chain comes =
 
 -- ---- the handler
 
+-- the number of arrivals stays
+none_comes : (x y : Modes) (end : Side) (steps : List Step) (a b : Link) → Going x y a → LinkChain a steps b → NoneArrives end steps →
+    come_in (at_end end b) ≤ come_in (at_end end a)
+none_comes x y end [] a b g chain none =
+    let e = ap (λ (o : Link). come_in (at_end end o)) chain in omega (arith, e)
+none_comes x y end (step ∷ steps) a b g chain none =
+    let g' = subst (λ (o : Link). Going x y o) (sym chain.0) g in
+    let one : LinkChain step.before (step ∷ []) step.after = (refl, chain.1, refl) in
+    let first = none.0 in
+    let here = ap (λ (o : Link). come_in (at_end end o)) chain.0 in
+    let rest =
+    none_comes x y end steps step.after b (going_after x y (step ∷ []) step.before step.after g' one) chain.2 none.1 in
+    omega (arith, first, here, rest)
+
 pub empties_receiver : (x y : Modes) (end : Side) (steps : List Step) (a b : Link) → InEnd x a.left → InEnd y a.right → IsJoined a →
     LinkChain a steps b → EmptiesReceiver end steps b
 empties_receiver x y end steps a b w v joined chain comes =
     let f = find x y end _ _ steps a b (record { left = w; right = v; joined = joined }) chain comes in
-    let C : List Step → Type 0 = λ zs. LinkChain f.step.after zs b in
-    let here : b ≡ f.step.after = subst C f.follow f.second in
-    ap (λ (o : Link). (chip_at end o).receiver.queue) here ∙ handled_queue end f.step f.does f.such
+    let none = none_comes x y end f.back f.step.after b f.after.going f.second f.follow in
+    let n = (goes x y (other end) f.back f.step.after b f.after.going f.second).numbers.waiting in
+    let W : Side → Type 0 = λ z.
+    waits (at_end z b) + come_in (at_end z f.step.after) ≤ waits (at_end z f.step.after) + come_in (at_end z b) in
+    let more : W end = subst W (other_other end) n in
+    let empty = handled_time end f.step f.does f.such in
+    nothing (chip_at end b).receiver.queue (omega (arith, none, more, empty))
+  where
+    nothing : (queue : List Character) → length queue ≤ 0 → queue ≡ []
+    nothing [] h = refl
+    nothing (x ∷ queue) h = absurd (omega (arith, h))

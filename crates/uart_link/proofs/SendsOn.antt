@@ -19,23 +19,23 @@ use Rattle.uart_chip.specs.Machine.{MachineState, at_access, at_mark, arrivals}
 use Rattle.uart_ring.specs.Armed.{IsArmed}
 use Rattle.uart_ring.specs.Lossless.{data_written}
 use Rattle.uart_ring.specs.Ring.{RingFields, ring_fields, sendable, waiting}
-use Rattle.uart_ring.specs.declared.ring.service.HandleEnd.TheVariants.{Idle}
-use Rattle.uart_ring.specs.declared.ring.service.Handled.{Handled}
 use Rattle.uart_ring_runs.proofs.RingArming.{call_leaves}
 use Rattle.uart_ring_runs.proofs.RingBlocks.{resumes_make}
 use Rattle.uart_ring_runs.proofs.RingDue.{mark_holds}
 use Rattle.uart_ring_runs.proofs.RingRts.{modes_at}
 use Rattle.uart_ring_runs.specs.Edges.{is_line_up}
 use Rattle.uart_ring_runs.specs.RingArmed.{thr_empty_of, is_due, IsRingArmed}
-use Rattle.uart_ring_runs.specs.RingBytes.{to_send}
-use Rattle.uart_ring_runs.specs.RingRun.{RingState, ring_machine}
+use Rattle.uart_ring_runs.specs.RingBytes.{to_send, queued_by, KeepsOrder}
+use Rattle.uart_ring_runs.specs.RingRun.{RingState, RingCallStep, ring_machine}
 use Rattle.uart_ring_runs.specs.declared.call.RingAnswer.{RingAnswer}
 use Rattle.uart_ring_runs.specs.declared.call.RingAnswer.TheVariants as answers
+use Rattle.uart_ring_runs.specs.declared.call.RingCall.{RingCall}
 use Rattle.uart_ring_runs.specs.declared.call.RingCall.TheVariants as call
 use Rattle.uart_link.specs.declared.call.Moment.{Moment}
 use Rattle.uart_link.specs.Cable.{to_come, settled, lines_from}
 use Rattle.uart_link.specs.Flow.{SeesLines}
-use Rattle.uart_link.specs.Link.{EndStep}
+use Rattle.uart_link.specs.Link.{EndStep, CabledCallStep}
+use Rattle.uart_link.specs.Progress.{ServedAll}
 use Rattle.uart_link.proofs.Arranges.{arranged_events}
 use Rattle.uart_link.proofs.Calm.{AllLeaveMcr, AllLeaveCts, HasCts, cts_path, blocks_leave}
 use Rattle.uart_link.proofs.EndActs.{end_begins}
@@ -43,7 +43,7 @@ use Rattle.uart_link.proofs.EndFlows.{cts_arranged, cts_at_first}
 use Rattle.uart_link.proofs.EndPasses.{InEnd, call_passes}
 use Rattle.uart_link.proofs.Held.{AllShowCts}
 use Rattle.uart_link.proofs.Resumes.{IsThrEmpty, thr_empty_lasts, resumes_some}
-use Rattle.uart_link.proofs.Taking.{handled_down_after}
+use Rattle.uart_link.proofs.Taking.{served_down}
 
 -- ---- by a `resume_transmit`
 
@@ -120,16 +120,27 @@ some_queued c down enabled due =
     by zero h = absurd (cc)
     by (suc n) h = omega arith
 
-pub handled_on : (x : Modes) (moments : List Moment) (there s t : RingState) (limit : ℕ) (handled : Handled) (a : RingAnswer) → InEnd x s →
-    EndStep moments there s (call.Handle limit) a t → a ≡ answers.Handled handled → handled.end ≡ Idle →
-    (ring_fields s).driver.config.check_cts_before_sending ≡ false → IsRingArmed s →
-    sendable (ring_fields t) ≡ waiting (ring_fields t) → 0 < length (to_send s) → IsThrEmpty (ring_machine s).chip.transmitter →
-    length (to_send t) < length (to_send s)
-handled_on x moments there s t limit handled a w h answer idle unchecked armed free some empty =
+-- a call that serves interrupts is a ring call, and keeps the order
+record Serves (s t : RingState) (c : RingCall) (a : RingAnswer) : Type 0 where
+  pub ring : RingCallStep s c a t
+  pub order : KeepsOrder c
+  pub none : length (queued_by c a) ≡ 0
+
+serves : (s t : RingState) (c : RingCall) (a : RingAnswer) → CabledCallStep s c a t → ServedAll c a → Serves s t c a
+serves s t (call.Handle limit) (answers.Handled handled) h served = record { ring = h; order = tt; none = refl }
+serves s t call.Service (answers.Count count) h served = record { ring = h; order = tt; none = refl }
+serves s t other a h served = absurd served
+
+pub handled_on : (x : Modes) (moments : List Moment) (there s t : RingState) (c : RingCall) (a : RingAnswer) → InEnd x s →
+    EndStep moments there s c a t → ServedAll c a → (ring_fields s).driver.config.check_cts_before_sending ≡ false →
+    IsRingArmed s → sendable (ring_fields t) ≡ waiting (ring_fields t) → 0 < length (to_send s) →
+    IsThrEmpty (ring_machine s).chip.transmitter → length (to_send t) < length (to_send s)
+handled_on x moments there s t c a w h served unchecked armed free some empty =
+    let r = serves h.begins t c a h.called served in
     let begins = h.begins in
     let m = ring_machine begins in
     let old = ring_machine s in
-    let b = end_begins x moments there s t (call.Handle limit) a w h in
+    let b = end_begins x moments there s t c a w h in
     let same : ring_fields begins ≡ ring_fields s = h.arranges.rings in
     let chip : m.chip ≡ (at_mark old).chip = ap (λ (o : MachineState). o.chip) h.arranges.machine in
     let E : ChipState → Type 0 = λ o. IsThrEmpty o.transmitter in
@@ -141,18 +152,20 @@ handled_on x moments there s t limit handled a w h answer idle unchecked armed f
     let ready : IsRingArmed begins = subst F (sym same) first in
     let off = dlab-in _ m.chip b.session.session.stands.modes ∙ b.session.session.open_modes.dlab in
     let checks = ap (λ (f : RingFields). f.driver.config.check_cts_before_sending) same ∙ unchecked in
-    let after = call_leaves begins t (call.Handle limit) a checks off h.called (inl ready) in
-    let down = handled_down_after moments there s t limit handled a h answer idle in
-    let p = call_passes x begins t (call.Handle limit) a b.session h.called in
-    let kept : length (data_written p.ends.made ++ to_send t) ≡ length (to_send begins ++ []) = ap length (p.ends.sent tt) in
+    let after = call_leaves begins t c a checks off r.ring (inl ready) in
+    let down = served_down moments there s t c a h served in
+    let p = call_passes x begins t c a b.session r.ring in
+    let kept : length (data_written p.ends.made ++ to_send t) ≡ length (to_send begins ++ queued_by c a) =
+    ap length (p.ends.sent r.order) in
     let sum = length-append (data_written p.ends.made) (to_send t) in
-    let other = length-append (to_send begins) [] in
+    let other = length-append (to_send begins) (queued_by c a) in
+    let accepted = r.none in
     let number : length (to_send begins) ≡ length (to_send s) = ap (λ (f : RingFields). length (waiting f)) same in
     let place = p.ends.went.sends.place in
     let sizes = length-map (data_written p.ends.made) (modes_at x t).cut in
     let none : length m.chip.transmitter.queue ≡ 0 = ap length thr in
     by (length (to_send s)) (length (to_send t)) (length (data_written p.ends.made)) after down free
-    (omega (arith, kept, sum, other, number))
+    (omega (arith, kept, sum, other, number, accepted))
     (omega (arith, place, sizes, none)) some refl
   where
     by : (before now written : ℕ) → IsRingArmed t → is_line_up (ring_machine t) ≡ false →

@@ -16,18 +16,19 @@ use Rattle.uart_chip.specs.Receiver.{ReceiverState, is_data_pending}
 use Rattle.uart_chip.specs.declared.receiver.Character.{Character}
 use Rattle.uart_ring.specs.Receive.{EndsPause}
 use Rattle.uart_ring.specs.Ring.{RingFields, ring_fields, IfAny, OnDriver, Stays, with_paused, without_taken}
-use Rattle.uart_ring.specs.declared.ring.service.HandleEnd.TheVariants.{Idle}
 use Rattle.uart_ring.specs.declared.ring.service.Handled.{Handled}
-use Rattle.uart_ring_runs.proofs.RingEdges.{handled_down}
+use Rattle.uart_ring_runs.proofs.RingEdges.{handled_down, serviced_down}
 use Rattle.uart_ring_runs.specs.Edges.{is_line_up}
 use Rattle.uart_ring_runs.specs.RingBytes.{to_take, taken_by}
 use Rattle.uart_ring_runs.specs.RingRun.{RingState, ring_machine, taken_answer}
 use Rattle.uart_ring_runs.specs.declared.call.RingAnswer.{RingAnswer}
 use Rattle.uart_ring_runs.specs.declared.call.RingAnswer.TheVariants as answers
+use Rattle.uart_ring_runs.specs.declared.call.RingCall.{RingCall}
 use Rattle.uart_ring_runs.specs.declared.call.RingCall.TheVariants as call
 use Rattle.uart_link.specs.declared.call.Moment.{Moment}
 use Rattle.uart_link.specs.Carried.{receiver_at}
 use Rattle.uart_link.specs.Link.{EndStep}
+use Rattle.uart_link.specs.Progress.{ServedAll}
 
 -- ---- the handler
 
@@ -61,26 +62,35 @@ none_received c none enabled =
     second false true others e = absurd (cc)
     second false false others e = refl
 
--- after a `handle` that ended so no interrupt is pending
-pub handled_down_after : (moments : List Moment) (there s t : RingState) (limit : ℕ) (handled : Handled) (a : RingAnswer) →
-    EndStep moments there s (call.Handle limit) a t → a ≡ answers.Handled handled → handled.end ≡ Idle → is_line_up (ring_machine t) ≡ false
-handled_down_after moments there s t limit handled a h answer idle =
+-- then the line is low
+pub served_down : (moments : List Moment) (there s t : RingState) (c : RingCall) (a : RingAnswer) → EndStep moments there s c a t →
+    ServedAll c a → is_line_up (ring_machine t) ≡ false
+served_down moments there s t (call.Handle limit) (answers.Handled handled) h served =
     let d = h.called.did in
-    let same : h.called.outcome ≡ handled = ap (handled_of handled) (sym h.called.answered ∙ answer) in
-    handled_down limit h.called.outcome (ring_fields h.begins) d.list (ring_fields t) d.does (ap (λ o. o.end) same ∙ idle)
+    let same : h.called.outcome ≡ handled = ap (handled_of handled) (sym h.called.answered) in
+    handled_down limit h.called.outcome (ring_fields h.begins) d.list (ring_fields t) d.does (ap (λ o. o.end) same ∙ served)
     (ring_machine h.begins) (ring_machine t) d.path
   where
     handled_of : Handled → RingAnswer → Handled
     handled_of other (answers.Handled handled) = handled
     handled_of other a = other
+served_down moments there s t call.Service (answers.Count count) h served =
+    let d = h.called.did in
+    let same : h.called.outcome ≡ count = ap (count_of count) (sym h.called.answered) in
+    serviced_down h.called.outcome (ring_fields h.begins) d.list (ring_fields t) d.does (omega (arith, same, served))
+    (ring_machine h.begins) (ring_machine t) d.path
+  where
+    count_of : ℕ → RingAnswer → ℕ
+    count_of other (answers.Count count) = count
+    count_of other a = other
+served_down moments there s t other a h served = absurd served
 
-pub handled_all : (moments : List Moment) (there s t : RingState) (limit : ℕ) (handled : Handled) (a : RingAnswer) →
-    EndStep moments there s (call.Handle limit) a t → a ≡ answers.Handled handled → handled.end ≡ Idle →
-    has_any (ring_machine t).chip.latches.ier IER.DATA_READY.0 ≡ true →
+pub handled_all : (moments : List Moment) (there s t : RingState) (c : RingCall) (a : RingAnswer) → EndStep moments there s c a t →
+    ServedAll c a → has_any (ring_machine t).chip.latches.ier IER.DATA_READY.0 ≡ true →
     ((ring_machine t).chip.fifo ≡ false) ⊎ ((receiver_at t).trigger ≡ One) → (receiver_at t).queue ≡ []
-handled_all moments there s t limit handled a h answer idle enabled told =
+handled_all moments there s t call a h served enabled told =
     let c = (ring_machine t).chip in
-    let down = handled_down_after moments there s t limit handled a h answer idle in
+    let down = served_down moments there s t call a h served in
     none_pending c.fifo c.receiver (none_received c (is_none (interrupt c) down) enabled) told
   where
     is_none : (i : Option InterruptType) → is_some i ≡ false → i ≡ None

@@ -1,4 +1,5 @@
 -- Progress: if time passes, what is on the cable arrives, and both programs go on, all that was queued is taken.
+use Rattle.std.specs.List.{AllByRecursion}
 use Rattle.std.specs.Prelude.{◌≡◌, ◌⊎◌, ◌≤◌, ◌<◌, ◌+◌, ◌*◌, ⊤, ℕ, zero, suc, true, false, List, [], ◌∷◌, ◌++◌, length}
 use Rattle.std.specs.Prelude.{None}
 use Rattle.uart_spec.specs.Bits.{has_any}
@@ -12,11 +13,13 @@ use Rattle.uart_run.specs.Progress.{HasRoom}
 use Rattle.uart_ring.specs.Ring.{ring_fields, sendable, waiting}
 use Rattle.uart_ring.specs.declared.ring.receive.ReceiveMarks.{ReceiveMarks}
 use Rattle.uart_ring.specs.declared.ring.service.HandleEnd.TheVariants.{Idle}
-use Rattle.uart_ring.specs.declared.ring.service.Handled.{Handled}
+use Rattle.uart_ring.specs.declared.ring.service.TheConstants.{MAX_INTERRUPTS}
 use Rattle.uart_ring_runs.specs.RingArmed.{IsRingArmed}
 use Rattle.uart_ring_runs.specs.RingBytes.{to_send}
 use Rattle.uart_ring_runs.specs.RingRun.{RingState, ring_machine, taken_answer}
+use Rattle.uart_ring_runs.specs.declared.call.RingAnswer.{RingAnswer}
 use Rattle.uart_ring_runs.specs.declared.call.RingAnswer.TheVariants as answers
+use Rattle.uart_ring_runs.specs.declared.call.RingCall.{RingCall}
 use Rattle.uart_ring_runs.specs.declared.call.RingCall.TheVariants as call
 use Rattle.uart_link.specs.declared.call.Moment.{Moment}
 use Rattle.uart_link.specs.declared.call.Moment.TheVariants as moment
@@ -25,7 +28,7 @@ use Rattle.uart_link.specs.declared.call.Side.TheVariants.{Left, Right}
 use Rattle.uart_link.specs.declared.link.Link.{Link}
 use Rattle.uart_link.specs.Cable.{on_cable, lines_from}
 use Rattle.uart_link.specs.Carried.{queued_at, to_be_taken, on_the_way, gone_at, AllKeepOrderAt, OfEnd}
-use Rattle.uart_link.specs.Flow.{SeesLines, DropsNothing, receive_room, hold_of}
+use Rattle.uart_link.specs.Flow.{SeesLines, DropsNothing, receive_room, hold_of, arrived_in}
 use Rattle.uart_link.specs.Link.{at_end, other, Step}
 
 -- ---- what a round is made of
@@ -85,14 +88,17 @@ pub record BringAll (end : Side) (steps : List Step) : Type 0 where
   pub enough : length (on_cable (chip_at (other end) first.before) (chip_at end first.before)) ≤
       in_calls_at arrives_in end steps
 
+-- a call with this answer served interrupts until none was pending: a `handle` that ended so, or a `service` of fewer
+-- than it serves at most
+abbrev pub ServedAll : RingCall → RingAnswer → Type 0
+ServedAll (call.Handle limit) (answers.Handled handled) = handled.end ≡ Idle
+ServedAll call.Service (answers.Count count) = count < MAX_INTERRUPTS
+ServedAll other answer = ⊥
+
 -- the handler of an end runs until no interrupt is pending
 pub record HandlerRuns (end : Side) (step : Step) : Type 0 where
   pub side : step.call.side ≡ end
-  pub limit : ℕ
-  pub call : step.call.call ≡ call.Handle limit
-  pub handled : Handled
-  pub answer : step.answer ≡ answers.Handled handled
-  pub idle : handled.end ≡ Idle
+  pub served : ServedAll step.call.call step.answer
 
 -- The handler runs and moves all that waits in the receiver: DATA_READY is enabled, which it is not while receiving is
 -- paused, and each character is told of, since the FIFO is off or the trigger level is One
@@ -168,10 +174,13 @@ pub record HasJournals (end : Side) (a : Link) (steps : List Step) : Type 0 wher
 
 -- ---- the handler, and RTS
 
--- after such a run of the handler, which is the last of these calls, no character waits in the receiver
+-- no character arrives at an end in these calls
+abbrev pub NoneArrives : Side → List Step → Type 0
+NoneArrives end steps = AllByRecursion (λ step. arrived_in end step ≡ 0) steps
+
+-- after such a run of the handler no character waits in the receiver, until the next one arrives
 abbrev pub EmptiesReceiver : Side → List Step → Link → Type 0
-EmptiesReceiver end steps b =
-    Comes (HandlesAll end) (λ others. others ≡ []) steps → (chip_at end b).receiver.queue ≡ []
+EmptiesReceiver end steps b = Comes (HandlesAll end) (NoneArrives end) steps → (chip_at end b).receiver.queue ≡ []
 
 -- an end lets the other one go on: in an `adjust_rts` after which the receive ring has as much room as both marks ask
 pub record TurnsRtsOn (end : Side) (step : Step) : Type 0 where

@@ -1,5 +1,5 @@
 -- That `handle` and `retrigger` lose no edge of the interrupt line.
-use Rattle.std.proofs.Common.{◌≡◌, ◌⊎◌, ℕ, Bool, true, false, List, [], ◌∷◌, ◌++◌, inl, inr, refl, sym, ◌∙◌, ap, subst, bit_or}
+use Rattle.std.proofs.Common.{◌≡◌, ◌⊎◌, ◌<◌, arith, ℕ, Bool, true, false, List, [], ◌∷◌, ◌++◌, inl, inr, refl, sym, ◌∙◌, ap, subst, bit_or}
 use Rattle.std.proofs.Common.{Option, Some, None, Result, Ok, Err, MatchBool, suc, nat_lt}
 use Rattle.std.specs.Prelude.{is_some, MatchOption}
 use lib.Bits.{and_zero_r}
@@ -7,7 +7,8 @@ use Rattle.std.proofs.lemmas.Bool.{false≢true}
 use Rattle.uart_spec.specs.Access.{Path}
 use Rattle.uart_spec.specs.declared.access.Access.{Access}
 use Rattle.uart_spec.specs.declared.access.Access.TheVariants.{Read, Write}
-use Rattle.uart_spec.specs.Bits.{has, flag}
+use Rattle.uart_spec.specs.Bits.{has, flag, IsOnlyIfAny}
+use Rattle.uart_spec.specs.Fields.{Identifies}
 use Rattle.uart_spec.specs.declared.registers.interrupt_status.TheConstants.ISR
 use Rattle.uart_spec.specs.declared.registers.interrupt_type.InterruptType.{InterruptType}
 use Rattle.uart_spec.specs.declared.registers.interrupt_type.InterruptType.TheVariants as interrupts
@@ -20,7 +21,8 @@ use Rattle.uart_ring.specs.Ring.{RingDoing, RingDid, RingFields, RingNext, RingT
 use Rattle.uart_ring.specs.Storm.{every_bit, TurnsOff, LooksOnceMore, CountsUnfinished, CountsRound, HandlesRound, StaysStuck}
 use Rattle.uart_ring.specs.Storm.{TriesToHandle, unless_stuck}
 use Rattle.uart_ring.specs.declared.ring.storm.StuckError.{StuckError}
-use Rattle.uart_ring.specs.Service.{ServesOne, Stops}
+use Rattle.uart_ring.specs.Service.{ServesOne, Stops, IsWithin, Services}
+use Rattle.uart_ring.specs.declared.ring.service.TheConstants.{MAX_INTERRUPTS}
 use Rattle.uart_ring.specs.Handle.{Retriggers, RetriggersUnlessIdle, Handles}
 use Rattle.uart_ring_runs.specs.Edges.{is_line_up, IsDownDuring, RisesDuring, LosesNoEdge, RisesInCalls}
 use Rattle.uart_ring.specs.declared.ring.service.HandleEnd.{HandleEnd}
@@ -137,6 +139,55 @@ idle_list : (f : RingFields) (l : List Access) (after : RingFields) → Ends Idl
 idle_list f l after t =
     let shown = t.first.0 in
     (shown.0, shown.2, rw (shown.3.0.is, t.second.0) at t.whole)
+
+-- ISR of the chip names each interrupt that is pending
+named : (i : InterruptType) (fifo : Bool) → Identifies (bit_or (identification (Some i)) (flag fifo ISR.FIFOS_ENABLED.0)) i
+named interrupts.ReceiverLineStatus true = (refl, refl)
+named interrupts.ReceiverLineStatus false = (refl, refl)
+named interrupts.ReceivedDataReady true = (refl, refl)
+named interrupts.ReceivedDataReady false = (refl, refl)
+named interrupts.ReceptionTimeout true = (refl, refl)
+named interrupts.ReceptionTimeout false = (refl, refl)
+named interrupts.TransmitterHoldingRegisterEmpty true = (refl, refl)
+named interrupts.TransmitterHoldingRegisterEmpty false = (refl, refl)
+named interrupts.ModemStatus true = (refl, refl)
+named interrupts.ModemStatus false = (refl, refl)
+named interrupts.DmaReceptionEndOfTransfer true = (refl, refl)
+named interrupts.DmaReceptionEndOfTransfer false = (refl, refl)
+named interrupts.DmaTransmissionEndOfTransfer true = (refl, refl)
+named interrupts.DmaTransmissionEndOfTransfer false = (refl, refl)
+
+-- so it never shows one without a name
+none_unknown : (isr : ℕ) (m n : MachineState) → IsOnlyIfAny (Identifies isr) None → has isr ISR.INTERRUPT_STATUS.0 ≡ false →
+    MachineStep m (Read offsets.ISR isr) n → ⊥
+none_unknown isr m n none bit s = by (interrupt c) c.fifo (rw s.1 at none) (rw s.1 at bit)
+  where
+    c : ChipState
+    c = (at_access m).chip
+
+    by : (i : Option InterruptType) (fifo : Bool) →
+        IsOnlyIfAny (Identifies (bit_or (identification i) (flag fifo ISR.FIFOS_ENABLED.0))) None →
+        has (bit_or (identification i) (flag fifo ISR.FIFOS_ENABLED.0)) ISR.INTERRUPT_STATUS.0 ≡ false → ⊥
+    by None true none bit = cc (bit)
+    by None false none bit = cc (bit)
+    by (Some i) fifo none bit = let e = (none i).1 (named i fifo) in cc (e)
+
+-- after a `service` of fewer interrupts than it serves at most the line is low
+pub serviced_down : (count : ℕ) (f : RingFields) (l : List Access) (after : RingFields) → Services count f l after →
+    count < MAX_INTERRUPTS → (m n : MachineState) → Path MachineStep m l n → is_line_up n ≡ false
+serviced_down count f l after (end, (within, t)) few m n path =
+    let P : List Access → Type 0 = λ k. Path MachineStep m k n in
+    down_last t.front t.back m n (subst P t.whole path) (λ o p. by end within t.second o p)
+  where
+    by : (end : HandleEnd) → IsWithin MAX_INTERRUPTS count end → Stops end t.mid t.back after → (o : MachineState) →
+        Path MachineStep o t.back n → is_line_up n ≡ false
+    by Idle within h o p =
+        let s = h.0 in
+        let q = subst (λ k. Path MachineStep o k n) s.3.0.is p in ap is_line_up q.2 ∙ idle_read s.0 o q.0 s.2 q.1
+    by Unknown within h o p =
+        let s = h.0 in
+        let q = subst (λ k. Path MachineStep o k n) s.3.0.is p in absurd (none_unknown s.0 o q.0 s.1 s.2 q.1)
+    by Limit within h o p = absurd (omega (arith, within, few))
 
 -- after a `handle` that ended so the line is low
 pub handled_down : (limit : ℕ) (handled : Handled) (f : RingFields) (l : List Access) (after : RingFields) →
