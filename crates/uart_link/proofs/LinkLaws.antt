@@ -37,7 +37,7 @@ use Rattle.uart_link.proofs.EndPasses.{InEnd, EndPasses}
 use Rattle.uart_link.proofs.Flows.{drops_nothing}
 use Rattle.uart_link.proofs.LinkSteps.{Brings, LinkPasses, link_chain, joined_after}
 use Rattle.uart_link.proofs.LinkTold.{tells_drops}
-use Rattle.uart_link.proofs.Rounds.{progresses, empties_receiver, keeps_rts_on}
+use Rattle.uart_link.proofs.Rounds.{progresses, empties_receiver, keeps_rts_on, all_leave_armed}
 use Rattle.uart_link.proofs.Wholes.{delivers, carries_all}
 
 -- ---- characters that have not arrived are not dropped
@@ -215,6 +215,7 @@ link_conserves a b steps sound_left sound_right wired_left wired_right joined re
           (λ part u within none. carries_all end a u part (sound_there end) none (all part u within end));
       handled = λ end. empties_receiver x y end steps a b w v joined chain;
       rts = λ end. keeps_rts_on x y end steps a b w v joined chain;
+      armed = λ end. all_leave_armed x y end steps a b (record { left = w; right = v; joined = joined }) chain;
       ready = record { left = ready_after x b.left p.in_left; right = ready_after y b.right p.in_right };
       joined = joined_after x y _ _ _ _ a b p;
     }

@@ -31,12 +31,13 @@ use Rattle.uart_link.specs.Flow.{DropsNothing, CarriesAll, hold_of}
 use Rattle.uart_link.specs.Link.{at_end, other, Step, EndStep, LinkChain, LinkCallStep}
 use Rattle.uart_link.specs.Progress.{Progresses, PassTime, BringAll, HandlesAll, TakesAll, Begin, Comes, HasRounds, arrives_in, in_calls_at}
 use Rattle.uart_link.specs.Progress.{enough_ticks, chip_at, transmitter_at, NoneAdjusts, KeepsRtsOn, NoneArrives, EmptiesReceiver, SendsOn}
+use Rattle.uart_link.specs.Progress.{LeavesArmed, AllLeaveArmed}
 use Rattle.uart_link.specs.Told.{NoLineAt}
 use Rattle.uart_link.proofs.EndFlows.{sent_of, waits, EndKept, KeepsMcr, end_moves, adjusts_on, rts_on}
 use Rattle.uart_link.proofs.EndPasses.{InEnd, EndPasses}
 use Rattle.uart_link.proofs.LinkSteps.{Brings, LinkPasses, link_chain, joined_after}
 use Rattle.uart_link.proofs.Resumes.{IsThrEmpty}
-use Rattle.uart_link.proofs.SendsOn.{resumed, handled_on}
+use Rattle.uart_link.proofs.SendsOn.{resumed, handled_on, leaves_armed}
 use Rattle.uart_link.proofs.Stretches.{Going, going_after, in_end, does_at, time_passes, all_arrives, same_rooms}
 use Rattle.uart_link.proofs.Taking.{handled_all, taken_all}
 
@@ -736,3 +737,23 @@ empties_receiver x y end steps a b w v joined chain comes =
     nothing : (queue : List Character) → length queue ≤ 0 → queue ≡ []
     nothing [] h = refl
     nothing (x ∷ queue) h = absurd (omega (arith, h))
+
+-- ---- the interrupt of THR
+
+pub all_leave_armed : (x y : Modes) (end : Side) (steps : List Step) (a b : Link) → Going x y a → LinkChain a steps b →
+    AllLeaveArmed end steps
+all_leave_armed x y end [] a b g chain = tt
+all_leave_armed x y end (step ∷ steps) a b g chain =
+    let g' = subst (λ (o : Link). Going x y o) (sym chain.0) g in
+    let one : LinkChain step.before (step ∷ []) step.after = (refl, chain.1, refl) in (
+      first end step.call.side chain.1.0 (in_end x y end step.before g'),
+      all_leave_armed x y end steps step.after b (going_after x y (step ∷ []) step.before step.after g' one) chain.2,
+    )
+  where
+    first : (e side : Side) →
+        EndStep step.call.moments.items (at_end (other side) step.before) (at_end side step.before) step.call.call step.answer
+        (at_end side step.after) → (z : Modes) × InEnd z (at_end e step.before) → OfEnd e side (LeavesArmed e step)
+    first Left Left h w = λ unchecked armed. leaves_armed w.0 step.call.moments.items _ _ _ step.call.call step.answer w.1 h unchecked armed
+    first Right Right h w = λ unchecked armed. leaves_armed w.0 step.call.moments.items _ _ _ step.call.call step.answer w.1 h unchecked armed
+    first Left Right h w = tt
+    first Right Left h w = tt

@@ -1,6 +1,6 @@
 -- An end with an empty transmitter goes on to send: at least one byte leaves its rings.
-use Rattle.std.proofs.Common.{◌≡◌, inl, inr, ℕ, zero, suc, ◌≤◌, ◌+◌, ◌-◌, ◌<◌, ◌==◌, ◌&&◌, ◌||◌, not, Bool, true, false, List, [], ◌++◌}
-use Rattle.std.proofs.Common.{length, Option, Some, length-append, if◌then◌else◌, refl, sym, ◌∙◌, ap, subst, arith}
+use Rattle.std.proofs.Common.{◌≡◌, ◌⊎◌, inl, inr, ℕ, zero, suc, ◌≤◌, ◌+◌, ◌-◌, ◌<◌, ◌==◌, ◌&&◌, ◌||◌, not, Bool, true, false, List, []}
+use Rattle.std.proofs.Common.{◌++◌, length, Option, Some, length-append, if◌then◌else◌, refl, sym, ◌∙◌, ap, subst, arith}
 use Rattle.std.specs.Prelude.{is_some}
 use Rattle.std.proofs.lemmas.List.{length-map}
 use Rattle.uart_spec.specs.Bits.{has, has_any}
@@ -14,7 +14,7 @@ use Rattle.uart_16550.specs.Driver.{settings_of}
 use Rattle.uart_chip.proofs.Bits.{has_one}
 use Rattle.uart_chip.proofs.conservation.Went.{Modes, loopback-in, dlab-in}
 use Rattle.uart_chip.proofs.lasting.Lasting.{lasts-before_mark}
-use Rattle.uart_chip.specs.Chip.{ChipState, is_loopback, interrupt}
+use Rattle.uart_chip.specs.Chip.{ChipState, is_loopback, is_dlab_set, interrupt}
 use Rattle.uart_chip.specs.Machine.{MachineState, at_access, at_mark, arrivals}
 use Rattle.uart_ring.specs.Armed.{IsArmed}
 use Rattle.uart_ring.specs.Lossless.{data_written}
@@ -24,7 +24,7 @@ use Rattle.uart_ring_runs.proofs.RingBlocks.{resumes_make}
 use Rattle.uart_ring_runs.proofs.RingDue.{mark_holds}
 use Rattle.uart_ring_runs.proofs.RingRts.{modes_at}
 use Rattle.uart_ring_runs.specs.Edges.{is_line_up}
-use Rattle.uart_ring_runs.specs.RingArmed.{thr_empty_of, is_due, IsRingArmed}
+use Rattle.uart_ring_runs.specs.RingArmed.{thr_empty_of, is_due, IsRingArmed, RearmsRing}
 use Rattle.uart_ring_runs.specs.RingBytes.{to_send, queued_by, KeepsOrder}
 use Rattle.uart_ring_runs.specs.RingRun.{RingState, RingCallStep, ring_machine}
 use Rattle.uart_ring_runs.specs.declared.call.RingAnswer.{RingAnswer}
@@ -94,6 +94,18 @@ armed_settled : (m : MachineState) (f : RingFields) → IsArmed (thr_empty_of m)
 armed_settled m f (inl none) = inl none
 armed_settled m f (inr is) = let h = mark_holds (thr_empty_of m) m (λ e. e, λ e. e) in inr (h.0 is.0, h.1 is.1)
 
+-- rings that are armed are so once the moments of a call lie ahead
+armed_begins : (moments : List Moment) (there s t : RingState) (c : RingCall) (a : RingAnswer) → (h : EndStep moments there s c a t) →
+    IsRingArmed s → IsRingArmed h.begins
+armed_begins moments there s t c a h armed =
+    let old = ring_machine s in
+    let m = ring_machine h.begins in
+    let chip : m.chip ≡ (at_mark old).chip = ap (λ (o : MachineState). o.chip) h.arranges.machine in
+    let K : ChipState → Type 0 = λ d. IsArmed (thr_empty_of (record { chip = d; ahead = [] })) (ring_fields s) in
+    let first : IsArmed (thr_empty_of m) (ring_fields s) = subst K (sym chip) (armed_settled old (ring_fields s) armed) in
+    let F : RingFields → Type 0 = λ f. IsArmed (thr_empty_of m) f in
+    subst F (sym h.arranges.rings) first
+
 -- no interrupt is pending, and the one of THR is enabled and due: so something is in the queue
 some_queued : (c : ChipState) → is_some (interrupt c) ≡ false → has c.latches.ier IER.THR_EMPTY.0 ≡ true →
     is_due c.transmitter ≡ true → 0 < length c.transmitter.queue
@@ -146,10 +158,7 @@ handled_on x moments there s t c a w h served unchecked armed free some empty =
     let E : ChipState → Type 0 = λ o. IsThrEmpty o.transmitter in
     let thr : IsThrEmpty m.chip.transmitter =
     subst E (sym chip) (lasts-before_mark IsThrEmpty thr_empty_lasts.in_tick old.ahead old.chip empty) in
-    let K : ChipState → Type 0 = λ c. IsArmed (thr_empty_of (record { chip = c; ahead = [] })) (ring_fields s) in
-    let first : IsArmed (thr_empty_of m) (ring_fields s) = subst K (sym chip) (armed_settled old (ring_fields s) armed) in
-    let F : RingFields → Type 0 = λ f. IsArmed (thr_empty_of m) f in
-    let ready : IsRingArmed begins = subst F (sym same) first in
+    let ready = armed_begins moments there s t c a h armed in
     let off = dlab-in _ m.chip b.session.session.stands.modes ∙ b.session.session.open_modes.dlab in
     let checks = ap (λ (f : RingFields). f.driver.config.check_cts_before_sending) same ∙ unchecked in
     let after = call_leaves begins t c a checks off r.ring (inl ready) in
@@ -176,3 +185,32 @@ handled_on x moments there s t c a w h served unchecked armed free some empty =
         let e : length (to_send t) ≡ 0 = ap length (sym free ∙ done) in omega (arith, e, same, some)
     by before now written (inr is) down free all few some same =
         let q = some_queued (ring_machine t).chip down is.0 is.1 in omega (arith, q, few, all)
+
+-- ---- each call
+
+pub leaves_armed : (x : Modes) (moments : List Moment) (there s t : RingState) (c : RingCall) (a : RingAnswer) → InEnd x s →
+    EndStep moments there s c a t → (ring_fields s).driver.config.check_cts_before_sending ≡ false → IsRingArmed s ⊎ RearmsRing c a →
+    IsRingArmed t
+leaves_armed x moments there s t c a w h unchecked armed =
+    let b = end_begins x moments there s t c a w h in
+    let off = dlab-in _ (ring_machine h.begins).chip b.session.session.stands.modes ∙ b.session.session.open_modes.dlab in
+    let checks = ap (λ (f : RingFields). f.driver.config.check_cts_before_sending) h.arranges.rings ∙ unchecked in
+    by h.begins c a h.called checks off (either armed)
+  where
+    either : IsRingArmed s ⊎ RearmsRing c a → IsRingArmed h.begins ⊎ RearmsRing c a
+    either (inl p) = inl (armed_begins moments there s t c a h p)
+    either (inr q) = inr q
+
+    by : (begins : RingState) (c : RingCall) (a : RingAnswer) → CabledCallStep begins c a t →
+        (ring_fields begins).driver.config.check_cts_before_sending ≡ false → is_dlab_set (ring_machine begins).chip.latches ≡ false →
+        IsRingArmed begins ⊎ RearmsRing c a → IsRingArmed t
+    by begins call.Next a h checks off (inl p) =
+        let m = ring_machine begins in
+        let chip : (ring_machine t).chip ≡ (at_mark m).chip = ap (λ (o : MachineState). o.chip) h.passes.machine in
+        let K : ChipState → Type 0 = λ d. IsArmed (thr_empty_of (record { chip = d; ahead = [] })) (ring_fields begins) in
+        let first : IsArmed (thr_empty_of (ring_machine t)) (ring_fields begins) =
+        subst K (sym chip) (armed_settled m (ring_fields begins) p) in
+        let F : RingFields → Type 0 = λ f. IsArmed (thr_empty_of (ring_machine t)) f in
+        subst F (sym h.passes.rings) first
+    by begins call.Next a h checks off (inr q) = absurd (omega (arith, q))
+    by begins other a h checks off p = call_leaves begins t other a checks off h p

@@ -1,8 +1,9 @@
 -- What an end does to take all that has come: its handler runs until no interrupt is pending, and its program takes.
 use Rattle.std.proofs.Common.{◌≡◌, ◌⊎◌, inl, inr, ℕ, zero, suc, ◌<◌, ◌&&◌, Bool, true, false, nat_lt, List, [], ◌∷◌, Option, Some, None}
-use Rattle.std.proofs.Common.{MatchBool, length, take, if◌then◌else◌, refl, sym, ◌∙◌, ap, arith}
+use Rattle.std.proofs.Common.{MatchBool, length, take, if◌then◌else◌, refl, sym, ◌∙◌, ap, arith, ◌==◌}
 use Rattle.std.specs.Prelude.{is_some}
 use Rattle.std.proofs.lemmas.Grind.{common_steps}
+use Rattle.std.proofs.lemmas.Bool.Decides.{nat_tests}
 use Rattle.std.proofs.lemmas.List.{length-take, drop_all}
 use Rattle.uart_spec.specs.Bits.{has_any}
 use Rattle.uart_spec.specs.declared.access.Access.{Access}
@@ -10,9 +11,10 @@ use Rattle.uart_spec.specs.declared.registers.fifo_trigger_level.FifoTriggerLeve
 use Rattle.uart_spec.specs.declared.registers.interrupt_enable.TheConstants.IER
 use Rattle.uart_spec.specs.declared.registers.interrupt_type.InterruptType.{InterruptType}
 use Rattle.uart_spec.specs.declared.registers.interrupt_type.InterruptType.TheVariants.{ReceiverLineStatus, ReceivedDataReady}
+use Rattle.uart_spec.specs.declared.registers.interrupt_type.InterruptType.TheVariants.{ReceptionTimeout}
 use Rattle.uart_16550.specs.Status.{Enables}
 use Rattle.uart_chip.specs.Chip.{ChipState, interrupt}
-use Rattle.uart_chip.specs.Receiver.{ReceiverState, is_data_pending}
+use Rattle.uart_chip.specs.Receiver.{ReceiverState, is_timed_out, is_data_pending}
 use Rattle.uart_chip.specs.declared.receiver.Character.{Character}
 use Rattle.uart_ring.specs.Receive.{EndsPause}
 use Rattle.uart_ring.specs.Ring.{RingFields, ring_fields, IfAny, OnDriver, Stays, with_paused, without_taken}
@@ -28,14 +30,17 @@ use Rattle.uart_ring_runs.specs.declared.call.RingCall.TheVariants as call
 use Rattle.uart_link.specs.declared.call.Moment.{Moment}
 use Rattle.uart_link.specs.Carried.{receiver_at}
 use Rattle.uart_link.specs.Link.{EndStep}
-use Rattle.uart_link.specs.Progress.{ServedAll}
+use Rattle.uart_link.specs.Progress.{ServedAll, IsEachTold}
 
 -- ---- the handler
 
-none_pending : (fifo : Bool) (r : ReceiverState) → is_data_pending fifo r ≡ false → (fifo ≡ false) ⊎ (r.trigger ≡ One) →
-    r.queue ≡ []
-none_pending fifo r e told = go fifo refl told
+none_pending : (c : ChipState) → is_data_pending c.fifo c.receiver ≡ false → is_timed_out c.fifo c.receiver ≡ false → IsEachTold c →
+    c.receiver.queue ≡ []
+none_pending c e f told = go c.fifo refl told
   where
+    r : ReceiverState
+    r = c.receiver
+
     empty : nat_lt 0 (length r.queue) ≡ false → r.queue ≡ []
     empty h = by r.queue refl
       where
@@ -43,24 +48,37 @@ none_pending fifo r e told = go fifo refl told
         by [] q = refl
         by (x ∷ xs) q = let k : length r.queue ≡ suc (length xs) = ap length q in absurd (grind (arith, common_steps))
 
-    go : (b : Bool) → fifo ≡ b → (b ≡ false) ⊎ (r.trigger ≡ One) → r.queue ≡ []
-    go false f told = empty (rw f at e)
-    go true f (inl off) = absurd (cc)
-    go true f (inr one) = empty (rw (f, one) at e)
+    go : (b : Bool) → c.fifo ≡ b → (b ≡ false) ⊎ (r.trigger ≡ One) ⊎ (r.timeout_ticks ≡ r.timeout_limit) → r.queue ≡ []
+    go false g told = empty (rw g at e)
+    go true g (inl off) = absurd (cc)
+    go true g (inr (inl one)) = empty (rw (g, one) at e)
+    go true g (inr (inr due)) =
+        let same : (r.timeout_ticks == r.timeout_limit) ≡ true = grind (arith, nat_tests) in
+        let h : (nat_lt 0 (length r.queue) && true) ≡ false = rw (g, same) at f in empty (and_true (nat_lt 0 (length r.queue)) h)
+      where
+        and_true : (b : Bool) → (b && true) ≡ false → b ≡ false
+        and_true true h = h
+        and_true false h = refl
 
 -- no interrupt is pending, and DATA_READY is enabled
-none_received : (c : ChipState) → interrupt c ≡ None → has_any c.latches.ier IER.DATA_READY.0 ≡ true →
-    is_data_pending c.fifo c.receiver ≡ false
+record NoneReceived (c : ChipState) : Type 0 where
+  pub at_level : is_data_pending c.fifo c.receiver ≡ false
+  pub timeout : is_timed_out c.fifo c.receiver ≡ false
+
+none_received : (c : ChipState) → interrupt c ≡ None → has_any c.latches.ier IER.DATA_READY.0 ≡ true → NoneReceived c
 none_received c none enabled =
-    let pending : Bool = is_data_pending c.fifo c.receiver in
-    let both : (has_any c.latches.ier IER.DATA_READY.0 && pending) ≡ false = second _ _ _ none in
-    ap (λ b. b && pending) (sym enabled) ∙ both
+    let both = second _ _ _ _ none in record {
+      at_level = ap (λ b. b && is_data_pending c.fifo c.receiver) (sym enabled) ∙ both.0;
+      timeout = ap (λ b. b && is_timed_out c.fifo c.receiver) (sym enabled) ∙ both.1;
+    }
   where
-    second : (a b : Bool) (others : Option InterruptType) →
-        (if a then Some ReceiverLineStatus else if b then Some ReceivedDataReady else others) ≡ None → b ≡ false
-    second true b others e = absurd (cc)
-    second false true others e = absurd (cc)
-    second false false others e = refl
+    second : (a b d : Bool) (others : Option InterruptType) →
+        (if a then Some ReceiverLineStatus else if b then Some ReceivedDataReady else if d then Some ReceptionTimeout else others) ≡ None →
+        (b ≡ false) × (d ≡ false)
+    second true b d others e = absurd (cc)
+    second false true d others e = absurd (cc)
+    second false false true others e = absurd (cc)
+    second false false false others e = (refl, refl)
 
 -- then the line is low
 pub served_down : (moments : List Moment) (there s t : RingState) (c : RingCall) (a : RingAnswer) → EndStep moments there s c a t →
@@ -87,11 +105,11 @@ served_down moments there s t other a h served = absurd served
 
 pub handled_all : (moments : List Moment) (there s t : RingState) (c : RingCall) (a : RingAnswer) → EndStep moments there s c a t →
     ServedAll c a → has_any (ring_machine t).chip.latches.ier IER.DATA_READY.0 ≡ true →
-    ((ring_machine t).chip.fifo ≡ false) ⊎ ((receiver_at t).trigger ≡ One) → (receiver_at t).queue ≡ []
+    IsEachTold (ring_machine t).chip → (receiver_at t).queue ≡ []
 handled_all moments there s t call a h served enabled told =
     let c = (ring_machine t).chip in
     let down = served_down moments there s t call a h served in
-    none_pending c.fifo c.receiver (none_received c (is_none (interrupt c) down) enabled) told
+    let none = none_received c (is_none (interrupt c) down) enabled in none_pending c none.at_level none.timeout told
   where
     is_none : (i : Option InterruptType) → is_some i ≡ false → i ≡ None
     is_none None e = refl

@@ -14,7 +14,7 @@ use Rattle.uart_ring.specs.Ring.{ring_fields, sendable, waiting}
 use Rattle.uart_ring.specs.declared.ring.receive.ReceiveMarks.{ReceiveMarks}
 use Rattle.uart_ring.specs.declared.ring.service.HandleEnd.TheVariants.{Idle}
 use Rattle.uart_ring.specs.declared.ring.service.TheConstants.{MAX_INTERRUPTS}
-use Rattle.uart_ring_runs.specs.RingArmed.{IsRingArmed}
+use Rattle.uart_ring_runs.specs.RingArmed.{IsRingArmed, RearmsRing}
 use Rattle.uart_ring_runs.specs.RingBytes.{to_send}
 use Rattle.uart_ring_runs.specs.RingRun.{RingState, ring_machine, taken_answer}
 use Rattle.uart_ring_runs.specs.declared.call.RingAnswer.{RingAnswer}
@@ -100,12 +100,18 @@ pub record HandlerRuns (end : Side) (step : Step) : Type 0 where
   pub side : step.call.side ≡ end
   pub served : ServedAll step.call.call step.answer
 
--- The handler runs and moves all that waits in the receiver: DATA_READY is enabled, which it is not while receiving is
--- paused, and each character is told of, since the FIFO is off or the trigger level is One
+-- A chip whose DATA_READY is enabled tells of each character that waits: the FIFO is off, or the trigger level is One,
+-- or a reception timeout is due if any waits, since none has come or was read for four character times
+abbrev pub IsEachTold : ChipState → Type 0
+IsEachTold c =
+    (c.fifo ≡ false) ⊎ (c.receiver.trigger ≡ One) ⊎ (c.receiver.timeout_ticks ≡ c.receiver.timeout_limit)
+
+-- The handler runs and moves all that waits in the receiver: each character is told of, and DATA_READY is enabled,
+-- which it is not while receiving is paused
 pub record HandlesAll (end : Side) (step : Step) : Type 0 where
   pub runs : HandlerRuns end step
   pub enabled : has_any (chip_at end step.after).latches.ier IER.DATA_READY.0 ≡ true
-  pub told : ((chip_at end step.after).fifo ≡ false) ⊎ ((chip_at end step.after).receiver.trigger ≡ One)
+  pub told : IsEachTold (chip_at end step.after)
 
 -- The program of an end takes all that is in the receive ring: it has more slots than bytes come
 pub record TakesAll (end : Side) (step : Step) : Type 0 where
@@ -172,7 +178,7 @@ pub record HasJournals (end : Side) (a : Link) (steps : List Step) : Type 0 wher
       length (out (ring_machine (at_end end a))) + (length (to_send (at_end end a)) + length (queued_at end steps)) ≤
       length (chip_at (other end) a).receiver.marks
 
--- ---- the handler, and RTS
+-- ---- the handler, RTS, and the interrupt of THR
 
 -- no character arrives at an end in these calls
 abbrev pub NoneArrives : Side → List Step → Type 0
@@ -198,6 +204,16 @@ NoneAdjusts end (step ∷ steps) = OfEnd end step.call.side (hold_of step.call.c
 -- RTS stays on that was turned on, until the end adjusts it again
 abbrev pub KeepsRtsOn : Side → List Step → Link → Type 0
 KeepsRtsOn end steps b = Comes (TurnsRtsOn end) (NoneAdjusts end) steps → IsRtsOn end b
+
+-- a call of an end whose driver does not check CTS leaves its rings armed, if it finds them so or arms them; each call
+-- does
+abbrev pub LeavesArmed : Side → Step → Type 0
+LeavesArmed end step =
+    (ring_fields (at_end end step.before)).driver.config.check_cts_before_sending ≡ false →
+    IsRingArmed (at_end end step.before) ⊎ RearmsRing step.call.call step.answer → IsRingArmed (at_end end step.after)
+
+abbrev pub AllLeaveArmed : Side → List Step → Type 0
+AllLeaveArmed end steps = AllByRecursion (λ step. OfEnd end step.call.side (LeavesArmed end step)) steps
 
 -- ---- what follows
 
