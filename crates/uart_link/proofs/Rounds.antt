@@ -753,7 +753,9 @@ all_leave_armed x y end (step ∷ steps) a b g chain =
     first : (e side : Side) →
         EndStep step.call.moments.items (at_end (other side) step.before) (at_end side step.before) step.call.call step.answer
         (at_end side step.after) → (z : Modes) × InEnd z (at_end e step.before) → OfEnd e side (LeavesArmed e step)
-    first Left Left h w = λ unchecked armed. leaves_armed w.0 step.call.moments.items _ _ _ step.call.call step.answer w.1 h unchecked armed
-    first Right Right h w = λ unchecked armed. leaves_armed w.0 step.call.moments.items _ _ _ step.call.call step.answer w.1 h unchecked armed
+    first Left Left h w = λ unchecked armed.
+        leaves_armed w.0 step.call.moments.items _ _ _ step.call.call step.answer w.1 h unchecked armed
+    first Right Right h w = λ unchecked armed.
+        leaves_armed w.0 step.call.moments.items _ _ _ step.call.call step.answer w.1 h unchecked armed
     first Left Right h w = tt
     first Right Left h w = tt
