@@ -9,30 +9,31 @@ use Rattle.uart_judges.specs.declared.audit.action.Action.TheVariants.{ShowsInte
 use Rattle.uart_judges.specs.declared.audit.action.Action.TheVariants.{ControlsFifo, ReadsLine, SetsLine, ReadsModem}
 use Rattle.uart_judges.specs.declared.audit.action.Action.TheVariants.{SetsModem, LooksAtLine, LooksAtModem}
 use Rattle.uart_judges.specs.declared.audit.action.Action.TheVariants.{Arrives, ChangesLines, Other}
+use Rattle.uart_judges.specs.declared.audit.action.Action.TheVariants.{MayReceive, MaySend, MayEnable}
 use Rattle.uart_judges.specs.declared.recording.entry.Happening.{Happening}
 use Rattle.uart_judges.specs.declared.recording.entry.Happening.TheVariants.{Access, Arrive, Interrupt, Lines}
 
--- a read of offset 0: of the divisor while the latch is open, and else of DATA; if that is not known, of neither
+-- a read of offset 0: of the divisor while the latch is open, else of DATA; if that is not known, it may take a byte
 abbrev pub data_read : (is_open : Option Bool) (answer : ℕ) → Action
-data_read None answer = Other
+data_read None answer = MayReceive
 data_read (Some true) answer = ReadsDivisor
 data_read (Some false) answer = Receives answer
 
--- a read of offset 1: of the divisor, or of IER
+-- a read of offset 1: of the divisor, or of IER; if that is not known, it shows neither
 abbrev pub ier_read : (is_open : Option Bool) (answer : ℕ) → Action
 ier_read None answer = Other
 ier_read (Some true) answer = ReadsDivisor
 ier_read (Some false) answer = ShowsInterrupts (record { 0 = answer })
 
--- a write of offset 0: to the low byte of the divisor, or to DATA
+-- a write of offset 0: to the low byte of the divisor, or to DATA; if that is not known, it may send a byte
 abbrev pub data_written : (is_open : Option Bool) (value : ℕ) → Action
-data_written None value = Other
+data_written None value = MaySend
 data_written (Some true) value = SetsDivisorLow value
 data_written (Some false) value = Sends value
 
--- a write of offset 1: to the high byte of the divisor, or to IER
+-- a write of offset 1: to the high byte of the divisor, or to IER; if that is not known, it may disable interrupts
 abbrev pub ier_written : (is_open : Option Bool) (value : ℕ) → Action
-ier_written None value = Other
+ier_written None value = MayEnable
 ier_written (Some true) value = SetsDivisorHigh value
 ier_written (Some false) value = EnablesInterrupts (record { 0 = value })
 

@@ -167,16 +167,14 @@ from_nothing again _ _ = when again found.ReceivedWithoutLook
 abbrev pub taken_from_nothing : Auditor → Option Finding
 taken_from_nothing a = if a.is_at_work then from_nothing a.has_taken a.ready a.data_interrupt else None
 
--- a byte waits whose errors are not recorded, and errors were not looked at since the read before
-abbrev pub with_errors : Option Arrived → Bool → Option Finding
-with_errors (Some oldest) again = None
-with_errors None again = when again found.ErrorsNotRead
+-- the recording has the byte that waits, with its errors. Else none is known to wait; or errors were not looked at
+-- since the read before
+abbrev pub taken_from : Option Arrived → Auditor → Option Finding
+taken_from (Some oldest) a = None
+taken_from None a = if a.waiting == 0 then taken_from_nothing a else when a.has_taken found.ErrorsNotRead
 
 abbrev pub taken : Auditor → Step → Option Finding
-taken a s =
-    if not (receives s.action) then None
-    else if a.waiting == 0 then taken_from_nothing a
-    else with_errors (front a.unread) a.has_taken
+taken a s = if not (receives s.action) then None else taken_from (front a.unread) a
 
 -- ---- a character that arrived
 

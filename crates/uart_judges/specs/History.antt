@@ -21,16 +21,17 @@ use Rattle.uart_spec.specs.declared.registers.modem_status.TheConstants.MSR as m
 use Rattle.uart_judges.specs.Actions.{action}
 use Rattle.uart_judges.specs.Setups.{next_setup, unknown_setup}
 use Rattle.uart_judges.specs.Shows.{begins_divisor, configures, controls_fifo, identified, identified_by}
-use Rattle.uart_judges.specs.Shows.{identifies_thr_empty, is_thr_empty, looks_at_line, opens, receives, sends}
+use Rattle.uart_judges.specs.Shows.{identifies_thr_empty, is_thr_empty, looks_at_line, may_send, opens, receives, sends}
 use Rattle.uart_judges.specs.Shows.{sets_high}
 use Rattle.uart_judges.specs.Shows.{sets_low, sets_modem, shows_none, shows_thr_empty}
-use Rattle.uart_judges.specs.Steps.{depth, has_rested, looks_for_errors, loops, loops_back, may_empty, serves}
+use Rattle.uart_judges.specs.Steps.{has_rested, is_on_line, least_depth, looks_for_errors, loops, loops_back, may_empty}
+use Rattle.uart_judges.specs.Steps.{serves}
 use Rattle.uart_judges.specs.Steps.{shows_cts}
 use Rattle.uart_judges.specs.Steps.{shows_idle, shows_room, signals}
 use Rattle.uart_judges.specs.Unread.{front, next_unread, unknown}
 use Rattle.uart_judges.specs.declared.audit.action.Action.{Action}
 use Rattle.uart_judges.specs.declared.audit.action.Action.TheVariants.{Arrives, ChangesLines, ControlsFifo, Receives}
-use Rattle.uart_judges.specs.declared.audit.action.Action.TheVariants.{Sends}
+use Rattle.uart_judges.specs.declared.audit.action.Action.TheVariants.{Sends, MayReceive, MaySend}
 use Rattle.uart_judges.specs.declared.audit.action.Action.TheVariants.{EnablesInterrupts, IdentifiesInterrupt}
 use Rattle.uart_judges.specs.declared.audit.action.Action.TheVariants.{LooksAtLine, LooksAtModem, ReadsLine, SetsLine}
 use Rattle.uart_judges.specs.declared.audit.auditor.Auditor.{Auditor}
@@ -96,13 +97,13 @@ sent past = count shows_room (λ s. sends s.action) past
 abbrev pub going_out : List Step → ℕ
 going_out past = count shows_idle (λ s. sends s.action) past
 
--- THR was shown to be empty, and nothing was sent since
+-- THR was shown to be empty, and nothing was sent since, for certain
 abbrev pub thr_empty : List Step → Bool
-thr_empty past = since (λ s. sends s.action) (λ s. shows_thr_empty s.action) past
+thr_empty past = since (λ s. may_send s.action) (λ s. shows_thr_empty s.action) past
 
--- ISR identified an empty transmitter, and nothing was sent since
+-- ISR identified an empty transmitter, and nothing was sent since, for certain
 abbrev pub acknowledged : List Step → Bool
-acknowledged past = since (λ s. sends s.action) (λ s. identifies_thr_empty s.action) past
+acknowledged past = since (λ s. may_send s.action) (λ s. identifies_thr_empty s.action) past
 
 -- IER enables the interrupt of an empty transmitter, which was off
 abbrev pub was_off : Option IER → Bool
@@ -136,6 +137,7 @@ thr_due (s ∷ past) = next_thr_due (thr_due past) (thr_empty past) s
 abbrev pub cts_after : Option Bool → Action → Option Bool
 cts_after before (LooksAtModem msr) = Some (has msr.0 msr_bits.CTS.0)
 cts_after before (Sends byte) = None
+cts_after before MaySend = None
 cts_after before _ = before
 
 abbrev pub next_cts : Option Bool → Step → Option Bool
@@ -162,15 +164,18 @@ shown_by (Some ReceivedDataReady) level = level
 shown_by (Some ReceptionTimeout) level = 1
 shown_by _ level = 0
 
+-- an arrival is one more that waits, up to what certainly fits, where loopback is known to be off
 abbrev pub waiting_after_arrival : ℕ → Setup → ℕ
-waiting_after_arrival n s = if loops_back s.modem then n else min (n + 1) (depth s.has_fifo)
+waiting_after_arrival n s = if is_on_line s.modem then min (n + 1) (least_depth s.has_fifo) else n
 
--- at least so many received bytes wait: what LSR, ISR and arrivals showed, less what was read or reset
+-- at least so many received bytes wait: what LSR, ISR and arrivals showed for certain, less what was read or reset, or
+-- may have been
 abbrev pub waiting_after : ℕ → Step → Action → ℕ
 waiting_after n s (LooksAtLine lsr) = if has lsr.0 lsr_bits.DATA_READY.0 then max n 1 else 0
 waiting_after n s (IdentifiesInterrupt isr) =
     max n (shown_by (identified isr) (level s.setup.has_fifo s.setup.trigger))
 waiting_after n s (Receives byte) = n - 1
+waiting_after n s MayReceive = n - 1
 waiting_after n s (Arrives byte errors) = waiting_after_arrival n s.setup
 waiting_after n s (ControlsFifo fcr) = if may_empty fcr_bits.RX_FIFO_RESET.0 s then 0 else n
 waiting_after n s _ = n
@@ -251,6 +256,7 @@ of_data _ = None
 abbrev pub data_interrupt_after : Option InterruptType → Action → Option InterruptType
 data_interrupt_after before (IdentifiesInterrupt isr) = of_data (identified isr)
 data_interrupt_after before (Receives byte) = None
+data_interrupt_after before MayReceive = None
 data_interrupt_after before (LooksAtLine lsr) = None
 data_interrupt_after before (ControlsFifo fcr) = None
 data_interrupt_after before (EnablesInterrupts ier) = None
@@ -439,8 +445,8 @@ next a s = record {
   sent_at = next_sent_at a.sent_at s;
   sent = next_count a.sent (shows_room s) (sends s.action);
   going_out = next_count a.going_out (shows_idle s) (sends s.action);
-  is_thr_empty = next_since a.is_thr_empty (sends s.action) (shows_thr_empty s.action);
-  is_acknowledged = next_since a.is_acknowledged (sends s.action) (identifies_thr_empty s.action);
+  is_thr_empty = next_since a.is_thr_empty (may_send s.action) (shows_thr_empty s.action);
+  is_acknowledged = next_since a.is_acknowledged (may_send s.action) (identifies_thr_empty s.action);
   is_thr_due = next_thr_due a.is_thr_due a.is_thr_empty s;
   waiting = next_waiting a.waiting s;
   ready = next_ready a.ready s;

@@ -32,6 +32,7 @@ use Rattle.uart_judges.specs.declared.audit.action.Action.TheVariants.{SetsDivis
 use Rattle.uart_judges.specs.declared.audit.action.Action.TheVariants.{ShowsInterrupts, IdentifiesInterrupt}
 use Rattle.uart_judges.specs.declared.audit.action.Action.TheVariants.{ControlsFifo, ReadsLine, SetsLine, ReadsModem}
 use Rattle.uart_judges.specs.declared.audit.action.Action.TheVariants.{SetsModem, LooksAtLine, LooksAtModem, Arrives}
+use Rattle.uart_judges.specs.declared.audit.action.Action.TheVariants.{MayReceive, MaySend, MayEnable}
 
 -- the interrupt that a value of ISR identifies, if one is pending
 abbrev pub identified : ISR → Option InterruptType
@@ -58,6 +59,16 @@ sends _ = false
 abbrev pub receives : Action → Bool
 receives (Receives byte) = true
 receives _ = false
+
+-- a byte is given to the transmitter, or may be: it is not known whether offset 0 is DATA
+abbrev pub may_send : Action → Bool
+may_send MaySend = true
+may_send x = sends x
+
+-- a byte is taken from the receiver, or may be
+abbrev pub may_receive : Action → Bool
+may_receive MayReceive = true
+may_receive x = receives x
 
 -- LSR is read
 abbrev pub looks_at_line : Action → Bool
@@ -175,10 +186,11 @@ interrupts_of (EnablesInterrupts ier) = Some ier
 interrupts_of (ShowsInterrupts ier) = Some ier
 interrupts_of _ = None
 
--- a write of IER without this bit
-abbrev pub disables : ℕ → Action → Bool
-disables bit (EnablesInterrupts ier) = not (has ier.0 bit)
-disables bit _ = false
+-- a write of IER without this bit, or one that may be: it is not known whether offset 1 is IER
+abbrev pub may_disable : ℕ → Action → Bool
+may_disable bit (EnablesInterrupts ier) = not (has ier.0 bit)
+may_disable bit MayEnable = true
+may_disable bit _ = false
 
 -- the trigger level that is set
 abbrev pub trigger_of : Action → Option FifoTriggerLevel

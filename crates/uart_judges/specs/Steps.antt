@@ -18,8 +18,8 @@ use Rattle.uart_spec.specs.declared.registers.interrupt_type.InterruptType.TheVa
 use Rattle.uart_spec.specs.declared.registers.modem_control.MCR.{MCR}
 use Rattle.uart_spec.specs.declared.registers.modem_control.TheConstants.MCR as mcr_bits
 use Rattle.uart_spec.specs.declared.registers.modem_status.TheConstants.MSR as msr_bits
-use Rattle.uart_judges.specs.Shows.{arrives, controls_fifo, disables, identified_by, looks_at_line, looks_at_modem}
-use Rattle.uart_judges.specs.Shows.{receives, sends, shows_thr_empty}
+use Rattle.uart_judges.specs.Shows.{arrives, controls_fifo, identified_by, looks_at_line, looks_at_modem, may_disable}
+use Rattle.uart_judges.specs.Shows.{may_receive, sends, shows_thr_empty}
 use Rattle.uart_judges.specs.Shows as action
 use Rattle.uart_judges.specs.declared.audit.action.Action.{Action}
 use Rattle.uart_judges.specs.declared.audit.action.Action.TheVariants.{Arrives, ControlsFifo, IdentifiesInterrupt}
@@ -47,16 +47,27 @@ has_rested bytes sent None now = false
 
 -- ---- the set-up
 
--- how many bytes fit into an empty transmitter, or receiver
+-- how many bytes fit into an empty transmitter, at most
 abbrev pub depth : Option Bool → ℕ
 depth None = FIFO_SIZE
 depth (Some true) = FIFO_SIZE
 depth (Some false) = 1
 
+-- how many bytes fit into an empty receiver, at least
+abbrev pub least_depth : Option Bool → ℕ
+least_depth None = 1
+least_depth (Some true) = FIFO_SIZE
+least_depth (Some false) = 1
+
 -- a value of MCR was seen, and has loopback on
 abbrev pub loops_back : Option MCR → Bool
 loops_back (Some mcr) = has mcr.0 mcr_bits.LOOP_BACK.0
 loops_back None = false
+
+-- a value of MCR was seen, and has loopback off: what arrives is received
+abbrev pub is_on_line : Option MCR → Bool
+is_on_line (Some mcr) = not (has mcr.0 mcr_bits.LOOP_BACK.0)
+is_on_line None = false
 
 -- a value of IER was seen, and has this bit
 abbrev pub enables : ℕ → Option IER → Bool
@@ -133,16 +144,17 @@ is_line_up s = is_up s.level
 abbrev pub signals : Step → Bool
 signals s = is_some (identified_by s.action) || is_line_up s
 
--- a byte is taken, or LSR is read, or the interrupt of received data is disabled
+-- a byte is taken, or LSR is read, or the interrupt of received data is disabled; or that may be so
 abbrev pub takes_or_looks : Step → Bool
-takes_or_looks s = receives s.action || (looks_at_line s.action || disables ier_bits.DATA_READY.0 s.action)
+takes_or_looks s = may_receive s.action || (looks_at_line s.action || may_disable ier_bits.DATA_READY.0 s.action)
 
--- what an interrupt asks for is done, or the interrupt is disabled; an empty transmitter asks for nothing
+-- what an interrupt asks for is done, or the interrupt is disabled, or that may be so; an empty transmitter asks for
+-- nothing
 abbrev pub serves : InterruptType → Step → Bool
-serves ReceiverLineStatus s = looks_at_line s.action || disables ier_bits.RECEIVER_LINE_STATUS.0 s.action
+serves ReceiverLineStatus s = looks_at_line s.action || may_disable ier_bits.RECEIVER_LINE_STATUS.0 s.action
 serves ReceivedDataReady s = takes_or_looks s || may_empty fcr_bits.RX_FIFO_RESET.0 s
 serves ReceptionTimeout s = takes_or_looks s || may_empty fcr_bits.RX_FIFO_RESET.0 s
-serves ModemStatus s = looks_at_modem s.action || disables ier_bits.MODEM_STATUS.0 s.action
+serves ModemStatus s = looks_at_modem s.action || may_disable ier_bits.MODEM_STATUS.0 s.action
 serves TransmitterHoldingRegisterEmpty s = true
 serves DmaReceptionEndOfTransfer s = true
 serves DmaTransmissionEndOfTransfer s = true

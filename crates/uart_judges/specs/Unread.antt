@@ -9,7 +9,7 @@ use Rattle.uart_spec.specs.declared.registers.line_status.TheConstants.LSR as ls
 use Rattle.uart_judges.specs.Steps.{loops_back, may_empty, step_empties}
 use Rattle.uart_judges.specs.declared.audit.action.Action.{Action}
 use Rattle.uart_judges.specs.declared.audit.action.Action.TheVariants.{Arrives, ControlsFifo, LooksAtLine, Receives}
-use Rattle.uart_judges.specs.declared.audit.action.Action.TheVariants.{Sends}
+use Rattle.uart_judges.specs.declared.audit.action.Action.TheVariants.{Sends, MayReceive, MaySend}
 use Rattle.uart_judges.specs.declared.audit.step.Step.{Step}
 use Rattle.uart_judges.specs.declared.audit.unread.Arrived.{Arrived}
 use Rattle.uart_judges.specs.declared.audit.unread.TheConstants.{MOST_UNREAD}
@@ -81,6 +81,11 @@ taken u (Some oldest) byte = if oldest.byte == byte then behind u else unknown
 abbrev pub after_read : Unread → ℕ → Unread
 after_read u byte = taken u (front u) byte
 
+-- a read of offset 0 may have taken the oldest character, and then nothing is known
+abbrev pub maybe_taken : Unread → Option Arrived → Unread
+maybe_taken u None = u
+maybe_taken u (Some oldest) = unknown
+
 -- after a write of FCR
 abbrev pub after_control : Unread → Step → Unread
 after_control u s =
@@ -94,6 +99,8 @@ unread_after u s (LooksAtLine lsr) = after_look u lsr
 unread_after u s (Receives byte) = after_read u byte
 unread_after u s (ControlsFifo fcr) = after_control u s
 unread_after u s (Sends byte) = if loops_back s.setup.modem then unknown else u
+unread_after u s MayReceive = maybe_taken u (front u)
+unread_after u s MaySend = if loops_back s.setup.modem then unknown else u
 unread_after u s (Arrives byte errors) =
     if loops_back s.setup.modem then unknown
     else after_arrival u s.setup.has_fifo (record { byte = byte; errors = errors })

@@ -1,12 +1,13 @@
 -- What the judge knows of the software chip stays so where an arrival is recorded.
 use Rattle.std.proofs.Common.{◌≡◌, ◌≤◌, ℕ, zero, suc, ◌+◌, ◌-◌, Bool, true, false, List, [], ◌∷◌, ◌++◌, length, length-append, min}
-use Rattle.std.proofs.Common.{nat_lt, Option, Some, None, refl, sym, ◌∙◌, ap, subst, arith, if◌then◌else◌}
-use Rattle.std.specs.Prelude.{is_some}
+use Rattle.std.proofs.Common.{nat_lt, not, Option, Some, None, refl, sym, ◌∙◌, ap, subst, arith, if◌then◌else◌}
 use Rattle.std.specs.Option.{option_or}
 use Rattle.std.proofs.lemmas.Grind.{common_steps}
 use Rattle.uart_spec.specs.declared.registers.fifo_trigger_level.FifoTriggerLevel.{FifoTriggerLevel}
 use Rattle.uart_spec.specs.declared.registers.line_status.LSR.{LSR}
+use Rattle.uart_spec.specs.Bits.{has}
 use Rattle.uart_spec.specs.declared.registers.modem_control.MCR.{MCR}
+use Rattle.uart_spec.specs.declared.registers.modem_control.TheConstants.MCR as mcr_bits
 use Rattle.uart_events.specs.declared.event.Event.{Event as ScheduleEvent}
 use Rattle.uart_events.specs.declared.event.Event.TheVariants.{Ticks, Lines}
 use Rattle.uart_events.specs.declared.event.Event.TheVariants as event
@@ -24,14 +25,14 @@ use Rattle.uart_run.proofs.Latches.{Kept, kept_in}
 use Rattle.uart_judges.specs.History.{next, next_count, waiting_after}
 use Rattle.uart_judges.specs.Setups.{next_is_open}
 use Rattle.uart_judges.specs.Shows.{fifo_of, modem_of, sends, trigger_of}
-use Rattle.uart_judges.specs.Steps.{depth, loops_back, shows_room}
+use Rattle.uart_judges.specs.Steps.{is_on_line, least_depth, shows_room}
 use Rattle.uart_judges.specs.declared.audit.action.Action.{Action}
 use Rattle.uart_judges.specs.declared.audit.action.Action.TheVariants.{Arrives}
 use Rattle.uart_judges.specs.declared.audit.auditor.Auditor.{Auditor}
 use Rattle.uart_judges.specs.declared.audit.setup.Setup.{Setup}
 use Rattle.uart_judges.specs.declared.audit.step.Step.{Step}
 use Rattle.uart_judges_runs.specs.Lost.{IsNextArrival, IsSo, KnowsWhatIs, after_events}
-use Rattle.uart_judges_runs.proofs.Knows.{IsLooping, IsSent, fifos_as, looping_as, none_sent, trigger_as}
+use Rattle.uart_judges_runs.proofs.Knows.{IsLooping, IsSent, dlab_as, fifos_as, looping_as, none_sent, trigger_as}
 use Rattle.uart_judges_runs.proofs.Waits.{Waits, left_grows, waits_last}
 
 -- ---- events
@@ -108,31 +109,32 @@ one_arrives n fifo new r h = go (nat_lt (length r.queue) (room fifo)) refl
     go true e = rw e (more_in n (room fifo) r.queue new h)
     go false e = rw e (in_full fifo _ _ (min (n + 1) (room fifo)) (full fifo e))
 
--- the judge counts the arrival, unless loopback is on
-counted : (n : ℕ) (modem : Option MCR) (has_fifo : Option Bool) (loopback fifo : Bool) (byte errors : ℕ) (r : ReceiverState) →
-    is_some modem ≡ true → is_some has_fifo ≡ true → IsSo modem (λ mcr. loopback ≡ loops_back (Some mcr)) →
-    IsSo has_fifo (λ on. fifo ≡ on) →
-    n ≤ length r.queue →
-    (if loops_back modem then n else min (n + 1) (depth has_fifo)) ≤ length (receiver.arrive loopback fifo byte errors r).queue
-counted n None has_fifo loopback fifo byte errors r s t e f h = absurd (cc)
-counted n (Some mcr) None loopback fifo byte errors r s t e f h = absurd (cc)
-counted n (Some mcr) (Some on) loopback fifo byte errors r s t e f h =
-    subst
-    (λ (b : Bool). (if b then n else min (n + 1) (depth (Some on))) ≤ length (receiver.arrive loopback fifo byte errors r).queue) e
-    (subst
-    (λ (b : Bool). (if loopback then n else min (n + 1) (depth (Some on))) ≤ length (receiver.arrive loopback b byte errors r).queue)
-    (sym f) (arrives loopback on (depth_is on)))
-  where
-    depth_is : (on : Bool) → depth (Some on) ≡ room on
-    depth_is true = refl
-    depth_is false = refl
+least_fits : (o : Option Bool) (on : Bool) → IsSo o (λ b. on ≡ b) → least_depth o ≤ room on
+least_fits None true so = omega arith
+least_fits None false so = omega arith
+least_fits (Some true) true so = omega arith
+least_fits (Some true) false so = absurd (cc)
+least_fits (Some false) true so = omega arith
+least_fits (Some false) false so = omega arith
 
-    arrives : (loopback on : Bool) → depth (Some on) ≡ room on →
-        (if loopback then n else min (n + 1) (depth (Some on))) ≤ length (receiver.arrive loopback on byte errors r).queue
-    arrives true on d = h
-    arrives false on d =
-        subst (λ (space : ℕ). min (n + 1) space ≤ length (receiver.arrive false on byte errors r).queue) (sym d)
-        (one_arrives n on (record { byte = byte; errors = errors; origin = Arrived r.arrived }) (record r { arrived = r.arrived + 1 }) h)
+smaller : (n a b k : ℕ) → a ≤ b → min n b ≤ k → min n a ≤ k
+smaller n a b k p q = omega (arith, p, q)
+
+-- the judge counts the arrival where it knows that loopback is off, up to what fits
+counted : (n : ℕ) (modem : Option MCR) (has_fifo : Option Bool) (loopback fifo : Bool) (byte errors : ℕ) (r : ReceiverState) →
+    IsSo modem (λ mcr. loopback ≡ has mcr.0 mcr_bits.LOOP_BACK.0) → IsSo has_fifo (λ on. fifo ≡ on) → n ≤ length r.queue →
+    n ≤ length (receiver.arrive loopback fifo byte errors r).queue →
+    (if is_on_line modem then min (n + 1) (least_depth has_fifo) else n) ≤ length (receiver.arrive loopback fifo byte errors r).queue
+counted n None has_fifo loopback fifo byte errors r e f h still = still
+counted n (Some mcr) has_fifo loopback fifo byte errors r e f h still = go (has mcr.0 mcr_bits.LOOP_BACK.0) e
+  where
+    go : (b : Bool) → loopback ≡ b →
+        (if not b then min (n + 1) (least_depth has_fifo) else n) ≤ length (receiver.arrive loopback fifo byte errors r).queue
+    go true e = still
+    go false e =
+        subst (λ (b : Bool). min (n + 1) (least_depth has_fifo) ≤ length (receiver.arrive b fifo byte errors r).queue) (sym e)
+        (smaller (n + 1) (least_depth has_fifo) (room fifo) _ (least_fits has_fifo fifo f)
+        (one_arrives n fifo (record { byte = byte; errors = errors; origin = Arrived r.arrived }) (record r { arrived = r.arrived + 1 }) h))
 
 still_left : (n left : ℕ) (rests : Bool) (before queued : ℕ) (fifo on : Bool) → on ≡ fifo → min n (room fifo) ≤ before + left →
     min (next_count n rests false) (room on) ≤ queued + (if rests then 0 else left + (before - queued))
@@ -141,13 +143,12 @@ still_left n left false before queued fifo on e h = rw e (left_grows n (room fif
 
 -- ---- all of it
 
--- what the judge knows after an arrival that it can count is so
+-- what the judge knows after an arrival is so
 pub after_arrival : (a : Auditor) (left : ℕ) (m n : MachineState) (s : Step) (byte : ℕ) (errors : LSR) → s.action ≡ Arrives byte errors →
-    s.setup ≡ a.setup → IsSound m → KnowsWhatIs a left m.chip → is_some a.setup.has_fifo ≡ true → is_some a.setup.modem ≡ true →
-    IsNextArrival byte errors.0 m n →
+    s.setup ≡ a.setup → IsSound m → KnowsWhatIs a left m.chip → IsNextArrival byte errors.0 m n →
     KnowsWhatIs (next a s)
     (if shows_room s then 0 else left + (length m.chip.transmitter.queue - length n.chip.transmitter.queue)) n.chip
-after_arrival a left m n s byte errors is same sound k known_fifo known_modem next_one =
+after_arrival a left m n s byte errors is same sound k next_one =
     let b = after_events next_one.before m.chip in
     let g = lasts_events (Goes (kept_in m.chip) a.waiting m.chip.receiver.trigger)
     (goes_on (kept_in m.chip) a.waiting m.chip.receiver.trigger)
@@ -156,15 +157,15 @@ after_arrival a left m n s byte errors is same sound k known_fifo known_modem ne
       kept = refl;
       waits = record { at_least = k.waiting; in_room = sound.chip.receiver.marked.in_room; trigger = refl };
     }) in
-    let w = subst (λ (c : ChipState). Waits a.waiting m.chip.receiver.trigger c.fifo c.receiver) (sym next_one.chip)
-    ((waits_last a.waiting m.chip.receiver.trigger).in_arrival byte errors.0 b g.waits) in
+    let still = (waits_last a.waiting m.chip.receiver.trigger).in_arrival byte errors.0 b g.waits in
+    let w = subst (λ (c : ChipState). Waits a.waiting m.chip.receiver.trigger c.fifo c.receiver) (sym next_one.chip) still in
     let kept : kept_in n.chip ≡ kept_in m.chip = ap (λ (c : ChipState). kept_in c) next_one.chip ∙ g.kept in
     let fifo : n.chip.fifo ≡ m.chip.fifo = ap (λ (k : Kept). k.fifo) kept in
     record {
       model = ap (λ (k : Kept). k.model) kept ∙ k.model;
       dlab =
-          subst (λ (x : Action). next_is_open a.setup.is_open x ≡ Some (is_dlab_set n.chip.latches)) (sym is)
-          (k.dlab ∙ ap (λ (k : Kept). Some (is_dlab_set k.latches)) (sym kept));
+          subst (λ (x : Action). IsSo (next_is_open a.setup.is_open x) (λ on. is_dlab_set n.chip.latches ≡ on)) (sym is)
+          (dlab_as m.chip n.chip a.setup.is_open (ap (λ (k : Kept). k.latches.lcr) kept) k.dlab);
       loopback =
           subst (λ (x : Action). IsSo (option_or (modem_of x) a.setup.modem) (IsLooping n.chip)) (sym is)
           (looping_as m.chip n.chip a.setup.modem (ap (λ (k : Kept). k.latches.mcr) kept) k.loopback);
@@ -177,15 +178,14 @@ after_arrival a left m n s byte errors is same sound k known_fifo known_modem ne
       waiting =
           subst (λ (x : Action). waiting_after a.waiting s x ≤ length n.chip.receiver.queue) (sym is)
           (subst (λ (setup : Setup).
-          (if loops_back setup.modem then a.waiting else min (a.waiting + 1) (depth setup.has_fifo)) ≤ length n.chip.receiver.queue)
+          (if is_on_line setup.modem then min (a.waiting + 1) (least_depth setup.has_fifo) else a.waiting) ≤ length n.chip.receiver.queue)
           (sym same)
           (subst (λ (c : ChipState).
-          (if loops_back a.setup.modem then a.waiting else min (a.waiting + 1) (depth a.setup.has_fifo)) ≤ length c.receiver.queue)
+          (if is_on_line a.setup.modem then min (a.waiting + 1) (least_depth a.setup.has_fifo) else a.waiting) ≤ length c.receiver.queue)
           (sym next_one.chip)
           (counted a.waiting a.setup.modem a.setup.has_fifo (is_loopback b.latches) b.fifo (cut_of b byte) errors.0 b.receiver
-          known_modem known_fifo
           (looping_as m.chip b a.setup.modem (ap (λ (k : Kept). k.latches.mcr) g.kept) k.loopback)
-          (fifos_as m.chip b a.setup.has_fifo (ap (λ (k : Kept). k.fifo) g.kept) k.fifos) g.waits.at_least)));
+          (fifos_as m.chip b a.setup.has_fifo (ap (λ (k : Kept). k.fifo) g.kept) k.fifos) g.waits.at_least still.at_least)));
       sent =
           subst (λ (x : Action).
           IsSent (next_count a.sent (shows_room s) (sends x))

@@ -1,7 +1,9 @@
 -- What an action that the judge takes an access for does to the software chip.
-use Rattle.std.proofs.Common.{◌≡◌, ℕ, Bool, true, false, not, ◌&&◌, ◌||◌, ◌==◌, [], refl, if◌then◌else◌}
-use Rattle.std.proofs.Common.{Some, bit_and}
+use Rattle.std.proofs.Common.{◌≡◌, ◌≤◌, ℕ, ◌+◌, Bool, true, false, not, ◌&&◌, ◌||◌, ◌==◌, List, [], ◌∷◌, refl, subst, if◌then◌else◌}
+use Rattle.std.proofs.Common.{Option, Some, None, bit_and, length, length-append, min, nat_lt, arith, inl, inr, ◌⊎◌}
+use Rattle.std.proofs.lemmas.Grind.{common_steps}
 use Rattle.uart_spec.specs.Bits.{has_any}
+use Rattle.uart_spec.specs.declared.access.Access.TheVariants.{Read}
 use Rattle.uart_spec.specs.declared.registers.fifo_control.TheConstants.FCR as fcr_bits
 use Rattle.uart_spec.specs.declared.registers.fifo_trigger_level.FifoTriggerLevel.{FifoTriggerLevel}
 use Rattle.uart_spec.specs.declared.registers.offsets.TheConstants as offsets
@@ -11,13 +13,17 @@ use Rattle.uart_chip.specs.Chip.{ChipState, after_read, after_write, answer, con
 use Rattle.uart_chip.specs.Chip.{is_same, is_thr_empty, line_status, set_fifo, set_trigger, switch, trigger_level, with_latches}
 use Rattle.uart_chip.specs.Chip.{with_thr_pending}
 use Rattle.uart_chip.specs.Masks.{mcr_bits}
-use Rattle.uart_chip.specs.Receiver.{clear, take_front}
-use Rattle.uart_chip.specs.Transmitter.{load}
+use Rattle.uart_chip.specs.declared.receiver.Character.{Character}
+use Rattle.uart_chip.specs.Receiver.{ReceiverState, clear, take_front}
+use Rattle.uart_chip.specs.Transmitter.{TransmitterState, load, room}
 use Rattle.uart_judges.specs.Actions.{data_read, data_written, ier_read, ier_written, read_action, write_action}
+use Rattle.uart_judges.specs.Shows.{looks_at_line}
 use Rattle.uart_judges.specs.declared.audit.action.Action.{Action}
 use Rattle.uart_judges.specs.declared.audit.action.Action.TheVariants.{Receives, Sends, SetsDivisorLow, ControlsFifo, ReadsLine, SetsLine}
 use Rattle.uart_judges.specs.declared.audit.action.Action.TheVariants.{ReadsModem, SetsModem, IdentifiesInterrupt, LooksAtLine, Arrives}
+use Rattle.uart_judges.specs.declared.audit.action.Action.TheVariants.{MayReceive, MaySend}
 use Rattle.uart_judges.proofs.LatchesHold.{by_number}
+use Rattle.uart_judges_runs.specs.Lost.{IsSo, LooksWhileOff}
 
 -- ---- what does not change
 
@@ -37,6 +43,16 @@ alike_refl c = record { model = refl; lcr = refl; mcr = refl; fifo = refl; queue
 alike_if : (c d e : ChipState) (b : Bool) → Alike c d → Alike c e → Alike c (if b then d else e)
 alike_if c d e true p q = p
 alike_if c d e false p q = q
+
+-- modes and the trigger level are the same. So many characters were taken, at most, and none has left the transmitter
+pub record MayMove (most : ℕ) (c d : ChipState) : Type 0 where
+  pub model : d.model ≡ c.model
+  pub lcr : d.latches.lcr ≡ c.latches.lcr
+  pub mcr : d.latches.mcr ≡ c.latches.mcr
+  pub fifo : d.fifo ≡ c.fifo
+  pub queued : min (length c.transmitter.queue) (room c.fifo) ≤ length d.transmitter.queue
+  pub waiting : length c.receiver.queue ≤ length d.receiver.queue + most
+  pub trigger : d.receiver.trigger ≡ c.receiver.trigger
 
 -- ---- FCR
 
@@ -111,6 +127,8 @@ Does (IdentifiesInterrupt isr) c d = Alike c d × (isr.0 ≡ answer offsets.ISR 
 Does (ReadsLine lcr) c d = Alike c d × (lcr.0 ≡ c.latches.lcr)
 Does (ReadsModem mcr) c d = Alike c d × (mcr.0 ≡ c.latches.mcr)
 Does (LooksAtLine lsr) c d = Alike c d × (lsr.0 ≡ line_status c)
+Does MayReceive c d = MayMove 1 c d
+Does MaySend c d = MayMove 0 c d
 Does (Arrives byte errors) c d = ⊥
 Does _ c d = Alike c d × Unit {0}
 
@@ -155,23 +173,63 @@ module _ (P : ℕ → Type 0) (front : P offsets.DATA) (ier : P offsets.IER) (is
 
 -- ---- a read
 
-reads_data : (c : ChipState) (value : ℕ) (b : Bool) → Does (data_read (Some b) value) c (if b then c else record c
+pub taken_trigger : (queue : List Character) (r : ReceiverState) → (take_front queue r).trigger ≡ r.trigger
+taken_trigger [] r = refl
+taken_trigger (x ∷ xs) r = refl
+
+one_taken : (queue : List Character) (r : ReceiverState) → r.queue ≡ queue → length r.queue ≤ length (take_front queue r).queue + 1
+one_taken [] r e = rw e (omega arith)
+one_taken (x ∷ xs) r e = rw e (omega arith)
+
+least_queued : (n space : ℕ) → min n space ≤ n
+least_queued n space = omega arith
+
+may_read : (c : ChipState) (b : Bool) → MayMove 1 c (if b then c else record c { receiver = take_front c.receiver.queue c.receiver })
+may_read c true = record {
+  model = refl;
+  lcr = refl;
+  mcr = refl;
+  fifo = refl;
+  queued = least_queued (length c.transmitter.queue) (room c.fifo);
+  waiting = omega arith;
+  trigger = refl;
+}
+may_read c false = record {
+  model = refl;
+  lcr = refl;
+  mcr = refl;
+  fifo = refl;
+  queued = least_queued (length c.transmitter.queue) (room c.fifo);
+  waiting = one_taken c.receiver.queue c.receiver refl;
+  trigger = taken_trigger c.receiver.queue c.receiver;
+}
+
+reads_known : (c : ChipState) (value : ℕ) (b : Bool) → Does (data_read (Some b) value) c (if b then c else record c
     { receiver = take_front c.receiver.queue c.receiver })
-reads_data c value true = (alike_refl c, tt)
-reads_data c value false = refl
+reads_known c value true = (alike_refl c, tt)
+reads_known c value false = refl
 
-reads_ier : (c : ChipState) (value : ℕ) (b : Bool) → Does (ier_read (Some b) value) c c
-reads_ier c value true = (alike_refl c, tt)
-reads_ier c value false = (alike_refl c, tt)
+reads_data : (c : ChipState) (value : ℕ) (o : Option Bool) (b : Bool) → IsSo o (λ on. b ≡ on) →
+    Does (data_read o value) c (if b then c else record c { receiver = take_front c.receiver.queue c.receiver })
+reads_data c value None b e = may_read c b
+reads_data c value (Some on) b e =
+    subst
+    (λ (on : Bool). Does (data_read (Some on) value) c (if b then c else record c { receiver = take_front c.receiver.queue c.receiver }))
+    e (reads_known c value b)
 
-pub does_read : (c : ChipState) (n value : ℕ) → value ≡ answer n c →
-    Does (read_action (Some (is_dlab_set c.latches)) n value) c (after_read n c)
-does_read c n value is =
-    by_offset (λ n. value ≡ answer n c → Does (read_action (Some (is_dlab_set c.latches)) n value) c (after_read n c))
-    (λ e. reads_data c value (is_dlab_set c.latches)) (λ e. reads_ier c value (is_dlab_set c.latches))
+reads_ier : (c : ChipState) (value : ℕ) (o : Option Bool) → Does (ier_read o value) c c
+reads_ier c value None = (alike_refl c, tt)
+reads_ier c value (Some true) = (alike_refl c, tt)
+reads_ier c value (Some false) = (alike_refl c, tt)
+
+pub does_read : (c : ChipState) (n value : ℕ) (o : Option Bool) → IsSo o (λ on. is_dlab_set c.latches ≡ on) → value ≡ answer n c →
+    Does (read_action o n value) c (after_read n c)
+does_read c n value o so is =
+    by_offset (λ n. value ≡ answer n c → Does (read_action o n value) c (after_read n c))
+    (λ e. reads_data c value o (is_dlab_set c.latches) so) (λ e. reads_ier c value o)
     (λ e. (alike_if c (with_thr_pending false c) c (is_thr_empty (interrupt c)) (alike_with_thr c) (alike_refl c), e))
     (λ e. (alike_refl c, e)) (λ e. (alike_refl c, e)) (λ e. (alike_report c, e)) (λ e. (alike_modem c, tt))
-    (λ n o e. rw (o.not_data, o.not_ier, o.not_isr, o.not_lcr, o.not_mcr, o.not_lsr, o.not_msr) (alike_refl c, tt)) n is
+    (λ n b e. rw (b.not_data, b.not_ier, b.not_isr, b.not_lcr, b.not_mcr, b.not_lsr, b.not_msr) (alike_refl c, tt)) n is
   where
     alike_with_thr : (c : ChipState) → Alike c (with_thr_pending false c)
     alike_with_thr c = record { model = refl; lcr = refl; mcr = refl; fifo = refl; queued = refl; waiting = refl; trigger = refl }
@@ -184,34 +242,115 @@ does_read c n value is =
 
 -- ---- a write
 
-writes_data : (c : ChipState) (value : ℕ) (b : Bool) → Does (data_written (Some b) value) c
-    (if b then with_latches (record c.latches { dll = value }) c else record c
-    { transmitter = load c.fifo (cut_of c value) c.transmitter })
-writes_data c value true =
-    (record { model = refl; lcr = refl; mcr = refl; fifo = refl; queued = refl; waiting = refl; trigger = refl }, refl)
-writes_data c value false = refl
+-- a byte that is written is in the queue, or the queue is full
+pub loaded : (fifo : Bool) (byte : ℕ) (t : TransmitterState) →
+    (length (load fifo byte t).queue ≡ length t.queue + 1) ⊎ (room fifo ≤ length (load fifo byte t).queue)
+loaded fifo byte t = go (nat_lt (length t.queue) (room fifo)) refl
+  where
+    full : (fifo : Bool) → nat_lt (length t.queue) (room fifo) ≡ false → room fifo ≤ length (if fifo then t.queue else byte ∷ [])
+    full true e = grind (arith, common_steps)
+    full false e = omega arith
 
-writes_ier : (c : ChipState) (value : ℕ) (b : Bool) → Does (ier_written (Some b) value) c
+    go : (b : Bool) → nat_lt (length t.queue) (room fifo) ≡ b →
+        (length (load fifo byte t).queue ≡ length t.queue + 1) ⊎ (room fifo ≤ length (load fifo byte t).queue)
+    go true e = inl (rw e (length-append t.queue (byte ∷ [])))
+    go false e = inr (rw e (full fifo e))
+
+none_left : (before after space : ℕ) → (after ≡ before + 1) ⊎ (space ≤ after) → min before space ≤ after
+none_left before after space (inl e) = omega (arith, e)
+none_left before after space (inr e) = omega (arith, e)
+
+abbrev written_data : ℕ → ChipState → Bool → ChipState
+written_data value c b =
+    if b then with_latches (record c.latches { dll = value }) c else record c
+    { transmitter = load c.fifo (cut_of c value) c.transmitter }
+
+may_write : (c : ChipState) (value : ℕ) (b : Bool) → MayMove 0 c (written_data value c b)
+may_write c value true = record {
+  model = refl;
+  lcr = refl;
+  mcr = refl;
+  fifo = refl;
+  queued = least_queued (length c.transmitter.queue) (room c.fifo);
+  waiting = omega arith;
+  trigger = refl;
+}
+may_write c value false = record {
+  model = refl;
+  lcr = refl;
+  mcr = refl;
+  fifo = refl;
+  queued = none_left (length c.transmitter.queue) _ (room c.fifo) (loaded c.fifo (cut_of c value) c.transmitter);
+  waiting = omega arith;
+  trigger = refl;
+}
+
+writes_known : (c : ChipState) (value : ℕ) (b : Bool) → Does (data_written (Some b) value) c (written_data value c b)
+writes_known c value true =
+    (record { model = refl; lcr = refl; mcr = refl; fifo = refl; queued = refl; waiting = refl; trigger = refl }, refl)
+writes_known c value false = refl
+
+writes_data : (c : ChipState) (value : ℕ) (o : Option Bool) (b : Bool) → IsSo o (λ on. b ≡ on) →
+    Does (data_written o value) c (written_data value c b)
+writes_data c value None b e = may_write c value b
+writes_data c value (Some on) b e =
+    subst (λ (on : Bool). Does (data_written (Some on) value) c (written_data value c b)) e (writes_known c value b)
+
+alike_ier : (c : ChipState) (value : ℕ) (b : Bool) →
+    Alike c (if b then with_latches (record c.latches { dlm = value }) c else enable value c)
+alike_ier c value true = record { model = refl; lcr = refl; mcr = refl; fifo = refl; queued = refl; waiting = refl; trigger = refl }
+alike_ier c value false = record { model = refl; lcr = refl; mcr = refl; fifo = refl; queued = refl; waiting = refl; trigger = refl }
+
+writes_ier : (c : ChipState) (value : ℕ) (o : Option Bool) (b : Bool) → Does (ier_written o value) c
     (if b then with_latches (record c.latches { dlm = value }) c else enable value c)
-writes_ier c value true =
-    (record { model = refl; lcr = refl; mcr = refl; fifo = refl; queued = refl; waiting = refl; trigger = refl }, tt)
-writes_ier c value false =
-    (record { model = refl; lcr = refl; mcr = refl; fifo = refl; queued = refl; waiting = refl; trigger = refl }, tt)
+writes_ier c value None b = (alike_ier c value b, tt)
+writes_ier c value (Some true) b = (alike_ier c value b, tt)
+writes_ier c value (Some false) b = (alike_ier c value b, tt)
 
 controls : (model : Chip) (value : ℕ) (c : ChipState) → model ≡ Uart16550A → Controlled value c (control model value c)
 controls Uart16450 value c e = absurd (cc)
 controls Uart16550A value c e = controlled value c
 
-pub does_write : (c : ChipState) (n value : ℕ) → c.model ≡ Uart16550A →
-    Does (write_action (Some (is_dlab_set c.latches)) n value) c (after_write n value c)
-does_write c n value model =
-    by_offset (λ n. Does (write_action (Some (is_dlab_set c.latches)) n value) c (after_write n value c))
-    (writes_data c value (is_dlab_set c.latches)) (writes_ier c value (is_dlab_set c.latches))
+pub does_write : (c : ChipState) (n value : ℕ) (o : Option Bool) → IsSo o (λ on. is_dlab_set c.latches ≡ on) → c.model ≡ Uart16550A →
+    Does (write_action o n value) c (after_write n value c)
+does_write c n value o so model =
+    by_offset (λ n. Does (write_action o n value) c (after_write n value c))
+    (writes_data c value o (is_dlab_set c.latches) so) (writes_ier c value o (is_dlab_set c.latches))
     (controls c.model value c model) refl refl (alike_refl c, tt) (alike_refl c, tt)
-    (λ n o.
-    rw (o.not_data, o.not_ier, o.not_isr, o.not_lcr, o.not_mcr)
+    (λ n b.
+    rw (b.not_data, b.not_ier, b.not_isr, b.not_lcr, b.not_mcr)
     (alike_if c (with_latches (record c.latches { scr = value }) c) c (n == offsets.SPR) (alike_scr c) (alike_refl c), tt))
     n
   where
     alike_scr : (c : ChipState) → Alike c (with_latches (record c.latches { scr = value }) c)
     alike_scr c = record { model = refl; lcr = refl; mcr = refl; fifo = refl; queued = refl; waiting = refl; trigger = refl }
+
+-- ---- which access looks at LSR
+
+looks_only : (offset value : ℕ) → looks_at_line (read_action None offset value) ≡ true → offset ≡ offsets.LSR
+looks_only offset value =
+    by_offset (λ n. looks_at_line (read_action None n value) ≡ true → n ≡ offsets.LSR)
+    (λ e. absurd (cc)) (λ e. absurd (cc)) (λ e. absurd (cc)) (λ e. absurd (cc)) (λ e. absurd (cc)) (λ e. refl) (λ e. absurd (cc))
+    (λ n b e.
+    let f : looks_at_line (read_action None n value) ≡ false =
+    rw (b.not_data, b.not_ier, b.not_isr, b.not_lcr, b.not_mcr, b.not_lsr, b.not_msr) refl in absurd (cc)) offset
+
+pub off_at_look : (o : Option Bool) (offset value : ℕ) (c : ChipState) → LooksWhileOff o (Read offset value) c → o ≡ None →
+    looks_at_line (read_action o offset value) ≡ true → is_dlab_set c.latches ≡ false
+off_at_look None offset value c off e looks = off (looks_only offset value looks)
+off_at_look (Some on) offset value c off e looks = absurd (cc)
+
+pub no_write_looks : (o : Option Bool) (offset value : ℕ) → looks_at_line (write_action o offset value) ≡ false
+no_write_looks o offset value =
+    by_offset (λ n. looks_at_line (write_action o n value) ≡ false) (writes_zero o) (writes_one o) refl refl refl refl refl
+    (λ n b. rw (b.not_data, b.not_ier, b.not_isr, b.not_lcr, b.not_mcr) refl) offset
+  where
+    writes_zero : (o : Option Bool) → looks_at_line (data_written o value) ≡ false
+    writes_zero None = refl
+    writes_zero (Some true) = refl
+    writes_zero (Some false) = refl
+
+    writes_one : (o : Option Bool) → looks_at_line (ier_written o value) ≡ false
+    writes_one None = refl
+    writes_one (Some true) = refl
+    writes_one (Some false) = refl

@@ -1,5 +1,5 @@
 -- What the judge knows of a session, and what changes nothing of it.
-use Rattle.std.proofs.Common.{◌≡◌, ◌≤◌, ◌+◌, ◌-◌, ◌^◌, ℕ, Bool, true, false, not, ◌&&◌, ◌==◌}
+use Rattle.std.proofs.Common.{◌≡◌, ◌≤◌, ◌+◌, ◌-◌, ◌^◌, ℕ, Bool, true, false, not, ◌&&◌}
 use Rattle.std.proofs.Common.{Option, Some, None, refl, sym, ◌∙◌, ap, subst, arith, if◌then◌else◌, min}
 use Rattle.std.specs.Prelude.{nat_le, nat_lt}
 use Rattle.std.specs.Option.{option_or}
@@ -12,11 +12,11 @@ use Rattle.uart_spec.specs.declared.registers.modem_control.MCR.{MCR}
 use Rattle.uart_spec.specs.declared.registers.modem_control.TheConstants.MCR as mcr_bits
 use Rattle.uart_chip.specs.Transmitter.{room as room_of}
 use Rattle.uart_judges.specs.Actions.{action}
-use Rattle.uart_judges.specs.Findings.{changed, is_at_rest, is_open, latched, put_out, sent_before, taken_from_nothing, when, with_errors}
+use Rattle.uart_judges.specs.Findings.{changed, is_at_rest, is_open, latched, put_out, sent_before, taken_from, when}
 use Rattle.uart_judges.specs.History.{next, next_count, next_latch, next_since, step_from, waiting_after}
 use Rattle.uart_judges.specs.Setups.{next_is_open}
 use Rattle.uart_judges.specs.Shows.{fifo_of, modem_of, receives, sends}
-use Rattle.uart_judges.specs.Steps.{action_empties, depth, loops_back, shows_room}
+use Rattle.uart_judges.specs.Steps.{action_empties, depth, least_depth, loops_back, shows_room}
 use Rattle.uart_judges.specs.Unread.{front}
 use Rattle.uart_judges.specs.declared.audit.action.Action.{Action}
 use Rattle.uart_judges.specs.declared.audit.action.Action.TheVariants.{Receives, Sends, ReadsDivisor, SetsDivisorLow, SetsDivisorHigh}
@@ -38,8 +38,7 @@ pub record SixAt (a : Auditor) (s : Step) (x : Action) : Type 0 where
       else when (nat_le (depth s.setup.has_fifo) (sent_before a s))
       (found.SentBeyondRoom (min (sent_before a s + 1) (2 ^ 64 - 1)) (depth s.setup.has_fifo)))
   pub output : Spared (put_out a s.setup x)
-  pub taken : Spared (if not (receives x) then None
-      else if a.waiting == 0 then taken_from_nothing a else with_errors (front a.unread) a.has_taken)
+  pub taken : Spared (if not (receives x) then None else taken_from (front a.unread) a)
   pub latch : Spared (latched a s x)
   pub change : Spared (changed a s x)
   pub discard : action_empties fcr_bits.RX_FIFO_RESET.0 s.setup.has_fifo x ≡ false
@@ -191,7 +190,7 @@ pub record Reading (fifo : Bool) (a : Auditor) : Type 0 where
 since_none : (b r h : Bool) → b ≡ false → h ≡ false → next_since b r h ≡ false
 since_none b r h e f = rw (e, f) refl
 
-one_more : (n : ℕ) (h : Option Bool) → 1 ≤ n → 1 ≤ min (n + 1) (depth h)
+one_more : (n : ℕ) (h : Option Bool) → 1 ≤ n → 1 ≤ min (n + 1) (least_depth h)
 one_more n None few = omega arith
 one_more n (Some true) few = omega arith
 one_more n (Some false) few = omega arith
@@ -202,7 +201,7 @@ still_waits false n m p q = q
 
 other_waits : (o : Option Bool) (n : ℕ) (s : Step) (h : Happening) → IsOther h → 1 ≤ n → 1 ≤ waiting_after n s (action o h)
 other_waits o n s (Access x) i p = absurd i
-other_waits o n s (Arrive byte errors) i p = still_waits _ _ _ p (one_more n s.setup.has_fifo p)
+other_waits o n s (Arrive byte errors) i p = still_waits _ _ _ (one_more n s.setup.has_fifo p) p
 other_waits o n s (Interrupt is_raised) i p = p
 other_waits o n s (Lines inputs) i p = p
 

@@ -1,6 +1,6 @@
 -- What the judge knows of the software chip stays so.
 use Rattle.std.proofs.Common.{◌≡◌, ◌≤◌, ◌<◌, ℕ, ◌+◌, ◌-◌, ◌^◌, Bool, true, false, not, ◌&&◌, ◌||◌, ◌==◌, List, [], ◌∷◌}
-use Rattle.std.proofs.Common.{length, length-append, max, min, nat_lt, refl, sym, ◌∙◌, ap, subst, arith, if◌then◌else◌, inl, inr, ◌⊎◌}
+use Rattle.std.proofs.Common.{length, max, min, nat_lt, refl, sym, ◌∙◌, ap, subst, arith, if◌then◌else◌, inl, inr, ◌⊎◌}
 use Rattle.std.proofs.Common.{Option, Some, None, bit_or}
 use Rattle.std.specs.Prelude.{nat_le, is_some}
 use Rattle.std.specs.Option.{option_or}
@@ -21,42 +21,59 @@ use Rattle.uart_spec.specs.declared.registers.line_control.TheConstants.LCR as l
 use Rattle.uart_spec.specs.declared.registers.line_status.TheConstants.LSR as lsr_bits
 use Rattle.uart_spec.specs.declared.registers.modem_control.MCR.{MCR}
 use Rattle.uart_spec.specs.declared.registers.modem_control.TheConstants.MCR as mcr_bits
-use Rattle.uart_events.specs.declared.event.Chip.TheVariants.{Uart16550A}
 use Rattle.uart_chip.specs.declared.receiver.Character.{Character}
 use Rattle.uart_chip.specs.Chip.{ChipState, identification, interrupt, is_dlab_set, is_loopback, is_same}
 use Rattle.uart_chip.specs.Chip.{line_status, trigger_level}
 use Rattle.uart_chip.specs.Masks as masks
 use Rattle.uart_chip.specs.Receiver.{ReceiverState, characters_of, is_data_pending, is_timed_out, take_front}
-use Rattle.uart_chip.specs.Transmitter.{TransmitterState, load, room}
+use Rattle.uart_chip.specs.Transmitter.{room}
 use Rattle.uart_chip.proofs.Bits.{has_and, has_one}
 use Rattle.uart_chip.proofs.FifoBits.{all_shown}
 use Rattle.uart_chip.proofs.statuses.Status.{status_data}
 use Rattle.uart_judges.specs.History.{level, next, next_count, shown_by, waiting_after}
-use Rattle.uart_judges.specs.Setups.{next_is_open}
-use Rattle.uart_judges.specs.Shows.{fifo_of, identified, level_of, modem_of, sends, shows_thr_empty, trigger_of}
+use Rattle.uart_judges.specs.Setups.{next_is_open, or_closed}
+use Rattle.uart_judges.specs.Shows.{fifo_of, identified, level_of, looks_at_line, modem_of, sends, shows_thr_empty, trigger_of}
 use Rattle.uart_judges.specs.Steps.{empties, may_empty, shows_room}
 use Rattle.uart_judges.specs.declared.audit.action.Action.{Action}
 use Rattle.uart_judges.specs.declared.audit.action.Action.TheVariants.{Receives, Sends, ControlsFifo, ReadsLine, SetsLine}
 use Rattle.uart_judges.specs.declared.audit.action.Action.TheVariants.{ReadsModem, SetsModem, IdentifiesInterrupt, LooksAtLine, Arrives}
+use Rattle.uart_judges.specs.declared.audit.action.Action.TheVariants.{MayReceive, MaySend}
 use Rattle.uart_judges.specs.declared.audit.auditor.Auditor.{Auditor}
 use Rattle.uart_judges.specs.declared.audit.setup.Setup.{Setup}
 use Rattle.uart_judges.specs.declared.audit.step.Step.{Step}
 use Rattle.uart_judges_runs.specs.Lost.{IsSo, KnowsWhatIs}
-use Rattle.uart_judges_runs.proofs.Does.{Does, same_true}
+use Rattle.uart_judges_runs.proofs.Does.{Does, MayMove, loaded, same_true, taken_trigger}
 
 -- ---- DLAB
 
-pub after_dlab : (c d : ChipState) (x : Action) → Does x c d →
-    next_is_open (Some (is_dlab_set c.latches)) x ≡ Some (is_dlab_set d.latches)
-after_dlab c d (Sends byte) h = ap (λ (c : ChipState). Some (is_dlab_set c.latches)) (sym h)
-after_dlab c d (Receives byte) h = ap (λ (c : ChipState). Some (is_dlab_set c.latches)) (sym h)
-after_dlab c d (ControlsFifo fcr) h = ap (λ (lcr : ℕ). Some (has_any lcr lcr_bits.DLAB.0)) (sym h.lcr)
-after_dlab c d (SetsLine lcr) h = ap Some (has_one 7 lcr.0) ∙ ap (λ (c : ChipState). Some (is_dlab_set c.latches)) (sym h)
-after_dlab c d (SetsModem mcr) h = ap (λ (c : ChipState). Some (is_dlab_set c.latches)) (sym h)
-after_dlab c d (ReadsLine lcr) h = ap Some (has_one 7 lcr.0) ∙ ap (λ (lcr : ℕ). Some (has_any lcr lcr_bits.DLAB.0)) (h.1 ∙ sym h.0.lcr)
-after_dlab c d (LooksAtLine lsr) h = ap (λ (lcr : ℕ). Some (has_any lcr lcr_bits.DLAB.0)) (sym h.0.lcr)
-after_dlab c d (Arrives byte errors) h = absurd h
-after_dlab c d _ h = ap (λ (lcr : ℕ). Some (has_any lcr lcr_bits.DLAB.0)) (sym h.0.lcr)
+pub dlab_as : (c d : ChipState) (o : Option Bool) → d.latches.lcr ≡ c.latches.lcr → IsSo o (λ on. is_dlab_set c.latches ≡ on) →
+    IsSo o (λ on. is_dlab_set d.latches ≡ on)
+dlab_as c d None e h = tt
+dlab_as c d (Some on) e h = ap (λ (lcr : ℕ). has_any lcr lcr_bits.DLAB.0) e ∙ h
+
+dlab_looked : (c d : ChipState) (o : Option Bool) → d.latches.lcr ≡ c.latches.lcr → (o ≡ None → is_dlab_set c.latches ≡ false) →
+    IsSo o (λ on. is_dlab_set c.latches ≡ on) → IsSo (or_closed o) (λ on. is_dlab_set d.latches ≡ on)
+dlab_looked c d None e off h = ap (λ (lcr : ℕ). has_any lcr lcr_bits.DLAB.0) e ∙ off refl
+dlab_looked c d (Some on) e off h = ap (λ (lcr : ℕ). has_any lcr lcr_bits.DLAB.0) e ∙ h
+
+-- where DLAB is not known, a look at LSR finds it off
+abbrev pub IsOffAtLook : Option Bool → Action → ChipState → Type 0
+IsOffAtLook o x c = o ≡ None → looks_at_line x ≡ true → is_dlab_set c.latches ≡ false
+
+pub after_dlab : (c d : ChipState) (x : Action) (o : Option Bool) → Does x c d → IsOffAtLook o x c →
+    IsSo o (λ on. is_dlab_set c.latches ≡ on) → IsSo (next_is_open o x) (λ on. is_dlab_set d.latches ≡ on)
+after_dlab c d (Sends byte) o h off k = dlab_as c d o (ap (λ (c : ChipState). c.latches.lcr) h) k
+after_dlab c d (Receives byte) o h off k = dlab_as c d o (ap (λ (c : ChipState). c.latches.lcr) h) k
+after_dlab c d (ControlsFifo fcr) o h off k = dlab_as c d o h.lcr k
+after_dlab c d (SetsLine lcr) o h off k = ap (λ (c : ChipState). is_dlab_set c.latches) h ∙ sym (has_one 7 lcr.0)
+after_dlab c d (SetsModem mcr) o h off k = dlab_as c d o (ap (λ (c : ChipState). c.latches.lcr) h) k
+after_dlab c d (ReadsLine lcr) o h off k =
+    ap (λ (lcr : ℕ). has_any lcr lcr_bits.DLAB.0) (h.0.lcr ∙ sym h.1) ∙ sym (has_one 7 lcr.0)
+after_dlab c d (LooksAtLine lsr) o h off k = dlab_looked c d o h.0.lcr (λ e. off e refl) k
+after_dlab c d MayReceive o h off k = dlab_as c d o h.lcr k
+after_dlab c d MaySend o h off k = dlab_as c d o h.lcr k
+after_dlab c d (Arrives byte errors) o h off k = absurd h
+after_dlab c d _ o h off k = dlab_as c d o h.0.lcr k
 
 -- ---- loopback
 
@@ -77,6 +94,8 @@ after_loopback c d (SetsModem mcr) o h k =
     ap (λ (c : ChipState). is_loopback c.latches) h ∙ (has_and 4 mcr.0 masks.mcr_bits refl ∙ sym (has_one 4 mcr.0))
 after_loopback c d (ReadsModem mcr) o h k =
     ap (λ (mcr : ℕ). has_any mcr mcr_bits.LOOP_BACK.0) (h.0.mcr ∙ sym h.1) ∙ sym (has_one 4 mcr.0)
+after_loopback c d MayReceive o h k = looping_as c d o h.mcr k
+after_loopback c d MaySend o h k = looping_as c d o h.mcr k
 after_loopback c d (Arrives byte errors) o h k = absurd h
 after_loopback c d _ o h k = looping_as c d o h.0.mcr k
 
@@ -95,6 +114,8 @@ after_fifos c d (SetsLine lcr) o h k = fifos_as c d o (ap (λ (c : ChipState). c
 after_fifos c d (SetsModem mcr) o h k = fifos_as c d o (ap (λ (c : ChipState). c.fifo) h) k
 after_fifos c d (IdentifiesInterrupt isr) o h k =
     h.0.fifo ∙ sym (ap (λ (v : ℕ). has v isr_bits.FIFOS_ENABLED.0) h.1 ∙ all_shown c.fifo (interrupt c))
+after_fifos c d MayReceive o h k = fifos_as c d o h.fifo k
+after_fifos c d MaySend o h k = fifos_as c d o h.fifo k
 after_fifos c d (Arrives byte errors) o h k = absurd h
 after_fifos c d _ o h k = fifos_as c d o h.0.fifo k
 
@@ -116,10 +137,6 @@ trigger_set false false x y c d o e f g h = trigger_as c d o g h
 trigger_set true false x y c d o e f g h = absurd (cc)
 trigger_set false true x y c d o e f g h = absurd (cc)
 
-taken_trigger : (queue : List Character) (r : ReceiverState) → (take_front queue r).trigger ≡ r.trigger
-taken_trigger [] r = refl
-taken_trigger (x ∷ xs) r = refl
-
 pub after_trigger : (c d : ChipState) (x : Action) (o : Option FifoTriggerLevel) → Does x c d →
     IsSo o (λ level. c.receiver.trigger ≡ level) → IsSo (option_or (trigger_of x) o) (λ level. d.receiver.trigger ≡ level)
 after_trigger c d (Sends byte) o h k = trigger_as c d o (ap (λ (c : ChipState). c.receiver.trigger) h) k
@@ -130,6 +147,8 @@ after_trigger c d (ControlsFifo fcr) o h k =
     h.trigger k
 after_trigger c d (SetsLine lcr) o h k = trigger_as c d o (ap (λ (c : ChipState). c.receiver.trigger) h) k
 after_trigger c d (SetsModem mcr) o h k = trigger_as c d o (ap (λ (c : ChipState). c.receiver.trigger) h) k
+after_trigger c d MayReceive o h k = trigger_as c d o h.trigger k
+after_trigger c d MaySend o h k = trigger_as c d o h.trigger k
 after_trigger c d (Arrives byte errors) o h k = absurd h
 after_trigger c d _ o h k = trigger_as c d o h.0.trigger k
 
@@ -311,6 +330,12 @@ more n m k p q = omega (arith, p, q)
 as_long : (n : ℕ) (xs ys : List Character) → ys ≡ xs → n ≤ length xs → n ≤ length ys
 as_long n xs ys e h = rw e h
 
+one_fewer : (n before after : ℕ) → n ≤ before → before ≤ after + 1 → n - 1 ≤ after
+one_fewer n before after p q = omega (arith, p, q)
+
+none_fewer : (n before after : ℕ) → n ≤ before → before ≤ after + 0 → n ≤ after
+none_fewer n before after p q = omega (arith, p, q)
+
 -- FCR is written: the judge takes the queue for emptied if it may be
 may_empty_is : (reset : ℕ) (s : Step) (fcr : FCR) → s.action ≡ ControlsFifo fcr →
     may_empty reset s ≡ (not (is_some s.setup.has_fifo) || empties reset s.setup.has_fifo fcr)
@@ -336,6 +361,8 @@ after_waiting n c d s (LooksAtLine lsr) is h f k w =
     let seen : has lsr.0 lsr_bits.DATA_READY.0 ≡ nat_lt 0 (length c.receiver.queue) =
     has_one 0 lsr.0 ∙ (ap (λ (v : ℕ). has_any v lsr_bits.DATA_READY.0) h.1 ∙ status_data c) in
     as_long _ _ _ h.0.waiting (shown_ready (has lsr.0 lsr_bits.DATA_READY.0) n (length c.receiver.queue) seen w)
+after_waiting n c d s MayReceive is h f k w = one_fewer n (length c.receiver.queue) (length d.receiver.queue) w h.waiting
+after_waiting n c d s MaySend is h f k w = none_fewer n (length c.receiver.queue) (length d.receiver.queue) w h.waiting
 after_waiting n c d s (Arrives byte errors) is h f k w = absurd h
 after_waiting n c d s _ is h f k w = as_long n _ _ h.0.waiting w
 
@@ -351,20 +378,6 @@ still_sent : (n left : ℕ) (rests : Bool) (c d : ChipState) → d.fifo ≡ c.fi
     IsSent n left c → IsSent (next_count n rests false) (if rests then 0 else left) d
 still_sent n left true c d e f h = none_sent (room d.fifo) (length d.transmitter.queue + 0)
 still_sent n left false c d e f h = rw (e, f) h
-
--- a byte that is written is in the queue, or the queue is full
-loaded : (fifo : Bool) (byte : ℕ) (t : TransmitterState) →
-    (length (load fifo byte t).queue ≡ length t.queue + 1) ⊎ (room fifo ≤ length (load fifo byte t).queue)
-loaded fifo byte t = go (nat_lt (length t.queue) (room fifo)) refl
-  where
-    full : (fifo : Bool) → nat_lt (length t.queue) (room fifo) ≡ false → room fifo ≤ length (if fifo then t.queue else byte ∷ [])
-    full true e = grind (arith, common_steps)
-    full false e = omega arith
-
-    go : (b : Bool) → nat_lt (length t.queue) (room fifo) ≡ b →
-        (length (load fifo byte t).queue ≡ length t.queue + 1) ⊎ (room fifo ≤ length (load fifo byte t).queue)
-    go true e = inl (rw e (length-append t.queue (byte ∷ [])))
-    go false e = inr (rw e (full fifo e))
 
 some_room : (fifo : Bool) → 1 ≤ room fifo
 some_room true = omega arith
@@ -387,6 +400,15 @@ controlled_sent n left false true on same reset c d f e i fifo queue h = absurd 
 controlled_sent n left false false on true reset c d f e i fifo queue h =
     still_sent n left false c d (fifo ∙ sym (same_true c.fifo on (sym i))) queue h
 controlled_sent n left false false on false reset c d f e i fifo queue h = absurd (cc)
+
+-- a byte may have been sent, or taken
+maybe_sent : (n left : ℕ) (rests : Bool) (most : ℕ) (c d : ChipState) → MayMove most c d → IsSent n left c →
+    IsSent (next_count n rests false) (if rests then 0 else left) d
+maybe_sent n left true most c d h w = none_sent (room d.fifo) (length d.transmitter.queue + 0)
+maybe_sent n left false most c d h w = rw h.fifo (as_many n left (length c.transmitter.queue) _ (room c.fifo) h.queued w)
+  where
+    as_many : (n left before after space : ℕ) → min before space ≤ after → min n space ≤ before + left → min n space ≤ after + left
+    as_many n left before after space p q = omega (arith, p, q)
 
 room_shown : (a b c : Bool) → (a || (b || c)) ≡ false → c ≡ false
 room_shown true b c e = absurd (cc)
@@ -411,6 +433,8 @@ after_sent n left c d s (SetsLine lcr) is h f w =
     still_sent n left (shows_room s) c d (ap (λ (c : ChipState). c.fifo) h) (ap (λ (c : ChipState). c.transmitter.queue) h) w
 after_sent n left c d s (SetsModem mcr) is h f w =
     still_sent n left (shows_room s) c d (ap (λ (c : ChipState). c.fifo) h) (ap (λ (c : ChipState). c.transmitter.queue) h) w
+after_sent n left c d s MayReceive is h f w = maybe_sent n left (shows_room s) 1 c d h w
+after_sent n left c d s MaySend is h f w = maybe_sent n left (shows_room s) 0 c d h w
 after_sent n left c d s (Arrives byte errors) is h f w = absurd h
 after_sent n left c d s _ is h f w = still_sent n left (shows_room s) c d h.0.fifo h.0.queued w
 
@@ -422,42 +446,38 @@ after_model c d (Receives byte) h = ap (λ (c : ChipState). c.model) h
 after_model c d (ControlsFifo fcr) h = h.model
 after_model c d (SetsLine lcr) h = ap (λ (c : ChipState). c.model) h
 after_model c d (SetsModem mcr) h = ap (λ (c : ChipState). c.model) h
+after_model c d MayReceive h = h.model
+after_model c d MaySend h = h.model
 after_model c d (Arrives byte errors) h = absurd h
 after_model c d _ h = h.0.model
 
--- what is known after an action is so, if what is known before it is: of DLAB that is said by itself
-pub after_with : (a : Auditor) (left : ℕ) (c d : ChipState) (s : Step) (x : Action) → s.action ≡ x → s.setup ≡ a.setup → Does x c d →
-    c.model ≡ Uart16550A → next_is_open a.setup.is_open x ≡ Some (is_dlab_set d.latches) → IsSo a.setup.modem (IsLooping c) →
-    IsSo a.setup.has_fifo (λ on. c.fifo ≡ on) → IsSo a.setup.trigger (λ level. c.receiver.trigger ≡ level) →
-    a.waiting ≤ length c.receiver.queue → IsSent a.sent left c → KnowsWhatIs (next a s) (if shows_room s then 0 else left) d
-after_with a left c d s x is same h model dlab loopback fifos trigger waiting sent = record {
-  model = after_model c d x h ∙ model;
-  dlab = subst (λ (x : Action). next_is_open a.setup.is_open x ≡ Some (is_dlab_set d.latches)) (sym is) dlab;
+-- what is known after an action is so, if what is known before it is
+pub after_all : (a : Auditor) (left : ℕ) (c d : ChipState) (s : Step) (x : Action) → s.action ≡ x → s.setup ≡ a.setup → Does x c d →
+    IsOffAtLook a.setup.is_open x c → KnowsWhatIs a left c → KnowsWhatIs (next a s) (if shows_room s then 0 else left) d
+after_all a left c d s x is same h off k = record {
+  model = after_model c d x h ∙ k.model;
+  dlab =
+      subst (λ (x : Action). IsSo (next_is_open a.setup.is_open x) (λ on. is_dlab_set d.latches ≡ on)) (sym is)
+      (after_dlab c d x a.setup.is_open h off k.dlab);
   loopback =
       subst (λ (x : Action). IsSo (option_or (modem_of x) a.setup.modem) (IsLooping d)) (sym is)
-      (after_loopback c d x a.setup.modem h loopback);
+      (after_loopback c d x a.setup.modem h k.loopback);
   fifos =
       subst (λ (x : Action). IsSo (option_or (fifo_of x) a.setup.has_fifo) (λ on. d.fifo ≡ on)) (sym is)
-      (after_fifos c d x a.setup.has_fifo h fifos);
+      (after_fifos c d x a.setup.has_fifo h k.fifos);
   trigger =
       subst (λ (x : Action). IsSo (option_or (trigger_of x) a.setup.trigger) (λ level. d.receiver.trigger ≡ level)) (sym is)
-      (after_trigger c d x a.setup.trigger h trigger);
+      (after_trigger c d x a.setup.trigger h k.trigger);
   waiting =
       subst (λ (x : Action). waiting_after a.waiting s x ≤ length d.receiver.queue) (sym is)
-      (after_waiting a.waiting c d s x is h fifos_now trigger_now waiting);
+      (after_waiting a.waiting c d s x is h fifos_now trigger_now k.waiting);
   sent =
       subst (λ (x : Action). IsSent (next_count a.sent (shows_room s) (sends x)) (if shows_room s then 0 else left) d) (sym is)
-      (after_sent a.sent left c d s x is h fifos_now sent);
+      (after_sent a.sent left c d s x is h fifos_now k.sent);
 }
   where
     fifos_now : IsSo s.setup.has_fifo (λ on. c.fifo ≡ on)
-    fifos_now = subst (λ (setup : Setup). IsSo setup.has_fifo (λ on. c.fifo ≡ on)) (sym same) fifos
+    fifos_now = subst (λ (setup : Setup). IsSo setup.has_fifo (λ on. c.fifo ≡ on)) (sym same) k.fifos
 
     trigger_now : IsSo s.setup.trigger (λ level. c.receiver.trigger ≡ level)
-    trigger_now = subst (λ (setup : Setup). IsSo setup.trigger (λ level. c.receiver.trigger ≡ level)) (sym same) trigger
-
-pub after_all : (a : Auditor) (left : ℕ) (c d : ChipState) (s : Step) (x : Action) → s.action ≡ x → s.setup ≡ a.setup → Does x c d →
-    KnowsWhatIs a left c → KnowsWhatIs (next a s) (if shows_room s then 0 else left) d
-after_all a left c d s x is same h k =
-    after_with a left c d s x is same h k.model (ap (λ (o : Option Bool). next_is_open o x) k.dlab ∙ after_dlab c d x h) k.loopback k.fifos
-    k.trigger k.waiting k.sent
+    trigger_now = subst (λ (setup : Setup). IsSo setup.trigger (λ level. c.receiver.trigger ≡ level)) (sym same) k.trigger

@@ -1,14 +1,12 @@
 -- Each finding that says that a byte is lost names an access that loses it.
 use Rattle.std.proofs.Common.{◌≡◌, ◌≤◌, ◌<◌, ℕ, ◌+◌, ◌-◌, ◌^◌, Bool, true, false, not, ◌&&◌, ◌||◌, ◌==◌, List, [], ◌∷◌, length, min, nat_lt}
 use Rattle.std.proofs.Common.{Option, Some, None, refl, sym, ◌∙◌, ap, subst, arith, if◌then◌else◌}
-use Rattle.std.specs.Prelude.{is_some, nat_le}
+use Rattle.std.specs.Prelude.{nat_le}
 use Rattle.std.proofs.lemmas.Grind.{common_steps}
-use Rattle.uart_spec.specs.Bits.{has, has_any}
 use Rattle.uart_spec.specs.declared.access.Access.{Access as RegisterAccess}
 use Rattle.uart_spec.specs.declared.access.Access.TheVariants.{Read, Write}
 use Rattle.uart_spec.specs.declared.registers.fifo_control.FCR.{FCR}
 use Rattle.uart_spec.specs.declared.registers.fifo_control.TheConstants.FCR as fcr_bits
-use Rattle.uart_spec.specs.declared.registers.line_control.TheConstants.LCR as lcr_bits
 use Rattle.uart_spec.specs.declared.registers.offsets.TheConstants as offsets
 use Rattle.uart_events.specs.declared.event.Chip.TheVariants.{Uart16550A}
 use Rattle.uart_spec.specs.declared.registers.line_status.LSR.{LSR}
@@ -26,10 +24,10 @@ use Rattle.uart_judges.specs.Actions.{action, read_action, write_action}
 use Rattle.uart_judges.specs.Findings.{all_found, change, changed, closed, closes, cuts, discard, findings_at, from_nothing}
 use Rattle.uart_judges.specs.Findings.{given, has_low_alone, is_at_rest, is_for_ier, is_in_break, is_other, is_other_frame, is_zero, latch}
 use Rattle.uart_judges.specs.Findings.{latched, loops_again, output, put_out}
-use Rattle.uart_judges.specs.Findings.{room, sent_before, taken, taken_from_nothing, when, with_errors}
+use Rattle.uart_judges.specs.Findings.{room, sent_before, taken, taken_from, taken_from_nothing, when}
 use Rattle.uart_judges.specs.History.{known, step_from}
-use Rattle.uart_judges.specs.Shows.{receives, sends}
-use Rattle.uart_judges.specs.Steps.{action_empties, depth, empties, loops_back, shows_room}
+use Rattle.uart_judges.specs.Shows.{looks_at_line, receives, sends}
+use Rattle.uart_judges.specs.Steps.{action_empties, depth, loops_back, shows_room}
 use Rattle.uart_judges.specs.Unread.{front}
 use Rattle.uart_judges.specs.declared.audit.action.Action.{Action}
 use Rattle.uart_judges.specs.declared.audit.action.Action.TheVariants.{Sends, ReadsDivisor, SetsDivisorLow, SetsDivisorHigh}
@@ -44,12 +42,12 @@ use Rattle.uart_judges.specs.declared.audit.unread.Arrived.{Arrived}
 use Rattle.uart_judges.specs.declared.recording.entry.Entry.{Entry}
 use Rattle.uart_judges.specs.declared.recording.entry.Happening.{Happening}
 use Rattle.uart_judges.specs.declared.recording.entry.Happening.TheVariants.{Access, Arrive, Interrupt, Lines}
-use Rattle.uart_judges_runs.specs.Lost.{AllLose, Follows, IsDropped, IsNextArrival, IsRight, IsSo, KnowsWhatIs, Loses, LosesIf}
+use Rattle.uart_judges_runs.specs.Lost.{AllLose, Follows, IsDropped, IsNextArrival, IsRight, IsSo, KnowsDlab, KnowsWhatIs, Loses, LosesIf}
 use Rattle.uart_judges_runs.specs.Lost.{left_after, left_at}
 use Rattle.uart_judges_runs.specs.Recorded.{is_of_calls}
 use Rattle.uart_judges_runs.proofs.Arrived.{after_arrival, sound_arrival}
-use Rattle.uart_judges_runs.proofs.Does.{Does, alike_refl, does_read, does_write}
-use Rattle.uart_judges_runs.proofs.Knows.{IsLooping, IsSent, after_all, after_dlab, after_with, is_cleared}
+use Rattle.uart_judges_runs.proofs.Does.{Does, alike_refl, does_read, does_write, no_write_looks, off_at_look}
+use Rattle.uart_judges_runs.proofs.Knows.{IsLooping, IsOffAtLook, IsSent, after_all, after_dlab, is_cleared}
 use Rattle.uart_judges_runs.proofs.Spared.{Spared, all_others}
 use Rattle.uart_judges_runs.proofs.Waits.{at_the_access}
 use Rattle.uart_judges_runs.proofs.Wire.{stays_inside}
@@ -282,19 +280,18 @@ module _ (a : Auditor) (left : ℕ) (c : ChipState) (n : MachineState) where
   nothing_lost again None None = lost_when a left c n again found.ReceivedWithoutLook (λ _. tt)
   nothing_lost again None (Some _) = lost_when a left c n again found.ReceivedWithoutLook (λ _. tt)
 
-  errors_lost : (oldest : Option Arrived) (again : Bool) → Lost a left c n (with_errors oldest again)
-  errors_lost (Some oldest) again = none_lost a left c n
-  errors_lost None again = lost_when a left c n again found.ErrorsNotRead (λ _. tt)
+  from_lost : (oldest : Option Arrived) → Lost a left c n (taken_from oldest a)
+  from_lost (Some oldest) = none_lost a left c n
+  from_lost None =
+      lost_if a left c n (a.waiting == 0) (taken_from_nothing a) (when a.has_taken found.ErrorsNotRead)
+      (λ _. lost_if a left c n a.is_at_work (from_nothing a.has_taken a.ready a.data_interrupt) None
+      (λ _. nothing_lost a.has_taken a.ready a.data_interrupt) (λ _. none_lost a left c n))
+      (λ _. lost_when a left c n a.has_taken found.ErrorsNotRead (λ _. tt))
 
   taken_lost : (s : Step) → Lost a left c n (taken a s)
   taken_lost s =
-      lost_if a left c n (not (receives s.action)) None
-      (if a.waiting == 0 then taken_from_nothing a else with_errors (front a.unread) a.has_taken)
-      (λ _. none_lost a left c n)
-      (λ _. lost_if a left c n (a.waiting == 0) (taken_from_nothing a) (with_errors (front a.unread) a.has_taken)
-      (λ _. lost_if a left c n a.is_at_work (from_nothing a.has_taken a.ready a.data_interrupt) None
-      (λ _. nothing_lost a.has_taken a.ready a.data_interrupt) (λ _. none_lost a left c n))
-      (λ _. errors_lost (front a.unread) a.has_taken))
+      lost_if a left c n (not (receives s.action)) None (taken_from (front a.unread) a)
+      (λ _. none_lost a left c n) (λ _. from_lost (front a.unread))
 
   -- the five that need more than their kind
   record FiveLost (s : Step) : Type 0 where
@@ -461,8 +458,9 @@ fits_in m sound = (sound_access m sound).chip.transmitter.in_room
 
 made : (past : List Entry) (left : ℕ) (m : MachineState) (e : Entry) (n : MachineState) (access : RegisterAccess) (x : Action) →
     e.happening ≡ Access access → IsSound m → KnowsWhatIs (known past) left m.chip → MachineStep m access n →
-    (step_from (known past) e).action ≡ x → Does x (at_access m).chip n.chip → Shown past left m e n
-made past left m e n access x is sound k step does h =
+    (step_from (known past) e).action ≡ x → Does x (at_access m).chip n.chip →
+    IsOffAtLook (known past).setup.is_open x (at_access m).chip → Shown past left m e n
+made past left m e n access x is sound k step does h off =
     let a = known past in
     let s = step_from a e in
     let now = left + (length m.chip.transmitter.queue - length (at_access m).chip.transmitter.queue) in
@@ -475,15 +473,17 @@ made past left m e n access x is sound k step does h =
       sound = sound_step m n access sound step;
       knows =
           subst (λ (now : ℕ). KnowsWhatIs (known (e ∷ past)) (if shows_room s then 0 else now) n.chip) (sym same)
-          (after_all a now (at_access m).chip n.chip s x does refl h here);
+          (after_all a now (at_access m).chip n.chip s x does refl h off here);
     }
 
-action_is : (past : List Entry) (left : ℕ) (m : MachineState) (e : Entry) (access : RegisterAccess) → e.happening ≡ Access access →
-    IsSound m → KnowsWhatIs (known past) left m.chip →
-    (step_from (known past) e).action ≡ action (Some (is_dlab_set (at_access m).chip.latches)) (Access access)
-action_is past left m e access is sound k =
-    ap (action (known past).setup.is_open) is ∙
-    ap (λ (o : Option Bool). action o (Access access)) (at_the_access (known past) left m sound k).dlab
+same_dlab : (m : MachineState) → is_dlab_set (at_access m).chip.latches ≡ is_dlab_set m.chip.latches
+same_dlab m = ap (λ (k : Kept). is_dlab_set k.latches) (kept_access m)
+
+not_looking : (x : Action) → IsNoAccess x → looks_at_line x ≡ true → ⊥
+not_looking Other q e = absurd (cc)
+not_looking (ChangesLines inputs) q e = absurd (cc)
+not_looking (Arrives byte errors) q e = absurd (cc)
+not_looking _ q e = absurd q
 
 passed : (past : List Entry) (left : ℕ) (m : MachineState) (e : Entry) (n : MachineState) (x : Action) (h : Happening) → e.happening ≡ h →
     IsSound m → KnowsWhatIs (known past) left m.chip → n ≡ m → (step_from (known past) e).action ≡ x → IsNoAccess x →
@@ -499,13 +499,13 @@ passed past left m e n x h is sound k step does quiet still none =
       knows =
           subst (λ (n : MachineState). KnowsWhatIs (known (e ∷ past)) (left_after past e left m n) n.chip) (sym step)
           (subst (λ (now : ℕ). KnowsWhatIs (known (e ∷ past)) (if shows_room s then 0 else now) m.chip) (sym same)
-          (after_all a left m.chip m.chip s x does refl none k));
+          (after_all a left m.chip m.chip s x does refl none (λ o looks. absurd (not_looking x quiet looks)) k));
     }
 
 arrived : (past : List Entry) (left : ℕ) (m : MachineState) (e : Entry) (n : MachineState) (byte : ℕ) (errors : LSR) →
-    e.happening ≡ Arrive byte errors → IsSound m → KnowsWhatIs (known past) left m.chip → is_some (known past).setup.has_fifo ≡ true →
-    is_some (known past).setup.modem ≡ true → IsNextArrival byte errors.0 m n → Shown past left m e n
-arrived past left m e n byte errors is sound k fifo modem next_one =
+    e.happening ≡ Arrive byte errors → IsSound m → KnowsWhatIs (known past) left m.chip → IsNextArrival byte errors.0 m n →
+    Shown past left m e n
+arrived past left m e n byte errors is sound k next_one =
     let a = known past in
     let s = step_from a e in
     let does : s.action ≡ Arrives byte errors = ap (action a.setup.is_open) is in
@@ -516,21 +516,27 @@ arrived past left m e n byte errors is sound k fifo modem next_one =
       sound = sound_arrival byte errors.0 m n next_one sound;
       knows =
           subst (λ (now : ℕ). KnowsWhatIs (known (e ∷ past)) (if shows_room s then 0 else now) n.chip) (sym same)
-          (after_arrival a left m n s byte errors does refl sound k fifo modem next_one);
+          (after_arrival a left m n s byte errors does refl sound k next_one);
     }
 
 entry : (past : List Entry) (left : ℕ) (m : MachineState) (e : Entry) (n : MachineState) (h : Happening) → e.happening ≡ h → IsSound m →
     KnowsWhatIs (known past) left m.chip → Follows (known past) h m n → Shown past left m e n
-entry past left m e n (Access (Read offset value)) is sound k step =
-    made past left m e n (Read offset value) _ is sound k step (action_is past left m e (Read offset value) is sound k)
-    (subst (λ (d : ChipState). Does (read_action (Some (is_dlab_set (at_access m).chip.latches)) offset value) (at_access m).chip d)
-    (ap (λ (m : MachineState). m.chip) (sym step.0)) (does_read (at_access m).chip offset value step.1))
-entry past left m e n (Access (Write offset value)) is sound k step =
-    made past left m e n (Write offset value) _ is sound k step (action_is past left m e (Write offset value) is sound k)
-    (subst (λ (d : ChipState). Does (write_action (Some (is_dlab_set (at_access m).chip.latches)) offset value) (at_access m).chip d)
-    (ap (λ (m : MachineState). m.chip) (sym step))
-    (does_write (at_access m).chip offset value (at_the_access (known past) left m sound k).model))
-entry past left m e n (Arrive byte errors) is sound k step = arrived past left m e n byte errors is sound k step.0 step.1 step.2
+entry past left m e n (Access (Read offset value)) is sound k made_so =
+    let o = (known past).setup.is_open in
+    made past left m e n (Read offset value) (read_action o offset value) is sound k made_so.step (ap (action o) is)
+    (subst (λ (d : ChipState). Does (read_action o offset value) (at_access m).chip d)
+    (ap (λ (m : MachineState). m.chip) (sym made_so.step.0))
+    (does_read (at_access m).chip offset value o (at_the_access (known past) left m sound k).dlab made_so.step.1))
+    (λ none looks. same_dlab m ∙ off_at_look o offset value m.chip made_so.off none looks)
+entry past left m e n (Access (Write offset value)) is sound k made_so =
+    let o = (known past).setup.is_open in
+    made past left m e n (Write offset value) (write_action o offset value) is sound k made_so.step (ap (action o) is)
+    (subst (λ (d : ChipState). Does (write_action o offset value) (at_access m).chip d)
+    (ap (λ (m : MachineState). m.chip) (sym made_so.step))
+    (does_write (at_access m).chip offset value o (at_the_access (known past) left m sound k).dlab
+    (at_the_access (known past) left m sound k).model))
+    (λ none looks. absurd (let e : false ≡ true = sym (no_write_looks o offset value) ∙ looks in cc))
+entry past left m e n (Arrive byte errors) is sound k step = arrived past left m e n byte errors is sound k step
 entry past left m e n (Interrupt is_raised) is sound k step =
     passed past left m e n Other (Interrupt is_raised) is sound k step (ap (action (known past).setup.is_open) is) tt refl
     (alike_refl m.chip, tt)
@@ -551,53 +557,70 @@ none_left : (r : Bool) (c : ChipState) (n : ℕ) → IsSent n (if r then 0 else 
 none_left true c n h = h
 none_left false c n h = h
 
--- nothing is known before, and the access shows DLAB
-begun : (m : MachineState) (e : Entry) (d : ChipState) (x : Action) → m.chip.model ≡ Uart16550A → (step_from (known []) e).action ≡ x →
-    Does x (at_access m).chip d → next_is_open None x ≡ Some (is_dlab_set d.latches) → KnowsWhatIs (known (e ∷ [])) 0 d
-begun m e d x model does h dlab =
-    let s = step_from (known []) e in
-    let c = (at_access m).chip in
-    let k = after_with (known []) 0 c d s x does refl h (ap (λ (k : Kept). k.model) (kept_access m) ∙ model) dlab tt tt tt none
-    (no_bytes (room_of c.fifo) (length c.transmitter.queue)) in
-    record {
-      model = k.model;
-      dlab = k.dlab;
-      loopback = k.loopback;
-      fifos = k.fifos;
-      trigger = k.trigger;
-      waiting = k.waiting;
-      sent = none_left (shows_room s) d (known (e ∷ [])).sent k.sent;
-    }
+-- nothing is known at the beginning
+pub nothing_known : (c : ChipState) → c.model ≡ Uart16550A → KnowsWhatIs (known []) 0 c
+nothing_known c model = record {
+  model = model;
+  dlab = tt;
+  loopback = tt;
+  fifos = tt;
+  trigger = tt;
+  waiting = none (length c.receiver.queue);
+  sent = no_bytes (room_of c.fifo) (length c.transmitter.queue);
+}
   where
-    none : 0 ≤ length (at_access m).chip.receiver.queue
-    none = omega arith
+    none : (n : ℕ) → 0 ≤ n
+    none n = omega arith
 
     no_bytes : (space queued : ℕ) → min 0 space ≤ queued + 0
     no_bytes space queued = omega arith
 
+-- nothing is known before, and the access shows DLAB
+begun : (m : MachineState) (e : Entry) (d : ChipState) (x : Action) → m.chip.model ≡ Uart16550A → (step_from (known []) e).action ≡ x →
+    Does x (at_access m).chip d → IsOffAtLook None x (at_access m).chip → next_is_open None x ≡ Some (is_dlab_set d.latches) →
+    KnowsDlab (known (e ∷ [])) 0 d
+begun m e d x model does h off dlab =
+    let s = step_from (known []) e in
+    let c = (at_access m).chip in
+    let k = after_all (known []) 0 c d s x does refl h off
+    (nothing_known c (ap (λ (k : Kept). k.model) (kept_access m) ∙ model)) in
+    record {
+      knows = record {
+        model = k.model;
+        dlab = k.dlab;
+        loopback = k.loopback;
+        fifos = k.fifos;
+        trigger = k.trigger;
+        waiting = k.waiting;
+        sent = none_left (shows_room s) d (known (e ∷ [])).sent k.sent;
+      };
+      dlab = ap (next_is_open None) does ∙ dlab;
+    }
+
 pub begins_read : (m n : MachineState) (e : Entry) (value : ℕ) → m.chip.model ≡ Uart16550A →
-    e.happening ≡ Access (Read offsets.LCR value) → MachineStep m (Read offsets.LCR value) n → KnowsWhatIs (known (e ∷ [])) 0 n.chip
+    e.happening ≡ Access (Read offsets.LCR value) → MachineStep m (Read offsets.LCR value) n → KnowsDlab (known (e ∷ [])) 0 n.chip
 begins_read m n e value model is step =
     let c = (at_access m).chip in
     let x : Action = ReadsLine (record { 0 = value }) in
-    let h : Does x c n.chip = subst (λ (n : MachineState). Does x c n.chip) (sym step.0) (does_read c offsets.LCR value step.1) in
-    begun m e n.chip x model (ap (action None) is) h (after_dlab c n.chip x h)
+    let h : Does x c n.chip = subst (λ (n : MachineState). Does x c n.chip) (sym step.0) (does_read c offsets.LCR value None tt step.1) in
+    let off : IsOffAtLook None x c = λ o looks. absurd (cc) in
+    begun m e n.chip x model (ap (action None) is) h off (ap Some (sym (after_dlab c n.chip x None h off tt)))
 
 pub begins_written : (m n : MachineState) (e : Entry) (value : ℕ) → m.chip.model ≡ Uart16550A →
-    e.happening ≡ Access (Write offsets.LCR value) → MachineStep m (Write offsets.LCR value) n → KnowsWhatIs (known (e ∷ [])) 0 n.chip
+    e.happening ≡ Access (Write offsets.LCR value) → MachineStep m (Write offsets.LCR value) n → KnowsDlab (known (e ∷ [])) 0 n.chip
 begins_written m n e value model is step =
     let c = (at_access m).chip in
     let x : Action = SetsLine (record { 0 = value }) in
     let h : Does x c n.chip = subst (λ (n : MachineState). Does x c n.chip) (sym step)
-    (does_write c offsets.LCR value (ap (λ (k : Kept). k.model) (kept_access m) ∙ model)) in
-    begun m e n.chip x model (ap (action None) is) h (after_dlab c n.chip x h)
+    (does_write c offsets.LCR value None tt (ap (λ (k : Kept). k.model) (kept_access m) ∙ model)) in
+    let off : IsOffAtLook None x c = λ o looks. absurd (cc) in
+    begun m e n.chip x model (ap (action None) is) h off (ap Some (sym (after_dlab c n.chip x None h off tt)))
 
 pub begins_looked : (m n : MachineState) (e : Entry) (value : ℕ) → m.chip.model ≡ Uart16550A → is_dlab_set m.chip.latches ≡ false →
-    e.happening ≡ Access (Read offsets.LSR value) → MachineStep m (Read offsets.LSR value) n → KnowsWhatIs (known (e ∷ [])) 0 n.chip
+    e.happening ≡ Access (Read offsets.LSR value) → MachineStep m (Read offsets.LSR value) n → KnowsDlab (known (e ∷ [])) 0 n.chip
 begins_looked m n e value model closed is step =
     let c = (at_access m).chip in
     let x : Action = LooksAtLine (record { 0 = value }) in
-    let h : Does x c n.chip = subst (λ (n : MachineState). Does x c n.chip) (sym step.0) (does_read c offsets.LSR value step.1) in
-    begun m e n.chip x model (ap (action None) is) h
-    (ap Some (sym (ap (λ (lcr : ℕ). has_any lcr lcr_bits.DLAB.0) h.0.lcr
-    ∙ (ap (λ (k : Kept). is_dlab_set k.latches) (kept_access m) ∙ closed))))
+    let h : Does x c n.chip = subst (λ (n : MachineState). Does x c n.chip) (sym step.0) (does_read c offsets.LSR value None tt step.1) in
+    let off : IsOffAtLook None x c = λ o looks. same_dlab m ∙ closed in
+    begun m e n.chip x model (ap (action None) is) h off (ap Some (sym (after_dlab c n.chip x None h off tt)))

@@ -21,7 +21,7 @@ use Rattle.uart_judges.specs.Actions.{action, data_read, data_written, ier_read}
 use Rattle.std.specs.Option.{option_or}
 use Rattle.uart_judges.specs.Findings.{all_found, closed, closes, cuts, given, has_low_alone, is_in_break, is_open, is_zero}
 use Rattle.uart_judges.specs.Findings.{loops_again, sent_before}
-use Rattle.uart_judges.specs.Findings.{taken_from_nothing, when, with_errors}
+use Rattle.uart_judges.specs.Findings.{taken_from, taken_from_nothing, when}
 use Rattle.uart_judges.specs.History.{next, next_count, next_since, step_from, waiting_after}
 use Rattle.uart_judges.specs.Setups.{next_is_open}
 use Rattle.uart_judges.specs.Shows.{fifo_of, looks_at_line, modem_of, opens as opens_action, receives, sends, sets_low, shows_thr_empty}
@@ -156,9 +156,11 @@ reading_begins fifo line shows e is a k =
 some_wait : (n : ℕ) (x y : Option Finding) → 1 ≤ n → Spared y → Spared (if n == 0 then x else y)
 some_wait n x y few p = let e : (n == 0) ≡ false = grind (arith, common_steps) in rw e p
 
-errors_looked : (oldest : Option Arrived) (again : Bool) → again ≡ false → Spared (with_errors oldest again)
-errors_looked (Some oldest) again e = nothing
-errors_looked None again e = rw e nothing
+errors_looked : (oldest : Option Arrived) (a : Auditor) → 1 ≤ a.waiting → a.has_taken ≡ false → Spared (taken_from oldest a)
+errors_looked (Some oldest) a few e = nothing
+errors_looked None a few e =
+    some_wait a.waiting (taken_from_nothing a) (when a.has_taken found.ErrorsNotRead) few
+    (subst (λ (b : Bool). Spared (when b found.ErrorsNotRead)) (sym e) nothing)
 
 pub reading_ends : (fifo : Bool) (byte : ℕ) → Moves (Reading fifo) (Read offsets.DATA byte) (KnowsAsTaken fifo)
 reading_ends fifo byte e is a w =
@@ -167,8 +169,7 @@ reading_ends fifo byte e is a w =
       all_spared a s (six_at a s (Receives byte) x (record {
         room = nothing;
         output = nothing;
-        taken = some_wait a.waiting (taken_from_nothing a) (with_errors (front a.unread) a.has_taken) w.waiting
-            (errors_looked (front a.unread) a.has_taken w.looked_for_errors);
+        taken = errors_looked (front a.unread) a w.waiting w.looked_for_errors;
         latch = nothing;
         change = nothing;
         discard = refl;

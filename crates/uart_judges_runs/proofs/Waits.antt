@@ -1,11 +1,11 @@
 -- What the judge knows of the software chip stays so while the schedule's events happen.
 use Rattle.std.proofs.Common.{◌≡◌, ◌≤◌, ◌<◌, ℕ, ◌+◌, ◌-◌, Bool, true, false, List, [], ◌∷◌, ◌++◌, length, length-append, min, nat_lt}
-use Rattle.std.proofs.Common.{Option, Some, None, refl, sym, ◌∙◌, ap, arith, if◌then◌else◌}
+use Rattle.std.proofs.Common.{Option, Some, None, refl, ◌∙◌, ap, arith, if◌then◌else◌}
 use Rattle.std.proofs.lemmas.Grind.{common_steps}
 use Rattle.uart_spec.specs.declared.registers.fifo_trigger_level.FifoTriggerLevel.{FifoTriggerLevel}
 use Rattle.uart_chip.specs.declared.receiver.Character.{Character}
 use Rattle.uart_chip.specs.declared.receiver.Origin.TheVariants.{Arrived}
-use Rattle.uart_chip.specs.Chip.{is_dlab_set, is_loopback}
+use Rattle.uart_chip.specs.Chip.{is_loopback}
 use Rattle.uart_chip.specs.Machine.{MachineState, at_access}
 use Rattle.uart_chip.specs.Receiver.{ReceiverState, come_back, enter, replace}
 use Rattle.uart_events.specs.declared.event.ArrivalMark.TheVariants.{Dropped}
@@ -16,7 +16,7 @@ use Rattle.uart_chip.proofs.lasting.Lasting.{LastsInEvents, chip_lasts-before}
 use Rattle.uart_run.proofs.Latches.{Kept, kept_access}
 use Rattle.uart_judges.specs.declared.audit.auditor.Auditor.{Auditor}
 use Rattle.uart_judges_runs.specs.Lost.{KnowsWhatIs}
-use Rattle.uart_judges_runs.proofs.Knows.{fifos_as, looping_as, trigger_as}
+use Rattle.uart_judges_runs.proofs.Knows.{dlab_as, fifos_as, looping_as, trigger_as}
 
 -- as many characters wait, at least, and no more than there is room for
 pub record Waits (n : ℕ) (level : FifoTriggerLevel) (fifo : Bool) (r : ReceiverState) : Type 0 where
@@ -96,7 +96,7 @@ at_the_access a left m sound k =
     let fifo : d.fifo ≡ c.fifo = ap (λ (k : Kept). k.fifo) kept in
     record {
       model = ap (λ (k : Kept). k.model) kept ∙ k.model;
-      dlab = k.dlab ∙ ap (λ (k : Kept). Some (is_dlab_set k.latches)) (sym kept);
+      dlab = dlab_as c d a.setup.is_open (ap (λ (k : Kept). k.latches.lcr) kept) k.dlab;
       loopback = looping_as c d a.setup.modem (ap (λ (k : Kept). k.latches.mcr) kept) k.loopback;
       fifos = fifos_as c d a.setup.has_fifo fifo k.fifos;
       trigger = trigger_as c d a.setup.trigger w.trigger k.trigger;

@@ -1,6 +1,6 @@
 -- What the warnings that say that a byte is lost mean on the software chip.
 use Rattle.std.specs.Prelude.{◌≡◌, ◌≤◌, ℕ, ◌+◌, ◌-◌, ◌^◌, ◌==◌, Bool, true, false, List, [], ◌∷◌, length, min}
-use Rattle.std.specs.Prelude.{◌++◌, Option, Some, None, is_some, if◌then◌else◌}
+use Rattle.std.specs.Prelude.{◌++◌, Option, Some, None, if◌then◌else◌}
 use Rattle.std.specs.List.{AllByRecursion}
 use Rattle.uart_spec.specs.Access.{Path}
 use Rattle.uart_spec.specs.Bits.{has}
@@ -31,17 +31,22 @@ abbrev pub IsSo : {A : Type 0} → Option A → (A → Type 0) → Type 0
 IsSo None Holds = Unit {0}
 IsSo (Some x) Holds = Holds x
 
--- What the judge knows of a 16550A is so: DLAB, which it does know, loopback, the FIFOs, and their trigger level. So
--- many bytes wait, at least. And the bytes that it counts as sent, up to those that there is room for, are in the
--- transmitter's queue, but for so many that have left it since
+-- What the judge knows of a 16550A is so: DLAB, loopback, the FIFOs, and their trigger level. So many bytes wait, at
+-- least. And the bytes that it counts as sent, up to those that there is room for, are in the transmitter's queue, but
+-- for so many that have left it since
 pub record KnowsWhatIs (a : Auditor) (left : ℕ) (c : ChipState) : Type 0 where
   pub model : c.model ≡ Uart16550A
-  pub dlab : a.setup.is_open ≡ Some (is_dlab_set c.latches)
+  pub dlab : IsSo a.setup.is_open (λ on. is_dlab_set c.latches ≡ on)
   pub loopback : IsSo a.setup.modem (λ mcr. is_loopback c.latches ≡ has mcr.0 MCR.LOOP_BACK.0)
   pub fifos : IsSo a.setup.has_fifo (λ on. c.fifo ≡ on)
   pub trigger : IsSo a.setup.trigger (λ level. c.receiver.trigger ≡ level)
   pub waiting : a.waiting ≤ length c.receiver.queue
   pub sent : min a.sent (room c.fifo) ≤ length c.transmitter.queue + left
+
+-- the same, and it does know DLAB
+pub record KnowsDlab (a : Auditor) (left : ℕ) (c : ChipState) : Type 0 where
+  pub knows : KnowsWhatIs a left c
+  pub dlab : a.setup.is_open ≡ Some (is_dlab_set c.latches)
 
 -- ---- what a finding says
 
@@ -99,12 +104,21 @@ pub record IsNextArrival (byte errors : ℕ) (m n : MachineState) : Type 0 where
   pub ahead : m.ahead ≡ before ++ scheduled.Arrive byte errors ∷ n.ahead
   pub chip : n.chip ≡ arrive byte errors (after_events before m.chip)
 
+-- where the judge does not know DLAB, a read of LSR finds it off: no driver reads LSR while it sets the divisor
+abbrev pub LooksWhileOff : (is_open : Option Bool) → RegisterAccess → ChipState → Type 0
+LooksWhileOff None (Read offset answer) c = offset ≡ offsets.LSR → is_dlab_set c.latches ≡ false
+LooksWhileOff None (Write offset value) c = Unit {0}
+LooksWhileOff (Some on) access c = Unit {0}
+
+pub record IsMade (a : Auditor) (access : RegisterAccess) (m n : MachineState) : Type 0 where
+  pub step : MachineStep m access n
+  pub off : LooksWhileOff a.setup.is_open access m.chip
+
 -- what happens at an entry leads from the one machine to the other: an access makes its step; an arrival, of which some
--- may not be recorded, happens where the judge knows FIFOs and loopback; levels and modem inputs are in the schedule
+-- may not be recorded, happens; levels and modem inputs are in the schedule
 abbrev pub Follows : Auditor → Happening → MachineState → MachineState → Type 0
-Follows a (Access access) m n = MachineStep m access n
-Follows a (Arrive byte errors) m n =
-    (is_some a.setup.has_fifo ≡ true) × (is_some a.setup.modem ≡ true) × IsNextArrival byte errors.0 m n
+Follows a (Access access) m n = IsMade a access m n
+Follows a (Arrive byte errors) m n = IsNextArrival byte errors.0 m n
 Follows a _ m n = n ≡ m
 
 -- the bytes that left the transmitter's queue, with those that leave it before an access or an arrival

@@ -16,7 +16,7 @@ ghost use Rattle.uart_judges.specs.History.{known};
 ghost use Rattle.uart_judges.specs.declared.recording.entry.Entry.{Entry};
 ghost use Rattle.uart_judges.specs.declared.recording.entry.Happening.TheVariants as happening;
 ghost use Rattle.uart_judges_runs.specs.Calls.{IsSteady, AreTaken, KnowsAsTaken};
-ghost use Rattle.uart_judges_runs.specs.Lost.{IsRight, KnowsWhatIs};
+ghost use Rattle.uart_judges_runs.specs.Lost.{IsRight, KnowsDlab, KnowsWhatIs};
 ghost use Rattle.uart_judges_runs.specs.Recorded.{HasNone, accesses_in, is_of_calls};
 ghost use Rattle.uart_judges_runs.specs.Runs.{IsOpenTo, IsSession};
 ghost use Rattle.uart_calls.specs.Lists.{IsListOf};
@@ -49,17 +49,23 @@ pub fn lost_bytes_are_lost()
         KnowsWhatIs (known past) left machine.chip → IsRight past left machine entries }
 {}
 
-/// A judge that knows nothing knows what is so after one access that shows DLAB: of LCR, or a read
-/// of LSR while DLAB is off.
+/// A judge that was given nothing knows nothing that is not so: a recording may begin anywhere.
+pub fn any_piece_is_enough()
+    ensures { (machine : MachineState) → machine.chip.model ≡ Uart16550A →
+        KnowsWhatIs (known []) 0 machine.chip }
+{}
+
+/// A judge that was given nothing knows what is so, and DLAB, after one access that shows it: of
+/// LCR, or a read of LSR while DLAB is off.
 pub fn one_access_is_enough()
     ensures read { (old new : MachineState) (e : Entry) (value : ℕ) → old.chip.model ≡ Uart16550A →
         e.happening ≡ happening.Access (Read offsets.LCR value) →
-        MachineStep old (Read offsets.LCR value) new → KnowsWhatIs (known (e ∷ [])) 0 new.chip }
+        MachineStep old (Read offsets.LCR value) new → KnowsDlab (known (e ∷ [])) 0 new.chip }
     ensures written { (old new : MachineState) (e : Entry) (value : ℕ) →
         old.chip.model ≡ Uart16550A → e.happening ≡ happening.Access (Write offsets.LCR value) →
-        MachineStep old (Write offsets.LCR value) new → KnowsWhatIs (known (e ∷ [])) 0 new.chip }
+        MachineStep old (Write offsets.LCR value) new → KnowsDlab (known (e ∷ [])) 0 new.chip }
     ensures looked { (old new : MachineState) (e : Entry) (value : ℕ) →
         old.chip.model ≡ Uart16550A → is_dlab_set old.chip.latches ≡ false →
         e.happening ≡ happening.Access (Read offsets.LSR value) →
-        MachineStep old (Read offsets.LSR value) new → KnowsWhatIs (known (e ∷ [])) 0 new.chip }
+        MachineStep old (Read offsets.LSR value) new → KnowsDlab (known (e ∷ [])) 0 new.chip }
 {}

@@ -179,6 +179,8 @@ fn right_drivers() {
         "w 3 83 0\nw 0 01\nw 1 00\nw 3 03\nr 5 60 0 @1000\nw 0 41 0 @2000\nw 3 02 0 @900000\n",
         // An error stays until LSR is read, though DATA was read.
         "r 5 60\na 04 41\nr 5 65\nr 0 41\nr 5 60\n",
+        // Two bytes that arrived by the recording are read at one interrupt, and MCR is not known.
+        "r 5 60\nr 2 c1\na 00 41\na 00 42\nr 2 c4\nr 0 41\nr 0 42\n",
     ] {
         assert_eq!(faults(recording.as_bytes()), [], "{recording}");
     }
@@ -221,6 +223,67 @@ fn linux_is_not_blamed() {
         (
             "CTS is off on a port without flow control: each handler reads MSR",
             "w 3 13\nw 2 81\nw 4 0b\nr 5 60\nr 6 b0\nw 1 07\nr 2 c2\nr 5 60\nr 6 a1\nw 0 41\n",
+        ),
+    ] {
+        assert_eq!(faults(recording.as_bytes()), [], "{what}");
+    }
+}
+
+// What is right in the middle of use, and would be blamed if what is not known were taken for known.
+#[test]
+fn what_is_not_known_is_not_counted() {
+    for (what, recording) in [
+        (
+            "DLAB is not known, and the byte that ISR showed is read before FCR empties the receiver",
+            "r 2 c4\nr 0 41\nw 2 07\n",
+        ),
+        (
+            "DLAB is not known, and the byte that arrived is read before FCR empties the receiver",
+            "w 2 07\nw 4 0b\na 00 41\nr 0 41\nw 2 07\n",
+        ),
+        (
+            "DLAB is not known, and the byte that ISR showed is read before FCR is written",
+            "r 2 c4\nr 0 41\nw 2 01\nr 5 60\n",
+        ),
+        (
+            "DLAB is not known, and received data is served at DATA: the next byte interrupts again",
+            "r 2 c4\nr 0 41\nr 2 c4\n",
+        ),
+        (
+            "DLAB is not known, and the interrupt is disabled for a time: it comes again",
+            "r 2 c4\nw 1 00\nw 1 05\nr 2 c4\n",
+        ),
+        (
+            "DLAB is not known, and the byte of the interrupt is read before LSR",
+            "r 2 c4\nr 0 41\nr 5 60\n",
+        ),
+        (
+            "DLAB is not known, and the byte that arrived is read before LSR",
+            "w 2 07\na 00 41\nr 0 41\nr 5 60\n",
+        ),
+        (
+            "DLAB is not known, and the byte that arrived is read before the next one",
+            "w 2 07\na 00 41\nr 0 41\nr 3 03\na 00 42\nr 0 42\n",
+        ),
+        (
+            "DLAB is not known, and a byte is sent before the interrupt of an empty THR is enabled",
+            "r 2 c2\nw 0 41\nr 3 03\nw 1 00\nw 1 02\nr 2 c1\n",
+        ),
+        (
+            "DLAB is not known, and what is sent in loopback comes back before the next byte arrives",
+            "w 4 1b\nw 2 07\nw 0 41\nw 4 0b\na 00 42\nr 3 03\nr 0 41\n",
+        ),
+        (
+            "DLAB is not known, and a byte is sent after MSR showed CTS clear",
+            "r 6 10\nr 6 00\nw 0 41\nr 3 03\nw 0 42\n",
+        ),
+        (
+            "the FIFOs are not known: without them the second byte takes the place of the first",
+            "w 3 03\nw 4 0b\na 00 41\na 00 42\nr 0 42\nw 2 07\n",
+        ),
+        (
+            "MCR is not known, and shows loopback: what arrives meanwhile is not received",
+            "r 2 c1\na 00 41\nr 4 1b\nw 2 07\n",
         ),
     ] {
         assert_eq!(faults(recording.as_bytes()), [], "{what}");

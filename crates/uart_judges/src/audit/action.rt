@@ -44,7 +44,13 @@ pub enum Action {
     Arrives(u8, LSR),
     /// The modem inputs become these.
     ChangesLines(MSR),
-    /// Something that no finding is about, or offset 0 or 1 while DLAB is not known.
+    /// A read of offset 0 while DLAB is not known, which may take a byte from the receiver.
+    MayReceive,
+    /// A write of offset 0 while DLAB is not known, which may give a byte to the transmitter.
+    MaySend,
+    /// A write of offset 1 while DLAB is not known, which may enable interrupts or disable them.
+    MayEnable,
+    /// Something that no finding is about, or a read of offset 1 while DLAB is not known.
     Other,
 }
 
@@ -53,7 +59,7 @@ fn data_read(is_open: Option<bool>, answer: u8) -> Action
     ensures { result ≡ spec.data_read is_open answer }
 {
     match is_open {
-        None => Action::Other,
+        None => Action::MayReceive,
         Some(true) => Action::ReadsDivisor,
         Some(false) => Action::Receives(answer),
     }
@@ -75,7 +81,7 @@ fn data_written(is_open: Option<bool>, value: u8) -> Action
     ensures { result ≡ spec.data_written is_open value }
 {
     match is_open {
-        None => Action::Other,
+        None => Action::MaySend,
         Some(true) => Action::SetsDivisorLow(value),
         Some(false) => Action::Sends(value),
     }
@@ -86,7 +92,7 @@ fn ier_written(is_open: Option<bool>, value: u8) -> Action
     ensures { result ≡ spec.ier_written is_open value }
 {
     match is_open {
-        None => Action::Other,
+        None => Action::MayEnable,
         Some(true) => Action::SetsDivisorHigh(value),
         Some(false) => Action::EnablesInterrupts(IER::from_bits_retain(value)),
     }

@@ -97,17 +97,18 @@ fn shown_by(interrupt: Option<InterruptType>, level: u8) -> u8
     }
 }
 
-// Returns how many bytes wait after one more arrived, of which none is received in loopback.
+// Returns how many bytes wait after one more arrived, at least. In loopback it is not received, and
+// without FIFO it may have taken the place of another.
 fn waiting_after_arrival(waiting: u8, setup: Setup) -> u8
     ensures { result ≡ spec.waiting_after_arrival waiting setup }
 {
-    if setup.loops_back() {
+    if !setup.is_on_line() {
         return waiting;
     }
-    waiting.saturating_add(1).min(setup.depth())
+    waiting.saturating_add(1).min(setup.least_depth())
 }
 
-// Returns how many received bytes are known to wait.
+// Returns how many received bytes wait, at least.
 pub(crate) fn waiting_after(waiting: u8, step: Step) -> u8
     ensures { result ≡ spec.next_waiting waiting step }
 {
@@ -122,7 +123,7 @@ pub(crate) fn waiting_after(waiting: u8, step: Step) -> u8
         Action::IdentifiesInterrupt(isr) => {
             waiting.max(shown_by(identified(isr), level(step.setup)))
         }
-        Action::Receives(_) => waiting.saturating_sub(1),
+        Action::Receives(_) | Action::MayReceive => waiting.saturating_sub(1),
         Action::Arrives(_, _) => waiting_after_arrival(waiting, step.setup),
         Action::ControlsFifo(_) if step.may_empty(FCR::RX_FIFO_RESET) => 0,
         _ => waiting,
@@ -188,6 +189,7 @@ fn data_interrupt_after(before: Option<InterruptType>, step: Step) -> Option<Int
             _ => None,
         },
         Action::Receives(_)
+        | Action::MayReceive
         | Action::LooksAtLine(_)
         | Action::ControlsFifo(_)
         | Action::EnablesInterrupts(_) => None,
@@ -285,7 +287,7 @@ fn cts_after(before: Option<bool>, step: Step) -> Option<bool>
 {
     match step.action {
         Action::LooksAtModem(msr) => Some(msr.contains(MSR::CTS)),
-        Action::Sends(_) => None,
+        Action::Sends(_) | Action::MaySend => None,
         _ => before,
     }
 }
@@ -327,15 +329,16 @@ impl Auditor {
     {
         let step = *step;
         let action = step.action;
+        let (sends, may_send) = (action.sends(), action.may_send());
         Auditor {
             setup: self.setup.after(action),
             sent_at: sent_at_after(self.sent_at, step),
-            sent: count(self.sent, step.shows_room(), action.sends()),
-            going_out: count(self.going_out, step.shows_idle(), action.sends()),
-            is_thr_empty: since(self.is_thr_empty, action.sends(), action.shows_thr_empty()),
+            sent: count(self.sent, step.shows_room(), sends),
+            going_out: count(self.going_out, step.shows_idle(), sends),
+            is_thr_empty: since(self.is_thr_empty, may_send, action.shows_thr_empty()),
             is_acknowledged: since(
                 self.is_acknowledged,
-                action.sends(),
+                may_send,
                 action.identifies_thr_empty(),
             ),
             is_thr_due: is_thr_due_after(self.is_thr_due, self.is_thr_empty, step),

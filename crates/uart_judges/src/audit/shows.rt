@@ -55,6 +55,20 @@ impl Action {
         matches!(self, Action::Receives(_))
     }
 
+    // Returns whether a byte is given to the transmitter, or may be.
+    pub(crate) fn may_send(self) -> bool
+        ensures { result ≡ spec.may_send self }
+    {
+        matches!(self, Action::Sends(_) | Action::MaySend)
+    }
+
+    // Returns whether a byte is taken from the receiver, or may be.
+    pub(crate) fn may_receive(self) -> bool
+        ensures { result ≡ spec.may_receive self }
+    {
+        matches!(self, Action::Receives(_) | Action::MayReceive)
+    }
+
     // Returns whether LSR is read.
     pub(crate) fn looks_at_line(self) -> bool
         ensures { result ≡ spec.looks_at_line self }
@@ -175,10 +189,14 @@ impl Action {
         matches!(self, Action::ReadsDivisor) || self.opens()
     }
 
-    // Returns whether this writes IER without these bits.
-    pub(crate) fn disables(self, interrupts: IER) -> bool
-        ensures { result ≡ spec.disables interrupts.0 self }
+    // Returns whether this writes IER without these bits, or may do so.
+    pub(crate) fn may_disable(self, interrupts: IER) -> bool
+        ensures { result ≡ spec.may_disable interrupts.0 self }
     {
-        matches!(self, Action::EnablesInterrupts(ier) if !ier.contains(interrupts))
+        match self {
+            Action::EnablesInterrupts(ier) => !ier.contains(interrupts),
+            Action::MayEnable => true,
+            _ => false,
+        }
     }
 }

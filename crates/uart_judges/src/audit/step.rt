@@ -91,8 +91,8 @@ fn empties(reset: FCR, has_fifo: Option<bool>, fcr: FCR) -> bool
 }
 
 impl Setup {
-    // Returns how many bytes fit into an empty transmitter, or receiver. What is not known is not
-    // held against the driver.
+    // Returns how many bytes fit into an empty transmitter, at most. What is not known is not held
+    // against the driver.
     pub(crate) fn depth(self) -> u8
         ensures value { result ≡ spec.depth self.has_fifo }
         ensures range { result < 17 }
@@ -103,12 +103,32 @@ impl Setup {
         }
     }
 
+    // Returns how many bytes fit into an empty receiver, at least.
+    pub(crate) fn least_depth(self) -> u8
+        ensures { result ≡ spec.least_depth self.has_fifo }
+    {
+        match self.has_fifo {
+            Some(true) => FIFO_SIZE as u8,
+            _ => 1,
+        }
+    }
+
     // Returns whether loopback is on.
     pub(crate) fn loops_back(self) -> bool
         ensures { result ≡ spec.loops_back self.modem }
     {
         match self.modem {
             Some(mcr) => mcr.contains(MCR::LOOP_BACK),
+            None => false,
+        }
+    }
+
+    // Returns whether loopback is known to be off, so that what arrives is received.
+    pub(crate) fn is_on_line(self) -> bool
+        ensures { result ≡ spec.is_on_line self.modem }
+    {
+        match self.modem {
+            Some(mcr) => !mcr.contains(MCR::LOOP_BACK),
             None => false,
         }
     }
@@ -217,13 +237,13 @@ impl Step {
     {
         match interrupt {
             InterruptType::ReceiverLineStatus => {
-                self.action.looks_at_line() || self.action.disables(IER::RECEIVER_LINE_STATUS)
+                self.action.looks_at_line() || self.action.may_disable(IER::RECEIVER_LINE_STATUS)
             }
             InterruptType::ReceivedDataReady | InterruptType::ReceptionTimeout => {
                 self.takes_or_looks() || self.may_empty(FCR::RX_FIFO_RESET)
             }
             InterruptType::ModemStatus => {
-                self.action.looks_at_modem() || self.action.disables(IER::MODEM_STATUS)
+                self.action.looks_at_modem() || self.action.may_disable(IER::MODEM_STATUS)
             }
             InterruptType::TransmitterHoldingRegisterEmpty
             | InterruptType::DmaReceptionEndOfTransfer
@@ -231,13 +251,14 @@ impl Step {
         }
     }
 
-    // Returns whether a byte is taken, or LSR read, or the interrupt of received data disabled.
+    // Returns whether a byte is taken, or LSR read, or the interrupt of received data disabled; or
+    // whether that may be so.
     fn takes_or_looks(self) -> bool
         ensures { result ≡ spec.takes_or_looks self }
     {
-        if self.action.receives() {
+        if self.action.may_receive() {
             return true;
         }
-        self.action.looks_at_line() || self.action.disables(IER::DATA_READY)
+        self.action.looks_at_line() || self.action.may_disable(IER::DATA_READY)
     }
 }

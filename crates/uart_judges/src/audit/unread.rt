@@ -167,6 +167,16 @@ impl Unread {
         }
     }
 
+    // Returns what waits after a read of offset 0 that may have taken the oldest character.
+    fn after_maybe_read(self) -> Self
+        ensures { result ≡ spec.maybe_taken self (spec.front self) }
+    {
+        match self.front() {
+            None => self,
+            Some(_) => Unread::unknown(),
+        }
+    }
+
     // Returns what waits after FCR was written.
     fn after_control(self, step: Step) -> Self
         ensures { result ≡ spec.after_control self step }
@@ -197,7 +207,8 @@ impl Unread {
             Action::LooksAtLine(lsr) => self.after_look(lsr),
             Action::Receives(byte) => self.after_read(byte),
             Action::ControlsFifo(_) => self.after_control(step),
-            Action::Sends(_) if step.setup.loops_back() => Unread::unknown(),
+            Action::MayReceive => self.after_maybe_read(),
+            Action::Sends(_) | Action::MaySend if step.setup.loops_back() => Unread::unknown(),
             Action::Arrives(_, _) if step.setup.loops_back() => Unread::unknown(),
             Action::Arrives(byte, errors) => {
                 self.after_arrival(step.setup.has_fifo, Arrived { byte, errors })

@@ -42,14 +42,20 @@ pub enum Action {
     Arrives(u8, LSR),
     /// The modem inputs become these.
     ChangesLines(MSR),
-    /// Something that no finding is about, or offset 0 or 1 while DLAB is not known.
+    /// A read of offset 0 while DLAB is not known, which may take a byte from the receiver.
+    MayReceive,
+    /// A write of offset 0 while DLAB is not known, which may give a byte to the transmitter.
+    MaySend,
+    /// A write of offset 1 while DLAB is not known, which may enable interrupts or disable them.
+    MayEnable,
+    /// Something that no finding is about, or a read of offset 1 while DLAB is not known.
     Other,
 }
 
 // Returns what a read of offset 0 does. What it does depends on DLAB.
 fn data_read(is_open: Option<bool>, answer: u8) -> Action {
     match is_open {
-        None => Action::Other,
+        None => Action::MayReceive,
         Some(true) => Action::ReadsDivisor,
         Some(false) => Action::Receives(answer),
     }
@@ -67,7 +73,7 @@ fn ier_read(is_open: Option<bool>, answer: u8) -> Action {
 // Returns what a write of offset 0 does.
 fn data_written(is_open: Option<bool>, value: u8) -> Action {
     match is_open {
-        None => Action::Other,
+        None => Action::MaySend,
         Some(true) => Action::SetsDivisorLow(value),
         Some(false) => Action::Sends(value),
     }
@@ -76,7 +82,7 @@ fn data_written(is_open: Option<bool>, value: u8) -> Action {
 // Returns what a write of offset 1 does.
 fn ier_written(is_open: Option<bool>, value: u8) -> Action {
     match is_open {
-        None => Action::Other,
+        None => Action::MayEnable,
         Some(true) => Action::SetsDivisorHigh(value),
         Some(false) => Action::EnablesInterrupts(IER::from_bits_retain(value)),
     }

@@ -202,19 +202,19 @@ fn taken_from_nothing(a: &Auditor) -> Option<Finding> {
     }
 }
 
-// Returns what is wrong with a read of DATA. What the recording has of the character says whether
-// there was an error to be seen.
+// Returns what is wrong with a read of DATA. If the recording has the character that waits, it says
+// whether there was an error to be seen.
 pub(crate) fn taken(a: &Auditor, s: &Step) -> Option<Finding> {
     if !s.action.receives() {
+        return None;
+    }
+    if a.unread.front().is_some() {
         return None;
     }
     if a.waiting == 0 {
         return taken_from_nothing(a);
     }
-    match a.unread.front() {
-        Some(_) => None,
-        None => when(a.has_taken, Finding::ErrorsNotRead),
-    }
+    when(a.has_taken, Finding::ErrorsNotRead)
 }
 
 // Returns whether the character behind the oldest one has this byte.

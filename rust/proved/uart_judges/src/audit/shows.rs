@@ -40,6 +40,16 @@ impl Action {
         matches!(self, Action::Receives(_))
     }
 
+    // Returns whether a byte is given to the transmitter, or may be.
+    pub(crate) fn may_send(self) -> bool {
+        matches!(self, Action::Sends(_) | Action::MaySend)
+    }
+
+    // Returns whether a byte is taken from the receiver, or may be.
+    pub(crate) fn may_receive(self) -> bool {
+        matches!(self, Action::Receives(_) | Action::MayReceive)
+    }
+
     // Returns whether LSR is read.
     pub(crate) fn looks_at_line(self) -> bool {
         matches!(self, Action::LooksAtLine(_))
@@ -130,8 +140,12 @@ impl Action {
         matches!(self, Action::ReadsDivisor) || self.opens()
     }
 
-    // Returns whether this writes IER without these bits.
-    pub(crate) fn disables(self, interrupts: IER) -> bool {
-        matches!(self, Action::EnablesInterrupts(ier) if !ier.contains(interrupts))
+    // Returns whether this writes IER without these bits, or may do so.
+    pub(crate) fn may_disable(self, interrupts: IER) -> bool {
+        match self {
+            Action::EnablesInterrupts(ier) => !ier.contains(interrupts),
+            Action::MayEnable => true,
+            _ => false,
+        }
     }
 }
