@@ -216,8 +216,8 @@ fn write_received(finding: &Finding, f: &mut fmt::Formatter<'_>) -> fmt::Result 
             arrived.errors.bits()
         ),
         Finding::WaitingDiscarded => f.write_str(
-            "FCR emptied the receiver while LSR bit 0 (DR) was set: the bytes that waited are lost. \
-             Read DATA first",
+            "FCR emptied the receiver while a byte waited, which LSR, ISR or its arrival showed: \
+             what waited is lost. Read DATA first",
         ),
         _ => f.write_str(
             "offset 0 was read to receive a byte, and returned DLL, since LCR bit 7 (DLAB) is set. \
@@ -231,7 +231,7 @@ fn write_setting(finding: &Finding, f: &mut fmt::Formatter<'_>) -> fmt::Result {
         Finding::InterruptsIntoLatch(value) => write!(
             f,
             "{value:02x} was written to DLM, and may be meant for IER: offset 1 is DLM while LCR bit \
-             7 (DLAB) is set. The rate is wrong, and no interrupt was enabled. Clear DLAB before \
+             7 (DLAB) is set. It went into the divisor, and IER stays as it was. Clear DLAB before \
              IER is written"
         ),
         Finding::HighByteNotSet => f.write_str(

@@ -83,6 +83,39 @@ fn a_timeline_up_to_a_warning_shows_it() {
     }
 }
 
+// A text says no more than the recording shows: that ISR or an arrival showed a byte, and not LSR;
+// and not that no interrupt is enabled, where one was before.
+#[test]
+fn a_text_says_what_is_known() {
+    for (recording, name, untrue) in [
+        ("w 3 03\nr 2 c4\nw 2 07\n", "received-discarded", "was set"),
+        (
+            "w 3 03\nw 4 0b\na 00 41\nw 2 07\n",
+            "received-discarded",
+            "was set",
+        ),
+        (
+            "w 3 03\nw 1 05\nw 3 83\nw 0 0c\nw 1 05\n",
+            "ier-under-dlab",
+            "no interrupt was enabled",
+        ),
+    ] {
+        let mut texts = Vec::new();
+        let tell = |found: &Found| {
+            if found.kind.severity() == "warning" {
+                texts.push((found.kind.name(), found.kind.to_string()));
+            }
+            Ok(())
+        };
+        judge_recording(Judge::Audit, recording.as_bytes(), tell).unwrap();
+        let [(found, text)] = &texts[..] else {
+            panic!("{texts:?}");
+        };
+        assert_eq!(*found, name);
+        assert!(!text.contains(untrue), "{text}");
+    }
+}
+
 #[test]
 fn each_kind_has_a_section_in_the_document() {
     let text = fs::read_to_string(Path::new(EXAMPLES).join("../docs/AUDIT.md")).unwrap();
