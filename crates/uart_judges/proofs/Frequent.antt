@@ -4,10 +4,9 @@ use Rattle.std.proofs.Common.{Option, Some, None, List, [], ◌∷◌}
 use Rattle.uart_spec.specs.declared.registers.fifo_control.TheConstants.FCR as fcr_bits
 use Rattle.uart_spec.specs.declared.registers.line_status.LSR.{LSR}
 use Rattle.uart_judges.specs.Findings.{all_found, arrival, arrived_at, change, chip, discard, empty, flow, gate, is_at_rest, latch}
-use Rattle.uart_judges.specs.Findings.{level, line_up, note, output, overrun, room, served_by, service, taken, transfers}
+use Rattle.uart_judges.specs.Findings.{level, line_up, note, output, overrun, room, served_by, service, taken}
 use Rattle.uart_judges.specs.Steps.{is_line_up, step_empties}
 use Rattle.uart_judges.specs.Unread.{front}
-use Rattle.uart_judges.specs.declared.audit.action.Action.{Action}
 use Rattle.uart_judges.specs.declared.audit.action.Action.TheVariants.{LooksAtLine, Receives, Sends}
 use Rattle.uart_judges.specs.declared.audit.auditor.Auditor.{Auditor}
 use Rattle.uart_judges.specs.declared.audit.auditor.Identified.{Identified}
@@ -34,7 +33,7 @@ not_arrived : (a : Auditor) (o : Option Arrived) (byte : ℕ) → arrived_at a o
 not_arrived a None byte = refl
 not_arrived a (Some oldest) byte = refl
 
-cons : (x y : Option Finding) (xs ys : List (Option Finding)) → x ≡ y → xs ≡ ys → x ∷ xs ≡ y ∷ ys
+pub cons : (x y : Option Finding) (xs ys : List (Option Finding)) → x ≡ y → xs ≡ ys → x ∷ xs ≡ y ∷ ys
 cons x y xs ys p q = rw (p, q) refl
 
 -- ---- a read of LSR

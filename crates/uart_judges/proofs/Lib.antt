@@ -14,4 +14,5 @@ pub mod Explaining
 pub mod Again
 pub mod Audited
 pub mod Frequent
+pub mod OfChip
 mod Printed

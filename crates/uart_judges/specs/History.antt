@@ -1,6 +1,5 @@
 -- What the entries of a recording show about the chip and its driver. The latest is the first of a list.
 use Rattle.std.specs.Prelude.{ℕ, ◌+◌, ◌-◌, ◌^◌, Bool, true, false, ◌&&◌, ◌||◌, not, if◌then◌else◌, max, min, nat_lt}
-use Rattle.std.specs.Prelude.{nat_le}
 use Rattle.std.specs.Prelude.{◌==◌, Option, Some, None, is_some, List, [], ◌∷◌}
 use Rattle.uart_chip.specs.Receiver.{characters_of}
 use Rattle.uart_spec.specs.Bits.{has}

@@ -13,6 +13,7 @@ pub mod Actions
 pub mod Shows
 pub mod History
 pub mod Findings
+pub mod OfChip
 pub mod Setups
 pub mod Steps
 pub mod Unread

@@ -1,7 +1,7 @@
 -- What one action does or shows, whatever was before it.
-use Rattle.std.specs.Prelude.{ℕ, ◌+◌, ◌^◌, Bool, true, false, ◌==◌, ◌&&◌, ◌||◌, not, if◌then◌else◌, nat_le}
+use Rattle.std.specs.Prelude.{ℕ, ◌+◌, ◌^◌, Bool, true, false, ◌==◌, ◌&&◌, not, if◌then◌else◌, nat_le}
 use Rattle.std.specs.Prelude.{Option, Some, None, find}
-use Rattle.uart_spec.specs.Bits.{field, has, has_any}
+use Rattle.uart_spec.specs.Bits.{field, has}
 use Rattle.uart_spec.specs.Fields.{interrupt_code}
 use Rattle.uart_spec.specs.Orders.{interrupt_types}
 use Rattle.uart_spec.specs.declared.registers.fifo_control.FCR.{FCR}
@@ -10,22 +10,14 @@ use Rattle.uart_spec.specs.declared.registers.fifo_trigger_level.FifoTriggerLeve
 use Rattle.uart_spec.specs.declared.registers.fifo_trigger_level.FifoTriggerLevel.TheVariants.{One, Four, Eight}
 use Rattle.uart_spec.specs.declared.registers.fifo_trigger_level.FifoTriggerLevel.TheVariants.{Fourteen}
 use Rattle.uart_spec.specs.declared.registers.interrupt_enable.IER.{IER}
-use Rattle.uart_spec.specs.declared.registers.interrupt_enable.TheConstants.IER as ier_bits
 use Rattle.uart_spec.specs.declared.registers.interrupt_status.ISR.{ISR}
 use Rattle.uart_spec.specs.declared.registers.interrupt_status.TheConstants.ISR as isr_bits
 use Rattle.uart_spec.specs.declared.registers.interrupt_type.InterruptType.{InterruptType}
-use Rattle.uart_spec.specs.declared.registers.interrupt_type.InterruptType.TheVariants.{ReceiverLineStatus}
-use Rattle.uart_spec.specs.declared.registers.interrupt_type.InterruptType.TheVariants.{ReceivedDataReady}
-use Rattle.uart_spec.specs.declared.registers.interrupt_type.InterruptType.TheVariants.{ReceptionTimeout}
 use Rattle.uart_spec.specs.declared.registers.interrupt_type.InterruptType.TheVariants.{TransmitterHoldingRegisterEmpty}
-use Rattle.uart_spec.specs.declared.registers.interrupt_type.InterruptType.TheVariants.{ModemStatus}
-use Rattle.uart_spec.specs.declared.registers.interrupt_type.InterruptType.TheVariants.{DmaReceptionEndOfTransfer}
-use Rattle.uart_spec.specs.declared.registers.interrupt_type.InterruptType.TheVariants.{DmaTransmissionEndOfTransfer}
 use Rattle.uart_spec.specs.declared.registers.line_control.LCR.{LCR}
 use Rattle.uart_spec.specs.declared.registers.line_control.TheConstants.LCR as lcr_bits
 use Rattle.uart_spec.specs.declared.registers.line_status.TheConstants.LSR as lsr_bits
 use Rattle.uart_spec.specs.declared.registers.modem_control.MCR.{MCR}
-use Rattle.uart_spec.specs.declared.registers.modem_status.TheConstants.MSR as msr_bits
 use Rattle.uart_judges.specs.declared.audit.action.Action.{Action}
 use Rattle.uart_judges.specs.declared.audit.action.Action.TheVariants.{Receives, Sends, ReadsDivisor, SetsDivisorLow}
 use Rattle.uart_judges.specs.declared.audit.action.Action.TheVariants.{SetsDivisorHigh, EnablesInterrupts}

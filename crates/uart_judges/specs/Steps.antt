@@ -1,5 +1,5 @@
 -- What one entry of a recording shows, beside what is known of the set-up before it.
-use Rattle.std.specs.Prelude.{ℕ, ◌+◌, ◌-◌, ◌*◌, Bool, true, false, ◌==◌, ◌&&◌, ◌||◌, not, if◌then◌else◌, nat_le, min}
+use Rattle.std.specs.Prelude.{ℕ, ◌+◌, ◌-◌, ◌*◌, Bool, true, false, ◌&&◌, ◌||◌, not, nat_le, min}
 use Rattle.std.specs.Prelude.{Option, Some, None, is_some}
 use Rattle.uart_spec.specs.Bits.{has}
 use Rattle.uart_spec.specs.declared.baud.TheConstants.{FIFO_SIZE}

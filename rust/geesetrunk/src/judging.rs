@@ -5,7 +5,7 @@ use crate::kinds::Kind;
 use geesetrunk_kit::alloc::AllocError;
 use std::io::{self, Read};
 use uart_chip::Chip;
-use uart_judges::audit::{Auditor, Finding, Findings, Severity};
+use uart_judges::audit::{Answers, Auditor, ChipAuditor, Finding, Findings, Severity};
 use uart_judges::recording::{Entry, Happening, Recording, RecordingError};
 use uart_judges::replay::{Difference, Replayer, Start};
 use uart_spec::access::Access;
@@ -53,10 +53,59 @@ pub struct Found {
     pub times: u64,
 }
 
+/// What is given the entries of a recording in turn, and finds something at each.
+pub trait Steps: Copy + PartialEq {
+    /// What is found at an entry, each in its place.
+    type Found: AsRef<[Option<Finding>]>;
+
+    /// Returns one that was given nothing.
+    fn first() -> Self;
+
+    /// Goes on by an entry, and returns what is found at it.
+    fn next(&mut self, entry: &Entry) -> Self::Found;
+
+    /// Returns whether an equal entry at another time would change nothing that this one did not.
+    fn is_timeless(&self) -> bool;
+}
+
+impl Steps for Auditor {
+    type Found = Findings;
+
+    fn first() -> Self {
+        Auditor::new()
+    }
+
+    fn next(&mut self, entry: &Entry) -> Findings {
+        self.step(entry)
+    }
+
+    // Time changes what is known only while bytes go out, or while the line is up.
+    fn is_timeless(&self) -> bool {
+        self.going_out == 0 && self.up.is_none()
+    }
+}
+
+impl Steps for ChipAuditor {
+    type Found = Answers;
+
+    fn first() -> Self {
+        ChipAuditor::new()
+    }
+
+    fn next(&mut self, entry: &Entry) -> Answers {
+        self.step(entry)
+    }
+
+    // Time changes what is known only while bytes go out.
+    fn is_timeless(&self) -> bool {
+        self.seen.going_out == 0
+    }
+}
+
 /// An auditor that makes an entry again and again in the time of a few.
 #[derive(Clone, Copy, Debug, PartialEq, Eq)]
-pub struct Audited {
-    auditor: Auditor,
+pub struct Audited<A = Auditor> {
+    auditor: A,
     last: Option<Last>,
 }
 
@@ -69,21 +118,21 @@ struct Last {
     is_quiet: bool,
 }
 
-impl Default for Audited {
+impl<A: Steps> Default for Audited<A> {
     fn default() -> Self {
         Audited {
-            auditor: Auditor::new(),
+            auditor: A::first(),
             last: None,
         }
     }
 }
 
-impl Audited {
+impl<A: Steps> Audited<A> {
     /// Goes on by an entry, which is made so many times as it says, and tells what is found, with
     /// how many times in turn. A judge that an entry leaves as it was finds the same at each that
     /// follows: from the third equal read on it knows no more, but for bytes that wait, of which
     /// there are at most 16.
-    pub fn step(&mut self, entry: &Entry, mut tell: impl FnMut(&Findings, u64)) {
+    pub fn step(&mut self, entry: &Entry, mut tell: impl FnMut(&[Option<Finding>], u64)) {
         let (happening, level) = (entry.happening, entry.interrupt);
         let is_again = self
             .last
@@ -105,36 +154,36 @@ impl Audited {
     }
 
     // Makes an entry once.
-    fn once(&mut self, entry: &Entry, tell: &mut impl FnMut(&Findings, u64)) {
-        let findings = self.auditor.step(entry);
-        if findings.iter().any(Option::is_some) {
-            tell(&findings, 1);
+    fn once(&mut self, entry: &Entry, tell: &mut impl FnMut(&[Option<Finding>], u64)) {
+        let findings = self.auditor.next(entry);
+        if findings.as_ref().iter().any(Option::is_some) {
+            tell(findings.as_ref(), 1);
         }
     }
 
     // Makes an entry so many times, up to one that changes nothing: there the findings are those of
     // all that are left. Returns whether there were none, and there would be none later.
-    fn repeat(&mut self, entry: &Entry, tell: &mut impl FnMut(&Findings, u64)) -> bool {
+    fn repeat(&mut self, entry: &Entry, tell: &mut impl FnMut(&[Option<Finding>], u64)) -> bool {
         let mut left = entry.times;
         while left > 0 {
             let before = self.auditor;
-            let findings = self.auditor.step(entry);
+            let findings = self.auditor.next(entry);
             let is_settled = self.auditor == before;
-            let is_silent = findings.iter().all(Option::is_none);
+            let is_silent = findings.as_ref().iter().all(Option::is_none);
             let count = if is_settled { left } else { 1 };
             if !is_silent {
-                tell(&findings, count);
+                tell(findings.as_ref(), count);
             }
             left -= count;
             if is_settled {
-                // Time changes what is known only while bytes go out, or while the line is up.
-                let is_timeless = self.auditor.going_out == 0 && self.auditor.up.is_none();
-                return is_silent && is_timeless;
+                return is_silent && self.auditor.is_timeless();
             }
         }
         false
     }
+}
 
+impl Audited {
     /// Returns whether a finding at an entry that follows may be about a line up to this one.
     pub fn may_name_up_to(&self, line: u64) -> bool {
         let unserved = self.auditor.unserved.map(|identified| identified.line);
@@ -151,34 +200,43 @@ impl Audited {
     }
 }
 
-// The judges of a recording.
-struct Judges {
-    judge: Judge,
-    audited: Audited,
+// Goes on by an entry, and takes down what is found at it. Returns whether that was something.
+fn audit<A: Steps>(
+    audited: &mut Audited<A>,
+    entry: &Entry,
+    is_wanted: impl Fn(Finding) -> bool,
+    found: &mut Vec<Found>,
+) -> bool {
+    let before = found.len();
+    audited.step(entry, |findings, times| {
+        for &finding in findings.iter().flatten() {
+            if !is_wanted(finding) {
+                continue;
+            }
+            let kind = Kind::Finding(finding);
+            let line = kind.line().unwrap_or(entry.line);
+            // Equal reads in turn have one finding, with how often.
+            match found.last_mut() {
+                Some(last) if last.kind == kind && last.line == line => last.times += times,
+                _ => found.push(Found { line, kind, times }),
+            }
+        }
+    });
+    found.len() > before
+}
+
+// The judge of a chip: what the recording contradicts, and what no chip returns.
+struct ChipJudge {
+    audited: Audited<ChipAuditor>,
     replayer: Replayer,
 }
 
-impl Judges {
-    // Tells what the auditor finds that is for this judge. Returns whether that was something.
-    fn audit(&mut self, entry: &Entry, found: &mut Vec<Found>) -> bool {
-        let judge = self.judge;
-        let before = found.len();
-        self.audited.step(entry, |findings, times| {
-            for &finding in findings.iter().flatten() {
-                let is_of_chip = finding.severity() == Severity::Answer;
-                if is_of_chip != (judge == Judge::Replay) {
-                    continue;
-                }
-                let kind = Kind::Finding(finding);
-                let line = kind.line().unwrap_or(entry.line);
-                // Equal reads in turn have one finding, with how often.
-                match found.last_mut() {
-                    Some(last) if last.kind == kind && last.line == line => last.times += times,
-                    _ => found.push(Found { line, kind, times }),
-                }
-            }
-        });
-        found.len() > before
+impl ChipJudge {
+    fn new() -> Self {
+        ChipJudge {
+            audited: Audited::default(),
+            replayer: Replayer::new(Chip::Uart16550A, Start::InUse),
+        }
     }
 
     // Follows an access, and tells what the chip could not have returned.
@@ -217,15 +275,33 @@ impl Judges {
     // Returns what is found at an entry. What the recording contradicts says more than that the
     // chip never returns it, so that comes first, and alone.
     fn step(&mut self, entry: &Entry, found: &mut Vec<Found>) {
-        let is_contradicted = self.audit(entry, found);
-        if self.judge == Judge::Replay {
-            let before = found.len();
-            self.differences(entry, found);
-            if is_contradicted {
-                found.truncate(before);
-            }
+        let is_contradicted = audit(&mut self.audited, entry, |_| true, found);
+        let before = found.len();
+        self.differences(entry, found);
+        if is_contradicted {
+            found.truncate(before);
         }
     }
+}
+
+// Reads a recording to its end, and tells what is found at each entry. Returns how many lines it has.
+// It is one function for both judges, so that what reads a line is part of it.
+fn judge_entries(
+    reader: impl Read,
+    tell: &mut impl FnMut(&Found) -> io::Result<()>,
+    step: &mut dyn FnMut(&Entry, &mut Vec<Found>),
+) -> Result<u64, Stop> {
+    let mut recording = Recording::new(heap(), reader)?;
+    let mut found = Vec::new();
+    // More than are found at an entry.
+    found.try_reserve(64).map_err(|_| Stop::OutOfMemory)?;
+    while let Some(entry) = recording.next_entry()? {
+        step(&entry, &mut found);
+        for found in found.drain(..) {
+            tell(&found).map_err(Stop::Output)?;
+        }
+    }
+    Ok(recording.lines())
 }
 
 /// Judges a recording, and tells what is found as soon as it is found. Returns how many lines it
@@ -239,32 +315,25 @@ pub fn judge_recording(
     reader: impl Read,
     mut tell: impl FnMut(&Found) -> io::Result<()>,
 ) -> Result<u64, Stop> {
-    let mut recording = Recording::new(heap(), reader)?;
-    let mut judges = Judges {
-        judge,
-        audited: Audited::default(),
-        replayer: Replayer::new(Chip::Uart16550A, Start::InUse),
-    };
-    let mut found = Vec::new();
-    // More than are found at an entry.
-    found.try_reserve(64).map_err(|_| Stop::OutOfMemory)?;
-    while let Some(entry) = recording.next_entry()? {
-        judges.step(&entry, &mut found);
-        for found in found.drain(..) {
-            tell(&found).map_err(Stop::Output)?;
-        }
+    if judge == Judge::Replay {
+        let mut chip = ChipJudge::new();
+        return judge_entries(reader, &mut tell, &mut |entry, found| {
+            chip.step(entry, found)
+        });
     }
-    if judge == Judge::Audit {
-        let line = recording.lines();
-        for finding in judges.audited.end().into_iter().flatten() {
-            let kind = Kind::Finding(finding);
-            tell(&Found {
-                line,
-                kind,
-                times: 1,
-            })
-            .map_err(Stop::Output)?;
-        }
+    let mut audited: Audited = Audited::default();
+    let is_of_driver = |finding: Finding| finding.severity() != Severity::Answer;
+    let line = judge_entries(reader, &mut tell, &mut |entry, found| {
+        audit(&mut audited, entry, is_of_driver, found);
+    })?;
+    for finding in audited.end().into_iter().flatten() {
+        let kind = Kind::Finding(finding);
+        tell(&Found {
+            line,
+            kind,
+            times: 1,
+        })
+        .map_err(Stop::Output)?;
     }
-    Ok(recording.lines())
+    Ok(line)
 }

@@ -172,7 +172,7 @@ impl Auditor {
     }
 
     // Returns an entry beside what is known before it.
-    fn step_of(&self, entry: &Entry) -> Step
+    pub(crate) fn step_of(&self, entry: &Entry) -> Step
         ensures { result ≡ step_from self.now entry.now }
     {
         let level = match entry.happening {

@@ -34,7 +34,7 @@ impl Auditor {
         self.ready = Some(lsr.contains(LSR::DATA_READY));
         self.has_taken = since(self.has_taken, true, false);
         self.is_at_work = since(self.is_at_work, false, false);
-        self.unread = self.unread.after_look(lsr);
+        self.unread.look(lsr);
         self.is_overrun = false;
         self.is_controlled = since(self.is_controlled, true, false);
         self.data_interrupt = None;

@@ -323,7 +323,9 @@ fn sent_at_after(before: Option<u64>, step: Step) -> Option<u64>
 }
 
 impl Auditor {
-    // Returns what is known after one more step.
+    // Returns what is known after one more step. It is a part of both judges that call it: else all
+    // that is known would be copied once more.
+    #[inline(always)]
     pub(crate) fn after(&self, step: &Step) -> Auditor
         ensures { result ≡ spec.next self.now step.now }
     {

@@ -1,7 +1,8 @@
 //! What a recording says about its driver and its chip.
 //!
 //! An [`Auditor`] is given the entries of a recording in turn. [`Auditor::step`] returns the
-//! findings at each, and [`Auditor::end`] those after the last.
+//! findings at each, and [`Auditor::end`] those after the last. A [`ChipAuditor`] returns those
+//! that are about the chip, and no others.
 //!
 //! A recording begins in use: nothing is held against a driver that the recording does not show. A
 //! look that shows room allows as many bytes as the FIFO has room for, or one without FIFO, and
@@ -15,6 +16,7 @@ mod finding;
 mod findings;
 mod frequent;
 mod history;
+mod of_chip;
 mod setup;
 mod shows;
 mod step;
@@ -24,6 +26,7 @@ pub use action::Action;
 pub use auditor::{Auditor, Findings, Identified, Latch, Mark};
 pub use finding::{Finding, Severity};
 pub use findings::HANDLER_TIME;
+pub use of_chip::{Answers, ChipAuditor};
 pub use setup::{DivisorBytes, Setup};
 pub use step::{CHARACTER_TIME, MOST_HELD, Step, USUAL_DIVISOR};
 pub use unread::{Arrived, MOST_UNREAD, Unread};

@@ -166,7 +166,7 @@ impl Auditor {
     }
 
     // Returns an entry beside what is known before it.
-    fn step_of(&self, entry: &Entry) -> Step {
+    pub(crate) fn step_of(&self, entry: &Entry) -> Step {
         let level = match entry.happening {
             Happening::Interrupt { is_raised } => Some(is_raised),
             _ => entry.interrupt,

@@ -111,19 +111,24 @@ impl Unread {
         }
     }
 
-    // Returns what waits after LSR was read. A character that waits and did not arrive by the
-    // recording shows that it does not have all of them.
-    pub(crate) fn after_look(self, lsr: LSR) -> Self {
+    // Goes on by a read of LSR. A character that waits and did not arrive by the recording shows
+    // that it does not have all of them.
+    pub(crate) fn look(&mut self, lsr: LSR) {
         if !lsr.contains(LSR::DATA_READY) {
-            return Unread::none();
+            *self = Unread::none();
+            return;
         }
         match self.front() {
-            None => Unread::unknown(),
-            Some(_) => Unread {
-                is_front_seen: true,
-                ..self
-            },
+            None => *self = Unread::unknown(),
+            Some(_) => self.is_front_seen = true,
         }
+    }
+
+    // Returns what waits after LSR was read.
+    fn after_look(self, lsr: LSR) -> Self {
+        let mut after = self;
+        after.look(lsr);
+        after
     }
 
     // Returns what waits after DATA was read. If the byte is another than the one that arrived,
