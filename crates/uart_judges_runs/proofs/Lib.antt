@@ -13,3 +13,6 @@ pub mod Waits
 pub mod Wire
 pub mod Arrived
 pub mod Lost
+pub mod Founded
+pub mod Settled
+pub mod Walks

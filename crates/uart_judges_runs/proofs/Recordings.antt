@@ -44,7 +44,7 @@ pub data IsEither (h : Happening) : Type 0 where
   access : (x : RegisterAccess) → h ≡ Access x → IsEither h
   other : IsOther h → access_in h ≡ [] → IsEither h
 
-either : (h : Happening) → IsEither h
+pub either : (h : Happening) → IsEither h
 either (Access x) = access x refl
 either (Arrive byte errors) = other tt refl
 either (Interrupt is_raised) = other tt refl

@@ -2,3 +2,4 @@ pub mod Recorded
 pub mod Calls
 pub mod Runs
 pub mod Lost
+pub mod Causes

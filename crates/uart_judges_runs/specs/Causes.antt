@@ -1,0 +1,139 @@
+-- What the caller of our own driver gives cause for, and which warning has which cause.
+use Rattle.std.specs.Prelude.{◌≡◌, ℕ, Bool, true, false, ◌&&◌, not, if◌then◌else◌, List, [], ◌∷◌, Option, Some, None, bit_or}
+use Rattle.std.specs.List.{AllByRecursion}
+use Rattle.uart_spec.specs.Bits.{has}
+use Rattle.uart_spec.specs.declared.access.Access.{Access}
+use Rattle.uart_spec.specs.declared.access.Access.TheVariants.{Read, Write}
+use Rattle.uart_spec.specs.declared.registers.interrupt_enable.IER.{IER}
+use Rattle.uart_spec.specs.declared.registers.interrupt_status.TheConstants.ISR
+use Rattle.uart_spec.specs.declared.registers.line_control.TheConstants.LCR
+use Rattle.uart_spec.specs.declared.registers.offsets.TheConstants as offsets
+use Rattle.uart_16550.specs.Driver.{Fields}
+use Rattle.uart_16550.specs.Expansion.{expansion}
+use Rattle.uart_events.specs.declared.call.Call.{Call}
+use Rattle.uart_events.specs.declared.call.Call.TheVariants as call
+use Rattle.uart_judges.specs.Findings.{enables_some, is_cut_off, is_zero}
+use Rattle.uart_judges.specs.Severities.{severity}
+use Rattle.uart_judges.specs.Shows.{is_cut}
+use Rattle.uart_judges.specs.declared.audit.auditor.Auditor.{Auditor}
+use Rattle.uart_judges.specs.declared.audit.finding.Finding.{Finding}
+use Rattle.uart_judges.specs.declared.audit.finding.Finding.TheVariants as found
+use Rattle.uart_judges.specs.declared.audit.finding.Severity.{Severity}
+use Rattle.uart_judges.specs.declared.audit.finding.Severity.TheVariants.{Warning}
+use Rattle.uart_judges_runs.specs.Calls.{opened_by}
+use Rattle.uart_judges_runs.specs.Lost.{IsSo}
+
+-- ---- the causes
+
+-- what a caller may give cause by: a break is sent meanwhile; a byte that is sent has more bits than a character; the
+-- driver is not to check CTS; an interrupt is enabled; OUT2 is off; the FIFOs are off; the divisor is zero
+pub record Causes : Type 0 where
+  pub break_is_sent : Bool
+  pub bytes_are_cut : Bool
+  pub cts_is_unchecked : Bool
+  pub interrupts_are_on : Bool
+  pub out2_is_off : Bool
+  pub fifos_are_off : Bool
+  pub divisor_is_zero : Bool
+
+abbrev pub no_cause : Causes
+no_cause = record {
+  break_is_sent = false;
+  bytes_are_cut = false;
+  cts_is_unchecked = false;
+  interrupts_are_on = false;
+  out2_is_off = false;
+  fifos_are_off = false;
+  divisor_is_zero = false;
+}
+
+-- the finding has one of these causes
+abbrev pub has_cause : Causes → Finding → Bool
+has_cause c (found.SentInBreak byte) = c.break_is_sent
+has_cause c (found.WordTooShort byte) = c.bytes_are_cut
+has_cause c found.SentWithoutCts = c.cts_is_unchecked
+has_cause c found.InterruptsCutOff = c.interrupts_are_on && c.out2_is_off
+has_cause c (found.ErrorsLost arrived) = c.fifos_are_off
+has_cause c found.ZeroDivisor = c.divisor_is_zero
+has_cause c (found.NotServed identified) = c.interrupts_are_on
+has_cause c (found.LeftWithLineUp line) = c.interrupts_are_on
+has_cause c _ = false
+
+abbrev pub is_the_drivers : Severity → Bool
+is_the_drivers Warning = true
+is_the_drivers _ = false
+
+-- a finding that is held against the driver
+abbrev pub is_warning : Finding → Bool
+is_warning finding = is_the_drivers (severity finding)
+
+-- a warning that has none of these causes
+abbrev pub is_unfounded : Causes → Finding → Bool
+is_unfounded c finding = is_warning finding && not (has_cause c finding)
+
+-- ---- what gives no other cause
+
+-- the bytes that a call is to send
+abbrev pub bytes_of : Call → List ℕ
+bytes_of (call.TrySend byte) = byte ∷ []
+bytes_of (call.Send bytes) = bytes.items
+bytes_of (call.SendExact bytes) = bytes.items
+bytes_of (call.Write bytes) = bytes.items
+bytes_of (call.Text text) = expansion text.bytes
+bytes_of _ = []
+
+-- the interrupts that a call is to enable
+abbrev pub enabled_by : Call → Option IER
+enabled_by (call.Enable bits) = Some bits
+enabled_by _ = None
+
+-- a character with this value of LCR has all bits of the byte
+abbrev pub Fits : (line byte : ℕ) → Type 0
+Fits line byte = is_cut (record { 0 = line }) byte ≡ false
+
+-- a call gives no other cause than these: its bytes fit, and it enables no interrupt
+pub record AsksFor (c : Causes) (line : ℕ) (call : Call) : Type 0 where
+  pub bytes : c.bytes_are_cut ≡ false → AllByRecursion (Fits line) (bytes_of call)
+  pub interrupts : c.interrupts_are_on ≡ false → enables_some (enabled_by call) ≡ false
+
+-- nor do a driver's fields, and a value of LCR in which DLAB is off
+pub record IsSetUpFor (c : Causes) (line : ℕ) (f : Fields) : Type 0 where
+  pub dlab : has line LCR.DLAB.0 ≡ false
+  pub not_in_break : c.break_is_sent ≡ false → has line LCR.SET_BREAK.0 ≡ false
+  pub checks : c.cts_is_unchecked ≡ false → f.config.check_cts_before_sending ≡ true
+  pub interrupts : c.interrupts_are_on ≡ false → enables_some (Some f.config.interrupts) ≡ false
+  pub fifos : c.fifos_are_off ≡ false → f.fifo ≡ true
+
+-- LCR as it is while DLAB is on, or off
+abbrev pub line_while : (opened : Bool) → ℕ → ℕ
+line_while opened line = if opened then bit_or line LCR.DLAB.0 else line
+
+-- nor does what is read: LCR as it is; no interrupt enabled, and none pending; OUT2 on
+pub record ShowsFor (c : Causes) (line : ℕ) (opened : Bool) (register answer : ℕ) : Type 0 where
+  pub lcr : register ≡ offsets.LCR → answer ≡ line_while opened line
+  pub enabled : register ≡ offsets.IER → opened ≡ false → c.interrupts_are_on ≡ false →
+      enables_some (Some (record { 0 = answer })) ≡ false
+  pub pending : register ≡ offsets.ISR → c.interrupts_are_on ≡ false → has answer ISR.INTERRUPT_STATUS.0 ≡ true
+  pub out2 : register ≡ offsets.MCR → c.out2_is_off ≡ false → is_cut_off (Some (record { 0 = answer })) ≡ false
+
+abbrev pub IsShownFor : (c : Causes) (line : ℕ) (opened : Bool) → Access → Type 0
+IsShownFor c line opened (Read register answer) = ShowsFor c line opened register answer
+IsShownFor c line opened (Write register value) = Unit {0}
+
+abbrev pub AreShownFrom : (c : Causes) (line : ℕ) (opened : Bool) → List Access → Type 0
+AreShownFrom c line opened [] = Unit {0}
+AreShownFrom c line opened (access ∷ accesses) =
+    IsShownFor c line opened access × AreShownFrom c line (opened_by access opened) accesses
+
+-- of accesses before which DLAB was off
+abbrev pub AreShownFor : Causes → (line : ℕ) → List Access → Type 0
+AreShownFor c line accesses = AreShownFrom c line false accesses
+
+-- nor does what the judge knows before: of LCR what it is; of no interrupt that is enabled, and of no handler that is at
+-- work; not that OUT2 is off; and not that the divisor is zero
+pub record KnowsFor (c : Causes) (line : ℕ) (a : Auditor) : Type 0 where
+  pub lcr : IsSo a.setup.line (λ lcr. lcr.0 ≡ line)
+  pub interrupts : c.interrupts_are_on ≡ false → enables_some a.setup.interrupts ≡ false
+  pub not_handling : c.interrupts_are_on ≡ false → a.is_handling ≡ false
+  pub out2 : c.out2_is_off ≡ false → is_cut_off a.setup.modem ≡ false
+  pub divisor : c.divisor_is_zero ≡ false → (is_zero a.setup.divisor.low && is_zero a.setup.divisor.high) ≡ false
