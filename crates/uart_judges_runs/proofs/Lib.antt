@@ -16,3 +16,6 @@ pub mod Lost
 pub mod Founded
 pub mod Settled
 pub mod Walks
+pub mod GoodLists
+pub mod GoodCalls
+pub mod Unfounded

@@ -16,6 +16,8 @@ ghost use Rattle.uart_judges.specs.History.{known};
 ghost use Rattle.uart_judges.specs.declared.recording.entry.Entry.{Entry};
 ghost use Rattle.uart_judges.specs.declared.recording.entry.Happening.TheVariants as happening;
 ghost use Rattle.uart_judges_runs.specs.Calls.{IsSteady, AreTaken, KnowsAsTaken};
+ghost use Rattle.uart_judges_runs.specs.Causes.{AreShownFor, AsksFor, Causes, IsSetUpFor};
+ghost use Rattle.uart_judges_runs.specs.Causes.{KnowsFor, is_unfounded};
 ghost use Rattle.uart_judges_runs.specs.Lost.{IsRight, KnowsDlab, KnowsWhatIs};
 ghost use Rattle.uart_judges_runs.specs.Recorded.{HasNone, accesses_in, is_of_calls};
 ghost use Rattle.uart_judges_runs.specs.Runs.{IsOpenTo, IsSession};
@@ -39,6 +41,18 @@ pub fn sessions_are_not_warned()
         (old new : MachineState) (past entries : List Entry) → IsOpenTo fields old →
         IsSession calls fields old accesses new → KnowsAsTaken fields.fifo (known past) →
         accesses_in entries ≡ accesses → HasNone is_of_calls past entries }
+{}
+
+/// Of each call in a session, over whatever backend: each warning in the recording of its accesses
+/// has one of these causes, if the caller and the chip give no other.
+pub fn warned_calls_have_a_cause()
+    ensures { (causes : Causes) (line : ℕ) (call : Call) (before after : Fields)
+        (accesses : List Access) (answer : Answer) (past entries : List Entry) → IsSteady call →
+        AsksFor causes line call → IsSetUpFor causes line before →
+        IsListOf call before accesses answer after → AreTaken before.fifo accesses →
+        AreShownFor causes line accesses → KnowsAsTaken before.fifo (known past) →
+        KnowsFor causes line (known past) → accesses_in entries ≡ accesses →
+        HasNone (is_unfounded causes) past entries }
 {}
 
 /// Of a recording of the software chip, a 16550A under any schedule, made by any driver: each

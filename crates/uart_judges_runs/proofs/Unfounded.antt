@@ -1,0 +1,159 @@
+-- No warning of a session is without a cause: the twelve that are about how a call is made never come, and the other nine only with theirs.
+use Rattle.std.proofs.Common.{◌≡◌, ◌≤◌, ℕ, Bool, true, false, not, ◌&&◌, List, [], ◌∷◌, Option, Some, None, refl, sym, subst, arith}
+use Rattle.uart_spec.specs.Bits.{has}
+use Rattle.uart_spec.specs.declared.access.Access.{Access as RegisterAccess}
+use Rattle.uart_spec.specs.declared.registers.line_control.TheConstants.LCR as lcr_bits
+use Rattle.uart_16550.specs.Driver.{Fields}
+use Rattle.uart_events.specs.declared.call.Answer.{Answer}
+use Rattle.uart_events.specs.declared.call.Call.{Call}
+use Rattle.uart_calls.specs.Lists.{IsListOf}
+use Rattle.uart_chip.specs.Transmitter.{room}
+use Rattle.uart_judges.specs.Findings.{findings_at, is_open}
+use Rattle.uart_judges.specs.History.{known}
+use Rattle.uart_judges.specs.Steps.{depth}
+use Rattle.uart_judges.specs.declared.audit.auditor.Auditor.{Auditor}
+use Rattle.uart_judges.specs.declared.audit.finding.Finding.{Finding}
+use Rattle.uart_judges.specs.declared.audit.finding.Finding.TheVariants as found
+use Rattle.uart_judges.specs.declared.recording.entry.Entry.{Entry}
+use Rattle.uart_judges_runs.specs.Calls.{AreTaken, AreTakenFrom, IsSteady, KnowsAsTaken, opened_by}
+use Rattle.uart_judges_runs.specs.Causes.{AreShownFor, AreShownFrom, AsksFor, Causes, IsSetUpFor, KnowsFor}
+use Rattle.uart_judges_runs.specs.Causes.{has_cause, is_unfounded, is_warning, no_cause}
+use Rattle.uart_judges_runs.specs.Lost.{IsSo}
+use Rattle.uart_judges_runs.specs.Recorded.{HasNone, IsNot, NoneIs, accesses_in, is_of_calls}
+use Rattle.uart_judges_runs.proofs.CallLists.{goes_list, list_of}
+use Rattle.uart_judges_runs.proofs.Founded.{is_of_caller}
+use Rattle.uart_judges_runs.proofs.GoodCalls.{good_list}
+use Rattle.uart_judges_runs.proofs.GoodLists.{Causal}
+use Rattle.uart_judges_runs.proofs.Settled.{Settled, Stage}
+use Rattle.uart_judges_runs.proofs.Walks.{Walks, by, founded_walk}
+
+-- ---- twelve and nine
+
+-- a warning is one of the twelve or of the nine
+neither : (c : Causes) (f : Finding) → is_of_calls f ≡ false → is_of_caller c f ≡ false → is_unfounded c f ≡ false
+neither c (found.SetUp setup) p q = refl
+neither c (found.LineErrorsRead lsr) p q = refl
+neither c (found.LineChangesRead msr) p q = refl
+neither c found.LatchLeftOpen p q = refl
+neither c found.LoopbackLeftOn p q = refl
+neither c (found.SentBeyondRoom sent space) p q = absurd (cc)
+neither c (found.SentIntoLatch byte) p q = absurd (cc)
+neither c (found.SentInBreak byte) p q = q
+neither c (found.SentInLoopback byte) p q = absurd (cc)
+neither c (found.WordTooShort byte) p q = q
+neither c found.SentWithoutCts p q = q
+neither c found.InterruptsCutOff p q = q
+neither c found.ReceivedFromEmpty p q = absurd (cc)
+neither c found.ReceivedWithoutLook p q = absurd (cc)
+neither c found.ErrorsNotRead p q = absurd (cc)
+neither c (found.ErrorsLost arrived) p q = q
+neither c found.ReceivedFromLatch p q = absurd (cc)
+neither c (found.InterruptsIntoLatch value) p q = absurd (cc)
+neither c found.HighByteNotSet p q = absurd (cc)
+neither c found.ZeroDivisor p q = q
+neither c found.FrameChangedWhileSending p q = absurd (cc)
+neither c found.DivisorChangedWhileSending p q = absurd (cc)
+neither c found.ResetWhileSending p q = absurd (cc)
+neither c found.WaitingDiscarded p q = absurd (cc)
+neither c (found.NotServed identified) p q = q
+neither c (found.LeftWithLineUp line) p q = q
+neither c (found.OtherByte arrived read) p q = refl
+neither c (found.ArrivalSkipped byte) p q = refl
+neither c (found.ArrivalGone byte) p q = refl
+neither c (found.ErrorsHidden arrived) p q = refl
+neither c found.OverrunHidden p q = refl
+neither c (found.InterruptWithoutData interrupt) p q = refl
+neither c found.GoneAtFcr p q = refl
+neither c found.ThrEmptyNotRaised p q = refl
+neither c found.ThrEmptyNotRaisedAgain p q = refl
+neither c (found.LineIgnored written read) p q = refl
+neither c (found.LinesDiffer inputs shown) p q = refl
+neither c (found.LevelDiffers up) p q = refl
+
+-- what is none of the first and none of the second is none of the third
+abbrev Joins : (P Q R : Finding → Bool) → Type 0
+Joins P Q R = (f : Finding) → P f ≡ false → Q f ≡ false → R f ≡ false
+
+is_neither : (P Q R : Finding → Bool) (o : Option Finding) → Joins P Q R → IsNot P o → IsNot Q o → IsNot R o
+is_neither P Q R None join p q = tt
+is_neither P Q R (Some f) join p q = join f p q
+
+none_is : (P Q R : Finding → Bool) (l : List (Option Finding)) → Joins P Q R → NoneIs P l → NoneIs Q l → NoneIs R l
+none_is P Q R [] join p q = tt
+none_is P Q R (o ∷ l) join p q = (is_neither P Q R o join p.0 q.0, none_is P Q R l join p.1 q.1)
+
+has_none : (P Q R : Finding → Bool) (past entries : List Entry) → Joins P Q R → HasNone P past entries → HasNone Q past entries →
+    HasNone R past entries
+has_none P Q R past [] join p q = tt
+has_none P Q R past (e ∷ es) join p q = (none_is P Q R (findings_at e past) join p.0 q.0, has_none P Q R (e ∷ past) es join p.1 q.1)
+
+pub unfounded : (c : Causes) (past entries : List Entry) → HasNone is_of_calls past entries → HasNone (is_of_caller c) past entries →
+    HasNone (is_unfounded c) past entries
+unfounded c past entries p q = has_none is_of_calls (is_of_caller c) (is_unfounded c) past entries (neither c) p q
+
+-- without a cause there is no warning at all
+no_warning : (b : Bool) → (b && true) ≡ false → b ≡ false
+no_warning true e = absurd (cc)
+no_warning false e = refl
+
+none_of : (f : Finding) → has_cause no_cause f ≡ false
+none_of (found.SentInBreak byte) = refl
+none_of _ = refl
+
+causeless : (f : Finding) → is_unfounded no_cause f ≡ false → is_warning f ≡ false
+causeless f e =
+    let g : (is_warning f && not (has_cause no_cause f)) ≡ false = e in
+    no_warning (is_warning f) (subst (λ (b : Bool). (is_warning f && not b) ≡ false) (none_of f) g)
+
+pub causeless_recording : (past entries : List Entry) → HasNone (is_unfounded no_cause) past entries → HasNone is_warning past entries
+causeless_recording past entries p =
+    has_none (is_unfounded no_cause) (is_unfounded no_cause) is_warning past entries (λ f q r. causeless f q) p p
+
+-- ---- a list of accesses
+
+-- what is read is seen
+pub walks_of : (c : Causes) (line : ℕ) (fifo : Bool) (l : List RegisterAccess) (f : Stage) (End : Stage → Type 0) →
+    AreShownFrom c line f.opened l → AreTakenFrom fifo f.opened l → Causal c line fifo f l End → Walks c line f l
+walks_of c line fifo [] f End shown taken p = tt
+walks_of c line fifo (x ∷ l) f End shown taken p =
+    let r = p (shown.0, taken.0) in (r.0, walks_of c line fifo l (by x f) End shown.1 taken.1 r.1)
+
+-- what is known at the beginning
+shut : (o : Option Bool) → is_open o ≡ false → IsSo o (λ on. on ≡ false)
+shut None e = tt
+shut (Some on) e = e
+
+on_room : (fifo : Bool) (o : Option Bool) → fifo ≡ true → room fifo ≤ depth o → IsSo o (λ on. on ≡ true)
+on_room true None e few = tt
+on_room true (Some true) e few = refl
+on_room true (Some false) e few = absurd (omega arith)
+on_room false o e few = absurd (cc)
+
+pub settled_at_first : (c : Causes) (line : ℕ) (f : Fields) (a : Auditor) → IsSetUpFor c line f → KnowsAsTaken f.fifo a → KnowsFor c line a →
+    Settled c line (record { opened = false; held = true; looked = false }) a
+settled_at_first c line f a set taken k = record {
+  dlab = shut a.setup.is_open taken.dlab;
+  lcr = k.lcr;
+  interrupts = k.interrupts;
+  not_handling = k.not_handling;
+  out2 = k.out2;
+  divisor = k.divisor;
+  fifos = λ on. on_room f.fifo a.setup.has_fifo (set.fifos on) taken.room;
+  clear = λ e g. absurd (cc);
+  seen = λ e g. absurd (cc);
+}
+
+-- ---- a call
+
+pub unfounded_call : (c : Causes) (line : ℕ) (call : Call) (before after : Fields) (accesses : List RegisterAccess) (answer : Answer)
+    (past entries : List Entry) → IsSteady call → AsksFor c line call → IsSetUpFor c line before → IsListOf call before accesses answer after →
+    AreTaken before.fifo accesses → AreShownFor c line accesses → KnowsAsTaken before.fifo (known past) → KnowsFor c line (known past) →
+    accesses_in entries ≡ accesses → HasNone (is_unfounded c) past entries
+unfounded_call c line call before after accesses answer past entries steady asks set list taken shown knows knows_for is =
+    let f : Stage = record { opened = false; held = true; looked = false } in
+    let twelve = (goes_list before.fifo accesses (list_of call before after accesses answer steady list) taken past entries is knows).0 in
+    let causal = good_list c line before set call after accesses answer steady asks list true false in
+    let walks : Walks c line f accesses = walks_of c line before.fifo accesses f _ shown taken causal in
+    let nine = founded_walk c line set.dlab set.not_in_break f past entries (subst (λ (l : List RegisterAccess). Walks c line f l) (sym is) walks)
+    (settled_at_first c line before (known past) set knows knows_for) in
+    unfounded c past entries twelve nine
