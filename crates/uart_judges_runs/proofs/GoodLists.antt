@@ -55,6 +55,26 @@ all-drop P zero bytes p = p
 all-drop P (suc n) [] p = tt
 all-drop P (suc n) (byte ∷ bytes) p = all-drop P n bytes p.1
 
+-- no interrupt is enabled by values that enable none
+pub zero_of : (v : ℕ) → not (v == 0) ≡ false → v ≡ 0
+zero_of v e = grind (arith, common_steps)
+
+pub join_off : (ier bits : ℕ) → enables_some (Some (record { 0 = ier })) ≡ false → enables_some (Some (record { 0 = bits })) ≡ false →
+    enables_some (Some (record { 0 = bit_or ier bits })) ≡ false
+join_off ier bits p q =
+    let x : bit_and ier 15 ≡ 0 = zero_of (bit_and ier 15) p in
+    let y : bit_and bits 15 ≡ 0 = zero_of (bit_and bits 15) q in
+    let z : bit_and (bit_or ier bits) 15 ≡ 0 = and_or ier bits 15 ∙ rw (x, y) refl in
+    ap (λ (v : ℕ). not (v == 0)) z
+
+pub part_off : (ier mask : ℕ) → enables_some (Some (record { 0 = ier })) ≡ false →
+    enables_some (Some (record { 0 = bit_and ier mask })) ≡ false
+part_off ier mask p =
+    let x : bit_and ier 15 ≡ 0 = zero_of (bit_and ier 15) p in
+    let z : bit_and (bit_and ier mask) 15 ≡ 0 =
+    and_assoc 15 ier mask ∙ (ap (bit_and ier) (and_comm mask 15) ∙ (sym (and_assoc mask ier 15) ∙ ap (λ (v : ℕ). bit_and v mask) x)) in
+    ap (λ (v : ℕ). not (v == 0)) z
+
 module _ (c : Causes) (line : ℕ) (fifo : Bool) where
   -- what is read gives no other cause, and shows the modes as they are taken to be
   abbrev pub IsSeen : Bool → RegisterAccess → Type 0
@@ -443,24 +463,12 @@ module _ (c : Causes) (line : ℕ) (fifo : Bool) where
         λ t. leads-append false false false (Read offsets.IER ier ∷ []) (Write offsets.IER value ∷ []) (reads offsets.IER ier refl refl)
         (writes_interrupts value (none (λ e. t.0.enabled refl refl e))) held looked t
 
-    zero_of : (v : ℕ) → not (v == 0) ≡ false → v ≡ 0
-    zero_of v e = grind (arith, common_steps)
-
     pub leads_enables : (ier bits : ℕ) → (c.interrupts_are_on ≡ false → enables_some (Some (record { 0 = bits })) ≡ false) →
         Leads false false (Read offsets.IER ier ∷ Write offsets.IER (bit_or ier bits) ∷ [])
-    leads_enables ier bits none =
-        leads_changes ier (bit_or ier bits)
-        (λ before e. let x : bit_and ier 15 ≡ 0 = zero_of (bit_and ier 15) (before e) in
-        let y : bit_and bits 15 ≡ 0 = zero_of (bit_and bits 15) (none e) in
-        let z : bit_and (bit_or ier bits) 15 ≡ 0 = and_or ier bits 15 ∙ rw (x, y) refl in ap (λ (v : ℕ). not (v == 0)) z)
+    leads_enables ier bits none = leads_changes ier (bit_or ier bits) (λ before e. join_off ier bits (before e) (none e))
 
     pub leads_disables : (ier mask : ℕ) → Leads false false (Read offsets.IER ier ∷ Write offsets.IER (bit_and ier mask) ∷ [])
-    leads_disables ier mask =
-        leads_changes ier (bit_and ier mask)
-        (λ before e. let x : bit_and ier 15 ≡ 0 = zero_of (bit_and ier 15) (before e) in
-        let z : bit_and (bit_and ier mask) 15 ≡ 0 =
-        and_assoc 15 ier mask ∙ (ap (bit_and ier) (and_comm mask 15) ∙ (sym (and_assoc mask ier 15) ∙ ap (λ (v : ℕ). bit_and v mask) x)) in
-        ap (λ (v : ℕ). not (v == 0)) z)
+    leads_disables ier mask = leads_changes ier (bit_and ier mask) (λ before e. part_off ier mask (before e))
 
     pub leads_retriggers : (ier : ℕ) → Leads false false (retrigger_accesses ier)
     leads_retriggers ier held looked =

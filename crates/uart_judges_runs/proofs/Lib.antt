@@ -19,3 +19,5 @@ pub mod Walks
 pub mod GoodLists
 pub mod GoodCalls
 pub mod Unfounded
+pub mod ShownLatches
+pub mod UnfoundedSessions

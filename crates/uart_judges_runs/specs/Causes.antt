@@ -12,6 +12,7 @@ use Rattle.uart_16550.specs.Driver.{Fields}
 use Rattle.uart_16550.specs.Expansion.{expansion}
 use Rattle.uart_events.specs.declared.call.Call.{Call}
 use Rattle.uart_events.specs.declared.call.Call.TheVariants as call
+use Rattle.uart_chip.specs.Chip.{LatchesState}
 use Rattle.uart_judges.specs.Findings.{enables_some, is_cut_off, is_zero}
 use Rattle.uart_judges.specs.Severities.{severity}
 use Rattle.uart_judges.specs.Shows.{is_cut}
@@ -128,6 +129,11 @@ AreShownFrom c line opened (access ∷ accesses) =
 -- of accesses before which DLAB was off
 abbrev pub AreShownFor : Causes → (line : ℕ) → List Access → Type 0
 AreShownFor c line accesses = AreShownFrom c line false accesses
+
+-- nor do the latches of a chip
+pub record IsLatchedFor (c : Causes) (latches : LatchesState) : Type 0 where
+  pub interrupts : c.interrupts_are_on ≡ false → enables_some (Some (record { 0 = latches.ier })) ≡ false
+  pub out2 : c.out2_is_off ≡ false → is_cut_off (Some (record { 0 = latches.mcr })) ≡ false
 
 -- nor does what the judge knows before: of LCR what it is; of no interrupt that is enabled, and of no handler that is at
 -- work; not that OUT2 is off; and not that the divisor is zero
