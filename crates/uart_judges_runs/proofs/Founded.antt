@@ -44,8 +44,8 @@ is_of_caller c found.InterruptsCutOff = not (c.interrupts_are_on && c.out2_is_of
 is_of_caller c (found.ErrorsLost arrived) = not c.fifos_are_off
 is_of_caller c found.ZeroDivisor = not c.divisor_is_zero
 is_of_caller c found.FrameChangedWhileSending = true
-is_of_caller c (found.NotServed identified) = not c.interrupts_are_on
-is_of_caller c (found.LeftWithLineUp line) = not c.interrupts_are_on
+is_of_caller c (found.NotServed identified) = not (c.interrupts_are_on && c.isr_is_read)
+is_of_caller c (found.LeftWithLineUp line) = not (c.interrupts_are_on && c.isr_is_read)
 is_of_caller c _ = false
 
 -- it is no such finding
@@ -242,20 +242,20 @@ module _ (c : Causes) where
   changed_founded a s _ same = nothing
 
   -- ISR shows no interrupt
-  pub served_founded : (before : Option Identified) (now : Option InterruptType) → (c.interrupts_are_on ≡ false → now ≡ None) →
+  pub served_founded : (before : Option Identified) (now : Option InterruptType) → ((c.interrupts_are_on && c.isr_is_read) ≡ false → now ≡ None) →
       Founded c (served_by before now)
   served_founded None now none = nothing
   served_founded (Some before) None none = nothing
   served_founded (Some before) (Some now) none =
-      with_cause _ (found.NotServed before) None (λ e. absurd (let g : Some now ≡ None = none (not_true c.interrupts_are_on e) in cc)) nothing
+      with_cause _ (found.NotServed before) None (λ e. absurd (let g : Some now ≡ None = none (not_true (c.interrupts_are_on && c.isr_is_read) e) in cc)) nothing
 
   -- no handler is at work
-  pub left_up_founded : (a : Auditor) (s : Step) (up : Option Mark) (now : Option ℕ) → (c.interrupts_are_on ≡ false → a.is_handling ≡ false) →
+  pub left_up_founded : (a : Auditor) (s : Step) (up : Option Mark) (now : Option ℕ) → ((c.interrupts_are_on && c.isr_is_read) ≡ false → a.is_handling ≡ false) →
       Founded c (left_up a s up now)
   left_up_founded a s (Some mark) (Some now) none =
       founded_if (are_off s.setup.interrupts) _ _ nothing
       (with_cause (a.is_handling && is_long_since mark now) (found.LeftWithLineUp mark.line) None
-      (λ e. and_left a.is_handling (is_long_since mark now) (none (not_true c.interrupts_are_on e))) nothing)
+      (λ e. and_left a.is_handling (is_long_since mark now) (none (not_true (c.interrupts_are_on && c.isr_is_read) e))) nothing)
   left_up_founded a s (Some mark) None none = nothing
   left_up_founded a s None now none = nothing
 

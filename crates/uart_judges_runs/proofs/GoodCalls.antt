@@ -33,7 +33,7 @@ use Rattle.uart_judges.specs.Findings.{enables_some}
 use Rattle.uart_judges_runs.specs.Calls.{IsSteady}
 use Rattle.uart_judges_runs.specs.Causes.{AsksFor, Causes, Fits, IsSetUpFor}
 use Rattle.uart_judges_runs.proofs.GoodLists as good
-use Rattle.uart_judges_runs.proofs.GoodLists.{AllLead, Leads}
+use Rattle.uart_judges_runs.proofs.GoodLists.{AllLead, Leads, differ}
 
 module _ (c : Causes) (line : ℕ) (f : Fields) (set : IsSetUpFor c line f) where
   abbrev s : Settings
@@ -60,14 +60,17 @@ module _ (c : Causes) (line : ℕ) (f : Fields) (set : IsSetUpFor c line f) wher
   level_list v (Err e) after l (off, is, same) = none_made l is
 
   look : (bits : ℕ) (outcome : Bool) → AllLead c line f.fifo s (Asks offsets.LSR bits outcome)
-  look bits outcome = good.leads_asks c line f.fifo set.dlab set.fifos s offsets.LSR bits outcome refl refl
+  look bits outcome = good.leads_asks c line f.fifo set.dlab set.fifos s offsets.LSR bits outcome refl refl refl
 
-  one : (register answer : ℕ) → nat_lt register 8 ≡ true → (register == offsets.DATA) ≡ false → Leading (Read register answer ∷ [])
-  one register answer real other = good.reads c line f.fifo set.dlab set.fifos register answer real other
+  one_list : (register answer : ℕ) → nat_lt register 8 ≡ true → (register == offsets.DATA) ≡ false →
+      (register ≡ offsets.ISR → c.isr_is_read ≡ true) → (l : List RegisterAccess) → l ≡ Read register answer ∷ [] → Leading l
+  one_list register answer real other may l is =
+      subst (λ (l : List RegisterAccess). Leading l) (sym is) (good.reads c line f.fifo set.dlab set.fifos register answer real other may)
 
-  one_list : (register answer : ℕ) → nat_lt register 8 ≡ true → (register == offsets.DATA) ≡ false → (l : List RegisterAccess) →
-      l ≡ Read register answer ∷ [] → Leading l
-  one_list register answer real other l is = subst (λ (l : List RegisterAccess). Leading l) (sym is) (one register answer real other)
+  -- a call that reads ISR is made only where it may be
+  may_read : (b : Bool) → (b ≡ false → true ≡ false) → b ≡ true
+  may_read true e = refl
+  may_read false e = absurd (let g : true ≡ false = e refl in cc)
 
   ready_list : {T E : Type 0} (r : Result T E) (l : List RegisterAccess) → ReadyToReceive r s l → Leading l
   ready_list (Ok x) l t = look lsr_bits.DATA_READY.0 true l t
@@ -118,25 +121,25 @@ module _ (c : Causes) (line : ℕ) (f : Fields) (set : IsSetUpFor c line f) wher
   good_list (call.Quiesce outputs fifos) after l a i k h = absurd i
   good_list (call.Restore dump) after l a i k h = absurd i
   good_list (call.CheckConfigured outputs) after l a i k h =
-      good.leads_check c line f.fifo set.dlab set.fifos s f.config outputs.0 set.interrupts h.outcome l h.does.0
+      good.leads_check c line f.fifo set.dlab set.fifos s (may_read c.isr_is_read k.isr) f.config outputs.0 set.interrupts h.outcome l h.does.0
   good_list call.TestLoopback after l a i k h = absurd i
   good_list call.CheckPresent after l a i k h = good.leads_presence c line f.fifo set.dlab set.fifos s h.outcome l h.does.0
-  good_list call.CheckConnected after l a i k h = let t = h.does.0 in one_list offsets.MSR t.0 refl refl l t.2
+  good_list call.CheckConnected after l a i k h = let t = h.does.0 in one_list offsets.MSR t.0 refl refl (differ offsets.MSR offsets.ISR refl) l t.2
   good_list call.ReadyToReceive after l a i k h = ready_list h.outcome l h.does.0
   good_list call.ReadyToSend after l a i k h = ready_to_send_list h.outcome l h.does.0
   good_list call.TryReceive after l a i k h = try_receive_list h.outcome l h.does.0
   good_list call.Flush after l a i k h = flushes_list h.outcome l h.does.0
   good_list call.ReadReady after l a i k h = read_ready_list h.outcome l h.does.0
   good_list call.WriteReady after l a i k h = write_ready_list h.outcome l h.does.0
-  good_list call.Ier after l a i k h = one_list offsets.IER h.outcome refl refl l h.does.0.is
-  good_list call.Isr after l a i k h = one_list offsets.ISR h.outcome refl refl l h.does.0.is
-  good_list call.Lcr after l a i k h = one_list offsets.LCR h.outcome refl refl l h.does.0.is
-  good_list call.Mcr after l a i k h = one_list offsets.MCR h.outcome refl refl l h.does.0.is
-  good_list call.Lsr after l a i k h = one_list offsets.LSR h.does.0 refl refl l h.does.1
-  good_list call.Msr after l a i k h = one_list offsets.MSR h.does.0 refl refl l h.does.1
-  good_list call.PeekModem after l a i k h = one_list offsets.MSR h.outcome refl refl l h.does.0.is
+  good_list call.Ier after l a i k h = one_list offsets.IER h.outcome refl refl (differ offsets.IER offsets.ISR refl) l h.does.0.is
+  good_list call.Isr after l a i k h = one_list offsets.ISR h.outcome refl refl (λ is. may_read c.isr_is_read k.isr) l h.does.0.is
+  good_list call.Lcr after l a i k h = one_list offsets.LCR h.outcome refl refl (differ offsets.LCR offsets.ISR refl) l h.does.0.is
+  good_list call.Mcr after l a i k h = one_list offsets.MCR h.outcome refl refl (differ offsets.MCR offsets.ISR refl) l h.does.0.is
+  good_list call.Lsr after l a i k h = one_list offsets.LSR h.does.0 refl refl (differ offsets.LSR offsets.ISR refl) l h.does.1
+  good_list call.Msr after l a i k h = one_list offsets.MSR h.does.0 refl refl (differ offsets.MSR offsets.ISR refl) l h.does.1
+  good_list call.PeekModem after l a i k h = one_list offsets.MSR h.outcome refl refl (differ offsets.MSR offsets.ISR refl) l h.does.0.is
   good_list call.IsIdle after l a i k h = look lsr_bits.TRANSMITTER_EMPTY.0 h.outcome l h.does.0
-  good_list call.Spr after l a i k h = one_list offsets.SPR h.outcome refl refl l h.does.0.is
+  good_list call.Spr after l a i k h = one_list offsets.SPR h.outcome refl refl (differ offsets.SPR offsets.ISR refl) l h.does.0.is
   good_list call.DllDlm after l a i k h =
       let t = h.does.0 in
       subst (λ (l : List RegisterAccess). Leading l) (sym t.1)
@@ -144,7 +147,7 @@ module _ (c : Causes) (line : ℕ) (f : Fields) (set : IsSetUpFor c line f) wher
   good_list call.FifoEnabled after l a i k h = none_made l h.does.1.0
   good_list call.Dump after l a i k h =
       subst (λ (l : List RegisterAccess). Leading l) (sym h.does.is)
-      (good.leads_dump c line f.fifo set.dlab set.fifos h.does.lcr h.does.lsr h.does.msr h.outcome)
+      (good.leads_dump c line f.fifo set.dlab set.fifos (may_read c.isr_is_read k.isr) h.does.lcr h.does.lsr h.does.msr h.outcome)
   good_list (call.TrySend byte) after l a i k h =
       good.leads_try_sends c line f.fifo set.dlab set.fifos s set.checks byte h.outcome k.bytes l h.does.0
   good_list (call.Enable bits) after l a i k h =

@@ -14,6 +14,7 @@ use Rattle.uart_spec.specs.declared.errors.ConfigurationError.{ConfigurationErro
 use Rattle.uart_spec.specs.declared.errors.StalledError.{StalledError}
 use Rattle.uart_spec.specs.declared.received.Received.{Received}
 use Rattle.uart_spec.specs.declared.registers.fifo_control.TheConstants.FCR as fcr_bits
+use Rattle.uart_spec.specs.declared.registers.interrupt_status.TheConstants.ISR as isr_bits
 use Rattle.uart_spec.specs.declared.registers.line_control.TheConstants.LCR as lcr_bits
 use Rattle.uart_spec.specs.declared.registers.line_status.TheConstants.LSR as lsr_bits
 use Rattle.uart_spec.specs.declared.registers.modem_control.TheConstants.MCR as mcr_bits
@@ -42,7 +43,7 @@ use Rattle.uart_judges_runs.proofs.Settled.{Stage}
 use Rattle.uart_judges_runs.proofs.Walks.{GoodRead, IsGood, by}
 
 -- another number
-differ : {A : Type 0} (m n : ℕ) → (m == n) ≡ false → m ≡ n → A
+pub differ : {A : Type 0} (m n : ℕ) → (m == n) ≡ false → m ≡ n → A
 differ m n other e = absurd (grind (arith, common_steps))
 
 all-take : (P : ℕ → Type 0) (n : ℕ) (bytes : List ℕ) → AllByRecursion P bytes → AllByRecursion P (take n bytes)
@@ -54,6 +55,10 @@ all-drop : (P : ℕ → Type 0) (n : ℕ) (bytes : List ℕ) → AllByRecursion 
 all-drop P zero bytes p = p
 all-drop P (suc n) [] p = tt
 all-drop P (suc n) (byte ∷ bytes) p = all-drop P n bytes p.1
+
+and_true : (b : Bool) → (b && true) ≡ b
+and_true true = refl
+and_true false = refl
 
 -- no interrupt is enabled by values that enable none
 pub zero_of : (v : ℕ) → not (v == 0) ≡ false → v ≡ 0
@@ -113,35 +118,43 @@ module _ (c : Causes) (line : ℕ) (fifo : Bool) where
   -- ---- one access
 
   module _ (off : has line lcr_bits.DLAB.0 ≡ false) (on : c.fifos_are_off ≡ false → fifo ≡ true) where
-    -- a read, but not of DATA, nor of LSR while DLAB is on
+    -- no interrupt is pending, or ISR may be read
+    idle_read : (answer : ℕ) → c.isr_is_read ≡ true → (c.interrupts_are_on ≡ false → has answer isr_bits.INTERRUPT_STATUS.0 ≡ true) →
+        (c.interrupts_are_on && c.isr_is_read) ≡ false → has answer isr_bits.INTERRUPT_STATUS.0 ≡ true
+    idle_read answer may none e =
+        none (sym (and_true c.interrupts_are_on) ∙ (ap (λ (b : Bool). c.interrupts_are_on && b) (sym may) ∙ e))
+
+    -- a read, but not of DATA, nor of LSR while DLAB is on, nor of ISR if it is not to be read
     good_read : (f : Stage) (register answer : ℕ) → nat_lt register 8 ≡ true → (register == offsets.DATA) ≡ false →
-        (register ≡ offsets.LSR → f.opened ≡ false) → ShowsFor c line f.opened register answer → IsTaken fifo f.opened (Read register answer) →
-        GoodRead c line f register answer
-    good_read f register answer real other shut shows taken = record {
+        (register ≡ offsets.ISR → c.isr_is_read ≡ true) → (register ≡ offsets.LSR → f.opened ≡ false) →
+        ShowsFor c line f.opened register answer → IsTaken fifo f.opened (Read register answer) → GoodRead c line f register answer
+    good_read f register answer real other may shut shows taken = record {
       real = real;
       shows = shows;
+      idle = λ is e. idle_read answer (may is) (shows.pending is) e;
       fifos = λ is e. taken.fifos is ∙ on e;
       shut = shut;
       looked = λ is e g. differ register offsets.DATA other is;
     }
 
     pub reads : (register answer : ℕ) → nat_lt register 8 ≡ true → (register == offsets.DATA) ≡ false →
-        Leads false false (Read register answer ∷ [])
-    reads register answer real other held looked = λ t. (good_read (record { opened = false; held = held; looked = looked }) register answer real other (λ is. refl) t.0 t.1, refl)
+        (register ≡ offsets.ISR → c.isr_is_read ≡ true) → Leads false false (Read register answer ∷ [])
+    reads register answer real other may held looked = λ t. (good_read (record { opened = false; held = held; looked = looked }) register answer real other may (λ is. refl) t.0 t.1, refl)
 
     -- the divisor
-    good_divisor : (f : Stage) (register answer : ℕ) → f.opened ≡ true → nat_lt register 5 ≡ true → ShowsFor c line f.opened register answer →
+    good_divisor : (f : Stage) (register answer : ℕ) → f.opened ≡ true → nat_lt register 5 ≡ true → (register == offsets.ISR) ≡ false → ShowsFor c line f.opened register answer →
         IsTaken fifo f.opened (Read register answer) → GoodRead c line f register answer
-    good_divisor f register answer is_on low shows taken = record {
+    good_divisor f register answer is_on low other shows taken = record {
       real = grind (arith, common_steps);
       shows = shows;
-      fifos = λ is e. taken.fifos is ∙ on e;
+      idle = λ is. differ register offsets.ISR other is;
+      fifos = λ is. differ register offsets.ISR other is;
       shut = λ is. absurd (grind (arith, common_steps));
       looked = λ is e g. absurd (let h : true ≡ false = sym is_on ∙ e in cc);
     }
 
-    pub reads_open : (register answer : ℕ) → nat_lt register 5 ≡ true → Leads true true (Read register answer ∷ [])
-    reads_open register answer low held looked = λ t. (good_divisor (record { opened = true; held = held; looked = looked }) register answer refl low t.0 t.1, refl)
+    pub reads_open : (register answer : ℕ) → nat_lt register 5 ≡ true → (register == offsets.ISR) ≡ false → Leads true true (Read register answer ∷ [])
+    reads_open register answer low other held looked = λ t. (good_divisor (record { opened = true; held = held; looked = looked }) register answer refl low other t.0 t.1, refl)
 
     pub writes_line : (b : Bool) (value : ℕ) → value ≡ line_while (has value lcr_bits.DLAB.0) line →
         Leads b (has value lcr_bits.DLAB.0) (Write offsets.LCR value ∷ [])
@@ -217,15 +230,14 @@ module _ (c : Causes) (line : ℕ) (fifo : Bool) where
     -- ---- languages
 
     pub leads_asks : (s : Settings) (register bits : ℕ) (outcome : Bool) → nat_lt register 8 ≡ true → (register == offsets.DATA) ≡ false →
-        AllLead s (Asks register bits outcome)
-    leads_asks s register bits outcome real other l t = rw t.is (reads register t.answer real other)
+        (register == offsets.ISR) ≡ false → AllLead s (Asks register bits outcome)
+    leads_asks s register bits outcome real other no_isr l t = rw t.is (reads register t.answer real other (differ register offsets.ISR no_isr))
 
     leads_look : (s : Settings) (bits : ℕ) (outcome : Bool) → AllLead s (Asks offsets.LSR bits outcome)
-    leads_look s bits outcome = leads_asks s offsets.LSR bits outcome refl refl
+    leads_look s bits outcome = leads_asks s offsets.LSR bits outcome refl refl refl
 
-    pub leads_one : (s : Settings) (register answer : ℕ) → nat_lt register 8 ≡ true → (register == offsets.DATA) ≡ false →
-        AllLead s (Only (Read register answer ∷ []))
-    leads_one s register answer real other l t = rw t.is (reads register answer real other)
+    leads_scratch : (s : Settings) (answer : ℕ) → AllLead s (Only (Read offsets.SPR answer ∷ []))
+    leads_scratch s answer l t = rw t.is (reads offsets.SPR answer refl refl (differ offsets.SPR offsets.ISR refl))
 
     pub leads_waits : (s : Settings) (bits : ℕ) (outcome : Bool) → AllLead s (WaitsFor bits outcome)
     leads_waits s bits true =
@@ -241,10 +253,11 @@ module _ (c : Causes) (line : ℕ) (fifo : Bool) where
     leads_pair : (line_status byte : ℕ) → has line_status lsr_bits.DATA_READY.0 ≡ true →
         Leads false false (Read offsets.LSR line_status ∷ Read offsets.DATA byte ∷ [])
     leads_pair line_status byte ready held looked =
-        λ t. (good_read (record { opened = false; held = held; looked = looked }) offsets.LSR line_status refl refl (λ is. refl) t.0 t.1,
+        λ t. (good_read (record { opened = false; held = held; looked = looked }) offsets.LSR line_status refl refl (differ offsets.LSR offsets.ISR refl) (λ is. refl) t.0 t.1,
         λ u. (record {
           real = refl;
           shows = u.0;
+          idle = λ is. differ 0 offsets.ISR refl is;
           fifos = λ is. differ 0 offsets.ISR refl is;
           shut = λ is. refl;
           looked = λ is e g. ready;
@@ -287,9 +300,9 @@ module _ (c : Causes) (line : ℕ) (fifo : Bool) where
     -- ---- the send check
 
     leads_lines : (s : Settings) (allowed : Bool) → AllLead s (LinesAllow allowed)
-    leads_lines s allowed l (inl t) = leads_asks s offsets.MCR mcr_bits.LOOP_BACK.0 true refl refl l t.1
+    leads_lines s allowed l (inl t) = leads_asks s offsets.MCR mcr_bits.LOOP_BACK.0 true refl refl refl l t.1
     leads_lines s allowed l (inr t) =
-        all_then turn s _ _ (leads_asks s offsets.MCR mcr_bits.LOOP_BACK.0 false refl refl) (leads_asks s offsets.MSR msr_bits.CTS.0 allowed refl refl)
+        all_then turn s _ _ (leads_asks s offsets.MCR mcr_bits.LOOP_BACK.0 false refl refl refl) (leads_asks s offsets.MSR msr_bits.CTS.0 allowed refl refl refl)
         l t
 
     leads_checked : (s : Settings) (allowed : Bool) → AllLead s (Then (Asks offsets.LSR lsr_bits.THR_EMPTY.0 true) (LinesAllow allowed))
@@ -329,8 +342,8 @@ module _ (c : Causes) (line : ℕ) (fifo : Bool) where
     lines_clear s l (inr t) held looked =
         let f : Stage = record { opened = false; held = held; looked = looked } in
         rw (t.whole, t.first.is, t.second.is)
-        (λ seen. (good_read f offsets.MCR t.first.answer refl refl (λ is. refl) seen.0 seen.1,
-        λ shown. (good_read f offsets.MSR t.second.answer refl refl (λ is. refl) shown.0 shown.1, (refl, λ e. ap not t.second.shows))))
+        (λ seen. (good_read f offsets.MCR t.first.answer refl refl (differ offsets.MCR offsets.ISR refl) (λ is. refl) seen.0 seen.1,
+        λ shown. (good_read f offsets.MSR t.second.answer refl refl (differ offsets.MSR offsets.ISR refl) (λ is. refl) shown.0 shown.1, (refl, λ e. ap not t.second.shows))))
 
     hit_clear : (s : Settings) (b : Bool) (l : List RegisterAccess) → (c.cts_is_unchecked ≡ false → b ≡ true) →
         MatchBool b (Then (Asks offsets.LSR lsr_bits.THR_EMPTY.0 true) (LinesAllow true) s l) (Asks offsets.LSR lsr_bits.THR_EMPTY.0 true s l) →
@@ -338,12 +351,12 @@ module _ (c : Causes) (line : ℕ) (fifo : Bool) where
     hit_clear s true l checks t held looked =
         let f : Stage = record { opened = false; held = held; looked = looked } in
         rw (t.whole, t.first.is)
-        (λ seen. (good_read f offsets.LSR t.first.answer refl refl (λ is. refl) seen.0 seen.1,
+        (λ seen. (good_read f offsets.LSR t.first.answer refl refl (differ offsets.LSR offsets.ISR refl) (λ is. refl) seen.0 seen.1,
         lines_clear s t.back t.second held (has t.first.answer lsr_bits.DATA_READY.0)))
     hit_clear s false l checks t held looked =
         let f : Stage = record { opened = false; held = held; looked = looked } in
         rw t.is
-        (λ seen. (good_read f offsets.LSR t.answer refl refl (λ is. refl) seen.0 seen.1,
+        (λ seen. (good_read f offsets.LSR t.answer refl refl (differ offsets.LSR offsets.ISR refl) (λ is. refl) seen.0 seen.1,
         (refl, λ e. absurd (let g : false ≡ true = checks e in cc))))
 
     -- ---- sending
@@ -411,7 +424,7 @@ module _ (c : Causes) (line : ℕ) (fifo : Bool) where
     leads_pattern : (s : Settings) (pattern : ℕ) (outcome : Bool) → AllLead s (Keeps pattern outcome)
     leads_pattern s pattern outcome l (back, kept, is) =
         rw is (leads-append false false false (Write offsets.SPR pattern ∷ []) (Read offsets.SPR back ∷ []) (writes_scratch pattern)
-        (reads offsets.SPR back refl refl))
+        (reads offsets.SPR back refl refl (differ offsets.SPR offsets.ISR refl)))
 
     leads_patterns : (s : Settings) (present : Bool) → AllLead s (KeepsPatterns present)
     leads_patterns s true l t = all_then turn s _ _ (leads_pattern s 66 true) (leads_pattern s 115 true) l t
@@ -420,7 +433,7 @@ module _ (c : Causes) (line : ℕ) (fifo : Bool) where
 
     pub leads_presence : (s : Settings) (present : Bool) → AllLead s (ChecksPresence present)
     leads_presence s present l (old, t) =
-        all_then turn s _ _ (leads_one s offsets.SPR old refl refl)
+        all_then turn s _ _ (leads_scratch s old)
         (λ k u. all_then turn s _ _ (leads_patterns s present) (all_only turn s (Write offsets.SPR old ∷ []) (writes_scratch old)) k u) l t
 
     -- LCR as it is, with DLAB on and off
@@ -440,15 +453,15 @@ module _ (c : Causes) (line : ℕ) (fifo : Bool) where
 
     latch_reads : (low high : ℕ) → Leads true true (Read offsets.DLL low ∷ Read offsets.DLM high ∷ [])
     latch_reads low high =
-        leads-append true true true (Read offsets.DLL low ∷ []) (Read offsets.DLM high ∷ []) (reads_open offsets.DLL low refl)
-        (reads_open offsets.DLM high refl)
+        leads-append true true true (Read offsets.DLL low ∷ []) (Read offsets.DLM high ∷ []) (reads_open offsets.DLL low refl refl)
+        (reads_open offsets.DLM high refl refl)
 
     pub leads_divisor : (lcr low high : ℕ) → Leads false false (divisor_accesses lcr low high)
     leads_divisor lcr low high held looked =
         λ t. let is : lcr ≡ line = t.0.lcr refl in
         leads-append false false false (Read offsets.LCR lcr ∷ [])
         (Write offsets.LCR (bit_or lcr lcr_bits.DLAB.0) ∷ Read offsets.DLL low ∷ Read offsets.DLM high ∷ Write offsets.LCR lcr ∷ [])
-        (reads offsets.LCR lcr refl refl)
+        (reads offsets.LCR lcr refl refl (differ offsets.LCR offsets.ISR refl))
         (leads-append false true false (Write offsets.LCR (bit_or lcr lcr_bits.DLAB.0) ∷ [])
         (Read offsets.DLL low ∷ Read offsets.DLM high ∷ Write offsets.LCR lcr ∷ []) (opens lcr is)
         (leads-append true true false (Read offsets.DLL low ∷ Read offsets.DLM high ∷ []) (Write offsets.LCR lcr ∷ []) (latch_reads low high)
@@ -460,7 +473,7 @@ module _ (c : Causes) (line : ℕ) (fifo : Bool) where
         c.interrupts_are_on ≡ false → enables_some (Some (record { 0 = value })) ≡ false) →
         Leads false false (Read offsets.IER ier ∷ Write offsets.IER value ∷ [])
     leads_changes ier value none held looked =
-        λ t. leads-append false false false (Read offsets.IER ier ∷ []) (Write offsets.IER value ∷ []) (reads offsets.IER ier refl refl)
+        λ t. leads-append false false false (Read offsets.IER ier ∷ []) (Write offsets.IER value ∷ []) (reads offsets.IER ier refl refl (differ offsets.IER offsets.ISR refl))
         (writes_interrupts value (none (λ e. t.0.enabled refl refl e))) held looked t
 
     pub leads_enables : (ier bits : ℕ) → (c.interrupts_are_on ≡ false → enables_some (Some (record { 0 = bits })) ≡ false) →
@@ -476,13 +489,13 @@ module _ (c : Causes) (line : ℕ) (fifo : Bool) where
         (leads_changes ier 0 (λ before e. refl)) (writes_interrupts ier (λ e. t.0.enabled refl refl e)) held looked t
 
     also : (register answer : ℕ) (l : List RegisterAccess) → nat_lt register 8 ≡ true → (register == offsets.DATA) ≡ false →
-        Leads false false l → Leads false false (Read register answer ∷ l)
-    also register answer l real other rest =
-        leads-append false false false (Read register answer ∷ []) l (reads register answer real other) rest
+        (register ≡ offsets.ISR → c.isr_is_read ≡ true) → Leads false false l → Leads false false (Read register answer ∷ l)
+    also register answer l real other may rest =
+        leads-append false false false (Read register answer ∷ []) l (reads register answer real other may) rest
 
-    pub leads_dump : (lcr lsr msr : ℕ) (dump : ConfigRegisterDump) →
+    pub leads_dump : c.isr_is_read ≡ true → (lcr lsr msr : ℕ) (dump : ConfigRegisterDump) →
         Leads false false (divisor_accesses lcr dump.dll dump.dlm ++ dump_reads lsr msr dump)
-    leads_dump lcr lsr msr dump =
+    leads_dump may lcr lsr msr dump =
         let seventh : List RegisterAccess = Read offsets.SPR dump.spr ∷ [] in
         let sixth : List RegisterAccess = Read offsets.MSR msr ∷ seventh in
         let fifth : List RegisterAccess = Read offsets.LSR lsr ∷ sixth in
@@ -490,9 +503,9 @@ module _ (c : Causes) (line : ℕ) (fifo : Bool) where
         let third : List RegisterAccess = Read offsets.LCR dump.lcr.0 ∷ fourth in
         let second : List RegisterAccess = Read offsets.ISR dump.isr.0 ∷ third in
         leads-append false false false (divisor_accesses lcr dump.dll dump.dlm) (dump_reads lsr msr dump) (leads_divisor lcr dump.dll dump.dlm)
-        (also offsets.IER dump.ier.0 second refl refl (also offsets.ISR dump.isr.0 third refl refl
-        (also offsets.LCR dump.lcr.0 fourth refl refl (also offsets.MCR dump.mcr.0 fifth refl refl
-        (also offsets.LSR lsr sixth refl refl (also offsets.MSR msr seventh refl refl (reads offsets.SPR dump.spr refl refl)))))))
+        (also offsets.IER dump.ier.0 second refl refl (differ offsets.IER offsets.ISR refl) (also offsets.ISR dump.isr.0 third refl refl (λ is. may)
+        (also offsets.LCR dump.lcr.0 fourth refl refl (differ offsets.LCR offsets.ISR refl) (also offsets.MCR dump.mcr.0 fifth refl refl (differ offsets.MCR offsets.ISR refl)
+        (also offsets.LSR lsr sixth refl refl (differ offsets.LSR offsets.ISR refl) (also offsets.MSR msr seventh refl refl (differ offsets.MSR offsets.ISR refl) (reads offsets.SPR dump.spr refl refl (differ offsets.SPR offsets.ISR refl))))))))
 
     -- ---- `check_configured`
 
@@ -515,12 +528,12 @@ module _ (c : Causes) (line : ℕ) (fifo : Bool) where
           then_leads b d d s (Only (Write offsets.LCR value ∷ [])) _ (λ l t. rw t.is write) (shows_leads offsets.LCR _ _ d one v)
 
       opens_leads : (lcr : ℕ) → lcr ≡ line → HoldsOfAll (Leads false true) s (OpensLatch lcr (Ok tt))
-      opens_leads lcr is = line_leads false true (bit_or lcr lcr_bits.DLAB.0) (opens lcr is) (λ answer. reads_open offsets.LCR answer refl) (Ok tt)
+      opens_leads lcr is = line_leads false true (bit_or lcr lcr_bits.DLAB.0) (opens lcr is) (λ answer. reads_open offsets.LCR answer refl refl) (Ok tt)
 
       ignored_leads : (lcr : ℕ) → lcr ≡ line → (e : ConfigurationError) → HoldsOfAll (Leads false false) s (OpensLatch lcr (Err e))
       ignored_leads lcr is e =
           then_leads false true false s (KeepsLine (bit_or lcr lcr_bits.DLAB.0) (Err e)) (Only (Write offsets.LCR lcr ∷ []))
-          (line_leads false true (bit_or lcr lcr_bits.DLAB.0) (opens lcr is) (λ answer. reads_open offsets.LCR answer refl) (Err e))
+          (line_leads false true (bit_or lcr lcr_bits.DLAB.0) (opens lcr is) (λ answer. reads_open offsets.LCR answer refl refl) (Err e))
           (λ l t. rw t.is (closes true lcr is))
 
       divisor_leads : (divisor shown : ℕ) (v : Verdict) → HoldsOfAll (Leads false false) s (IsDivisor divisor shown v)
@@ -528,7 +541,7 @@ module _ (c : Causes) (line : ℕ) (fifo : Bool) where
       divisor_leads divisor shown (Err e) l t = rw t.2 turn.none
 
       closes_leads : (lcr : ℕ) → lcr ≡ line → (v : Verdict) → HoldsOfAll (Leads true false) s (KeepsLine lcr v)
-      closes_leads lcr is = line_leads true false lcr (closes true lcr is) (λ answer. reads offsets.LCR answer refl refl)
+      closes_leads lcr is = line_leads true false lcr (closes true lcr is) (λ answer. reads offsets.LCR answer refl refl (differ offsets.LCR offsets.ISR refl))
 
       latch_leads : (divisor lcr : ℕ) → lcr ≡ line → (v : Verdict) → HoldsOfAll (Leads true false) s (ReadsLatch divisor lcr v)
       latch_leads divisor lcr is v l (low, high, t) =
@@ -544,43 +557,43 @@ module _ (c : Causes) (line : ℕ) (fifo : Bool) where
       shows_divisor_leads : (divisor : ℕ) (v : Verdict) → AllLead s (ShowsDivisor divisor v)
       shows_divisor_leads divisor v l (lcr, t) =
           rw (t.whole, t.first.is)
-          (λ held looked sees. leads-append false false false (Read offsets.LCR lcr ∷ []) t.back (reads offsets.LCR lcr refl refl)
+          (λ held looked sees. leads-append false false false (Read offsets.LCR lcr ∷ []) t.back (reads offsets.LCR lcr refl refl (differ offsets.LCR offsets.ISR refl))
           (after_line divisor lcr (sees.0.lcr refl) v t.back t.second) held looked sees)
 
-      fifo_leads : (interrupts isr : ℕ) → (c.interrupts_are_on ≡ false → enables_some (Some (record { 0 = interrupts })) ≡ false) →
+      fifo_leads : c.isr_is_read ≡ true → (interrupts isr : ℕ) → (c.interrupts_are_on ≡ false → enables_some (Some (record { 0 = interrupts })) ≡ false) →
           Leads false false (fifo_look interrupts isr)
-      fifo_leads interrupts isr none =
+      fifo_leads may interrupts isr none =
           leads-append false false false (Write offsets.IER 0 ∷ []) (Read offsets.ISR isr ∷ Write offsets.IER interrupts ∷ [])
           (writes_interrupts 0 (λ e. refl))
-          (leads-append false false false (Read offsets.ISR isr ∷ []) (Write offsets.IER interrupts ∷ []) (reads offsets.ISR isr refl refl)
+          (leads-append false false false (Read offsets.ISR isr ∷ []) (Write offsets.IER interrupts ∷ []) (reads offsets.ISR isr refl refl (λ is. may))
           (writes_interrupts interrupts none))
 
-      shows_fifos_leads : (interrupts : ℕ) → (c.interrupts_are_on ≡ false → enables_some (Some (record { 0 = interrupts })) ≡ false) →
+      shows_fifos_leads : c.isr_is_read ≡ true → (interrupts : ℕ) → (c.interrupts_are_on ≡ false → enables_some (Some (record { 0 = interrupts })) ≡ false) →
           (v : Verdict) → AllLead s (ShowsFifos interrupts v)
-      shows_fifos_leads interrupts none (Ok x) l (isr, same, is) = rw is (fifo_leads interrupts isr none)
-      shows_fifos_leads interrupts none (Err e) l (isr, wrong, told, is) = rw is (fifo_leads interrupts isr none)
+      shows_fifos_leads may interrupts none (Ok x) l (isr, same, is) = rw is (fifo_leads may interrupts isr none)
+      shows_fifos_leads may interrupts none (Err e) l (isr, wrong, told, is) = rw is (fifo_leads may interrupts isr none)
 
-      all_leads : (frame outputs interrupts divisor : ℕ) →
+      all_leads : c.isr_is_read ≡ true → (frame outputs interrupts divisor : ℕ) →
           (c.interrupts_are_on ≡ false → enables_some (Some (record { 0 = interrupts })) ≡ false) → (v : Verdict) →
           AllLead s (ShowsAll frame outputs interrupts divisor v)
-      all_leads frame outputs interrupts divisor none =
+      all_leads may frame outputs interrupts divisor none =
           let latch : Verdict → Language = InTurn (ShowsDivisor divisor) (ShowsFifos interrupts) in
           let enabled : Verdict → Language = InTurn (ShowsInterrupts interrupts) latch in
           let control : Verdict → Language = InTurn (ShowsOutputs outputs) enabled in
-          let frames = shows_leads offsets.LCR _ _ false (λ answer. reads offsets.LCR answer refl refl) in
-          let outs = shows_leads offsets.MCR _ _ false (λ answer. reads offsets.MCR answer refl refl) in
-          let ints = shows_leads offsets.IER _ _ false (λ answer. reads offsets.IER answer refl refl) in
+          let frames = shows_leads offsets.LCR _ _ false (λ answer. reads offsets.LCR answer refl refl (differ offsets.LCR offsets.ISR refl)) in
+          let outs = shows_leads offsets.MCR _ _ false (λ answer. reads offsets.MCR answer refl refl (differ offsets.MCR offsets.ISR refl)) in
+          let ints = shows_leads offsets.IER _ _ false (λ answer. reads offsets.IER answer refl refl (differ offsets.IER offsets.ISR refl)) in
           in_turn_leads false false false (ShowsFrame frame) control (λ u. frames (Ok u)) (λ f. frames (Err f))
           (in_turn_leads false false false (ShowsOutputs outputs) enabled (λ u. outs (Ok u)) (λ f. outs (Err f))
           (in_turn_leads false false false (ShowsInterrupts interrupts) latch (λ u. ints (Ok u)) (λ f. ints (Err f))
           (in_turn_leads false false false (ShowsDivisor divisor) (ShowsFifos interrupts) (λ u. shows_divisor_leads divisor (Ok u))
-          (λ f. shows_divisor_leads divisor (Err f)) (shows_fifos_leads interrupts none))))
+          (λ f. shows_divisor_leads divisor (Err f)) (shows_fifos_leads may interrupts none))))
 
-      pub leads_check : (config : Config) (outputs : ℕ) →
+      pub leads_check : c.isr_is_read ≡ true → (config : Config) (outputs : ℕ) →
           (c.interrupts_are_on ≡ false → enables_some (Some (record { 0 = config.interrupts.0 })) ≡ false) → (v : Verdict) →
           AllLead s (ChecksConfigured config outputs v)
-      leads_check config outputs none (Ok u) l (divisor, is, t) =
-          all_leads (frame_bits config) (unlooped outputs) config.interrupts.0 divisor none (Ok u) l t
-      leads_check config outputs none (Err e) l (inl (nothing, told, is)) = rw is turn.none
-      leads_check config outputs none (Err e) l (inr (divisor, is, t)) =
-          all_leads (frame_bits config) (unlooped outputs) config.interrupts.0 divisor none (Err e) l t
+      leads_check may config outputs none (Ok u) l (divisor, is, t) =
+          all_leads may (frame_bits config) (unlooped outputs) config.interrupts.0 divisor none (Ok u) l t
+      leads_check may config outputs none (Err e) l (inl (nothing, told, is)) = rw is turn.none
+      leads_check may config outputs none (Err e) l (inr (divisor, is, t)) =
+          all_leads may (frame_bits config) (unlooped outputs) config.interrupts.0 divisor none (Err e) l t

@@ -115,7 +115,7 @@ pub record Settled (c : Causes) (line : ℕ) (f : Stage) (a : Auditor) : Type 0 
   pub dlab : IsSo a.setup.is_open (λ on. on ≡ f.opened)
   pub lcr : IsSo a.setup.line (λ lcr. lcr.0 ≡ line_while f.opened line)
   pub interrupts : c.interrupts_are_on ≡ false → enables_some a.setup.interrupts ≡ false
-  pub not_handling : c.interrupts_are_on ≡ false → a.is_handling ≡ false
+  pub not_handling : (c.interrupts_are_on && c.isr_is_read) ≡ false → a.is_handling ≡ false
   pub out2 : c.out2_is_off ≡ false → is_cut_off a.setup.modem ≡ false
   pub divisor : c.divisor_is_zero ≡ false → (is_zero a.setup.divisor.low && is_zero a.setup.divisor.high) ≡ false
   pub fifos : c.fifos_are_off ≡ false → IsSo a.setup.has_fifo (λ on. on ≡ true)
@@ -133,7 +133,7 @@ Harmless c line f (SetsDivisorHigh value) = ⊥
 Harmless c line f (EnablesInterrupts ier) = c.interrupts_are_on ≡ false → enables_some (Some ier) ≡ false
 Harmless c line f (ShowsInterrupts ier) = c.interrupts_are_on ≡ false → enables_some (Some ier) ≡ false
 Harmless c line f (IdentifiesInterrupt isr) =
-    (c.interrupts_are_on ≡ false → has isr.0 isr_bits.INTERRUPT_STATUS.0 ≡ true)
+    ((c.interrupts_are_on && c.isr_is_read) ≡ false → has isr.0 isr_bits.INTERRUPT_STATUS.0 ≡ true)
     × (c.fifos_are_off ≡ false → has isr.0 isr_bits.FIFOS_ENABLED.0 ≡ true)
 Harmless c line f (ControlsFifo fcr) = c.fifos_are_off ≡ false → has fcr.0 fcr_bits.FIFO_ENABLE.0 ≡ true
 Harmless c line f (ReadsLine lcr) = lcr.0 ≡ line_while f.opened line
@@ -187,7 +187,7 @@ module _ (c : Causes) (line : ℕ) (f : Stage) (off : has line lcr_bits.DLAB.0 �
   since_none : (b r h : Bool) → b ≡ false → h ≡ false → next_since b r h ≡ false
   since_none b r h e g = rw (e, g) refl
 
-  handling_next : (b : Bool) (x : Action) → Harmless c line f x → c.interrupts_are_on ≡ false → b ≡ false →
+  handling_next : (b : Bool) (x : Action) → Harmless c line f x → (c.interrupts_are_on && c.isr_is_read) ≡ false → b ≡ false →
       next_since b (shows_none x) (is_some (identified_by x)) ≡ false
   handling_next b (IdentifiesInterrupt isr) h none e =
       since_none b (shows_none (IdentifiesInterrupt isr)) _ e (ap is_some (none_identified isr (h.0 none)))
@@ -325,7 +325,7 @@ module _ (c : Causes) (line : ℕ) (f : Stage) (off : has line lcr_bits.DLAB.0 �
     frame_at (SetsLine lcr) so h = same_frame s.setup.line lcr so h
     frame_at _ so h = tt
 
-    none_at : (x : Action) → Harmless c line f x → c.interrupts_are_on ≡ false → identified_by x ≡ None
+    none_at : (x : Action) → Harmless c line f x → (c.interrupts_are_on && c.isr_is_read) ≡ false → identified_by x ≡ None
     none_at (IdentifiesInterrupt isr) h none = none_identified isr (h.0 none)
     none_at _ h none = refl
 

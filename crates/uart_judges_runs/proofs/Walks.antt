@@ -1,5 +1,5 @@
 -- Lists of accesses that are good one after the other: in no recording of them there is a warning without a cause.
-use Rattle.std.proofs.Common.{◌≡◌, ℕ, zero, suc, Bool, true, false, not, ◌==◌, List, [], ◌∷◌, ◌++◌, Option, Some, None, refl, sym, ◌∙◌}
+use Rattle.std.proofs.Common.{◌≡◌, ℕ, zero, suc, Bool, true, false, not, ◌==◌, ◌&&◌, List, [], ◌∷◌, ◌++◌, Option, Some, None, refl, sym, ◌∙◌}
 use Rattle.std.proofs.Common.{ap, subst, arith, if◌then◌else◌}
 use Rattle.std.specs.Prelude.{nat_lt}
 use Rattle.std.proofs.lemmas.Grind.{common_steps}
@@ -43,10 +43,11 @@ looked_by (Write register value) before = if register == offsets.FCR then false 
 abbrev pub by : RegisterAccess → Stage → Stage
 by x f = record { opened = opened_by x f.opened; held = held_by x f.held; looked = looked_by x f.looked }
 
--- a read: it shows what gives no other cause; DLAB is off where LSR is read; and LSR showed a byte where DATA is read
+-- a read: it shows what gives no other cause; an interrupt is pending only where ISR may be read so; DLAB is off where LSR is read; and LSR showed a byte where DATA is read
 pub record GoodRead (c : Causes) (line : ℕ) (f : Stage) (register answer : ℕ) : Type 0 where
   pub real : nat_lt register 8 ≡ true
   pub shows : ShowsFor c line f.opened register answer
+  pub idle : register ≡ offsets.ISR → (c.interrupts_are_on && c.isr_is_read) ≡ false → has answer isr_bits.INTERRUPT_STATUS.0 ≡ true
   pub fifos : register ≡ offsets.ISR → c.fifos_are_off ≡ false → has answer isr_bits.FIFOS_ENABLED.0 ≡ true
   pub shut : register ≡ offsets.LSR → f.opened ≡ false
   pub looked : register ≡ offsets.DATA → f.opened ≡ false → c.fifos_are_off ≡ false → f.looked ≡ true
@@ -81,7 +82,7 @@ module _ (c : Causes) (line : ℕ) (f : Stage) where
   read_harmless None (suc zero) answer g so = tt
   read_harmless (Some true) (suc zero) answer g so = tt
   read_harmless (Some false) (suc zero) answer g so = g.shows.enabled refl (sym so)
-  read_harmless o (suc (suc zero)) answer g so = (g.shows.pending refl, g.fifos refl)
+  read_harmless o (suc (suc zero)) answer g so = (g.idle refl, g.fifos refl)
   read_harmless o (suc (suc (suc zero))) answer g so = g.shows.lcr refl
   read_harmless o (suc (suc (suc (suc zero)))) answer g so = g.shows.out2 refl
   read_harmless o (suc (suc (suc (suc (suc zero))))) answer g so = g.shut refl

@@ -27,12 +27,13 @@ use Rattle.uart_judges_runs.specs.Lost.{IsSo}
 -- ---- the causes
 
 -- what a caller may give cause by: a break is sent meanwhile; a byte that is sent has more bits than a character; the
--- driver is not to check CTS; an interrupt is enabled; OUT2 is off; the FIFOs are off; the divisor is zero
+-- driver is not to check CTS; an interrupt is enabled; ISR is read; OUT2 is off; the FIFOs are off; the divisor is zero
 pub record Causes : Type 0 where
   pub break_is_sent : Bool
   pub bytes_are_cut : Bool
   pub cts_is_unchecked : Bool
   pub interrupts_are_on : Bool
+  pub isr_is_read : Bool
   pub out2_is_off : Bool
   pub fifos_are_off : Bool
   pub divisor_is_zero : Bool
@@ -43,6 +44,7 @@ no_cause = record {
   bytes_are_cut = false;
   cts_is_unchecked = false;
   interrupts_are_on = false;
+  isr_is_read = false;
   out2_is_off = false;
   fifos_are_off = false;
   divisor_is_zero = false;
@@ -56,8 +58,8 @@ has_cause c found.SentWithoutCts = c.cts_is_unchecked
 has_cause c found.InterruptsCutOff = c.interrupts_are_on && c.out2_is_off
 has_cause c (found.ErrorsLost arrived) = c.fifos_are_off
 has_cause c found.ZeroDivisor = c.divisor_is_zero
-has_cause c (found.NotServed identified) = c.interrupts_are_on
-has_cause c (found.LeftWithLineUp line) = c.interrupts_are_on
+has_cause c (found.NotServed identified) = c.interrupts_are_on && c.isr_is_read
+has_cause c (found.LeftWithLineUp line) = c.interrupts_are_on && c.isr_is_read
 has_cause c _ = false
 
 abbrev pub is_the_drivers : Severity → Bool
@@ -88,14 +90,22 @@ abbrev pub enabled_by : Call → Option IER
 enabled_by (call.Enable bits) = Some bits
 enabled_by _ = None
 
+-- a call that reads ISR
+abbrev pub reads_isr : Call → Bool
+reads_isr call.Isr = true
+reads_isr call.Dump = true
+reads_isr (call.CheckConfigured outputs) = true
+reads_isr _ = false
+
 -- a character with this value of LCR has all bits of the byte
 abbrev pub Fits : (line byte : ℕ) → Type 0
 Fits line byte = is_cut (record { 0 = line }) byte ≡ false
 
--- a call gives no other cause than these: its bytes fit, and it enables no interrupt
+-- a call gives no other cause than these: its bytes fit, it enables no interrupt, and it reads no ISR
 pub record AsksFor (c : Causes) (line : ℕ) (call : Call) : Type 0 where
   pub bytes : c.bytes_are_cut ≡ false → AllByRecursion (Fits line) (bytes_of call)
   pub interrupts : c.interrupts_are_on ≡ false → enables_some (enabled_by call) ≡ false
+  pub isr : c.isr_is_read ≡ false → reads_isr call ≡ false
 
 -- nor do a driver's fields, and a value of LCR in which DLAB is off
 pub record IsSetUpFor (c : Causes) (line : ℕ) (f : Fields) : Type 0 where
@@ -140,6 +150,6 @@ pub record IsLatchedFor (c : Causes) (latches : LatchesState) : Type 0 where
 pub record KnowsFor (c : Causes) (line : ℕ) (a : Auditor) : Type 0 where
   pub lcr : IsSo a.setup.line (λ lcr. lcr.0 ≡ line)
   pub interrupts : c.interrupts_are_on ≡ false → enables_some a.setup.interrupts ≡ false
-  pub not_handling : c.interrupts_are_on ≡ false → a.is_handling ≡ false
+  pub not_handling : (c.interrupts_are_on && c.isr_is_read) ≡ false → a.is_handling ≡ false
   pub out2 : c.out2_is_off ≡ false → is_cut_off a.setup.modem ≡ false
   pub divisor : c.divisor_is_zero ≡ false → (is_zero a.setup.divisor.low && is_zero a.setup.divisor.high) ≡ false
