@@ -39,7 +39,7 @@ use Rattle.uart_judges_runs.specs.Causes.{Causes}
 abbrev pub is_of_caller : Causes → Finding → Bool
 is_of_caller c (found.SentInBreak byte) = not c.break_is_sent
 is_of_caller c (found.WordTooShort byte) = not c.bytes_are_cut
-is_of_caller c found.SentWithoutCts = not c.cts_is_unchecked
+is_of_caller c found.SentWithoutCts = not (c.cts_is_unchecked && c.msr_is_read)
 is_of_caller c found.InterruptsCutOff = not (c.interrupts_are_on && c.out2_is_off)
 is_of_caller c (found.ErrorsLost arrived) = not c.fifos_are_off
 is_of_caller c found.ZeroDivisor = not c.divisor_is_zero
@@ -175,7 +175,7 @@ module _ (c : Causes) where
       (with_cause (cuts now.line byte) (found.WordTooShort byte) None (λ e. whole (not_true c.bytes_are_cut e)) nothing))
 
   -- CTS is not known to be clear
-  pub flow_founded : (a : Auditor) (s : Step) (b : Bool) → (c.cts_is_unchecked ≡ false → is_held a.cts ≡ false) →
+  pub flow_founded : (a : Auditor) (s : Step) (b : Bool) → ((c.cts_is_unchecked && c.msr_is_read) ≡ false → is_held a.cts ≡ false) →
       Founded c (if b then None
       else if loops_back s.setup.modem then None
       else when ((is_held a.cts && a.was_cts_set) && asks_for_cts a s.setup) found.SentWithoutCts)
@@ -183,7 +183,7 @@ module _ (c : Causes) where
       founded_if b _ _ nothing (founded_if (loops_back s.setup.modem) _ _ nothing
       (with_cause ((is_held a.cts && a.was_cts_set) && asks_for_cts a s.setup) found.SentWithoutCts None
       (λ e. and_left (is_held a.cts && a.was_cts_set) (asks_for_cts a s.setup)
-      (and_left (is_held a.cts) a.was_cts_set (free (not_true c.cts_is_unchecked e)))) nothing))
+      (and_left (is_held a.cts) a.was_cts_set (free (not_true (c.cts_is_unchecked && c.msr_is_read) e)))) nothing))
 
   -- no interrupt is enabled, or OUT2 is on
   uncut : (on off x y : Bool) → not (on && off) ≡ true → (on ≡ false → x ≡ false) → (off ≡ false → y ≡ false) → (x && y) ≡ false

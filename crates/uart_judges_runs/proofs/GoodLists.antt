@@ -40,7 +40,7 @@ use Rattle.uart_run.proofs.ListsInTurn.{HoldsInTurn, HoldsOfAll, all_few, all_in
 use Rattle.uart_judges_runs.specs.Calls.{IsTaken}
 use Rattle.uart_judges_runs.specs.Causes.{Causes, Fits, IsShownFor, ShowsFor, line_while}
 use Rattle.uart_judges_runs.proofs.Settled.{Stage}
-use Rattle.uart_judges_runs.proofs.Walks.{GoodRead, IsGood, by}
+use Rattle.uart_judges_runs.proofs.Walks.{GoodRead, IsGood, by, held_by}
 
 -- another number
 pub differ : {A : Type 0} (m n : ℕ) → (m == n) ≡ false → m ≡ n → A
@@ -90,23 +90,31 @@ module _ (c : Causes) (line : ℕ) (fifo : Bool) where
   Causal f [] End = End f
   Causal f (x ∷ l) End = IsSeen f.opened x → IsGood c line f x × Causal (by x f) l End
 
-  -- DLAB is as the first says before them, and as the second says after them
-  abbrev pub Leads : (b d : Bool) → List RegisterAccess → Type 0
-  Leads b d l = (held looked : Bool) → Causal (record { opened = b; held = held; looked = looked }) l (λ g. g.opened ≡ d)
-
   causal-append : (xs ys : List RegisterAccess) (f : Stage) (First Last : Stage → Type 0) → Causal f xs First →
       ((g : Stage) → First g → Causal g ys Last) → Causal f (xs ++ ys) Last
   causal-append [] ys f First Last p q = q f p
   causal-append (x ∷ xs) ys f First Last p q = λ t. let r = p t in (r.0, causal-append xs ys (by x f) First Last r.1 q)
 
+module _ (c : Causes) (line : ℕ) (fifo checks : Bool) where
+  -- if the driver does not check CTS, and that is no cause, then MSR did not show it clear
+  abbrev pub IsClear : Bool → Type 0
+  IsClear held = (c.cts_is_unchecked && c.msr_is_read) ≡ false → checks ≡ false → held ≡ false
+
+  -- DLAB is as the first says before them, and as the second says after them
+  abbrev pub Leads : (b d : Bool) → List RegisterAccess → Type 0
+  Leads b d l =
+      (held looked : Bool) → IsClear held →
+      Causal c line fifo (record { opened = b; held = held; looked = looked }) l (λ g. (g.opened ≡ d) × IsClear g.held)
+
   pub leads-append : (b d e : Bool) (xs ys : List RegisterAccess) → Leads b d xs → Leads d e ys → Leads b e (xs ++ ys)
-  leads-append b d e xs ys p q held looked =
-      causal-append xs ys (record { opened = b; held = held; looked = looked }) (λ g. g.opened ≡ d) (λ g. g.opened ≡ e) (p held looked)
-      (λ g is. subst (λ (o : Bool). Causal (record { opened = o; held = g.held; looked = g.looked }) ys (λ g. g.opened ≡ e)) (sym is)
-      (q g.held g.looked))
+  leads-append b d e xs ys p q held looked h =
+      causal-append c line fifo xs ys (record { opened = b; held = held; looked = looked }) (λ g. (g.opened ≡ d) × IsClear g.held)
+      (λ g. (g.opened ≡ e) × IsClear g.held) (p held looked h)
+      (λ g is. subst (λ (o : Bool). Causal c line fifo (record { opened = o; held = g.held; looked = g.looked }) ys
+      (λ g. (g.opened ≡ e) × IsClear g.held)) (sym is.0) (q g.held g.looked is.1))
 
   pub turn : HoldsInTurn (Leads false false)
-  turn = record { none = λ held looked. refl; append = leads-append false false false }
+  turn = record { none = λ held looked h. (refl, h); append = leads-append false false false }
 
   pub then_leads : (b d e : Bool) (s : Settings) (L M : Language) → HoldsOfAll (Leads b d) s L → HoldsOfAll (Leads d e) s M →
       HoldsOfAll (Leads b e) s (Then L M)
@@ -116,6 +124,21 @@ module _ (c : Causes) (line : ℕ) (fifo : Bool) where
   AllLead s L = HoldsOfAll (Leads false false) s L
 
   -- ---- one access
+
+  clear_if : (b x y : Bool) → (b ≡ true → IsClear x) → IsClear y → IsClear (if b then x else y)
+  clear_if true x y p q = p refl
+  clear_if false x y p q = q
+
+  same : (m n : ℕ) → (m == n) ≡ true → m ≡ n
+  same m n e = grind (arith, common_steps)
+
+  -- MSR is read where the driver checks CTS, or by a call that may
+  abbrev pub MayRead : ℕ → Type 0
+  MayRead register = register ≡ offsets.MSR → (c.cts_is_unchecked && c.msr_is_read) ≡ false → checks ≡ false → ⊥
+
+  clear_read : (register answer : ℕ) (held : Bool) → MayRead register → IsClear held → IsClear (held_by (Read register answer) held)
+  clear_read register answer held may h =
+      clear_if (register == offsets.MSR) (not (has answer msr_bits.CTS.0)) held (λ e n f. absurd (may (same register offsets.MSR e) n f)) h
 
   module _ (off : has line lcr_bits.DLAB.0 ≡ false) (on : c.fifos_are_off ≡ false → fifo ≡ true) where
     -- no interrupt is pending, or ISR may be read
@@ -138,8 +161,10 @@ module _ (c : Causes) (line : ℕ) (fifo : Bool) where
     }
 
     pub reads : (register answer : ℕ) → nat_lt register 8 ≡ true → (register == offsets.DATA) ≡ false →
-        (register ≡ offsets.ISR → c.isr_is_read ≡ true) → Leads false false (Read register answer ∷ [])
-    reads register answer real other may held looked = λ t. (good_read (record { opened = false; held = held; looked = looked }) register answer real other may (λ is. refl) t.0 t.1, refl)
+        (register ≡ offsets.ISR → c.isr_is_read ≡ true) → MayRead register → Leads false false (Read register answer ∷ [])
+    reads register answer real other may msr held looked h =
+        λ t. (good_read (record { opened = false; held = held; looked = looked }) register answer real other may (λ is. refl) t.0 t.1,
+        (refl, clear_read register answer held msr h))
 
     -- the divisor
     good_divisor : (f : Stage) (register answer : ℕ) → f.opened ≡ true → nat_lt register 5 ≡ true → (register == offsets.ISR) ≡ false → ShowsFor c line f.opened register answer →
@@ -154,11 +179,14 @@ module _ (c : Causes) (line : ℕ) (fifo : Bool) where
     }
 
     pub reads_open : (register answer : ℕ) → nat_lt register 5 ≡ true → (register == offsets.ISR) ≡ false → Leads true true (Read register answer ∷ [])
-    reads_open register answer low other held looked = λ t. (good_divisor (record { opened = true; held = held; looked = looked }) register answer refl low other t.0 t.1, refl)
+    reads_open register answer low other held looked h =
+        λ t. (good_divisor (record { opened = true; held = held; looked = looked }) register answer refl low other t.0 t.1,
+        (refl, clear_read register answer held (λ is. absurd (grind (arith, common_steps))) h))
 
     pub writes_line : (b : Bool) (value : ℕ) → value ≡ line_while (has value lcr_bits.DLAB.0) line →
         Leads b (has value lcr_bits.DLAB.0) (Write offsets.LCR value ∷ [])
-    writes_line b value is held looked = λ t. (record {
+    writes_line b value is held looked h =
+        λ t. (record {
           real = refl;
           lcr = λ e. is;
           no_mcr = refl;
@@ -168,10 +196,11 @@ module _ (c : Causes) (line : ℕ) (fifo : Bool) where
           clear = λ e. differ 3 offsets.DATA refl e;
           shut_too = λ e. differ 3 offsets.IER refl e;
           off = λ e. differ 3 offsets.IER refl e;
-        }, refl)
+        }, (refl, h))
 
     pub writes_scratch : (value : ℕ) → Leads false false (Write offsets.SPR value ∷ [])
-    writes_scratch value held looked = λ t. (record {
+    writes_scratch value held looked h =
+        λ t. (record {
           real = refl;
           lcr = λ e. differ 7 offsets.LCR refl e;
           no_mcr = refl;
@@ -181,11 +210,12 @@ module _ (c : Causes) (line : ℕ) (fifo : Bool) where
           clear = λ e. differ 7 offsets.DATA refl e;
           shut_too = λ e. refl;
           off = λ e. differ 7 offsets.IER refl e;
-        }, refl)
+        }, (refl, h))
 
     pub writes_interrupts : (value : ℕ) → (c.interrupts_are_on ≡ false → enables_some (Some (record { 0 = value })) ≡ false) →
         Leads false false (Write offsets.IER value ∷ [])
-    writes_interrupts value none held looked = λ t. (record {
+    writes_interrupts value none held looked h =
+        λ t. (record {
           real = refl;
           lcr = λ e. differ 1 offsets.LCR refl e;
           no_mcr = refl;
@@ -195,10 +225,11 @@ module _ (c : Causes) (line : ℕ) (fifo : Bool) where
           clear = λ e. differ 1 offsets.DATA refl e;
           shut_too = λ e. refl;
           off = λ e. none;
-        }, refl)
+        }, (refl, h))
 
     pub writes_control : (value : ℕ) → has value fcr_bits.FIFO_ENABLE.0 ≡ true → Leads false false (Write offsets.FCR value ∷ [])
-    writes_control value enables held looked = λ t. (record {
+    writes_control value enables held looked h =
+        λ t. (record {
           real = refl;
           lcr = λ e. differ 2 offsets.LCR refl e;
           no_mcr = refl;
@@ -208,12 +239,13 @@ module _ (c : Causes) (line : ℕ) (fifo : Bool) where
           clear = λ e. differ 2 offsets.DATA refl e;
           shut_too = λ e. refl;
           off = λ e. differ 2 offsets.IER refl e;
-        }, refl)
+        }, (refl, h))
 
     -- bytes that fit, after CTS was checked
     writes_data : (bytes : List ℕ) (f : Stage) → (c.bytes_are_cut ≡ false → AllByRecursion (Fits line) bytes) → f.opened ≡ false →
-        (c.cts_is_unchecked ≡ false → f.held ≡ false) → Causal f (data_writes bytes) (λ g. g.opened ≡ false)
-    writes_data [] f fits shut clear = shut
+        ((c.cts_is_unchecked && c.msr_is_read) ≡ false → f.held ≡ false) →
+        Causal c line fifo f (data_writes bytes) (λ g. (g.opened ≡ false) × IsClear g.held)
+    writes_data [] f fits shut clear = (shut, λ e g. clear e)
     writes_data (byte ∷ bytes) f fits shut clear =
         λ t. (record {
           real = refl;
@@ -230,14 +262,15 @@ module _ (c : Causes) (line : ℕ) (fifo : Bool) where
     -- ---- languages
 
     pub leads_asks : (s : Settings) (register bits : ℕ) (outcome : Bool) → nat_lt register 8 ≡ true → (register == offsets.DATA) ≡ false →
-        (register == offsets.ISR) ≡ false → AllLead s (Asks register bits outcome)
-    leads_asks s register bits outcome real other no_isr l t = rw t.is (reads register t.answer real other (differ register offsets.ISR no_isr))
+        (register == offsets.ISR) ≡ false → MayRead register → AllLead s (Asks register bits outcome)
+    leads_asks s register bits outcome real other no_isr msr l t =
+        rw t.is (reads register t.answer real other (differ register offsets.ISR no_isr) msr)
 
     leads_look : (s : Settings) (bits : ℕ) (outcome : Bool) → AllLead s (Asks offsets.LSR bits outcome)
-    leads_look s bits outcome = leads_asks s offsets.LSR bits outcome refl refl refl
+    leads_look s bits outcome = leads_asks s offsets.LSR bits outcome refl refl refl (differ offsets.LSR offsets.MSR refl)
 
     leads_scratch : (s : Settings) (answer : ℕ) → AllLead s (Only (Read offsets.SPR answer ∷ []))
-    leads_scratch s answer l t = rw t.is (reads offsets.SPR answer refl refl (differ offsets.SPR offsets.ISR refl))
+    leads_scratch s answer l t = rw t.is (reads offsets.SPR answer refl refl (differ offsets.SPR offsets.ISR refl) (differ offsets.SPR offsets.MSR refl))
 
     pub leads_waits : (s : Settings) (bits : ℕ) (outcome : Bool) → AllLead s (WaitsFor bits outcome)
     leads_waits s bits true =
@@ -252,7 +285,7 @@ module _ (c : Causes) (line : ℕ) (fifo : Bool) where
     -- a look that shows a byte, and the byte
     leads_pair : (line_status byte : ℕ) → has line_status lsr_bits.DATA_READY.0 ≡ true →
         Leads false false (Read offsets.LSR line_status ∷ Read offsets.DATA byte ∷ [])
-    leads_pair line_status byte ready held looked =
+    leads_pair line_status byte ready held looked h =
         λ t. (good_read (record { opened = false; held = held; looked = looked }) offsets.LSR line_status refl refl (differ offsets.LSR offsets.ISR refl) (λ is. refl) t.0 t.1,
         λ u. (record {
           real = refl;
@@ -261,7 +294,7 @@ module _ (c : Causes) (line : ℕ) (fifo : Bool) where
           fifos = λ is. differ 0 offsets.ISR refl is;
           shut = λ is. refl;
           looked = λ is e g. ready;
-        }, refl))
+        }, (refl, h)))
 
     pub leads_hit : (s : Settings) (byte : ℕ) → AllLead s (Hit byte)
     leads_hit s byte l t = rw (t.whole, t.first.is, t.second.is) (leads_pair t.first.answer byte t.first.shows)
@@ -299,84 +332,91 @@ module _ (c : Causes) (line : ℕ) (fifo : Bool) where
 
     -- ---- the send check
 
-    leads_lines : (s : Settings) (allowed : Bool) → AllLead s (LinesAllow allowed)
-    leads_lines s allowed l (inl t) = leads_asks s offsets.MCR mcr_bits.LOOP_BACK.0 true refl refl refl l t.1
-    leads_lines s allowed l (inr t) =
-        all_then turn s _ _ (leads_asks s offsets.MCR mcr_bits.LOOP_BACK.0 false refl refl refl) (leads_asks s offsets.MSR msr_bits.CTS.0 allowed refl refl refl)
+    -- the driver checks CTS
+    asked : checks ≡ true → (c.cts_is_unchecked && c.msr_is_read) ≡ false → checks ≡ false → ⊥
+    asked e n f = let g : true ≡ false = sym e ∙ f in cc
+
+    leads_lines : (s : Settings) → checks ≡ true → (allowed : Bool) → AllLead s (LinesAllow allowed)
+    leads_lines s e allowed l (inl t) = leads_asks s offsets.MCR mcr_bits.LOOP_BACK.0 true refl refl refl (differ offsets.MCR offsets.MSR refl) l t.1
+    leads_lines s e allowed l (inr t) =
+        all_then turn s _ _ (leads_asks s offsets.MCR mcr_bits.LOOP_BACK.0 false refl refl refl (differ offsets.MCR offsets.MSR refl)) (leads_asks s offsets.MSR msr_bits.CTS.0 allowed refl refl refl (λ is. asked e))
         l t
 
-    leads_checked : (s : Settings) (allowed : Bool) → AllLead s (Then (Asks offsets.LSR lsr_bits.THR_EMPTY.0 true) (LinesAllow allowed))
-    leads_checked s allowed = all_then turn s _ _ (leads_look s lsr_bits.THR_EMPTY.0 true) (leads_lines s allowed)
+    leads_checked : (s : Settings) → checks ≡ true → (allowed : Bool) → AllLead s (Then (Asks offsets.LSR lsr_bits.THR_EMPTY.0 true) (LinesAllow allowed))
+    leads_checked s e allowed = all_then turn s _ _ (leads_look s lsr_bits.THR_EMPTY.0 true) (leads_lines s e allowed)
 
-    leads_if : (s : Settings) (b : Bool) (P Q : Language) → AllLead s P → AllLead s Q → (l : List RegisterAccess) →
-        MatchBool b (P s l) (Q s l) → Leads false false l
-    leads_if s true P Q p q l t = p l t
-    leads_if s false P Q p q l t = q l t
+    leads_if : (s : Settings) (b : Bool) (P Q : Language) → b ≡ checks → (checks ≡ true → AllLead s P) → AllLead s Q →
+        (l : List RegisterAccess) → MatchBool b (P s l) (Q s l) → Leads false false l
+    leads_if s true P Q e p q l t = p (sym e) l t
+    leads_if s false P Q e p q l t = q l t
 
     leads_never : (s : Settings) → AllLead s Never
     leads_never s l t = absurd t
 
-    pub leads_send_hit : (s : Settings) → AllLead s SendHit
-    leads_send_hit s =
+    pub leads_send_hit : (s : Settings) → s.checks ≡ checks → AllLead s SendHit
+    leads_send_hit s is =
         leads_if s s.checks (Then (Asks offsets.LSR lsr_bits.THR_EMPTY.0 true) (LinesAllow true)) (Asks offsets.LSR lsr_bits.THR_EMPTY.0 true)
-        (leads_checked s true) (leads_look s lsr_bits.THR_EMPTY.0 true)
+        is (λ e. leads_checked s e true) (leads_look s lsr_bits.THR_EMPTY.0 true)
 
-    pub leads_refused : (s : Settings) (e : ByteSendError) → AllLead s (SendRefused e)
-    leads_refused s NoCapacity = leads_look s lsr_bits.THR_EMPTY.0 false
-    leads_refused s RemoteNotClearToSend =
-        leads_if s s.checks (Then (Asks offsets.LSR lsr_bits.THR_EMPTY.0 true) (LinesAllow false)) Never (leads_checked s false) (leads_never s)
+    pub leads_refused : (s : Settings) → s.checks ≡ checks → (e : ByteSendError) → AllLead s (SendRefused e)
+    leads_refused s is NoCapacity = leads_look s lsr_bits.THR_EMPTY.0 false
+    leads_refused s is RemoteNotClearToSend =
+        leads_if s s.checks (Then (Asks offsets.LSR lsr_bits.THR_EMPTY.0 true) (LinesAllow false)) Never is (λ e. leads_checked s e false)
+        (leads_never s)
 
-    pub leads_send_miss : (s : Settings) → AllLead s SendMiss
-    leads_send_miss s l t = leads_refused s t.0 l t.1
+    pub leads_send_miss : (s : Settings) → s.checks ≡ checks → AllLead s SendMiss
+    leads_send_miss s is l t = leads_refused s is t.0 l t.1
 
     -- after a check that hits CTS is known to be set
     looped_not : {A : Type 0} (answer : ℕ) → has answer mcr_bits.LOOP_BACK.0 ≡ true → has answer mcr_bits.LOOP_BACK.0 ≡ false → A
     looped_not answer e g = absurd (let h : true ≡ false = sym e ∙ g in cc)
 
-    abbrev IsClear : Stage → Type 0
-    IsClear g = (g.opened ≡ false) × (c.cts_is_unchecked ≡ false → g.held ≡ false)
+    abbrev MaySend : Stage → Type 0
+    MaySend g = (g.opened ≡ false) × ((c.cts_is_unchecked && c.msr_is_read) ≡ false → g.held ≡ false)
 
     lines_clear : (s : Settings) (l : List RegisterAccess) → LinesAllow true s l → (held looked : Bool) →
-        Causal (record { opened = false; held = held; looked = looked }) l IsClear
+        Causal c line fifo (record { opened = false; held = held; looked = looked }) l MaySend
     lines_clear s l (inl t) held looked = rw t.1.is (λ seen. looped_not t.1.answer t.1.shows (seen.1.loopback refl))
     lines_clear s l (inr t) held looked =
         let f : Stage = record { opened = false; held = held; looked = looked } in
         rw (t.whole, t.first.is, t.second.is)
         (λ seen. (good_read f offsets.MCR t.first.answer refl refl (differ offsets.MCR offsets.ISR refl) (λ is. refl) seen.0 seen.1,
-        λ shown. (good_read f offsets.MSR t.second.answer refl refl (differ offsets.MSR offsets.ISR refl) (λ is. refl) shown.0 shown.1, (refl, λ e. ap not t.second.shows))))
+        λ shown. (good_read f offsets.MSR t.second.answer refl refl (differ offsets.MSR offsets.ISR refl) (λ is. refl) shown.0 shown.1,
+        (refl, λ e. ap not t.second.shows))))
 
-    hit_clear : (s : Settings) (b : Bool) (l : List RegisterAccess) → (c.cts_is_unchecked ≡ false → b ≡ true) →
+    hit_clear : (s : Settings) (b : Bool) (l : List RegisterAccess) → b ≡ checks →
         MatchBool b (Then (Asks offsets.LSR lsr_bits.THR_EMPTY.0 true) (LinesAllow true) s l) (Asks offsets.LSR lsr_bits.THR_EMPTY.0 true s l) →
-        (held looked : Bool) → Causal (record { opened = false; held = held; looked = looked }) l IsClear
-    hit_clear s true l checks t held looked =
+        (held looked : Bool) → IsClear held → Causal c line fifo (record { opened = false; held = held; looked = looked }) l MaySend
+    hit_clear s true l is t held looked h =
         let f : Stage = record { opened = false; held = held; looked = looked } in
         rw (t.whole, t.first.is)
         (λ seen. (good_read f offsets.LSR t.first.answer refl refl (differ offsets.LSR offsets.ISR refl) (λ is. refl) seen.0 seen.1,
         lines_clear s t.back t.second held (has t.first.answer lsr_bits.DATA_READY.0)))
-    hit_clear s false l checks t held looked =
+    hit_clear s false l is t held looked h =
         let f : Stage = record { opened = false; held = held; looked = looked } in
         rw t.is
         (λ seen. (good_read f offsets.LSR t.answer refl refl (differ offsets.LSR offsets.ISR refl) (λ is. refl) seen.0 seen.1,
-        (refl, λ e. absurd (let g : false ≡ true = checks e in cc))))
+        (refl, λ e. h e (sym is))))
 
     -- ---- sending
 
-    module _ (s : Settings) (checks : c.cts_is_unchecked ≡ false → s.checks ≡ true) where
+    module _ (s : Settings) (as_set : s.checks ≡ checks) where
       leads_writes : (bytes : List ℕ) → (c.bytes_are_cut ≡ false → AllByRecursion (Fits line) bytes) → (hit : List RegisterAccess) →
           SendHit s hit → Leads false false (hit ++ data_writes bytes)
-      leads_writes bytes fits hit t held looked =
-          causal-append hit (data_writes bytes) (record { opened = false; held = held; looked = looked }) IsClear (λ g. g.opened ≡ false)
-          (hit_clear s s.checks hit checks t held looked) (λ g e. writes_data bytes g fits e.0 e.1)
+      leads_writes bytes fits hit t held looked h =
+          causal-append c line fifo hit (data_writes bytes) (record { opened = false; held = held; looked = looked }) MaySend
+          (λ g. (g.opened ≡ false) × IsClear g.held) (hit_clear s s.checks hit as_set t held looked h)
+          (λ g e. writes_data bytes g fits e.0 e.1)
 
       leads_burst : (bytes : List ℕ) → (c.bytes_are_cut ≡ false → AllByRecursion (Fits line) bytes) → AllLead s (Burst bytes)
       leads_burst bytes fits l t = rw (t.whole, t.second.is) (leads_writes bytes fits t.front t.first)
 
       pub leads_round : (bytes : List ℕ) → (c.bytes_are_cut ≡ false → AllByRecursion (Fits line) bytes) → AllLead s (Round bytes)
-      leads_round bytes fits = all_then turn s _ _ (all_few turn s SendMiss (leads_send_miss s)) (leads_burst bytes fits)
+      leads_round bytes fits = all_then turn s _ _ (all_few turn s SendMiss (leads_send_miss s as_set)) (leads_burst bytes fits)
 
       pub leads_sends : (bytes : List ℕ) (n : ℕ) → (c.bytes_are_cut ≡ false → AllByRecursion (Fits line) bytes) → AllLead s (Sends bytes n)
       leads_sends bytes n fits l (inl t) = rw t.2 turn.none
-      leads_sends bytes n fits l (inr (inl t)) = leads_send_miss s l t.2
+      leads_sends bytes n fits l (inr (inl t)) = leads_send_miss s as_set l t.2
       leads_sends bytes n fits l (inr (inr t)) = leads_burst (take n bytes) (λ e. all-take (Fits line) n bytes (fits e)) l t.2
 
       pub leads_try_sends : {T : Type 0} (byte : ℕ) (result : Result T ByteSendError) →
@@ -399,14 +439,14 @@ module _ (c : Causes) (line : ℕ) (fifo : Bool) where
           (c.bytes_are_cut ≡ false → AllByRecursion (Fits line) bytes) → AllLead s (SendsExact bytes result)
       leads_sends_exact bytes (Ok x) fits l t = leads_pieces bytes t.0 [] fits t.1 l t.2
       leads_sends_exact bytes (Err e) fits l (pieces, rest, cut, some, count, made) =
-          all_then turn s _ _ (leads_pieces bytes pieces rest fits cut) (all_misses turn s SendMiss (leads_send_miss s)) l made
+          all_then turn s _ _ (leads_pieces bytes pieces rest fits cut) (all_misses turn s SendMiss (leads_send_miss s as_set)) l made
 
       pub leads_writes_some : (bytes : List ℕ) (result : Result ℕ StalledError) →
           (c.bytes_are_cut ≡ false → AllByRecursion (Fits line) bytes) → AllLead s (Writes bytes result)
       leads_writes_some bytes (Ok count) fits l (inl (none, nothing, is)) = rw is turn.none
       leads_writes_some bytes (Ok count) fits l (inr (some, t)) =
           leads_round (take count bytes) (λ e. all-take (Fits line) count bytes (fits e)) l t.1
-      leads_writes_some bytes (Err e) fits l (some, none, t) = all_misses turn s SendMiss (leads_send_miss s) l t
+      leads_writes_some bytes (Err e) fits l (some, none, t) = all_misses turn s SendMiss (leads_send_miss s as_set) l t
 
       pub leads_sends_each : (bytes : List ℕ) → (c.bytes_are_cut ≡ false → AllByRecursion (Fits line) bytes) → AllLead s (SendsEach bytes)
       leads_sends_each [] fits l t = rw t.is turn.none
@@ -417,14 +457,14 @@ module _ (c : Causes) (line : ℕ) (fifo : Bool) where
           AllLead s (SendsBeginning bytes n)
       leads_sends_beginning bytes n fits l t =
           all_then turn s _ _ (leads_sends_each (take n bytes) (λ e. all-take (Fits line) n bytes (fits e)))
-          (all_misses turn s SendMiss (leads_send_miss s)) l t.1
+          (all_misses turn s SendMiss (leads_send_miss s as_set)) l t.1
 
     -- ---- the scratch register, the divisor, and IER
 
     leads_pattern : (s : Settings) (pattern : ℕ) (outcome : Bool) → AllLead s (Keeps pattern outcome)
     leads_pattern s pattern outcome l (back, kept, is) =
         rw is (leads-append false false false (Write offsets.SPR pattern ∷ []) (Read offsets.SPR back ∷ []) (writes_scratch pattern)
-        (reads offsets.SPR back refl refl (differ offsets.SPR offsets.ISR refl)))
+        (reads offsets.SPR back refl refl (differ offsets.SPR offsets.ISR refl) (differ offsets.SPR offsets.MSR refl)))
 
     leads_patterns : (s : Settings) (present : Bool) → AllLead s (KeepsPatterns present)
     leads_patterns s true l t = all_then turn s _ _ (leads_pattern s 66 true) (leads_pattern s 115 true) l t
@@ -457,24 +497,24 @@ module _ (c : Causes) (line : ℕ) (fifo : Bool) where
         (reads_open offsets.DLM high refl refl)
 
     pub leads_divisor : (lcr low high : ℕ) → Leads false false (divisor_accesses lcr low high)
-    leads_divisor lcr low high held looked =
+    leads_divisor lcr low high held looked h =
         λ t. let is : lcr ≡ line = t.0.lcr refl in
         leads-append false false false (Read offsets.LCR lcr ∷ [])
         (Write offsets.LCR (bit_or lcr lcr_bits.DLAB.0) ∷ Read offsets.DLL low ∷ Read offsets.DLM high ∷ Write offsets.LCR lcr ∷ [])
-        (reads offsets.LCR lcr refl refl (differ offsets.LCR offsets.ISR refl))
+        (reads offsets.LCR lcr refl refl (differ offsets.LCR offsets.ISR refl) (differ offsets.LCR offsets.MSR refl))
         (leads-append false true false (Write offsets.LCR (bit_or lcr lcr_bits.DLAB.0) ∷ [])
         (Read offsets.DLL low ∷ Read offsets.DLM high ∷ Write offsets.LCR lcr ∷ []) (opens lcr is)
         (leads-append true true false (Read offsets.DLL low ∷ Read offsets.DLM high ∷ []) (Write offsets.LCR lcr ∷ []) (latch_reads low high)
-        (closes true lcr is))) held looked t
+        (closes true lcr is))) held looked h t
 
     -- IER is read, and then nothing is written that is not so harmless
     leads_changes : (ier value : ℕ) →
         ((c.interrupts_are_on ≡ false → enables_some (Some (record { 0 = ier })) ≡ false) →
         c.interrupts_are_on ≡ false → enables_some (Some (record { 0 = value })) ≡ false) →
         Leads false false (Read offsets.IER ier ∷ Write offsets.IER value ∷ [])
-    leads_changes ier value none held looked =
-        λ t. leads-append false false false (Read offsets.IER ier ∷ []) (Write offsets.IER value ∷ []) (reads offsets.IER ier refl refl (differ offsets.IER offsets.ISR refl))
-        (writes_interrupts value (none (λ e. t.0.enabled refl refl e))) held looked t
+    leads_changes ier value none held looked h =
+        λ t. leads-append false false false (Read offsets.IER ier ∷ []) (Write offsets.IER value ∷ []) (reads offsets.IER ier refl refl (differ offsets.IER offsets.ISR refl) (differ offsets.IER offsets.MSR refl))
+        (writes_interrupts value (none (λ e. t.0.enabled refl refl e))) held looked h t
 
     pub leads_enables : (ier bits : ℕ) → (c.interrupts_are_on ≡ false → enables_some (Some (record { 0 = bits })) ≡ false) →
         Leads false false (Read offsets.IER ier ∷ Write offsets.IER (bit_or ier bits) ∷ [])
@@ -484,18 +524,18 @@ module _ (c : Causes) (line : ℕ) (fifo : Bool) where
     leads_disables ier mask = leads_changes ier (bit_and ier mask) (λ before e. part_off ier mask (before e))
 
     pub leads_retriggers : (ier : ℕ) → Leads false false (retrigger_accesses ier)
-    leads_retriggers ier held looked =
+    leads_retriggers ier held looked h =
         λ t. leads-append false false false (Read offsets.IER ier ∷ Write offsets.IER 0 ∷ []) (Write offsets.IER ier ∷ [])
-        (leads_changes ier 0 (λ before e. refl)) (writes_interrupts ier (λ e. t.0.enabled refl refl e)) held looked t
+        (leads_changes ier 0 (λ before e. refl)) (writes_interrupts ier (λ e. t.0.enabled refl refl e)) held looked h t
 
     also : (register answer : ℕ) (l : List RegisterAccess) → nat_lt register 8 ≡ true → (register == offsets.DATA) ≡ false →
-        (register ≡ offsets.ISR → c.isr_is_read ≡ true) → Leads false false l → Leads false false (Read register answer ∷ l)
-    also register answer l real other may rest =
-        leads-append false false false (Read register answer ∷ []) l (reads register answer real other may) rest
+        (register ≡ offsets.ISR → c.isr_is_read ≡ true) → MayRead register → Leads false false l → Leads false false (Read register answer ∷ l)
+    also register answer l real other may msr rest =
+        leads-append false false false (Read register answer ∷ []) l (reads register answer real other may msr) rest
 
-    pub leads_dump : c.isr_is_read ≡ true → (lcr lsr msr : ℕ) (dump : ConfigRegisterDump) →
+    pub leads_dump : c.isr_is_read ≡ true → ((c.cts_is_unchecked && c.msr_is_read) ≡ false → checks ≡ false → ⊥) → (lcr lsr msr : ℕ) (dump : ConfigRegisterDump) →
         Leads false false (divisor_accesses lcr dump.dll dump.dlm ++ dump_reads lsr msr dump)
-    leads_dump may lcr lsr msr dump =
+    leads_dump may asks lcr lsr msr dump =
         let seventh : List RegisterAccess = Read offsets.SPR dump.spr ∷ [] in
         let sixth : List RegisterAccess = Read offsets.MSR msr ∷ seventh in
         let fifth : List RegisterAccess = Read offsets.LSR lsr ∷ sixth in
@@ -503,9 +543,9 @@ module _ (c : Causes) (line : ℕ) (fifo : Bool) where
         let third : List RegisterAccess = Read offsets.LCR dump.lcr.0 ∷ fourth in
         let second : List RegisterAccess = Read offsets.ISR dump.isr.0 ∷ third in
         leads-append false false false (divisor_accesses lcr dump.dll dump.dlm) (dump_reads lsr msr dump) (leads_divisor lcr dump.dll dump.dlm)
-        (also offsets.IER dump.ier.0 second refl refl (differ offsets.IER offsets.ISR refl) (also offsets.ISR dump.isr.0 third refl refl (λ is. may)
-        (also offsets.LCR dump.lcr.0 fourth refl refl (differ offsets.LCR offsets.ISR refl) (also offsets.MCR dump.mcr.0 fifth refl refl (differ offsets.MCR offsets.ISR refl)
-        (also offsets.LSR lsr sixth refl refl (differ offsets.LSR offsets.ISR refl) (also offsets.MSR msr seventh refl refl (differ offsets.MSR offsets.ISR refl) (reads offsets.SPR dump.spr refl refl (differ offsets.SPR offsets.ISR refl))))))))
+        (also offsets.IER dump.ier.0 second refl refl (differ offsets.IER offsets.ISR refl) (differ offsets.IER offsets.MSR refl) (also offsets.ISR dump.isr.0 third refl refl (λ is. may) (differ offsets.ISR offsets.MSR refl)
+        (also offsets.LCR dump.lcr.0 fourth refl refl (differ offsets.LCR offsets.ISR refl) (differ offsets.LCR offsets.MSR refl) (also offsets.MCR dump.mcr.0 fifth refl refl (differ offsets.MCR offsets.ISR refl) (differ offsets.MCR offsets.MSR refl)
+        (also offsets.LSR lsr sixth refl refl (differ offsets.LSR offsets.ISR refl) (differ offsets.LSR offsets.MSR refl) (also offsets.MSR msr seventh refl refl (differ offsets.MSR offsets.ISR refl) (λ is. asks) (reads offsets.SPR dump.spr refl refl (differ offsets.SPR offsets.ISR refl) (differ offsets.SPR offsets.MSR refl))))))))
 
     -- ---- `check_configured`
 
@@ -541,7 +581,7 @@ module _ (c : Causes) (line : ℕ) (fifo : Bool) where
       divisor_leads divisor shown (Err e) l t = rw t.2 turn.none
 
       closes_leads : (lcr : ℕ) → lcr ≡ line → (v : Verdict) → HoldsOfAll (Leads true false) s (KeepsLine lcr v)
-      closes_leads lcr is = line_leads true false lcr (closes true lcr is) (λ answer. reads offsets.LCR answer refl refl (differ offsets.LCR offsets.ISR refl))
+      closes_leads lcr is = line_leads true false lcr (closes true lcr is) (λ answer. reads offsets.LCR answer refl refl (differ offsets.LCR offsets.ISR refl) (differ offsets.LCR offsets.MSR refl))
 
       latch_leads : (divisor lcr : ℕ) → lcr ≡ line → (v : Verdict) → HoldsOfAll (Leads true false) s (ReadsLatch divisor lcr v)
       latch_leads divisor lcr is v l (low, high, t) =
@@ -557,15 +597,15 @@ module _ (c : Causes) (line : ℕ) (fifo : Bool) where
       shows_divisor_leads : (divisor : ℕ) (v : Verdict) → AllLead s (ShowsDivisor divisor v)
       shows_divisor_leads divisor v l (lcr, t) =
           rw (t.whole, t.first.is)
-          (λ held looked sees. leads-append false false false (Read offsets.LCR lcr ∷ []) t.back (reads offsets.LCR lcr refl refl (differ offsets.LCR offsets.ISR refl))
-          (after_line divisor lcr (sees.0.lcr refl) v t.back t.second) held looked sees)
+          (λ held looked h sees. leads-append false false false (Read offsets.LCR lcr ∷ []) t.back (reads offsets.LCR lcr refl refl (differ offsets.LCR offsets.ISR refl) (differ offsets.LCR offsets.MSR refl))
+          (after_line divisor lcr (sees.0.lcr refl) v t.back t.second) held looked h sees)
 
       fifo_leads : c.isr_is_read ≡ true → (interrupts isr : ℕ) → (c.interrupts_are_on ≡ false → enables_some (Some (record { 0 = interrupts })) ≡ false) →
           Leads false false (fifo_look interrupts isr)
       fifo_leads may interrupts isr none =
           leads-append false false false (Write offsets.IER 0 ∷ []) (Read offsets.ISR isr ∷ Write offsets.IER interrupts ∷ [])
           (writes_interrupts 0 (λ e. refl))
-          (leads-append false false false (Read offsets.ISR isr ∷ []) (Write offsets.IER interrupts ∷ []) (reads offsets.ISR isr refl refl (λ is. may))
+          (leads-append false false false (Read offsets.ISR isr ∷ []) (Write offsets.IER interrupts ∷ []) (reads offsets.ISR isr refl refl (λ is. may) (differ offsets.ISR offsets.MSR refl))
           (writes_interrupts interrupts none))
 
       shows_fifos_leads : c.isr_is_read ≡ true → (interrupts : ℕ) → (c.interrupts_are_on ≡ false → enables_some (Some (record { 0 = interrupts })) ≡ false) →
@@ -580,9 +620,9 @@ module _ (c : Causes) (line : ℕ) (fifo : Bool) where
           let latch : Verdict → Language = InTurn (ShowsDivisor divisor) (ShowsFifos interrupts) in
           let enabled : Verdict → Language = InTurn (ShowsInterrupts interrupts) latch in
           let control : Verdict → Language = InTurn (ShowsOutputs outputs) enabled in
-          let frames = shows_leads offsets.LCR _ _ false (λ answer. reads offsets.LCR answer refl refl (differ offsets.LCR offsets.ISR refl)) in
-          let outs = shows_leads offsets.MCR _ _ false (λ answer. reads offsets.MCR answer refl refl (differ offsets.MCR offsets.ISR refl)) in
-          let ints = shows_leads offsets.IER _ _ false (λ answer. reads offsets.IER answer refl refl (differ offsets.IER offsets.ISR refl)) in
+          let frames = shows_leads offsets.LCR _ _ false (λ answer. reads offsets.LCR answer refl refl (differ offsets.LCR offsets.ISR refl) (differ offsets.LCR offsets.MSR refl)) in
+          let outs = shows_leads offsets.MCR _ _ false (λ answer. reads offsets.MCR answer refl refl (differ offsets.MCR offsets.ISR refl) (differ offsets.MCR offsets.MSR refl)) in
+          let ints = shows_leads offsets.IER _ _ false (λ answer. reads offsets.IER answer refl refl (differ offsets.IER offsets.ISR refl) (differ offsets.IER offsets.MSR refl)) in
           in_turn_leads false false false (ShowsFrame frame) control (λ u. frames (Ok u)) (λ f. frames (Err f))
           (in_turn_leads false false false (ShowsOutputs outputs) enabled (λ u. outs (Ok u)) (λ f. outs (Err f))
           (in_turn_leads false false false (ShowsInterrupts interrupts) latch (λ u. ints (Ok u)) (λ f. ints (Err f))

@@ -119,7 +119,7 @@ pub record Settled (c : Causes) (line : ℕ) (f : Stage) (a : Auditor) : Type 0 
   pub out2 : c.out2_is_off ≡ false → is_cut_off a.setup.modem ≡ false
   pub divisor : c.divisor_is_zero ≡ false → (is_zero a.setup.divisor.low && is_zero a.setup.divisor.high) ≡ false
   pub fifos : c.fifos_are_off ≡ false → IsSo a.setup.has_fifo (λ on. on ≡ true)
-  pub clear : c.cts_is_unchecked ≡ false → f.held ≡ false → is_held a.cts ≡ false
+  pub clear : (c.cts_is_unchecked && c.msr_is_read) ≡ false → f.held ≡ false → is_held a.cts ≡ false
   pub seen : c.fifos_are_off ≡ false → f.looked ≡ true → IsSeen a.unread
 
 -- ---- what an action is to be
@@ -127,7 +127,7 @@ pub record Settled (c : Causes) (line : ℕ) (f : Stage) (a : Auditor) : Type 0 
 abbrev pub Harmless : Causes → (line : ℕ) → Stage → Action → Type 0
 Harmless c line f (Receives byte) = c.fifos_are_off ≡ false → f.looked ≡ true
 Harmless c line f (Sends byte) =
-    (f.opened ≡ false) × (c.bytes_are_cut ≡ false → Fits line byte) × (c.cts_is_unchecked ≡ false → f.held ≡ false)
+    (f.opened ≡ false) × (c.bytes_are_cut ≡ false → Fits line byte) × ((c.cts_is_unchecked && c.msr_is_read) ≡ false → f.held ≡ false)
 Harmless c line f (SetsDivisorLow value) = ⊥
 Harmless c line f (SetsDivisorHigh value) = ⊥
 Harmless c line f (EnablesInterrupts ier) = c.interrupts_are_on ≡ false → enables_some (Some ier) ≡ false
@@ -291,7 +291,7 @@ module _ (c : Causes) (line : ℕ) (f : Stage) (off : has line lcr_bits.DLAB.0 �
         founded.given_founded c a now byte (unbroken now.line so h.0) (λ e. whole now.line byte so h.0 (h.1 e))
     output_at now _ so h = founded.nothing c
 
-    flow_at : (x : Action) → Harmless c line f x → (c.cts_is_unchecked ≡ false → f.held ≡ false → is_held a.cts ≡ false) →
+    flow_at : (x : Action) → Harmless c line f x → ((c.cts_is_unchecked && c.msr_is_read) ≡ false → f.held ≡ false → is_held a.cts ≡ false) →
         Founded c (if not (sends x) then None
         else if loops_back s.setup.modem then None
         else when ((is_held a.cts && a.was_cts_set) && asks_for_cts a s.setup) found.SentWithoutCts)

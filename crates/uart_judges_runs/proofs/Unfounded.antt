@@ -1,5 +1,5 @@
 -- No warning of a session is without a cause: the twelve that are about how a call is made never come, and the other nine only with theirs.
-use Rattle.std.proofs.Common.{◌≡◌, ◌≤◌, ℕ, Bool, true, false, not, ◌&&◌, List, [], ◌∷◌, Option, Some, None, refl, sym, subst, arith}
+use Rattle.std.proofs.Common.{◌≡◌, ◌≤◌, ℕ, Bool, true, false, not, ◌&&◌, List, [], ◌∷◌, Option, Some, None, refl, sym, ◌∙◌, subst, arith}
 use Rattle.uart_spec.specs.Bits.{has}
 use Rattle.uart_spec.specs.declared.access.Access.{Access as RegisterAccess}
 use Rattle.uart_spec.specs.declared.registers.line_control.TheConstants.LCR as lcr_bits
@@ -8,7 +8,7 @@ use Rattle.uart_events.specs.declared.call.Answer.{Answer}
 use Rattle.uart_events.specs.declared.call.Call.{Call}
 use Rattle.uart_calls.specs.Lists.{IsListOf}
 use Rattle.uart_chip.specs.Transmitter.{room}
-use Rattle.uart_judges.specs.Findings.{findings_at, is_open}
+use Rattle.uart_judges.specs.Findings.{findings_at, is_held, is_open}
 use Rattle.uart_judges.specs.History.{known}
 use Rattle.uart_judges.specs.Steps.{depth}
 use Rattle.uart_judges.specs.declared.audit.auditor.Auditor.{Auditor}
@@ -129,8 +129,17 @@ on_room true (Some true) e few = refl
 on_room true (Some false) e few = absurd (omega arith)
 on_room false o e few = absurd (cc)
 
+-- before a session MSR may have shown CTS clear, if the driver checks it before it sends
+abbrev pub first : Fields → Stage
+first f = record { opened = false; held = f.config.check_cts_before_sending; looked = false }
+
+unheld : (b d e held : Bool) → (b ≡ false → d ≡ true) → (b ≡ true → e ≡ false → held ≡ false) → (b && e) ≡ false → d ≡ false → held ≡ false
+unheld true d true held p q n g = absurd (cc)
+unheld true d false held p q n g = q refl refl
+unheld false d e held p q n g = absurd (let x : true ≡ false = sym (p refl) ∙ g in cc)
+
 pub settled_at_first : (c : Causes) (line : ℕ) (f : Fields) (a : Auditor) → IsSetUpFor c line f → KnowsAsTaken f.fifo a → KnowsFor c line a →
-    Settled c line (record { opened = false; held = true; looked = false }) a
+    Settled c line (first f) a
 settled_at_first c line f a set taken k = record {
   dlab = shut a.setup.is_open taken.dlab;
   lcr = k.lcr;
@@ -139,7 +148,7 @@ settled_at_first c line f a set taken k = record {
   out2 = k.out2;
   divisor = k.divisor;
   fifos = λ on. on_room f.fifo a.setup.has_fifo (set.fifos on) taken.room;
-  clear = λ e g. absurd (cc);
+  clear = λ n g. unheld c.cts_is_unchecked f.config.check_cts_before_sending c.msr_is_read (is_held a.cts) set.checks k.clear n g;
   seen = λ e g. absurd (cc);
 }
 
@@ -150,9 +159,9 @@ pub unfounded_call : (c : Causes) (line : ℕ) (call : Call) (before after : Fie
     AreTaken before.fifo accesses → AreShownFor c line accesses → KnowsAsTaken before.fifo (known past) → KnowsFor c line (known past) →
     accesses_in entries ≡ accesses → HasNone (is_unfounded c) past entries
 unfounded_call c line call before after accesses answer past entries steady asks set list taken shown knows knows_for is =
-    let f : Stage = record { opened = false; held = true; looked = false } in
+    let f : Stage = first before in
     let twelve = (goes_list before.fifo accesses (list_of call before after accesses answer steady list) taken past entries is knows).0 in
-    let causal = good_list c line before set call after accesses answer steady asks list true false in
+    let causal = good_list c line before set call after accesses answer steady asks list before.config.check_cts_before_sending false (λ n e. e) in
     let walks : Walks c line f accesses = walks_of c line before.fifo accesses f _ shown taken causal in
     let nine = founded_walk c line set.dlab set.not_in_break f past entries (subst (λ (l : List RegisterAccess). Walks c line f l) (sym is) walks)
     (settled_at_first c line before (known past) set knows knows_for) in

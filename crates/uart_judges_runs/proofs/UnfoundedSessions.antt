@@ -23,12 +23,12 @@ use Rattle.uart_judges_runs.specs.Recorded.{HasNone, accesses_in}
 use Rattle.uart_judges_runs.specs.Runs.{IsOpenTo, IsSession}
 use Rattle.uart_judges_runs.proofs.CallLists.{list_of}
 use Rattle.uart_judges_runs.proofs.GoodCalls.{good_list}
-use Rattle.uart_judges_runs.proofs.GoodLists.{join_off, part_off}
+use Rattle.uart_judges_runs.proofs.GoodLists.{IsClear, join_off, part_off}
 use Rattle.uart_judges_runs.proofs.Sessions.{goes_session, same_fifo}
 use Rattle.uart_judges_runs.proofs.Settled.{Stage}
 use Rattle.uart_judges_runs.proofs.ShownLatches.{HoldsIn, path_shown, path_walks}
 use Rattle.uart_judges_runs.proofs.Taken.{OpenIn, list_path}
-use Rattle.uart_judges_runs.proofs.Unfounded.{settled_at_first, unfounded}
+use Rattle.uart_judges_runs.proofs.Unfounded.{first, settled_at_first, unfounded}
 use Rattle.uart_judges_runs.proofs.Walks.{Walks, founded_walk}
 
 module _ (c : Causes) (line : ℕ) where
@@ -109,25 +109,26 @@ module _ (c : Causes) (line : ℕ) where
 
   walks_session : (calls : List Call) (f : Fields) (m n : MachineState) (l : List RegisterAccess) → IsSetUpFor c line f → OpenIn f.fifo m →
       HoldsIn c line false m → AllByRecursion (AsksFor c line) calls → IsSession calls f m l n → (held looked : Bool) →
-      Walks c line (record { opened = false; held = held; looked = looked }) l
-  walks_session [] f m n l set o h asks t held looked =
+      IsClear c line f.fifo f.config.check_cts_before_sending held → Walks c line (record { opened = false; held = held; looked = looked }) l
+  walks_session [] f m n l set o h asks t held looked clear =
       subst (λ (l : List RegisterAccess). Walks c line (record { opened = false; held = held; looked = looked }) l) (sym t.0) tt
-  walks_session (x ∷ calls) f m n l set o h asks t held looked =
+  walks_session (x ∷ calls) f m n l set o h asks t held looked clear =
       let s : Stage = record { opened = false; held = held; looked = looked } in
-      let End : Stage → Type 0 = λ g. g.opened ≡ false in
+      let End : Stage → Type 0 = λ g. (g.opened ≡ false) × IsClear c line f.fifo f.config.check_cts_before_sending g.held in
       let takes = list_path f.fifo t.front m t.mid (list_of x f t.after t.front t.answer t.steady t.list) t.path o in
       let causal = good_list c line f set x t.after t.front t.answer t.steady asks.0 t.list in
       let shown : AreShownFor c line t.front =
-      path_shown c line set.dlab f.fifo t.front s m t.mid End (causal held looked) takes.taken t.path h in
+      path_shown c line set.dlab f.fifo t.front s m t.mid End (causal held looked clear) takes.taken t.path h in
       let same : t.after.fifo ≡ f.fifo = same_fifo x f t.after t.front t.answer t.steady t.list in
-      let set_then = set_after f set t.after same (stays f set x t.after t.front t.answer t.steady asks.0 t.list shown) in
+      let kept = stays f set x t.after t.front t.answer t.steady asks.0 t.list shown in
+      let set_then = set_after f set t.after same kept in
       let open_then : OpenIn t.after.fifo t.mid = subst (λ (b : Bool). OpenIn b t.mid) (sym same) takes.after in
-      let rest : (g : Stage) → g.opened ≡ false → HoldsIn c line g.opened t.mid → Walks c line g t.back =
-      λ g e k. subst (λ (b : Bool). Walks c line (record { opened = b; held = g.held; looked = g.looked }) t.back) (sym e)
-      (walks_session calls t.after t.mid n t.back set_then open_then (subst (λ (b : Bool). HoldsIn c line b t.mid) e k) asks.1 t.follows
-      g.held g.looked) in
+      let rest : (g : Stage) → End g → HoldsIn c line g.opened t.mid → Walks c line g t.back =
+      λ g e k. subst (λ (b : Bool). Walks c line (record { opened = b; held = g.held; looked = g.looked }) t.back) (sym e.0)
+      (walks_session calls t.after t.mid n t.back set_then open_then (subst (λ (b : Bool). HoldsIn c line b t.mid) e.0 k) asks.1 t.follows
+      g.held g.looked (λ n off. e.1 n (sym kept.checks ∙ off))) in
       subst (λ (l : List RegisterAccess). Walks c line s l) (sym t.whole)
-      (path_walks c line set.dlab f.fifo t.front t.back s m t.mid End (causal held looked) takes.taken t.path h rest)
+      (path_walks c line set.dlab f.fifo t.front t.back s m t.mid End (causal held looked clear) takes.taken t.path h rest)
 
 -- ---- and its recording
 
@@ -137,11 +138,12 @@ pub unfounded_session : (c : Causes) (calls : List Call) (fields : Fields) (acce
     KnowsFor c old.chip.latches.lcr (known past) → accesses_in entries ≡ accesses → HasNone (is_unfounded c) past entries
 unfounded_session c calls fields accesses old new past entries begins latched set asks session knows knows_for is =
     let line = old.chip.latches.lcr in
-    let s : Stage = record { opened = false; held = true; looked = false } in
+    let s : Stage = first fields in
     let o : OpenIn fields.fifo old = record { dlab = begins.dlab; loopback = begins.loopback; fifos = begins.fifo } in
     let twelve = (goes_session calls fields old new accesses o session past entries is knows).0 in
     let walks : Walks c line s accesses =
-    walks_session c line calls fields old new accesses set o (record { lcr = refl; latched = latched }) asks session true false in
+    walks_session c line calls fields old new accesses set o (record { lcr = refl; latched = latched }) asks session
+    fields.config.check_cts_before_sending false (λ n e. e) in
     let nine = founded_walk c line set.dlab set.not_in_break s past entries
     (subst (λ (l : List RegisterAccess). Walks c line s l) (sym is) walks) (settled_at_first c line fields (known past) set knows knows_for) in
     unfounded c past entries twelve nine

@@ -61,7 +61,7 @@ pub record GoodWrite (c : Causes) (line : ℕ) (f : Stage) (register value : ℕ
   pub fifos : register ≡ offsets.FCR → c.fifos_are_off ≡ false → has value fcr_bits.FIFO_ENABLE.0 ≡ true
   pub shut : register ≡ offsets.DATA → f.opened ≡ false
   pub fits : register ≡ offsets.DATA → c.bytes_are_cut ≡ false → Fits line value
-  pub clear : register ≡ offsets.DATA → c.cts_is_unchecked ≡ false → f.held ≡ false
+  pub clear : register ≡ offsets.DATA → (c.cts_is_unchecked && c.msr_is_read) ≡ false → f.held ≡ false
   pub shut_too : register ≡ offsets.IER → f.opened ≡ false
   pub off : register ≡ offsets.IER → c.interrupts_are_on ≡ false → enables_some (Some (record { 0 = value })) ≡ false
 

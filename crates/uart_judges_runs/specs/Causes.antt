@@ -13,7 +13,7 @@ use Rattle.uart_16550.specs.Expansion.{expansion}
 use Rattle.uart_events.specs.declared.call.Call.{Call}
 use Rattle.uart_events.specs.declared.call.Call.TheVariants as call
 use Rattle.uart_chip.specs.Chip.{LatchesState}
-use Rattle.uart_judges.specs.Findings.{enables_some, is_cut_off, is_zero}
+use Rattle.uart_judges.specs.Findings.{enables_some, is_cut_off, is_held, is_zero}
 use Rattle.uart_judges.specs.Severities.{severity}
 use Rattle.uart_judges.specs.Shows.{is_cut}
 use Rattle.uart_judges.specs.declared.audit.auditor.Auditor.{Auditor}
@@ -27,11 +27,13 @@ use Rattle.uart_judges_runs.specs.Lost.{IsSo}
 -- ---- the causes
 
 -- what a caller may give cause by: a break is sent meanwhile; a byte that is sent has more bits than a character; the
--- driver is not to check CTS; an interrupt is enabled; ISR is read; OUT2 is off; the FIFOs are off; the divisor is zero
+-- driver is not to check CTS; MSR is read; an interrupt is enabled; ISR is read; OUT2 is off; the FIFOs are off; the
+-- divisor is zero
 pub record Causes : Type 0 where
   pub break_is_sent : Bool
   pub bytes_are_cut : Bool
   pub cts_is_unchecked : Bool
+  pub msr_is_read : Bool
   pub interrupts_are_on : Bool
   pub isr_is_read : Bool
   pub out2_is_off : Bool
@@ -43,6 +45,7 @@ no_cause = record {
   break_is_sent = false;
   bytes_are_cut = false;
   cts_is_unchecked = false;
+  msr_is_read = false;
   interrupts_are_on = false;
   isr_is_read = false;
   out2_is_off = false;
@@ -54,7 +57,7 @@ no_cause = record {
 abbrev pub has_cause : Causes → Finding → Bool
 has_cause c (found.SentInBreak byte) = c.break_is_sent
 has_cause c (found.WordTooShort byte) = c.bytes_are_cut
-has_cause c found.SentWithoutCts = c.cts_is_unchecked
+has_cause c found.SentWithoutCts = c.cts_is_unchecked && c.msr_is_read
 has_cause c found.InterruptsCutOff = c.interrupts_are_on && c.out2_is_off
 has_cause c (found.ErrorsLost arrived) = c.fifos_are_off
 has_cause c found.ZeroDivisor = c.divisor_is_zero
@@ -90,7 +93,14 @@ abbrev pub enabled_by : Call → Option IER
 enabled_by (call.Enable bits) = Some bits
 enabled_by _ = None
 
--- a call that reads ISR
+-- a call that reads MSR, but not to check CTS before it sends; and one that reads ISR
+abbrev pub reads_msr : Call → Bool
+reads_msr call.Msr = true
+reads_msr call.PeekModem = true
+reads_msr call.CheckConnected = true
+reads_msr call.Dump = true
+reads_msr _ = false
+
 abbrev pub reads_isr : Call → Bool
 reads_isr call.Isr = true
 reads_isr call.Dump = true
@@ -101,9 +111,11 @@ reads_isr _ = false
 abbrev pub Fits : (line byte : ℕ) → Type 0
 Fits line byte = is_cut (record { 0 = line }) byte ≡ false
 
--- a call gives no other cause than these: its bytes fit, it enables no interrupt, and it reads no ISR
+-- a call gives no other cause than these: its bytes fit, it does not read MSR, enables no interrupt, and does not read
+-- ISR
 pub record AsksFor (c : Causes) (line : ℕ) (call : Call) : Type 0 where
   pub bytes : c.bytes_are_cut ≡ false → AllByRecursion (Fits line) (bytes_of call)
+  pub msr : c.msr_is_read ≡ false → reads_msr call ≡ false
   pub interrupts : c.interrupts_are_on ≡ false → enables_some (enabled_by call) ≡ false
   pub isr : c.isr_is_read ≡ false → reads_isr call ≡ false
 
@@ -146,10 +158,11 @@ pub record IsLatchedFor (c : Causes) (latches : LatchesState) : Type 0 where
   pub out2 : c.out2_is_off ≡ false → is_cut_off (Some (record { 0 = latches.mcr })) ≡ false
 
 -- nor does what the judge knows before: of LCR what it is; of no interrupt that is enabled, and of no handler that is at
--- work; not that OUT2 is off; and not that the divisor is zero
+-- work; not that CTS is clear; not that OUT2 is off; and not that the divisor is zero
 pub record KnowsFor (c : Causes) (line : ℕ) (a : Auditor) : Type 0 where
   pub lcr : IsSo a.setup.line (λ lcr. lcr.0 ≡ line)
   pub interrupts : c.interrupts_are_on ≡ false → enables_some a.setup.interrupts ≡ false
   pub not_handling : (c.interrupts_are_on && c.isr_is_read) ≡ false → a.is_handling ≡ false
+  pub clear : c.cts_is_unchecked ≡ true → c.msr_is_read ≡ false → is_held a.cts ≡ false
   pub out2 : c.out2_is_off ≡ false → is_cut_off a.setup.modem ≡ false
   pub divisor : c.divisor_is_zero ≡ false → (is_zero a.setup.divisor.low && is_zero a.setup.divisor.high) ≡ false
