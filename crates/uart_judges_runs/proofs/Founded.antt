@@ -1,7 +1,6 @@
 -- At one step: which of the findings have a cause, or are none that the caller can be the cause of.
-use Rattle.std.proofs.Common.{◌≡◌, ℕ, Bool, true, false, not, ◌&&◌, ◌||◌, ◌==◌, [], ◌∷◌, Option, Some, None, refl, sym, ◌∙◌, ap}
-use Rattle.std.proofs.Common.{if◌then◌else◌, inl, inr, ◌⊎◌}
-use Rattle.std.specs.Prelude.{nat_le, nat_lt, min, ◌+◌, ◌-◌, ◌^◌}
+use Rattle.std.proofs.Common.{◌≡◌, ℕ, Bool, true, false, not, ◌&&◌, ◌||◌, ◌==◌, [], ◌∷◌, Option, Some, None, refl, ap}
+use Rattle.std.proofs.Common.{if◌then◌else◌}
 use Rattle.std.proofs.lemmas.Bool.{and_left, and_right}
 use Rattle.uart_spec.specs.Bits.{has}
 use Rattle.uart_spec.specs.declared.registers.interrupt_status.ISR.{ISR}
@@ -14,10 +13,10 @@ use Rattle.uart_spec.specs.declared.registers.modem_status.MSR.{MSR}
 use Rattle.uart_judges.specs.Findings.{all_found, arrival, arrived_at, asks_for_cts, change, changed, chip, chip_at, closed, closes, cuts}
 use Rattle.uart_judges.specs.Findings.{discard, empty, empty_in, enables_bytes, flow, from_nothing, gate, given, has_low_alone, ignored}
 use Rattle.uart_judges.specs.Findings.{is_cut_off, is_held, is_in_break, is_next, is_other_frame, is_zero, latch, latched, left_up, level}
-use Rattle.uart_judges.specs.Findings.{level_as, level_at, line_up, lines_as, loops_again, missing, note, noted, output, overrun, overrun_in}
-use Rattle.uart_judges.specs.Findings.{put_out, room, served_by, service, set_up, taken, taken_from_nothing, transfers, when, with_errors}
+use Rattle.uart_judges.specs.Findings.{level_as, level_at, line_up, lines_as, loops_again, missing, noted, output, overrun, overrun_in}
+use Rattle.uart_judges.specs.Findings.{room, served_by, service, set_up, taken, transfers, when, with_errors}
 use Rattle.uart_judges.specs.Findings.{are_off, is_long_since}
-use Rattle.uart_judges.specs.Shows.{arrives, identified, identified_by, receives, sends}
+use Rattle.uart_judges.specs.Shows.{identified, receives, sends}
 use Rattle.uart_judges.specs.Steps.{is_line_up, loops_back}
 use Rattle.uart_judges.specs.Unread.{front, second}
 use Rattle.uart_judges.specs.declared.audit.action.Action.{Action}
@@ -242,15 +241,18 @@ module _ (c : Causes) where
   changed_founded a s _ same = nothing
 
   -- ISR shows no interrupt
-  pub served_founded : (before : Option Identified) (now : Option InterruptType) → ((c.interrupts_are_on && c.isr_is_read) ≡ false → now ≡ None) →
+  pub served_founded : (before : Option Identified) (now : Option InterruptType) →
+      ((c.interrupts_are_on && c.isr_is_read) ≡ false → now ≡ None) →
       Founded c (served_by before now)
   served_founded None now none = nothing
   served_founded (Some before) None none = nothing
   served_founded (Some before) (Some now) none =
-      with_cause _ (found.NotServed before) None (λ e. absurd (let g : Some now ≡ None = none (not_true (c.interrupts_are_on && c.isr_is_read) e) in cc)) nothing
+      with_cause _ (found.NotServed before) None (λ e. absurd
+      (let g : Some now ≡ None = none (not_true (c.interrupts_are_on && c.isr_is_read) e) in cc)) nothing
 
   -- no handler is at work
-  pub left_up_founded : (a : Auditor) (s : Step) (up : Option Mark) (now : Option ℕ) → ((c.interrupts_are_on && c.isr_is_read) ≡ false → a.is_handling ≡ false) →
+  pub left_up_founded : (a : Auditor) (s : Step) (up : Option Mark) (now : Option ℕ) →
+      ((c.interrupts_are_on && c.isr_is_read) ≡ false → a.is_handling ≡ false) →
       Founded c (left_up a s up now)
   left_up_founded a s (Some mark) (Some now) none =
       founded_if (are_off s.setup.interrupts) _ _ nothing

@@ -5,14 +5,12 @@ use Rattle.std.specs.Prelude.{nat_lt, ◌==◌}
 use Rattle.uart_spec.specs.Bits.{has}
 use Rattle.uart_spec.specs.declared.access.Access.{Access as RegisterAccess}
 use Rattle.uart_spec.specs.declared.access.Access.TheVariants.{Read, Write}
-use Rattle.uart_spec.specs.declared.errors.ByteReceiveError.{ByteReceiveError}
 use Rattle.uart_spec.specs.declared.errors.ByteSendError.{ByteSendError}
 use Rattle.uart_spec.specs.declared.errors.FifosOffError.{FifosOffError}
 use Rattle.uart_spec.specs.declared.errors.StalledError.{StalledError}
 use Rattle.uart_spec.specs.declared.registers.fifo_control.TheConstants.FCR as fcr_bits
 use Rattle.uart_spec.specs.declared.registers.fifo_trigger_level.FifoTriggerLevel.{FifoTriggerLevel}
 use Rattle.uart_spec.specs.declared.registers.fifo_trigger_level.FifoTriggerLevel.TheVariants.{One, Four, Eight, Fourteen}
-use Rattle.uart_spec.specs.declared.registers.line_control.TheConstants.LCR as lcr_bits
 use Rattle.uart_spec.specs.declared.registers.line_status.TheConstants.LSR as lsr_bits
 use Rattle.uart_spec.specs.declared.registers.offsets.TheConstants as offsets
 use Rattle.uart_16550.specs.Driver.{Fields, settings_of}
@@ -21,15 +19,12 @@ use Rattle.uart_16550.specs.Io.{AnswersRead, AnswersWrite, Flushes}
 use Rattle.uart_16550.specs.Grammar.{Asks, Settings}
 use Rattle.uart_16550.specs.Receive.{ReadyToReceive, TryReceive}
 use Rattle.uart_16550.specs.Setup.{SetsTrigger, level_bits}
-use Rattle.uart_16550.specs.Status.{Connects}
 use Rattle.uart_16550.specs.Transmit.{ReadyToSend}
-use Rattle.uart_spec.specs.declared.errors.RemoteReadyToReceiveError.{RemoteReadyToReceiveError}
 use Rattle.uart_events.specs.declared.call.Answer.{Answer}
 use Rattle.uart_events.specs.declared.call.Call.{Call}
 use Rattle.uart_events.specs.declared.call.Call.TheVariants as call
 use Rattle.uart_calls.specs.Lists.{IsListOf}
 use Rattle.uart_calls.specs.Meaning.{SendsShortText}
-use Rattle.uart_judges.specs.Findings.{enables_some}
 use Rattle.uart_judges_runs.specs.Calls.{IsSteady}
 use Rattle.uart_judges_runs.specs.Causes.{AsksFor, Causes, Fits, IsSetUpFor}
 use Rattle.uart_judges_runs.proofs.GoodLists as good
@@ -60,13 +55,15 @@ module _ (c : Causes) (line : ℕ) (f : Fields) (set : IsSetUpFor c line f) wher
   level_list v (Err e) after l (off, is, same) = none_made l is
 
   look : (bits : ℕ) (outcome : Bool) → AllLead c line f.fifo s.checks s (Asks offsets.LSR bits outcome)
-  look bits outcome = good.leads_asks c line f.fifo s.checks set.dlab set.fifos s offsets.LSR bits outcome refl refl refl (differ offsets.LSR offsets.MSR refl)
+  look bits outcome = good.leads_asks c line f.fifo s.checks set.dlab set.fifos s offsets.LSR bits outcome refl refl refl
+      (differ offsets.LSR offsets.MSR refl)
 
   one_list : (register answer : ℕ) → nat_lt register 8 ≡ true → (register == offsets.DATA) ≡ false →
       (register ≡ offsets.ISR → c.isr_is_read ≡ true) → MayRead c line f.fifo s.checks register → (l : List RegisterAccess) →
       l ≡ Read register answer ∷ [] → Leading l
   one_list register answer real other may msr l is =
-      subst (λ (l : List RegisterAccess). Leading l) (sym is) (good.reads c line f.fifo s.checks set.dlab set.fifos register answer real other may msr)
+      subst (λ (l : List RegisterAccess). Leading l) (sym is)
+      (good.reads c line f.fifo s.checks set.dlab set.fifos register answer real other may msr)
 
   -- a call that reads ISR is made only where it may be
   may_read : (b : Bool) → (b ≡ false → true ≡ false) → b ≡ true
@@ -128,25 +125,35 @@ module _ (c : Causes) (line : ℕ) (f : Fields) (set : IsSetUpFor c line f) wher
   good_list (call.Quiesce outputs fifos) after l a i k h = absurd i
   good_list (call.Restore dump) after l a i k h = absurd i
   good_list (call.CheckConfigured outputs) after l a i k h =
-      good.leads_check c line f.fifo s.checks set.dlab set.fifos s (may_read c.isr_is_read k.isr) f.config outputs.0 set.interrupts h.outcome l h.does.0
+      good.leads_check c line f.fifo s.checks set.dlab set.fifos s
+      (may_read c.isr_is_read k.isr) f.config outputs.0 set.interrupts h.outcome l h.does.0
   good_list call.TestLoopback after l a i k h = absurd i
   good_list call.CheckPresent after l a i k h = good.leads_presence c line f.fifo s.checks set.dlab set.fifos s h.outcome l h.does.0
-  good_list call.CheckConnected after l a i k h = let t = h.does.0 in one_list offsets.MSR t.0 refl refl (differ offsets.MSR offsets.ISR refl) (λ is. may_ask c.cts_is_unchecked s.checks c.msr_is_read set.checks k.msr) l t.2
+  good_list call.CheckConnected after l a i k h = let t = h.does.0 in one_list offsets.MSR t.0 refl refl
+      (differ offsets.MSR offsets.ISR refl) (λ is. may_ask c.cts_is_unchecked s.checks c.msr_is_read set.checks k.msr) l t.2
   good_list call.ReadyToReceive after l a i k h = ready_list h.outcome l h.does.0
   good_list call.ReadyToSend after l a i k h = ready_to_send_list h.outcome l h.does.0
   good_list call.TryReceive after l a i k h = try_receive_list h.outcome l h.does.0
   good_list call.Flush after l a i k h = flushes_list h.outcome l h.does.0
   good_list call.ReadReady after l a i k h = read_ready_list h.outcome l h.does.0
   good_list call.WriteReady after l a i k h = write_ready_list h.outcome l h.does.0
-  good_list call.Ier after l a i k h = one_list offsets.IER h.outcome refl refl (differ offsets.IER offsets.ISR refl) (differ offsets.IER offsets.MSR refl) l h.does.0.is
-  good_list call.Isr after l a i k h = one_list offsets.ISR h.outcome refl refl (λ is. may_read c.isr_is_read k.isr) (differ offsets.ISR offsets.MSR refl) l h.does.0.is
-  good_list call.Lcr after l a i k h = one_list offsets.LCR h.outcome refl refl (differ offsets.LCR offsets.ISR refl) (differ offsets.LCR offsets.MSR refl) l h.does.0.is
-  good_list call.Mcr after l a i k h = one_list offsets.MCR h.outcome refl refl (differ offsets.MCR offsets.ISR refl) (differ offsets.MCR offsets.MSR refl) l h.does.0.is
-  good_list call.Lsr after l a i k h = one_list offsets.LSR h.does.0 refl refl (differ offsets.LSR offsets.ISR refl) (differ offsets.LSR offsets.MSR refl) l h.does.1
-  good_list call.Msr after l a i k h = one_list offsets.MSR h.does.0 refl refl (differ offsets.MSR offsets.ISR refl) (λ is. may_ask c.cts_is_unchecked s.checks c.msr_is_read set.checks k.msr) l h.does.1
-  good_list call.PeekModem after l a i k h = one_list offsets.MSR h.outcome refl refl (differ offsets.MSR offsets.ISR refl) (λ is. may_ask c.cts_is_unchecked s.checks c.msr_is_read set.checks k.msr) l h.does.0.is
+  good_list call.Ier after l a i k h = one_list offsets.IER h.outcome refl refl (differ offsets.IER offsets.ISR refl)
+      (differ offsets.IER offsets.MSR refl) l h.does.0.is
+  good_list call.Isr after l a i k h = one_list offsets.ISR h.outcome refl refl (λ is. may_read c.isr_is_read k.isr)
+      (differ offsets.ISR offsets.MSR refl) l h.does.0.is
+  good_list call.Lcr after l a i k h = one_list offsets.LCR h.outcome refl refl (differ offsets.LCR offsets.ISR refl)
+      (differ offsets.LCR offsets.MSR refl) l h.does.0.is
+  good_list call.Mcr after l a i k h = one_list offsets.MCR h.outcome refl refl (differ offsets.MCR offsets.ISR refl)
+      (differ offsets.MCR offsets.MSR refl) l h.does.0.is
+  good_list call.Lsr after l a i k h = one_list offsets.LSR h.does.0 refl refl (differ offsets.LSR offsets.ISR refl)
+      (differ offsets.LSR offsets.MSR refl) l h.does.1
+  good_list call.Msr after l a i k h = one_list offsets.MSR h.does.0 refl refl (differ offsets.MSR offsets.ISR refl)
+      (λ is. may_ask c.cts_is_unchecked s.checks c.msr_is_read set.checks k.msr) l h.does.1
+  good_list call.PeekModem after l a i k h = one_list offsets.MSR h.outcome refl refl (differ offsets.MSR offsets.ISR refl)
+      (λ is. may_ask c.cts_is_unchecked s.checks c.msr_is_read set.checks k.msr) l h.does.0.is
   good_list call.IsIdle after l a i k h = look lsr_bits.TRANSMITTER_EMPTY.0 h.outcome l h.does.0
-  good_list call.Spr after l a i k h = one_list offsets.SPR h.outcome refl refl (differ offsets.SPR offsets.ISR refl) (differ offsets.SPR offsets.MSR refl) l h.does.0.is
+  good_list call.Spr after l a i k h = one_list offsets.SPR h.outcome refl refl (differ offsets.SPR offsets.ISR refl)
+      (differ offsets.SPR offsets.MSR refl) l h.does.0.is
   good_list call.DllDlm after l a i k h =
       let t = h.does.0 in
       subst (λ (l : List RegisterAccess). Leading l) (sym t.1)

@@ -1,11 +1,11 @@
 -- The lists of languages: their accesses are good one after the other, where what is read gives no other cause.
-use Rattle.std.proofs.Common.{◌≡◌, ℕ, zero, suc, Bool, true, false, not, ◌&&◌, ◌||◌, ◌==◌, inl, inr, List, [], ◌∷◌, ◌++◌, Option, Some, None}
+use Rattle.std.proofs.Common.{◌≡◌, ℕ, zero, suc, Bool, true, false, not, ◌&&◌, ◌==◌, inl, inr, List, [], ◌∷◌, ◌++◌, Some}
 use Rattle.std.proofs.Common.{refl, sym, ◌∙◌, ap, subst, arith, if◌then◌else◌, Result, Ok, Err, MatchBool, take, drop, bit_and, bit_or}
 use Rattle.std.specs.Prelude.{nat_lt, ◌+◌, ◌*◌}
 use Rattle.std.specs.List.{AllByRecursion}
 use Rattle.std.proofs.lemmas.Grind.{common_steps}
 use Rattle.std.proofs.lemmas.Nat.{and_assoc, and_comm}
-use Rattle.uart_spec.specs.Bits.{has, has_any}
+use Rattle.uart_spec.specs.Bits.{has}
 use Rattle.uart_spec.specs.declared.access.Access.{Access as RegisterAccess}
 use Rattle.uart_spec.specs.declared.access.Access.TheVariants.{Read, Write}
 use Rattle.uart_spec.specs.declared.errors.ByteSendError.{ByteSendError}
@@ -36,7 +36,7 @@ use Rattle.uart_16550.specs.Receive.{Awaited, Hit, HitWithErrors, Miss, Receives
 use Rattle.uart_16550.specs.Transmit.{Burst, IsCut, LinesAllow, Round, SendHit, SendMiss, SendRefused, Sends, SendsExact, TrySends}
 use Rattle.uart_16550.specs.Transmit.{WaitsFor, burst_size, data_writes}
 use Rattle.uart_judges.specs.Findings.{enables_some}
-use Rattle.uart_run.proofs.ListsInTurn.{HoldsInTurn, HoldsOfAll, all_few, all_in_order, all_misses, all_only, all_then, all_times}
+use Rattle.uart_run.proofs.ListsInTurn.{HoldsInTurn, HoldsOfAll, all_few, all_in_order, all_misses, all_only, all_then}
 use Rattle.uart_judges_runs.specs.Calls.{IsTaken}
 use Rattle.uart_judges_runs.specs.Causes.{Causes, Fits, IsShownFor, ShowsFor, line_while}
 use Rattle.uart_judges_runs.proofs.Settled.{Stage}
@@ -163,11 +163,14 @@ module _ (c : Causes) (line : ℕ) (fifo checks : Bool) where
     pub reads : (register answer : ℕ) → nat_lt register 8 ≡ true → (register == offsets.DATA) ≡ false →
         (register ≡ offsets.ISR → c.isr_is_read ≡ true) → MayRead register → Leads false false (Read register answer ∷ [])
     reads register answer real other may msr held looked h =
-        λ t. (good_read (record { opened = false; held = held; looked = looked }) register answer real other may (λ is. refl) t.0 t.1,
-        (refl, clear_read register answer held msr h))
+        λ t. (
+          good_read (record { opened = false; held = held; looked = looked }) register answer real other may (λ is. refl) t.0 t.1,
+          (refl, clear_read register answer held msr h),
+        )
 
     -- the divisor
-    good_divisor : (f : Stage) (register answer : ℕ) → f.opened ≡ true → nat_lt register 5 ≡ true → (register == offsets.ISR) ≡ false → ShowsFor c line f.opened register answer →
+    good_divisor : (f : Stage) (register answer : ℕ) → f.opened ≡ true → nat_lt register 5 ≡ true → (register == offsets.ISR) ≡ false →
+        ShowsFor c line f.opened register answer →
         IsTaken fifo f.opened (Read register answer) → GoodRead c line f register answer
     good_divisor f register answer is_on low other shows taken = record {
       real = grind (arith, common_steps);
@@ -178,68 +181,83 @@ module _ (c : Causes) (line : ℕ) (fifo checks : Bool) where
       looked = λ is e g. absurd (let h : true ≡ false = sym is_on ∙ e in cc);
     }
 
-    pub reads_open : (register answer : ℕ) → nat_lt register 5 ≡ true → (register == offsets.ISR) ≡ false → Leads true true (Read register answer ∷ [])
+    pub reads_open : (register answer : ℕ) → nat_lt register 5 ≡ true → (register == offsets.ISR) ≡ false → Leads true true
+        (Read register answer ∷ [])
     reads_open register answer low other held looked h =
-        λ t. (good_divisor (record { opened = true; held = held; looked = looked }) register answer refl low other t.0 t.1,
-        (refl, clear_read register answer held (λ is. absurd (grind (arith, common_steps))) h))
+        λ t. (
+          good_divisor (record { opened = true; held = held; looked = looked }) register answer refl low other t.0 t.1,
+          (refl, clear_read register answer held (λ is. absurd (grind (arith, common_steps))) h),
+        )
 
     pub writes_line : (b : Bool) (value : ℕ) → value ≡ line_while (has value lcr_bits.DLAB.0) line →
         Leads b (has value lcr_bits.DLAB.0) (Write offsets.LCR value ∷ [])
     writes_line b value is held looked h =
-        λ t. (record {
-          real = refl;
-          lcr = λ e. is;
-          no_mcr = refl;
-          fifos = λ e. differ 3 offsets.FCR refl e;
-          shut = λ e. differ 3 offsets.DATA refl e;
-          fits = λ e. differ 3 offsets.DATA refl e;
-          clear = λ e. differ 3 offsets.DATA refl e;
-          shut_too = λ e. differ 3 offsets.IER refl e;
-          off = λ e. differ 3 offsets.IER refl e;
-        }, (refl, h))
+        λ t. (
+          record {
+            real = refl;
+            lcr = λ e. is;
+            no_mcr = refl;
+            fifos = λ e. differ 3 offsets.FCR refl e;
+            shut = λ e. differ 3 offsets.DATA refl e;
+            fits = λ e. differ 3 offsets.DATA refl e;
+            clear = λ e. differ 3 offsets.DATA refl e;
+            shut_too = λ e. differ 3 offsets.IER refl e;
+            off = λ e. differ 3 offsets.IER refl e;
+          },
+          (refl, h),
+        )
 
     pub writes_scratch : (value : ℕ) → Leads false false (Write offsets.SPR value ∷ [])
     writes_scratch value held looked h =
-        λ t. (record {
-          real = refl;
-          lcr = λ e. differ 7 offsets.LCR refl e;
-          no_mcr = refl;
-          fifos = λ e. differ 7 offsets.FCR refl e;
-          shut = λ e. refl;
-          fits = λ e. differ 7 offsets.DATA refl e;
-          clear = λ e. differ 7 offsets.DATA refl e;
-          shut_too = λ e. refl;
-          off = λ e. differ 7 offsets.IER refl e;
-        }, (refl, h))
+        λ t. (
+          record {
+            real = refl;
+            lcr = λ e. differ 7 offsets.LCR refl e;
+            no_mcr = refl;
+            fifos = λ e. differ 7 offsets.FCR refl e;
+            shut = λ e. refl;
+            fits = λ e. differ 7 offsets.DATA refl e;
+            clear = λ e. differ 7 offsets.DATA refl e;
+            shut_too = λ e. refl;
+            off = λ e. differ 7 offsets.IER refl e;
+          },
+          (refl, h),
+        )
 
     pub writes_interrupts : (value : ℕ) → (c.interrupts_are_on ≡ false → enables_some (Some (record { 0 = value })) ≡ false) →
         Leads false false (Write offsets.IER value ∷ [])
     writes_interrupts value none held looked h =
-        λ t. (record {
-          real = refl;
-          lcr = λ e. differ 1 offsets.LCR refl e;
-          no_mcr = refl;
-          fifos = λ e. differ 1 offsets.FCR refl e;
-          shut = λ e. refl;
-          fits = λ e. differ 1 offsets.DATA refl e;
-          clear = λ e. differ 1 offsets.DATA refl e;
-          shut_too = λ e. refl;
-          off = λ e. none;
-        }, (refl, h))
+        λ t. (
+          record {
+            real = refl;
+            lcr = λ e. differ 1 offsets.LCR refl e;
+            no_mcr = refl;
+            fifos = λ e. differ 1 offsets.FCR refl e;
+            shut = λ e. refl;
+            fits = λ e. differ 1 offsets.DATA refl e;
+            clear = λ e. differ 1 offsets.DATA refl e;
+            shut_too = λ e. refl;
+            off = λ e. none;
+          },
+          (refl, h),
+        )
 
     pub writes_control : (value : ℕ) → has value fcr_bits.FIFO_ENABLE.0 ≡ true → Leads false false (Write offsets.FCR value ∷ [])
     writes_control value enables held looked h =
-        λ t. (record {
-          real = refl;
-          lcr = λ e. differ 2 offsets.LCR refl e;
-          no_mcr = refl;
-          fifos = λ e g. enables;
-          shut = λ e. refl;
-          fits = λ e. differ 2 offsets.DATA refl e;
-          clear = λ e. differ 2 offsets.DATA refl e;
-          shut_too = λ e. refl;
-          off = λ e. differ 2 offsets.IER refl e;
-        }, (refl, h))
+        λ t. (
+          record {
+            real = refl;
+            lcr = λ e. differ 2 offsets.LCR refl e;
+            no_mcr = refl;
+            fifos = λ e g. enables;
+            shut = λ e. refl;
+            fits = λ e. differ 2 offsets.DATA refl e;
+            clear = λ e. differ 2 offsets.DATA refl e;
+            shut_too = λ e. refl;
+            off = λ e. differ 2 offsets.IER refl e;
+          },
+          (refl, h),
+        )
 
     -- bytes that fit, after CTS was checked
     writes_data : (bytes : List ℕ) (f : Stage) → (c.bytes_are_cut ≡ false → AllByRecursion (Fits line) bytes) → f.opened ≡ false →
@@ -247,17 +265,20 @@ module _ (c : Causes) (line : ℕ) (fifo checks : Bool) where
         Causal c line fifo f (data_writes bytes) (λ g. (g.opened ≡ false) × IsClear g.held)
     writes_data [] f fits shut clear = (shut, λ e g. clear e)
     writes_data (byte ∷ bytes) f fits shut clear =
-        λ t. (record {
-          real = refl;
-          lcr = λ e. differ 0 offsets.LCR refl e;
-          no_mcr = refl;
-          fifos = λ e. differ 0 offsets.FCR refl e;
-          shut = λ e. shut;
-          fits = λ e g. (fits g).0;
-          clear = λ e. clear;
-          shut_too = λ e. shut;
-          off = λ e. differ 0 offsets.IER refl e;
-        }, writes_data bytes f (λ e. (fits e).1) shut clear)
+        λ t. (
+          record {
+            real = refl;
+            lcr = λ e. differ 0 offsets.LCR refl e;
+            no_mcr = refl;
+            fifos = λ e. differ 0 offsets.FCR refl e;
+            shut = λ e. shut;
+            fits = λ e g. (fits g).0;
+            clear = λ e. clear;
+            shut_too = λ e. shut;
+            off = λ e. differ 0 offsets.IER refl e;
+          },
+          writes_data bytes f (λ e. (fits e).1) shut clear,
+        )
 
     -- ---- languages
 
@@ -270,7 +291,8 @@ module _ (c : Causes) (line : ℕ) (fifo checks : Bool) where
     leads_look s bits outcome = leads_asks s offsets.LSR bits outcome refl refl refl (differ offsets.LSR offsets.MSR refl)
 
     leads_scratch : (s : Settings) (answer : ℕ) → AllLead s (Only (Read offsets.SPR answer ∷ []))
-    leads_scratch s answer l t = rw t.is (reads offsets.SPR answer refl refl (differ offsets.SPR offsets.ISR refl) (differ offsets.SPR offsets.MSR refl))
+    leads_scratch s answer l t = rw t.is (reads offsets.SPR answer refl refl (differ offsets.SPR offsets.ISR refl)
+        (differ offsets.SPR offsets.MSR refl))
 
     pub leads_waits : (s : Settings) (bits : ℕ) (outcome : Bool) → AllLead s (WaitsFor bits outcome)
     leads_waits s bits true =
@@ -286,15 +308,21 @@ module _ (c : Causes) (line : ℕ) (fifo checks : Bool) where
     leads_pair : (line_status byte : ℕ) → has line_status lsr_bits.DATA_READY.0 ≡ true →
         Leads false false (Read offsets.LSR line_status ∷ Read offsets.DATA byte ∷ [])
     leads_pair line_status byte ready held looked h =
-        λ t. (good_read (record { opened = false; held = held; looked = looked }) offsets.LSR line_status refl refl (differ offsets.LSR offsets.ISR refl) (λ is. refl) t.0 t.1,
-        λ u. (record {
-          real = refl;
-          shows = u.0;
-          idle = λ is. differ 0 offsets.ISR refl is;
-          fifos = λ is. differ 0 offsets.ISR refl is;
-          shut = λ is. refl;
-          looked = λ is e g. ready;
-        }, (refl, h)))
+        λ t. (
+          good_read (record { opened = false; held = held; looked = looked }) offsets.LSR line_status refl refl
+              (differ offsets.LSR offsets.ISR refl) (λ is. refl) t.0 t.1,
+          λ u. (
+            record {
+              real = refl;
+              shows = u.0;
+              idle = λ is. differ 0 offsets.ISR refl is;
+              fifos = λ is. differ 0 offsets.ISR refl is;
+              shut = λ is. refl;
+              looked = λ is e g. ready;
+            },
+            (refl, h),
+          ),
+        )
 
     pub leads_hit : (s : Settings) (byte : ℕ) → AllLead s (Hit byte)
     leads_hit s byte l t = rw (t.whole, t.first.is, t.second.is) (leads_pair t.first.answer byte t.first.shows)
@@ -337,12 +365,15 @@ module _ (c : Causes) (line : ℕ) (fifo checks : Bool) where
     asked e n f = let g : true ≡ false = sym e ∙ f in cc
 
     leads_lines : (s : Settings) → checks ≡ true → (allowed : Bool) → AllLead s (LinesAllow allowed)
-    leads_lines s e allowed l (inl t) = leads_asks s offsets.MCR mcr_bits.LOOP_BACK.0 true refl refl refl (differ offsets.MCR offsets.MSR refl) l t.1
+    leads_lines s e allowed l (inl t) = leads_asks s offsets.MCR mcr_bits.LOOP_BACK.0 true refl refl refl
+        (differ offsets.MCR offsets.MSR refl) l t.1
     leads_lines s e allowed l (inr t) =
-        all_then turn s _ _ (leads_asks s offsets.MCR mcr_bits.LOOP_BACK.0 false refl refl refl (differ offsets.MCR offsets.MSR refl)) (leads_asks s offsets.MSR msr_bits.CTS.0 allowed refl refl refl (λ is. asked e))
+        all_then turn s _ _ (leads_asks s offsets.MCR mcr_bits.LOOP_BACK.0 false refl refl refl (differ offsets.MCR offsets.MSR refl))
+        (leads_asks s offsets.MSR msr_bits.CTS.0 allowed refl refl refl (λ is. asked e))
         l t
 
-    leads_checked : (s : Settings) → checks ≡ true → (allowed : Bool) → AllLead s (Then (Asks offsets.LSR lsr_bits.THR_EMPTY.0 true) (LinesAllow allowed))
+    leads_checked : (s : Settings) → checks ≡ true → (allowed : Bool) → AllLead s
+        (Then (Asks offsets.LSR lsr_bits.THR_EMPTY.0 true) (LinesAllow allowed))
     leads_checked s e allowed = all_then turn s _ _ (leads_look s lsr_bits.THR_EMPTY.0 true) (leads_lines s e allowed)
 
     leads_if : (s : Settings) (b : Bool) (P Q : Language) → b ≡ checks → (checks ≡ true → AllLead s P) → AllLead s Q →
@@ -355,7 +386,8 @@ module _ (c : Causes) (line : ℕ) (fifo checks : Bool) where
 
     pub leads_send_hit : (s : Settings) → s.checks ≡ checks → AllLead s SendHit
     leads_send_hit s is =
-        leads_if s s.checks (Then (Asks offsets.LSR lsr_bits.THR_EMPTY.0 true) (LinesAllow true)) (Asks offsets.LSR lsr_bits.THR_EMPTY.0 true)
+        leads_if s s.checks (Then (Asks offsets.LSR lsr_bits.THR_EMPTY.0 true) (LinesAllow true))
+        (Asks offsets.LSR lsr_bits.THR_EMPTY.0 true)
         is (λ e. leads_checked s e true) (leads_look s lsr_bits.THR_EMPTY.0 true)
 
     pub leads_refused : (s : Settings) → s.checks ≡ checks → (e : ByteSendError) → AllLead s (SendRefused e)
@@ -380,23 +412,32 @@ module _ (c : Causes) (line : ℕ) (fifo checks : Bool) where
     lines_clear s l (inr t) held looked =
         let f : Stage = record { opened = false; held = held; looked = looked } in
         rw (t.whole, t.first.is, t.second.is)
-        (λ seen. (good_read f offsets.MCR t.first.answer refl refl (differ offsets.MCR offsets.ISR refl) (λ is. refl) seen.0 seen.1,
-        λ shown. (good_read f offsets.MSR t.second.answer refl refl (differ offsets.MSR offsets.ISR refl) (λ is. refl) shown.0 shown.1,
-        (refl, λ e. ap not t.second.shows))))
+        (λ seen. (
+          good_read f offsets.MCR t.first.answer refl refl (differ offsets.MCR offsets.ISR refl) (λ is. refl) seen.0 seen.1,
+          λ shown. (
+            good_read f offsets.MSR t.second.answer refl refl (differ offsets.MSR offsets.ISR refl) (λ is. refl) shown.0 shown.1,
+            (refl, λ e. ap not t.second.shows),
+          ),
+        ))
 
     hit_clear : (s : Settings) (b : Bool) (l : List RegisterAccess) → b ≡ checks →
-        MatchBool b (Then (Asks offsets.LSR lsr_bits.THR_EMPTY.0 true) (LinesAllow true) s l) (Asks offsets.LSR lsr_bits.THR_EMPTY.0 true s l) →
+        MatchBool b (Then (Asks offsets.LSR lsr_bits.THR_EMPTY.0 true) (LinesAllow true) s l)
+        (Asks offsets.LSR lsr_bits.THR_EMPTY.0 true s l) →
         (held looked : Bool) → IsClear held → Causal c line fifo (record { opened = false; held = held; looked = looked }) l MaySend
     hit_clear s true l is t held looked h =
         let f : Stage = record { opened = false; held = held; looked = looked } in
         rw (t.whole, t.first.is)
-        (λ seen. (good_read f offsets.LSR t.first.answer refl refl (differ offsets.LSR offsets.ISR refl) (λ is. refl) seen.0 seen.1,
-        lines_clear s t.back t.second held (has t.first.answer lsr_bits.DATA_READY.0)))
+        (λ seen. (
+          good_read f offsets.LSR t.first.answer refl refl (differ offsets.LSR offsets.ISR refl) (λ is. refl) seen.0 seen.1,
+          lines_clear s t.back t.second held (has t.first.answer lsr_bits.DATA_READY.0),
+        ))
     hit_clear s false l is t held looked h =
         let f : Stage = record { opened = false; held = held; looked = looked } in
         rw t.is
-        (λ seen. (good_read f offsets.LSR t.answer refl refl (differ offsets.LSR offsets.ISR refl) (λ is. refl) seen.0 seen.1,
-        (refl, λ e. h e (sym is))))
+        (λ seen. (
+          good_read f offsets.LSR t.answer refl refl (differ offsets.LSR offsets.ISR refl) (λ is. refl) seen.0 seen.1,
+          (refl, λ e. h e (sym is)),
+        ))
 
     -- ---- sending
 
@@ -425,7 +466,8 @@ module _ (c : Causes) (line : ℕ) (fifo checks : Bool) where
       leads_try_sends byte (Err NoCapacity) fits l t = leads_sends (byte ∷ []) 0 fits l t
       leads_try_sends byte (Err RemoteNotClearToSend) fits l t = absurd t
 
-      leads_pieces : (bytes : List ℕ) (pieces : List (List ℕ)) (rest : List ℕ) → (c.bytes_are_cut ≡ false → AllByRecursion (Fits line) bytes) →
+      leads_pieces : (bytes : List ℕ) (pieces : List (List ℕ)) (rest : List ℕ) →
+          (c.bytes_are_cut ≡ false → AllByRecursion (Fits line) bytes) →
           IsCut s bytes pieces rest → AllLead s (InOrder Round pieces)
       leads_pieces bytes [] rest fits cut l t = rw t.is turn.none
       leads_pieces bytes (piece ∷ pieces) rest fits cut l t =
@@ -504,7 +546,8 @@ module _ (c : Causes) (line : ℕ) (fifo checks : Bool) where
         (reads offsets.LCR lcr refl refl (differ offsets.LCR offsets.ISR refl) (differ offsets.LCR offsets.MSR refl))
         (leads-append false true false (Write offsets.LCR (bit_or lcr lcr_bits.DLAB.0) ∷ [])
         (Read offsets.DLL low ∷ Read offsets.DLM high ∷ Write offsets.LCR lcr ∷ []) (opens lcr is)
-        (leads-append true true false (Read offsets.DLL low ∷ Read offsets.DLM high ∷ []) (Write offsets.LCR lcr ∷ []) (latch_reads low high)
+        (leads-append true true false (Read offsets.DLL low ∷ Read offsets.DLM high ∷ []) (Write offsets.LCR lcr ∷ [])
+        (latch_reads low high)
         (closes true lcr is))) held looked h t
 
     -- IER is read, and then nothing is written that is not so harmless
@@ -513,7 +556,8 @@ module _ (c : Causes) (line : ℕ) (fifo checks : Bool) where
         c.interrupts_are_on ≡ false → enables_some (Some (record { 0 = value })) ≡ false) →
         Leads false false (Read offsets.IER ier ∷ Write offsets.IER value ∷ [])
     leads_changes ier value none held looked h =
-        λ t. leads-append false false false (Read offsets.IER ier ∷ []) (Write offsets.IER value ∷ []) (reads offsets.IER ier refl refl (differ offsets.IER offsets.ISR refl) (differ offsets.IER offsets.MSR refl))
+        λ t. leads-append false false false (Read offsets.IER ier ∷ []) (Write offsets.IER value ∷ [])
+        (reads offsets.IER ier refl refl (differ offsets.IER offsets.ISR refl) (differ offsets.IER offsets.MSR refl))
         (writes_interrupts value (none (λ e. t.0.enabled refl refl e))) held looked h t
 
     pub leads_enables : (ier bits : ℕ) → (c.interrupts_are_on ≡ false → enables_some (Some (record { 0 = bits })) ≡ false) →
@@ -529,11 +573,13 @@ module _ (c : Causes) (line : ℕ) (fifo checks : Bool) where
         (leads_changes ier 0 (λ before e. refl)) (writes_interrupts ier (λ e. t.0.enabled refl refl e)) held looked h t
 
     also : (register answer : ℕ) (l : List RegisterAccess) → nat_lt register 8 ≡ true → (register == offsets.DATA) ≡ false →
-        (register ≡ offsets.ISR → c.isr_is_read ≡ true) → MayRead register → Leads false false l → Leads false false (Read register answer ∷ l)
+        (register ≡ offsets.ISR → c.isr_is_read ≡ true) → MayRead register → Leads false false l → Leads false false
+        (Read register answer ∷ l)
     also register answer l real other may msr rest =
         leads-append false false false (Read register answer ∷ []) l (reads register answer real other may msr) rest
 
-    pub leads_dump : c.isr_is_read ≡ true → ((c.cts_is_unchecked && c.msr_is_read) ≡ false → checks ≡ false → ⊥) → (lcr lsr msr : ℕ) (dump : ConfigRegisterDump) →
+    pub leads_dump : c.isr_is_read ≡ true → ((c.cts_is_unchecked && c.msr_is_read) ≡ false → checks ≡ false → ⊥) → (lcr lsr msr : ℕ)
+        (dump : ConfigRegisterDump) →
         Leads false false (divisor_accesses lcr dump.dll dump.dlm ++ dump_reads lsr msr dump)
     leads_dump may asks lcr lsr msr dump =
         let seventh : List RegisterAccess = Read offsets.SPR dump.spr ∷ [] in
@@ -542,10 +588,15 @@ module _ (c : Causes) (line : ℕ) (fifo checks : Bool) where
         let fourth : List RegisterAccess = Read offsets.MCR dump.mcr.0 ∷ fifth in
         let third : List RegisterAccess = Read offsets.LCR dump.lcr.0 ∷ fourth in
         let second : List RegisterAccess = Read offsets.ISR dump.isr.0 ∷ third in
-        leads-append false false false (divisor_accesses lcr dump.dll dump.dlm) (dump_reads lsr msr dump) (leads_divisor lcr dump.dll dump.dlm)
-        (also offsets.IER dump.ier.0 second refl refl (differ offsets.IER offsets.ISR refl) (differ offsets.IER offsets.MSR refl) (also offsets.ISR dump.isr.0 third refl refl (λ is. may) (differ offsets.ISR offsets.MSR refl)
-        (also offsets.LCR dump.lcr.0 fourth refl refl (differ offsets.LCR offsets.ISR refl) (differ offsets.LCR offsets.MSR refl) (also offsets.MCR dump.mcr.0 fifth refl refl (differ offsets.MCR offsets.ISR refl) (differ offsets.MCR offsets.MSR refl)
-        (also offsets.LSR lsr sixth refl refl (differ offsets.LSR offsets.ISR refl) (differ offsets.LSR offsets.MSR refl) (also offsets.MSR msr seventh refl refl (differ offsets.MSR offsets.ISR refl) (λ is. asks) (reads offsets.SPR dump.spr refl refl (differ offsets.SPR offsets.ISR refl) (differ offsets.SPR offsets.MSR refl))))))))
+        leads-append false false false (divisor_accesses lcr dump.dll dump.dlm) (dump_reads lsr msr dump)
+        (leads_divisor lcr dump.dll dump.dlm)
+        (also offsets.IER dump.ier.0 second refl refl (differ offsets.IER offsets.ISR refl) (differ offsets.IER offsets.MSR refl)
+        (also offsets.ISR dump.isr.0 third refl refl (λ is. may) (differ offsets.ISR offsets.MSR refl)
+        (also offsets.LCR dump.lcr.0 fourth refl refl (differ offsets.LCR offsets.ISR refl) (differ offsets.LCR offsets.MSR refl)
+        (also offsets.MCR dump.mcr.0 fifth refl refl (differ offsets.MCR offsets.ISR refl) (differ offsets.MCR offsets.MSR refl)
+        (also offsets.LSR lsr sixth refl refl (differ offsets.LSR offsets.ISR refl) (differ offsets.LSR offsets.MSR refl)
+        (also offsets.MSR msr seventh refl refl (differ offsets.MSR offsets.ISR refl) (λ is. asks)
+        (reads offsets.SPR dump.spr refl refl (differ offsets.SPR offsets.ISR refl) (differ offsets.SPR offsets.MSR refl))))))))
 
     -- ---- `check_configured`
 
@@ -558,17 +609,20 @@ module _ (c : Causes) (line : ℕ) (fifo checks : Bool) where
       in_turn_leads b d e P Q p n q (Err f) l (inr t) = then_leads b d e s (P (Ok tt)) (Q (Err f)) (p tt) (q (Err f)) l t
 
       shows_leads : (register : ℕ) (IsRight : ℕ → Type 0) (fault : ℕ → ConfigurationError) (b : Bool) →
-          ((answer : ℕ) → Leads b b (Read register answer ∷ [])) → (v : Verdict) → HoldsOfAll (Leads b b) s (ShowsOne register IsRight fault v)
+          ((answer : ℕ) → Leads b b (Read register answer ∷ [])) → (v : Verdict) → HoldsOfAll (Leads b b) s
+          (ShowsOne register IsRight fault v)
       shows_leads register IsRight fault b one (Ok x) l (shown, right, is) = rw is (one shown)
       shows_leads register IsRight fault b one (Err e) l (shown, wrong, told, is) = rw is (one shown)
 
-      line_leads : (b d : Bool) (value : ℕ) → Leads b d (Write offsets.LCR value ∷ []) → ((answer : ℕ) → Leads d d (Read offsets.LCR answer ∷ [])) →
+      line_leads : (b d : Bool) (value : ℕ) → Leads b d (Write offsets.LCR value ∷ []) →
+          ((answer : ℕ) → Leads d d (Read offsets.LCR answer ∷ [])) →
           (v : Verdict) → HoldsOfAll (Leads b d) s (KeepsLine value v)
       line_leads b d value write one v =
           then_leads b d d s (Only (Write offsets.LCR value ∷ [])) _ (λ l t. rw t.is write) (shows_leads offsets.LCR _ _ d one v)
 
       opens_leads : (lcr : ℕ) → lcr ≡ line → HoldsOfAll (Leads false true) s (OpensLatch lcr (Ok tt))
-      opens_leads lcr is = line_leads false true (bit_or lcr lcr_bits.DLAB.0) (opens lcr is) (λ answer. reads_open offsets.LCR answer refl refl) (Ok tt)
+      opens_leads lcr is = line_leads false true (bit_or lcr lcr_bits.DLAB.0) (opens lcr is)
+          (λ answer. reads_open offsets.LCR answer refl refl) (Ok tt)
 
       ignored_leads : (lcr : ℕ) → lcr ≡ line → (e : ConfigurationError) → HoldsOfAll (Leads false false) s (OpensLatch lcr (Err e))
       ignored_leads lcr is e =
@@ -581,7 +635,8 @@ module _ (c : Causes) (line : ℕ) (fifo checks : Bool) where
       divisor_leads divisor shown (Err e) l t = rw t.2 turn.none
 
       closes_leads : (lcr : ℕ) → lcr ≡ line → (v : Verdict) → HoldsOfAll (Leads true false) s (KeepsLine lcr v)
-      closes_leads lcr is = line_leads true false lcr (closes true lcr is) (λ answer. reads offsets.LCR answer refl refl (differ offsets.LCR offsets.ISR refl) (differ offsets.LCR offsets.MSR refl))
+      closes_leads lcr is = line_leads true false lcr (closes true lcr is)
+          (λ answer. reads offsets.LCR answer refl refl (differ offsets.LCR offsets.ISR refl) (differ offsets.LCR offsets.MSR refl))
 
       latch_leads : (divisor lcr : ℕ) → lcr ≡ line → (v : Verdict) → HoldsOfAll (Leads true false) s (ReadsLatch divisor lcr v)
       latch_leads divisor lcr is v l (low, high, t) =
@@ -597,18 +652,22 @@ module _ (c : Causes) (line : ℕ) (fifo checks : Bool) where
       shows_divisor_leads : (divisor : ℕ) (v : Verdict) → AllLead s (ShowsDivisor divisor v)
       shows_divisor_leads divisor v l (lcr, t) =
           rw (t.whole, t.first.is)
-          (λ held looked h sees. leads-append false false false (Read offsets.LCR lcr ∷ []) t.back (reads offsets.LCR lcr refl refl (differ offsets.LCR offsets.ISR refl) (differ offsets.LCR offsets.MSR refl))
+          (λ held looked h sees. leads-append false false false (Read offsets.LCR lcr ∷ []) t.back
+          (reads offsets.LCR lcr refl refl (differ offsets.LCR offsets.ISR refl) (differ offsets.LCR offsets.MSR refl))
           (after_line divisor lcr (sees.0.lcr refl) v t.back t.second) held looked h sees)
 
-      fifo_leads : c.isr_is_read ≡ true → (interrupts isr : ℕ) → (c.interrupts_are_on ≡ false → enables_some (Some (record { 0 = interrupts })) ≡ false) →
+      fifo_leads : c.isr_is_read ≡ true → (interrupts isr : ℕ) →
+          (c.interrupts_are_on ≡ false → enables_some (Some (record { 0 = interrupts })) ≡ false) →
           Leads false false (fifo_look interrupts isr)
       fifo_leads may interrupts isr none =
           leads-append false false false (Write offsets.IER 0 ∷ []) (Read offsets.ISR isr ∷ Write offsets.IER interrupts ∷ [])
           (writes_interrupts 0 (λ e. refl))
-          (leads-append false false false (Read offsets.ISR isr ∷ []) (Write offsets.IER interrupts ∷ []) (reads offsets.ISR isr refl refl (λ is. may) (differ offsets.ISR offsets.MSR refl))
+          (leads-append false false false (Read offsets.ISR isr ∷ []) (Write offsets.IER interrupts ∷ [])
+          (reads offsets.ISR isr refl refl (λ is. may) (differ offsets.ISR offsets.MSR refl))
           (writes_interrupts interrupts none))
 
-      shows_fifos_leads : c.isr_is_read ≡ true → (interrupts : ℕ) → (c.interrupts_are_on ≡ false → enables_some (Some (record { 0 = interrupts })) ≡ false) →
+      shows_fifos_leads : c.isr_is_read ≡ true → (interrupts : ℕ) →
+          (c.interrupts_are_on ≡ false → enables_some (Some (record { 0 = interrupts })) ≡ false) →
           (v : Verdict) → AllLead s (ShowsFifos interrupts v)
       shows_fifos_leads may interrupts none (Ok x) l (isr, same, is) = rw is (fifo_leads may interrupts isr none)
       shows_fifos_leads may interrupts none (Err e) l (isr, wrong, told, is) = rw is (fifo_leads may interrupts isr none)
@@ -620,9 +679,12 @@ module _ (c : Causes) (line : ℕ) (fifo checks : Bool) where
           let latch : Verdict → Language = InTurn (ShowsDivisor divisor) (ShowsFifos interrupts) in
           let enabled : Verdict → Language = InTurn (ShowsInterrupts interrupts) latch in
           let control : Verdict → Language = InTurn (ShowsOutputs outputs) enabled in
-          let frames = shows_leads offsets.LCR _ _ false (λ answer. reads offsets.LCR answer refl refl (differ offsets.LCR offsets.ISR refl) (differ offsets.LCR offsets.MSR refl)) in
-          let outs = shows_leads offsets.MCR _ _ false (λ answer. reads offsets.MCR answer refl refl (differ offsets.MCR offsets.ISR refl) (differ offsets.MCR offsets.MSR refl)) in
-          let ints = shows_leads offsets.IER _ _ false (λ answer. reads offsets.IER answer refl refl (differ offsets.IER offsets.ISR refl) (differ offsets.IER offsets.MSR refl)) in
+          let frames = shows_leads offsets.LCR _ _ false
+          (λ answer. reads offsets.LCR answer refl refl (differ offsets.LCR offsets.ISR refl) (differ offsets.LCR offsets.MSR refl)) in
+          let outs = shows_leads offsets.MCR _ _ false
+          (λ answer. reads offsets.MCR answer refl refl (differ offsets.MCR offsets.ISR refl) (differ offsets.MCR offsets.MSR refl)) in
+          let ints = shows_leads offsets.IER _ _ false
+          (λ answer. reads offsets.IER answer refl refl (differ offsets.IER offsets.ISR refl) (differ offsets.IER offsets.MSR refl)) in
           in_turn_leads false false false (ShowsFrame frame) control (λ u. frames (Ok u)) (λ f. frames (Err f))
           (in_turn_leads false false false (ShowsOutputs outputs) enabled (λ u. outs (Ok u)) (λ f. outs (Err f))
           (in_turn_leads false false false (ShowsInterrupts interrupts) latch (λ u. ints (Ok u)) (λ f. ints (Err f))

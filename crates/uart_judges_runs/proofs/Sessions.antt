@@ -23,7 +23,8 @@ level_fifo v (Ok u) f after l (on, d) = ap (λ (g : Fields). g.fifo) d.second.1 
 level_fifo v (Err e) f after l (off, is, same) = ap (λ (g : Fields). g.fifo) same
 
 -- the driver takes the FIFOs to be as before
-pub same_fifo : (c : Call) (f after : Fields) (l : List RegisterAccess) (a : Answer) → IsSteady c → IsListOf c f l a after → after.fifo ≡ f.fifo
+pub same_fifo : (c : Call) (f after : Fields) (l : List RegisterAccess) (a : Answer) → IsSteady c → IsListOf c f l a after →
+    after.fifo ≡ f.fifo
 same_fifo call.Next f after l a i h = ap (λ (g : Fields). g.fifo) h.does.1
 same_fifo (call.Init config) f after l a i h = absurd i
 same_fifo (call.InitWith config setup) f after l a i h = absurd i

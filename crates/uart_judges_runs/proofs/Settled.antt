@@ -1,10 +1,10 @@
 -- What the judge knows while nothing gives another cause, and that a harmless step leaves it so and has no warning without a cause.
-use Rattle.std.proofs.Common.{◌≡◌, ℕ, zero, suc, Bool, true, false, not, ◌&&◌, ◌||◌, ◌==◌, ◌⊎◌, inl, inr, Option, Some, None, refl, sym}
-use Rattle.std.proofs.Common.{◌∙◌, ap, subst, arith, if◌then◌else◌, bit_and, bit_or, is_some}
+use Rattle.std.proofs.Common.{◌≡◌, ℕ, Bool, true, false, not, ◌&&◌, ◌||◌, ◌==◌, ◌⊎◌, inl, inr, Option, Some, None, refl, sym}
+use Rattle.std.proofs.Common.{◌∙◌, ap, arith, if◌then◌else◌, bit_and, bit_or, is_some}
 use Rattle.std.specs.Prelude.{nat_lt, find}
 use Rattle.std.specs.Option.{option_or}
 use Rattle.std.specs.Int.{bit_at}
-use Rattle.std.proofs.lemmas.Bool.{and_right, or_right}
+use Rattle.std.proofs.lemmas.Bool.{and_right}
 use Rattle.std.proofs.lemmas.Grind.{common_steps}
 use Rattle.std.proofs.lemmas.Nat.{and_assoc}
 use lib.Bits.{or_zero_r}
@@ -23,12 +23,12 @@ use Rattle.uart_spec.specs.declared.registers.modem_control.MCR.{MCR}
 use Rattle.uart_spec.specs.declared.registers.modem_status.TheConstants.MSR as msr_bits
 use Rattle.uart_chip.proofs.Bits.{and_or, has_bit, has_one, has_or}
 use Rattle.uart_judges.specs.Actions.{action}
-use Rattle.uart_judges.specs.Findings.{all_found, arrival, arrived_at, asks_for_cts, change, changed, cuts, enables_bytes, enables_some}
-use Rattle.uart_judges.specs.Findings.{flow, frame, is_cut_off, is_held, is_in_break, is_other_frame, is_zero, output, put_out, when}
+use Rattle.uart_judges.specs.Findings.{all_found, arrived_at, asks_for_cts, cuts, enables_bytes, enables_some}
+use Rattle.uart_judges.specs.Findings.{frame, is_cut_off, is_held, is_in_break, is_other_frame, is_zero, put_out, when}
 use Rattle.uart_judges.specs.History.{cts_after, next, next_since, step_from}
 use Rattle.uart_judges.specs.Setups.{next_is_open}
 use Rattle.uart_judges.specs.Shows.{arrives, fifo_of, high_of, identified, identified_by, interrupts_of, is_cut, line_of, low_of, modem_of}
-use Rattle.uart_judges.specs.Shows.{receives, sends, shows_none}
+use Rattle.uart_judges.specs.Shows.{sends, shows_none}
 use Rattle.uart_judges.specs.Steps.{loops_back}
 use Rattle.uart_judges.specs.Unread.{after_arrival, and, arrived_after, front, seen, unknown, unread_after}
 use Rattle.uart_judges.specs.declared.audit.action.Action.{Action}
@@ -43,7 +43,7 @@ use Rattle.uart_judges.specs.declared.audit.step.Step.{Step}
 use Rattle.uart_judges.specs.declared.audit.unread.Arrived.{Arrived}
 use Rattle.uart_judges.specs.declared.audit.unread.Unread.{Unread}
 use Rattle.uart_judges.specs.declared.recording.entry.Entry.{Entry}
-use Rattle.uart_judges_runs.specs.Causes.{Causes, Fits, IsSetUpFor, line_while}
+use Rattle.uart_judges_runs.specs.Causes.{Causes, Fits, line_while}
 use Rattle.uart_judges_runs.specs.Lost.{IsSo}
 use Rattle.uart_judges_runs.specs.Recorded.{NoneIs}
 use Rattle.uart_judges_runs.proofs.Founded as founded
@@ -291,7 +291,8 @@ module _ (c : Causes) (line : ℕ) (f : Stage) (off : has line lcr_bits.DLAB.0 �
         founded.given_founded c a now byte (unbroken now.line so h.0) (λ e. whole now.line byte so h.0 (h.1 e))
     output_at now _ so h = founded.nothing c
 
-    flow_at : (x : Action) → Harmless c line f x → ((c.cts_is_unchecked && c.msr_is_read) ≡ false → f.held ≡ false → is_held a.cts ≡ false) →
+    flow_at : (x : Action) → Harmless c line f x →
+        ((c.cts_is_unchecked && c.msr_is_read) ≡ false → f.held ≡ false → is_held a.cts ≡ false) →
         Founded c (if not (sends x) then None
         else if loops_back s.setup.modem then None
         else when ((is_held a.cts && a.was_cts_set) && asks_for_cts a s.setup) found.SentWithoutCts)
@@ -339,7 +340,8 @@ module _ (c : Causes) (line : ℕ) (f : Stage) (off : has line lcr_bits.DLAB.0 �
         gate = founded.gate_founded c a s (λ none. no_bytes a.setup.interrupts (k.interrupts none)) k.out2;
         arrival = arrival_at free a s (front a.unread) s.action refl h k.seen;
         latch = founded.latched_founded c a s s.action k.divisor;
-        change = founded.founded_if c _ _ _ (founded.nothing c) (founded.changed_founded c a s s.action (frame_at free a s s.action k.lcr h));
+        change = founded.founded_if c _ _ _ (founded.nothing c)
+            (founded.changed_founded c a s s.action (frame_at free a s s.action k.lcr h));
         service = founded.served_founded c a.unserved (identified_by s.action) (none_at free a s s.action h);
         line_up = founded.founded_if c (not (arrives s.action)) _ _ (founded.nothing c)
             (founded.left_up_founded c a s a.up s.time k.not_handling);

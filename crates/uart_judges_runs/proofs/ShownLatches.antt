@@ -1,5 +1,6 @@
 -- Over the software chip, good accesses show the latches as they are, and leave them so.
-use Rattle.std.proofs.Common.{◌≡◌, ℕ, zero, suc, Bool, true, false, not, ◌&&◌, ◌==◌, List, [], ◌∷◌, ◌++◌, Option, Some, None, refl, sym, ◌∙◌}
+use Rattle.std.proofs.Common.{◌≡◌, ℕ, zero, suc, Bool, true, false, not, ◌&&◌, ◌==◌, List, [], ◌∷◌, ◌++◌, Option, Some, None, refl, sym}
+use Rattle.std.proofs.Common.{◌∙◌}
 use Rattle.std.proofs.Common.{ap, subst, arith, if◌then◌else◌, bit_and, bit_or}
 use Rattle.std.specs.Prelude.{nat_lt}
 use Rattle.std.proofs.lemmas.Grind.{common_steps}
@@ -14,13 +15,13 @@ use Rattle.uart_spec.specs.declared.registers.line_control.TheConstants.LCR as l
 use Rattle.uart_spec.specs.declared.registers.offsets.TheConstants as offsets
 use Rattle.uart_events.specs.declared.event.Chip.{Chip}
 use Rattle.uart_events.specs.declared.event.Chip.TheVariants.{Uart16550A, Uart16450}
-use Rattle.uart_chip.specs.Chip.{ChipState, identification, interrupt, is_dlab_set}
+use Rattle.uart_chip.specs.Chip.{ChipState, LatchesState, identification, interrupt, is_dlab_set}
 use Rattle.uart_chip.specs.Machine.{MachineState, MachineStep, at_access}
 use Rattle.uart_chip.proofs.Bits.{has_one}
 use Rattle.uart_judges.specs.Findings.{enables_some, is_cut_off}
 use Rattle.uart_run.proofs.Latches.{Kept, kept_in, keep, keep_control, keep_write, kept_access, kept_step}
 use Rattle.uart_judges_runs.specs.Calls.{AreTakenFrom, opened_by}
-use Rattle.uart_judges_runs.specs.Causes.{AreShownFrom, Causes, IsLatchedFor, IsShownFor, ShowsFor, line_while}
+use Rattle.uart_judges_runs.specs.Causes.{AreShownFrom, Causes, IsShownFor, ShowsFor, line_while}
 use Rattle.uart_judges_runs.proofs.GoodLists.{Causal, zero_of}
 use Rattle.uart_judges_runs.proofs.Settled.{Stage}
 use Rattle.uart_judges_runs.proofs.Walks.{GoodWrite, IsGood, Walks, by}
@@ -43,6 +44,11 @@ none_pending c e =
     (fewer ier 2 refl e) (fewer ier 8 refl e)
 
 -- ---- the latches
+
+-- no interrupt is enabled, and OUT2 is on
+pub record IsLatchedFor (c : Causes) (latches : LatchesState) : Type 0 where
+  pub interrupts : c.interrupts_are_on ≡ false → enables_some (Some (record { 0 = latches.ier })) ≡ false
+  pub out2 : c.out2_is_off ≡ false → is_cut_off (Some (record { 0 = latches.mcr })) ≡ false
 
 -- LCR is as it is while DLAB is on or off, and the others give no other cause
 pub record Holds (c : Causes) (line : ℕ) (opened : Bool) (k : Kept) : Type 0 where
@@ -73,7 +79,8 @@ module _ (c : Causes) (line : ℕ) (off : has line lcr_bits.DLAB.0 ≡ false) wh
         lcr = λ e. (at offsets.LCR e).1 ∙ k.lcr;
         enabled = λ e shut none.
             let closed : is_dlab_set d.latches ≡ false =
-            sym (has_one 7 d.latches.lcr) ∙ (ap (λ (v : ℕ). has v lcr_bits.DLAB.0) (k.lcr ∙ ap (λ (b : Bool). line_while b line) shut) ∙ off) in
+            sym (has_one 7 d.latches.lcr) ∙ (ap (λ (v : ℕ). has v lcr_bits.DLAB.0) (k.lcr ∙ ap (λ (b : Bool). line_while b line) shut)
+            ∙ off) in
             let is : value ≡ d.latches.ier = (at offsets.IER e).1 ∙ if_not (is_dlab_set d.latches) d.latches.dlm d.latches.ier closed in
             ap (λ (v : ℕ). enables_some (Some (record { 0 = v }))) is ∙ k.latched.interrupts none;
         pending = λ e none.
@@ -94,7 +101,8 @@ module _ (c : Causes) (line : ℕ) (off : has line lcr_bits.DLAB.0 ≡ false) wh
   holds_if opened true x y p q = p
   holds_if opened false x y p q = q
 
-  holds_control : (opened : Bool) (model : Chip) (value : ℕ) (k : Kept) → Holds c line opened k → Holds c line opened (keep_control model value k)
+  holds_control : (opened : Bool) (model : Chip) (value : ℕ) (k : Kept) → Holds c line opened k → Holds c line opened
+      (keep_control model value k)
   holds_control opened Uart16450 value k h = h
   holds_control opened Uart16550A value k h = record { lcr = h.lcr; latched = h.latched }
 

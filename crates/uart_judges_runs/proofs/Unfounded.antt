@@ -1,8 +1,7 @@
 -- No warning of a session is without a cause: the twelve that are about how a call is made never come, and the other nine only with theirs.
-use Rattle.std.proofs.Common.{◌≡◌, ◌≤◌, ℕ, Bool, true, false, not, ◌&&◌, List, [], ◌∷◌, Option, Some, None, refl, sym, ◌∙◌, subst, arith}
-use Rattle.uart_spec.specs.Bits.{has}
+use Rattle.std.proofs.Common.{◌≡◌, ◌≤◌, ℕ, Bool, true, false, not, ◌&&◌, ◌||◌, List, [], ◌∷◌, Option, Some, None, refl, sym, ◌∙◌, subst}
+use Rattle.std.proofs.Common.{arith}
 use Rattle.uart_spec.specs.declared.access.Access.{Access as RegisterAccess}
-use Rattle.uart_spec.specs.declared.registers.line_control.TheConstants.LCR as lcr_bits
 use Rattle.uart_16550.specs.Driver.{Fields}
 use Rattle.uart_events.specs.declared.call.Answer.{Answer}
 use Rattle.uart_events.specs.declared.call.Call.{Call}
@@ -15,9 +14,9 @@ use Rattle.uart_judges.specs.declared.audit.auditor.Auditor.{Auditor}
 use Rattle.uart_judges.specs.declared.audit.finding.Finding.{Finding}
 use Rattle.uart_judges.specs.declared.audit.finding.Finding.TheVariants as found
 use Rattle.uart_judges.specs.declared.recording.entry.Entry.{Entry}
-use Rattle.uart_judges_runs.specs.Calls.{AreTaken, AreTakenFrom, IsSteady, KnowsAsTaken, opened_by}
+use Rattle.uart_judges_runs.specs.Calls.{AreTaken, AreTakenFrom, IsSteady, KnowsAsTaken}
 use Rattle.uart_judges_runs.specs.Causes.{AreShownFor, AreShownFrom, AsksFor, Causes, IsSetUpFor, KnowsFor}
-use Rattle.uart_judges_runs.specs.Causes.{has_cause, is_unfounded, is_warning, no_cause}
+use Rattle.uart_judges_runs.specs.Causes.{cause_some, has_cause, is_unfounded, is_warning}
 use Rattle.uart_judges_runs.specs.Lost.{IsSo}
 use Rattle.uart_judges_runs.specs.Recorded.{HasNone, IsNot, NoneIs, accesses_in, is_of_calls}
 use Rattle.uart_judges_runs.proofs.CallLists.{goes_list, list_of}
@@ -92,22 +91,54 @@ pub unfounded : (c : Causes) (past entries : List Entry) → HasNone is_of_calls
 unfounded c past entries p q = has_none is_of_calls (is_of_caller c) (is_unfounded c) past entries (neither c) p q
 
 -- without a cause there is no warning at all
+none_left : (b d : Bool) → (b || d) ≡ false → b ≡ false
+none_left true d e = absurd (cc)
+none_left false d e = refl
+
+none_right : (b d : Bool) → (b || d) ≡ false → d ≡ false
+none_right true d e = absurd (cc)
+none_right false d e = e
+
+both_off : (on b d : Bool) → (on && (b || d)) ≡ false → ((on && b) ≡ false) × ((on && d) ≡ false)
+both_off true b d e = (none_left b d e, none_right b d e)
+both_off false b d e = (refl, refl)
+
+none_of : (c : Causes) → cause_some c ≡ false → (f : Finding) → has_cause c f ≡ false
+none_of c e f =
+    let cuts = none_right c.break_is_sent _ e in
+    let unchecked = none_right c.bytes_are_cut _ cuts in
+    let interrupts = none_right (c.cts_is_unchecked && c.msr_is_read) _ unchecked in
+    let fifos = none_right (c.interrupts_are_on && (c.isr_is_read || c.out2_is_off)) _ interrupts in
+    let off = both_off c.interrupts_are_on c.isr_is_read c.out2_is_off (none_left _ (c.fifos_are_off || c.divisor_is_zero) interrupts) in
+    go f (none_left c.break_is_sent _ e) (none_left c.bytes_are_cut _ cuts) (none_left (c.cts_is_unchecked && c.msr_is_read) _ unchecked)
+    off.0 off.1 (none_left c.fifos_are_off _ fifos) (none_right c.fifos_are_off _ fifos)
+  where
+    go : (f : Finding) → c.break_is_sent ≡ false → c.bytes_are_cut ≡ false → (c.cts_is_unchecked && c.msr_is_read) ≡ false →
+        (c.interrupts_are_on && c.isr_is_read) ≡ false → (c.interrupts_are_on && c.out2_is_off) ≡ false → c.fifos_are_off ≡ false →
+        c.divisor_is_zero ≡ false → has_cause c f ≡ false
+    go (found.SentInBreak byte) a b d g h i j = a
+    go (found.WordTooShort byte) a b d g h i j = b
+    go found.SentWithoutCts a b d g h i j = d
+    go found.InterruptsCutOff a b d g h i j = h
+    go (found.ErrorsLost arrived) a b d g h i j = i
+    go found.ZeroDivisor a b d g h i j = j
+    go (found.NotServed identified) a b d g h i j = g
+    go (found.LeftWithLineUp line) a b d g h i j = g
+    go _ a b d g h i j = refl
+
 no_warning : (b : Bool) → (b && true) ≡ false → b ≡ false
 no_warning true e = absurd (cc)
 no_warning false e = refl
 
-none_of : (f : Finding) → has_cause no_cause f ≡ false
-none_of (found.SentInBreak byte) = refl
-none_of _ = refl
+causeless : (c : Causes) → cause_some c ≡ false → (f : Finding) → is_unfounded c f ≡ false → is_warning f ≡ false
+causeless c none f e =
+    let g : (is_warning f && not (has_cause c f)) ≡ false = e in
+    no_warning (is_warning f) (subst (λ (b : Bool). (is_warning f && not b) ≡ false) (none_of c none f) g)
 
-causeless : (f : Finding) → is_unfounded no_cause f ≡ false → is_warning f ≡ false
-causeless f e =
-    let g : (is_warning f && not (has_cause no_cause f)) ≡ false = e in
-    no_warning (is_warning f) (subst (λ (b : Bool). (is_warning f && not b) ≡ false) (none_of f) g)
-
-pub causeless_recording : (past entries : List Entry) → HasNone (is_unfounded no_cause) past entries → HasNone is_warning past entries
-causeless_recording past entries p =
-    has_none (is_unfounded no_cause) (is_unfounded no_cause) is_warning past entries (λ f q r. causeless f q) p p
+pub causeless_recording : (c : Causes) (past entries : List Entry) → cause_some c ≡ false → HasNone (is_unfounded c) past entries →
+    HasNone is_warning past entries
+causeless_recording c past entries none p =
+    has_none (is_unfounded c) (is_unfounded c) is_warning past entries (λ f q r. causeless c none f q) p p
 
 -- ---- a list of accesses
 
@@ -138,7 +169,8 @@ unheld true d true held p q n g = absurd (cc)
 unheld true d false held p q n g = q refl refl
 unheld false d e held p q n g = absurd (let x : true ≡ false = sym (p refl) ∙ g in cc)
 
-pub settled_at_first : (c : Causes) (line : ℕ) (f : Fields) (a : Auditor) → IsSetUpFor c line f → KnowsAsTaken f.fifo a → KnowsFor c line a →
+pub settled_at_first : (c : Causes) (line : ℕ) (f : Fields) (a : Auditor) → IsSetUpFor c line f → KnowsAsTaken f.fifo a →
+    KnowsFor c line a →
     Settled c line (first f) a
 settled_at_first c line f a set taken k = record {
   dlab = shut a.setup.is_open taken.dlab;
@@ -155,14 +187,17 @@ settled_at_first c line f a set taken k = record {
 -- ---- a call
 
 pub unfounded_call : (c : Causes) (line : ℕ) (call : Call) (before after : Fields) (accesses : List RegisterAccess) (answer : Answer)
-    (past entries : List Entry) → IsSteady call → AsksFor c line call → IsSetUpFor c line before → IsListOf call before accesses answer after →
+    (past entries : List Entry) → IsSteady call → AsksFor c line call → IsSetUpFor c line before →
+    IsListOf call before accesses answer after →
     AreTaken before.fifo accesses → AreShownFor c line accesses → KnowsAsTaken before.fifo (known past) → KnowsFor c line (known past) →
     accesses_in entries ≡ accesses → HasNone (is_unfounded c) past entries
 unfounded_call c line call before after accesses answer past entries steady asks set list taken shown knows knows_for is =
     let f : Stage = first before in
     let twelve = (goes_list before.fifo accesses (list_of call before after accesses answer steady list) taken past entries is knows).0 in
-    let causal = good_list c line before set call after accesses answer steady asks list before.config.check_cts_before_sending false (λ n e. e) in
+    let causal = good_list c line before set call after accesses answer steady asks list before.config.check_cts_before_sending false
+    (λ n e. e) in
     let walks : Walks c line f accesses = walks_of c line before.fifo accesses f _ shown taken causal in
-    let nine = founded_walk c line set.dlab set.not_in_break f past entries (subst (λ (l : List RegisterAccess). Walks c line f l) (sym is) walks)
+    let nine = founded_walk c line set.dlab set.not_in_break f past entries
+    (subst (λ (l : List RegisterAccess). Walks c line f l) (sym is) walks)
     (settled_at_first c line before (known past) set knows knows_for) in
     unfounded c past entries twelve nine

@@ -1,11 +1,9 @@
 -- Sessions over the software chip: no warning is without a cause.
-use Rattle.std.proofs.Common.{◌≡◌, ℕ, Bool, true, false, List, [], ◌∷◌, ◌++◌, Result, Ok, Err, Some, refl, sym, ◌∙◌, ap, subst}
+use Rattle.std.proofs.Common.{◌≡◌, ℕ, Bool, false, List, [], ◌∷◌, Result, Ok, Err, Some, refl, sym, ◌∙◌, ap, subst}
 use Rattle.std.specs.List.{AllByRecursion}
-use Rattle.uart_spec.specs.Bits.{has}
 use Rattle.uart_spec.specs.declared.access.Access.{Access as RegisterAccess}
 use Rattle.uart_spec.specs.declared.errors.FifosOffError.{FifosOffError}
 use Rattle.uart_spec.specs.declared.registers.fifo_trigger_level.FifoTriggerLevel.{FifoTriggerLevel}
-use Rattle.uart_spec.specs.declared.registers.line_control.TheConstants.LCR as lcr_bits
 use Rattle.uart_16550.specs.Driver.{Fields, with_interrupts}
 use Rattle.uart_16550.specs.Setup.{SetsTrigger}
 use Rattle.uart_16550.specs.Status.{Disables, Enables}
@@ -18,15 +16,15 @@ use Rattle.uart_judges.specs.Findings.{enables_some}
 use Rattle.uart_judges.specs.History.{known}
 use Rattle.uart_judges.specs.declared.recording.entry.Entry.{Entry}
 use Rattle.uart_judges_runs.specs.Calls.{IsSteady, KnowsAsTaken}
-use Rattle.uart_judges_runs.specs.Causes.{AreShownFor, AsksFor, Causes, IsLatchedFor, IsSetUpFor, KnowsFor, is_unfounded}
+use Rattle.uart_judges_runs.specs.Causes.{AreShownFor, AsksFor, Causes, GivesOnly, IsSetUpFor, KnowsFor, is_unfounded}
 use Rattle.uart_judges_runs.specs.Recorded.{HasNone, accesses_in}
-use Rattle.uart_judges_runs.specs.Runs.{IsOpenTo, IsSession}
+use Rattle.uart_judges_runs.specs.Runs.{IsSession}
 use Rattle.uart_judges_runs.proofs.CallLists.{list_of}
 use Rattle.uart_judges_runs.proofs.GoodCalls.{good_list}
 use Rattle.uart_judges_runs.proofs.GoodLists.{IsClear, join_off, part_off}
 use Rattle.uart_judges_runs.proofs.Sessions.{goes_session, same_fifo}
 use Rattle.uart_judges_runs.proofs.Settled.{Stage}
-use Rattle.uart_judges_runs.proofs.ShownLatches.{HoldsIn, path_shown, path_walks}
+use Rattle.uart_judges_runs.proofs.ShownLatches.{HoldsIn, IsLatchedFor, path_shown, path_walks}
 use Rattle.uart_judges_runs.proofs.Taken.{OpenIn, list_path}
 use Rattle.uart_judges_runs.proofs.Unfounded.{first, settled_at_first, unfounded}
 use Rattle.uart_judges_runs.proofs.Walks.{Walks, founded_walk}
@@ -109,7 +107,8 @@ module _ (c : Causes) (line : ℕ) where
 
   walks_session : (calls : List Call) (f : Fields) (m n : MachineState) (l : List RegisterAccess) → IsSetUpFor c line f → OpenIn f.fifo m →
       HoldsIn c line false m → AllByRecursion (AsksFor c line) calls → IsSession calls f m l n → (held looked : Bool) →
-      IsClear c line f.fifo f.config.check_cts_before_sending held → Walks c line (record { opened = false; held = held; looked = looked }) l
+      IsClear c line f.fifo f.config.check_cts_before_sending held → Walks c line
+      (record { opened = false; held = held; looked = looked }) l
   walks_session [] f m n l set o h asks t held looked clear =
       subst (λ (l : List RegisterAccess). Walks c line (record { opened = false; held = held; looked = looked }) l) (sym t.0) tt
   walks_session (x ∷ calls) f m n l set o h asks t held looked clear =
@@ -133,17 +132,21 @@ module _ (c : Causes) (line : ℕ) where
 -- ---- and its recording
 
 pub unfounded_session : (c : Causes) (calls : List Call) (fields : Fields) (accesses : List RegisterAccess) (old new : MachineState)
-    (past entries : List Entry) → IsOpenTo fields old → IsLatchedFor c old.chip.latches → IsSetUpFor c old.chip.latches.lcr fields →
-    AllByRecursion (AsksFor c old.chip.latches.lcr) calls → IsSession calls fields old accesses new → KnowsAsTaken fields.fifo (known past) →
-    KnowsFor c old.chip.latches.lcr (known past) → accesses_in entries ≡ accesses → HasNone (is_unfounded c) past entries
-unfounded_session c calls fields accesses old new past entries begins latched set asks session knows knows_for is =
+    (past entries : List Entry) → GivesOnly c calls fields old → IsSession calls fields old accesses new →
+    KnowsAsTaken fields.fifo (known past) → KnowsFor c old.chip.latches.lcr (known past) → accesses_in entries ≡ accesses →
+    HasNone (is_unfounded c) past entries
+unfounded_session c calls fields accesses old new past entries gives session knows knows_for is =
     let line = old.chip.latches.lcr in
     let s : Stage = first fields in
+    let begins = gives.begins in
+    let set = gives.set_up in
     let o : OpenIn fields.fifo old = record { dlab = begins.dlab; loopback = begins.loopback; fifos = begins.fifo } in
+    let latched : IsLatchedFor c old.chip.latches = record { interrupts = gives.interrupts; out2 = gives.out2 } in
     let twelve = (goes_session calls fields old new accesses o session past entries is knows).0 in
     let walks : Walks c line s accesses =
-    walks_session c line calls fields old new accesses set o (record { lcr = refl; latched = latched }) asks session
+    walks_session c line calls fields old new accesses set o (record { lcr = refl; latched = latched }) gives.asks session
     fields.config.check_cts_before_sending false (λ n e. e) in
     let nine = founded_walk c line set.dlab set.not_in_break s past entries
-    (subst (λ (l : List RegisterAccess). Walks c line s l) (sym is) walks) (settled_at_first c line fields (known past) set knows knows_for) in
+    (subst (λ (l : List RegisterAccess). Walks c line s l) (sym is) walks)
+    (settled_at_first c line fields (known past) set knows knows_for) in
     unfounded c past entries twelve nine

@@ -1,6 +1,6 @@
 -- Lists of accesses that are good one after the other: in no recording of them there is a warning without a cause.
-use Rattle.std.proofs.Common.{◌≡◌, ℕ, zero, suc, Bool, true, false, not, ◌==◌, ◌&&◌, List, [], ◌∷◌, ◌++◌, Option, Some, None, refl, sym, ◌∙◌}
-use Rattle.std.proofs.Common.{ap, subst, arith, if◌then◌else◌}
+use Rattle.std.proofs.Common.{◌≡◌, ℕ, zero, suc, Bool, true, false, not, ◌==◌, ◌&&◌, List, [], ◌∷◌, ◌++◌, Option, Some, None, refl, sym}
+use Rattle.std.proofs.Common.{subst, arith, if◌then◌else◌}
 use Rattle.std.specs.Prelude.{nat_lt}
 use Rattle.std.proofs.lemmas.Grind.{common_steps}
 use Rattle.uart_spec.specs.Bits.{has}
@@ -43,7 +43,8 @@ looked_by (Write register value) before = if register == offsets.FCR then false 
 abbrev pub by : RegisterAccess → Stage → Stage
 by x f = record { opened = opened_by x f.opened; held = held_by x f.held; looked = looked_by x f.looked }
 
--- a read: it shows what gives no other cause; an interrupt is pending only where ISR may be read so; DLAB is off where LSR is read; and LSR showed a byte where DATA is read
+-- a read: it shows what gives no other cause; an interrupt is pending only where ISR may be read so; DLAB is off where LSR is read; and
+-- LSR showed a byte where DATA is read
 pub record GoodRead (c : Causes) (line : ℕ) (f : Stage) (register answer : ℕ) : Type 0 where
   pub real : nat_lt register 8 ≡ true
   pub shows : ShowsFor c line f.opened register answer
@@ -52,7 +53,8 @@ pub record GoodRead (c : Causes) (line : ℕ) (f : Stage) (register answer : ℕ
   pub shut : register ≡ offsets.LSR → f.opened ≡ false
   pub looked : register ≡ offsets.DATA → f.opened ≡ false → c.fifos_are_off ≡ false → f.looked ≡ true
 
--- a write: LCR gets what it has, and MCR nothing; DLAB is off where DATA or IER is written; a byte fits, and goes out after CTS was checked;
+-- a write: LCR gets what it has, and MCR nothing; DLAB is off where DATA or IER is written; a byte fits, and goes out after CTS was
+-- checked;
 -- no interrupt is enabled; and the FIFOs stay on
 pub record GoodWrite (c : Causes) (line : ℕ) (f : Stage) (register value : ℕ) : Type 0 where
   pub real : nat_lt register 8 ≡ true

@@ -1,5 +1,6 @@
 -- What the caller of our own driver gives cause for, and which warning has which cause.
-use Rattle.std.specs.Prelude.{◌≡◌, ℕ, Bool, true, false, ◌&&◌, not, if◌then◌else◌, List, [], ◌∷◌, Option, Some, None, bit_or}
+use Rattle.std.specs.Prelude.{◌≡◌, ℕ, Bool, true, false, ◌&&◌, ◌||◌, not, if◌then◌else◌, List, [], ◌∷◌, Option, Some}
+use Rattle.std.specs.Prelude.{None, bit_or}
 use Rattle.std.specs.List.{AllByRecursion}
 use Rattle.uart_spec.specs.Bits.{has}
 use Rattle.uart_spec.specs.declared.access.Access.{Access}
@@ -12,7 +13,7 @@ use Rattle.uart_16550.specs.Driver.{Fields}
 use Rattle.uart_16550.specs.Expansion.{expansion}
 use Rattle.uart_events.specs.declared.call.Call.{Call}
 use Rattle.uart_events.specs.declared.call.Call.TheVariants as call
-use Rattle.uart_chip.specs.Chip.{LatchesState}
+use Rattle.uart_chip.specs.Machine.{MachineState}
 use Rattle.uart_judges.specs.Findings.{enables_some, is_cut_off, is_held, is_zero}
 use Rattle.uart_judges.specs.Severities.{severity}
 use Rattle.uart_judges.specs.Shows.{is_cut}
@@ -23,6 +24,7 @@ use Rattle.uart_judges.specs.declared.audit.finding.Severity.{Severity}
 use Rattle.uart_judges.specs.declared.audit.finding.Severity.TheVariants.{Warning}
 use Rattle.uart_judges_runs.specs.Calls.{opened_by}
 use Rattle.uart_judges_runs.specs.Lost.{IsSo}
+use Rattle.uart_judges_runs.specs.Runs.{IsOpenTo}
 
 -- ---- the causes
 
@@ -40,19 +42,6 @@ pub record Causes : Type 0 where
   pub fifos_are_off : Bool
   pub divisor_is_zero : Bool
 
-abbrev pub no_cause : Causes
-no_cause = record {
-  break_is_sent = false;
-  bytes_are_cut = false;
-  cts_is_unchecked = false;
-  msr_is_read = false;
-  interrupts_are_on = false;
-  isr_is_read = false;
-  out2_is_off = false;
-  fifos_are_off = false;
-  divisor_is_zero = false;
-}
-
 -- the finding has one of these causes
 abbrev pub has_cause : Causes → Finding → Bool
 has_cause c (found.SentInBreak byte) = c.break_is_sent
@@ -64,6 +53,14 @@ has_cause c found.ZeroDivisor = c.divisor_is_zero
 has_cause c (found.NotServed identified) = c.interrupts_are_on && c.isr_is_read
 has_cause c (found.LeftWithLineUp line) = c.interrupts_are_on && c.isr_is_read
 has_cause c _ = false
+
+-- some finding has one of these causes
+abbrev pub cause_some : Causes → Bool
+cause_some c =
+    c.break_is_sent
+    || (c.bytes_are_cut
+    || ((c.cts_is_unchecked && c.msr_is_read)
+    || ((c.interrupts_are_on && (c.isr_is_read || c.out2_is_off)) || (c.fifos_are_off || c.divisor_is_zero))))
 
 abbrev pub is_the_drivers : Severity → Bool
 is_the_drivers Warning = true
@@ -152,12 +149,17 @@ AreShownFrom c line opened (access ∷ accesses) =
 abbrev pub AreShownFor : Causes → (line : ℕ) → List Access → Type 0
 AreShownFor c line accesses = AreShownFrom c line false accesses
 
--- nor do the latches of a chip
-pub record IsLatchedFor (c : Causes) (latches : LatchesState) : Type 0 where
-  pub interrupts : c.interrupts_are_on ≡ false → enables_some (Some (record { 0 = latches.ier })) ≡ false
-  pub out2 : c.out2_is_off ≡ false → is_cut_off (Some (record { 0 = latches.mcr })) ≡ false
+-- nor does what a session begins with: DLAB and loopback are off, and the FIFOs are as the driver takes them to be; no
+-- interrupt is enabled; OUT2 is on; nor do the driver's fields, and the calls
+pub record GivesOnly (c : Causes) (calls : List Call) (f : Fields) (m : MachineState) : Type 0 where
+  pub begins : IsOpenTo f m
+  pub interrupts : c.interrupts_are_on ≡ false → enables_some (Some (record { 0 = m.chip.latches.ier })) ≡ false
+  pub out2 : c.out2_is_off ≡ false → is_cut_off (Some (record { 0 = m.chip.latches.mcr })) ≡ false
+  pub set_up : IsSetUpFor c m.chip.latches.lcr f
+  pub asks : AllByRecursion (AsksFor c m.chip.latches.lcr) calls
 
--- nor does what the judge knows before: of LCR what it is; of no interrupt that is enabled, and of no handler that is at
+-- nor does what the judge knows before: of LCR what it is; of no interrupt that is enabled, and of no handler that is
+-- at
 -- work; not that CTS is clear; not that OUT2 is off; and not that the divisor is zero
 pub record KnowsFor (c : Causes) (line : ℕ) (a : Auditor) : Type 0 where
   pub lcr : IsSo a.setup.line (λ lcr. lcr.0 ≡ line)
@@ -165,4 +167,5 @@ pub record KnowsFor (c : Causes) (line : ℕ) (a : Auditor) : Type 0 where
   pub not_handling : (c.interrupts_are_on && c.isr_is_read) ≡ false → a.is_handling ≡ false
   pub clear : c.cts_is_unchecked ≡ true → c.msr_is_read ≡ false → is_held a.cts ≡ false
   pub out2 : c.out2_is_off ≡ false → is_cut_off a.setup.modem ≡ false
-  pub divisor : c.divisor_is_zero ≡ false → (is_zero a.setup.divisor.low && is_zero a.setup.divisor.high) ≡ false
+  pub divisor : c.divisor_is_zero ≡ false →
+      (is_zero a.setup.divisor.low && is_zero a.setup.divisor.high) ≡ false

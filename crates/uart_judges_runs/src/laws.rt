@@ -2,7 +2,6 @@
 //!
 //! The contract of each function is a law that callers can cite. The functions do nothing.
 ghost use Rattle.std.specs.Prelude.{◌≡◌, ℕ, false, List, [], ◌∷◌};
-ghost use Rattle.std.specs.List.{AllByRecursion};
 ghost use Rattle.uart_spec.specs.declared.access.Access.{Access};
 ghost use Rattle.uart_spec.specs.declared.access.Access.TheVariants.{Read, Write};
 ghost use Rattle.uart_spec.specs.declared.registers.offsets.TheConstants as offsets;
@@ -17,9 +16,9 @@ ghost use Rattle.uart_judges.specs.History.{known};
 ghost use Rattle.uart_judges.specs.declared.recording.entry.Entry.{Entry};
 ghost use Rattle.uart_judges.specs.declared.recording.entry.Happening.TheVariants as happening;
 ghost use Rattle.uart_judges_runs.specs.Calls.{IsSteady, AreTaken, KnowsAsTaken};
-ghost use Rattle.uart_judges_runs.specs.Causes.{AreShownFor, AsksFor, Causes, IsLatchedFor};
-ghost use Rattle.uart_judges_runs.specs.Causes.{IsSetUpFor, KnowsFor, is_unfounded, is_warning};
-ghost use Rattle.uart_judges_runs.specs.Causes.{no_cause};
+ghost use Rattle.uart_judges_runs.specs.Causes.{AreShownFor, AsksFor, Causes, GivesOnly};
+ghost use Rattle.uart_judges_runs.specs.Causes.{IsSetUpFor, KnowsFor, cause_some, is_unfounded};
+ghost use Rattle.uart_judges_runs.specs.Causes.{is_warning};
 ghost use Rattle.uart_judges_runs.specs.Lost.{IsRight, KnowsDlab, KnowsWhatIs};
 ghost use Rattle.uart_judges_runs.specs.Recorded.{HasNone, accesses_in, is_of_calls};
 ghost use Rattle.uart_judges_runs.specs.Runs.{IsOpenTo, IsSession};
@@ -46,7 +45,7 @@ pub fn sessions_are_not_warned()
 {}
 
 /// Of each call in a session, over whatever backend: each warning in the recording of its accesses
-/// has one of these causes, if the caller and the chip give no other.
+/// has one of these causes, if the call, the driver and what is read give no other.
 pub fn warned_calls_have_a_cause()
     ensures { (causes : Causes) (line : ℕ) (call : Call) (before after : Fields)
         (accesses : List Access) (answer : Answer) (past entries : List Entry) → IsSteady call →
@@ -57,24 +56,20 @@ pub fn warned_calls_have_a_cause()
         HasNone (is_unfounded causes) past entries }
 {}
 
-/// Of a session over the software chip, whatever its schedule: each warning in its recording has one
-/// of these causes, if the caller gives no other. If it gives none, there is no warning.
+/// Of a session over the software chip, whatever its schedule: each warning in its recording has
+/// one of these causes, if the calls, the driver and the chip give no other. If they cause none,
+/// there is no warning.
 pub fn warned_sessions_have_a_cause()
     ensures caused { (causes : Causes) (calls : List Call) (fields : Fields)
         (accesses : List Access) (old new : MachineState) (past entries : List Entry) →
-        IsOpenTo fields old → IsLatchedFor causes old.chip.latches →
-        IsSetUpFor causes old.chip.latches.lcr fields →
-        AllByRecursion (AsksFor causes old.chip.latches.lcr) calls →
+        GivesOnly causes calls fields old → IsSession calls fields old accesses new →
+        KnowsAsTaken fields.fifo (known past) → KnowsFor causes old.chip.latches.lcr (known past) →
+        accesses_in entries ≡ accesses → HasNone (is_unfounded causes) past entries }
+    ensures none { (causes : Causes) (calls : List Call) (fields : Fields)
+        (accesses : List Access) (old new : MachineState) (past entries : List Entry) →
+        cause_some causes ≡ false → GivesOnly causes calls fields old →
         IsSession calls fields old accesses new → KnowsAsTaken fields.fifo (known past) →
         KnowsFor causes old.chip.latches.lcr (known past) → accesses_in entries ≡ accesses →
-        HasNone (is_unfounded causes) past entries }
-    ensures none { (calls : List Call) (fields : Fields) (accesses : List Access)
-        (old new : MachineState) (past entries : List Entry) → IsOpenTo fields old →
-        IsLatchedFor no_cause old.chip.latches →
-        IsSetUpFor no_cause old.chip.latches.lcr fields →
-        AllByRecursion (AsksFor no_cause old.chip.latches.lcr) calls →
-        IsSession calls fields old accesses new → KnowsAsTaken fields.fifo (known past) →
-        KnowsFor no_cause old.chip.latches.lcr (known past) → accesses_in entries ≡ accesses →
         HasNone is_warning past entries }
 {}
 
