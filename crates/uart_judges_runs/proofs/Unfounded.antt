@@ -201,3 +201,19 @@ unfounded_call c line call before after accesses answer past entries steady asks
     (subst (λ (l : List RegisterAccess). Walks c line f l) (sym is) walks)
     (settled_at_first c line before (known past) set knows knows_for) in
     unfounded c past entries twelve nine
+
+-- ---- a judge that knows nothing
+
+pub known_at_first : (fifo : Bool) → KnowsAsTaken fifo (known [])
+known_at_first true = record { dlab = refl; loopback = refl; room = omega arith }
+known_at_first false = record { dlab = refl; loopback = refl; room = omega arith }
+
+pub known_for_at_first : (c : Causes) (line : ℕ) → KnowsFor c line (known [])
+known_for_at_first c line = record {
+  lcr = tt;
+  interrupts = λ e. refl;
+  not_handling = λ e. refl;
+  clear = λ e g. refl;
+  out2 = λ e. refl;
+  divisor = λ e. refl;
+}

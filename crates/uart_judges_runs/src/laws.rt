@@ -1,7 +1,7 @@
 //! Laws of the judge of a driver, and of our own driver.
 //!
 //! The contract of each function is a law that callers can cite. The functions do nothing.
-ghost use Rattle.std.specs.Prelude.{◌≡◌, ℕ, false, List, [], ◌∷◌};
+ghost use Rattle.std.specs.Prelude.{◌≡◌, ℕ, Bool, false, List, [], ◌∷◌};
 ghost use Rattle.uart_spec.specs.declared.access.Access.{Access};
 ghost use Rattle.uart_spec.specs.declared.access.Access.TheVariants.{Read, Write};
 ghost use Rattle.uart_spec.specs.declared.registers.offsets.TheConstants as offsets;
@@ -71,6 +71,13 @@ pub fn warned_sessions_have_a_cause()
         IsSession calls fields old accesses new → KnowsAsTaken fields.fifo (known past) →
         KnowsFor causes old.chip.latches.lcr (known past) → accesses_in entries ≡ accesses →
         HasNone is_warning past entries }
+{}
+
+/// Of a recording that begins with the driver: the judge knows nothing before it, and so nothing
+/// that is against the driver, and of no cause.
+pub fn nothing_is_known_at_first()
+    ensures taken { (fifo : Bool) → KnowsAsTaken fifo (known []) }
+    ensures causes { (causes : Causes) (line : ℕ) → KnowsFor causes line (known []) }
 {}
 
 /// Of a recording of the software chip, a 16550A under any schedule, made by any driver: each
