@@ -126,7 +126,7 @@ module _ (c : Causes) (line : ℕ) (f : Fields) (set : IsSetUpFor c line f) wher
   good_list (call.Restore dump) after l a i k h = absurd i
   good_list (call.CheckConfigured outputs) after l a i k h =
       good.leads_check c line f.fifo s.checks set.dlab set.fifos s
-      (may_read c.isr_is_read k.isr) f.config outputs.0 set.interrupts h.outcome l h.does.0
+      (may_read c.isr_is_read k.isr) f.config outputs.0 h.outcome l h.does.0
   good_list call.TestLoopback after l a i k h = absurd i
   good_list call.CheckPresent after l a i k h = good.leads_presence c line f.fifo s.checks set.dlab set.fifos s h.outcome l h.does.0
   good_list call.CheckConnected after l a i k h = let t = h.does.0 in one_list offsets.MSR t.0 refl refl

@@ -672,10 +672,29 @@ module _ (c : Causes) (line : ℕ) (fifo checks : Bool) where
       shows_fifos_leads may interrupts none (Ok x) l (isr, same, is) = rw is (fifo_leads may interrupts isr none)
       shows_fifos_leads may interrupts none (Err e) l (isr, wrong, told, is) = rw is (fifo_leads may interrupts isr none)
 
-      all_leads : c.isr_is_read ≡ true → (frame outputs interrupts divisor : ℕ) →
-          (c.interrupts_are_on ≡ false → enables_some (Some (record { 0 = interrupts })) ≡ false) → (v : Verdict) →
+      -- IER shows these interrupts, so what comes then may write them
+      shown_leads : (interrupts : ℕ) (Q : Verdict → Language) →
+          ((c.interrupts_are_on ≡ false → enables_some (Some (record { 0 = interrupts })) ≡ false) → (v : Verdict) → AllLead s (Q v)) →
+          (v : Verdict) (l : List RegisterAccess) → ShowsInterrupts interrupts (Ok tt) s l → (back : List RegisterAccess) →
+          Q v s back → Leads false false (l ++ back)
+      shown_leads interrupts Q q v l (shown, right, is) back t =
+          rw is
+          (λ held looked h seen. leads-append false false false (Read offsets.IER shown ∷ []) back
+          (reads offsets.IER shown refl refl (differ offsets.IER offsets.ISR refl) (differ offsets.IER offsets.MSR refl))
+          (q (λ e. ap (λ (x : ℕ). enables_some (Some (record { 0 = x }))) (sym right) ∙ seen.0.enabled refl refl e) v back t)
+          held looked h seen)
+
+      enabled_leads : (interrupts : ℕ) (Q : Verdict → Language) →
+          ((c.interrupts_are_on ≡ false → enables_some (Some (record { 0 = interrupts })) ≡ false) → (v : Verdict) → AllLead s (Q v)) →
+          (v : Verdict) → AllLead s (InTurn (ShowsInterrupts interrupts) Q v)
+      enabled_leads interrupts Q q (Ok tt) l t = rw t.whole (shown_leads interrupts Q q (Ok tt) t.front t.first t.back t.second)
+      enabled_leads interrupts Q q (Err e) l (inl (shown, wrong, told, is)) =
+          rw is (reads offsets.IER shown refl refl (differ offsets.IER offsets.ISR refl) (differ offsets.IER offsets.MSR refl))
+      enabled_leads interrupts Q q (Err e) l (inr t) = rw t.whole (shown_leads interrupts Q q (Err e) t.front t.first t.back t.second)
+
+      all_leads : c.isr_is_read ≡ true → (frame outputs interrupts divisor : ℕ) (v : Verdict) →
           AllLead s (ShowsAll frame outputs interrupts divisor v)
-      all_leads may frame outputs interrupts divisor none =
+      all_leads may frame outputs interrupts divisor =
           let latch : Verdict → Language = InTurn (ShowsDivisor divisor) (ShowsFifos interrupts) in
           let enabled : Verdict → Language = InTurn (ShowsInterrupts interrupts) latch in
           let control : Verdict → Language = InTurn (ShowsOutputs outputs) enabled in
@@ -683,19 +702,15 @@ module _ (c : Causes) (line : ℕ) (fifo checks : Bool) where
           (λ answer. reads offsets.LCR answer refl refl (differ offsets.LCR offsets.ISR refl) (differ offsets.LCR offsets.MSR refl)) in
           let outs = shows_leads offsets.MCR _ _ false
           (λ answer. reads offsets.MCR answer refl refl (differ offsets.MCR offsets.ISR refl) (differ offsets.MCR offsets.MSR refl)) in
-          let ints = shows_leads offsets.IER _ _ false
-          (λ answer. reads offsets.IER answer refl refl (differ offsets.IER offsets.ISR refl) (differ offsets.IER offsets.MSR refl)) in
           in_turn_leads false false false (ShowsFrame frame) control (λ u. frames (Ok u)) (λ f. frames (Err f))
           (in_turn_leads false false false (ShowsOutputs outputs) enabled (λ u. outs (Ok u)) (λ f. outs (Err f))
-          (in_turn_leads false false false (ShowsInterrupts interrupts) latch (λ u. ints (Ok u)) (λ f. ints (Err f))
-          (in_turn_leads false false false (ShowsDivisor divisor) (ShowsFifos interrupts) (λ u. shows_divisor_leads divisor (Ok u))
+          (enabled_leads interrupts latch
+          (λ none. in_turn_leads false false false (ShowsDivisor divisor) (ShowsFifos interrupts) (λ u. shows_divisor_leads divisor (Ok u))
           (λ f. shows_divisor_leads divisor (Err f)) (shows_fifos_leads may interrupts none))))
 
-      pub leads_check : c.isr_is_read ≡ true → (config : Config) (outputs : ℕ) →
-          (c.interrupts_are_on ≡ false → enables_some (Some (record { 0 = config.interrupts.0 })) ≡ false) → (v : Verdict) →
-          AllLead s (ChecksConfigured config outputs v)
-      leads_check may config outputs none (Ok u) l (divisor, is, t) =
-          all_leads may (frame_bits config) (unlooped outputs) config.interrupts.0 divisor none (Ok u) l t
-      leads_check may config outputs none (Err e) l (inl (nothing, told, is)) = rw is turn.none
-      leads_check may config outputs none (Err e) l (inr (divisor, is, t)) =
-          all_leads may (frame_bits config) (unlooped outputs) config.interrupts.0 divisor none (Err e) l t
+      pub leads_check : c.isr_is_read ≡ true → (config : Config) (outputs : ℕ) (v : Verdict) → AllLead s (ChecksConfigured config outputs v)
+      leads_check may config outputs (Ok u) l (divisor, is, t) =
+          all_leads may (frame_bits config) (unlooped outputs) config.interrupts.0 divisor (Ok u) l t
+      leads_check may config outputs (Err e) l (inl (nothing, told, is)) = rw is turn.none
+      leads_check may config outputs (Err e) l (inr (divisor, is, t)) =
+          all_leads may (frame_bits config) (unlooped outputs) config.interrupts.0 divisor (Err e) l t

@@ -21,7 +21,7 @@ use Rattle.uart_chip.proofs.Bits.{has_one}
 use Rattle.uart_judges.specs.Findings.{enables_some, is_cut_off}
 use Rattle.uart_run.proofs.Latches.{Kept, kept_in, keep, keep_control, keep_write, kept_access, kept_step}
 use Rattle.uart_judges_runs.specs.Calls.{AreTakenFrom, opened_by}
-use Rattle.uart_judges_runs.specs.Causes.{AreShownFrom, Causes, IsShownFor, ShowsFor, line_while}
+use Rattle.uart_judges_runs.specs.Causes.{Causes, IsShownFor, ShowsFor, line_while}
 use Rattle.uart_judges_runs.proofs.GoodLists.{Causal, zero_of}
 use Rattle.uart_judges_runs.proofs.Settled.{Stage}
 use Rattle.uart_judges_runs.proofs.Walks.{GoodWrite, IsGood, Walks, by}
@@ -155,16 +155,7 @@ module _ (c : Causes) (line : ℕ) (off : has line lcr_bits.DLAB.0 ≡ false) wh
   -- ---- a list of them
 
   module _ (fifo : Bool) where
-    -- what is read shows no other cause
-    pub path_shown : (l : List RegisterAccess) (f : Stage) (m n : MachineState) (End : Stage → Type 0) → Causal c line fifo f l End →
-        AreTakenFrom fifo f.opened l → Path MachineStep m l n → HoldsIn c line f.opened m → AreShownFrom c line f.opened l
-    path_shown [] f m n End p taken path h = tt
-    path_shown (x ∷ l) f m n End p taken path h =
-        let shown = shown_chip f.opened x m path.0 path.1 h in
-        let r = p (shown, taken.0) in
-        (shown, path_shown l (by x f) path.0 n End r.1 taken.1 path.2 (holds_step f x m path.0 r.0 path.1 h))
-
-    -- so the accesses are good, and what follows them if it is so then
+    -- they are good, and what follows them if it is so then
     pub path_walks : (l rest : List RegisterAccess) (f : Stage) (m n : MachineState) (End : Stage → Type 0) → Causal c line fifo f l End →
         AreTakenFrom fifo f.opened l → Path MachineStep m l n → HoldsIn c line f.opened m →
         ((g : Stage) → End g → HoldsIn c line g.opened n → Walks c line g rest) → Walks c line f (l ++ rest)

@@ -121,7 +121,6 @@ pub record IsSetUpFor (c : Causes) (line : ℕ) (f : Fields) : Type 0 where
   pub dlab : has line LCR.DLAB.0 ≡ false
   pub not_in_break : c.break_is_sent ≡ false → has line LCR.SET_BREAK.0 ≡ false
   pub checks : c.cts_is_unchecked ≡ false → f.config.check_cts_before_sending ≡ true
-  pub interrupts : c.interrupts_are_on ≡ false → enables_some (Some f.config.interrupts) ≡ false
   pub fifos : c.fifos_are_off ≡ false → f.fifo ≡ true
 
 -- LCR as it is while DLAB is on, or off
