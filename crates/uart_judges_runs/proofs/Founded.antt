@@ -174,7 +174,8 @@ module _ (c : Causes) where
       (with_cause (cuts now.line byte) (found.WordTooShort byte) None (λ e. whole (not_true c.bytes_are_cut e)) nothing))
 
   -- CTS is not known to be clear
-  pub flow_founded : (a : Auditor) (s : Step) (b : Bool) → ((c.cts_is_unchecked && c.msr_is_read) ≡ false → is_held a.cts ≡ false) →
+  pub flow_founded : (a : Auditor) (s : Step) (b : Bool) →
+      ((c.cts_is_unchecked && c.msr_is_read) ≡ false → (is_held a.cts && a.was_cts_set) ≡ false) →
       Founded c (if b then None
       else if loops_back s.setup.modem then None
       else when ((is_held a.cts && a.was_cts_set) && asks_for_cts a s.setup) found.SentWithoutCts)
@@ -182,7 +183,7 @@ module _ (c : Causes) where
       founded_if b _ _ nothing (founded_if (loops_back s.setup.modem) _ _ nothing
       (with_cause ((is_held a.cts && a.was_cts_set) && asks_for_cts a s.setup) found.SentWithoutCts None
       (λ e. and_left (is_held a.cts && a.was_cts_set) (asks_for_cts a s.setup)
-      (and_left (is_held a.cts) a.was_cts_set (free (not_true (c.cts_is_unchecked && c.msr_is_read) e)))) nothing))
+      (free (not_true (c.cts_is_unchecked && c.msr_is_read) e))) nothing))
 
   -- no interrupt is enabled, or OUT2 is on
   uncut : (on off x y : Bool) → not (on && off) ≡ true → (on ≡ false → x ≡ false) → (off ≡ false → y ≡ false) → (x && y) ≡ false

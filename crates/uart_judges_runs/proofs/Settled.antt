@@ -4,7 +4,7 @@ use Rattle.std.proofs.Common.{◌∙◌, ap, arith, if◌then◌else◌, bit_and
 use Rattle.std.specs.Prelude.{nat_lt, find}
 use Rattle.std.specs.Option.{option_or}
 use Rattle.std.specs.Int.{bit_at}
-use Rattle.std.proofs.lemmas.Bool.{and_right}
+use Rattle.std.proofs.lemmas.Bool.{and_left, and_right}
 use Rattle.std.proofs.lemmas.Grind.{common_steps}
 use Rattle.std.proofs.lemmas.Nat.{and_assoc}
 use lib.Bits.{or_zero_r}
@@ -29,7 +29,7 @@ use Rattle.uart_judges.specs.History.{cts_after, next, next_since, step_from}
 use Rattle.uart_judges.specs.Setups.{next_is_open}
 use Rattle.uart_judges.specs.Shows.{arrives, fifo_of, high_of, identified, identified_by, interrupts_of, is_cut, line_of, low_of, modem_of}
 use Rattle.uart_judges.specs.Shows.{sends, shows_none}
-use Rattle.uart_judges.specs.Steps.{loops_back}
+use Rattle.uart_judges.specs.Steps.{cts_in, loops_back}
 use Rattle.uart_judges.specs.Unread.{after_arrival, and, arrived_after, front, seen, unknown, unread_after}
 use Rattle.uart_judges.specs.declared.audit.action.Action.{Action}
 use Rattle.uart_judges.specs.declared.audit.action.Action.TheVariants.{Arrives, Receives, Sends, SetsDivisorLow, SetsDivisorHigh}
@@ -119,7 +119,7 @@ pub record Settled (c : Causes) (line : ℕ) (f : Stage) (a : Auditor) : Type 0 
   pub out2 : c.out2_is_off ≡ false → is_cut_off a.setup.modem ≡ false
   pub divisor : c.divisor_is_zero ≡ false → (is_zero a.setup.divisor.low && is_zero a.setup.divisor.high) ≡ false
   pub fifos : c.fifos_are_off ≡ false → IsSo a.setup.has_fifo (λ on. on ≡ true)
-  pub clear : (c.cts_is_unchecked && c.msr_is_read) ≡ false → f.held ≡ false → is_held a.cts ≡ false
+  pub clear : (c.cts_is_unchecked && c.msr_is_read) ≡ false → f.held ≡ false → (is_held a.cts && a.was_cts_set) ≡ false
   pub seen : c.fifos_are_off ≡ false → f.looked ≡ true → IsSeen a.unread
 
 -- ---- what an action is to be
@@ -211,11 +211,16 @@ module _ (c : Causes) (line : ℕ) (f : Stage) (off : has line lcr_bits.DLAB.0 �
   fifos_next o (IdentifiesInterrupt isr) h on so = h.1 on
   fifos_next o _ h on so = so
 
-  clear_next : (cts : Option Bool) (x : Action) → (f.held ≡ false → is_held cts ≡ false) → held_at x f.held ≡ false →
-      is_held (cts_after cts x) ≡ false
-  clear_next cts (LooksAtModem msr) clear e = e
-  clear_next cts (Sends byte) clear e = refl
-  clear_next cts _ clear e = clear e
+  kept_and : (b d : Bool) → (b && d) ≡ false → (b && next_since d false false) ≡ false
+  kept_and true true e = absurd (cc)
+  kept_and true false e = refl
+  kept_and false d e = refl
+
+  clear_next : (cts : Option Bool) (was looped : Bool) (x : Action) → (f.held ≡ false → (is_held cts && was) ≡ false) →
+      held_at x f.held ≡ false → (is_held (cts_after cts x) && next_since was false (cts_in looped x)) ≡ false
+  clear_next cts was looped (LooksAtModem msr) clear e = and_left (not (has msr.0 msr_bits.CTS.0)) _ e
+  clear_next cts was looped (Sends byte) clear e = refl
+  clear_next cts was looped _ clear e = kept_and (is_held cts) was (clear e)
 
   seen_look : (u : Unread) (o : Option Arrived) → IsSeen (seen u o)
   seen_look u None = inr (refl, refl)
@@ -266,7 +271,7 @@ module _ (c : Causes) (line : ℕ) (f : Stage) (off : has line lcr_bits.DLAB.0 �
         out2 = λ on. out2_next a.setup.modem s.action h on (k.out2 on);
         divisor = λ some. divisor_next a.setup.divisor.low a.setup.divisor.high s.action h (k.divisor some);
         fifos = λ on. fifos_next a.setup.has_fifo s.action h on (k.fifos on);
-        clear = λ checks. clear_next a.cts s.action (k.clear checks);
+        clear = λ checks. clear_next a.cts a.was_cts_set (loops_back a.setup.modem) s.action (k.clear checks);
         seen = λ on. seen_next a.unread s s.action (k.fifos on) (k.seen on);
       }
 
@@ -292,7 +297,7 @@ module _ (c : Causes) (line : ℕ) (f : Stage) (off : has line lcr_bits.DLAB.0 �
     output_at now _ so h = founded.nothing c
 
     flow_at : (x : Action) → Harmless c line f x →
-        ((c.cts_is_unchecked && c.msr_is_read) ≡ false → f.held ≡ false → is_held a.cts ≡ false) →
+        ((c.cts_is_unchecked && c.msr_is_read) ≡ false → f.held ≡ false → (is_held a.cts && a.was_cts_set) ≡ false) →
         Founded c (if not (sends x) then None
         else if loops_back s.setup.modem then None
         else when ((is_held a.cts && a.was_cts_set) && asks_for_cts a s.setup) found.SentWithoutCts)

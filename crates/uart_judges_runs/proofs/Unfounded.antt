@@ -180,7 +180,8 @@ settled_at_first c line f a set taken k = record {
   out2 = k.out2;
   divisor = k.divisor;
   fifos = λ on. on_room f.fifo a.setup.has_fifo (set.fifos on) taken.room;
-  clear = λ n g. unheld c.cts_is_unchecked f.config.check_cts_before_sending c.msr_is_read (is_held a.cts) set.checks k.clear n g;
+  clear = λ n g. unheld c.cts_is_unchecked f.config.check_cts_before_sending c.msr_is_read
+      (is_held a.cts && a.was_cts_set) set.checks k.clear n g;
   seen = λ e g. absurd (cc);
 }
 

@@ -159,12 +159,12 @@ pub record GivesOnly (c : Causes) (calls : List Call) (f : Fields) (m : MachineS
 
 -- nor does what the judge knows before: of LCR what it is; of no interrupt that is enabled, and of no handler that is
 -- at
--- work; not that CTS is clear; not that OUT2 is off; and not that the divisor is zero
+-- work; not that CTS is clear, once it was set; not that OUT2 is off; and not that the divisor is zero
 pub record KnowsFor (c : Causes) (line : ℕ) (a : Auditor) : Type 0 where
   pub lcr : IsSo a.setup.line (λ lcr. lcr.0 ≡ line)
   pub interrupts : c.interrupts_are_on ≡ false → enables_some a.setup.interrupts ≡ false
   pub not_handling : (c.interrupts_are_on && c.isr_is_read) ≡ false → a.is_handling ≡ false
-  pub clear : c.cts_is_unchecked ≡ true → c.msr_is_read ≡ false → is_held a.cts ≡ false
+  pub clear : c.cts_is_unchecked ≡ true → c.msr_is_read ≡ false → (is_held a.cts && a.was_cts_set) ≡ false
   pub out2 : c.out2_is_off ≡ false → is_cut_off a.setup.modem ≡ false
   pub divisor : c.divisor_is_zero ≡ false →
       (is_zero a.setup.divisor.low && is_zero a.setup.divisor.high) ≡ false
