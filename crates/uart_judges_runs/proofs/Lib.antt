@@ -21,3 +21,4 @@ pub mod GoodCalls
 pub mod Unfounded
 pub mod ShownLatches
 pub mod UnfoundedSessions
+pub mod Initialised

@@ -5,6 +5,7 @@ use Rattle.std.specs.List.{AllByRecursion}
 use Rattle.uart_spec.specs.Bits.{has}
 use Rattle.uart_spec.specs.declared.access.Access.{Access}
 use Rattle.uart_spec.specs.declared.access.Access.TheVariants.{Read, Write}
+use Rattle.uart_spec.specs.declared.config.Config.{Config}
 use Rattle.uart_spec.specs.declared.registers.interrupt_enable.IER.{IER}
 use Rattle.uart_spec.specs.declared.registers.interrupt_status.TheConstants.ISR
 use Rattle.uart_spec.specs.declared.registers.line_control.TheConstants.LCR
@@ -13,6 +14,7 @@ use Rattle.uart_16550.specs.Driver.{Fields}
 use Rattle.uart_16550.specs.Expansion.{expansion}
 use Rattle.uart_events.specs.declared.call.Call.{Call}
 use Rattle.uart_events.specs.declared.call.Call.TheVariants as call
+use Rattle.uart_events.specs.declared.event.Chip.{Chip}
 use Rattle.uart_chip.specs.Machine.{MachineState}
 use Rattle.uart_judges.specs.Findings.{enables_some, is_cut_off, is_held, is_zero}
 use Rattle.uart_judges.specs.Severities.{severity}
@@ -22,6 +24,7 @@ use Rattle.uart_judges.specs.declared.audit.finding.Finding.{Finding}
 use Rattle.uart_judges.specs.declared.audit.finding.Finding.TheVariants as found
 use Rattle.uart_judges.specs.declared.audit.finding.Severity.{Severity}
 use Rattle.uart_judges.specs.declared.audit.finding.Severity.TheVariants.{Warning}
+use Rattle.uart_run.specs.Ready.{has_fifo, is_level}
 use Rattle.uart_judges_runs.specs.Calls.{opened_by}
 use Rattle.uart_judges_runs.specs.Lost.{IsSo}
 use Rattle.uart_judges_runs.specs.Runs.{IsOpenTo}
@@ -156,6 +159,12 @@ pub record GivesOnly (c : Causes) (calls : List Call) (f : Fields) (m : MachineS
   pub out2 : c.out2_is_off ≡ false → is_cut_off (Some (record { 0 = m.chip.latches.mcr })) ≡ false
   pub set_up : IsSetUpFor c m.chip.latches.lcr f
   pub asks : AllByRecursion (AsksFor c m.chip.latches.lcr) calls
+
+-- nor does a configuration, with which a chip of this model is set up
+pub record IsConfiguredFor (c : Causes) (config : Config) (model : Chip) : Type 0 where
+  pub checks : c.cts_is_unchecked ≡ false → config.check_cts_before_sending ≡ true
+  pub interrupts : c.interrupts_are_on ≡ false → enables_some (Some config.interrupts) ≡ false
+  pub fifos : c.fifos_are_off ≡ false → (is_level config.fifo_trigger_level && has_fifo model) ≡ true
 
 -- nor does what the judge knows before: of LCR what it is; of no interrupt that is enabled, and of no handler that is
 -- at

@@ -1,24 +1,31 @@
 //! Laws of the judge of a driver, and of our own driver.
 //!
 //! The contract of each function is a law that callers can cite. The functions do nothing.
-ghost use Rattle.std.specs.Prelude.{◌≡◌, ℕ, Bool, false, List, [], ◌∷◌};
+ghost use Rattle.std.specs.Prelude.{◌≡◌, ◌<◌, ℕ, Bool, false, List, [], ◌∷◌};
+ghost use Rattle.std.specs.List.{AllByRecursion};
 ghost use Rattle.uart_spec.specs.declared.access.Access.{Access};
 ghost use Rattle.uart_spec.specs.declared.access.Access.TheVariants.{Read, Write};
 ghost use Rattle.uart_spec.specs.declared.registers.offsets.TheConstants as offsets;
-ghost use Rattle.uart_16550.specs.Driver.{Fields};
+ghost use Rattle.uart_spec.specs.declared.config.Config.{Config};
+ghost use Rattle.uart_spec.specs.declared.registers.frame.WordLength.TheVariants.{EightBits};
+ghost use Rattle.uart_16550.specs.Driver.{Fields, fields};
+ghost use Rattle.uart_16550.specs.Init.{frame_bits};
+ghost use Rattle.uart_16550.specs.Tty.{inner_of};
 ghost use Rattle.uart_events.specs.declared.call.Call.{Call};
 ghost use Rattle.uart_events.specs.declared.call.Answer.{Answer};
 ghost use Rattle.uart_events.specs.declared.event.Chip.TheVariants.{Uart16550A};
 ghost use Rattle.uart_chip.specs.Chip.{is_dlab_set};
 ghost use Rattle.uart_chip.specs.Machine.{MachineState, MachineStep};
 ghost use Rattle.uart_chip.specs.Sound.{IsSound};
+ghost use Rattle.uart_run.specs.Ready.{IsInitialised};
+ghost use Rattle.uart_run.specs.Run.{State, machine_of};
 ghost use Rattle.uart_judges.specs.History.{known};
 ghost use Rattle.uart_judges.specs.declared.recording.entry.Entry.{Entry};
 ghost use Rattle.uart_judges.specs.declared.recording.entry.Happening.TheVariants as happening;
 ghost use Rattle.uart_judges_runs.specs.Calls.{IsSteady, AreTaken, KnowsAsTaken};
-ghost use Rattle.uart_judges_runs.specs.Causes.{AreShownFor, AsksFor, Causes, GivesOnly};
-ghost use Rattle.uart_judges_runs.specs.Causes.{IsSetUpFor, KnowsFor, cause_some, is_unfounded};
-ghost use Rattle.uart_judges_runs.specs.Causes.{is_warning};
+ghost use Rattle.uart_judges_runs.specs.Causes.{AreShownFor, AsksFor, Causes, Fits, GivesOnly};
+ghost use Rattle.uart_judges_runs.specs.Causes.{IsConfiguredFor, IsSetUpFor, KnowsFor, cause_some};
+ghost use Rattle.uart_judges_runs.specs.Causes.{is_unfounded, is_warning};
 ghost use Rattle.uart_judges_runs.specs.Lost.{IsRight, KnowsDlab, KnowsWhatIs};
 ghost use Rattle.uart_judges_runs.specs.Recorded.{HasNone, accesses_in, is_of_calls};
 ghost use Rattle.uart_judges_runs.specs.Runs.{IsOpenTo, IsSession};
@@ -71,6 +78,19 @@ pub fn warned_sessions_have_a_cause()
         IsSession calls fields old accesses new → KnowsAsTaken fields.fifo (known past) →
         KnowsFor causes old.chip.latches.lcr (known past) → accesses_in entries ≡ accesses →
         HasNone is_warning past entries }
+{}
+
+/// After an `init` that succeeds: what a session begins with gives no cause but those of the
+/// configuration and the calls, so no break and no OUT2 that is off. With eight data bits each byte
+/// fits.
+pub fn an_init_gives_no_other_cause()
+    ensures given { (causes : Causes) (config : Config) (calls : List Call) (state : State) →
+        IsInitialised config state → (fields (inner_of state)).config ≡ config →
+        IsConfiguredFor causes config (machine_of state).chip.model →
+        AllByRecursion (AsksFor causes (frame_bits config)) calls →
+        GivesOnly causes calls (fields (inner_of state)) (machine_of state) }
+    ensures eight { (config : Config) (byte : ℕ) → config.data_bits ≡ EightBits → byte < 256 →
+        Fits (frame_bits config) byte }
 {}
 
 /// Of a recording that begins with the driver: the judge knows nothing before it, and so nothing
