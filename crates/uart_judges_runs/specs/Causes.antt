@@ -45,7 +45,7 @@ pub record Causes : Type 0 where
   pub fifos_are_off : Bool
   pub divisor_is_zero : Bool
 
--- the finding has one of these causes
+-- one of these is the cause of the finding
 abbrev pub has_cause : Causes → Finding → Bool
 has_cause c (found.SentInBreak byte) = c.break_is_sent
 has_cause c (found.WordTooShort byte) = c.bytes_are_cut
@@ -57,7 +57,7 @@ has_cause c (found.NotServed identified) = c.interrupts_are_on && c.isr_is_read
 has_cause c (found.LeftWithLineUp line) = c.interrupts_are_on && c.isr_is_read
 has_cause c _ = false
 
--- some finding has one of these causes
+-- one of these is the cause of some warning
 abbrev pub cause_some : Causes → Bool
 cause_some c =
     c.break_is_sent
