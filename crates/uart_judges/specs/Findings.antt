@@ -1,6 +1,6 @@
 -- The findings at an entry of a recording, from the entries before it: a is what those show, as History defines it, and
 -- s is the entry beside the set-up.
-use Rattle.std.specs.Prelude.{ℕ, ◌+◌, ◌-◌, ◌^◌, Bool, true, false, ◌==◌, ◌&&◌, ◌||◌, not, if◌then◌else◌, nat_lt}
+use Rattle.std.specs.Prelude.{ℕ, ◌+◌, ◌-◌, ◌*◌, ◌^◌, Bool, true, false, ◌==◌, ◌&&◌, ◌||◌, not, if◌then◌else◌, nat_lt}
 use Rattle.std.specs.Prelude.{nat_le, min}
 use Rattle.std.specs.Prelude.{Option, Some, None, is_some, List, [], ◌∷◌, bit_and}
 use Rattle.uart_spec.specs.Bits.{has, has_any}
@@ -237,15 +237,21 @@ is_usual_number low =
     (low == 1) || ((low == 2) || ((low == 3) || ((low == 6) || ((low == 12) || ((low == 24) || ((low == 48) ||
     ((low == 96) || (low == 192))))))))
 
-abbrev pub is_usual : Option ℕ → Bool
-is_usual (Some low) = is_usual_number low
-is_usual None = false
+-- the divisor of a usual rate at another clock, of those with such a low byte and a high byte below 16: 9600 baud at
+-- 54 MHz, and the rates above and below it at 27, 108 and 216 MHz; 1200 at 18.432 MHz; 19,200 and 9600 at 408 MHz
+abbrev pub is_of_other_clock : ℕ → Bool
+is_of_other_clock divisor = (divisor == 352) || ((divisor == 960) || ((divisor == 1328) || (divisor == 2656)))
 
--- the high byte was written already, or this has bits of IER alone and changes a usual rate
+-- the low byte alone is the divisor of a usual rate, and with this high byte it is not
+abbrev pub spoils_rate : (high : ℕ) → (low : Option ℕ) → Bool
+spoils_rate high (Some low) = is_usual_number low && not (is_of_other_clock (256 * high + low))
+spoils_rate high None = false
+
+-- the high byte was written already, or this has bits of IER alone and spoils a usual rate
 abbrev pub is_for_ier : Auditor → Step → ℕ → Bool
 is_for_ier a s value =
     a.latch.is_high_new
-    || (a.latch.has_low && (not (value == 0) && (nat_lt value 16 && is_usual s.setup.divisor.low)))
+    || (a.latch.has_low && (not (value == 0) && (nat_lt value 16 && spoils_rate value s.setup.divisor.low)))
 
 abbrev pub is_zero : Option ℕ → Bool
 is_zero (Some value) = value == 0

@@ -212,6 +212,12 @@ fn right_drivers() {
         "w 3 83 0\nw 0 01\nw 1 00\nw 3 03\nr 5 60 0 @1000\nw 0 41 0 @2000\nw 3 02 0 @900000\n",
         // An error stays until LSR is read, though DATA was read.
         "r 5 60\na 04 41\nr 5 65\nr 0 41\nr 5 60\n",
+        // Rates at other clocks, of which the high byte of the divisor looks like a value of IER: 9,600 baud at 54 MHz and at
+        // 408 MHz, 19,200 at 408 MHz, and 1,200 at 18.432 MHz.
+        "w 3 83\nw 0 60\nw 1 01\nw 3 03\n",
+        "w 3 83\nw 0 60\nw 1 0a\nw 3 03\n",
+        "w 3 83\nw 0 30\nw 1 05\nw 3 03\n",
+        "w 3 83\nw 0 c0\nw 1 03\nw 3 03\n",
         // Two bytes that arrived by the recording are read at one interrupt, and MCR is not known.
         "r 5 60\nr 2 c1\na 00 41\na 00 42\nr 2 c4\nr 0 41\nr 0 42\n",
     ] {
