@@ -14,7 +14,7 @@ use Rattle.uart_judges.specs.Findings.{all_found, arrival, arrived_at, asks_for_
 use Rattle.uart_judges.specs.Findings.{discard, empty, empty_in, enables_bytes, flow, from_nothing, gate, given, has_low_alone, ignored}
 use Rattle.uart_judges.specs.Findings.{is_cut_off, is_held, is_in_break, is_next, is_other_frame, is_zero, latch, latched, left_up, level}
 use Rattle.uart_judges.specs.Findings.{level_as, level_at, line_up, lines_as, loops_again, missing, noted, output, overrun, overrun_in}
-use Rattle.uart_judges.specs.Findings.{room, served_by, service, set_up, taken, transfers, when, with_errors}
+use Rattle.uart_judges.specs.Findings.{room, served_by, service, set_up, taken, taken_from, transfers, when}
 use Rattle.uart_judges.specs.Findings.{are_off, is_long_since}
 use Rattle.uart_judges.specs.Shows.{identified, receives, sends}
 use Rattle.uart_judges.specs.Steps.{is_line_up, loops_back}
@@ -110,16 +110,15 @@ module _ (c : Causes) where
   from_nothing_founded again (Some true) _ = founded_when again found.ReceivedWithoutLook refl
   from_nothing_founded again None _ = founded_when again found.ReceivedWithoutLook refl
 
-  with_errors_founded : (oldest : Option Arrived) (again : Bool) → Founded c (with_errors oldest again)
-  with_errors_founded (Some oldest) again = nothing
-  with_errors_founded None again = founded_when again found.ErrorsNotRead refl
+  taken_from_founded : (oldest : Option Arrived) (a : Auditor) → Founded c (taken_from oldest a)
+  taken_from_founded (Some oldest) a = nothing
+  taken_from_founded None a =
+      founded_if (a.waiting == 0) _ _
+      (founded_if a.is_at_work _ _ (from_nothing_founded a.has_taken a.ready a.data_interrupt) nothing)
+      (founded_when a.has_taken found.ErrorsNotRead refl)
 
   pub taken_founded : (a : Auditor) (s : Step) → Founded c (taken a s)
-  taken_founded a s =
-      founded_if (not (receives s.action)) _ _ nothing
-      (founded_if (a.waiting == 0) _ _
-      (founded_if a.is_at_work _ _ (from_nothing_founded a.has_taken a.ready a.data_interrupt) nothing)
-      (with_errors_founded (front a.unread) a.has_taken))
+  taken_founded a s = founded_if (not (receives s.action)) _ _ nothing (taken_from_founded (front a.unread) a)
 
   pub overrun_in_founded : (due : Bool) (x : Action) → Founded c (overrun_in due x)
   overrun_in_founded due (LooksAtLine lsr) = founded_when _ _ refl

@@ -30,12 +30,12 @@ use Rattle.uart_judges.specs.Setups.{next_is_open}
 use Rattle.uart_judges.specs.Shows.{arrives, fifo_of, high_of, identified, identified_by, interrupts_of, is_cut, line_of, low_of, modem_of}
 use Rattle.uart_judges.specs.Shows.{sends, shows_none}
 use Rattle.uart_judges.specs.Steps.{cts_in, loops_back}
-use Rattle.uart_judges.specs.Unread.{after_arrival, and, arrived_after, front, seen, unknown, unread_after}
+use Rattle.uart_judges.specs.Unread.{after_arrival, and, arrived_after, front, maybe_taken, seen, unknown, unread_after}
 use Rattle.uart_judges.specs.declared.audit.action.Action.{Action}
 use Rattle.uart_judges.specs.declared.audit.action.Action.TheVariants.{Arrives, Receives, Sends, SetsDivisorLow, SetsDivisorHigh}
 use Rattle.uart_judges.specs.declared.audit.action.Action.TheVariants.{ControlsFifo, ReadsLine, SetsLine, ReadsModem, SetsModem}
 use Rattle.uart_judges.specs.declared.audit.action.Action.TheVariants.{EnablesInterrupts, ShowsInterrupts, IdentifiesInterrupt}
-use Rattle.uart_judges.specs.declared.audit.action.Action.TheVariants.{LooksAtLine, LooksAtModem}
+use Rattle.uart_judges.specs.declared.audit.action.Action.TheVariants.{LooksAtLine, LooksAtModem, MayReceive, MaySend}
 use Rattle.uart_judges.specs.declared.audit.auditor.Auditor.{Auditor}
 use Rattle.uart_judges.specs.declared.audit.finding.Finding.TheVariants as found
 use Rattle.uart_judges.specs.declared.audit.setup.Setup.{Setup}
@@ -220,6 +220,7 @@ module _ (c : Causes) (line : ℕ) (f : Stage) (off : has line lcr_bits.DLAB.0 �
       held_at x f.held ≡ false → (is_held (cts_after cts x) && next_since was false (cts_in looped x)) ≡ false
   clear_next cts was looped (LooksAtModem msr) clear e = and_left (not (has msr.0 msr_bits.CTS.0)) _ e
   clear_next cts was looped (Sends byte) clear e = refl
+  clear_next cts was looped MaySend clear e = refl
   clear_next cts was looped _ clear e = kept_and (is_held cts) was (clear e)
 
   seen_look : (u : Unread) (o : Option Arrived) → IsSeen (seen u o)
@@ -249,12 +250,18 @@ module _ (c : Causes) (line : ℕ) (f : Stage) (off : has line lcr_bits.DLAB.0 �
   seen_arrival u fifo new so (inl e) = seen_if u.is_known _ u (seen_known u fifo (front u) new so e) (inl e)
   seen_arrival u fifo new so (inr (k, n)) = seen_else u.is_known _ u k (inr (k, n))
 
+  seen_maybe : (u : Unread) (o : Option Arrived) → IsSeen u → IsSeen (maybe_taken u o)
+  seen_maybe u None p = p
+  seen_maybe u (Some oldest) p = inr (refl, refl)
+
   seen_next : (u : Unread) (s : Step) (x : Action) → IsSo s.setup.has_fifo (λ on. on ≡ true) → (f.looked ≡ true → IsSeen u) →
       looked_at x f.looked ≡ true → IsSeen (unread_after u s x)
   seen_next u s (LooksAtLine lsr) so seen e = rw e (seen_look u (front u))
   seen_next u s (Receives byte) so seen e = absurd (cc)
   seen_next u s (ControlsFifo fcr) so seen e = absurd (cc)
   seen_next u s (Sends byte) so seen e = seen_if (loops_back s.setup.modem) unknown u (inr (refl, refl)) (seen e)
+  seen_next u s MaySend so seen e = seen_if (loops_back s.setup.modem) unknown u (inr (refl, refl)) (seen e)
+  seen_next u s MayReceive so seen e = seen_maybe u (front u) (seen e)
   seen_next u s (Arrives byte errors) so seen e =
       seen_if (loops_back s.setup.modem) unknown _ (inr (refl, refl)) (seen_arrival u s.setup.has_fifo _ so (seen e))
   seen_next u s _ so seen e = seen e
