@@ -89,6 +89,9 @@ fn make_link_call(link: &mut Link, call: &LinkCall) -> RingAnswer {
 /// - no character is dropped at either end, if both programs keep to flow control: both check CTS,
 ///   `AdjustRts` follows each run of the handler, with marks that leave room for what may arrive
 ///   before it and what is on the cable. The README says it exactly;
+/// - all that was there at first is taken after as many rounds as bytes wait in the sender's rings,
+///   and one more, if no character is dropped. In a round time passes at the sender, what is on the
+///   cable arrives, the receiver's handler runs, its program takes, and the sender goes on to send;
 /// - after it, a session may go on at both ends, and they are still joined.
 ///
 /// # Examples

@@ -299,16 +299,28 @@ pub(crate) fn empty(a: &Auditor, s: &Step) -> Option<Finding> {
     }
 }
 
-// Returns whether with DLM at zero this would be the divisor of a usual rate at 1.8432 MHz.
-fn is_usual(low: Option<u8>) -> bool {
+// Returns whether this is the divisor of a usual rate at a clock other than 1.8432 MHz, of those
+// that look like a usual rate with a value of IER in the high byte. Set-top boxes have 27, 54, 108
+// and 216 MHz, and Tegra has 408 MHz.
+fn is_of_other_clock(divisor: u16) -> bool {
+    matches!(divisor, 352 | 960 | 1328 | 2656)
+}
+
+// Returns whether the low byte of the divisor alone is that of a usual rate at 1.8432 MHz, and
+// with this high byte there is no usual rate.
+fn spoils_rate(high: u8, low: Option<u8>) -> bool {
     match low {
-        Some(low) => matches!(low, 1 | 2 | 3 | 6 | 12 | 24 | 48 | 96 | 192),
+        Some(low) => {
+            let divisor = u16::from(high) * 256 + u16::from(low);
+            let is_usual = matches!(low, 1 | 2 | 3 | 6 | 12 | 24 | 48 | 96 | 192);
+            is_usual && !is_of_other_clock(divisor)
+        }
         None => false,
     }
 }
 
 // Returns whether a value for the high byte of the divisor looks like one for IER: the high byte
-// was written already; or the low byte is that of a usual rate, which this changes.
+// was written already; or the low byte is that of a usual rate, which this spoils.
 fn is_for_ier(a: &Auditor, s: &Step, value: u8) -> bool {
     if a.latch.is_high_new {
         return true;
@@ -316,7 +328,7 @@ fn is_for_ier(a: &Auditor, s: &Step, value: u8) -> bool {
     if !a.latch.has_low {
         return false;
     }
-    value != 0 && value < 16 && is_usual(s.setup.divisor.low)
+    value != 0 && value < 16 && spoils_rate(value, s.setup.divisor.low)
 }
 
 fn is_zero(value: Option<u8>) -> bool {
