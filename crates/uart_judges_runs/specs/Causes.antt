@@ -166,9 +166,8 @@ pub record IsConfiguredFor (c : Causes) (config : Config) (model : Chip) : Type 
   pub interrupts : c.interrupts_are_on ≡ false → enables_some (Some config.interrupts) ≡ false
   pub fifos : c.fifos_are_off ≡ false → (is_level config.fifo_trigger_level && has_fifo model) ≡ true
 
--- nor does what the judge knows before: of LCR what it is; of no interrupt that is enabled, and of no handler that is
--- at
--- work; not that CTS is clear, once it was set; not that OUT2 is off; and not that the divisor is zero
+-- nor does what the judge knows before: of LCR what it is; of no interrupt that is enabled, and of no handler at work;
+-- not that CTS is clear, once it was set; not that OUT2 is off; and not that the divisor is zero
 pub record KnowsFor (c : Causes) (line : ℕ) (a : Auditor) : Type 0 where
   pub lcr : IsSo a.setup.line (λ lcr. lcr.0 ≡ line)
   pub interrupts : c.interrupts_are_on ≡ false → enables_some a.setup.interrupts ≡ false
