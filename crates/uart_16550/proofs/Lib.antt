@@ -1,6 +1,6 @@
 pub mod Paths
 pub mod Languages
-pub mod Pieces
+pub mod Singly
 pub mod Making
 pub mod Doings
 pub mod Statuses

@@ -28,7 +28,7 @@ use Rattle.uart_16550.specs.Transmit.{ReadyToSend, Sends, TrySends, SendsExact}
 use Rattle.uart_16550.specs.Bursts.{SendsBurst}
 use Rattle.uart_16550.specs.Configured.{ChecksConfigured}
 use Rattle.uart_16550.specs.Status.{TakesLsr, TakesMsr, Connects, ReadsDivisor, Enables, Disables, Dumps}
-use Rattle.uart_16550.specs.Status.{Retriggers}
+use Rattle.uart_16550.specs.Status.{Retriggers, ShowsGone}
 use Rattle.uart_16550.specs.Init.{ChecksPresence, Inits}
 use Rattle.uart_16550.specs.Frame.{SetsFrame, ShowsIdle, SetsBreak, SetsControl, SetsOutput}
 use Rattle.uart_16550.specs.Attach.{Attaches}
@@ -48,7 +48,7 @@ use Rattle.uart_spec.specs.declared.dump.ConfigRegisterDump.{ConfigRegisterDump}
 -- -- `read_register` is `ier`, `isr`, `lcr`, `mcr`, `spr` and `peek_modem`; `set_output` is `set_rts` and `set_dtr`
 pub data SavingCall : Type 0 where
   read_register : (register : ℕ) → SavingCall
-  check_connected dll_dlm check_present is_idle retrigger_interrupts : SavingCall
+  check_connected dll_dlm check_present is_idle is_gone retrigger_interrupts : SavingCall
   check_configured : (config : Config) (outputs : ℕ) → SavingCall
   set_break : (on : Bool) → SavingCall
   set_modem_control : (bits : ℕ) → SavingCall
@@ -72,6 +72,7 @@ SavingOutcome check_connected = Result (Unit {0}) RemoteReadyToReceiveError
 SavingOutcome dll_dlm = ℕ × ℕ
 SavingOutcome check_present = Bool
 SavingOutcome is_idle = Bool
+SavingOutcome is_gone = Bool
 SavingOutcome (check_configured config outputs) = Result (Unit {0}) ConfigurationError
 SavingOutcome (set_break on) = Unit {0}
 SavingOutcome (set_modem_control bits) = Unit {0}
@@ -103,6 +104,7 @@ SavingLists check_connected result = Connects result
 SavingLists dll_dlm divisor = ReadsDivisor divisor.0 divisor.1
 SavingLists check_present present = ChecksPresence present
 SavingLists is_idle idle = ShowsIdle idle
+SavingLists is_gone gone = ShowsGone gone
 SavingLists (check_configured config outputs) result = ChecksConfigured config outputs result
 SavingLists (set_break on) result = SetsBreak on
 SavingLists (set_modem_control bits) result = SetsControl bits

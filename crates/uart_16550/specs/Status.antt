@@ -1,5 +1,5 @@
 -- The lists of the register calls, and of the register dump.
-use Rattle.std.specs.Prelude.{◌≡◌, ℕ, true, false, List, [], ◌∷◌, ◌++◌, Result, Ok, Err}
+use Rattle.std.specs.Prelude.{◌≡◌, ℕ, Bool, true, false, List, [], ◌∷◌, ◌++◌, Result, Ok, Err}
 use Rattle.std.specs.Int.RustNames.{bit_or}
 use Rattle.bitflags.specs.Sets.{without}
 use Rattle.uart_spec.specs.Bits.{has}
@@ -14,7 +14,8 @@ use Rattle.uart_spec.specs.declared.registers.line_control.TheConstants.LCR
 use Rattle.uart_spec.specs.declared.registers.modem_status.TheConstants.MSR
 use Rattle.uart_spec.specs.declared.access.Access.{Access}
 use Rattle.uart_spec.specs.declared.access.Access.TheVariants.{Read, Write}
-use Rattle.uart_16550.specs.Grammar.{Language}
+use Rattle.uart_16550.specs.Grammar.{Language, Asks}
+use Rattle.uart_16550.specs.declared.driver.status.TheConstants.{UNDRIVEN}
 use Rattle.uart_16550.specs.Driver.{Fields, Doing, saving, with_saved, with_interrupts}
 use Rattle.uart_spec.specs.declared.dump.ConfigRegisterDump.{ConfigRegisterDump}
 
@@ -27,6 +28,10 @@ TakesLsr result f l after =
 abbrev pub TakesMsr : ℕ → Doing
 TakesMsr result f l after =
     (status : ℕ) × (l ≡ Read offsets.MSR status ∷ []) × (result ≡ bit_or status f.msr) × (after ≡ with_saved f.lsr 0 f)
+
+-- `is_gone`: MCR shows what a bus shows that nobody drives, all bits set, or not
+abbrev pub ShowsGone : Bool → Language
+ShowsGone gone = Asks offsets.MCR UNDRIVEN gone
 
 -- DSR and CTS are set, or the line that the error reports is clear
 abbrev pub ShowsConnection : {T : Type 0} → Result T RemoteReadyToReceiveError → ℕ → Type 0

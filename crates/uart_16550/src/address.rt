@@ -25,6 +25,7 @@ impl<P: PortAccess + Drop> Uart16550<PioBackend<P>> {
     /// # Examples
     ///
     /// ```
+    /// // `ports` is a `PortAccess`: how this program accesses I/O ports.
     /// let mut uart = Uart16550::new_port(0x3f8, ports)?;
     /// uart.init(Config::DEFAULT)?;
     /// uart.send_bytes_exact(b"hello")?;

@@ -32,11 +32,6 @@ use uart_spec::registers::{LSR, MSR, offsets};
 /// returns an error.
 pub const DEFAULT_SPIN_LIMIT: u64 = 1_000_000;
 
-// Slices are sent and received in pieces of this size, each in a copy. No access can change the
-// copy, so the compiler may keep a backend's fields in registers during the loop. It cannot assume
-// that of the slice itself.
-const PIECE_SIZE: usize = 128;
-
 /// A driver for one serial chip of the 16550 family, over any backend.
 ///
 /// Construct it with `new_port`, `new_mmio` or `new_with_backend`, and call `init` before any other

@@ -12,6 +12,7 @@ struct host {
     size_t takes;      /* how many bytes of output it takes at a time */
     unsigned signals;  /* how often it signalled the guest; a monitor writes to an eventfd */
     uint8_t line;      /* the level of the guest's interrupt line, for a controller that takes levels */
+    unsigned rises;    /* how often that line rose, which is what a pin that detects edges sees */
 };
 
 struct serial {
@@ -21,16 +22,25 @@ struct serial {
 
 static void offer_input(struct serial *serial);
 
+/* Sets the guest's interrupt line. A monitor over KVM calls the ioctl KVM_IRQ_LINE. */
+static void set_line(struct host *host, uint8_t level)
+{
+    host->rises += level && !host->line;
+    host->line = level;
+}
+
 /*
  * Does what a call asks for. A monitor needs either signal or level. If its input is in another thread, it wakes that thread where
  * this one offers input at once.
  */
 static void obey(struct serial *serial, const struct uart_todo *todo)
 {
-    if (todo->signal)
+    if (todo->signal) {
         serial->host.signals++;
-    if (todo->has_moved)
-        serial->host.line = todo->level;
+        /* The line may have fallen and risen in this call. A pin that detects edges, as those of a PC do, sees that only so. */
+        set_line(&serial->host, 0);
+    }
+    set_line(&serial->host, todo->level);
     if (todo->has_room)
         offer_input(serial);
 }
@@ -91,9 +101,9 @@ static void guest_writes(struct serial *serial, uint8_t offset, uint8_t value)
 /* Says what the monitor did since the last time. */
 static void tell(struct serial *serial, const char *what)
 {
-    printf("%s: signals %u, line %d, ready %zu\n", what, serial->host.signals, serial->host.line,
+    printf("%s: signals %u, rises %u, line %d, ready %zu\n", what, serial->host.signals, serial->host.rises, serial->host.line,
            uart_chip_wire_len(&serial->port.chip));
-    serial->host.signals = 0;
+    serial->host.signals = serial->host.rises = 0;
 }
 
 /* The guest's handler: it reads ISR first, and what waits as long as LSR says that something does. */
@@ -160,7 +170,7 @@ static void bring_errors(struct serial *serial)
 
     guest_writes(serial, UART_OFFSET_IER, UART_IER_RECEIVER_LINE_STATUS | UART_IER_MODEM_STATUS);
     guest_writes(serial, UART_OFFSET_FCR, 0);
-    serial->host.signals = 0;
+    serial->host.signals = serial->host.rises = 0;
     printf("break: %" PRIu32 "\n", uart_port_receive_one(&serial->port, 0, UART_LSR_BREAK_INTERRUPT, &todo));
     obey(serial, &todo);
     printf("no room: %" PRIu32 "\n", uart_port_receive_one(&serial->port, 'x', 0, &todo));

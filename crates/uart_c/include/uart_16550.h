@@ -318,21 +318,22 @@ uint16_t uart_chip_divisor(const struct uart_chip *chip);
 /* What the monitor was told, as far as the next call depends on it. */
 struct uart_told {
     uint8_t line;            /* the level of the interrupt line */
-    uint8_t has_room;        /* there was room for input */
+    uint8_t has_room;        /* the monitor may take it that there is room for input */
     uint8_t has_looked;      /* the guest has read ISR since the last signal */
     uint8_t spare;           /* how many more accesses of DATA the last signal covers */
 };
 
 /*
- * What the monitor has to do after a call. A monitor whose interrupt controller takes edges obeys signal, and one whose
- * controller takes levels obeys level. Each obeys has_room. The flags are 0 or 1.
+ * What the monitor has to do after a call. A monitor whose interrupt controller takes edges obeys signal. One whose controller
+ * takes levels obeys level, and if there is a signal, it sets the line to 0 first: the line may have fallen and risen, which a
+ * pin that detects edges, as those of a PC do, has seen no other way. Each obeys has_room. The flags are 0 or 1.
  */
 struct uart_todo {
     size_t ready;            /* so many bytes of output are ready, at most UART_WIRE_ROOM */
     uint8_t signal;          /* signal the guest's interrupt once, for example by a write to an eventfd */
     uint8_t level;           /* set the interrupt line to this level */
     uint8_t has_moved;       /* that is another level than after the call before */
-    uint8_t has_room;        /* offer input again: there is room now, and there was none before. It is told once */
+    uint8_t has_room;        /* offer input again: there was no room, and there is now. It is told once, when nothing waits */
 };
 
 /* The port. */
@@ -354,8 +355,9 @@ void uart_port_write(struct uart_port *port, uint8_t offset, uint8_t value, stru
 
 /*
  * The host has input: as many of these bytes are received as there is room for, from the front. Returns how many. If these are
- * not all, there is no room left, and the first call after which there is room says so in has_room. Offer the others then.
- * Without FIFO there is room for one byte, with it for UART_FIFO_SIZE, and in loopback for none.
+ * not all, there is no room left. The first call after which nothing waits says in has_room that there is room, or one by which
+ * the guest makes room otherwise than by reading DATA. Offer the others then. Without FIFO there is room for one byte, with it
+ * for UART_FIFO_SIZE, and in loopback for none.
  */
 size_t uart_port_receive(struct uart_port *port, const uint8_t *bytes, size_t len, struct uart_todo *todo);
 
@@ -392,6 +394,15 @@ void uart_port_take_output(struct uart_port *port, size_t count, struct uart_tod
 
 /* The level of the interrupt line, 1 or 0, which is the level that was told last. No time changes it. */
 uint8_t uart_port_level(const struct uart_port *port);
+
+/*
+ * 1 while the guest sends a break, that is, while LCR bit 6 is set, else 0. A monitor that passes breaks on looks after each
+ * uart_port_write. What the guest writes in a break is output all the same, though a real line would lose it.
+ */
+static inline uint8_t uart_port_is_breaking(const struct uart_port *port)
+{
+    return port->chip.latches.lcr >> 6 & 1;
+}
 
 /* Saves the chip of a port, as uart_chip_save does. What the monitor was told is not saved: it is told anew. */
 void uart_port_save(const struct uart_port *port, struct uart_chip *saved);

@@ -10,7 +10,7 @@ use Rattle.uart_live.specs.declared.fixed.TheConstants.{WIRE_ROOM}
 use Rattle.uart_virtual.proofs.Tells.{told_holds}
 use Rattle.uart_virtual.proofs.Times.{paced-happen, still_settle}
 use Rattle.uart_virtual.specs.Port.{PortCall, Read, Write, Receive, ReceiveOne, SetLines, TakeOutput, PortState, IsPaced, IsStill, IsPort}
-use Rattle.uart_virtual.specs.Port.{happen, settle, settle_ticks, accepted, arrive_all, kind_of, stays_up, idle, untold, begun, fresh}
+use Rattle.uart_virtual.specs.Port.{happen, settle, settle_ticks, accepted, arrive_all, kind_of, stays_up, renewed, untold, begun, fresh}
 
 -- ---- what happens in a call leaves a live chip
 
@@ -44,7 +44,7 @@ stay call p a w =
     }
 
 pub restored : RestoredPortsAreSound
-restored c live still = record { live = live; port = record { told = told_holds idle true c untold; still = still } }
+restored c live still = record { live = live; port = record { told = told_holds renewed true c untold; still = still } }
 
 pub made : MadePortsAreSound
 made model =

@@ -29,6 +29,7 @@ use uart_chip::controlling::{
     ChipParts, advance, arrive_live, change_lines, is_interrupting, is_loopback, read,
     receive_room, write,
 };
+use uart_chip::receiving::ReceiverParts;
 use uart_chip::transmitting::{held_len, next_move};
 use uart_spec::NUM_REGISTERS;
 use uart_spec::registers::{LSR, MSR};
@@ -74,17 +75,19 @@ const UNTOLD: UartTold = UartTold {
     spare: 0,
 };
 
-// A call of the host that brings something, and a call that is nothing but time.
+// A call of the host that brings something, and a port that is new, or restored.
 const INPUT: Kind = Kind {
     brings: true,
     looks: false,
     moves_data: false,
+    may_make_room: false,
 };
 
-const IDLE: Kind = Kind {
+const RENEWED: Kind = Kind {
     brings: false,
     looks: false,
     moves_data: false,
+    may_make_room: true,
 };
 
 impl UartTold {
@@ -133,6 +136,7 @@ fn seen(chip: &UartChip) -> Seen
     Seen {
         level: is_interrupting(chip),
         has_room: receive_room(chip) != 0,
+        is_empty: chip.receiver.queue_len() == 0,
         fifo: chip.fifo(),
         ready: chip.transmitter.wire.len(),
     }
@@ -180,7 +184,7 @@ pub extern "C" fn uart_port_new(port: &mut UartPort, model: u8)
         has_room: false,
         ready: 0,
     });
-    finish(port, true, IDLE, &mut todo);
+    finish(port, true, RENEWED, &mut todo);
 }
 
 /// The guest reads a register.
@@ -241,6 +245,7 @@ pub extern "C" fn uart_port_receive(port: &mut UartPort, bytes: &[u8], todo: &mu
         brings: 0 < count,
         looks: false,
         moves_data: false,
+        may_make_room: false,
     };
     arrive_all(&mut port.chip, &bytes[..count]);
     let was_up = is_interrupting(&port.chip);
@@ -314,6 +319,7 @@ pub extern "C" fn uart_port_take_output(port: &mut UartPort, count: usize, todo:
         brings: held_len(&port.chip.transmitter) != 0,
         looks: false,
         moves_data: false,
+        may_make_room: false,
     };
     port.chip.transmitter.remove_wire(count);
     let was_up = is_interrupting(&port.chip);
@@ -354,7 +360,7 @@ pub extern "C" fn uart_port_load(port: &mut UartPort, saved: &UartChip, todo: &m
     ensures accepted { IsLive (chip_of saved.now) → IsStill (chip_of saved.now) →
         (result ≡ UART_OK) × (port_of port.new ≡ spec.begun (chip_of saved.now)) }
     ensures todo { IsLive (chip_of saved.now) → IsStill (chip_of saved.now) → todo.new ≡
-        port_spec.shown (spec.todo_of spec.idle true (chip_of saved.now) spec.untold) }
+        port_spec.shown (spec.todo_of spec.renewed true (chip_of saved.now) spec.untold) }
     ensures dead { (IsLive (chip_of saved.now) → ⊥) →
         (result ≡ UART_BAD_PORT) × (port.new ≡ port.old) × (todo.new ≡ todo.old) }
     ensures moving { (IsStill (chip_of saved.now) → ⊥) →
@@ -366,6 +372,6 @@ pub extern "C" fn uart_port_load(port: &mut UartPort, saved: &UartChip, todo: &m
     }
     port.chip.restore(saved);
     port.told = UNTOLD;
-    decide(port, true, IDLE, todo);
+    decide(port, true, RENEWED, todo);
     UART_OK
 }

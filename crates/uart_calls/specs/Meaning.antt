@@ -1,5 +1,5 @@
 -- The meaning of each call: its outcome, what the driver did then, and the answer for this outcome.
-use Rattle.std.specs.Prelude.{◌≡◌, ◌≤◌, ℕ, Bool, List, [], ◌∷◌, Result, Ok, Err, length}
+use Rattle.std.specs.Prelude.{◌≡◌, ◌≤◌, ⊤, ℕ, Bool, List, [], ◌∷◌, Result, Ok, Err, length}
 use Rattle.uart_spec.specs.declared.errors.ByteReceiveError.{ByteReceiveError}
 use Rattle.uart_spec.specs.declared.errors.ByteSendError.{ByteSendError}
 use Rattle.uart_spec.specs.declared.errors.ConfigurationError.{ConfigurationError}
@@ -216,6 +216,12 @@ meaning (call.Write bytes) = saves (Writes bytes.items) count_answer
 meaning (call.Text text) = saves (SendsShortText text.bytes) exact_answer
 
 -- ---- one call
+
+-- the call is one of a driver: `Next` is one of a device that has a schedule, and `Text` one of a terminal
+abbrev pub IsOfDriver : Call → Type 0
+IsOfDriver call.Next = ⊥
+IsOfDriver (call.Text text) = ⊥
+IsOfDriver other = ⊤
 
 -- the call had some outcome, for which this is the answer, and the driver did what it does for this outcome
 pub record CalledAs {B R : Type 0} (step : B → Access → B → Type 0) (doing : R → Doing) (answer_of : R → Answer)

@@ -5,6 +5,7 @@ pub mod Errors
 pub mod Status
 pub mod FifoBits
 pub mod Lists
+pub mod AccessMoves
 pub mod lasting
 pub mod soundness
 pub mod conservation

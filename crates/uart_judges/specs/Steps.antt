@@ -26,15 +26,15 @@ use Rattle.uart_judges.specs.declared.audit.action.Action.TheVariants.{Arrives, 
 use Rattle.uart_judges.specs.declared.audit.action.Action.TheVariants.{LooksAtLine, LooksAtModem}
 use Rattle.uart_judges.specs.declared.audit.setup.DivisorBytes.{DivisorBytes}
 use Rattle.uart_judges.specs.declared.audit.step.Step.{Step}
-use Rattle.uart_judges.specs.declared.audit.step.TheConstants.{CHARACTER_TIME, USUAL_DIVISOR, MOST_HELD}
+use Rattle.uart_judges.specs.declared.audit.step.TheConstants.{CHARACTER_TIME, LEAST_DIVISOR, MOST_HELD}
 
 -- ---- the time
 
--- the divisor, or the usual one if it was not seen
+-- the divisor, or the least one if it was not seen: no characters go out faster
 abbrev pub divisor_of : Option ℕ → Option ℕ → ℕ
 divisor_of (Some low) (Some high) = high * 256 + low
-divisor_of (Some low) None = USUAL_DIVISOR
-divisor_of None high = USUAL_DIVISOR
+divisor_of (Some low) None = LEAST_DIVISOR
+divisor_of None high = LEAST_DIVISOR
 
 abbrev pub divisor : DivisorBytes → ℕ
 divisor bytes = divisor_of bytes.low bytes.high

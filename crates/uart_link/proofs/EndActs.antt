@@ -20,7 +20,7 @@ use Rattle.uart_ring.specs.Ring.{RingFields}
 use Rattle.uart_ring_runs.specs.declared.call.RingCall.{RingCall}
 use Rattle.uart_ring_runs.specs.declared.call.RingCall.TheVariants as call
 use Rattle.uart_ring_runs.specs.declared.call.RingAnswer.{RingAnswer}
-use Rattle.uart_ring_runs.specs.RingRun.{RingState, RingCallStep, under, ring_machine}
+use Rattle.uart_ring_runs.specs.RingRun.{RingState, RingCallStep, under, ring_machine, IsOfRings}
 use Rattle.uart_ring_runs.specs.RingBytes.{to_take, queued_by, gone_in, KeepsOrder}
 use Rattle.uart_link.specs.declared.call.Moment.{Moment}
 use Rattle.uart_link.specs.Brought.{brought, AllClean, IsClean, IsBrought}
@@ -169,11 +169,11 @@ record CallPart (x : Modes) (wire : List ℕ) (c : RingCall) (a : RingAnswer) (s
   pub grown : Grown (ring_machine s).chip.transmitter.wire (ring_machine t).chip.transmitter
   pub wired : IsWired (under t)
 
-access_part : (x : Modes) (wire : List ℕ) (s t : RingState) (c : RingCall) (a : RingAnswer) → InEnd x s →
+access_part : (x : Modes) (wire : List ℕ) (s t : RingState) (c : RingCall) (a : RingAnswer) → IsOfRings c → InEnd x s →
     IsBrought wire (ring_machine s) → RingCallStep s c a t → (made : List Access) →
     Path MachineStep (ring_machine s) made (ring_machine t) → CallPart x wire c a s t
-access_part x wire s t c a w b h made path =
-    let p = call_passes x s t c a w h in
+access_part x wire s t c a own w b h made path =
+    let p = call_passes x s t c a own w h in
     let takes = path_crosses wire (ring_machine s) (ring_machine t) p.events b
     (left_path made (ring_machine s) (ring_machine t) b.known b.count b.ahead path) p.ahead
     (arrived_after _ _ _ p.events p.ends.went) in
@@ -216,25 +216,8 @@ next_part x wire s t a w b h =
 call_part : (x : Modes) (wire : List ℕ) (s t : RingState) (c : RingCall) (a : RingAnswer) → InEnd x s →
     IsBrought wire (ring_machine s) → CabledCallStep s c a t → CallPart x wire c a s t
 call_part x wire s t call.Next a w b h = next_part x wire s t a w b h
-call_part x wire s t (call.Queue bytes) a w b h = access_part x wire s t (call.Queue bytes) a w b h h.did.list h.did.path
-call_part x wire s t call.ResumeTransmit a w b h = access_part x wire s t call.ResumeTransmit a w b h h.did.list h.did.path
-call_part x wire s t (call.Take slots) a w b h = access_part x wire s t (call.Take slots) a w b h h.did.list h.did.path
-call_part x wire s t call.Service a w b h = access_part x wire s t call.Service a w b h h.did.list h.did.path
-call_part x wire s t (call.Handle limit) a w b h = access_part x wire s t (call.Handle limit) a w b h h.did.list h.did.path
-call_part x wire s t call.Retrigger a w b h = access_part x wire s t call.Retrigger a w b h h.did.list h.did.path
-call_part x wire s t call.TakeLine a w b h = access_part x wire s t call.TakeLine a w b h h.did.list h.did.path
-call_part x wire s t call.TakeModem a w b h = access_part x wire s t call.TakeModem a w b h h.did.list h.did.path
-call_part x wire s t call.HoldTransmit a w b h = access_part x wire s t call.HoldTransmit a w b h h.did.list h.did.path
-call_part x wire s t call.ReleaseTransmit a w b h = access_part x wire s t call.ReleaseTransmit a w b h h.did.list h.did.path
-call_part x wire s t (call.QueueUrgent byte) a w b h = access_part x wire s t (call.QueueUrgent byte) a w b h h.did.list h.did.path
-call_part x wire s t call.ClearTransmit a w b h = access_part x wire s t call.ClearTransmit a w b h h.did.list h.did.path
-call_part x wire s t call.ClearReceive a w b h = access_part x wire s t call.ClearReceive a w b h h.did.list h.did.path
-call_part x wire s t (call.SetLowMark mark) a w b h = access_part x wire s t (call.SetLowMark mark) a w b h h.did.list h.did.path
-call_part x wire s t call.TakeLow a w b h = access_part x wire s t call.TakeLow a w b h h.did.list h.did.path
-call_part x wire s t (call.TryHandle limit rounds) a w b h =
-    access_part x wire s t (call.TryHandle limit rounds) a w b h h.did.list h.did.path
-call_part x wire s t (call.Restart interrupts) a w b h = access_part x wire s t (call.Restart interrupts) a w b h h.did.list h.did.path
-call_part x wire s t (call.AdjustRts marks) a w b h = access_part x wire s t (call.AdjustRts marks) a w b h h.did.list h.did.path
+call_part x wire s t (call.Driver c) a w b h = absurd h
+call_part x wire s t other a w b h = access_part x wire s t other a tt w b h h.did.list h.did.path
 
 -- a call at an end, with its moments
 pub record EndActs (x : Modes) (wire : List ℕ) (c : RingCall) (a : RingAnswer) (s t : RingState) : Type 0 where

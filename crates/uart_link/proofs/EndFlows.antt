@@ -48,10 +48,8 @@ use Rattle.uart_ring_runs.specs.declared.call.RingCall.TheVariants as call
 use Rattle.uart_ring_runs.specs.declared.call.RingAnswer.{RingAnswer}
 use Rattle.uart_ring_runs.specs.RingRun.{RingState, under, ring_machine}
 use Rattle.uart_ring_runs.specs.RingBytes.{to_take}
-use Rattle.uart_ring_runs.proofs.RingBlocks.{MakesRingBlocks, queues_make, resumes_make, takes_make, services_make}
-use Rattle.uart_ring_runs.proofs.RingBlocks.{takes_line_makes, takes_modem_makes, handles_make, retriggers_make}
-use Rattle.uart_ring_runs.proofs.RingBlocks.{holds_make, releases_make, queues_urgent_make, clears_transmit_make, clears_receive_make}
-use Rattle.uart_ring_runs.proofs.RingBlocks.{sets_low_mark_make, takes_low_make, tries_make, restarts_make}
+use Rattle.uart_ring_runs.proofs.RingWalk as walk
+use Rattle.uart_ring_runs.proofs.RingBlocks.{MakesRingBlocks, MakesBlocks, in_blocks}
 use Rattle.uart_ring_runs.proofs.RingRts.{modes_at, begins_session, came_rts}
 use Rattle.uart_link.specs.declared.call.Moment.{Moment}
 use Rattle.uart_link.specs.declared.call.Moment.TheVariants as moment
@@ -65,9 +63,7 @@ use Rattle.uart_link.proofs.Calm.{AllLeaveCts, HasCts, cts_path, cts_first}
 use Rattle.uart_link.proofs.Calm.{HasRoomTo, room_path, room_settled, room_first}
 use Rattle.uart_link.proofs.EndActs.{sound_arranged}
 use Rattle.uart_link.proofs.EndPasses.{InEnd}
-use Rattle.uart_link.proofs.Held.{HoldsBack, services_held, retriggers_held, handles_held, queues_held, resumes_held, takes_held}
-use Rattle.uart_link.proofs.Held.{takes_line_held, takes_modem_held, holds_held, releases_held, queues_urgent_held, clears_transmit_held}
-use Rattle.uart_link.proofs.Held.{clears_receive_held, sets_low_mark_held, takes_low_held, tries_held, restarts_held}
+use Rattle.uart_link.proofs.Held.{HoldsBack, HeldBack, in_held}
 
 -- ---- what a ring call does, over any backend
 
@@ -106,74 +102,75 @@ call_did : (s t : RingState) (c : RingCall) (a : RingAnswer) → hold_of c ≡ N
     CallDid s t ⊎ ((ring_machine t ≡ settled (ring_machine s)) × (ring_fields t ≡ ring_fields s))
 call_did s t (call.AdjustRts marks) a none h = absurd (cc)
 call_did s t call.Next a none h = inr (h.passes.machine, h.passes.rings)
+call_did s t (call.Driver c) a none h = absurd h
 call_did s t (call.Queue bytes) a none h =
-    did _ s t (with_accepted (take h.outcome bytes.items)) [] 0 0 h.did (queues_make bytes.items h.outcome)
+    did _ s t (with_accepted (take h.outcome bytes.items)) [] 0 0 h.did (walk.queues MakesBlocks in_blocks bytes.items h.outcome)
     (queues_lose_nothing bytes.items h.outcome (ring_fields s) h.did.list (ring_fields t) h.did.does)
-    (queues_held bytes.items h.outcome)
+    (walk.queues HeldBack in_held bytes.items h.outcome)
 call_did s t call.ResumeTransmit a none h =
-    did _ s t (with_accepted []) [] 0 0 h.did resumes_make
+    did _ s t (with_accepted []) [] 0 0 h.did (walk.resumes MakesBlocks in_blocks)
     (resumes_lose_nothing (ring_fields s) h.did.list (ring_fields t) h.did.does)
-    resumes_held
+    (walk.resumes HeldBack in_held)
 call_did s t (call.Take slots) a none h =
-    did _ s t (with_accepted []) h.outcome 0 0 h.did (takes_make slots h.outcome)
+    did _ s t (with_accepted []) h.outcome 0 0 h.did (walk.takes MakesBlocks in_blocks slots h.outcome)
     (takes_lose_nothing slots h.outcome (ring_fields s) h.did.list (ring_fields t) h.did.does)
-    (takes_held slots h.outcome)
+    (walk.takes HeldBack in_held slots h.outcome)
 call_did s t call.Service a none h =
-    did _ s t (with_accepted []) [] 0 0 h.did (services_make h.outcome)
+    did _ s t (with_accepted []) [] 0 0 h.did (walk.services MakesBlocks in_blocks h.outcome)
     (services_lose_nothing h.outcome (ring_fields s) h.did.list (ring_fields t) h.did.does)
-    (services_held h.outcome)
+    (walk.services HeldBack in_held h.outcome)
 call_did s t (call.Handle limit) a none h =
-    did _ s t (with_accepted []) [] 0 0 h.did (handles_make limit h.outcome)
+    did _ s t (with_accepted []) [] 0 0 h.did (walk.handles MakesBlocks in_blocks limit h.outcome)
     (handles_lose_nothing limit h.outcome (ring_fields s) h.did.list (ring_fields t) h.did.does)
-    (handles_held limit h.outcome)
+    (walk.handles HeldBack in_held limit h.outcome)
 call_did s t call.Retrigger a none h =
-    did _ s t (with_accepted []) [] 0 0 h.did retriggers_make
+    did _ s t (with_accepted []) [] 0 0 h.did (walk.retriggers MakesBlocks in_blocks)
     (retriggers_lose_nothing (ring_fields s) h.did.list (ring_fields t) h.did.does)
-    retriggers_held
+    (walk.retriggers HeldBack in_held)
 call_did s t call.TakeLine a none h =
-    did _ s t (with_accepted []) [] h.outcome 0 h.did (takes_line_makes h.outcome)
+    did _ s t (with_accepted []) [] h.outcome 0 h.did (walk.takes_line MakesBlocks in_blocks h.outcome)
     (takes_line_loses_nothing h.outcome (ring_fields s) h.did.list (ring_fields t) h.did.does)
-    (takes_line_held h.outcome)
+    (walk.takes_line HeldBack in_held h.outcome)
 call_did s t call.TakeModem a none h =
-    did _ s t (with_accepted []) [] 0 h.outcome h.did (takes_modem_makes h.outcome)
+    did _ s t (with_accepted []) [] 0 h.outcome h.did (walk.takes_modem MakesBlocks in_blocks h.outcome)
     (takes_modem_loses_nothing h.outcome (ring_fields s) h.did.list (ring_fields t) h.did.does)
-    (takes_modem_held h.outcome)
+    (walk.takes_modem HeldBack in_held h.outcome)
 call_did s t call.HoldTransmit a none h =
-    did _ s t (with_accepted []) [] 0 0 h.did holds_make
+    did _ s t (with_accepted []) [] 0 0 h.did (walk.holds MakesBlocks in_blocks)
     (holds_lose_nothing (ring_fields s) h.did.list (ring_fields t) h.did.does)
-    holds_held
+    (walk.holds HeldBack in_held)
 call_did s t call.ReleaseTransmit a none h =
-    did _ s t (with_accepted []) [] 0 0 h.did releases_make
+    did _ s t (with_accepted []) [] 0 0 h.did (walk.releases MakesBlocks in_blocks)
     (releases_lose_nothing (ring_fields s) h.did.list (ring_fields t) h.did.does)
-    releases_held
+    (walk.releases HeldBack in_held)
 call_did s t (call.QueueUrgent byte) a none h =
-    did _ s t (overtaken_by byte h.outcome) [] 0 0 h.did (queues_urgent_make byte h.outcome)
+    did _ s t (overtaken_by byte h.outcome) [] 0 0 h.did (walk.queues_urgent MakesBlocks in_blocks byte h.outcome)
     (queues_urgent_loses_only byte h.outcome (ring_fields s) h.did.list (ring_fields t) h.did.does)
-    (queues_urgent_held byte h.outcome)
+    (walk.queues_urgent HeldBack in_held byte h.outcome)
 call_did s t call.ClearTransmit a none h =
-    did _ s t (without_dropped h.outcome) [] 0 0 h.did (clears_transmit_make h.outcome)
+    did _ s t (without_dropped h.outcome) [] 0 0 h.did (walk.clears_transmit MakesBlocks in_blocks h.outcome)
     (clears_transmit_loses_only h.outcome (ring_fields s) h.did.list (ring_fields t) h.did.does)
-    (clears_transmit_held h.outcome)
+    (walk.clears_transmit HeldBack in_held h.outcome)
 call_did s t call.ClearReceive a none h =
-    did _ s t (with_accepted []) (to_take s) 0 0 h.did (clears_receive_make h.outcome)
+    did _ s t (with_accepted []) (to_take s) 0 0 h.did (walk.clears_receive MakesBlocks in_blocks h.outcome)
     (clears_receive_loses_nothing (ring_fields s) h.outcome h.did.list (ring_fields t) h.did.does)
-    (clears_receive_held h.outcome)
+    (walk.clears_receive HeldBack in_held h.outcome)
 call_did s t (call.SetLowMark mark) a none h =
-    did _ s t (with_accepted []) [] 0 0 h.did (sets_low_mark_make mark)
+    did _ s t (with_accepted []) [] 0 0 h.did (walk.sets_low_mark MakesBlocks in_blocks mark)
     (sets_low_mark_loses_nothing mark (ring_fields s) h.did.list (ring_fields t) h.did.does)
-    (sets_low_mark_held mark)
+    (walk.sets_low_mark HeldBack in_held mark)
 call_did s t call.TakeLow a none h =
-    did _ s t (with_accepted []) [] 0 0 h.did (takes_low_make h.outcome)
+    did _ s t (with_accepted []) [] 0 0 h.did (walk.takes_low MakesBlocks in_blocks h.outcome)
     (takes_low_loses_nothing h.outcome (ring_fields s) h.did.list (ring_fields t) h.did.does)
-    (takes_low_held h.outcome)
+    (walk.takes_low HeldBack in_held h.outcome)
 call_did s t (call.TryHandle limit rounds) a none h =
-    did _ s t (with_accepted []) [] 0 0 h.did (tries_make limit rounds h.outcome)
+    did _ s t (with_accepted []) [] 0 0 h.did (walk.tries MakesBlocks in_blocks limit rounds h.outcome)
     (tries_lose_nothing limit rounds h.outcome (ring_fields s) h.did.list (ring_fields t) h.did.does)
-    (tries_held limit rounds h.outcome)
+    (walk.tries HeldBack in_held limit rounds h.outcome)
 call_did s t (call.Restart interrupts) a none h =
-    did _ s t (with_accepted []) [] 0 0 h.did (restarts_make interrupts.0)
+    did _ s t (with_accepted []) [] 0 0 h.did (walk.restarts MakesBlocks in_blocks interrupts.0)
     (restarts_lose_nothing interrupts.0 (ring_fields s) h.did.list (ring_fields t) h.did.does)
-    (restarts_held interrupts.0)
+    (walk.restarts HeldBack in_held interrupts.0)
 
 -- ---- what it does to the chip
 

@@ -22,11 +22,12 @@ use Rattle.uart_ring.proofs.RegisterBits.{saved_lsr-append}
 use Rattle.uart_ring_runs.specs.declared.call.RingCall.{RingCall}
 use Rattle.uart_ring_runs.specs.declared.call.RingCall.TheVariants as call
 use Rattle.uart_ring_runs.specs.declared.call.RingAnswer.{RingAnswer}
-use Rattle.uart_ring_runs.specs.RingRun.{RingState, under, ring_machine, RingCallStep}
-use Rattle.uart_ring_runs.specs.RingBytes.{to_send, to_take, queued_by, gone_in, to_send_with, KeepsOrder}
+use Rattle.uart_ring_runs.specs.RingRun.{RingState, under, ring_machine, IsOfRings, RingCallStep}
+use Rattle.uart_ring_runs.specs.RingBytes.{to_send, to_take, queued_by, gone_in, KeepsOrder}
 use Rattle.uart_ring_runs.proofs.RingLasts.{wired_call}
 use Rattle.uart_ring_runs.proofs.RingRts.{modes_at, InRingSession}
 use Rattle.uart_ring_runs.proofs.RingPasses.{RingPasses, InLine, ring_passes_call, untold_line_of}
+use Rattle.uart_ring_runs.proofs.RingGoes.{in_order}
 
 -- from s to t these events came and these accesses were made: what was written to DATA, and then what waits, is what
 -- waited and what was queued, if the order was kept; what left the receive ring and what is left of it was there or was
@@ -99,12 +100,6 @@ pub record InEnd (x : Modes) (s : RingState) : Type 0 where
 
 -- ---- a ring call
 
--- a call that does not overtake or drop adds what it queues to what waits
-in_order : (c : RingCall) (a : RingAnswer) (bytes : List ℕ) → KeepsOrder c → to_send_with c a bytes ≡ bytes ++ queued_by c a
-in_order (call.QueueUrgent byte) a bytes o = absurd o
-in_order call.ClearTransmit a bytes o = absurd o
-in_order other a bytes o = refl
-
 -- a call: its events are the first of those that were ahead
 pub record CallPasses (x : Modes) (c : RingCall) (a : RingAnswer) (s t : RingState) : Type 0 where
   pub events : List Event
@@ -131,8 +126,9 @@ of_ring x M s t c a p = record {
   sound = p.passed.passed.sound;
 }
 
-pub call_passes : (x : Modes) (s t : RingState) (c : RingCall) (a : RingAnswer) → InEnd x s → RingCallStep s c a t → CallPasses x c a s t
-call_passes x s t c a w h = of_ring x _ s t c a (ring_passes_call x s t c a w.session (wired_call s c w.wired) h)
+pub call_passes : (x : Modes) (s t : RingState) (c : RingCall) (a : RingAnswer) → IsOfRings c → InEnd x s → RingCallStep s c a t →
+    CallPasses x c a s t
+call_passes x s t c a own w h = of_ring x _ s t c a (ring_passes_call x s t c a w.session own (wired_call s c own w.wired) h)
 
 -- ---- what is known happens
 

@@ -1,4 +1,4 @@
--- Flow control loses nothing: over numbers, and then over calls of a link.
+-- Flow control loses nothing in its direction: over numbers, and then over calls of a link.
 use Rattle.std.proofs.Common.{◌≡◌, ◌⊎◌, inl, inr, ◌≤◌, ◌<◌, ◌+◌, ◌-◌, ℕ, Bool, true, false, nat_lt, List, [], ◌∷◌, length}
 use Rattle.std.proofs.Common.{length-append, refl, sym, ◌∙◌, ap, subst, arith, if◌then◌else◌, Option, Some, None}
 use Rattle.std.specs.List.{AllByRecursion}
@@ -25,7 +25,7 @@ use Rattle.uart_link.specs.declared.call.Side.{Side}
 use Rattle.uart_link.specs.declared.call.Side.TheVariants.{Left, Right}
 use Rattle.uart_link.specs.declared.link.Link.{Link}
 use Rattle.uart_link.specs.Cable.{on_cable, lines_joined}
-use Rattle.uart_link.specs.Carried.{receiver_at, IsJoined}
+use Rattle.uart_link.specs.Carried.{receiver_at, IsJoined, OfEnd}
 use Rattle.uart_link.specs.Flow.{Pace, receive_room, hold_of, AdjustsIfAny, SeesLines, IsPacedStep, arrived_in, since_call}
 use Rattle.uart_link.specs.Flow.{since_at}
 use Rattle.uart_link.specs.Flow.{AllInTime, BeginsPaced, IsPaced, DropsNothing}
@@ -195,39 +195,39 @@ after_call pace since Held (call.AdjustRts marks) s t r e adjusts sound few behi
 after_call pace since Held other s t r e adjusts sound few behind h =
     received pace since Held _ s t r e behind (IsRtsOff t) (λ off. rts_same s t e.kept off) h
 
-record OneFlows (pace : Pace) (since away : ℕ) (s t r : RingState) : Type 0 where
-  pub here : FlowsTo pace since r t
-  pub there : FlowsTo pace away t r
-  pub whole : Drop (receiver_at s) (receiver_at t) → ⊥
+-- a call at the receiving end: how many have come since RTS was adjusted
+abbrev since_after : RingCall → (since : ℕ) → (s t : RingState) → ℕ
+since_after c since s t = since_call (hold_of c) (since + ((receiver_at t).arrived - (receiver_at s).arrived))
 
-one_flows : (x : Modes) (pace : Pace) (since away : ℕ) (moments : List Moment) (c : RingCall) (a : RingAnswer) (s t r : RingState) →
-    InEnd x s → IsSound (ring_machine r) → EndStep moments r s c a t → SeesLines moments → AdjustsIfAny pace (hold_of c) t r →
-    pace.between ≤ 16 → since + ((receiver_at t).arrived - (receiver_at s).arrived) ≤ pace.between →
-    (receiver_at t).arrived ≤ length (ring_machine r).chip.transmitter.wire →
-    (receiver_at r).arrived ≤ length (ring_machine t).chip.transmitter.wire → FlowsTo pace since r s → FlowsTo pace away s r →
-    OneFlows pace (since_call (hold_of c) (since + ((receiver_at t).arrived - (receiver_at s).arrived))) away s t r
-one_flows x pace since away moments c a s t r w sound h lines adjusts small few behind beyond flows back =
+-- the flow from one end to the other after a call, and that no character was dropped there
+record Flowed (pace : Pace) (since : ℕ) (from to before : RingState) : Type 0 where
+  pub flow : FlowsTo pace since from to
+  pub whole : Drop (receiver_at before) (receiver_at to) → ⊥
+
+-- the receiver at s acts, and the sender at r stays
+receiver_acts : (x : Modes) (pace : Pace) (since : ℕ) (moments : List Moment) (c : RingCall) (a : RingAnswer) (s t r u : RingState) →
+    InEnd x s → IsSound (ring_machine r) → EndStep moments r s c a t → u ≡ r → AdjustsIfAny pace (hold_of c) t u → pace.between ≤ 16 →
+    since + ((receiver_at t).arrived - (receiver_at s).arrived) ≤ pace.between →
+    (receiver_at t).arrived ≤ length (ring_machine u).chip.transmitter.wire → FlowsTo pace since r s →
+    Flowed pace (since_after c since s t) u t s
+receiver_acts x pace since moments c a s t r u w sound h same adjusts small few behind flows =
     let e = end_moves x moments r s t c a w h in
     let came : since + e.came ≡ since + ((receiver_at t).arrived - (receiver_at s).arrived) = omega (arith, e.arrived) in
     let within : since + e.came ≤ pace.between = omega (arith, came, few) in
+    let A : RingState → Type 0 = λ o. AdjustsIfAny pace (hold_of c) t o in
+    let B : RingState → Type 0 = λ o. (receiver_at t).arrived ≤ length (ring_machine o).chip.transmitter.wire in
     let N : ℕ → Type 0 = λ n. FlowsTo pace (since_call (hold_of c) n) r t in
+    let S : RingState → Type 0 = λ o. FlowsTo pace (since_after c since s t) o t in
+    let behind' = subst B same behind in
     record {
-      here = subst N came (record {
-        flow = after_call pace since _ c s t r e adjusts sound within behind flows;
+      flow = subst S (sym same) (subst N came (record {
+        flow = after_call pace since _ c s t r e (subst A same adjusts) sound within behind' flows;
         checks = flows.checks;
         fifo = e.fifo ∙ flows.fifo;
-        behind = behind;
-      });
-      there = sent pace away moments _ s t r e lines beyond back;
-      whole = keeps_all pace since _ _ s t r e behind within small flows;
+        behind = behind';
+      }));
+      whole = keeps_all pace since _ _ s t r e behind' within small flows;
     }
-
--- ---- calls of a link
-
-record StepFlows (pace : Pace) (left right : ℕ) (a b : Link) : Type 0 where
-  pub leftward : FlowsTo pace left b.right b.left
-  pub rightward : FlowsTo pace right b.left b.right
-  pub whole : (end : Side) → Drop (receiver_at (at_end end a)) (receiver_at (at_end end b)) → ⊥
 
 -- nothing came to the end that stays
 still_number : (number : ℕ) (r u : RingState) → u ≡ r → number ≡ number + ((receiver_at u).arrived - (receiver_at r).arrived)
@@ -239,99 +239,94 @@ no_drop_still r u same d =
     no_drop_same (receiver_at r) (receiver_at u) (ap (λ (o : RingState). (receiver_at o).marks) same)
     (ap (λ (o : RingState). (receiver_at o).is_unscheduled_lost) same) d
 
-step_flows : (x y : Modes) (pace : Pace) (left right : ℕ) (side : Side) (moments : List Moment) (c : RingCall) (answer : RingAnswer)
+-- the sender at s acts, and the receiver at r stays
+sender_acts : (x : Modes) (pace : Pace) (since : ℕ) (moments : List Moment) (c : RingCall) (a : RingAnswer) (s t r u : RingState) →
+    InEnd x s → EndStep moments r s c a t → u ≡ r → SeesLines moments →
+    (receiver_at u).arrived ≤ length (ring_machine t).chip.transmitter.wire → FlowsTo pace since s r →
+    Flowed pace (since + ((receiver_at u).arrived - (receiver_at r).arrived)) t u r
+sender_acts x pace since moments c a s t r u w h same lines behind flows =
+    let B : RingState → Type 0 = λ o. (receiver_at o).arrived ≤ length (ring_machine t).chip.transmitter.wire in
+    let R : RingState → Type 0 = λ o. FlowsTo pace since t o in
+    let N : ℕ → Type 0 = λ n. FlowsTo pace n t u in
+    let e = end_moves x moments r s t c a w h in
+    record {
+      flow = subst N (still_number since r u same)
+          (subst R (sym same) (sent pace since moments _ s t r e lines (subst B same behind) flows));
+      whole = no_drop_still r u same;
+    }
+
+-- ---- calls of a link
+
+-- the same from an end to the other one
+abbrev FlowedTo : Pace → ℕ → (end : Side) → (a b : Link) → Type 0
+FlowedTo pace since end a b = Flowed pace since (at_end end b) (at_end (other end) b) (at_end (other end) a)
+
+step_flows : (x y : Modes) (pace : Pace) (since : ℕ) (end side : Side) (moments : List Moment) (c : RingCall) (answer : RingAnswer)
     (a b : Link) → InEnd x a.left → InEnd y a.right →
     EndStep moments (at_end (other side) a) (at_end side a) c answer (at_end side b) → at_end (other side) b ≡ at_end (other side) a →
-    IsJoined b → SeesLines moments → AdjustsIfAny pace (hold_of c) (at_end side b) (at_end (other side) b) → pace.between ≤ 16 →
-    left + ((receiver_at b.left).arrived - (receiver_at a.left).arrived) ≤ pace.between →
-    right + ((receiver_at b.right).arrived - (receiver_at a.right).arrived) ≤ pace.between →
-    FlowsTo pace left a.right a.left → FlowsTo pace right a.left a.right →
-    StepFlows pace
-    (since_at Left side (hold_of c) (left + ((receiver_at b.left).arrived - (receiver_at a.left).arrived)))
-    (since_at Right side (hold_of c) (right + ((receiver_at b.right).arrived - (receiver_at a.right).arrived))) a b
-step_flows x y pace left right Left moments c answer a b w v h same joined lines adjusts small in_left in_right l r =
-    let A : RingState → Type 0 = λ o. AdjustsIfAny pace (hold_of c) b.left o in
-    let W : RingState → Type 0 = λ o. (receiver_at b.left).arrived ≤ length (ring_machine o).chip.transmitter.wire in
-    let B : RingState → Type 0 = λ o. (receiver_at o).arrived ≤ length (ring_machine b.left).chip.transmitter.wire in
-    let one = one_flows x pace left right moments c answer a.left b.left a.right w v.session.stands.sound h lines
-    (subst A same adjusts) small in_left (subst W same joined.left.behind) (subst B same joined.right.behind) l r in
-    let number = left + ((receiver_at b.left).arrived - (receiver_at a.left).arrived) in
-    let L : RingState → Type 0 = λ o. FlowsTo pace (since_call (hold_of c) number) o b.left in
-    let R : RingState → Type 0 = λ o. FlowsTo pace right b.left o in
-    let N : ℕ → Type 0 = λ n. FlowsTo pace n b.left b.right in
-    record {
-      leftward = subst L (sym same) one.here;
-      rightward = subst N (still_number right a.right b.right same) (subst R (sym same) one.there);
-      whole = λ end. ends end one.whole;
-    }
-  where
-    ends : (end : Side) → (Drop (receiver_at a.left) (receiver_at b.left) → ⊥) →
-        Drop (receiver_at (at_end end a)) (receiver_at (at_end end b)) → ⊥
-    ends Left here d = here d
-    ends Right here d = no_drop_still a.right b.right same d
-step_flows x y pace left right Right moments c answer a b w v h same joined lines adjusts small in_left in_right l r =
-    let A : RingState → Type 0 = λ o. AdjustsIfAny pace (hold_of c) b.right o in
-    let W : RingState → Type 0 = λ o. (receiver_at b.right).arrived ≤ length (ring_machine o).chip.transmitter.wire in
-    let B : RingState → Type 0 = λ o. (receiver_at o).arrived ≤ length (ring_machine b.right).chip.transmitter.wire in
-    let one = one_flows y pace right left moments c answer a.right b.right a.left v w.session.stands.sound h lines
-    (subst A same adjusts) small in_right (subst W same joined.right.behind) (subst B same joined.left.behind) r l in
-    let number = right + ((receiver_at b.right).arrived - (receiver_at a.right).arrived) in
-    let L : RingState → Type 0 = λ o. FlowsTo pace (since_call (hold_of c) number) o b.right in
-    let R : RingState → Type 0 = λ o. FlowsTo pace left b.right o in
-    let N : ℕ → Type 0 = λ n. FlowsTo pace n b.right b.left in
-    record {
-      rightward = subst L (sym same) one.here;
-      leftward = subst N (still_number left a.left b.left same) (subst R (sym same) one.there);
-      whole = λ end. ends end one.whole;
-    }
-  where
-    ends : (end : Side) → (Drop (receiver_at a.right) (receiver_at b.right) → ⊥) →
-        Drop (receiver_at (at_end end a)) (receiver_at (at_end end b)) → ⊥
-    ends Right here d = here d
-    ends Left here d = no_drop_still a.left b.left same d
+    IsJoined b → OfEnd end side (SeesLines moments) →
+    OfEnd (other end) side (AdjustsIfAny pace (hold_of c) (at_end (other end) b) (at_end end b)) → pace.between ≤ 16 →
+    since + ((receiver_at (at_end (other end) b)).arrived - (receiver_at (at_end (other end) a)).arrived) ≤ pace.between →
+    FlowsTo pace since (at_end end a) (at_end (other end) a) →
+    FlowedTo pace (since_at (other end) side (hold_of c)
+    (since + ((receiver_at (at_end (other end) b)).arrived - (receiver_at (at_end (other end) a)).arrived))) end a b
+step_flows x y pace since Left Left moments c answer a b w v h same joined lines adjusts small few flows =
+    sender_acts x pace since moments c answer a.left b.left a.right b.right w h same lines joined.right.behind flows
+step_flows x y pace since Right Right moments c answer a b w v h same joined lines adjusts small few flows =
+    sender_acts y pace since moments c answer a.right b.right a.left b.left v h same lines joined.left.behind flows
+step_flows x y pace since Left Right moments c answer a b w v h same joined lines adjusts small few flows =
+    receiver_acts y pace since moments c answer a.right b.right a.left b.left v w.session.stands.sound h same adjusts small few
+    joined.right.behind flows
+step_flows x y pace since Right Left moments c answer a b w v h same joined lines adjusts small few flows =
+    receiver_acts x pace since moments c answer a.left b.left a.right b.right w v.session.stands.sound h same adjusts small few
+    joined.left.behind flows
 
-chain_flows : (x y : Modes) (pace : Pace) (left right : ℕ) (a b : Link) (steps : List Step) → InEnd x a.left →
-    InEnd y a.right → IsJoined a → LinkChain a steps b → pace.between ≤ 16 → AllByRecursion (IsPacedStep pace) steps →
-    AllInTime Left pace.between left steps → AllInTime Right pace.between right steps → FlowsTo pace left a.right a.left →
-    FlowsTo pace right a.left a.right → (end : Side) → Drop (receiver_at (at_end end a)) (receiver_at (at_end end b)) → ⊥
-chain_flows x y pace left right a b [] w v joined h small each in_left in_right l r end d =
-    no_drop_still (at_end end a) (at_end end b) (ap (λ (o : Link). at_end end o) h) d
-chain_flows x y pace left right a b (step ∷ steps) w v joined h small each in_left in_right l r end d =
+chain_flows : (x y : Modes) (pace : Pace) (since : ℕ) (end : Side) (a b : Link) (steps : List Step) → InEnd x a.left →
+    InEnd y a.right → IsJoined a → LinkChain a steps b → pace.between ≤ 16 → AllByRecursion (IsPacedStep pace end) steps →
+    AllInTime (other end) pace.between since steps → FlowsTo pace since (at_end end a) (at_end (other end) a) →
+    Drop (receiver_at (at_end (other end) a)) (receiver_at (at_end (other end) b)) → ⊥
+chain_flows x y pace since end a b [] w v joined h small each in_time flow d =
+    no_drop_still (at_end (other end) a) (at_end (other end) b) (ap (λ (o : Link). at_end (other end) o) h) d
+chain_flows x y pace since end a b (step ∷ steps) w v joined h small each in_time flow d =
     let here = sym h.0 in
+    let to = other end in
     let w' = subst (λ (o : Link). InEnd x o.left) here w in
     let v' = subst (λ (o : Link). InEnd y o.right) here v in
     let joined' = subst (λ (o : Link). IsJoined o) here joined in
     let one = link_chain x y step.before step.after (step ∷ []) w' v' joined' (refl, h.1, refl) in
     let after = joined_after x y _ _ _ _ step.before step.after one in
-    let flows = step_flows x y pace left right step.call.side step.call.moments.items step.call.call step.answer step.before step.after
-    w' v' h.1.0 h.1.1 after each.0.lines each.0.adjusts small in_left.0 in_right.0
-    (subst (λ (o : Link). FlowsTo pace left o.right o.left) here l) (subst (λ (o : Link). FlowsTo pace right o.left o.right) here r) in
-    let rest = chain_flows x y pace (since_at Left step.call.side (hold_of step.call.call) (left + arrived_in Left step))
-    (since_at Right step.call.side (hold_of step.call.call) (right + arrived_in Right step)) step.after b steps one.in_left one.in_right
-    after h.2 small each.1 in_left.1 in_right.1 flows.leftward flows.rightward end in
-    split (subst (λ (o : Link). Drop (receiver_at (at_end end o)) (receiver_at (at_end end step.after)) → ⊥) h.0 (flows.whole end)) rest
-    (drop_split (receiver_at (at_end end a)) (receiver_at (at_end end step.after)) (receiver_at (at_end end b)) d)
+    let flowed = step_flows x y pace since end step.call.side step.call.moments.items step.call.call step.answer step.before step.after
+    w' v' h.1.0 h.1.1 after each.0.lines each.0.adjusts small in_time.0
+    (subst (λ (o : Link). FlowsTo pace since (at_end end o) (at_end to o)) here flow) in
+    let now = since_at to step.call.side (hold_of step.call.call) (since + arrived_in to step) in
+    let rest = chain_flows x y pace now end step.after b steps one.in_left one.in_right after h.2 small each.1 in_time.1 flowed.flow in
+    split (subst (λ (o : Link). Drop (receiver_at (at_end to o)) (receiver_at (at_end to step.after)) → ⊥) h.0 flowed.whole) rest
+    (drop_split (receiver_at (at_end to a)) (receiver_at (at_end to step.after)) (receiver_at (at_end to b)) d)
   where
     split : {A B : Type 0} → (A → ⊥) → (B → ⊥) → A ⊎ B → ⊥
     split f g (inl p) = f p
     split f g (inr q) = g q
 
 -- at first
-begins_flow : (pace : Pace) (from to : RingState) → BeginsPaced pace from → BeginsPaced pace to →
+begins_flow : (pace : Pace) (from to : RingState) → BeginsPaced pace from to →
     (receiver_at to).arrived ≤ length (ring_machine from).chip.transmitter.wire → FlowsTo pace 0 from to
-begins_flow pace from to sender receiver behind =
+begins_flow pace from to begins behind =
     let none : waits to ≡ 0 =
-    sym (length-map (receiver_at to).queue (λ character. character.byte)) ∙ ap length receiver.empty in
+    sym (length-map (receiver_at to).queue (λ character. character.byte)) ∙ ap length begins.empty in
     record {
-      flow = inl (omega (arith, none), let room = receiver.room in omega (arith, none, room));
-      checks = sender.checks;
-      fifo = receiver.fifo;
+      flow = inl (omega (arith, none), let room = begins.room in omega (arith, none, room));
+      checks = begins.checks;
+      fifo = begins.fifo;
       behind = behind;
     }
 
-pub drops_nothing : (x y : Modes) (pace : Pace) (a b : Link) (steps : List Step) → InEnd x a.left →
-    InEnd y a.right → IsJoined a → LinkChain a steps b → IsPaced pace a steps → (end : Side) → DropsNothing end a b
-drops_nothing x y pace a b steps w v joined chain paced end d =
-    chain_flows x y pace 0 0 a b steps w v joined chain paced.few paced.each (paced.in_time Left) (paced.in_time Right)
-    (begins_flow pace a.right a.left (paced.begins Right) (paced.begins Left) joined.left.behind)
-    (begins_flow pace a.left a.right (paced.begins Left) (paced.begins Right) joined.right.behind) end (drop_receivers _ _ d)
+behind_at : (end : Side) (a : Link) → IsJoined a →
+    (receiver_at (at_end (other end) a)).arrived ≤ length (ring_machine (at_end end a)).chip.transmitter.wire
+behind_at Left a joined = joined.right.behind
+behind_at Right a joined = joined.left.behind
+
+pub drops_nothing : (x y : Modes) (pace : Pace) (end : Side) (a b : Link) (steps : List Step) → InEnd x a.left →
+    InEnd y a.right → IsJoined a → LinkChain a steps b → IsPaced pace end a steps → DropsNothing (other end) a b
+drops_nothing x y pace end a b steps w v joined chain paced d =
+    chain_flows x y pace 0 end a b steps w v joined chain paced.few paced.each paced.in_time
+    (begins_flow pace (at_end end a) (at_end (other end) a) paced.begins (behind_at end a joined)) (drop_receivers _ _ d)

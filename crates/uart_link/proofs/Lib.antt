@@ -2,10 +2,12 @@ pub mod Schedules
 pub mod Wireds
 pub mod Arranges
 pub mod Crossings
+pub mod Lines
 pub mod Lefts
 pub mod EndPasses
 pub mod EndActs
 pub mod LinkSteps
+pub mod Takings
 pub mod LinkLaws
 pub mod Held
 pub mod Calm

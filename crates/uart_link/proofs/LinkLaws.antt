@@ -27,7 +27,7 @@ use Rattle.uart_link.specs.declared.link.Link.{Link}
 use Rattle.uart_link.specs.Brought.{brought, numbered}
 use Rattle.uart_link.specs.Cable.{on_cable}
 use Rattle.uart_link.specs.Carried.{on_the_way, to_be_taken, receiver_at, not_dropped, Carries, IsJoined, BothReady, NoneCut}
-use Rattle.uart_link.specs.Carried.{AllKeepOrderAt, queued_at, gone_at}
+use Rattle.uart_link.specs.Carried.{AllKeepOrderAt, queued_at, bytes_gone}
 use Rattle.uart_link.specs.Link.{at_end, other, Step, LinkChain}
 use Rattle.uart_link.specs.Parts.{LinkConserves}
 use Rattle.uart_link.specs.Told.{NoLineAt}
@@ -38,6 +38,7 @@ use Rattle.uart_link.proofs.Flows.{drops_nothing}
 use Rattle.uart_link.proofs.LinkSteps.{Brings, LinkPasses, link_chain, joined_after}
 use Rattle.uart_link.proofs.LinkTold.{tells_drops}
 use Rattle.uart_link.proofs.Rounds.{progresses, empties_receiver, keeps_rts_on, all_leave_armed}
+use Rattle.uart_link.proofs.Takings.{takes_all_gone}
 use Rattle.uart_link.proofs.Wholes.{delivers, carries_all}
 
 -- ---- characters that have not arrived are not dropped
@@ -188,7 +189,7 @@ carries x y a b steps w v joined whole whole_too chain end = by end (link_chain 
   where
     by : (end : Side) →
         LinkPasses x y (λ end. AllKeepOrderAt end steps) (λ end. NoLineAt end steps) (λ end. queued_at end steps)
-        (λ end. gone_at end steps) a b → Carries end a steps b
+        (λ end. bytes_gone end steps) a b → Carries end a steps b
     by Left p = carried x y _ _ _ _ _ _ _ _ a.left b.left a.right b.right _ _ p.left p.right p.rightward joined.right.behind whole
         whole_too p.in_right
     by Right p = carried y x _ _ _ _ _ _ _ _ a.right b.right a.left b.left _ _ p.right p.left p.leftward joined.left.behind
@@ -208,9 +209,10 @@ link_conserves a b steps sound_left sound_right wired_left wired_right joined re
     record {
       rightward = all steps b chain Left;
       leftward = all steps b chain Right;
+      taken = λ end. takes_all_gone end steps;
       tells = λ end. tells_drops x y a b steps end w v joined chain;
-      whole = λ pace paced. delivers a b steps sound_left sound_right (all steps b chain Left) (all steps b chain Right)
-          (drops_nothing x y pace a b steps w v joined chain paced);
+      whole = λ end pace paced. delivers end a b steps (sound_there end) (all steps b chain end)
+          (drops_nothing x y pace end a b steps w v joined chain paced);
       progress = λ end. progresses x y end steps a b w v joined chain
           (λ part u within none. carries_all end a u part (sound_there end) none (all part u within end));
       handled = λ end. empties_receiver x y end steps a b w v joined chain;

@@ -31,24 +31,8 @@ Called s t =
 
 called : (s t : RingState) (c : RingCall) (a : RingAnswer) → CabledCallStep s c a t → Called s t
 called s t call.Next a h = inr h.passes.machine
-called s t (call.Queue bytes) a h = inl (h.did.list, h.did.path)
-called s t call.ResumeTransmit a h = inl (h.did.list, h.did.path)
-called s t (call.Take slots) a h = inl (h.did.list, h.did.path)
-called s t call.Service a h = inl (h.did.list, h.did.path)
-called s t (call.Handle limit) a h = inl (h.did.list, h.did.path)
-called s t call.Retrigger a h = inl (h.did.list, h.did.path)
-called s t call.TakeLine a h = inl (h.did.list, h.did.path)
-called s t call.TakeModem a h = inl (h.did.list, h.did.path)
-called s t call.HoldTransmit a h = inl (h.did.list, h.did.path)
-called s t call.ReleaseTransmit a h = inl (h.did.list, h.did.path)
-called s t (call.QueueUrgent byte) a h = inl (h.did.list, h.did.path)
-called s t call.ClearTransmit a h = inl (h.did.list, h.did.path)
-called s t call.ClearReceive a h = inl (h.did.list, h.did.path)
-called s t (call.SetLowMark mark) a h = inl (h.did.list, h.did.path)
-called s t call.TakeLow a h = inl (h.did.list, h.did.path)
-called s t (call.TryHandle limit rounds) a h = inl (h.did.list, h.did.path)
-called s t (call.Restart interrupts) a h = inl (h.did.list, h.did.path)
-called s t (call.AdjustRts marks) a h = inl (h.did.list, h.did.path)
+called s t (call.Driver c) a h = absurd h
+called s t other a h = inl (h.did.list, h.did.path)
 
 sound_called : (s t : RingState) → IsSound (ring_machine s) → Called s t → IsSound (ring_machine t)
 sound_called s t w (inl h) = sound_path h.0 (ring_machine s) (ring_machine t) w h.1

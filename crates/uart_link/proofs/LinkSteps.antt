@@ -1,8 +1,8 @@
 -- What calls of a link do at both ends, and to the bytes that cross the cable.
-use Rattle.std.proofs.Common.{◌≡◌, ◌≢◌, ℕ, List, [], ◌∷◌, ◌++◌, length-append, append_assoc, append-nil, refl, sym}
+use Rattle.std.proofs.Common.{◌≡◌, ◌≢◌, ℕ, List, [], ◌∷◌, ◌++◌, map, length-append, append_assoc, append-nil, refl, sym}
 use Rattle.std.proofs.Common.{◌∙◌}
 use Rattle.std.proofs.Common.{ap, subst, arith}
-use Rattle.std.proofs.lemmas.List.{drop-append-le}
+use Rattle.std.proofs.lemmas.List.{drop-append-le, map-append}
 use Rattle.uart_events.specs.declared.event.Event.{Event}
 use Rattle.uart_chip.specs.Machine.{MachineState}
 use Rattle.uart_chip.proofs.Lists.{each-append}
@@ -12,13 +12,14 @@ use Rattle.uart_ring_runs.specs.declared.call.RingCall.{RingCall}
 use Rattle.uart_ring_runs.specs.declared.call.RingCall.TheVariants as call
 use Rattle.uart_ring_runs.specs.declared.call.RingAnswer.{RingAnswer}
 use Rattle.uart_ring_runs.specs.RingRun.{RingState, ring_machine}
-use Rattle.uart_ring_runs.specs.RingBytes.{to_take, queued_by, gone_in, KeepsOrder}
+use Rattle.uart_ring_runs.specs.RingBytes.{to_take, queued_by, taken_by, gone_in, KeepsOrder}
 use Rattle.uart_link.specs.declared.call.Moment.{Moment}
 use Rattle.uart_link.specs.declared.call.Side.{Side}
 use Rattle.uart_link.specs.declared.call.Side.TheVariants.{Left, Right}
 use Rattle.uart_link.specs.declared.link.Link.{Link}
 use Rattle.uart_link.specs.Brought.{brought, AllClean, IsClean, IsBrought}
-use Rattle.uart_link.specs.Carried.{of_end, OfEnd, queued_at, gone_at, AllKeepOrderAt, IsJoined}
+use Rattle.uart_link.specs.Carried.{Gone, Taken, Cleared, byte_of, left_in, of_end, OfEnd, queued_at, gone_at, bytes_gone}
+use Rattle.uart_link.specs.Carried.{AllKeepOrderAt, IsJoined}
 use Rattle.uart_link.specs.Link.{at_end, other, EndStep, Step, LinkChain}
 use Rattle.uart_link.specs.Told.{NoLineAt}
 use Rattle.uart_link.proofs.Crossings.{brought-append, Crosses, crosses-refl, crosses-trans, crosses-more}
@@ -189,17 +190,46 @@ pub joined_after : (x y : Modes) (Order NoLine : Side → Type 0) (queued gone :
     LinkPasses x y Order NoLine queued gone a b → IsJoined b
 joined_after x y Order NoLine queued gone a b p = record { left = p.leftward.now; right = p.rightward.now }
 
+-- ---- what left a receive ring
+
+bytes_as : (how : ℕ → Gone) → ((byte : ℕ) → byte_of (how byte) ≡ byte) → (bytes : List ℕ) → map byte_of (map how bytes) ≡ bytes
+bytes_as how same [] = refl
+bytes_as how same (byte ∷ bytes) = λ i. same byte i ∷ bytes_as how same bytes i
+
+-- in a call
+bytes_left : (c : RingCall) (a : RingAnswer) (there : List ℕ) → map byte_of (left_in c a there) ≡ gone_in c a there
+bytes_left call.ClearReceive a there = bytes_as Cleared (λ byte. refl) there
+bytes_left other a there = bytes_as Taken (λ byte. refl) (taken_by other a)
+
+left_at : (end side : Side) (gone : List Gone) (bytes : List ℕ) → map byte_of gone ≡ bytes →
+    map byte_of (of_end end side gone) ≡ of_end end side bytes
+left_at Left Left gone bytes e = e
+left_at Right Right gone bytes e = e
+left_at Left Right gone bytes e = refl
+left_at Right Left gone bytes e = refl
+
+-- in a call, and then in others
+bytes_gone_first : (end : Side) (step : Step) (steps : List Step) → bytes_gone end (step ∷ steps) ≡
+    of_end end step.call.side (gone_in step.call.call step.answer (to_take (at_end step.call.side step.before))) ++ bytes_gone end steps
+bytes_gone_first end step steps =
+    let there = to_take (at_end step.call.side step.before) in
+    map-append byte_of (of_end end step.call.side (left_in step.call.call step.answer there)) (gone_at end steps)
+    ∙ ap (λ zs. zs ++ bytes_gone end steps)
+    (left_at end step.call.side _ _ (bytes_left step.call.call step.answer there))
+
 pub link_chain : (x y : Modes) (a b : Link) (steps : List Step) → InEnd x a.left → InEnd y a.right →
     IsJoined a → LinkChain a steps b →
     LinkPasses x y (λ end. AllKeepOrderAt end steps) (λ end. NoLineAt end steps) (λ end. queued_at end steps)
-    (λ end. gone_at end steps) a b
+    (λ end. bytes_gone end steps) a b
 link_chain x y a b [] w v joined h = rw h (links-refl x y a w v joined)
 link_chain x y a b (step ∷ steps) w v joined h =
-    let P : Link → Type 0 = λ o. LinkPasses x y (λ end. AllKeepOrderAt end (step ∷ steps)) (λ end. NoLineAt end (step ∷ steps))
-    (λ end. queued_at end (step ∷ steps)) (λ end. gone_at end (step ∷ steps)) o b in
+    let P : (Side → List ℕ) → Link → Type 0 = λ gone o. LinkPasses x y (λ end. AllKeepOrderAt end (step ∷ steps))
+    (λ end. NoLineAt end (step ∷ steps)) (λ end. queued_at end (step ∷ steps)) gone o b in
     let here = sym h.0 in
     let first = link_step x y step.before step.after step.call.side step.call.moments.items step.call.call step.answer
     (subst (λ (o : Link). InEnd x o.left) here w) (subst (λ (o : Link). InEnd y o.right) here v)
     (subst (λ (o : Link). IsJoined o) here joined) h.1.0 h.1.1 in
     let rest = link_chain x y step.after b steps first.in_left first.in_right (joined_after x y _ _ _ _ step.before step.after first) h.2 in
-    subst P h.0 (links-trans x y _ _ _ _ _ _ _ _ step.before step.after b first rest)
+    let both = links-trans x y _ _ _ _ _ _ _ _ step.before step.after b first rest in
+    subst (P (λ end. bytes_gone end (step ∷ steps))) h.0
+    (subst (λ (gone : Side → List ℕ). P gone step.before) (λ i end. sym (bytes_gone_first end step steps) i) both)

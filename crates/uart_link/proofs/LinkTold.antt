@@ -73,7 +73,7 @@ record TookLine (s : RingState) (value : ℕ) (t : RingState) : Type 0 where
   pub path : Path MachineStep (ring_machine s) (Read offsets.LSR status ∷ []) (ring_machine t)
   pub told : value ≡ bit_or (bit_or status (ring_fields s).driver.lsr) (ring_fields s).line
 
-took_line : (s t : RingState) (value : ℕ) → RingCalled TakesLine line_answer (line_answer value) s t → TookLine s value t
+took_line : (s t : RingState) (value : ℕ) → RingCalled MachineStep TakesLine line_answer (line_answer value) s t → TookLine s value t
 took_line s t value h =
     let d = h.did.does in
     record {
@@ -95,7 +95,7 @@ drop_told r s t seen Told before late shown (inl d) = by (shown (inr d))
 -- since r no line status was told: one that is told after s tells of a drop
 pub take_line_tells : (x : Modes) (Order NoLine : Type 0) (r s t : RingState) (q e : List ℕ) (events : List Event)
     (value : ℕ) → EndPasses x Order q NoLine r s e events → NoLine → InEnd x s →
-    RingCalled TakesLine line_answer (line_answer value) s t →
+    RingCalled MachineStep TakesLine line_answer (line_answer value) s t →
     Drop (ring_machine r).chip.receiver (ring_machine t).chip.receiver → has_any value LSR.OVERRUN_ERROR.0 ≡ true
 take_line_tells x Order NoLine r s t q e events value p none w h d =
     let took = took_line s t value h in

@@ -2,7 +2,7 @@
 use Rattle.std.proofs.Common.{◌≡◌, ℕ, zero, suc, ◌+◌, ◌-◌, ◌<◌, ◌≤◌, Bool, true, false, List, [], ◌∷◌, ◌++◌, length, take, drop}
 use Rattle.std.proofs.Common.{append_assoc, length-append, refl, sym, ◌∙◌, ap, subst, arith, nat_lt, filter, map, None, ◌*◌, inl, inr}
 use Rattle.std.proofs.lemmas.Grind.{common_steps}
-use Rattle.std.proofs.lemmas.List.{length-drop, length-map, take-append-le, take-append-drop}
+use Rattle.std.proofs.lemmas.List.{length-drop, length-map, take-append-le, take-append-drop, map-append}
 use Rattle.std.proofs.Math.Seq.{take-append_seam}
 use Rattle.std.proofs.lemmas.List.Sums.{length-filter, count_by-le-length}
 use Rattle.uart_events.specs.declared.event.Event.{Event}
@@ -17,7 +17,7 @@ use Rattle.uart_chip.specs.Transmitter.{shift_bytes, TransmitterState, held}
 use Rattle.uart_chip.specs.declared.receiver.Character.{Character}
 use Rattle.uart_chip.specs.declared.receiver.Origin.{Origin}
 use Rattle.uart_ring.specs.Lossless.{data_written}
-use Rattle.uart_ring_runs.specs.RingBytes.{to_take, gone_in, to_send, queued_by}
+use Rattle.uart_ring_runs.specs.RingBytes.{to_take, to_send, queued_by}
 use Rattle.uart_ring_runs.specs.RingRun.{RingState, ring_machine}
 use Rattle.uart_ring_runs.specs.declared.call.RingCall.{RingCall}
 use Rattle.uart_ring_runs.specs.declared.call.RingCall.TheVariants as call
@@ -26,7 +26,8 @@ use Rattle.uart_link.specs.declared.call.Side.TheVariants.{Left, Right}
 use Rattle.uart_link.specs.declared.link.Link.{Link}
 use Rattle.uart_link.specs.Brought.{brought}
 use Rattle.uart_link.specs.Cable.{on_cable}
-use Rattle.uart_link.specs.Carried.{of_end, receiver_at, to_be_taken, on_the_way, queued_at, gone_at, AllKeepOrderAt, IsJoined, OfEnd}
+use Rattle.uart_link.specs.Carried.{byte_of, left_in, of_end, receiver_at, to_be_taken, on_the_way, queued_at, gone_at, bytes_gone}
+use Rattle.uart_link.specs.Carried.{AllKeepOrderAt, IsJoined, OfEnd}
 use Rattle.uart_link.specs.Flow.{DropsNothing, CarriesAll, hold_of}
 use Rattle.uart_link.specs.Link.{at_end, other, Step, EndStep, LinkChain, LinkCallStep}
 use Rattle.uart_link.specs.Progress.{Progresses, PassTime, BringAll, HandlesAll, TakesAll, Begin, Comes, HasRounds, arrives_in, in_calls_at}
@@ -123,7 +124,7 @@ goes x y end steps a b g chain =
   where
     at : (end : Side) →
         LinkPasses x y (λ end. AllKeepOrderAt end steps) (λ end. NoLineAt end steps) (λ end. queued_at end steps)
-        (λ end. gone_at end steps) a b →
+        (λ end. bytes_gone end steps) a b →
         Numbers (AllKeepOrderAt end steps) (queued_at end steps) (at_end end a) (at_end end b) (at_end (other end) a)
         (at_end (other end) b)
     at Left p = numbers x y _ _ _ _ _ _ _ _ a.left b.left a.right b.right _ _ p.left p.right p.rightward
@@ -545,11 +546,14 @@ delivered x y end ticks total goal (suc left) steps a b g chain order roomy fits
 
 -- ---- what was taken
 
-gone_append : (end : Side) (front back : List Step) → gone_at end (front ++ back) ≡ gone_at end front ++ gone_at end back
-gone_append end [] back = refl
-gone_append end (step ∷ front) back =
-    let one = of_end end step.call.side (gone_in step.call.call step.answer (to_take (at_end step.call.side step.before))) in
-    ap (λ zs. one ++ zs) (gone_append end front back) ∙ sym (append_assoc one (gone_at end front) (gone_at end back))
+gone_append : (end : Side) (front back : List Step) → bytes_gone end (front ++ back) ≡ bytes_gone end front ++ bytes_gone end back
+gone_append end front back = ap (map byte_of) (all end front back) ∙ map-append byte_of (gone_at end front) (gone_at end back)
+  where
+    all : (end : Side) (front back : List Step) → gone_at end (front ++ back) ≡ gone_at end front ++ gone_at end back
+    all end [] back = refl
+    all end (step ∷ front) back =
+        let one = of_end end step.call.side (left_in step.call.call step.answer (to_take (at_end step.call.side step.before))) in
+        ap (λ zs. one ++ zs) (all end front back) ∙ sym (append_assoc one (gone_at end front) (gone_at end back))
 
 -- a list that is long enough begins with what the whole begins with
 begins_with : (all gone rest more : List ℕ) → gone ++ rest ≡ all ++ more → length all ≤ length gone →
@@ -561,11 +565,11 @@ begins_with all gone rest more e h =
 
 -- so does what was taken in more calls
 all_gone : (end : Side) (front back steps : List Step) (there later : List ℕ) → steps ≡ front ++ back →
-    gone_at end front ≡ there ++ later → (more : List ℕ) × (gone_at end steps ≡ there ++ more)
+    bytes_gone end front ≡ there ++ later → (more : List ℕ) × (bytes_gone end steps ≡ there ++ more)
 all_gone end front back steps there later whole e = (
-  later ++ gone_at end back,
-  ap (λ (zs : List Step). gone_at end zs) whole ∙ (gone_append end front back ∙
-      (ap (λ zs. zs ++ gone_at end back) e ∙ append_assoc there later (gone_at end back))),
+  later ++ bytes_gone end back,
+  ap (λ (zs : List Step). bytes_gone end zs) whole ∙ (gone_append end front back ∙
+      (ap (λ zs. zs ++ bytes_gone end back) e ∙ append_assoc there later (bytes_gone end back))),
 )
 
 -- no character was dropped before, if none is dropped in the end
@@ -589,7 +593,7 @@ stands_before x y end u b steps g chain = by end (link_chain x y u b steps g.lef
   where
     by : (end : Side) →
         LinkPasses x y (λ end. AllKeepOrderAt end steps) (λ end. NoLineAt end steps) (λ end. queued_at end steps)
-        (λ end. gone_at end steps) u b → (o : Origin) →
+        (λ end. bytes_gone end steps) u b → (o : Origin) →
         origin_stands (receiver_at (at_end end b)).marks (receiver_at (at_end end b)).is_unscheduled_lost o ≡ true →
         origin_stands (receiver_at (at_end end u)).marks (receiver_at (at_end end u)).is_unscheduled_lost o ≡ true
     by Left p o stands = p.left.went.receives.moved.falls o stands
@@ -622,10 +626,10 @@ progresses x y end steps a b w v joined chain carries order none journals rounds
     let way = on_the_way (at_end end d.mid) (at_end to d.mid) in
     let there = to_be_taken (at_end to a) ++ on_the_way s (at_end to a) in
     let left = to_be_taken (at_end to d.mid) ++ way in
-    let now : gone_at to d.front ++ left ≡ there ++ queued_at end d.front =
+    let now : bytes_gone to d.front ++ left ≡ there ++ queued_at end d.front =
     all ∙ sym (append_assoc (to_be_taken (at_end to a)) (on_the_way s (at_end to a)) (queued_at end d.front)) in
-    let sizes : length (gone_at to d.front ++ left) ≡ length (there ++ queued_at end d.front) = ap length now in
-    let first = length-append (gone_at to d.front) left in
+    let sizes : length (bytes_gone to d.front ++ left) ≡ length (there ++ queued_at end d.front) = ap length now in
+    let first = length-append (bytes_gone to d.front) left in
     let third = length-append (to_be_taken (at_end to d.mid)) way in
     let fourth = length-append (to_take (at_end to d.mid)) (received (ring_machine (at_end to d.mid))) in
     let ring : length (to_take (at_end to d.mid)) ≡ 0 = ap length d.none in
@@ -634,7 +638,7 @@ progresses x y end steps a b w v joined chain carries order none journals rounds
     let second = length-append there (queued_at end d.front) in
     let few = way_length (at_end end d.mid) (at_end to d.mid) in
     let count = n.all order_there in
-    let r = begins_with there (gone_at to d.front) left (queued_at end d.front) now
+    let r = begins_with there (bytes_gone to d.front) left (queued_at end d.front) now
     (omega (arith, sizes, first, second, third, fourth, ring, chars, few, count, d.come, n.behind)) in
     all_gone to d.front d.back steps there r.0 d.whole r.1
   where

@@ -20,13 +20,14 @@ use Rattle.uart_ring.specs.Armed.{IsArmed}
 use Rattle.uart_ring.specs.Lossless.{data_written}
 use Rattle.uart_ring.specs.Ring.{RingFields, ring_fields, sendable, waiting}
 use Rattle.uart_ring_runs.proofs.RingArming.{call_leaves}
-use Rattle.uart_ring_runs.proofs.RingBlocks.{resumes_make}
+use Rattle.uart_ring_runs.proofs.RingWalk as walk
+use Rattle.uart_ring_runs.proofs.RingBlocks.{MakesBlocks, in_blocks}
 use Rattle.uart_ring_runs.proofs.RingDue.{mark_holds}
 use Rattle.uart_ring_runs.proofs.RingRts.{modes_at}
 use Rattle.uart_ring_runs.specs.Edges.{is_line_up}
 use Rattle.uart_ring_runs.specs.RingArmed.{thr_empty_of, is_due, IsRingArmed, RearmsRing}
 use Rattle.uart_ring_runs.specs.RingBytes.{to_send, queued_by, KeepsOrder}
-use Rattle.uart_ring_runs.specs.RingRun.{RingState, RingCallStep, ring_machine}
+use Rattle.uart_ring_runs.specs.RingRun.{RingState, RingCallStep, ring_machine, IsOfRings}
 use Rattle.uart_ring_runs.specs.declared.call.RingAnswer.{RingAnswer}
 use Rattle.uart_ring_runs.specs.declared.call.RingAnswer.TheVariants as answers
 use Rattle.uart_ring_runs.specs.declared.call.RingCall.{RingCall}
@@ -66,7 +67,7 @@ resumed x moments there s t a w h lines clear free some empty =
     let E : ChipState → Type 0 = λ o. IsThrEmpty o.transmitter in
     let thr : IsThrEmpty m.chip.transmitter = subst E (sym chip)
     (lasts-before_mark IsThrEmpty thr_empty_lasts.in_tick (ring_machine s).ahead (ring_machine s).chip empty) in
-    let blocks = (resumes_make f d.list (ring_fields t) d.does).blocks in
+    let blocks = (walk.resumes MakesBlocks in_blocks f d.list (ring_fields t) d.does).blocks in
     let A : List Access → Type 0 = λ l. AllLeaveMcr l in
     let leaves : AllLeaveMcr d.list = subst A (sym blocks.joined) (blocks_leave _ blocks.blocks blocks.fit) in
     let off : is_loopback m.chip.latches ≡ false =
@@ -134,13 +135,14 @@ some_queued c down enabled due =
 
 -- a call that serves interrupts is a ring call, and keeps the order
 record Serves (s t : RingState) (c : RingCall) (a : RingAnswer) : Type 0 where
+  pub own : IsOfRings c
   pub ring : RingCallStep s c a t
   pub order : KeepsOrder c
   pub none : length (queued_by c a) ≡ 0
 
 serves : (s t : RingState) (c : RingCall) (a : RingAnswer) → CabledCallStep s c a t → ServedAll c a → Serves s t c a
-serves s t (call.Handle limit) (answers.Handled handled) h served = record { ring = h; order = tt; none = refl }
-serves s t call.Service (answers.Count count) h served = record { ring = h; order = tt; none = refl }
+serves s t (call.Handle limit) (answers.Handled handled) h served = record { own = tt; ring = h; order = tt; none = refl }
+serves s t call.Service (answers.Count count) h served = record { own = tt; ring = h; order = tt; none = refl }
 serves s t other a h served = absurd served
 
 pub handled_on : (x : Modes) (moments : List Moment) (there s t : RingState) (c : RingCall) (a : RingAnswer) → InEnd x s →
@@ -161,9 +163,9 @@ handled_on x moments there s t c a w h served unchecked armed free some empty =
     let ready = armed_begins moments there s t c a h armed in
     let off = dlab-in _ m.chip b.session.session.stands.modes ∙ b.session.session.open_modes.dlab in
     let checks = ap (λ (f : RingFields). f.driver.config.check_cts_before_sending) same ∙ unchecked in
-    let after = call_leaves begins t c a checks off r.ring (inl ready) in
+    let after = call_leaves begins t c a r.own checks off r.ring (inl ready) in
     let down = served_down moments there s t c a h served in
-    let p = call_passes x begins t c a b.session r.ring in
+    let p = call_passes x begins t c a r.own b.session r.ring in
     let kept : length (data_written p.ends.made ++ to_send t) ≡ length (to_send begins ++ queued_by c a) =
     ap length (p.ends.sent r.order) in
     let sum = length-append (data_written p.ends.made) (to_send t) in
@@ -213,4 +215,5 @@ leaves_armed x moments there s t c a w h unchecked armed =
         let F : RingFields → Type 0 = λ f. IsArmed (thr_empty_of (ring_machine t)) f in
         subst F (sym h.passes.rings) first
     by begins call.Next a h checks off (inr q) = absurd (omega (arith, q))
-    by begins other a h checks off p = call_leaves begins t other a checks off h p
+    by begins (call.Driver c) a h checks off p = absurd h
+    by begins other a h checks off p = call_leaves begins t other a tt checks off h p

@@ -19,7 +19,7 @@ use Rattle.uart_link.specs.declared.call.Side.{Side}
 use Rattle.uart_link.specs.declared.call.Side.TheVariants.{Left, Right}
 use Rattle.uart_link.specs.declared.link.Link.{Link}
 use Rattle.uart_link.specs.Cable.{to_come, settled, arranged, on_cable, lines_from}
-use Rattle.uart_link.specs.Carried.{IsJoined, AllKeepOrderAt, queued_at, gone_at}
+use Rattle.uart_link.specs.Carried.{IsJoined, AllKeepOrderAt, queued_at, bytes_gone}
 use Rattle.uart_link.specs.Link.{at_end, other, Step, EndStep, LinkChain, LinkCallStep}
 use Rattle.uart_link.specs.Progress.{ticks_in, arrives_in, of_side, in_calls_at, enough_ticks, EndInNext}
 use Rattle.uart_link.specs.Told.{NoLineAt}
@@ -66,7 +66,7 @@ pub wire_grows : (x y : Modes) (end : Side) (steps : List Step) (a b : Link) →
 wire_grows x y end steps a b g chain = by end
   where
     p : LinkPasses x y (λ end. AllKeepOrderAt end steps) (λ end. NoLineAt end steps) (λ end. queued_at end steps)
-        (λ end. gone_at end steps) a b
+        (λ end. bytes_gone end steps) a b
     p = link_chain x y a b steps g.left g.right g.joined chain
 
     longer : (s t : RingState) → Grown (ring_machine s).chip.transmitter.wire (ring_machine t).chip.transmitter →

@@ -14,7 +14,6 @@ use Rattle.uart_chip.proofs.conservation.Moves.{waits_stands}
 use Rattle.uart_ring_runs.specs.RingRun.{ring_machine}
 use Rattle.uart_ring_runs.specs.RingBytes.{to_take}
 use Rattle.uart_link.specs.declared.call.Side.{Side}
-use Rattle.uart_link.specs.declared.call.Side.TheVariants.{Left, Right}
 use Rattle.uart_link.specs.declared.link.Link.{Link}
 use Rattle.uart_link.specs.Brought.{numbered}
 use Rattle.uart_link.specs.Carried.{on_the_way, receiver_at, not_dropped, queued_at, Carries}
@@ -70,10 +69,6 @@ carries_all end a b steps w none carries order =
     carries order ∙ (ap (λ zs. to_take (at_end to a) ++ zs) (split ∙ (λ i. first i ++ second i)) ∙
     sym (append_assoc (to_take (at_end to a)) (waiting (ring_machine (at_end to a))) come))
 
-pub delivers : (a b : Link) (steps : List Step) → IsSound (ring_machine a.left) → IsSound (ring_machine a.right) → Carries Left a steps b →
-    Carries Right a steps b → ((end : Side) → DropsNothing end a b) → Delivers a steps b
-delivers a b steps left right rightward leftward none = record { drops_nothing = none; carries_all = all }
-  where
-    all : (end : Side) → CarriesAll end a steps b
-    all Left = carries_all Left a b steps right (none Right) rightward
-    all Right = carries_all Right a b steps left (none Left) leftward
+pub delivers : (end : Side) (a b : Link) (steps : List Step) → IsSound (ring_machine (at_end (other end) a)) → Carries end a steps b →
+    DropsNothing (other end) a b → Delivers end a steps b
+delivers end a b steps sound carries none = record { drops_nothing = none; carries_all = carries_all end a b steps sound none carries }

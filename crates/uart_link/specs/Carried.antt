@@ -1,5 +1,5 @@
 -- What a link carries: where each byte is that was queued at one end.
-use Rattle.std.specs.Prelude.{◌≡◌, ℕ, List, [], ◌∷◌, ◌++◌, map, filter}
+use Rattle.std.specs.Prelude.{◌≡◌, ◌≢◌, ℕ, List, [], ◌∷◌, ◌++◌, map, filter}
 use Rattle.uart_chip.specs.declared.receiver.Character.{Character}
 use Rattle.uart_chip.specs.Transmitter.{held}
 use Rattle.uart_chip.specs.Receiver.{ReceiverState}
@@ -7,7 +7,10 @@ use Rattle.uart_chip.specs.Conserved.{stands, waiting}
 use Rattle.uart_run.specs.Ready.{Ready}
 use Rattle.uart_run.specs.Uncut.{IsUncut}
 use Rattle.uart_ring_runs.specs.RingRun.{RingState, ring_machine, under}
-use Rattle.uart_ring_runs.specs.RingBytes.{to_send, to_take, queued_by, gone_in, KeepsOrder}
+use Rattle.uart_ring_runs.specs.declared.call.RingAnswer.{RingAnswer}
+use Rattle.uart_ring_runs.specs.declared.call.RingCall.{RingCall}
+use Rattle.uart_ring_runs.specs.declared.call.RingCall.TheVariants as call
+use Rattle.uart_ring_runs.specs.RingBytes.{to_send, to_take, queued_by, taken_by, KeepsOrder}
 use Rattle.uart_link.specs.declared.call.Side.{Side}
 use Rattle.uart_link.specs.declared.call.Side.TheVariants.{Left, Right}
 use Rattle.uart_link.specs.declared.link.Link.{Link}
@@ -39,10 +42,10 @@ not_dropped r characters = map (λ character. character.byte) (filter (stands r)
 -- ---- the calls of one end
 
 -- this of a call at the end; of a call at the other end nothing
-abbrev pub of_end : (end side : Side) → List ℕ → List ℕ
-of_end Left Left bytes = bytes
-of_end Right Right bytes = bytes
-of_end end side bytes = []
+abbrev pub of_end : {A : Type 0} → (end side : Side) → List A → List A
+of_end Left Left items = items
+of_end Right Right items = items
+of_end end side items = []
 
 abbrev pub OfEnd : (end side : Side) → Type 0 → Type 0
 OfEnd Left Left Property = Property
@@ -55,12 +58,48 @@ queued_at end [] = []
 queued_at end (step ∷ steps) =
     of_end end step.call.side (queued_by step.call.call step.answer) ++ queued_at end steps
 
--- those that left its receive ring, since calls took them or dropped them
-abbrev pub gone_at : Side → List Step → List ℕ
+-- a byte that left a receive ring: a call returned it, or a `clear_receive` dropped it
+pub data Gone : Type 0 where
+  Taken : (byte : ℕ) → Gone
+  Cleared : (byte : ℕ) → Gone
+
+abbrev pub byte_of : Gone → ℕ
+byte_of (Taken byte) = byte
+byte_of (Cleared byte) = byte
+
+-- those that a call returned
+abbrev pub taken_among : List Gone → List ℕ
+taken_among [] = []
+taken_among (Taken byte ∷ gone) = byte ∷ taken_among gone
+taken_among (Cleared byte ∷ gone) = taken_among gone
+
+-- the bytes that left the receive ring in a call: those that it returned; or, if it clears the ring, all that were
+-- there
+abbrev pub left_in : RingCall → RingAnswer → (there : List ℕ) → List Gone
+left_in call.ClearReceive a there = map Cleared there
+left_in other a there = map Taken (taken_by other a)
+
+-- those that left the receive ring of an end, in order: taken or cleared; as bytes; and those that were taken
+abbrev pub gone_at : Side → List Step → List Gone
 gone_at end [] = []
 gone_at end (step ∷ steps) =
-    of_end end step.call.side (gone_in step.call.call step.answer (to_take (at_end step.call.side step.before)))
+    of_end end step.call.side (left_in step.call.call step.answer (to_take (at_end step.call.side step.before)))
     ++ gone_at end steps
+
+abbrev pub bytes_gone : Side → List Step → List ℕ
+bytes_gone end steps = map byte_of (gone_at end steps)
+
+abbrev pub taken_at : Side → List Step → List ℕ
+taken_at end steps = taken_among (gone_at end steps)
+
+-- no call of an end clears its receive ring
+abbrev pub NoneClears : Side → List Step → Type 0
+NoneClears end [] = Unit {0}
+NoneClears end (step ∷ steps) = OfEnd end step.call.side (step.call.call ≢ call.ClearReceive) × NoneClears end steps
+
+-- an end that never clears its receive ring has taken all that left it
+abbrev pub TakesAllGone : Side → List Step → Type 0
+TakesAllGone end steps = NoneClears end steps → taken_at end steps ≡ bytes_gone end steps
 
 -- no call of an end lets a byte overtake, or drops one that waits to be sent
 abbrev pub AllKeepOrderAt : Side → List Step → Type 0
@@ -69,13 +108,13 @@ AllKeepOrderAt end (step ∷ steps) = OfEnd end step.call.side (KeepsOrder step.
 
 -- ---- what is carried
 
--- From one end to the other, in this order: what was taken, what waits to be taken, what is on its way. That is what
--- waited to be taken, what was on its way and what was queued, less what the receiver has dropped.
+-- From one end to the other, in this order: what was taken or cleared, what waits to be taken, what is on its way. That
+-- is what waited to be taken, what was on its way and what was queued, less what the receiver has dropped.
 abbrev pub Carries : Side → Link → List Step → Link → Type 0
 Carries end a steps b =
     let to = other end in
     AllKeepOrderAt end steps →
-    gone_at to steps ++ (to_be_taken (at_end to b) ++ on_the_way (at_end end b) (at_end to b)) ≡
+    bytes_gone to steps ++ (to_be_taken (at_end to b) ++ on_the_way (at_end end b) (at_end to b)) ≡
     to_take (at_end to a) ++ not_dropped (receiver_at (at_end to b))
     ((receiver_at (at_end to a)).queue ++ numbered (receiver_at (at_end to a)).arrived
     (on_the_way (at_end end a) (at_end to a) ++ queued_at end steps))

@@ -1,4 +1,5 @@
--- Flow control: what both programs do so that no character is dropped.
+-- Flow control in one direction: what both programs do so that no character is dropped on the way from one end to the
+-- other. It may be so in both directions, or in one alone.
 use Rattle.std.specs.Prelude.{◌≡◌, ◌⊎◌, ◌≤◌, ◌<◌, ◌+◌, ◌-◌, ⊤, ℕ, true, List, [], ◌∷◌, ◌++◌, length, Option}
 use Rattle.std.specs.Prelude.{Some, None}
 use Rattle.std.specs.List.{AllByRecursion}
@@ -14,7 +15,7 @@ use Rattle.uart_link.specs.declared.call.Side.{Side}
 use Rattle.uart_link.specs.declared.call.Side.TheVariants.{Left, Right}
 use Rattle.uart_link.specs.declared.link.Link.{Link}
 use Rattle.uart_link.specs.Cable.{on_cable}
-use Rattle.uart_link.specs.Carried.{receiver_at, to_be_taken, on_the_way, queued_at, gone_at, AllKeepOrderAt}
+use Rattle.uart_link.specs.Carried.{receiver_at, to_be_taken, on_the_way, queued_at, bytes_gone, AllKeepOrderAt, OfEnd}
 use Rattle.uart_link.specs.Link.{at_end, other, Step}
 
 -- An end that is held back sends no more from its rings, but up to 17 characters may still come from its transmitter,
@@ -39,8 +40,9 @@ abbrev pub hold_of : RingCall → Option ℕ
 hold_of (call.AdjustRts marks) = Some marks.hold
 hold_of other = None
 
--- a call that adjusts RTS, by what it leaves at its end and at the other one: its mark is high enough; the handler has
--- run, so nothing waits in the receiver, or the receive ring is full; and few characters are on the cable
+-- a call of the receiver that adjusts RTS, by what it leaves at its end and at the other one: its mark is high enough;
+-- the handler has run, so nothing waits in the receiver, or the receive ring is full; and few characters are on the
+-- cable
 pub record Adjusts (pace : Pace) (hold : ℕ) (here there : RingState) : Type 0 where
   pub mark : pace.on_cable + pace.between < hold
   pub served : (waiting (ring_machine here) ≡ []) ⊎ (receive_room here ≡ 0)
@@ -55,11 +57,13 @@ AdjustsIfAny pace (Some hold) here there = Adjusts pace hold here there
 abbrev pub SeesLines : List Moment → Type 0
 SeesLines moments = (others : List Moment) × (moments ≡ moment.Lines ∷ others)
 
--- a call of programs that keep to flow control
-pub record IsPacedStep (pace : Pace) (step : Step) : Type 0 where
-  pub lines : SeesLines step.call.moments.items
-  pub adjusts : let here = step.call.side in
-      AdjustsIfAny pace (hold_of step.call.call) (at_end here step.after) (at_end (other here) step.after)
+-- a call of programs that keep to flow control from this end to the other one: one of the sender finds the lines as the
+-- receiver gives them, and one of the receiver adjusts RTS as it should, if it does
+pub record IsPacedStep (pace : Pace) (end : Side) (step : Step) : Type 0 where
+  pub lines : OfEnd end step.call.side (SeesLines step.call.moments.items)
+  pub adjusts : let to = other end in
+      OfEnd to step.call.side
+      (AdjustsIfAny pace (hold_of step.call.call) (at_end to step.after) (at_end end step.after))
 
 -- ---- how many characters arrive
 
@@ -87,20 +91,20 @@ AllInTime end most since (step ∷ steps) =
 
 -- ---- both programs
 
--- an end at first: it checks CTS before it sends, its FIFO is on, nothing waits in its receiver, and its receive ring
--- has room for what may still come
-pub record BeginsPaced (pace : Pace) (s : RingState) : Type 0 where
-  pub checks : (ring_fields s).driver.config.check_cts_before_sending ≡ true
-  pub fifo : (ring_machine s).chip.fifo ≡ true
-  pub empty : waiting (ring_machine s) ≡ []
-  pub room : pace.on_cable + pace.between < receive_room s
+-- two ends at first: the sender checks CTS before it sends; the receiver's FIFO is on, nothing waits in the receiver,
+-- and its receive ring has room for what may still come
+pub record BeginsPaced (pace : Pace) (from to : RingState) : Type 0 where
+  pub checks : (ring_fields from).driver.config.check_cts_before_sending ≡ true
+  pub fifo : (ring_machine to).chip.fifo ≡ true
+  pub empty : waiting (ring_machine to) ≡ []
+  pub room : pace.on_cable + pace.between < receive_room to
 
--- a part of a run in which both programs keep to these numbers
-pub record IsPaced (pace : Pace) (a : Link) (steps : List Step) : Type 0 where
+-- a part of a run in which both programs keep to these numbers in the direction from this end to the other one
+pub record IsPaced (pace : Pace) (end : Side) (a : Link) (steps : List Step) : Type 0 where
   pub few : pace.between ≤ FIFO_SIZE
-  pub begins : (end : Side) → BeginsPaced pace (at_end end a)
-  pub each : AllByRecursion (IsPacedStep pace) steps
-  pub in_time : (end : Side) → AllInTime end pace.between 0 steps
+  pub begins : BeginsPaced pace (at_end end a) (at_end (other end) a)
+  pub each : AllByRecursion (IsPacedStep pace end) steps
+  pub in_time : AllInTime (other end) pace.between 0 steps
 
 -- ---- what follows
 
@@ -108,16 +112,16 @@ pub record IsPaced (pace : Pace) (a : Link) (steps : List Step) : Type 0 where
 abbrev pub DropsNothing : Side → (a b : Link) → Type 0
 DropsNothing end a b = IsDrop (ring_machine (at_end end a)) (ring_machine (at_end end b)) → ⊥
 
--- From one end to the other, in this order: what was taken, what waits to be taken, what is on its way. That is what
--- waited to be taken, what was on its way and what was queued, without exception.
+-- From one end to the other, in this order: what was taken or cleared, what waits to be taken, what is on its way. That
+-- is what waited to be taken, what was on its way and what was queued, without exception.
 abbrev pub CarriesAll : Side → Link → List Step → Link → Type 0
 CarriesAll end a steps b =
     let to = other end in
     AllKeepOrderAt end steps →
-    gone_at to steps ++ (to_be_taken (at_end to b) ++ on_the_way (at_end end b) (at_end to b)) ≡
+    bytes_gone to steps ++ (to_be_taken (at_end to b) ++ on_the_way (at_end end b) (at_end to b)) ≡
     to_be_taken (at_end to a) ++ (on_the_way (at_end end a) (at_end to a) ++ queued_at end steps)
 
--- with flow control no character is dropped at either end, and each end carries all
-pub record Delivers (a : Link) (steps : List Step) (b : Link) : Type 0 where
-  pub drops_nothing : (end : Side) → DropsNothing end a b
-  pub carries_all : (end : Side) → CarriesAll end a steps b
+-- with flow control from an end to the other one no character is dropped there, and all is carried
+pub record Delivers (end : Side) (a : Link) (steps : List Step) (b : Link) : Type 0 where
+  pub drops_nothing : DropsNothing (other end) a b
+  pub carries_all : CarriesAll end a steps b

@@ -7,7 +7,7 @@ use Rattle.uart_ring_runs.specs.declared.call.RingCall.{RingCall}
 use Rattle.uart_ring_runs.specs.declared.call.RingCall.TheVariants as call
 use Rattle.uart_ring_runs.specs.declared.call.RingAnswer.{RingAnswer}
 use Rattle.uart_ring_runs.specs.declared.call.RingAnswer.TheVariants.{Done}
-use Rattle.uart_ring_runs.specs.RingRun.{RingState, RingCallStep, IsRingRunnable, ring_machine}
+use Rattle.uart_ring_runs.specs.RingRun.{RingState, RingCallStep, IsRingRunnable, IsOfRings, ring_machine}
 use Rattle.uart_link.specs.declared.call.LinkCall.{LinkCall}
 use Rattle.uart_link.specs.declared.call.Moment.{Moment}
 use Rattle.uart_link.specs.declared.call.Side.{Side}
@@ -24,9 +24,9 @@ abbrev pub other : Side → Side
 other Left = Right
 other Right = Left
 
--- there are at most as many slots as a ring call may have
+-- there are at most as many slots as a ring call may have, and the call is none of the driver under the rings
 abbrev pub IsLinkRunnable : LinkCall → Type 0
-IsLinkRunnable c = IsRingRunnable c.call
+IsLinkRunnable c = IsRingRunnable c.call × IsOfRings c.call
 
 -- ---- one call
 
@@ -40,9 +40,11 @@ pub record LetsPass (answer : RingAnswer) (s t : RingState) : Type 0 where
   pub answered : answer ≡ Done
   pub passes : ChangesMachine (settled (ring_machine s)) s t
 
--- the state that a ring call leaves and the answer that it returns, once its moments lie ahead
+-- the state that a ring call leaves and the answer that it returns, once its moments lie ahead; no call of a link is
+-- one of the driver under the rings
 abbrev pub CabledCallStep : RingState → RingCall → RingAnswer → RingState → Type 0
 CabledCallStep s call.Next answer t = LetsPass answer s t
+CabledCallStep s (call.Driver c) answer t = ⊥
 CabledCallStep s other answer t = RingCallStep s other answer t
 
 -- a call at one end, while the other end is as it is: its moments are arranged, and then the call is made

@@ -27,7 +27,7 @@ use Rattle.uart_link.specs.declared.call.Side.{Side}
 use Rattle.uart_link.specs.declared.call.Side.TheVariants.{Left, Right}
 use Rattle.uart_link.specs.declared.link.Link.{Link}
 use Rattle.uart_link.specs.Cable.{on_cable, lines_from}
-use Rattle.uart_link.specs.Carried.{queued_at, to_be_taken, on_the_way, gone_at, AllKeepOrderAt, OfEnd}
+use Rattle.uart_link.specs.Carried.{queued_at, to_be_taken, on_the_way, bytes_gone, AllKeepOrderAt, OfEnd}
 use Rattle.uart_link.specs.Flow.{SeesLines, DropsNothing, receive_room, hold_of, arrived_in}
 use Rattle.uart_link.specs.Link.{at_end, other, Step}
 
@@ -217,13 +217,13 @@ AllLeaveArmed end steps = AllByRecursion (λ step. OfEnd end step.call.side (Lea
 
 -- ---- what follows
 
--- what the other end took, begins with all that there was at first: what waited to be taken there, what was on the
--- cable, in the transmitter and in the rings of this end
+-- what the other end took, or cleared, begins with all that there was at first: what waited to be taken there, what was
+-- on the cable, in the transmitter and in the rings of this end
 abbrev pub TakesQueued : Side → Link → List Step → Type 0
 TakesQueued end a steps =
     let to = other end in
     (later : List ℕ)
-    × (gone_at to steps ≡ (to_be_taken (at_end to a) ++ on_the_way (at_end end a) (at_end to a)) ++ later)
+    × (bytes_gone to steps ≡ (to_be_taken (at_end to a) ++ on_the_way (at_end end a) (at_end to a)) ++ later)
 
 -- the rounds that are enough: as many as bytes wait in the rings, and one more for what is in the transmitter and on
 -- the cable

@@ -8,6 +8,7 @@
 
 mod call;
 mod device;
+pub mod laws;
 mod link;
 mod ring_call;
 #[cfg(test)]

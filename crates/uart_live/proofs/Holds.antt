@@ -25,8 +25,7 @@ use Rattle.uart_spec.specs.declared.registers.offsets.TheConstants as offsets
 use Rattle.uart_live.specs.Held.{is_due, expire}
 use Rattle.uart_live.specs.Laws.{Act, Read, Write, Ticks, Arrive, ArriveHolding, SetLines, TakeWire, after, in_turn}
 use Rattle.uart_live.specs.Laws.{is_data, withdrawing, seen, OnlyInterruptsShowHolding, IsHolding, HeldTimeoutsStay, DueTimeoutsInterrupt}
-use Rattle.uart_live.proofs.Lives.{both_if}
-use Rattle.uart_live.proofs.Orders.{if_given}
+use Rattle.uart_chip.proofs.AccessMoves.{both_if, ReadMove, takes, read_move, WriteMove, switches, clears, write_move}
 
 both_ifs : {A : Type 0} (R : A → A → Type 0) (x y v w : A) (b : Bool) → R x v → R y w → R (if b then x else y) (if b then v else w)
 both_ifs R x y v w true p q = p
@@ -249,21 +248,14 @@ to-due true count ticks limit e = go (nat_lt 0 count) refl (ticks == limit) refl
     go true p false q e = absurd (cc)
     go false p b q e = absurd (cc)
 
-due-read : (offset : ℕ) (c : ChipState) → is_data offset c ≡ false → Due c → Due (after_read offset c)
-due-read offset c n w =
-    if_given Due _ _ (offset == offsets.DATA)
-    (λ p. if_given Due _ _ (is_dlab_set c.latches) (λ q. w) (λ q. let no : true ≡ false = rw (p, q) at n in absurd (cc)))
-    (λ p. both_if Due _ _ (offset == offsets.ISR) (both_if Due _ _ (is_thr_empty (interrupt c)) w w)
-    (both_if Due _ _ (offset == offsets.LSR) w (both_if Due _ _ (offset == offsets.MSR) w w)))
+due-reads : (offset : ℕ) (c d : ChipState) → ReadMove offset c d → is_data offset c ≡ false → Due c → Due d
+due-reads offset c d (takes e q) n w = let no : true ≡ false = rw (e, q) at n in absurd (cc)
+due-reads offset c d _ n w = w
 
-due-write : (offset value : ℕ) (c : ChipState) → offset ≢ offsets.FCR → Due c → Due (after_write offset value c)
-due-write offset value c f w =
-    both_if Due _ _ (offset == offsets.DATA) (both_if Due _ _ (is_dlab_set c.latches) w w)
-    (both_if Due _ _ (offset == offsets.IER) (both_if Due _ _ (is_dlab_set c.latches) w w)
-    (if_given Due _ _ (offset == offsets.FCR)
-    (λ e. let fcr : offset ≡ offsets.FCR = grind (arith, common_steps) in absurd (f fcr))
-    (λ e. both_if Due _ _ (offset == offsets.LCR) w (both_if Due _ _ (offset == offsets.MCR) w
-    (both_if Due _ _ (offset == offsets.SPR) w w)))))
+due-writes : (offset value : ℕ) (c d : ChipState) → WriteMove offset value c d → offset ≢ offsets.FCR → Due c → Due d
+due-writes offset value c d (switches e m on) f w = absurd (f e)
+due-writes offset value c d (clears e) f w = absurd (f e)
+due-writes offset value c d _ f w = w
 
 due-ticks : (n : ℕ) (c : ChipState) → is_loopback c.latches ≡ false → Due c → Due (ticks n c)
 due-ticks zero c l w = w
@@ -288,8 +280,8 @@ due-arrival byte errors c w =
     (w.0, (waits, refl))
 
 due-after : (act : Act) (c : ChipState) → IsHolding act c → is_due c ≡ true → Due c → Due (after act c)
-due-after (Read offset) c h e w = due-read offset c h w
-due-after (Write offset value) c h e w = due-write offset value c h w
+due-after (Read offset) c h e w = due-reads offset c _ (read_move offset c) h w
+due-after (Write offset value) c h e w = due-writes offset value c _ (write_move offset value c h) h w
 due-after (Ticks count) c h e w = due-ticks count c h w
 due-after (Arrive byte errors) c h e w = absurd h
 due-after (ArriveHolding byte errors) c h e w = rw e (due-arrival byte errors c w)

@@ -1,11 +1,10 @@
 -- Whatever is done with a live chip, it stays live.
-use Rattle.std.proofs.Common.{◌≡◌, ℕ, zero, suc, ◌≤◌, ◌<◌, Bool, true, false, not, ◌&&◌, ◌==◌, nat_lt, nat_le, List, [], ◌∷◌, length}
+use Rattle.std.proofs.Common.{◌≡◌, ℕ, zero, suc, ◌≤◌, ◌<◌, Bool, true, false, not, ◌&&◌, nat_lt, nat_le, List, [], ◌∷◌, length}
 use Rattle.std.proofs.Common.{Option, Some, None, is_some, bit_or, drop, refl, arith, ◌∙◌, if◌then◌else◌}
 use Rattle.std.proofs.lemmas.Grind.{common_steps}
 use Rattle.std.proofs.lemmas.List.{length-drop}
 use Rattle.uart_events.specs.declared.event.BuildError.TheVariants.{BadTicks, BadWire}
 use Rattle.uart_events.specs.declared.event.Chip.{Chip}
-use Rattle.uart_events.specs.declared.event.Chip.TheVariants.{Uart16550A, Uart16450}
 use Rattle.uart_events.specs.declared.event.Event.TheVariants.{Lines}
 use Rattle.uart_events.specs.declared.event.TheConstants.{MAX_CHAR_TICKS, MAX_WIRE_CAPACITY}
 use Rattle.uart_chip.specs.declared.receiver.Character.{Character}
@@ -16,11 +15,9 @@ use Rattle.uart_spec.specs.Bits.{IsWithin, flag, has_any}
 use Rattle.uart_chip.specs.Transmitter as transmitter
 use Rattle.uart_chip.specs.Transmitter.{TransmitterState, room, looped_byte}
 use Rattle.uart_chip.specs.Receiver as receiver
-use Rattle.uart_chip.specs.Receiver.{ReceiverState, is_unscheduled, enter, replace, come_back, take_front, clear}
-use Rattle.uart_chip.specs.Chip.{ChipState, fresh, cut_of, is_dlab_set, is_loopback, ticks, arrive_live, take_wire, change_lines}
-use Rattle.uart_chip.specs.Chip.{identification, interrupt, is_thr_empty, after_read, after_write}
-use Rattle.uart_chip.specs.Chip.{set_fifo, control, switch, is_same, reset_receiver}
-use Rattle.uart_chip.specs.Chip.{reset_transmitter, set_trigger, trigger_level}
+use Rattle.uart_chip.specs.Receiver.{ReceiverState, is_unscheduled, enter, replace, come_back, take_front}
+use Rattle.uart_chip.specs.Chip.{ChipState, fresh, cut_of, is_loopback, ticks, arrive_live, take_wire, change_lines}
+use Rattle.uart_chip.specs.Chip.{identification, after_read, after_write}
 use Rattle.uart_chip.specs.Sound.{IsWhole}
 use Rattle.uart_chip.proofs.soundness.Builds.{whole_fresh}
 use Rattle.uart_chip.proofs.soundness.Idle.{whole_ticks}
@@ -30,19 +27,14 @@ use Rattle.uart_chip.proofs.soundness.Sounds.{steady_transmitter, whole_perform,
 use Rattle.uart_spec.specs.declared.registers.interrupt_type.InterruptType.{InterruptType}
 use Rattle.uart_spec.specs.declared.registers.interrupt_type.InterruptType.TheVariants.{ReceiverLineStatus}
 use Rattle.uart_spec.specs.declared.registers.interrupt_status.TheConstants.ISR
-use Rattle.uart_spec.specs.declared.registers.fifo_control.TheConstants.FCR
 use Rattle.uart_spec.specs.declared.registers.line_status.TheConstants.LSR
 use Rattle.uart_spec.specs.declared.registers.modem_status.TheConstants.MSR
-use Rattle.uart_spec.specs.declared.registers.offsets.TheConstants as offsets
 use Rattle.uart_live.specs.declared.fixed.TheConstants.{WIRE_ROOM}
 use Rattle.uart_live.specs.declared.errors.ChipError.TheVariants as ChipError
 use Rattle.uart_live.specs.Held.{is_due, expire, arrive_holding}
 use Rattle.uart_live.specs.Live.{IsLive}
 use Rattle.uart_live.specs.Refused as live
-
-pub both_if : {A : Type 0} (P : A → Type 0) (x y : A) (b : Bool) → P x → P y → P (if b then x else y)
-both_if P x y true p q = p
-both_if P x y false p q = q
+use Rattle.uart_chip.proofs.AccessMoves.{both_if, ReadMove, takes, read_move, WriteMove, sends, write_lasts}
 
 -- ---- none is lost unseen
 
@@ -111,37 +103,19 @@ keeps-ticks (suc n) c k =
       room-tick (is_loopback d.latches) d.transmitter w.1,
     )
 
+keeps-reads : (offset : ℕ) (c d : ChipState) → ReadMove offset c d → Keeps c → Keeps d
+keeps-reads offset c d (takes p q) k = (none_lost-take c.receiver.queue c.receiver k.0, k.1)
+keeps-reads offset c d _ k = k
+
 keeps-read : (offset : ℕ) (c : ChipState) → Keeps c → Keeps (after_read offset c)
-keeps-read offset c k =
-    both_if Keeps _ _ (offset == offsets.DATA) (both_if Keeps _ _ (is_dlab_set c.latches) k
-    (none_lost-take c.receiver.queue c.receiver k.0, k.1))
-    (both_if Keeps _ _ (offset == offsets.ISR) (both_if Keeps _ _ (is_thr_empty (interrupt c)) k k)
-    (both_if Keeps _ _ (offset == offsets.LSR) k (both_if Keeps _ _ (offset == offsets.MSR) k k)))
+keeps-read offset c k = keeps-reads offset c _ (read_move offset c) k
 
-keeps-fifo : (value : ℕ) (c : ChipState) → Keeps c → Keeps (set_fifo value c)
-keeps-fifo value c k =
-    let d : ChipState = if is_same c.fifo (has_any value FCR.FIFO_ENABLE.0) then c else switch (has_any value FCR.FIFO_ENABLE.0) c in
-    let a : Keeps d = both_if Keeps c (switch (has_any value FCR.FIFO_ENABLE.0) c) (is_same c.fifo (has_any value FCR.FIFO_ENABLE.0)) k k in
-    let e : ChipState = reset_receiver value d in
-    let b : Keeps e = both_if Keeps (record d { receiver = clear d.receiver }) d (has_any value FCR.RX_FIFO_RESET.0) a a in
-    let f : ChipState = reset_transmitter value e in
-    let g : Keeps f =
-    both_if Keeps (record e { transmitter = record e.transmitter { queue = []; is_thr_pending = true } }) e
-    (has_any value FCR.TX_FIFO_RESET.0) b b in
-    both_if Keeps (set_trigger (trigger_level value) f) d (has_any value FCR.FIFO_ENABLE.0) g a
-
-keeps-control : (model : Chip) (value : ℕ) (c : ChipState) → Keeps c → Keeps (control model value c)
-keeps-control Uart16450 value c k = k
-keeps-control Uart16550A value c k = keeps-fifo value c k
+keeps-writes : (offset value : ℕ) (c d : ChipState) → WriteMove offset value c d → Keeps c → Keeps d
+keeps-writes offset value c d (sends p q) k = (k.0, both_if HasRoom _ _ (nat_lt (length c.transmitter.queue) (room c.fifo)) k.1 k.1)
+keeps-writes offset value c d _ k = k
 
 keeps-write : (offset value : ℕ) (c : ChipState) → Keeps c → Keeps (after_write offset value c)
-keeps-write offset value c k =
-    both_if Keeps _ _ (offset == offsets.DATA) (both_if Keeps _ _ (is_dlab_set c.latches) k
-    (k.0, both_if HasRoom _ _ (nat_lt (length c.transmitter.queue) (room c.fifo)) k.1 k.1))
-    (both_if Keeps _ _ (offset == offsets.IER) (both_if Keeps _ _ (is_dlab_set c.latches) k k)
-    (both_if Keeps _ _ (offset == offsets.FCR) (keeps-control c.model value c k)
-    (both_if Keeps _ _ (offset == offsets.LCR) k (both_if Keeps _ _ (offset == offsets.MCR) k (both_if Keeps _ _
-    (offset == offsets.SPR) k k)))))
+keeps-write offset value c k = write_lasts Keeps offset value (keeps-writes offset value) c k
 
 -- ---- the chip stays live
 

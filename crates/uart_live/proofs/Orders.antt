@@ -1,15 +1,14 @@
 -- What goes out of a live chip and comes into it keeps its order.
-use Rattle.std.proofs.Common.{◌≡◌, ◌≢◌, ℕ, zero, suc, ◌<◌, Bool, true, false, ◌||◌, ◌==◌, nat_lt, List, [], ◌∷◌, ◌++◌, length}
-use Rattle.std.proofs.Common.{take, drop, append_assoc, append-nil, refl, arith, ap, sym, ◌∙◌, if◌then◌else◌}
-use Rattle.std.proofs.lemmas.Grind.{common_steps}
+use Rattle.std.proofs.Common.{◌≡◌, ◌≢◌, ℕ, zero, suc, ◌<◌, Bool, true, false, ◌||◌, nat_lt, List, [], ◌∷◌, ◌++◌, length}
+use Rattle.std.proofs.Common.{take, drop, append_assoc, append-nil, refl, ap, sym, ◌∙◌}
 use Rattle.std.proofs.lemmas.List.{take-append-drop}
 use Rattle.uart_chip.specs.declared.receiver.Character.{Character}
 use Rattle.uart_chip.specs.declared.receiver.Origin.TheVariants.{Live}
 use Rattle.uart_chip.specs.Transmitter as transmitter
-use Rattle.uart_chip.specs.Transmitter.{TransmitterState, room, held, out, load}
+use Rattle.uart_chip.specs.Transmitter.{TransmitterState, room, held, out}
 use Rattle.uart_chip.specs.Receiver.{ReceiverState, enter, replace, take_front}
-use Rattle.uart_chip.specs.Chip.{ChipState, cut_of, is_dlab_set, is_loopback, line_status, interrupt, is_thr_empty, ticks, arrive_live}
-use Rattle.uart_chip.specs.Chip.{after_read, after_write}
+use Rattle.uart_chip.specs.Chip.{ChipState, cut_of, is_loopback, line_status, ticks, arrive_live}
+use Rattle.uart_chip.specs.Chip.{after_read}
 use Rattle.uart_chip.proofs.conservation.Sends.{sends-tick, sends-load}
 use Rattle.uart_chip.proofs.soundness.Sounds.{latches-ticks}
 use Rattle.uart_chip.proofs.statuses.Status.{status_overrun}
@@ -17,14 +16,14 @@ use Rattle.uart_spec.specs.Bits.{has_any}
 use Rattle.uart_spec.specs.declared.registers.line_status.TheConstants.LSR
 use Rattle.uart_spec.specs.declared.registers.offsets.TheConstants as offsets
 use Rattle.uart_live.specs.Held.{is_due, expire, arrive_holding}
-use Rattle.uart_live.specs.Laws.{Act, Read, Write, Ticks, Arrive, ArriveHolding, TakeWire, after, after_all, in_turn, AllInTurn, is_data}
+use Rattle.uart_live.specs.Laws.{Act, Read, Write, Ticks, Arrive, ArriveHolding, TakeWire, after}
+use Rattle.uart_live.specs.Laws.{after_all, in_turn, AllInTurn, is_data, is_plain}
 use Rattle.uart_live.specs.Laws.{sent, taken, IsCareful, BytesLeaveInOrder, came, read, IsUnreset, shows_overrun, some_overrun}
 use Rattle.uart_live.specs.Laws.{CharactersAreReadInOrder, PlainReadsChangeNothing}
-use Rattle.uart_live.proofs.Lives.{both_if}
-
-pub if_given : {A : Type 0} (P : A → Type 0) (x y : A) (b : Bool) → (b ≡ true → P x) → (b ≡ false → P y) → P (if b then x else y)
-if_given P x y true p q = p refl
-if_given P x y false p q = q refl
+use Rattle.uart_chip.proofs.AccessMoves.{both_if, ReadMove, stays, takes, acknowledges, looks, sees, read_move}
+use Rattle.uart_chip.proofs.AccessMoves.{WriteMove, ignores, sets_low, sends, sets_high, enables, switches, clears}
+use Rattle.uart_chip.proofs.AccessMoves.{empties, triggers, frames, steers, notes}
+use Rattle.uart_chip.proofs.AccessMoves.{write_move}
 
 -- ---- what goes out
 
@@ -32,14 +31,12 @@ if_given P x y false p q = q refl
 abbrev pub Goes : List ℕ → ChipState → Type 0
 Goes bytes c = out c.transmitter ≡ bytes
 
+goes-reads : (offset : ℕ) (c d : ChipState) → ReadMove offset c d → Goes (out c.transmitter) d
+goes-reads offset c d (takes p q) = refl
+goes-reads offset c d _ = refl
+
 goes-read : (offset : ℕ) (c : ChipState) → Goes (out c.transmitter) (after_read offset c)
-goes-read offset c =
-    both_if (Goes (out c.transmitter)) _ _ (offset == offsets.DATA)
-    (both_if (Goes (out c.transmitter)) _ _ (is_dlab_set c.latches) refl refl)
-    (both_if (Goes (out c.transmitter)) _ _ (offset == offsets.ISR)
-    (both_if (Goes (out c.transmitter)) _ _ (is_thr_empty (interrupt c)) refl refl)
-    (both_if (Goes (out c.transmitter)) _ _ (offset == offsets.LSR) refl
-    (both_if (Goes (out c.transmitter)) _ _ (offset == offsets.MSR) refl refl)))
+goes-read offset c = goes-reads offset c _ (read_move offset c)
 
 goes-ticks : (n : ℕ) (c : ChipState) → is_loopback c.latches ≡ false → Goes (out c.transmitter) (ticks n c)
 goes-ticks zero c l = refl
@@ -51,34 +48,27 @@ goes-ticks (suc n) c l =
     ticked ∙ goes-ticks n c l
 
 -- a write of another register than FCR
-goes-write : (offset value : ℕ) (c : ChipState) → offset ≢ offsets.FCR →
+goes-writes : (offset value : ℕ) (c d : ChipState) → WriteMove offset value c d → offset ≢ offsets.FCR →
     (is_data offset c ≡ true → length c.transmitter.queue < room c.fifo) →
-    Goes (out c.transmitter ++ sent (Write offset value) c) (after_write offset value c)
-goes-write offset value c f free = go (offset == offsets.DATA) refl (is_dlab_set c.latches) refl
-  where
-    same : Goes (out c.transmitter ++ []) c
-    same = sym (append-nil (out c.transmitter))
-
-    go : (b : Bool) → (offset == offsets.DATA) ≡ b → (d : Bool) → is_dlab_set c.latches ≡ d →
-        Goes (out c.transmitter ++ sent (Write offset value) c) (after_write offset value c)
-    go true p true q = rw (p, q) same
-    go true p false q =
-        let few : length c.transmitter.queue < room c.fifo = free (rw (p, q) refl) in
-        rw (p, q) ((sends-load c.fifo (cut_of c value) c.transmitter few).grows)
-    go false p d q =
-        rw p
-        (if_given (Goes (out c.transmitter ++ [])) _ _ (offset == offsets.IER)
-        (λ e. both_if (Goes (out c.transmitter ++ [])) _ _ (is_dlab_set c.latches) same same)
-        (λ e. if_given (Goes (out c.transmitter ++ [])) _ _ (offset == offsets.FCR)
-        (λ e. let fcr : offset ≡ offsets.FCR = grind (arith, common_steps) in absurd (f fcr))
-        (λ e. both_if (Goes (out c.transmitter ++ [])) _ _ (offset == offsets.LCR) same
-        (both_if (Goes (out c.transmitter ++ [])) _ _ (offset == offsets.MCR) same
-        (both_if (Goes (out c.transmitter ++ [])) _ _ (offset == offsets.SPR) same same)))))
+    Goes (out c.transmitter ++ sent (Write offset value) c) d
+goes-writes offset value c d (sends e q) f free =
+    rw (e, q) (sends-load c.fifo (cut_of c value) c.transmitter (free (rw (e, q) refl))).grows
+goes-writes offset value c d (sets_low e q) f free = rw (e, q) (sym (append-nil (out c.transmitter)))
+goes-writes offset value c d (empties e) f free = absurd (f e)
+goes-writes offset value c d (ignores none) f free = rw none (sym (append-nil (out c.transmitter)))
+goes-writes offset value c d (switches e m on) f free = absurd (f e)
+goes-writes offset value c d (clears e) f free = absurd (f e)
+goes-writes offset value c d (triggers e level) f free = absurd (f e)
+goes-writes offset value c d (sets_high e q) f free = rw e (sym (append-nil (out c.transmitter)))
+goes-writes offset value c d (enables e q) f free = rw e (sym (append-nil (out c.transmitter)))
+goes-writes offset value c d (frames e) f free = rw e (sym (append-nil (out c.transmitter)))
+goes-writes offset value c d (steers e) f free = rw e (sym (append-nil (out c.transmitter)))
+goes-writes offset value c d (notes e) f free = rw e (sym (append-nil (out c.transmitter)))
 
 goes-after : (act : Act) (c : ChipState) → IsCareful act c →
     taken act c ++ out (after act c).transmitter ≡ out c.transmitter ++ sent act c
 goes-after (Read offset) c h = goes-read offset c ∙ sym (append-nil (out c.transmitter))
-goes-after (Write offset value) c h = goes-write offset value c h.0 h.1
+goes-after (Write offset value) c h = goes-writes offset value c _ (write_move offset value c h.0) h.0 h.1
 goes-after (Ticks count) c h = goes-ticks count c h ∙ sym (append-nil (out c.transmitter))
 goes-after (TakeWire count) c h =
     let t : TransmitterState = c.transmitter in
@@ -161,50 +151,29 @@ passes-take : (queue : List Character) (r : ReceiverState) → r.queue ≡ queue
 passes-take [] r q calm = record { kept = append-nil r.queue ∙ q ∙ sym q; calm = calm }
 passes-take (front ∷ others) r q calm = record { kept = append-nil r.queue ∙ q; calm = calm }
 
-passes-read : (offset : ℕ) (c : ChipState) → shows_overrun (Read offset) c ≡ false → (after_read offset c).receiver.is_overrun ≡ false →
-    Passes c.receiver (after_read offset c).receiver [] (read (Read offset) c)
-passes-read offset c unseen calm = go (offset == offsets.DATA) refl (is_dlab_set c.latches) refl (offset == offsets.LSR) refl calm
-  where
-    still : (r : ReceiverState) → r ≡ c.receiver → r.is_overrun ≡ false → Passes c.receiver r [] []
-    still r e calm =
-        passes-same c.receiver r (ap (λ (r : ReceiverState). r.queue) e) (ap (λ (r : ReceiverState). r.is_overrun) e) calm
+-- a read, but one of the data outside of the divisor latch takes the front
+passes-reads : (offset : ℕ) (c d : ChipState) → ReadMove offset c d → shows_overrun (Read offset) c ≡ false →
+    d.receiver.is_overrun ≡ false →
+    Passes c.receiver d.receiver [] (read (Read offset) c)
+passes-reads offset c d (takes e q) unseen calm = rw (e, q) (passes-take c.receiver.queue c.receiver refl calm)
+passes-reads offset c d (acknowledges e) unseen calm = rw e (passes-same c.receiver c.receiver refl refl calm)
+passes-reads offset c d (looks e) unseen calm =
+    let unshown : has_any (line_status c) LSR.OVERRUN_ERROR.0 ≡ false = rw e at unseen in
+    rw e (record { kept = append-nil c.receiver.queue; calm = sym (status_overrun c) ∙ unshown })
+passes-reads offset c d (sees e) unseen calm = rw e (passes-same c.receiver c.receiver refl refl calm)
+passes-reads offset c d (stays none) unseen calm = rw none (passes-same c.receiver c.receiver refl refl calm)
 
-    others : (if offset == offsets.ISR
-        then (if is_thr_empty (interrupt c) then record c { transmitter = record c.transmitter { is_thr_pending = false } } else c)
-        else if offset == offsets.MSR then record c { modem = record c.modem { deltas = 0 } } else c).receiver ≡ c.receiver
-    others =
-        both_if (λ (d : ChipState). d.receiver ≡ c.receiver) _ _ (offset == offsets.ISR)
-        (both_if (λ (d : ChipState). d.receiver ≡ c.receiver) _ _ (is_thr_empty (interrupt c)) refl refl)
-        (both_if (λ (d : ChipState). d.receiver ≡ c.receiver) _ _ (offset == offsets.MSR) refl refl)
-
-    go : (a : Bool) → (offset == offsets.DATA) ≡ a → (b : Bool) → is_dlab_set c.latches ≡ b → (l : Bool) → (offset == offsets.LSR) ≡ l →
-        (after_read offset c).receiver.is_overrun ≡ false →
-        Passes c.receiver (after_read offset c).receiver [] (read (Read offset) c)
-    go true p true q l e calm = rw (p, q) (passes-same c.receiver c.receiver refl refl (rw (p, q) at calm))
-    go true p false q l e calm = rw (p, q) (passes-take c.receiver.queue c.receiver refl (rw (p, q) at calm))
-    go false p b q true e calm =
-        let lsr : offset ≡ offsets.LSR = grind (arith, common_steps) in
-        let unshown : has_any (line_status c) LSR.OVERRUN_ERROR.0 ≡ false = rw lsr at unseen in
-        rw lsr (record { kept = append-nil c.receiver.queue; calm = sym (status_overrun c) ∙ unshown })
-    go false p b q false e calm = rw (p, e) (still _ others (rw (p, e) at calm))
-
-passes-write : (offset value : ℕ) (c : ChipState) → offset ≢ offsets.FCR → (after_write offset value c).receiver ≡ c.receiver
-passes-write offset value c f =
-    both_if (λ (d : ChipState). d.receiver ≡ c.receiver) _ _ (offset == offsets.DATA)
-    (both_if (λ (d : ChipState). d.receiver ≡ c.receiver) _ _ (is_dlab_set c.latches) refl refl)
-    (both_if (λ (d : ChipState). d.receiver ≡ c.receiver) _ _ (offset == offsets.IER)
-    (both_if (λ (d : ChipState). d.receiver ≡ c.receiver) _ _ (is_dlab_set c.latches) refl refl)
-    (if_given (λ (d : ChipState). d.receiver ≡ c.receiver) _ _ (offset == offsets.FCR)
-    (λ e. let fcr : offset ≡ offsets.FCR = grind (arith, common_steps) in absurd (f fcr))
-    (λ e. both_if (λ (d : ChipState). d.receiver ≡ c.receiver) _ _ (offset == offsets.LCR) refl
-    (both_if (λ (d : ChipState). d.receiver ≡ c.receiver) _ _ (offset == offsets.MCR) refl
-    (both_if (λ (d : ChipState). d.receiver ≡ c.receiver) _ _ (offset == offsets.SPR) refl refl)))))
+passes-writes : (offset value : ℕ) (c d : ChipState) → WriteMove offset value c d → offset ≢ offsets.FCR → d.receiver ≡ c.receiver
+passes-writes offset value c d (switches e m on) f = absurd (f e)
+passes-writes offset value c d (clears e) f = absurd (f e)
+passes-writes offset value c d (triggers e level) f = absurd (f e)
+passes-writes offset value c d _ f = refl
 
 passes-after : (act : Act) (c : ChipState) → IsUnreset act c → shows_overrun act c ≡ false → (after act c).receiver.is_overrun ≡ false →
     Passes c.receiver (after act c).receiver (came act c) (read act c)
-passes-after (Read offset) c h unseen calm = passes-read offset c unseen calm
+passes-after (Read offset) c h unseen calm = passes-reads offset c _ (read_move offset c) unseen calm
 passes-after (Write offset value) c h unseen calm =
-    let e = passes-write offset value c h in
+    let e = passes-writes offset value c _ (write_move offset value c h) h in
     passes-same c.receiver _ (ap (λ (r : ReceiverState). r.queue) e) (ap (λ (r : ReceiverState). r.is_overrun) e) calm
 passes-after (Ticks count) c h unseen calm =
     let same = passes-ticks count c h in passes-same c.receiver (ticks count c).receiver same.0 same.1 calm
@@ -240,15 +209,12 @@ characters_read acts c h unseen calm = (passes-all acts c h unseen calm).kept
 
 -- ---- reads without effect
 
+plain-reads : (offset : ℕ) (c d : ChipState) → is_plain offset c ≡ true → ReadMove offset c d → d ≡ c
+plain-reads offset c d h (stays none) = refl
+plain-reads offset c d h (takes e q) = let no : false ≡ true = rw (e, q) at h in absurd (cc)
+plain-reads offset c d h (acknowledges e) = let no : false ≡ true = rw e at h in absurd (cc)
+plain-reads offset c d h (looks e) = let no : false ≡ true = rw e at h in absurd (cc)
+plain-reads offset c d h (sees e) = let no : false ≡ true = rw e at h in absurd (cc)
+
 pub plain_reads : PlainReadsChangeNothing
-plain_reads offset c h =
-    if_given (λ (d : ChipState). d ≡ c) _ _ (offset == offsets.DATA)
-    (λ e. let is_data_offset : offset ≡ offsets.DATA = grind (arith, common_steps) in
-    let on : is_dlab_set c.latches ≡ true = rw is_data_offset at h in rw on refl)
-    (λ e. if_given (λ (d : ChipState). d ≡ c) _ _ (offset == offsets.ISR)
-    (λ e. let isr : offset ≡ offsets.ISR = grind (arith, common_steps) in let no : false ≡ true = rw isr at h in absurd (cc))
-    (λ e. if_given (λ (d : ChipState). d ≡ c) _ _ (offset == offsets.LSR)
-    (λ e. let lsr : offset ≡ offsets.LSR = grind (arith, common_steps) in let no : false ≡ true = rw lsr at h in absurd (cc))
-    (λ e. if_given (λ (d : ChipState). d ≡ c) _ _ (offset == offsets.MSR)
-    (λ e. let msr : offset ≡ offsets.MSR = grind (arith, common_steps) in let no : false ≡ true = rw msr at h in absurd (cc))
-    (λ e. refl))))
+plain_reads offset c h = plain-reads offset c _ h (read_move offset c)

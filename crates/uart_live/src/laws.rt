@@ -6,6 +6,7 @@ ghost use Rattle.uart_live.specs.Laws.{BytesLeaveInOrder, CharactersAreReadInOrd
 ghost use Rattle.uart_live.specs.Laws.{PlainReadsChangeNothing, OnlyInterruptsShowHolding};
 ghost use Rattle.uart_live.specs.Laws.{HeldTimeoutsStay, DueTimeoutsInterrupt};
 ghost use Rattle.uart_live.specs.declared.fixed.TheConstants.{WIRE_ROOM};
+ghost use Rattle.uart_live.specs.declared.sound.TheConstants.{TIMEOUT_CHARACTERS};
 
 /// Bytes are sent in the order in which the guest wrote them, each once. A full wire loses none.
 pub fn bytes_leave_in_order()
@@ -40,4 +41,9 @@ pub fn held_timeouts_stay()
 /// The most bytes that the wire of a live chip has room for.
 pub fn wire_room_is_this()
     ensures { WIRE_ROOM ≡ 64 }
+{}
+
+/// After how many character times a reception timeout is due.
+pub fn timeout_is_this()
+    ensures { TIMEOUT_CHARACTERS ≡ 4 }
 {}

@@ -15,6 +15,7 @@ ghost use Rattle.uart_live.specs.Quick.{clear_status, passed};
 ghost use Rattle.uart_live.specs.Refused.{refusal};
 ghost use Rattle.uart_spec.specs.declared.baud.TheConstants.{NUM_REGISTERS};
 ghost use Rattle.uart_spec.specs.declared.registers.interrupt_status.TheConstants.ISR;
+ghost use Rattle.uart_spec.specs.declared.registers.line_control.TheConstants.LCR;
 ghost use Rattle.uart_spec.specs.declared.registers.line_status.TheConstants.LSR;
 ghost use Rattle.uart_spec.specs.declared.registers.modem_status.TheConstants.MSR;
 ghost use Rattle.uart_spec.specs.declared.registers.offsets.TheConstants as offsets;
@@ -30,7 +31,7 @@ use uart_chip::receiving::{ReceiverParts, take_front};
 use uart_chip::transmitting::TransmitterParts;
 use uart_chip::{Character, Origin, Uart, room_of};
 use uart_events::{Chip, MAX_CHAR_TICKS};
-use uart_spec::registers::{LSR, MSR, offsets};
+use uart_spec::registers::{LCR, LSR, MSR, offsets};
 
 // A chip all of whose memory is in arrays, without a schedule. So no call can be refused memory.
 // The wire has room for 64 bytes, as in the library for C: its owner takes them after each `ticks`.
@@ -502,6 +503,16 @@ impl LiveChip {
         ensures { result ≡ spec.is_dlab_set self.now.latches }
     {
         self.uart.is_dlab_set()
+    }
+
+    /// Returns whether the guest sends a break: LCR bit 6 is set, and a line would be at 0 as long.
+    ///
+    /// The chip has no line, so what the guest writes in a break is on the wire all the same. On a
+    /// real line it would be lost.
+    pub fn is_breaking(&self) -> bool
+        ensures { result ≡ has_any self.now.latches.lcr LCR.SET_BREAK.0 }
+    {
+        self.uart.lcr().intersects(LCR::SET_BREAK)
     }
 
     /// Returns whether the guest has the FIFOs on.

@@ -1,6 +1,7 @@
 //! The calls of a script over I/O ports that may fail, as those of Linux's file of ports.
 #![tactic(auto)]
 
+pub mod laws;
 mod noted;
 mod playing;
 mod ports;

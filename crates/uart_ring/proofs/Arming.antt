@@ -36,10 +36,11 @@ use Rattle.uart_ring.specs.declared.ring.receive.ReceiveMarks.{ReceiveMarks}
 use Rattle.uart_spec.specs.declared.registers.modem_control.TheConstants.MCR
 use Rattle.uart_16550.specs.Frame.{switched, unlooped}
 use Rattle.uart_ring.specs.Ring.{free}
+use Rattle.uart_ring.specs.Storm.{counts_as, has_moved}
 use Rattle.uart_ring.specs.Storm.{LooksOnceMore, CountsUnfinished, CountsRound, HandlesRound, StaysStuck, TriesToHandle, Restarts}
 use Rattle.uart_ring.specs.Storm.{not_paused}
 use Rattle.uart_ring.specs.declared.ring.storm.StuckError.{StuckError}
-use Rattle.uart_ring.specs.Status.{NotesLine, NotesModem, TakesLine, TakesModem}
+use Rattle.uart_ring.specs.Status.{NotesLine, NotesModem, TakesLine, TakesModem, DumpsRegisters}
 use Rattle.uart_ring.specs.Service.{ShowsInterrupt, ServesInterrupt, ServesOne, Stops, ServesUpTo, Services}
 use Rattle.uart_ring.specs.Handle.{Retriggers, RetriggersUnlessIdle, Handles}
 use Rattle.uart_ring.specs.declared.ring.service.TheConstants.{MAX_INTERRUPTS}
@@ -49,12 +50,14 @@ use Rattle.uart_ring.specs.declared.ring.service.Handled.{Handled}
 use Rattle.uart_ring.specs.Lossless.{Implies}
 use Rattle.uart_16550.specs.Status as status
 use Rattle.uart_ring.specs.Armed.{ThrEmpty, shows_thr_empty, due_after_read, known_after, known_after_all, KeepsIer, IsArmed, LeavesArmed}
+use Rattle.uart_ring.specs.Armed.{AllHarmless}
 use Rattle.uart_ring.specs.Armed.{Arms, ShowsCtsClear, ArmsUnlessHeld}
 use Rattle.uart_ring.proofs.RegisterBits.{and_or, and_assoc, or_and}
 use Rattle.uart_ring.proofs.Pausing.{ChangesIer, Pausing, joined_with, rid_of}
 use Rattle.uart_ring.proofs.Losses.{Carries, received_carries, shows_carry, serves_one_carries, times_carry, shows_none}
 use Rattle.uart_ring.proofs.Losses.{serves_up_to_carries, handles_carry, enables_carry}
 use Rattle.uart_ring.proofs.Sending.{fewer_sendable, none_stuck, none_waiting, hold_none, clear_none}
+use Rattle.uart_spec.specs.declared.dump.ConfigRegisterDump.{ConfigRegisterDump}
 
 -- ---- bits of IER
 
@@ -91,7 +94,7 @@ keeps_rest known [] m t = t
 keeps_rest known (access ∷ l) m t = keeps_rest (known_after known access) l m t.1
 
 -- the interrupt is enabled and due
-abbrev IsLive : ThrEmpty → Type 0
+abbrev pub IsLive : ThrEmpty → Type 0
 IsLive known = (known.enabled ≡ true) × (known.due ≡ true)
 
 -- ---- reads of other registers than ISR leave it live
@@ -120,6 +123,27 @@ live_others known [] p live = live
 live_others known (Read offset answer ∷ l) p live =
     live_others (known_after known (Read offset answer)) l p.1 (live.0, still_due offset answer known.due p.0 live.1)
 live_others known (Write offset value ∷ l) p live = absurd p.0
+
+-- ---- and so do accesses that are harmless
+
+harmless_write : (offset value : ℕ) (known : ThrEmpty) → (offset ≡ offsets.DATA) ⊎ (offset ≡ offsets.MCR) → IsLive known →
+    IsLive (known_after known (Write offset value))
+harmless_write offset value known (inl is) live = rw is (live.0, refl)
+harmless_write offset value known (inr is) live = rw is live
+
+harmless_live : (known : ThrEmpty) (l : List Access) → AllHarmless l → IsLive known → IsLive (known_after_all known l)
+harmless_live known [] p live = live
+harmless_live known (Read offset answer ∷ l) p live =
+    harmless_live (known_after known (Read offset answer)) l p.1 (live.0, still_due offset answer known.due p.0 live.1)
+harmless_live known (Write offset value ∷ l) p live =
+    harmless_live (known_after known (Write offset value)) l p.1 (harmless_write offset value known p.0 live)
+
+pub harmless_armed : (l : List Access) → AllHarmless l → (known : ThrEmpty) (f : RingFields) → IsArmed known f →
+    IsArmed (known_after_all known l) f
+harmless_armed l p known f (inl none) = inl none
+harmless_armed l p known f (inr live) = inr (harmless_live known l p live)
+
+-- ---- receiving
 
 hits_others : (bytes : List ℕ) (s : Settings) (l : List Access) → InOrder Hit bytes s l → AllOtherReads l
 hits_others [] s l t = rw t.is tt
@@ -215,7 +239,7 @@ unchecked : (f : RingFields) (l : List Access) (after : RingFields) → Carries 
 unchecked f l after c off = ap (λ (s : Settings). s.checks) c.settings ∙ off
 
 -- one after the other
-leaves_then : (f mid after : RingFields) (l m : List Access) → Carries f l mid → LeavesArmed f l mid → LeavesArmed mid m after →
+pub leaves_then : (f mid after : RingFields) (l m : List Access) → Carries f l mid → LeavesArmed f l mid → LeavesArmed mid m after →
     LeavesArmed f (l ++ m) after
 leaves_then f mid after l m c first second = λ off known keeps armed.
     rw (after-append known l m)
@@ -226,7 +250,7 @@ leaves_stays : Implies Stays LeavesArmed
 leaves_stays f l after (is, same) = λ off known keeps armed. rw (is, same) armed
 
 -- the same may be sent, and what was live is live
-leaves_live : (f : RingFields) (l : List Access) (after : RingFields) → sendable after ≡ sendable f →
+pub leaves_live : (f : RingFields) (l : List Access) (after : RingFields) → sendable after ≡ sendable f →
     ((known : ThrEmpty) → KeepsIer known l → IsLive known → IsLive (known_after_all known l)) → LeavesArmed f l after
 leaves_live f l after items live = λ off known keeps armed. go known keeps armed
   where
@@ -522,7 +546,7 @@ clears_receive_leave count f l after (is, t) = any_ends_pause_leaves count (with
 -- ---- storms
 
 -- the chip is stuck, so nothing may be sent
-leaves_stuck : (f : RingFields) (l : List Access) (after : RingFields) → sendable after ≡ [] → LeavesArmed f l after
+pub leaves_stuck : (f : RingFields) (l : List Access) (after : RingFields) → sendable after ≡ [] → LeavesArmed f l after
 leaves_stuck f l after none = λ off known keeps armed. inl none
 
 looks_leave : (found : Option StuckError) → Implies (LooksOnceMore found) LeavesArmed
@@ -557,7 +581,8 @@ tries_leave limit rounds result f l after t = go f.stuck refl t
         (λ error. StaysStuck result error f l after) → LeavesArmed f l after
     go None e (handled, found, is, t) =
         rw t.whole (leaves_then f t.mid after t.front t.back (handles_carry limit handled f t.front t.mid t.first)
-        (handles_leave limit handled f t.front t.mid t.first) (counts_leave rounds handled.end found t.mid t.back after t.second))
+        (handles_leave limit handled f t.front t.mid t.first)
+        (counts_leave rounds (counts_as (has_moved f t.mid) handled.end) found t.mid t.back after t.second))
     go (Some error) e t = leaves_stuck f l after (ap sendable t.1.1 ∙ none_stuck f error e)
 
 pub restarts_arm : (bits : ℕ) → Implies (Restarts bits) Arms
@@ -565,4 +590,12 @@ restarts_arm bits f l after t = λ off known.
     rw (t.whole, after-append known t.front t.back)
     (resumes_arm t.mid t.back after t.second
     (unchecked f t.front t.mid (enables_carry (not_paused f.is_paused bits) f t.front t.mid t.first) off)
+    (known_after_all known t.front))
+
+-- what a dump acknowledged is sent after it
+pub dumps_registers_arm : (dump : ConfigRegisterDump) → Implies (DumpsRegisters dump) Arms
+dumps_registers_arm dump f l after t = λ off known.
+    rw (t.whole, after-append known t.front t.back)
+    (resumes_arm t.mid t.back after t.second
+    (ap (λ (g : Fields). g.config.check_cts_before_sending) t.first.0.keeps ∙ off)
     (known_after_all known t.front))

@@ -28,11 +28,12 @@ use Rattle.uart_ring.specs.declared.ring.receive.ReceiveMarks.{ReceiveMarks}
 use Rattle.uart_spec.specs.Bits.{has}
 use Rattle.uart_spec.specs.declared.registers.modem_control.TheConstants.MCR
 use Rattle.uart_16550.specs.Frame.{switched, unlooped}
+use Rattle.uart_ring.specs.Storm.{counts_as, has_moved}
 use Rattle.uart_ring.specs.Storm.{every_bit, LooksOnceMore, CountsUnfinished, CountsRound, HandlesRound, StaysStuck, TriesToHandle}
 use Rattle.uart_ring.specs.Storm.{Restarts}
 use Rattle.uart_ring.specs.Storm.{not_paused}
 use Rattle.uart_ring.specs.declared.ring.storm.StuckError.{StuckError}
-use Rattle.uart_ring.specs.Status.{TakesLine, TakesModem}
+use Rattle.uart_ring.specs.Status.{TakesLine, TakesModem, DumpsRegisters}
 use Rattle.uart_ring.specs.Service.{ServesInterrupt, ServesOne, Stops, IsWithin, ServesUpTo, Services}
 use Rattle.uart_ring.specs.Handle.{Retriggers, RetriggersUnlessIdle, Handles}
 use Rattle.uart_ring.specs.declared.ring.service.TheConstants.{MAX_INTERRUPTS}
@@ -41,11 +42,13 @@ use Rattle.uart_ring.specs.declared.ring.service.HandleEnd.TheVariants.{Idle, Un
 use Rattle.uart_ring.specs.declared.ring.service.Handled.{Handled}
 use Rattle.uart_ring.specs.Lossless.{Implies}
 use Rattle.uart_ring.proofs.Pausing.{ChangesIer, Pausing, joined_with, rid_of}
-use Rattle.uart_ring.specs.Bounded.{MakesAtMost, most_of_change, most_of_pump, most_of_receiving, most_of_service}
+use Rattle.uart_ring.specs.Bounded.{MakesAtMost, most_of_change, most_of_pump, most_of_receiving, most_of_service, most_of_dump}
 use Rattle.uart_ring.specs.Bounded.{most_of_retrigger, most_of_handle, most_of_try_handle, most_of_restart, most_of_adjust}
+use Rattle.uart_spec.specs.declared.dump.ConfigRegisterDump.{ConfigRegisterDump}
+use Rattle.uart_16550.specs.Status.{Dumps}
 
 -- two lists in turn
-both : (l m k : List Access) (x y : ℕ) → l ≡ m ++ k → length m ≤ x → length k ≤ y → length l ≤ x + y
+pub both : (l m k : List Access) (x y : ℕ) → l ≡ m ++ k → length m ≤ x → length k ≤ y → length l ≤ x + y
 both l m k x y whole p q = omega (arith, ap length whole, length-append m k, p, q)
 
 -- ---- the driver's lists
@@ -117,7 +120,7 @@ receives_size room bytes s l few (inr (fewer, t)) =
       asks_size _ _ _ s t.back t.second,
     )
 
-changes_size : (change : ℕ → ℕ) (f : Fields) (l : List Access) (after : Fields) → ChangesIer change f l after → length l ≤ 2
+pub changes_size : (change : ℕ → ℕ) (f : Fields) (l : List Access) (after : Fields) → ChangesIer change f l after → length l ≤ 2
 changes_size change f l after (ier, is, changed) = omega (arith, ap length is)
 
 arms_size : (left : List ℕ) (f : Fields) (l : List Access) (after : Fields) → ArmsIfLeft left f l after → length l ≤ 2
@@ -306,8 +309,16 @@ tries_size limit rounds result f l after t = go f.stuck t
         (λ error. StaysStuck result error f l after) → length l ≤ most_of_try_handle limit
     go None (handled, found, is, t) =
         both l t.front t.back (most_of_handle limit) (1 + most_of_change) t.whole (handles_size limit handled f t.front t.mid t.first)
-        (counts_size rounds handled.end found t.mid t.back after t.second)
+        (counts_size rounds (counts_as (has_moved f t.mid) handled.end) found t.mid t.back after t.second)
     go (Some error) t = omega (arith, changes_size (rid_of every_bit) f.driver l after.driver t.1.0)
+
+dumped_size : (dump : ConfigRegisterDump) (f : Fields) (l : List Access) (after : Fields) → Dumps dump f l after → length l ≤ 12
+dumped_size dump f l after d = rw d.is (omega arith)
+
+pub dumps_registers_size : (dump : ConfigRegisterDump) → Implies (DumpsRegisters dump) (MakesAtMost most_of_dump)
+dumps_registers_size dump f l after t =
+    both l t.front t.back 12 most_of_pump t.whole (dumped_size dump f.driver t.front t.mid.driver t.first.0)
+    (resumes_size t.mid t.back after t.second)
 
 pub restarts_size : (bits : ℕ) → Implies (Restarts bits) (MakesAtMost most_of_restart)
 restarts_size bits f l after t =

@@ -29,6 +29,7 @@ use Rattle.uart_16550.proofs.determined.Parting.{Determined, SameOrPart, read_de
 use Rattle.uart_16550.proofs.determined.Doings.{Does, does_next, does_saving, does_so}
 use Rattle.uart_16550.proofs.determined.Receive.{receives_determined}
 use Rattle.uart_16550.proofs.determined.Status.{disables_determined, enables_determined, takes_lsr_determined, takes_msr_determined}
+use Rattle.uart_16550.proofs.determined.Status.{dumps_determined}
 use Rattle.uart_16550.proofs.determined.Transmit.{sends_determined}
 use Rattle.uart_ring.specs.Ring.{RingDoing, RingFields, OnDriver, Stays, RingNext, RingTimes, IfAny, unchanged, with_driver, with_queued}
 use Rattle.uart_ring.specs.Ring.{with_received, with_paused, with_line, with_modem, without_sent, without_taken, free, is_full}
@@ -43,11 +44,12 @@ use Rattle.uart_ring.specs.declared.ring.receive.ReceiveMarks.{ReceiveMarks}
 use Rattle.uart_spec.specs.declared.registers.modem_control.TheConstants.MCR
 use Rattle.uart_16550.specs.Frame.{switched, unlooped}
 use Rattle.uart_16550.specs.Grammar.{Settings}
-use Rattle.uart_ring.specs.Storm.{every_bit, TurnsOff, ShowsReason, ShowsStuck, LooksOnceMore, CountsUnfinished, CountsRound, HandlesRound}
-use Rattle.uart_ring.specs.Storm.{StaysStuck, TriesToHandle, Restarts, not_paused, unless_stuck}
+use Rattle.uart_ring.specs.Storm.{every_bit, TurnsOff, ShowsReason, ShowsStuck, LooksOnceMore, CountsUnfinished, CountsRound}
+use Rattle.uart_ring.specs.Storm.{HandlesRound}
+use Rattle.uart_ring.specs.Storm.{StaysStuck, TriesToHandle, Restarts, not_paused, unless_stuck, counts_as, has_moved, CountsSince}
 use Rattle.uart_ring.specs.declared.ring.storm.StuckError.{StuckError}
 use Rattle.uart_ring.specs.declared.ring.storm.StuckError.TheVariants as stuck
-use Rattle.uart_ring.specs.Status.{TakesLine, TakesModem}
+use Rattle.uart_ring.specs.Status.{TakesLine, TakesModem, DumpsRegisters}
 use Rattle.uart_ring.specs.Service.{ServesInterrupt, ServesOne, ShowsInterrupt, ShowsNone, ServesUpTo, Services}
 use Rattle.uart_ring.specs.Choice.{LeavesNoRingChoice}
 use Rattle.uart_ring.specs.Handle.{Retriggers, RetriggersUnlessIdle, Handles}
@@ -64,35 +66,35 @@ use Rattle.uart_spec.specs.declared.registers.interrupt_status.TheConstants.ISR
 
 -- from these fields, each list of the first and each of the second are one list, with the same fields after it, and this holds; or
 -- they part at a read
-record RingDoes (C : Type 0) (f : RingFields) (G H : RingDoing) : Type 0 where
+pub record RingDoes (C : Type 0) (f : RingFields) (G H : RingDoing) : Type 0 where
   pub at : (l m : List Access) (a b : RingFields) → G f l a → H f m b → SameOrPart (C × (a ≡ b)) l m
 
 -- the law, from what every two outcomes come to
-no_choice : {R : Type 0} {G : R → RingDoing} → ((f : RingFields) (a b : R) → RingDoes (a ≡ b) f (G a) (G b)) → LeavesNoRingChoice G
+pub no_choice : {R : Type 0} {G : R → RingDoing} → ((f : RingFields) (a b : R) → RingDoes (a ≡ b) f (G a) (G b)) → LeavesNoRingChoice G
 no_choice {R} {G} h f a b l m after after' p q = law ((h f a b).at l m after after' p q)
   where
     law : SameOrPart ((a ≡ b) × (after ≡ after')) l m → ((a ≡ b) × (l ≡ m) × (after ≡ after')) ⊎ PartAtRead l m
     law (inl same) = inl (same.0.0, same.1, same.0.1)
     law (inr part) = inr part
 
-ring_so : {C D : Type 0} {f : RingFields} {G H : RingDoing} → (C → D) → RingDoes C f G H → RingDoes D f G H
+pub ring_so : {C D : Type 0} {f : RingFields} {G H : RingDoing} → (C → D) → RingDoes C f G H → RingDoes D f G H
 ring_so k h = record { at = λ l m a b p q. so (λ r. (k r.0, r.1)) (h.at l m a b p q) }
 
 ring_sym : {C : Type 0} {f : RingFields} {G H : RingDoing} → RingDoes ⊥ f G H → RingDoes C f H G
 ring_sym h = record { at = λ l m a b p q. so_sym (so (λ r. r.0) (h.at m l b a q p)) }
 
 -- the driver did the one or the other
-on_driver : {C : Type 0} {f : RingFields} {G H : Doing} (change other : RingFields → RingFields) → Does C f.driver G H →
+pub on_driver : {C : Type 0} {f : RingFields} {G H : Doing} (change other : RingFields → RingFields) → Does C f.driver G H →
     (C → change f ≡ other f) → RingDoes C f (OnDriver G change) (OnDriver H other)
 on_driver change other h same = record {
   at = λ l m a b p q. so (λ r. (r.0, p.1 ∙ ((λ i. with_driver (r.1 i) (same r.0 i)) ∙ sym q.1))) (h.at l m a.driver b.driver p.0 q.0);
 }
 
-stays_same : (f : RingFields) → RingDoes (Unit {0}) f Stays Stays
+pub stays_same : (f : RingFields) → RingDoes (Unit {0}) f Stays Stays
 stays_same f = record { at = λ l m a b p q. inl ((tt, p.1 ∙ sym q.1), p.0 ∙ sym q.0) }
 
 -- one after the other: the second may rest on what the first decides
-ring_next : {C D : Type 0} {f : RingFields} {G G' H H' : RingDoing} → RingDoes C f G G' →
+pub ring_next : {C D : Type 0} {f : RingFields} {G G' H H' : RingDoing} → RingDoes C f G G' →
     (C → (mid : RingFields) → RingDoes D mid H H') → RingDoes D f (RingNext G H) (RingNext G' H')
 ring_next {C} {D} {f} {G} {G'} {H} {H'} p q = record {
   at = λ l m a b t w.
@@ -398,7 +400,7 @@ resumes_same : (f : RingFields) → RingDoes (Unit {0}) f ResumesTransmit Resume
 resumes_same f = record { at = (any_same (length (waiting f)) Pumps f (pumps_same f)).at }
 
 -- a call that returns nothing
-returns_none : {G : RingDoing} → ((f : RingFields) → RingDoes (Unit {0}) f G G) → LeavesNoRingChoice (λ (_ : ⊤). G)
+pub returns_none : {G : RingDoing} → ((f : RingFields) → RingDoes (Unit {0}) f G G) → LeavesNoRingChoice (λ (_ : ⊤). G)
 returns_none h = no_choice (λ f x y. record { at = λ l m a b p q. so (λ r. (refl, r.1)) ((h f).at l m a b p q) })
 
 pub resumes_leave_no_choice : LeavesNoRingChoice (λ (_ : ⊤). ResumesTransmit)
@@ -488,7 +490,7 @@ takes_modem_leaves_no_choice = no_choice (λ f x y. record {
 
 -- ---- storms
 
-turns_off_same : (f : Fields) → Does (Unit {0}) f TurnsOff TurnsOff
+pub turns_off_same : (f : Fields) → Does (Unit {0}) f TurnsOff TurnsOff
 turns_off_same f = does_so (λ r. tt) (disables_determined every_bit f tt tt)
 
 -- one value of ISR shows one reason
@@ -567,16 +569,23 @@ counts_alike rounds h k e x y f =
     let P : HandleEnd → Type 0 = λ end. RingDoes (x ≡ y) f (CountsRound rounds h x) (CountsRound rounds end y) in
     subst P e (counts_same rounds h x y f)
 
+since_alike : (rounds : ℕ) (before : RingFields) (h k : HandleEnd) → h ≡ k → (x y : Option StuckError) (f : RingFields) →
+    RingDoes (x ≡ y) f (CountsSince rounds before h x) (CountsSince rounds before k y)
+since_alike rounds before h k e x y f = record {
+  at = (counts_alike rounds (counts_as (has_moved before f) h) (counts_as (has_moved before f) k) (ap (counts_as (has_moved before f)) e)
+      x y f).at;
+}
+
 pub tries_leave_no_choice : (limit rounds : ℕ) → LeavesNoRingChoice (TriesToHandle limit rounds)
 tries_leave_no_choice limit rounds = no_choice (λ f x y. record { at = λ l m a b p q. at f x y l m a b f.stuck p q })
   where
     handled : (f : RingFields) (x y : Result Handled StuckError) (l m : List Access) (a b : RingFields) →
         HandlesRound limit rounds x f l a → HandlesRound limit rounds y f m b → SameOrPart ((x ≡ y) × (a ≡ b)) l m
     handled f x y l m a b (h, found, is, p) (k, found', is', q) =
-        let both : RingDoes ((h ≡ k) × (found ≡ found')) f (RingNext (Handles limit h) (CountsRound rounds h.end found))
-        (RingNext (Handles limit k) (CountsRound rounds k.end found')) =
+        let both : RingDoes ((h ≡ k) × (found ≡ found')) f (RingNext (Handles limit h) (CountsSince rounds f h.end found))
+        (RingNext (Handles limit k) (CountsSince rounds f k.end found')) =
         ring_next (handles_same limit f h k)
-        (λ e mid. ring_so (λ t. (e, t)) (counts_alike rounds h.end k.end (ap (λ (z : Handled). z.end) e) found found' mid)) in
+        (λ e mid. ring_so (λ t. (e, t)) (since_alike rounds f h.end k.end (ap (λ (z : Handled). z.end) e) found found' mid)) in
         so (λ r. (is ∙ ((λ i. unless_stuck (r.0.0 i) (r.0.1 i)) ∙ sym is'), r.1)) (both.at l m a b p q)
 
     at : (f : RingFields) (x y : Result Handled StuckError) (l m : List Access) (a b : RingFields) (was : Option StuckError) →
@@ -595,3 +604,12 @@ restarts_leave_no_choice bits = returns_none (λ f. record { at = (both f).at })
     both f =
         ring_next (on_driver {f = f} restarted restarted (enables_determined (not_paused f.is_paused bits) f.driver tt tt) (λ r. refl))
         (λ e mid. resumes_same mid)
+
+pub dumps_registers_leave_no_choice : LeavesNoRingChoice DumpsRegisters
+dumps_registers_leave_no_choice = no_choice (λ f x y. record {
+  at = λ l m a b t w.
+      so_then t.whole w.whole
+      ((on_driver {f = f} unchanged unchanged (dumps_determined f.driver x y) (λ e. refl)).at t.front w.front t.mid w.mid t.first w.first)
+      (λ r. let N : RingFields → Type 0 = λ mid. ResumesTransmit mid w.back b in
+      so (λ s. (r.0, s.1)) ((resumes_same t.mid).at t.back w.back a b t.second (subst N (sym r.1) w.second)));
+})

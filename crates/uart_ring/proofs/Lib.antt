@@ -10,3 +10,4 @@ pub mod Arming
 pub mod Bounding
 pub mod Choices
 pub mod Storms
+pub mod Lines

@@ -38,6 +38,7 @@ use Rattle.uart_spec.specs.Bits.{has}
 use Rattle.uart_spec.specs.declared.registers.modem_control.TheConstants.MCR
 use Rattle.uart_16550.specs.Frame.{switched, unlooped}
 use Rattle.uart_ring.specs.Ring.{free}
+use Rattle.uart_ring.specs.Storm.{counts_as, has_moved}
 use Rattle.uart_ring.specs.Storm.{every_bit, TurnsOff, ShowsStuck, LooksOnceMore, CountsUnfinished, CountsRound, HandlesRound}
 use Rattle.uart_ring.specs.Storm.{StaysStuck, TriesToHandle, Restarts, not_paused}
 use Rattle.uart_ring.specs.declared.ring.storm.StuckError.{StuckError}
@@ -139,13 +140,13 @@ receives_move room bytes s l (inr (fewer, t)) =
 -- ---- what the driver does
 
 -- it made such a list, and saved what that showed
-record Saves (written read : List ℕ) (f : Fields) (l : List Access) (after : Fields) : Type 0 where
+pub record Saves (written read : List ℕ) (f : Fields) (l : List Access) (after : Fields) : Type 0 where
   pub moves : Moves written read l
   pub settings : settings_of after ≡ settings_of f
   pub lsr : after.lsr ≡ bit_or f.lsr (saved_lsr l)
   pub msr : after.msr ≡ bit_or f.msr (saved_msr l)
 
-saving_saves : (written read : List ℕ) (f : Fields) (l : List Access) (after : Fields) → Moves written read l → after ≡ saving f l →
+pub saving_saves : (written read : List ℕ) (f : Fields) (l : List Access) (after : Fields) → Moves written read l → after ≡ saving f l →
     Saves written read f l after
 saving_saves written read f l after moves is = record {
   moves = moves;
@@ -166,7 +167,7 @@ saves-then f mid after l m ws vs rs us a b = record {
       ∙ ap (bit_or f.msr) (sym (saved_msr-append l m))));
 }
 
-changes_saves : (change : ℕ → ℕ) (f : Fields) (l : List Access) (after : Fields) → ChangesIer change f l after → Saves [] [] f l after
+pub changes_saves : (change : ℕ → ℕ) (f : Fields) (l : List Access) (after : Fields) → ChangesIer change f l after → Saves [] [] f l after
 changes_saves change f l after (ier, is, changed) = rw is (record {
   moves = record { written_is = refl; read_is = refl };
   settings = ap settings_of changed;
@@ -189,7 +190,7 @@ pub record Carries (f : RingFields) (l : List Access) (after : RingFields) : Typ
   pub rooms : (after.transmit.capacity ≡ f.transmit.capacity) × (after.receive.capacity ≡ f.receive.capacity)
   pub settings : settings_of after.driver ≡ settings_of f.driver
 
-carries-then : (f mid after : RingFields) (l m : List Access) → Carries f l mid → Carries mid m after → Carries f (l ++ m) after
+pub carries-then : (f mid after : RingFields) (l m : List Access) → Carries f l mid → Carries mid m after → Carries f (l ++ m) after
 carries-then f mid after l m a b = record {
   sent = a.sent ∙ (ap (λ xs. data_written l ++ xs) b.sent ∙ (sym (append_assoc (data_written l) (data_written m) (waiting after))
       ∙ ap (λ xs. xs ++ waiting after) (sym (data_written-append l m))));
@@ -203,7 +204,7 @@ carries-then f mid after l m a b = record {
   settings = b.settings ∙ a.settings;
 }
 
-stays_carries : Implies Stays Carries
+pub stays_carries : Implies Stays Carries
 stays_carries f l after (is, same) = rw (is, same) (record {
   sent = refl;
   received = sym (append-nil f.receive.items);
@@ -235,7 +236,7 @@ carries_driver f e l after written read s same sent received line modem tx_room 
     same' = sym same
 
 -- the same if nothing moves in the rings
-carries_still : (f e : RingFields) (l : List Access) (after : RingFields) → Saves [] [] f.driver l after.driver →
+pub carries_still : (f e : RingFields) (l : List Access) (after : RingFields) → Saves [] [] f.driver l after.driver →
     after ≡ with_driver after.driver e →
     e.urgent ≡ f.urgent → e.transmit ≡ f.transmit → e.receive ≡ f.receive → e.line ≡ f.line → e.modem ≡ f.modem → Carries f l after
 carries_still f e l after s same urgent transmit receive line modem =
@@ -387,7 +388,7 @@ unless_idle_carry Limit f l after t = retriggers_carry f l after t
 -- ---- each call
 
 -- a call that accepts no bytes, returns no bytes and no status
-carried : Implies Carries (LosesNothing [] [] 0 0)
+pub carried : Implies Carries (LosesNothing [] [] 0 0)
 carried f l after c = record {
   sent = sym c.sent ∙ sym (append-nil (waiting f));
   received = c.received;
@@ -614,7 +615,7 @@ tries_carry limit rounds result f l after t = go f.stuck t
         (λ error. StaysStuck result error f l after) → Carries f l after
     go None (handled, found, is, t) =
         rw t.whole (carries-then f t.mid after t.front t.back (handles_carry limit handled f t.front t.mid t.first)
-        (counts_carry rounds handled.end found t.mid t.back after t.second))
+        (counts_carry rounds (counts_as (has_moved f t.mid) handled.end) found t.mid t.back after t.second))
     go (Some error) t = stays_stuck_carries error result f l after t
 
 pub tries_lose_nothing : (limit rounds : ℕ) (result : Result Handled StuckError) →

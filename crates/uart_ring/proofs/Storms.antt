@@ -1,5 +1,6 @@
 -- How `try_handle` ends a storm.
-use Rattle.std.proofs.Common.{◌≡◌, ◌<◌, ◌⊎◌, ℕ, zero, suc, nat_lt, Bool, true, false, MatchBool, List, [], ◌∷◌, ◌++◌, append_assoc}
+use Rattle.std.proofs.Common.{◌≡◌, ◌≢◌, ◌<◌, ◌≤◌, ◌⊎◌, ℕ, zero, suc, nat_lt, Bool, true, false, MatchBool, List, [], ◌∷◌, ◌++◌}
+use Rattle.std.proofs.Common.{append_assoc}
 use Rattle.std.proofs.Common.{append-nil, inl, inr, refl, sym, ◌∙◌, ap, subst, arith, Option, Some, None, Result, Ok, Err}
 use Rattle.std.specs.Prelude.{MatchOption}
 use Rattle.std.proofs.lemmas.Bool.Decides.{nat_tests}
@@ -13,12 +14,14 @@ use Rattle.uart_spec.specs.declared.registers.interrupt_type.InterruptType.{Inte
 use Rattle.uart_spec.specs.declared.registers.interrupt_type.InterruptType.TheVariants as interrupts
 use Rattle.uart_spec.specs.declared.registers.offsets.TheConstants as offsets
 use Rattle.uart_16550.specs.Driver.{Fields}
-use Rattle.uart_ring.specs.Ring.{RingDoing, RingFields, OnDriver, RingTimes, RingSets, is_full, with_rounds, unchanged}
+use Rattle.uart_ring.specs.Ring.{RingDoing, RingFields, OnDriver, RingTimes, RingSets, is_full, with_rounds, with_stuck}
+use Rattle.uart_ring.specs.Ring.{with_driver, unchanged}
 use Rattle.uart_ring.specs.Receive.{PausesIfFull, FillsReceiveRing}
 use Rattle.uart_ring.specs.Service.{ServesInterrupt, ServesOne, Stops}
 use Rattle.uart_ring.specs.Handle.{RetriggersUnlessIdle, Handles}
 use Rattle.uart_ring.specs.Storm.{TurnsOff, LooksOnceMore, CountsUnfinished, CountsRound, HandlesRound, StaysStuck}
-use Rattle.uart_ring.specs.Storm.{TriesToHandle, unless_stuck, EndsWith, LeavesOff, CountsOrIsIdle}
+use Rattle.uart_ring.specs.Storm.{TriesToHandle, unless_stuck, EndsWith, LeavesOff, CountsOrIsIdle, IsLastStill}
+use Rattle.uart_ring.specs.Storm.{counts_as, has_moved, CountsSince}
 use Rattle.uart_ring.specs.Lossless.{Implies}
 use Rattle.uart_ring.specs.declared.ring.service.HandleEnd.{HandleEnd}
 use Rattle.uart_ring.specs.declared.ring.service.HandleEnd.TheVariants.{Idle, Unknown, Limit}
@@ -68,7 +71,7 @@ unless_idle_keep Idle f l after t = ap (λ (g : RingFields). g.rounds) t.1
 unless_idle_keep Unknown f l after t = ap (λ (g : RingFields). g.rounds) t.1
 unless_idle_keep Limit f l after t = ap (λ (g : RingFields). g.rounds) t.1
 
-handles_keep : (limit : ℕ) (handled : Handled) → Implies (Handles limit handled) KeepsRounds
+pub handles_keep : (limit : ℕ) (handled : Handled) → Implies (Handles limit handled) KeepsRounds
 handles_keep limit handled f l after t =
     let u = t.first.1 in
     unless_idle_keep handled.end t.mid t.back after t.second ∙
@@ -116,12 +119,57 @@ tries_off limit rounds error f l after t = go f.stuck refl t
     go : (was : Option StuckError) → f.stuck ≡ was → MatchOption was (HandlesRound limit rounds (Err error) f l after)
         (λ other. StaysStuck (Err error) other f l after) → LeavesOff error f l after
     go None e (handled, found, is, t) =
-        let F : Option StuckError → Type 0 = λ o. CountsRound rounds handled.end o t.mid t.back after in
-        let off = counts_off rounds handled.end error t.mid t.back after (subst F (found_stuck handled found error is) t.second) in
+        let end = counts_as (has_moved f t.mid) handled.end in
+        let F : Option StuckError → Type 0 = λ o. CountsRound rounds end o t.mid t.back after in
+        let off = counts_off rounds end error t.mid t.back after (subst F (found_stuck handled found error is) t.second) in
         (ends_later (Write offsets.IER 0) t.front t.back l t.whole off.0, off.1)
     go (Some other) e t =
         let same : Some other ≡ Some error = let both = t.0 in cc in
         (turns_off_ends f.driver l after.driver t.1.0, ap (λ (g : RingFields). g.stuck) t.1.1 ∙ (e ∙ same))
+
+-- ---- found stuck for the first time: no byte moved, and it was the last round
+
+-- a round that is found stuck counts for what it is, and it is the last
+last_unfinished : (rounds : ℕ) (error : StuckError) (f : RingFields) (l : List Access) (after : RingFields) →
+    CountsUnfinished rounds (Some error) f l after → (rounds ≤ suc f.rounds) × (after ≡ with_driver after.driver (with_stuck error f))
+last_unfinished rounds error f l after t = go (nat_lt (suc f.rounds) rounds) refl t
+  where
+    go : (more : Bool) → nat_lt (suc f.rounds) rounds ≡ more →
+        MatchBool more ((Some error ≡ None) × RingSets (with_rounds (suc f.rounds)) f l after) (LooksOnceMore (Some error) f l after) →
+        (rounds ≤ suc f.rounds) × (after ≡ with_driver after.driver (with_stuck error f))
+    go true e t = absurd (let e = t.0 in cc)
+    go false e t = (grind (arith, nat_tests), t.second.1 ∙ ap (λ (g : RingFields). with_driver after.driver (with_stuck error g)) t.first.1)
+
+last_round : (rounds : ℕ) (end : HandleEnd) (error : StuckError) (f : RingFields) (l : List Access) (after : RingFields) →
+    CountsRound rounds end (Some error) f l after →
+    (end ≢ Idle) × (rounds ≤ suc f.rounds) × (after ≡ with_driver after.driver (with_stuck error f))
+last_round rounds Idle error f l after t = absurd (let e = t.0 in cc)
+last_round rounds Unknown error f l after t =
+    let last = last_unfinished rounds error f l after t in
+    (λ e. absurd (cc), last.0, last.1)
+last_round rounds Limit error f l after t =
+    let last = last_unfinished rounds error f l after t in
+    (λ e. absurd (cc), last.0, last.1)
+
+pub tries_still : (limit rounds : ℕ) (error : StuckError) → Implies (TriesToHandle limit rounds (Err error)) (IsLastStill rounds)
+tries_still limit rounds error f l after t none = go (subst M none t)
+  where
+    M : Option StuckError → Type 0
+    M was = MatchOption was (HandlesRound limit rounds (Err error) f l after) (λ other. StaysStuck (Err error) other f l after)
+
+    unmoved : (moved : Bool) (end : HandleEnd) → counts_as moved end ≢ Idle → moved ≡ false
+    unmoved true end not_idle = absurd (not_idle refl)
+    unmoved false end not_idle = refl
+
+    go : HandlesRound limit rounds (Err error) f l after → (has_moved f after ≡ false) × (rounds ≤ suc f.rounds)
+    go (handled, found, is, t) =
+        let end = counts_as (has_moved f t.mid) handled.end in
+        let F : Option StuckError → Type 0 = λ o. CountsRound rounds end o t.mid t.back after in
+        let last = last_round rounds end error t.mid t.back after (subst F (found_stuck handled found error is) t.second) in
+        let kept : t.mid.rounds ≡ f.rounds = handles_keep limit handled f t.front t.mid t.first in (
+          ap (has_moved f) last.2 ∙ unmoved (has_moved f t.mid) handled.end last.0,
+          rw kept at last.1,
+        )
 
 -- ---- one that is not
 
@@ -154,13 +202,29 @@ handles_idle limit handled e f l after t =
     idle_before t.front t.back l t.whole (none_after handled.end e t.mid t.back after t.second)
     (idle_later u.front u.back t.front u.whole (stops_idle handled.end e u.mid u.back t.mid u.second))
 
+abbrev not_found : Option StuckError
+not_found = None
+
 -- how the count goes on after a `handle`
 abbrev GoesOn : (rounds before : ℕ) → (l : List Access) → RingFields → Type 0
 GoesOn rounds before l after =
     ((after.rounds ≡ suc before) × (suc before < rounds)) ⊎ (EndsIdle l × (after.rounds ≡ 0))
 
-abbrev not_found : Option StuckError
-not_found = None
+unfinished_still : (rounds : ℕ) (before f : RingFields) (l : List Access) (after : RingFields) → CountsUnfinished rounds None f l after →
+    has_moved before after ≡ has_moved before f
+unfinished_still rounds before f l after t = go (nat_lt (suc f.rounds) rounds) t
+  where
+    go : (more : Bool) → MatchBool more ((not_found ≡ None) × RingSets (with_rounds (suc f.rounds)) f l after)
+        (LooksOnceMore None f l after) → has_moved before after ≡ has_moved before f
+    go true t = ap (has_moved before) t.1.1
+    go false (shown, same) = ap (has_moved before) same
+
+-- what is counted moves no byte
+counted_still : (rounds : ℕ) (before f : RingFields) (end : HandleEnd) (l : List Access) (after : RingFields) →
+    CountsRound rounds end None f l after → has_moved before after ≡ has_moved before f
+counted_still rounds before f Idle l after t = ap (has_moved before) t.1.1
+counted_still rounds before f Unknown l after t = unfinished_still rounds before f l after t
+counted_still rounds before f Limit l after t = unfinished_still rounds before f l after t
 
 unfinished_goes_on : (rounds : ℕ) (f : RingFields) (l : List Access) (after : RingFields) → CountsUnfinished rounds None f l after →
     GoesOn rounds f.rounds l after
@@ -179,9 +243,9 @@ found_none handled other (Some error) is = absurd (cc)
 pub tries_count : (limit rounds : ℕ) (handled : Handled) → Implies (TriesToHandle limit rounds (Ok handled)) (CountsOrIsIdle rounds)
 tries_count limit rounds handled f l after t = go f.stuck t
   where
-    as_law : GoesOn rounds f.rounds l after → CountsOrIsIdle rounds f l after
-    as_law (inl more) = inl more
-    as_law (inr idle) = inr (idle.0.0, idle.0.1, idle.0.2, idle.1)
+    as_law : has_moved f after ≡ false → GoesOn rounds f.rounds l after → CountsOrIsIdle rounds f l after
+    as_law still (inl more) = inl (more.0, more.1, still)
+    as_law still (inr idle) = inr (inr (idle.0.0, idle.0.1, idle.0.2, idle.1))
 
     later : (front back : List Access) (before : ℕ) → l ≡ front ++ back → before ≡ f.rounds → GoesOn rounds before back after →
         GoesOn rounds f.rounds l after
@@ -195,12 +259,22 @@ tries_count limit rounds handled f l after t = go f.stuck t
     ends Unknown front back mid is same idle t = later front back mid.rounds is same (unfinished_goes_on rounds mid back after t)
     ends Limit front back mid is same idle t = later front back mid.rounds is same (unfinished_goes_on rounds mid back after t)
 
+    -- a byte moved, or not
+    counts : (other : Handled) (front back : List Access) (mid : RingFields) → l ≡ front ++ back → Handles limit other f front mid →
+        (moved : Bool) → has_moved f mid ≡ moved → CountsRound rounds (counts_as moved other.end) None mid back after →
+        CountsOrIsIdle rounds f l after
+    counts other front back mid is first true e t =
+        inr (inl (counted_still rounds f mid Idle back after t ∙ e, ap (λ (g : RingFields). g.rounds) t.1.1))
+    counts other front back mid is first false e t =
+        as_law (counted_still rounds f mid other.end back after t ∙ e)
+        (ends other.end front back mid is (handles_keep limit other f front mid first)
+        (λ idle. handles_idle limit other idle f front mid first) t)
+
     go : (was : Option StuckError) → MatchOption was (HandlesRound limit rounds (Ok handled) f l after)
         (λ error. StaysStuck (Ok handled) error f l after) → CountsOrIsIdle rounds f l after
     go None (other, found, is, t) =
-        let F : Option StuckError → Type 0 = λ o. CountsRound rounds other.end o t.mid t.back after in
-        as_law (ends other.end t.front t.back t.mid t.whole (handles_keep limit other f t.front t.mid t.first)
-        (λ e. handles_idle limit other e f t.front t.mid t.first) (subst F (found_none handled other found is) t.second))
+        let F : Option StuckError → Type 0 = λ o. CountsSince rounds f other.end o t.mid t.back after in
+        counts other t.front t.back t.mid t.whole t.first (has_moved f t.mid) refl (subst F (found_none handled other found is) t.second)
     go (Some error) t = absurd (let both = t.0 in cc)
 
 -- ---- the calls

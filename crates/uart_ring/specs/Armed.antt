@@ -62,6 +62,15 @@ KeepsIer known (access ∷ accesses) = IsTrueOfIer known access × KeepsIer (kno
 abbrev pub IsArmed : ThrEmpty → RingFields → Type 0
 IsArmed known f = (sendable f ≡ []) ⊎ ((known.enabled ≡ true) × (known.due ≡ true))
 
+-- no read of ISR, and no write of another register than DATA and MCR
+abbrev pub IsHarmless : Access → Type 0
+IsHarmless (Read offset answer) = (offset == offsets.ISR) ≡ false
+IsHarmless (Write offset value) = (offset ≡ offsets.DATA) ⊎ (offset ≡ offsets.MCR)
+
+abbrev pub AllHarmless : List Access → Type 0
+AllHarmless [] = ⊤
+AllHarmless (access ∷ accesses) = IsHarmless access × AllHarmless accesses
+
 -- a call that does not check CTS leaves the rings armed, if they were armed before it and the chip keeps IER
 abbrev pub LeavesArmed : RingDoing
 LeavesArmed f l after =

@@ -40,6 +40,10 @@ most_of_handle limit = limit * (1 + most_of_receiving) + most_of_retrigger
 abbrev pub most_of_try_handle : (limit : ℕ) → ℕ
 most_of_try_handle limit = most_of_handle limit + (1 + most_of_change)
 
+-- `config_register_dump`: five accesses for the divisor latch, seven registers, and a pump
+abbrev pub most_of_dump : ℕ
+most_of_dump = 12 + most_of_pump
+
 -- `restart`: a change of IER, and a pump
 abbrev pub most_of_restart : ℕ
 most_of_restart = most_of_change + most_of_pump

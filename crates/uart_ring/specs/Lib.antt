@@ -10,3 +10,4 @@ pub mod Lossless
 pub mod Armed
 pub mod Bounded
 pub mod Choice
+pub mod Line

@@ -1,9 +1,12 @@
--- Line errors and changes of the modem lines: noted when their interrupts are served, and taken by the caller.
+-- Line errors and changes of the modem lines: noted when their interrupts are served, and taken by the caller. And all
+-- registers at once.
 use Rattle.std.specs.Prelude.{◌≡◌, ℕ, bit_and, bit_or}
 use Rattle.uart_spec.specs.declared.registers.line_status.TheConstants.LSR
 use Rattle.uart_spec.specs.declared.registers.modem_status.TheConstants.MSR
-use Rattle.uart_16550.specs.Status.{TakesLsr, TakesMsr}
-use Rattle.uart_ring.specs.Ring.{RingDoing, OnDriver, with_line, with_modem}
+use Rattle.uart_spec.specs.declared.dump.ConfigRegisterDump.{ConfigRegisterDump}
+use Rattle.uart_16550.specs.Status.{TakesLsr, TakesMsr, Dumps}
+use Rattle.uart_ring.specs.Ring.{RingDoing, OnDriver, RingNext, unchanged, with_line, with_modem}
+use Rattle.uart_ring.specs.Transmit.{ResumesTransmit}
 
 -- `lsr`, of which the line errors are noted
 abbrev pub NotesLine : RingDoing
@@ -24,3 +27,7 @@ TakesLine result f l after =
 abbrev pub TakesModem : ℕ → RingDoing
 TakesModem result f l after =
     (status : ℕ) × (result ≡ bit_or status f.modem) × OnDriver (TakesMsr status) (with_modem 0) f l after
+
+-- `config_register_dump`: that of the driver, whose read of ISR may acknowledge THR_EMPTY; and then sending resumes
+abbrev pub DumpsRegisters : ConfigRegisterDump → RingDoing
+DumpsRegisters dump f l after = RingNext (OnDriver (Dumps dump) unchanged) ResumesTransmit f l after

@@ -1,6 +1,7 @@
 -- A chip that shows interrupts for ever: it is stuck, and its interrupts are off until a restart.
-use Rattle.std.specs.Prelude.{◌≡◌, ◌<◌, ◌⊎◌, ℕ, suc, nat_lt, Bool, true, false, MatchBool, Option, Some, None}
-use Rattle.std.specs.Prelude.{MatchOption}
+use Rattle.std.specs.Prelude.{◌≡◌, ◌==◌, ◌<◌, ◌≤◌, ◌⊎◌, ◌&&◌, ◌||◌, ℕ, suc, nat_lt, Bool, true, false, not, MatchBool}
+use Rattle.std.specs.Prelude.{Option, Some, None, MatchOption, length}
+use Rattle.std.specs.Option.{is_some}
 use Rattle.std.specs.Prelude.{Result, Ok, Err, List, [], ◌∷◌, ◌++◌, if◌then◌else◌}
 use Rattle.bitflags.specs.Sets.{without}
 use Rattle.uart_spec.specs.declared.access.Access.{Access}
@@ -18,7 +19,7 @@ use Rattle.uart_ring.specs.declared.ring.service.HandleEnd.TheVariants.{Idle, Un
 use Rattle.uart_ring.specs.declared.ring.service.Handled.{Handled}
 use Rattle.uart_ring.specs.declared.ring.storm.StuckError.{StuckError}
 use Rattle.uart_ring.specs.declared.ring.storm.StuckError.TheVariants as stuck
-use Rattle.uart_ring.specs.Ring.{RingDoing, OnDriver, RingNext, RingSets, unchanged, with_rounds}
+use Rattle.uart_ring.specs.Ring.{RingFields, RingDoing, OnDriver, RingNext, RingSets, unchanged, with_rounds}
 use Rattle.uart_ring.specs.Ring.{with_stuck, restarted}
 use Rattle.uart_ring.specs.Transmit.{ResumesTransmit}
 use Rattle.uart_ring.specs.Service.{ShowsNone}
@@ -66,6 +67,23 @@ CountsRound rounds Idle found f l after = (found ≡ None) × RingSets (with_rou
 CountsRound rounds Unknown found f l after = CountsUnfinished rounds found f l after
 CountsRound rounds Limit found f l after = CountsUnfinished rounds found f l after
 
+-- a byte moved between the rings and the chip: other numbers of bytes are in them than these, or the urgent byte went
+abbrev pub has_moved_since : (transmit : ℕ) → (is_urgent : Bool) → (receive : ℕ) → RingFields → Bool
+has_moved_since transmit is_urgent receive f =
+    not (length f.transmit.items == transmit) || (is_urgent && not (is_some f.urgent))
+    || not (length f.receive.items == receive)
+
+abbrev pub has_moved : (before after : RingFields) → Bool
+has_moved f after = has_moved_since (length f.transmit.items) (is_some f.urgent) (length f.receive.items) after
+
+-- how a round counts: one in which a byte moved as one that ended with no interrupt pending
+abbrev pub counts_as : (moved : Bool) → HandleEnd → HandleEnd
+counts_as true end = Idle
+counts_as false end = end
+
+abbrev pub CountsSince : (rounds : ℕ) → (before : RingFields) → HandleEnd → Option StuckError → RingDoing
+CountsSince rounds before end found f l after = CountsRound rounds (counts_as (has_moved before f) end) found f l after
+
 -- what was handled, unless the chip was found stuck
 abbrev pub unless_stuck : Handled → Option StuckError → Result Handled StuckError
 unless_stuck handled None = Ok handled
@@ -75,7 +93,7 @@ unless_stuck handled (Some error) = Err error
 abbrev pub HandlesRound : (limit rounds : ℕ) → Result Handled StuckError → RingDoing
 HandlesRound limit rounds result f l after =
     (handled : Handled) × (found : Option StuckError) × (result ≡ unless_stuck handled found)
-    × RingNext (Handles limit handled) (CountsRound rounds handled.end found) f l after
+    × RingNext (Handles limit handled) (CountsSince rounds f handled.end found) f l after
 
 -- while the chip is stuck, all interrupts are disabled again
 abbrev pub StaysStuck : Result Handled StuckError → StuckError → RingDoing
@@ -105,9 +123,14 @@ EndsWith access l = (front : List Access) × (l ≡ front ++ access ∷ [])
 abbrev pub LeavesOff : StuckError → RingDoing
 LeavesOff error f l after = EndsWith (Write offsets.IER 0) l × (after.stuck ≡ Some error)
 
--- one more round in a row was left unfinished, and more are allowed; or the last access read ISR, which showed that no
--- interrupt is pending, and the count begins again
+-- if the chip was not stuck before, no byte moved, and this was the last of so many rounds in a row
+abbrev pub IsLastStill : (rounds : ℕ) → RingDoing
+IsLastStill rounds f l after = f.stuck ≡ None → (has_moved f after ≡ false) × (rounds ≤ suc f.rounds)
+
+-- one more round in a row was left unfinished in which no byte moved, and more are allowed; or the count begins again:
+-- a byte moved, or the last access read ISR, which showed that no interrupt is pending
 abbrev pub CountsOrIsIdle : (rounds : ℕ) → RingDoing
 CountsOrIsIdle rounds f l after =
-    ((after.rounds ≡ suc f.rounds) × (suc f.rounds < rounds))
+    ((after.rounds ≡ suc f.rounds) × (suc f.rounds < rounds) × (has_moved f after ≡ false))
+    ⊎ ((has_moved f after ≡ true) × (after.rounds ≡ 0))
     ⊎ ((isr : ℕ) × (has isr ISR.INTERRUPT_STATUS.0 ≡ true) × EndsWith (Read offsets.ISR isr) l × (after.rounds ≡ 0))

@@ -8,18 +8,24 @@ ghost use Rattle.uart_ring.specs.Transmit.{Queues, ResumesTransmit};
 ghost use Rattle.uart_ring.specs.Transmit.{Holds, Releases, QueuesUrgent, ClearsTransmit};
 ghost use Rattle.uart_ring.specs.Transmit.{SetsLowMark, TakesLow};
 ghost use Rattle.uart_ring.specs.Receive.{TakesBytes, ClearsReceive, AdjustsRts};
-ghost use Rattle.uart_ring.specs.Storm.{TriesToHandle, Restarts, LeavesOff, CountsOrIsIdle};
-ghost use Rattle.uart_ring.specs.Status.{TakesLine, TakesModem};
+ghost use Rattle.uart_ring.specs.Storm.{TriesToHandle, Restarts, LeavesOff};
+ghost use Rattle.uart_ring.specs.Storm.{CountsOrIsIdle, IsLastStill};
+ghost use Rattle.uart_ring.specs.Status.{TakesLine, TakesModem, DumpsRegisters};
+ghost use Rattle.uart_spec.specs.declared.dump.ConfigRegisterDump.{ConfigRegisterDump};
 ghost use Rattle.uart_ring.specs.Service.{Services};
 ghost use Rattle.uart_ring.specs.Handle.{Handles, Retriggers};
+ghost use Rattle.uart_ring.specs.Line.{LowersLine, RaisesLine, most_of_lower};
+ghost use Rattle.uart_ring.specs.Ring.{RingNext};
+ghost use Rattle.uart_ring.specs.declared.ring.line.Lowered.{Lowered};
 ghost use Rattle.uart_ring.specs.Lossless.{LosesNothing, LosesOnly, Implies};
 ghost use Rattle.uart_ring.specs.Lossless.{overtaken_by, without_dropped};
 ghost use Rattle.uart_ring.specs.Armed.{Arms, ArmsUnlessHeld, LeavesArmed};
+ghost use Rattle.uart_ring.specs.Armed.{AllHarmless, IsArmed, ThrEmpty, known_after_all};
 ghost use Rattle.uart_ring.specs.Choice.{LeavesNoRingChoice};
 ghost use Rattle.uart_ring.specs.Bounded.{MakesAtMost, most_of_change, most_of_adjust};
 ghost use Rattle.uart_ring.specs.Bounded.{most_of_pump, most_of_service};
 ghost use Rattle.uart_ring.specs.Bounded.{most_of_handle, most_of_retrigger};
-ghost use Rattle.uart_ring.specs.Bounded.{most_of_try_handle, most_of_restart};
+ghost use Rattle.uart_ring.specs.Bounded.{most_of_try_handle, most_of_restart, most_of_dump};
 ghost use Rattle.uart_ring.specs.declared.ring.receive.ReceiveMarks.{ReceiveMarks};
 ghost use Rattle.uart_ring.specs.declared.ring.service.Handled.{Handled};
 ghost use Rattle.uart_ring.specs.declared.ring.storm.StuckError.{StuckError};
@@ -31,6 +37,9 @@ ghost use Rattle.uart_ring.specs.declared.ring.service.TheConstants.{MAX_INTERRU
 /// What was taken and what is left in the receive ring is what was there and what was read from
 /// DATA. Line errors and changes of the modem lines are kept until `take_line` and `take_modem`
 /// return them.
+///
+/// `config_register_dump` has no clause here: under DLAB it reads the divisor latch at the place of
+/// DATA. Over the chip it loses nothing either, as a call of the driver and a `resume_transmit`.
 ///
 /// An urgent byte goes before all bytes that wait, in place of one that `queue_urgent` returns.
 /// What `clear_transmit` drops are as many bytes as it returns, from the end of those that wait:
@@ -69,8 +78,8 @@ pub fn ring_calls_lose_nothing()
 /// may be sent, and while the transmit ring is held only the urgent byte.
 ///
 /// If CTS is not checked, each ring call leaves the rings armed if they were armed before it. A
-/// `queue` that accepts a byte, a `resume_transmit`, a `release_transmit`, a `queue_urgent` and a
-/// `restart` leave them armed in any case.
+/// `queue` that accepts a byte, a `resume_transmit`, a `release_transmit`, a `queue_urgent`, a
+/// `restart` and a `config_register_dump` leave them armed in any case.
 ///
 /// If CTS is checked, the first four of these leave the rings armed unless they read that CTS is
 /// clear.
@@ -103,7 +112,18 @@ pub fn ring_calls_leave_armed()
     ensures try_handle { (limit rounds : ℕ) (result : Result Handled StuckError) →
         Implies (TriesToHandle limit rounds result) LeavesArmed }
     ensures restart { (bits : ℕ) → Implies (Restarts bits) Arms }
+    ensures config_register_dump { (dump : ConfigRegisterDump) →
+        Implies (DumpsRegisters dump) Arms }
     ensures adjust_rts { (marks : ReceiveMarks) → Implies (AdjustsRts marks) LeavesArmed }
+{}
+
+/// Calls of the driver, through `inner_mut`, leave the rings armed if they neither read ISR nor
+/// write a register other than DATA and MCR: those that read other registers, send, receive, wait
+/// or switch outputs. Their contracts name their accesses. So any list of such calls and of ring
+/// calls leaves the rings armed.
+pub fn other_accesses_leave_armed()
+    ensures { (l : List Access) → AllHarmless l → (known : ThrEmpty) (f : RingFields) →
+        IsArmed known f → IsArmed (known_after_all known l) f }
 {}
 
 /// No ring call waits: each makes at most this number of accesses, whatever they return.
@@ -131,6 +151,8 @@ pub fn ring_calls_are_bounded()
     ensures try_handle { (limit rounds : ℕ) (result : Result Handled StuckError) →
         Implies (TriesToHandle limit rounds result) (MakesAtMost (most_of_try_handle limit)) }
     ensures restart { (bits : ℕ) → Implies (Restarts bits) (MakesAtMost most_of_restart) }
+    ensures config_register_dump { (dump : ConfigRegisterDump) →
+        Implies (DumpsRegisters dump) (MakesAtMost most_of_dump) }
     ensures adjust_rts { (marks : ReceiveMarks) →
         Implies (AdjustsRts marks) (MakesAtMost most_of_adjust) }
 {}
@@ -157,21 +179,53 @@ pub fn ring_calls_leave_no_choice()
     ensures try_handle { (limit rounds : ℕ) →
         LeavesNoRingChoice (TriesToHandle limit rounds) }
     ensures restart { (bits : ℕ) → LeavesNoRingChoice (λ (_ : ⊤). Restarts bits) }
+    ensures config_register_dump { LeavesNoRingChoice DumpsRegisters }
     ensures adjust_rts { (marks : ReceiveMarks) →
         LeavesNoRingChoice (λ (_ : ⊤). AdjustsRts marks) }
 {}
 
 /// `try_handle` ends a storm. If it returns that the chip is stuck, its last access writes 0 to
 /// IER. If it returns anything else, it has counted one more unfinished round in a row, and more
-/// are allowed, or its last access read ISR, which showed that no interrupt is pending.
-///
-/// So of as many calls in a row as there may be rounds, one finds the chip stuck, unless an access
+/// are allowed, or a byte moved between the rings and the chip, or its last access read ISR, which
 /// showed that no interrupt is pending.
+///
+/// So of as many calls in a row as there may be rounds, one finds the chip stuck, unless a byte
+/// moved or an access showed that no interrupt is pending.
+///
+/// And a chip is found stuck only then: in as many calls in a row as there may be rounds no byte
+/// moved, and none of them ended with no interrupt pending.
 pub fn storms_end()
     ensures off { (limit rounds : ℕ) (error : StuckError) →
         Implies (TriesToHandle limit rounds (Err error)) (LeavesOff error) }
+    ensures still { (limit rounds : ℕ) (error : StuckError) →
+        Implies (TriesToHandle limit rounds (Err error)) (IsLastStill rounds) }
     ensures counted { (limit rounds : ℕ) (handled : Handled) →
         Implies (TriesToHandle limit rounds (Ok handled)) (CountsOrIsIdle rounds) }
+{}
+
+/// What is said of the ring calls holds of `lower_line` and `raise_line` too, which are made at
+/// each port of a line that several share: they lose nothing, make few accesses, and have no
+/// choice. Both together leave the rings armed. A chip that is stuck has 0 in IER after both.
+pub fn line_calls_are_ring_calls()
+    ensures lower_loses_nothing { (limit rounds : ℕ) (lowered : Lowered) →
+        Implies (LowersLine limit rounds lowered) (LosesNothing [] [] 0 0) }
+    ensures raise_loses_nothing { (bits : ℕ) →
+        Implies (RaisesLine bits) (LosesNothing [] [] 0 0) }
+    ensures armed { (limit rounds : ℕ) (lowered : Lowered) →
+        Implies (RingNext (LowersLine limit rounds lowered) (RaisesLine lowered.enabled.0))
+        LeavesArmed }
+    ensures off { (limit rounds : ℕ) (lowered : Lowered) (error : StuckError) →
+        lowered.handled ≡ Err error →
+        Implies (RingNext (LowersLine limit rounds lowered) (RaisesLine lowered.enabled.0))
+        (LeavesOff error) }
+    ensures lower_is_bounded { (limit rounds : ℕ) (lowered : Lowered) →
+        Implies (LowersLine limit rounds lowered) (MakesAtMost (most_of_lower limit)) }
+    ensures raise_is_bounded { (bits : ℕ) →
+        Implies (RaisesLine bits) (MakesAtMost most_of_change) }
+    ensures lower_leaves_no_choice { (limit rounds : ℕ) →
+        LeavesNoRingChoice (LowersLine limit rounds) }
+    ensures raise_leaves_no_choice { (bits : ℕ) →
+        LeavesNoRingChoice (λ (_ : ⊤). RaisesLine bits) }
 {}
 
 /// The values of the limits.

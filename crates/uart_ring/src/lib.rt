@@ -6,10 +6,12 @@
 #![tactic(auto)]
 
 pub mod laws;
+mod line;
 mod queue;
 mod ring;
 
+pub use line::{LinePort, LinePorts, handle_line, handle_ports};
 pub use ring::{
-    HandleEnd, Handled, MAX_CAPACITY, MAX_INTERRUPTS, ReceiveMarks, RingError, StuckError,
+    HandleEnd, Handled, Lowered, MAX_CAPACITY, MAX_INTERRUPTS, ReceiveMarks, RingError, StuckError,
     Uart16550Ring,
 };

@@ -5,6 +5,7 @@ ghost use Rattle.uart_16550.specs.contracts.driver.Uart16550.{the_row as driver_
 ghost use Rattle.uart_ring.specs.contracts.ring.Uart16550Ring.{the_row};
 ghost use Rattle.uart_ring.specs.Ring.{IsCapacity, AreEmpty, driver_of, free, ring_fields};
 
+mod line;
 mod receive;
 mod service;
 mod status;
@@ -13,6 +14,7 @@ mod transmit;
 
 use crate::queue::ByteQueue;
 use bitflags::Flags;
+pub use line::Lowered;
 pub use receive::ReceiveMarks;
 pub use service::{HandleEnd, Handled, MAX_INTERRUPTS};
 use std::alloc::Global;
@@ -259,8 +261,18 @@ impl<B: Backend> Uart16550Ring<B> {
     /// `enable_interrupts`. Makes no access itself.
     ///
     /// Bytes that such a call sends or receives bypass the rings. The rings change two bits of IER:
-    /// `THR_EMPTY`, and `DATA_READY` while receiving is paused. Do not change these two. After an
-    /// `init` while bytes wait in the transmit ring, call `resume_transmit`.
+    /// `THR_EMPTY`, and `DATA_READY` while receiving is paused. Do not change these two.
+    ///
+    /// These calls may take away the interrupt on which bytes in the transmit ring wait, and then
+    /// the bytes wait for ever. Call `resume_transmit` after
+    ///
+    /// - `isr`, `config_register_dump` and `attach`, which read ISR: that acknowledges the
+    ///   interrupt. The rings have a `config_register_dump` of their own, which needs nothing;
+    /// - `disable_interrupts` of `THR_EMPTY`;
+    /// - `init`, `init_with`, `restore`, `quiesce` and `test_loopback`, which set the port up, test
+    ///   it or leave it.
+    ///
+    /// After every other call the interrupt is still to come.
     ///
     /// # Examples
     ///

@@ -35,21 +35,21 @@ use Rattle.uart_ring_runs.proofs.RingBlocks.{LeavesLcr, AllLeaveLcr}
 -- ---- the transmitter
 
 -- as a sum: the transmit queue is not empty, or that it became empty is still to be told
-abbrev IsDue : TransmitterState → Type 0
+abbrev pub IsDue : TransmitterState → Type 0
 IsDue t = (0 < length t.queue) ⊎ (t.is_thr_pending ≡ true)
 
 or_true : (b : Bool) → (b || true) ≡ true
 or_true true = refl
 or_true false = refl
 
-due_says : (t : TransmitterState) → is_due t ≡ true → IsDue t
+pub due_says : (t : TransmitterState) → is_due t ≡ true → IsDue t
 due_says t h = go (length t.queue == 0) refl h
   where
     go : (none : Bool) → (length t.queue == 0) ≡ none → (not none || t.is_thr_pending) ≡ true → IsDue t
     go true e h = inr h
     go false e h = inl (grind (arith, nat_tests))
 
-says_due : (t : TransmitterState) → IsDue t → is_due t ≡ true
+pub says_due : (t : TransmitterState) → IsDue t → is_due t ≡ true
 says_due t (inr pending) = rw pending (or_true (not (length t.queue == 0)))
 says_due t (inl some) =
     let none : (length t.queue == 0) ≡ false = grind (arith, nat_tests) in
@@ -73,13 +73,13 @@ due-refill None [] t h = h
 due-refill None (x ∷ []) t h = inr refl
 due-refill None (x ∷ y ∷ xs) t h = inl (omega arith)
 
-due-tick : (loopback : Bool) (t : TransmitterState) → IsDue t → IsDue (transmitter.tick loopback t)
+pub due-tick : (loopback : Bool) (t : TransmitterState) → IsDue t → IsDue (transmitter.tick loopback t)
 due-tick loopback t h =
     let u : TransmitterState = shift loopback t.shift_register t in
     due-refill u.shift_register u.queue u (due-shift loopback t.shift_register t h)
 
 -- a byte that is written is held
-due-load : (fifo : Bool) (byte : ℕ) (t : TransmitterState) → IsDue (load fifo byte t)
+pub due-load : (fifo : Bool) (byte : ℕ) (t : TransmitterState) → IsDue (load fifo byte t)
 due-load fifo byte t = go (nat_lt (length t.queue) (room fifo)) refl
   where
     full : (b : Bool) → nat_lt (length t.queue) (room b) ≡ false → 0 < length (if b then t.queue else byte ∷ [])
@@ -93,7 +93,7 @@ due-load fifo byte t = go (nat_lt (length t.queue) (room fifo)) refl
 -- ---- accesses
 
 -- a read withdraws it only if it is of ISR, and shows it
-due-read : (offset : ℕ) (c : ChipState) → ((offset == offsets.ISR) ≡ true → is_thr_empty (interrupt c) ≡ false) → IsDue c.transmitter →
+pub due-read : (offset : ℕ) (c : ChipState) → ((offset == offsets.ISR) ≡ true → is_thr_empty (interrupt c) ≡ false) → IsDue c.transmitter →
     IsDue (after_read offset c).transmitter
 due-read offset c other h =
     either IsDue _ _ (offset == offsets.DATA) (either IsDue _ _ (is_dlab_set c.latches) h h) (isr (offset == offsets.ISR) refl)
@@ -198,7 +198,7 @@ read_due offset value due m n was s h = go (offset == offsets.LSR) (offset == of
 ier_read : (offset value : ℕ) (m n : MachineState) → MachineStep m (Read offset value) n → n.chip.latches.ier ≡ m.chip.latches.ier
 ier_read offset value m n s = ap (λ (k : Kept). k.latches.ier) (kept_step (Read offset value) m n s)
 
-ier_answer : (value : ℕ) (m n : MachineState) → IsDlabOff m → MachineStep m (Read offsets.IER value) n → value ≡ m.chip.latches.ier
+pub ier_answer : (value : ℕ) (m n : MachineState) → IsDlabOff m → MachineStep m (Read offsets.IER value) n → value ≡ m.chip.latches.ier
 ier_answer value m n off s =
     let there = off_access m off in
     (rw there at s.1) ∙ ap (λ (k : Kept). k.latches.ier) (kept_access m)

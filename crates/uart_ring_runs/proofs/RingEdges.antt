@@ -1,5 +1,6 @@
 -- That `handle` and `retrigger` lose no edge of the interrupt line.
-use Rattle.std.proofs.Common.{◌≡◌, ◌⊎◌, ◌<◌, arith, ℕ, Bool, true, false, List, [], ◌∷◌, ◌++◌, inl, inr, refl, sym, ◌∙◌, ap, subst, bit_or}
+use Rattle.std.proofs.Common.{◌≡◌, ◌⊎◌, ◌<◌, arith, ℕ, Bool, true, false, List, [], ◌∷◌, ◌++◌, inl, inr, refl, sym, ◌∙◌, ap, subst}
+use Rattle.std.proofs.Common.{bit_or}
 use Rattle.std.proofs.Common.{Option, Some, None, Result, Ok, Err, MatchBool, suc, nat_lt}
 use Rattle.std.specs.Prelude.{is_some, MatchOption}
 use lib.Bits.{and_zero_r}
@@ -19,7 +20,7 @@ use Rattle.uart_chip.specs.Chip.{ChipState, interrupt, identification, enable}
 use Rattle.uart_chip.specs.Machine.{MachineState, MachineStep, at_access}
 use Rattle.uart_ring.specs.Ring.{RingDoing, RingDid, RingFields, RingNext, RingTimes, RingSets, with_rounds}
 use Rattle.uart_ring.specs.Storm.{every_bit, TurnsOff, LooksOnceMore, CountsUnfinished, CountsRound, HandlesRound, StaysStuck}
-use Rattle.uart_ring.specs.Storm.{TriesToHandle, unless_stuck}
+use Rattle.uart_ring.specs.Storm.{TriesToHandle, unless_stuck, counts_as, has_moved}
 use Rattle.uart_ring.specs.declared.ring.storm.StuckError.{StuckError}
 use Rattle.uart_ring.specs.Service.{ServesOne, Stops, IsWithin, Services}
 use Rattle.uart_ring.specs.declared.ring.service.TheConstants.{MAX_INTERRUPTS}
@@ -30,7 +31,8 @@ use Rattle.uart_ring.specs.declared.ring.service.HandleEnd.TheVariants.{Idle, Un
 use Rattle.uart_ring.specs.declared.ring.service.Handled.{Handled}
 use Rattle.uart_ring_runs.specs.RingRun.{RingState, ring_machine, RingLink, RingChain}
 use Rattle.uart_chip.proofs.conservation.BlockLaws.{path_as}
-use Rattle.uart_ring_runs.proofs.RingBlocks.{AllLeaveLcr, times_make, handles_make}
+use Rattle.uart_ring_runs.proofs.RingWalk as walk
+use Rattle.uart_ring_runs.proofs.RingBlocks.{AllLeaveLcr, MakesBlocks, in_blocks}
 use Rattle.uart_ring.proofs.Pausing.{rid_of}
 use Rattle.uart_ring.proofs.RingDoings.{then_later}
 use Rattle.uart_ring_runs.proofs.RingDue.{IsDlabOff, off_access, off_step}
@@ -141,7 +143,7 @@ idle_list f l after t =
     (shown.0, shown.2, rw (shown.3.0.is, t.second.0) at t.whole)
 
 -- ISR of the chip names each interrupt that is pending
-named : (i : InterruptType) (fifo : Bool) → Identifies (bit_or (identification (Some i)) (flag fifo ISR.FIFOS_ENABLED.0)) i
+pub named : (i : InterruptType) (fifo : Bool) → Identifies (bit_or (identification (Some i)) (flag fifo ISR.FIFOS_ENABLED.0)) i
 named interrupts.ReceiverLineStatus true = (refl, refl)
 named interrupts.ReceiverLineStatus false = (refl, refl)
 named interrupts.ReceivedDataReady true = (refl, refl)
@@ -158,7 +160,7 @@ named interrupts.DmaTransmissionEndOfTransfer true = (refl, refl)
 named interrupts.DmaTransmissionEndOfTransfer false = (refl, refl)
 
 -- so it never shows one without a name
-none_unknown : (isr : ℕ) (m n : MachineState) → IsOnlyIfAny (Identifies isr) None → has isr ISR.INTERRUPT_STATUS.0 ≡ false →
+pub none_unknown : (isr : ℕ) (m n : MachineState) → IsOnlyIfAny (Identifies isr) None → has isr ISR.INTERRUPT_STATUS.0 ≡ false →
     MachineStep m (Read offsets.ISR isr) n → ⊥
 none_unknown isr m n none bit s = by (interrupt c) c.fifo (rw s.1 at none) (rw s.1 at bit)
   where
@@ -216,7 +218,7 @@ pub handles_down : (limit : ℕ) (handled : Handled) (f : RingFields) (l : List 
     Handles limit handled f l after → AlwaysDown l
 handles_down limit handled f l after t =
     let u = handled_later limit handled f l after t in
-    let leaves : AllLeaveLcr u.front = (times_make handled.served f u.front u.mid u.first).lcr in
+    let leaves : AllLeaveLcr u.front = (walk.times MakesBlocks in_blocks handled.served f u.front u.mid u.first).lcr in
     subst AlwaysDown (sym u.whole)
     (always_later u.front u.back leaves (ends_down handled.end u.mid u.back after u.second))
 
@@ -361,10 +363,11 @@ tries_last limit rounds result error e f l after t = go f.stuck t
     go : (was : Option StuckError) → MatchOption was (HandlesRound limit rounds result f l after)
         (λ error. StaysStuck result error f l after) → LastDown l
     go None (handled, found, is, t) =
-        let leaves : AllLeaveLcr t.front = (handles_make limit handled f t.front t.mid t.first).lcr in
-        let F : Option StuckError → Type 0 = λ o. CountsRound rounds handled.end o t.mid t.back after in
+        let leaves : AllLeaveLcr t.front = (walk.handles MakesBlocks in_blocks limit handled f t.front t.mid t.first).lcr in
+        let end = counts_as (has_moved f t.mid) handled.end in
+        let F : Option StuckError → Type 0 = λ o. CountsRound rounds end o t.mid t.back after in
         subst LastDown (sym t.whole) (last_later t.front t.back leaves
-        (counts_last rounds handled.end error t.mid t.back after (subst F (found_is handled found is) t.second)))
+        (counts_last rounds end error t.mid t.back after (subst F (found_is handled found is) t.second)))
     go (Some other) t = turns_off_last f.driver l after.driver t.1.0
 
 pub tries_down : (limit rounds : ℕ) (result : Result Handled StuckError) (f : RingFields) (l : List Access) (after : RingFields) →

@@ -1,36 +1,36 @@
 -- What every ring call keeps of the machine: soundness, and that it is wired.
 use Rattle.std.proofs.Common.{List, [], ◌∷◌, ◌++◌, sym, subst}
-use Rattle.uart_chip.specs.Machine.{MachineState}
+use Rattle.uart_16550.specs.Tty.{inner_of}
+use Rattle.uart_events.specs.declared.call.Call.{Call}
+use Rattle.uart_events.specs.declared.call.Call.TheVariants as driver
+use Rattle.uart_events.specs.declared.call.Answer.{Answer}
+use Rattle.uart_calls.specs.Meaning.{Called, IsOfDriver, meaning}
+use Rattle.uart_chip.specs.Machine.{MachineState, MachineStep}
+use Rattle.uart_run.specs.Run.{State, CallStep}
 use Rattle.uart_run.specs.Wired.{IsWired}
 use Rattle.uart_run.proofs.Chains.{chain_keeps}
-use Rattle.uart_run.proofs.Sessions.{Lasts, lasts_wired}
+use Rattle.uart_run.proofs.Sessions.{Lasts, goes_on, lasts_call, lasts_wired}
 use Rattle.uart_ring_runs.specs.declared.call.RingCall.{RingCall}
 use Rattle.uart_ring_runs.specs.declared.call.RingCall.TheVariants as call
 use Rattle.uart_ring_runs.specs.declared.call.RingAnswer.{RingAnswer}
-use Rattle.uart_ring_runs.specs.RingRun.{RingState, under, ring_machine, RingCallStep, RingLink, RingChain}
+use Rattle.uart_ring_runs.specs.RingRun.{RingState, under, ring_machine, IsOfRings, DriverCalled, RingCallStep, RingLink, RingChain}
 use Rattle.uart_ring_runs.specs.RingSession.{IsWithinRingSession, AllWithinRingSession}
+
+-- a call of the driver under the rings is one of a run without them
+as_step : (s t : State) (c : Call) (a : Answer) → IsOfDriver c → Called MachineStep (meaning c) a (inner_of s) (inner_of t) →
+    CallStep s c a t
+as_step s t driver.Next a i h = absurd i
+as_step s t other a i h = h
+
+pub driver_step : (s t : RingState) (c : Call) (a : RingAnswer) → (h : DriverCalled MachineStep c a s t) →
+    CallStep (under s) c h.outcome (under t)
+driver_step s t c a h = as_step (under s) (under t) c h.outcome h.of_driver h.called
 
 pub ring_lasts_call : {P : MachineState → Type 0} (s t : RingState) (c : RingCall) (a : RingAnswer) → Lasts P → P (ring_machine s) →
     RingCallStep s c a t → P (ring_machine t)
 ring_lasts_call s t call.Next a k w h = rw h.machine (k.mark (ring_machine s) w)
-ring_lasts_call s t (call.Queue bytes) a k w h = k.path h.did.list (ring_machine s) (ring_machine t) w h.did.path
-ring_lasts_call s t call.ResumeTransmit a k w h = k.path h.did.list (ring_machine s) (ring_machine t) w h.did.path
-ring_lasts_call s t (call.Take slots) a k w h = k.path h.did.list (ring_machine s) (ring_machine t) w h.did.path
-ring_lasts_call s t call.Service a k w h = k.path h.did.list (ring_machine s) (ring_machine t) w h.did.path
-ring_lasts_call s t (call.Handle limit) a k w h = k.path h.did.list (ring_machine s) (ring_machine t) w h.did.path
-ring_lasts_call s t call.Retrigger a k w h = k.path h.did.list (ring_machine s) (ring_machine t) w h.did.path
-ring_lasts_call s t call.TakeLine a k w h = k.path h.did.list (ring_machine s) (ring_machine t) w h.did.path
-ring_lasts_call s t call.TakeModem a k w h = k.path h.did.list (ring_machine s) (ring_machine t) w h.did.path
-ring_lasts_call s t call.HoldTransmit a k w h = k.path h.did.list (ring_machine s) (ring_machine t) w h.did.path
-ring_lasts_call s t call.ReleaseTransmit a k w h = k.path h.did.list (ring_machine s) (ring_machine t) w h.did.path
-ring_lasts_call s t (call.QueueUrgent byte) a k w h = k.path h.did.list (ring_machine s) (ring_machine t) w h.did.path
-ring_lasts_call s t call.ClearTransmit a k w h = k.path h.did.list (ring_machine s) (ring_machine t) w h.did.path
-ring_lasts_call s t call.ClearReceive a k w h = k.path h.did.list (ring_machine s) (ring_machine t) w h.did.path
-ring_lasts_call s t (call.SetLowMark mark) a k w h = k.path h.did.list (ring_machine s) (ring_machine t) w h.did.path
-ring_lasts_call s t call.TakeLow a k w h = k.path h.did.list (ring_machine s) (ring_machine t) w h.did.path
-ring_lasts_call s t (call.TryHandle limit rounds) a k w h = k.path h.did.list (ring_machine s) (ring_machine t) w h.did.path
-ring_lasts_call s t (call.Restart interrupts) a k w h = k.path h.did.list (ring_machine s) (ring_machine t) w h.did.path
-ring_lasts_call s t (call.AdjustRts marks) a k w h = k.path h.did.list (ring_machine s) (ring_machine t) w h.did.path
+ring_lasts_call s t (call.Driver c) a k w h = lasts_call (under s) (under t) c h.outcome k w (driver_step s t c a h)
+ring_lasts_call s t other a k w h = k.path h.did.list (ring_machine s) (ring_machine t) w h.did.path
 
 pub ring_lasts_chain : {P : MachineState → Type 0} (s t : RingState) (links : List RingLink) → Lasts P → P (ring_machine s) →
     RingChain s links t → P (ring_machine t)
@@ -46,6 +46,7 @@ wired_chain s t links w h = ring_lasts_chain s t links lasts_wired w h
 within_call : (s t : RingState) (c : RingCall) → (IsWired (under s) → IsWired (under t)) → IsWithinRingSession s c →
     IsWithinRingSession t c
 within_call s t (call.AdjustRts marks) f i = f i
+within_call s t (call.Driver c) f i = goes_on (IsWired (under s)) (under t) c f i
 within_call s t other f i = i
 
 pub within_later : (s t : RingState) (links : List RingLink) → (IsWired (under s) → IsWired (under t)) → AllWithinRingSession s links →
@@ -57,14 +58,11 @@ pub within-front : (s : RingState) (some more : List RingLink) → AllWithinRing
 within-front s [] more i = tt
 within-front s (link ∷ some) more i = (i.0, within-front s some more i.1)
 
--- from a wired machine each call goes on
-pub wired_call : (s : RingState) (c : RingCall) → IsWired (under s) → IsWithinRingSession s c
-wired_call s (call.AdjustRts marks) w = w
-wired_call s other w = tt
-
-pub wired_within : (s : RingState) (links : List RingLink) → IsWired (under s) → AllWithinRingSession s links
-wired_within s [] w = tt
-wired_within s (link ∷ links) w = (wired_call s link.call w, wired_within s links w)
+-- from a wired machine each call of the rings themselves goes on
+pub wired_call : (s : RingState) (c : RingCall) → IsOfRings c → IsWired (under s) → IsWithinRingSession s c
+wired_call s (call.AdjustRts marks) o w = w
+wired_call s (call.Driver c) o w = absurd o
+wired_call s other o w = tt
 
 -- the first call goes on where it is made, and the others after it
 pub record FirstWithin (link : RingLink) (links : List RingLink) : Type 0 where

@@ -30,8 +30,8 @@ use Rattle.uart_ring_runs.specs.declared.call.RingCall.{RingCall}
 use Rattle.uart_ring_runs.specs.declared.call.RingCall.TheVariants as call
 use Rattle.uart_ring_runs.specs.declared.call.RingAnswer.{RingAnswer}
 use Rattle.uart_ring_runs.specs.RingRun.{RingState, ring_machine, RingCallStep, RingLink, RingChain}
-use Rattle.uart_ring_runs.specs.RingBytes.{to_send, to_take, queued, KeepsOrder, AllKeepOrder}
-use Rattle.uart_ring_runs.specs.RingArmed.{thr_empty_of, IsRingArmed, AllLeaveRingArmed}
+use Rattle.uart_ring_runs.specs.RingBytes.{to_send, to_take, queued, KeepsOrder, AllKeepOrder, TakesInTurn, AllTakeInTurn}
+use Rattle.uart_ring_runs.specs.RingArmed.{thr_empty_of, IsRingArmed, KeepsArmed, AllLeaveRingArmed}
 use Rattle.uart_ring_runs.specs.RingSession.{RingConserves}
 use Rattle.uart_ring_runs.specs.RingPlain.{AreUntold, IsPlain, ArePlain, in_transmit_ring, IsEmptyOrDue, AllLeaveEmptyOrDue}
 use Rattle.uart_ring_runs.specs.RingPlain.{ConservesPlainly}
@@ -171,6 +171,7 @@ call_keeps s t (call.Restart interrupts) a plain h w =
     restarts_keep interrupts.0 (ring_fields s) h.did.list (ring_fields t) h.did.does w
 call_keeps s t (call.AdjustRts marks) a plain h w =
     adjusts_keep marks (ring_fields s) h.did.list (ring_fields t) h.did.does w
+call_keeps s t (call.Driver c) a plain h w = as_before _ (ring_fields t) h.rings w
 call_keeps s t call.Next a plain h w = as_before (ring_fields s) (ring_fields t) h.rings w
 
 -- the rings are untold before each call, and after it
@@ -204,11 +205,25 @@ sent_from_ring f w =
 keeps_order : (c : RingCall) → IsPlain c → KeepsOrder c
 keeps_order (call.QueueUrgent byte) plain = absurd plain
 keeps_order call.ClearTransmit plain = absurd plain
+keeps_order (call.Driver c) plain = plain.0
 keeps_order other plain = tt
 
 all_keep_order : (links : List RingLink) → ArePlain links → AllKeepOrder links
 all_keep_order [] plain = tt
 all_keep_order (link ∷ links) plain = (keeps_order link.call plain.0, all_keep_order links plain.1)
+
+-- a call of the driver receives nothing, and leaves the THR-empty interrupt
+takes_in_turn : (c : RingCall) (there : List ℕ) → IsPlain c → TakesInTurn c there
+takes_in_turn (call.Driver c) there plain = inl plain.1
+takes_in_turn other there plain = tt
+
+all_in_turn : (links : List RingLink) → ArePlain links → AllTakeInTurn links
+all_in_turn [] plain = tt
+all_in_turn (link ∷ links) plain = (takes_in_turn link.call (to_take link.before) plain.0, all_in_turn links plain.1)
+
+keeps_armed : (c : RingCall) → IsPlain c → KeepsArmed c
+keeps_armed (call.Driver c) plain = plain.2
+keeps_armed other plain = tt
 
 none_clears : (links : List RingLink) → ArePlain links → NoneIs call.ClearReceive links
 none_clears [] plain = tt
@@ -228,10 +243,12 @@ plainly_armed s w armed =
     let T : List ℕ → Type 0 = λ bytes. IsToCome (ring_machine s) bytes in
     subst T (sym (sent_from_ring (ring_fields s) w)) armed
 
-all_armed : (links : List RingLink) → AllUntold links → AllLeaveRingArmed links → AllLeaveEmptyOrDue links
-all_armed [] untold h = tt
-all_armed (link ∷ links) untold h =
-    (λ begins. armed_plainly link.after untold.0.1 (h.0 (as_found begins)), all_armed links untold.1 h.1)
+all_armed : (links : List RingLink) → ArePlain links → AllUntold links → AllLeaveRingArmed links → AllLeaveEmptyOrDue links
+all_armed [] plain untold h = tt
+all_armed (link ∷ links) plain untold h = (
+  λ begins. armed_plainly link.after untold.0.1 (h.0 (keeps_armed link.call plain.0) (as_found begins)),
+  all_armed links plain.1 untold.1 h.1,
+)
   where
     as_found : {R : Type 0} → IsEmptyOrDue link.before ⊎ R → IsRingArmed link.before ⊎ R
     as_found (inl armed) = inl (plainly_armed link.before untold.0.0 armed)
@@ -251,17 +268,18 @@ pub plain_conserves : (s t : RingState) (links : List RingLink) → RingChain s 
 plain_conserves s t links chain c w plain =
     let keeps = chain_keeps_untold s t links chain plain w in
     let order = all_keep_order links plain in
+    let turn = all_in_turn links plain in
     let begins = waits_in_ring (ring_fields s) w in
     let ends = waits_in_ring (ring_fields t) keeps.1 in
     let took = c.all_taken (none_clears links plain) in
     record {
       sent = sent_of (in_transmit_ring s) (in_transmit_ring t) s t links begins ends (map (cut_of (ring_machine s).chip)) (c.sent order);
-      kept = ap (λ xs. xs ++ (to_take t ++ waiting (ring_machine t))) (sym took) ∙ c.kept;
+      kept = ap (λ xs. xs ++ (to_take t ++ waiting (ring_machine t))) (sym took) ∙ c.kept turn;
       uncut = λ e. record {
         sent = sent_of (in_transmit_ring s) (in_transmit_ring t) s t links begins ends (λ xs. xs) ((c.uncut e).sent order);
-        kept = ap (λ xs. xs ++ (to_take t ++ waiting (ring_machine t))) (sym took) ∙ (c.uncut e).kept;
+        kept = ap (λ xs. xs ++ (to_take t ++ waiting (ring_machine t))) (sym took) ∙ (c.uncut e).kept turn;
       };
-      armed = λ unchecked. all_armed links keeps.0 (c.armed unchecked);
+      armed = λ unchecked. all_armed links plain keeps.0 (c.armed unchecked);
       untold = keeps.1;
     }
 

@@ -21,7 +21,8 @@ use Rattle.uart_ring.specs.Ring.{RingFields, ring_fields}
 use Rattle.uart_ring.specs.Receive.{write_if_other, MakesRtsIfAny}
 use Rattle.uart_ring.specs.Lossless.{data_written, data_read}
 use Rattle.uart_ring_runs.specs.RingRun.{RingState, under, ring_machine}
-use Rattle.uart_ring_runs.proofs.RingBlocks.{MakesRingBlocks, AllLeaveLcr, stays_make}
+use Rattle.uart_ring_runs.proofs.RingWalk as walk
+use Rattle.uart_ring_runs.proofs.RingBlocks.{MakesRingBlocks, AllLeaveLcr, MakesBlocks, in_blocks}
 
 -- ---- modes in which only MCR changes
 
@@ -114,7 +115,7 @@ came_blocks x s t l w makes path =
 pub came_rts : (x : Modes) (s t : RingState) (wanted : Option Bool) (l : List Access) → InRingSession x s → IsWired (under s) →
     MakesRtsIfAny wanted (ring_fields s) l (ring_fields t) → Path MachineStep (ring_machine s) l (ring_machine t) →
     Came x (ring_machine s) (ring_machine t) l (data_written l) (data_read l)
-came_rts x s t None l w wired d path = came_blocks x s t l w (stays_make (ring_fields s) l (ring_fields t) d) path
+came_rts x s t None l w wired d path = came_blocks x s t l w (walk.stays MakesBlocks in_blocks (ring_fields s) l (ring_fields t) d) path
 came_rts x s t (Some on) l w wired (((mcr, is), saved), same) path =
     let m = ring_machine s in
     let n = ring_machine t in

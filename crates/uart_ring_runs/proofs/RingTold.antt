@@ -15,28 +15,26 @@ use Rattle.uart_chip.specs.declared.receiver.Character.{Character}
 use Rattle.uart_chip.specs.Machine.{MachineState, MachineStep}
 use Rattle.uart_chip.specs.Laws.{reported_front, IsTold, AllTold}
 use Rattle.uart_chip.proofs.Lists.{each-append}
-use Rattle.uart_chip.proofs.conservation.Went.{Modes}
+use Rattle.uart_chip.proofs.conservation.Went.{Modes, fixed}
 use Rattle.uart_chip.proofs.conservation.SessionLaws.{look_clears, status_clears, taken_entered}
 use Rattle.uart_chip.proofs.statuses.StatusLaws.{LsrTells, lsr_tells, MsrTells, msr_tells, told-by, all_told-by}
-use Rattle.uart_run.specs.Chains.{NoneIs}
 use Rattle.uart_run.proofs.Chains.{step_is, ended}
+use Rattle.uart_run.proofs.CallLaws.{InSession}
+use Rattle.uart_run.proofs.FrameLaws.{same_cut}
 use Rattle.uart_run.proofs.StatusSessions.{After}
 use Rattle.uart_ring.specs.Ring.{RingDoing, RingFields, ring_fields}
 use Rattle.uart_ring.specs.Status.{TakesLine, TakesModem}
-use Rattle.uart_ring.specs.Lossless.{data_written}
 use Rattle.uart_ring_runs.specs.declared.call.RingCall.{RingCall}
 use Rattle.uart_ring_runs.specs.declared.call.RingCall.TheVariants as call
 use Rattle.uart_ring_runs.specs.declared.call.RingAnswer.{RingAnswer}
 use Rattle.uart_ring_runs.specs.declared.call.RingAnswer.TheVariants.{Line, Modem}
 use Rattle.uart_ring_runs.specs.RingRun.{RingState, under, ring_machine, RingCalled, RingCallStep, RingLink, RingChain}
 use Rattle.uart_ring_runs.specs.RingRun.{line_answer, modem_answer}
-use Rattle.uart_ring_runs.specs.RingBytes.{queued, gone, AllKeepOrder}
-use Rattle.uart_ring_runs.specs.RingStatuses.{RingTells}
+use Rattle.uart_ring_runs.specs.RingStatuses.{RingTells, NeitherIs}
 use Rattle.uart_run.specs.Statuses.{TellsLine}
 use Rattle.uart_ring_runs.specs.RingSession.{AllWithinRingSession}
-use Rattle.uart_ring_runs.proofs.RingLasts.{FirstWithin, first_within, within-front}
-use Rattle.uart_ring_runs.proofs.RingRts.{with_mcr_of, modes_at, InRingSession}
-use Rattle.uart_ring_runs.proofs.RingPasses.{RingPasses, Ordered, ring_passes_call, ring_passes_chain, ring_in_session-after}
+use Rattle.uart_ring_runs.proofs.RingLasts.{first_within, within-front}
+use Rattle.uart_ring_runs.proofs.RingGoes.{ChainGoes, line_of_driver, modem_of_driver, ring_goes_call, ring_goes_chain, in_session-gone}
 
 -- ---- bits
 
@@ -104,25 +102,6 @@ msr_tells-wider x m o made ws ts kept a b h same t = record {
   exactly_told = λ none quiet. same MSR.CHANGES.0 refl ∙ t.exactly_told none quiet;
 }
 
--- what is told, in the modes in which the session is then
-abbrev LsrTellsNow : Modes → MachineState → MachineState → List Access → List ℕ → List Character → ℕ → ℕ → Type 0
-LsrTellsNow x m o made ws ts kept told = LsrTells (with_mcr_of x o) m o made ws ts kept told
-
-abbrev MsrTellsNow : Modes → MachineState → MachineState → List Access → List ℕ → List Character → ℕ → ℕ → Type 0
-MsrTellsNow x m o made ws ts kept told = MsrTells (with_mcr_of x o) m o made ws ts kept told
-
-lsr_tells-now : (x : Modes) (mcr : ℕ) (m o : MachineState) (made : List Access) (ws : List ℕ) (ts : List Character) (kept told : ℕ) →
-    LsrTells (record x { mcr = mcr }) m o made ws ts kept told → LsrTellsNow x m o made ws ts kept told
-lsr_tells-now x mcr m o made ws ts kept told t =
-    let T : ℕ → Type 0 = λ v. LsrTells (record x { mcr = v }) m o made ws ts kept told in
-    subst T (sym t.passed.went.modes.mcr) t
-
-msr_tells-now : (x : Modes) (mcr : ℕ) (m o : MachineState) (made : List Access) (ws : List ℕ) (ts : List Character) (kept told : ℕ) →
-    MsrTells (record x { mcr = mcr }) m o made ws ts kept told → MsrTellsNow x m o made ws ts kept told
-msr_tells-now x mcr m o made ws ts kept told t =
-    let T : ℕ → Type 0 = λ v. MsrTells (record x { mcr = v }) m o made ws ts kept told in
-    subst T (sym t.passed.went.modes.mcr) t
-
 -- the bits of an answer
 abbrev bits_of : RingAnswer → ℕ
 bits_of (Line line) = line.0
@@ -153,7 +132,7 @@ ring_takes : (r : StatusRegister) (Takes : ℕ → RingDoing) (answer_of : ℕ �
     × (l ≡ Read r.offset status ∷ []) × (bits_of (answer_of result) ≡ bit_or (bit_or status (r.saved f)) (r.noted f))) →
     ((result : ℕ) (f : RingFields) (l : List Access) (after : RingFields) → Takes result f l after →
     bit_and (bit_or (r.noted after) (r.saved after)) r.mask ≡ 0) →
-    (s t : RingState) (a : RingAnswer) → RingCalled Takes answer_of a s t → RingTook r s a t
+    (s t : RingState) (a : RingAnswer) → RingCalled MachineStep Takes answer_of a s t → RingTook r s a t
 ring_takes r Takes answer_of does empties s t a step =
     let took = does step.outcome _ _ _ step.did.does in
     record {
@@ -163,19 +142,18 @@ ring_takes r Takes answer_of does empties s t a step =
       emptied = empties step.outcome _ _ _ step.did.does;
     }
 
--- what `take_line` and `take_modem` have in common: the register, what the call tells, and that no such call comes before
-record IsRingStatus (x : Modes) (r : StatusRegister)
-    (T : MachineState → MachineState → List Access → List ℕ → List Character → ℕ → ℕ → Type 0) (c : RingCall)
+-- what `take_line` and `take_modem` have in common: the register, what the call tells, and that no such call comes before, nor the
+-- driver's own that tells the same
+record IsRingStatus (r : StatusRegister)
+    (T : Modes → MachineState → MachineState → List Access → List ℕ → List Character → ℕ → ℕ → Type 0) (c d : RingCall)
     (answer_of : ℕ → RingAnswer) : Type 0 where
   pub took : (s t : RingState) (a : RingAnswer) → RingCallStep s c a t → RingTook r s a t
-  pub tells : (s n t : RingState) (links : List RingLink) → NoneIs c links →
-      (p : RingPasses x (Ordered (AllKeepOrder links) (queued links) s) (NoneIs call.TakeLine links) (NoneIs call.TakeModem links) s n
-      (gone links)) (status : ℕ) →
+  pub tells : (x : Modes) (s n t : RingState) (links : List RingLink) → NeitherIs c d links → (g : ChainGoes x links s n) (status : ℕ) →
       Path MachineStep (ring_machine n) (Read r.offset status ∷ []) (ring_machine t) →
-      T (ring_machine s) (ring_machine t) (p.made ++ Read r.offset status ∷ []) (data_written p.made) p.passed.takes (untold r s)
+      T g.modes (ring_machine s) (ring_machine t) (g.made ++ Read r.offset status ∷ []) g.written g.passed.takes (untold r s)
       (bit_or status (untold r n))
-  pub wider : (m o : MachineState) (made : List Access) (ws : List ℕ) (ts : List Character) (kept a b : ℕ) →
-      ((e : ℕ) → IsWithin e a → IsWithin e b) → SameWithin r.mask a b → T m o made ws ts kept a → T m o made ws ts kept b
+  pub wider : (y : Modes) (m o : MachineState) (made : List Access) (ws : List ℕ) (ts : List Character) (kept a b : ℕ) →
+      ((e : ℕ) → IsWithin e a → IsWithin e b) → SameWithin r.mask a b → T y m o made ws ts kept a → T y m o made ws ts kept b
 
 abbrev line_register : StatusRegister
 line_register = record { offset = offsets.LSR; mask = LSR.LINE_ERRORS.0; saved = λ f. f.driver.lsr; noted = λ f. f.line }
@@ -193,75 +171,81 @@ took_modem =
     ring_takes modem_register TakesModem modem_answer (λ _ f _ _ d. (d.2.0.0, d.2.0.1, d.1 ∙ ap (λ v. bit_or v f.modem) d.2.0.2))
     (λ _ _ _ _ d. rw (ap (λ (g : RingFields). g.modem) d.2.1, ap (λ (g : Fields). g.msr) d.2.0.3) refl)
 
-line_status : (x : Modes) → IsRingStatus x line_register (LsrTellsNow x) call.TakeLine line_answer
-line_status x = record {
+line_status : IsRingStatus line_register LsrTells call.TakeLine line_of_driver line_answer
+line_status = record {
   took = took_line;
-  tells = λ s n t _ none p status path. lsr_tells-now x (ring_machine n).chip.latches.mcr (ring_machine s) (ring_machine t) _ _ _ _ _
-      (lsr_tells (modes_at x n) _ _ _ _ _ _ status _ _ _ p.open_modes p.passed.passed path (p.line none) refl);
-  wider = λ m o. lsr_tells-wider (with_mcr_of x o) m o;
+  tells = λ x s n t _ none g status path. lsr_tells g.modes _ _ _ _ _ _ status _ _ _ g.open_modes g.passed.passed path (g.line none) refl;
+  wider = λ y m o. lsr_tells-wider y m o;
 }
 
-modem_status : (x : Modes) → IsRingStatus x modem_register (MsrTellsNow x) call.TakeModem modem_answer
-modem_status x = record {
+modem_status : IsRingStatus modem_register MsrTells call.TakeModem modem_of_driver modem_answer
+modem_status = record {
   took = took_modem;
-  tells = λ s n t _ none p status path. msr_tells-now x (ring_machine n).chip.latches.mcr (ring_machine s) (ring_machine t) _ _ _ _ _
-      (msr_tells (modes_at x n) _ _ _ _ _ _ status _ _ _ p.open_modes p.passed.passed path (p.modem none) refl);
-  wider = λ m o. msr_tells-wider (with_mcr_of x o) m o;
+  tells = λ x s n t _ none g status path. msr_tells g.modes _ _ _ _ _ _ status _ _ _ g.open_modes g.passed.passed path (g.modem none) refl;
+  wider = λ y m o. msr_tells-wider y m o;
 }
 
 -- ---- in a session
 
--- a session after its first call
-after_first : (x : Modes) (s : RingState) (first : RingLink) (links : List RingLink) → InRingSession x s → FirstWithin first links →
-    first.before ≡ s → RingCallStep first.before first.call first.answer first.after → InRingSession x first.after
-after_first x s first links w j is step =
-    let W : RingState → Type 0 = λ v. InRingSession x v in
-    let begins = subst W (sym is) w in
-    ring_in_session-after x _ _ _ first.before first.after _ begins
-    (ring_passes_call x first.before first.after first.call first.answer begins j.here step)
+-- what is told, in the modes that the session has come to
+record ToldIn (T : Modes → MachineState → MachineState → List Access → List ℕ → List Character → ℕ → ℕ → Type 0) (x : Modes) (kept : ℕ)
+    (s t : RingState) (value : ℕ) : Type 0 where
+  pub modes : Modes
+  pub same : fixed modes ≡ fixed x
+  pub after : After (T modes) kept (under s) (under t) value
 
-module _ {x : Modes} {r : StatusRegister} {T : MachineState → MachineState → List Access → List ℕ → List Character → ℕ → ℕ → Type 0}
-    {c : RingCall} {answer_of : ℕ → RingAnswer} (i : IsRingStatus x r T c answer_of) where
+module _ {r : StatusRegister} {T : Modes → MachineState → MachineState → List Access → List ℕ → List Character → ℕ → ℕ → Type 0}
+    {c d : RingCall} {answer_of : ℕ → RingAnswer} (i : IsRingStatus r T c d answer_of) where
   -- what such a call tells after calls without one
-  ring_status_after : (s n t : RingState) (links : List RingLink) (value : ℕ) → InRingSession x s → AllWithinRingSession s links →
-      NoneIs c links → RingChain s links n → RingCallStep n c (answer_of value) t →
-      After T (untold r s) (under s) (under t) (bits_of (answer_of value))
-  ring_status_after s n t links value w within none chain step =
-      let p = ring_passes_chain x s n links w within chain in
+  ring_status_after : (x : Modes) (s n t : RingState) (links : List RingLink) (value : ℕ) → InSession x (under s) →
+      AllWithinRingSession s links → NeitherIs c d links → RingChain s links n → RingCallStep n c (answer_of value) t →
+      ToldIn T x (untold r s) s t (bits_of (answer_of value))
+  ring_status_after x s n t links value w within none chain step =
+      let g = ring_goes_chain x s n links w within chain in
       let took = i.took n t (answer_of value) step in
-      let made = p.made ++ Read r.offset took.status ∷ [] in
+      let made = g.made ++ Read r.offset took.status ∷ [] in
       let noted = r.noted (ring_fields n) in
       let saved = r.saved (ring_fields n) in
-      let Told : ℕ → Type 0 = λ v. T (ring_machine s) (ring_machine t) made (data_written p.made) p.passed.takes (untold r s) v in
+      let Told : ℕ → Type 0 = λ v. T g.modes (ring_machine s) (ring_machine t) made g.written g.passed.takes (untold r s) v in
       record {
-        made = made;
-        written = data_written p.made;
-        takes = p.passed.takes;
-        tells = subst Told (sym took.told) (i.wider _ _ made (data_written p.made) p.passed.takes (untold r s) _ _
-            (λ e h. wider e took.status noted saved r.mask h) (same_within took.status noted saved r.mask)
-            (i.tells s n t links none p took.status took.path));
+        modes = g.modes;
+        same = g.same;
+        after = record {
+          made = made;
+          written = g.written;
+          takes = g.passed.takes;
+          tells = subst Told (sym took.told) (i.wider g.modes _ _ made g.written g.passed.takes (untold r s) _ _
+              (λ e h. wider e took.status noted saved r.mask h) (same_within took.status noted saved r.mask)
+              (i.tells x s n t links none g took.status took.path));
+        };
       }
 
   -- the session ends with that call
-  ring_at_end : (s t : RingState) (some : List RingLink) (last : RingLink) (value : ℕ) → InRingSession x s →
-      AllWithinRingSession s (some ++ last ∷ []) → RingChain s (some ++ last ∷ []) t → NoneIs c some → last.call ≡ c →
-      last.answer ≡ answer_of value →
-      After T (untold r s) (under s) (under t) (bits_of (answer_of value))
-  ring_at_end s t some last value w within chain none is answered =
-      ended RingCallStep s t some last c (answer_of value) (λ u. After T (untold r s) (under s) (under u) (bits_of (answer_of value)))
-      (λ n u before step. ring_status_after s n u some value w (within-front s some (last ∷ []) within) none before step) chain is answered
+  ring_at_end : (x : Modes) (s t : RingState) (some : List RingLink) (last : RingLink) (value : ℕ) → InSession x (under s) →
+      AllWithinRingSession s (some ++ last ∷ []) → RingChain s (some ++ last ∷ []) t → NeitherIs c d some → last.call ≡ c →
+      last.answer ≡ answer_of value → ToldIn T x (untold r s) s t (bits_of (answer_of value))
+  ring_at_end x s t some last value w within chain none is answered =
+      ended RingCallStep s t some last c (answer_of value) (λ u. ToldIn T x (untold r s) s u (bits_of (answer_of value)))
+      (λ n u before step. ring_status_after x s n u some value w (within-front s some (last ∷ []) within) none before step)
+      chain is answered
 
   -- and it begins with one
-  ring_since_first : (s t : RingState) (first : RingLink) (some : List RingLink) (last : RingLink) (value : ℕ) → InRingSession x s →
-      AllWithinRingSession s (first ∷ (some ++ last ∷ [])) → RingChain s (first ∷ (some ++ last ∷ [])) t → NoneIs c some →
-      first.call ≡ c → last.call ≡ c → last.answer ≡ answer_of value →
-      RingTook r first.before first.answer first.after × After T (untold r first.after) (under first.after) (under t)
-      (bits_of (answer_of value))
-  ring_since_first s t first some last value w within chain none begins is answered =
+  ring_since_first : (x : Modes) (s t : RingState) (first : RingLink) (some : List RingLink) (last : RingLink) (value : ℕ) →
+      InSession x (under s) → AllWithinRingSession s (first ∷ (some ++ last ∷ [])) → RingChain s (first ∷ (some ++ last ∷ [])) t →
+      NeitherIs c d some → first.call ≡ c → last.call ≡ c → last.answer ≡ answer_of value →
+      RingTook r first.before first.answer first.after
+      × (y : Modes) × ToldIn T y (untold r first.after) first.after t (bits_of (answer_of value))
+  ring_since_first x s t first some last value w within chain none begins is answered =
+      let W : RingState → Type 0 = λ v. InSession x (under v) in
+      let here = subst W (sym chain.0) w in
       let j = first_within s t first (some ++ last ∷ []) within chain in
       let step = step_is RingCallStep first.before first.after first.call c first.answer first.answer begins refl chain.1 in
-      let after = after_first x s first (some ++ last ∷ []) w j chain.0 chain.1 in
-      (i.took first.before first.after first.answer step, ring_at_end first.after t some last value after j.later chain.2 none is answered)
+      let g = ring_goes_call x first.before first.after first.call first.answer here j.here chain.1 in
+      let after = in_session-gone x _ _ _ _ first.before first.after _ here g in (
+        i.took first.before first.after first.answer step,
+        g.modes,
+        ring_at_end g.modes first.after t some last value after j.later chain.2 none is answered,
+      )
 
 -- the character in front is told
 first_told : (fifo : Bool) (old : Option Character) (line : ℕ) (queue : List Character) →
@@ -270,36 +254,37 @@ first_told fifo old line [] h = tt
 first_told fifo old line (f ∷ others) h = (h f others refl, tt)
 
 -- a line status at the end of a session
-line_told : {kept : ℕ} (x : Modes) (s t : RingState) (value : ℕ) → InRingSession x s →
-    After (LsrTellsNow x) kept (under s) (under t) value → TellsLine (under s) (under t) value
-line_told x s t value w a =
+line_told : {kept : ℕ} (x y : Modes) (s t : RingState) (value : ℕ) → InSession x (under s) → fixed y ≡ fixed x →
+    After (LsrTells y) kept (under s) (under t) value → TellsLine (under s) (under t) value
+line_told x y s t value w same a =
     let m = ring_machine s in
     let n = ring_machine t in
     let old = reported_front m.chip.receiver in
     let queue = n.chip.receiver.queue in
-    let all : AllTold x.fifo old value (a.takes ++ take 1 queue) =
-    each-append (IsTold x.fifo old value) a.takes (take 1 queue) a.tells.taken_told
-    (first_told x.fifo old value queue a.tells.front_told) in
+    let all : AllTold y.fifo old value (a.takes ++ take 1 queue) =
+    each-append (IsTold y.fifo old value) a.takes (take 1 queue) a.tells.taken_told
+    (first_told y.fifo old value queue a.tells.front_told) in
     record {
       drop = a.tells.drop_told;
       taken = a.takes;
-      was_taken = taken_entered (modes_at x t) m n a.made a.written a.takes w.stands.modes.cut a.tells.passed;
+      was_taken = taken_entered y m n a.made a.written a.takes (w.stands.modes.cut ∙ sym (same_cut x y same)) a.tells.passed;
       errors = rw a.tells.passed.went.modes.fifo all;
     }
 
-pub ring_tells : (x : Modes) (s t : RingState) (links : List RingLink) → InRingSession x s → AllWithinRingSession s links →
+pub ring_tells : (x : Modes) (s t : RingState) (links : List RingLink) → InSession x (under s) → AllWithinRingSession s links →
     RingChain s links t → RingTells s links t
 ring_tells x s t links w within chain = record {
   line = λ some last value is none c a.
-      line_told x s t value w (ring_at_end (line_status x) s t some last value w (rw is at within) (rw is at chain) none c a);
+      let e = ring_at_end line_status x s t some last value w (rw is at within) (rw is at chain) none c a in
+      line_told x e.modes s t value w e.same e.after;
   only_drops = λ first some last value is none b c a.
-      let both = ring_since_first (line_status x) s t first some last value w (rw is at within) (rw is at chain) none b c a in
-      both.1.tells.told_drop both.0.emptied (ap (λ (m : MachineState). m.chip.receiver.is_overrun) both.0.path.2 ∙
+      let both = ring_since_first line_status x s t first some last value w (rw is at within) (rw is at chain) none b c a in
+      both.2.after.tells.told_drop both.0.emptied (ap (λ (m : MachineState). m.chip.receiver.is_overrun) both.0.path.2 ∙
       look_clears (ring_machine first.before) both.0.path.0 both.0.status both.0.path.1);
   changes = λ some last value is none c a.
-      (ring_at_end (modem_status x) s t some last value w (rw is at within) (rw is at chain) none c a).tells.changes_told;
+      (ring_at_end modem_status x s t some last value w (rw is at within) (rw is at chain) none c a).after.tells.changes_told;
   only_changes = λ first some last value is none b c a.
-      let both = ring_since_first (modem_status x) s t first some last value w (rw is at within) (rw is at chain) none b c a in
-      both.1.tells.exactly_told both.0.emptied (ap (λ (m : MachineState). m.chip.modem.deltas) both.0.path.2 ∙
+      let both = ring_since_first modem_status x s t first some last value w (rw is at within) (rw is at chain) none b c a in
+      both.2.after.tells.exactly_told both.0.emptied (ap (λ (m : MachineState). m.chip.modem.deltas) both.0.path.2 ∙
       status_clears (ring_machine first.before) both.0.path.0 both.0.status both.0.path.1);
 }

@@ -5,3 +5,5 @@ pub mod RingArmed
 pub mod RingSession
 pub mod RingPlain
 pub mod Edges
+pub mod SharedLine
+pub mod Healthy

@@ -9,20 +9,22 @@ use Rattle.uart_ring.specs.Ring.{RingFields, ring_fields}
 use Rattle.uart_ring_runs.specs.declared.call.RingCall.{RingCall}
 use Rattle.uart_ring_runs.specs.declared.call.RingCall.TheVariants as call
 use Rattle.uart_ring_runs.specs.RingRun.{RingState, under, ring_machine, RingLink}
-use Rattle.uart_ring_runs.specs.RingBytes.{to_take, queued, taken}
-use Rattle.uart_ring_runs.specs.RingArmed.{thr_empty_of, RearmsRing}
+use Rattle.uart_ring_runs.specs.RingBytes.{to_take, queued, taken, SendsNothing, ReceivesNothing}
+use Rattle.uart_ring_runs.specs.RingArmed.{thr_empty_of, RearmsRing, LeavesThrEmpty}
 
 -- no urgent byte waits, the transmit ring is not held, and the chip is not stuck
 abbrev pub AreUntold : RingFields → Type 0
 AreUntold f = (f.urgent ≡ None) × (f.is_held ≡ false) × (f.stuck ≡ None)
 
--- the call holds nothing, lets no byte overtake, drops nothing and counts no round; nor does any of these
+-- the call holds nothing, lets no byte overtake, drops nothing and counts no round, and a call of the driver sends and
+-- receives nothing and leaves the THR-empty interrupt; each of these calls is such a one
 abbrev pub IsPlain : RingCall → Type 0
 IsPlain call.HoldTransmit = ⊥
 IsPlain (call.QueueUrgent byte) = ⊥
 IsPlain call.ClearTransmit = ⊥
 IsPlain call.ClearReceive = ⊥
 IsPlain (call.TryHandle limit rounds) = ⊥
+IsPlain (call.Driver c) = SendsNothing c × ReceivesNothing c × LeavesThrEmpty c
 IsPlain other = ⊤
 
 abbrev pub ArePlain : List RingLink → Type 0

@@ -6,7 +6,7 @@ use Rattle.uart_chip.specs.Chip.{cut_of}
 use Rattle.uart_chip.specs.Conserved.{out, waiting, kept}
 use Rattle.uart_run.specs.Chains.{RunOf}
 use Rattle.uart_run.specs.Ready.{Ready}
-use Rattle.uart_run.specs.Session.{overflows}
+use Rattle.uart_run.specs.Session.{IsWithinSession, overflows}
 use Rattle.uart_run.specs.Progress.{IsUnchecked}
 use Rattle.uart_run.specs.Uncut.{IsUncut, kept_uncut}
 use Rattle.uart_run.specs.Wired.{IsWired}
@@ -14,13 +14,15 @@ use Rattle.uart_ring_runs.specs.declared.call.RingCall.{RingCall}
 use Rattle.uart_ring_runs.specs.declared.call.RingAnswer.{RingAnswer}
 use Rattle.uart_ring_runs.specs.RingRun.{RingState, under, ring_machine, RingCallStep, RingLink, RingChain}
 use Rattle.uart_ring_runs.specs.RingBytes.{to_send, to_take, queued, taken, gone, to_send_with, AllKeepOrder}
+use Rattle.uart_ring_runs.specs.RingBytes.{AllTakeInTurn}
 use Rattle.uart_ring_runs.specs.RingStatuses.{RingTells}
 use Rattle.uart_ring_runs.specs.RingArmed.{AllLeaveRingArmed}
 
 -- the call goes on with a session that began in this state: it may write MCR if the machine was wired, so that no modem
--- line changes by that; each of these does
+-- line changes by that, and a call of the driver goes on as in a session without rings; each of these does
 abbrev pub IsWithinRingSession : RingState → RingCall → Type 0
 IsWithinRingSession s (call.AdjustRts marks) = IsWired (under s)
+IsWithinRingSession s (call.Driver c) = IsWithinSession (under s) c
 IsWithinRingSession s other = Unit {0}
 
 abbrev pub AllWithinRingSession : RingState → List RingLink → Type 0
@@ -33,15 +35,16 @@ IsRingSession s links = Ready (under s) × AllWithinRingSession s links
 
 -- what has been sent or is in the transmitter, and then what waits, grew by what was queued, if no call overtakes or
 -- drops; what was taken or dropped, then the receive ring, then what is in the receiver, is what was in the receive
--- ring and what was kept since
+-- ring and what was kept since, if no call of the driver received past bytes in that ring
 pub record ConservesBytesUncut (s : RingState) (links : List RingLink) (t : RingState) : Type 0 where
   pub sent : AllKeepOrder links →
       out (ring_machine t) ++ to_send t ≡ out (ring_machine s) ++ (to_send s ++ queued links)
-  pub kept : gone links ++ (to_take t ++ waiting (ring_machine t)) ≡
+  pub kept : AllTakeInTurn links → gone links ++ (to_take t ++ waiting (ring_machine t)) ≡
       to_take s ++ kept_uncut (ring_machine s) (ring_machine t)
 
 -- a call: what has been sent or is in the transmitter, and then what waits, is what was there, as the call changes what
--- waits: an urgent byte overtakes all of it, what is dropped is at its end, and what is queued comes last
+-- waits: an urgent byte overtakes all of it, and so does what a call of the driver sends; what is dropped is at its
+-- end, and what is queued comes last
 abbrev pub SendsInLine : RingLink → Type 0
 SendsInLine link =
     let cut = map (cut_of (ring_machine link.before).chip) in
@@ -63,13 +66,14 @@ pub record RingConserves (s : RingState) (links : List RingLink) (t : RingState)
   pub in_line : AllSendInLine links
   pub no_overflow : overflows (under t) ≡ overflows (under s)
   pub all_taken : NoneIs call.ClearReceive links → gone links ≡ taken links
-  pub kept : gone links ++ (to_take t ++ waiting (ring_machine t)) ≡
+  pub kept : AllTakeInTurn links → gone links ++ (to_take t ++ waiting (ring_machine t)) ≡
       to_take s ++ kept (ring_machine s) (ring_machine t)
   pub uncut : IsUncut (under s) → ConservesBytesUncut s links t
   pub tells : RingTells s links t
   pub armed : IsUnchecked (under s) → AllLeaveRingArmed links
 
--- these calls, with these answers, lead from s to t; and each session in them conserves: no ring call ends a session
+-- these calls, with these answers, lead from s to t; and each session in them conserves: of ring calls, only those of
+-- the driver end one
 pub record RanRing (s : RingState) (calls : List RingCall) (answers : List RingAnswer) (t : RingState) : Type 0 where
   pub run : RunOf RingCallStep s calls answers t
   pub sessions : (front session rest : List RingLink) (a b : RingState) → run.links ≡ front ++ (session ++ rest) →

@@ -1,21 +1,31 @@
 //! Laws of rings, driver and machine together. They follow from the contracts.
 //!
 //! The contract of each function is a law that callers can cite.
-ghost use Rattle.std.specs.Prelude.{◌≡◌, ℕ, false, List, Result, Ok, Err};
+ghost use Rattle.std.specs.Prelude.{◌≡◌, ◌≤◌, ◌+◌, ℕ, suc, Bool, true, false, List, None};
+ghost use Rattle.std.specs.Prelude.{Result, Ok, Err, length, map};
+ghost use Rattle.uart_events.specs.declared.call.Call.{Call};
 ghost use Rattle.uart_16550.specs.Driver.{Did};
 ghost use Rattle.uart_16550.specs.Init.{Inits};
 ghost use Rattle.uart_16550.specs.declared.driver.Uart16550.{Uart16550};
 ghost use Rattle.uart_chip.specs.Chip.{is_dlab_set};
 ghost use Rattle.uart_chip.specs.Machine.{MachineState, MachineStep};
 ghost use Rattle.uart_ring_runs.specs.Edges.{LosesNoEdge, is_line_up};
+ghost use Rattle.uart_ring_runs.specs.SharedLine.{Moment, AreDlabsOff, Happened, WereLowered};
+ghost use Rattle.uart_ring_runs.specs.SharedLine.{is_shared_line_up, last_of, RisesIn};
+ghost use Rattle.uart_ring_runs.specs.SharedLine.{port_machine};
 ghost use Rattle.uart_ring.specs.Handle.{Handles, Retriggers};
+ghost use Rattle.uart_ring.specs.Line.{EachGoes, HandlesPorts};
+ghost use Rattle.uart_ring.specs.declared.line.LinePort.{LinePort};
 ghost use Rattle.uart_ring.specs.Storm.{TriesToHandle};
 ghost use Rattle.uart_ring.specs.Ring.{AreEmpty, RingDid, driver_of, ring_fields};
 ghost use Rattle.uart_ring.specs.declared.ring.service.HandleEnd.TheVariants.{Idle};
 ghost use Rattle.uart_ring.specs.declared.ring.service.Handled.{Handled};
 ghost use Rattle.uart_ring.specs.declared.ring.storm.StuckError.{StuckError};
+ghost use Rattle.uart_ring_runs.specs.Healthy.{IsInRoom, most_without_news, news_between};
+ghost use Rattle.uart_ring_runs.specs.RingArmed.{IsRingArmed, LeavesThrEmpty};
 ghost use Rattle.uart_ring_runs.specs.RingPlain.{AreUntold, ArePlain, ConservesPlainly};
-ghost use Rattle.uart_ring_runs.specs.RingRun.{RingChain, RingLink, RingState};
+ghost use Rattle.uart_ring_runs.specs.RingRun.{DriverCalled, RingChain, RingLink, RingState};
+ghost use Rattle.uart_ring_runs.specs.declared.call.RingAnswer.{RingAnswer};
 ghost use Rattle.uart_ring_runs.specs.RingRun.{ring_machine, under};
 ghost use Rattle.uart_ring_runs.specs.RingSession.{RingConserves};
 ghost use Rattle.uart_run.specs.Ready.{Ready};
@@ -87,6 +97,28 @@ pub fn handles_lose_no_edge()
         is_line_up (ring_machine t) ≡ false }
 {}
 
+/// A line that several ports share is low at some time during each `handle_ports`, whatever happens
+/// to the chips: ticks, characters and changes of modem lines, at any of them and at any time,
+/// beside what their schedules say.
+///
+/// It is low when the first half has been done at each port, and stays low until the first access
+/// of the second half. So if the line is high at a later moment, in the second half or after
+/// whatever calls follow, it has risen since the call began, and a controller that detects edges
+/// calls the handler again. DLAB of each chip is off. Nobody else accesses the chips meanwhile:
+/// whoever does takes the lock of the line.
+pub fn shared_lines_lose_no_edge()
+    ensures all_low { (limit rounds : ℕ) (before low later : Moment) → AreDlabsOff before →
+        WereLowered limit rounds (length before) before low → EachGoes Happened low later →
+        is_shared_line_up later ≡ false }
+    ensures has_risen { (limit rounds : ℕ) (before low : Moment) (course : List Moment) →
+        AreDlabsOff before → WereLowered limit rounds (length before) before low →
+        is_shared_line_up (last_of low course) ≡ true → RisesIn low course }
+    ensures handle_ports { (limit rounds number : ℕ) (served : Bool)
+        (old new : List (LinePort MachineState)) →
+        (did : HandlesPorts MachineStep limit rounds number served old new) →
+        WereLowered limit rounds number (map port_machine old) (map port_machine did.all_low) }
+{}
+
 /// Rings are two queues as long as they are told nothing: no call holds them, overtakes, drops or
 /// counts rounds.
 ///
@@ -103,4 +135,36 @@ pub fn plain_sessions_conserve()
         ConservesPlainly s links t }
     ensures made { (r : RingState) (driver : Uart16550 MachineState) (transmit receive : ℕ) →
         AreEmpty r driver transmit receive → AreUntold (ring_fields r) }
+{}
+
+/// A chip that works is found stuck only if news come as fast as they are served: characters that
+/// arrive, and changes of the modem's inputs, by the schedule.
+///
+/// `try_handle` counts a round more, or finds the chip stuck, only if of its `limit` interrupts all
+/// but 5 are news that came in the course of that call. So if there is a call in each row of
+/// `rounds` calls in which fewer than `limit - 5` come, the chip is never found stuck, whatever the
+/// schedule has between the calls, and however many come there.
+///
+/// DLAB and loopback are off, as in each session, and the chip was not stuck before.
+pub fn chips_that_work_are_not_stuck()
+    ensures counted { (limit rounds : ℕ) (handled : Handled) (s t : RingState) → Ready (under s) →
+        IsInRoom s → (ring_fields s).stuck ≡ None →
+        RingDid MachineStep (TriesToHandle limit rounds (Ok handled)) s t →
+        (ring_fields t).rounds ≡ suc (ring_fields s).rounds →
+        limit ≤ most_without_news + news_between s t }
+    ensures stuck { (limit rounds : ℕ) (error : StuckError) (s t : RingState) → Ready (under s) →
+        IsInRoom s → (ring_fields s).stuck ≡ None →
+        RingDid MachineStep (TriesToHandle limit rounds (Err error)) s t →
+        limit ≤ most_without_news + news_between s t }
+{}
+
+/// A call of the driver, through `inner_mut`, leaves the rings armed in a ready state if it is none
+/// of those that may take the THR_EMPTY interrupt away. These are named in the definition, and on
+/// the page of `inner_mut`. A `resume_transmit` arms the rings again after them.
+///
+/// This is for each call by itself, also for those that end a session. Rings are armed if no byte
+/// waits that may be sent, or if THR_EMPTY is enabled and due.
+pub fn calls_of_the_driver_leave_armed()
+    ensures { (c : Call) (answer : RingAnswer) (s t : RingState) → Ready (under s) →
+        LeavesThrEmpty c → DriverCalled MachineStep c answer s t → IsRingArmed s → IsRingArmed t }
 {}

@@ -4,7 +4,9 @@
 
 mod call;
 pub mod laws;
+mod performing;
 mod running;
 
 pub use call::{RingAnswer, RingCall};
+pub use performing::perform_ring;
 pub use running::run_ring;

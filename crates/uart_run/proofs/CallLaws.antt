@@ -86,7 +86,7 @@ passes_by x N M G ws rs s t w did blocks fifo lsr msr =
     record { made = did.list; passed = passed_did x G ws rs s t w did blocks; fifo = fifo; lsr = lsr; msr = msr }
 
 -- a call that saves what it reads
-passes_did : (x : Modes) (N M : Type 0) (G : Doing) (ws rs : List ℕ) (s t : State) → InSession x s →
+pub passes_did : (x : Modes) (N M : Type 0) (G : Doing) (ws rs : List ℕ) (s t : State) → InSession x s →
     (did : Did MachineStep G (inner_of s) (inner_of t)) → Keeps (fields (inner_of s)) did.list (fields (inner_of t)) ws rs →
     Passes x N M s t ws rs
 passes_did x N M G ws rs s t w did k = passes_by x N M G ws rs s t w did k.blocks k.fifo (λ n. k.lsr) (λ n. k.msr)

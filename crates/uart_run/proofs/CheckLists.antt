@@ -198,7 +198,7 @@ after_line divisor lcr (Ok tt) s l t = looked_list divisor lcr (Ok tt) s l t
 after_line divisor lcr (Err e) s l (inl t) = ignored_list lcr e s l t
 after_line divisor lcr (Err e) s l (inr t) = looked_list divisor lcr (Err e) s l t
 
-latch_list : (divisor : ℕ) (v : Verdict) (s : Settings) (l : List Access) → ShowsDivisor divisor v s l → LatchList l
+pub latch_list : (divisor : ℕ) (v : Verdict) (s : Settings) (l : List Access) → ShowsDivisor divisor v s l → LatchList l
 latch_list divisor v s l (lcr, t) =
     let is : l ≡ Read offsets.LCR lcr ∷ t.back = t.whole ∙ ap (λ zs. zs ++ t.back) t.first.is in
     rw is (after_line divisor lcr v s t.back t.second)

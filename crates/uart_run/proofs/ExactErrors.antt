@@ -1,7 +1,7 @@
 -- That received bytes have exactly the errors that they arrived with.
-use Rattle.std.proofs.Common.{◌≡◌, ◌<◌, ◌+◌, ℕ, zero, suc, Bool, true, false, inl, inr, List, [], ◌∷◌, ◌++◌, length, nat_lt, refl, arith}
+use Rattle.std.proofs.Common.{◌≡◌, ◌⊎◌, ◌<◌, ◌+◌, ℕ, Bool, true, false, inl, inr, List, [], ◌∷◌, ◌++◌, length, nat_lt, refl, arith}
 use Rattle.std.proofs.Common.{sym}
-use Rattle.std.proofs.Common.{◌∙◌, ap, subst, append-nil, Option, Some, None, bit_and, bit_or, if◌then◌else◌, ◌==◌, ◌&&◌}
+use Rattle.std.proofs.Common.{◌∙◌, ap, subst, append-nil, append_assoc, Option, None, bit_and, bit_or, if◌then◌else◌, ◌==◌, ◌&&◌}
 use Rattle.std.specs.List.{list_any}
 use Rattle.std.proofs.lemmas.Grind.{common_steps}
 use Rattle.std.specs.Int.Bits.{and_self}
@@ -11,8 +11,6 @@ use Rattle.uart_spec.specs.Access.{Path}
 use Rattle.uart_spec.specs.Bits.{has_any, flag, IsWithin}
 use Rattle.uart_spec.specs.declared.access.Access.{Access}
 use Rattle.uart_spec.specs.declared.access.Access.TheVariants.{Read}
-use Rattle.uart_events.specs.declared.event.Event.{Event}
-use Rattle.uart_events.specs.declared.event.Event.TheVariants.{Ticks, Arrive, Access as Gate, Mark}
 use Rattle.uart_spec.specs.declared.registers.line_status.TheConstants.LSR
 use Rattle.uart_spec.specs.declared.registers.offsets.TheConstants as offsets
 use Rattle.uart_16550.specs.Grammar.{Settings, InOrder}
@@ -21,24 +19,27 @@ use Rattle.uart_16550.specs.Receive.{HitWithErrors, ReceivesWithErrors}
 use Rattle.uart_spec.specs.declared.received.Received.{Received}
 use Rattle.uart_16550.specs.declared.driver.Uart16550.{Uart16550}
 use Rattle.uart_chip.specs.declared.receiver.Character.{Character}
-use Rattle.uart_chip.specs.declared.receiver.Origin.TheVariants.{Looped}
-use Rattle.uart_chip.specs.Transmitter.{room, looped_byte}
+use Rattle.uart_chip.specs.declared.receiver.Origin.TheVariants.{Arrived}
+use Rattle.uart_chip.specs.Transmitter.{room}
 use Rattle.uart_chip.specs.Receiver as receiver
 use Rattle.uart_chip.specs.Receiver.{ReceiverState, enter, report, front_errors, unreported, has_errors}
-use Rattle.uart_chip.specs.Chip.{ChipState, is_loopback, is_dlab_set, is_transmitter_empty, tick, ticks, line_status}
-use Rattle.uart_chip.specs.Machine.{MachineState, MachineStep, perform, before_access, at_access}
+use Rattle.uart_chip.specs.Chip.{ChipState, is_dlab_set, is_transmitter_empty, line_status}
+use Rattle.uart_chip.specs.Machine.{MachineState, MachineStep, at_access}
 use Rattle.uart_chip.specs.Sound.{IsSound}
 use Rattle.uart_chip.specs.Laws.{reported_front}
-use Rattle.uart_chip.proofs.Bits.{and_or, has_one}
+use Rattle.uart_chip.proofs.Bits.{and_or, has_and, has_one}
 use Rattle.uart_chip.proofs.statuses.Reports.{Told, FrontTold}
-use Rattle.uart_chip.proofs.conservation.Went.{Modes, dlab-in}
+use Rattle.uart_chip.proofs.conservation.Went.{Modes, dlab-in, loopback-in}
 use Rattle.uart_chip.proofs.conservation.Passed.{Passed, passed-refl, passed-trans, passed-access}
 use Rattle.uart_chip.proofs.conservation.BlockLaws.{IsOpen, Stands, stands-after, path_as, path_split, passed-look, look_data}
 use Rattle.uart_chip.proofs.conservation.BlockLaws.{look_reported}
 use Rattle.uart_chip.proofs.conservation.BlockLaws.{Took, took}
 use Rattle.uart_chip.proofs.conservation.SessionLaws.{taken_entered}
 use Rattle.uart_run.specs.Ready.{Ready}
+use Rattle.uart_run.specs.Overruns.{IsLost, FlagTells, LeavesReceiver, OverrunsTell, OverrunsStand}
 use Rattle.uart_run.specs.ReceivedErrors.{character_errors, IsShown, AreShown, ReceivedExactly, under_terminal}
+use Rattle.uart_run.proofs.Between.{access_lasts}
+use Rattle.uart_run.proofs.Overruns.{Behind, HitTells, hit_tells, Looked, looked, flag_lasts, tells_later}
 use Rattle.uart_run.proofs.SessionCalls.{modes_of, in_session}
 
 -- ---- with the FIFO the front stays until it is taken
@@ -54,40 +55,9 @@ front_enter : (f new : Character) (r : ReceiverState) → HasFront f r → HasFr
 front_enter f new r (others, e) =
     either_front f (nat_lt (length r.queue) (room true)) _ _ (others ++ new ∷ [], ap (λ q. q ++ new ∷ []) e) (others, e)
 
-front_tick : (f : Character) (looped : Option ℕ) (r : ReceiverState) → HasFront f r → HasFront f (receiver.tick true looped r)
-front_tick f None r h = h
-front_tick f (Some byte) r h = front_enter f (record { byte = byte; errors = 0; origin = Looped }) r h
-
-chip_tick : (f : Character) (c : ChipState) → c.fifo ≡ true → HasFront f c.receiver → HasFront f (tick c).receiver
-chip_tick f c on h = rw on (front_tick f (looped_byte (is_loopback c.latches) c.transmitter.shift_register) c.receiver h)
-
-fifo_ticks : (n : ℕ) (c : ChipState) → (ticks n c).fifo ≡ c.fifo
-fifo_ticks zero c = refl
-fifo_ticks (suc n) c = fifo_ticks n c
-
-chip_ticks : (f : Character) (n : ℕ) (c : ChipState) → c.fifo ≡ true → HasFront f c.receiver → HasFront f (ticks n c).receiver
-chip_ticks f zero c on h = h
-chip_ticks f (suc n) c on h = chip_tick f (ticks n c) (fifo_ticks n c ∙ on) (chip_ticks f n c on h)
-
-fifo_perform : (event : Event) (c : ChipState) → (perform event c).fifo ≡ c.fifo
-fifo_perform (Ticks n) c = fifo_ticks n c
-fifo_perform _ c = refl
-
-chip_perform : (f : Character) (event : Event) (c : ChipState) → c.fifo ≡ true → HasFront f c.receiver →
-    HasFront f (perform event c).receiver
-chip_perform f (Ticks n) c on h = chip_ticks f n c on h
-chip_perform f (Arrive byte errors) c on h =
-    rw on (either_front f (is_loopback c.latches) _ _ h
-    (front_enter f _ (record c.receiver { arrived = c.receiver.arrived + 1 }) h))
-chip_perform f _ c on h = h
-
-chip_before : (f : Character) (events : List Event) (c : ChipState) → c.fifo ≡ true → HasFront f c.receiver →
-    HasFront f (before_access events c).receiver
-chip_before f [] c on h = chip_tick f c on h
-chip_before f (Gate ∷ events) c on h = h
-chip_before f (Mark ∷ events) c on h = chip_tick f c on h
-chip_before f (event ∷ events) c on h =
-    chip_before f events (perform event c) (fifo_perform event c ∙ on) (chip_perform f event c on h)
+front_arrive : (f : Character) (r : ReceiverState) (byte errors : ℕ) → HasFront f r → HasFront f (receiver.arrive false true byte errors r)
+front_arrive f r byte errors h =
+    front_enter f (record { byte = byte; errors = errors; origin = Arrived r.arrived }) (record r { arrived = r.arrived + 1 }) h
 
 -- ---- what the line status shows of the front
 
@@ -157,6 +127,7 @@ same_first x y xs ys same = ap (first_of x) same
 
 record Hit (x : Modes) (old : Option Character) (m n : MachineState) (line byte : ℕ) : Type 0 where
   pub character : Character
+  pub overruns : HitTells line character m n
   pub is_byte : character.byte ≡ byte
   pub shown : IsShown old line character
   pub passed : Passed x m n (Read offsets.LSR line ∷ Read offsets.DATA byte ∷ []) [] (character ∷ [])
@@ -196,23 +167,25 @@ hit x m n line byte o on w h (m₁, s₁, (m₂, s₂, e)) =
     let fifo : m₁.chip.fifo ≡ true = stands.modes.fifo ∙ on in
     let off : is_dlab_set (at_access m₁).chip.latches ≡ false =
     dlab-in x (at_access m₁).chip (passed-access x m₁ o.loopback stands.sound stands.modes).went.modes ∙ o.dlab in
-    at (at_access m).chip.receiver.queue refl b
-    (rw same at some) (λ f others q. chip_before f m₁.ahead m₁.chip fifo (others, ap (λ (r : ReceiverState). r.queue) same ∙ q))
+    at (at_access m).chip.receiver.queue refl b (hit_tells x m m₁ m₂ line byte b.front b.rest on o w stands s₁ s₂ b.queue off)
+    (rw same at some) (λ f others q. access_lasts (HasFront f) (λ r h. h) (λ r byte errors marked within h. front_arrive f r byte errors h)
+    m₁ stands.sound fifo (loopback-in x m₁.chip stands.modes ∙ o.loopback) (others, ap (λ (r : ReceiverState). r.queue) same ∙ q))
     (passed-trans x x m m₁ m₂ (Read offsets.LSR line ∷ []) (Read offsets.DATA byte ∷ []) [] [] [] (b.front ∷ []) refl a b.passed)
     (rw (s₂.0, off, b.queue) refl)
   where
-    at : (queue : List Character) → (at_access m).chip.receiver.queue ≡ queue → (b : Took x m₁ m₂ byte) →
+    at : (queue : List Character) → (at_access m).chip.receiver.queue ≡ queue → (b : Took x m₁ m₂ byte) → HitTells line b.front m m₂ →
         0 < length (at_access m).chip.receiver.queue →
         ((f : Character) (others : List Character) → (at_access m).chip.receiver.queue ≡ f ∷ others →
         HasFront f (at_access m₁).chip.receiver) →
         Passed x m m₂ (Read offsets.LSR line ∷ Read offsets.DATA byte ∷ []) [] (b.front ∷ []) →
         m₂.chip.receiver.is_front_reported ≡ false → Hit x (reported_front m.chip.receiver) m n line byte
-    at [] q b some stays p cleared = let none : 0 < 0 = rw q at some in absurd (omega (arith, none))
-    at (f ∷ others) q b some stays p cleared =
+    at [] q b tells some stays p cleared = let none : 0 < 0 = rw q at some in absurd (omega (arith, none))
+    at (f ∷ others) q b tells some stays p cleared =
         let later = stays f others q in
         let is : f ≡ b.front = same_first f b.front later.0 b.rest (sym later.1 ∙ b.queue) in
         rw e (record {
           character = b.front;
+          overruns = tells;
           is_byte = b.is_byte;
           shown = subst (λ (c : Character). IsShown (reported_front m.chip.receiver) line c) is
               (hit_shown x m line o w s₁.1 f others q);
@@ -233,6 +206,10 @@ record Hits (x : Modes) (old : Option Character) (m n : MachineState) (l : List 
   pub characters : List Character
   pub shown : AreShown old items characters
   pub passed : Passed x m n l [] characters
+  pub stays : (count : ℕ) (taken : List Character) → Behind count taken m.chip.receiver →
+      Behind count (taken ++ characters) n.chip.receiver
+  pub tell : FlagTells m.chip.receiver → OverrunsTell items characters n.chip.receiver
+  pub flag : FlagTells m.chip.receiver → FlagTells n.chip.receiver
 
 -- the line errors of a look have the errors of the character
 shown_masked : (old : Option Character) (line errors : ℕ) (c : Character) → errors ≡ bit_and line LSR.LINE_ERRORS.0 → IsShown old line c →
@@ -251,7 +228,15 @@ hits : (x : Modes) (old : Option Character) (items : List Received) (s : Setting
     Hits x old m n l items
 hits x old [] s l m n o on w was t p =
     let none = path_as m n l [] t.is p in
-    rw (t.is, none) (record { characters = []; shown = tt; passed = passed-refl x m w.sound w.modes })
+    rw (t.is, none) (record {
+      characters = [];
+      shown = tt;
+      passed = passed-refl x m w.sound w.modes;
+      stays = λ count taken p.
+          subst (λ (cs : List Character). Behind count cs m.chip.receiver) (sym (append-nil taken)) p;
+      tell = λ f. tt;
+      flag = λ f. f;
+    })
 hits x old (item ∷ items) s l m n o on w was t p =
     let parts = path_split MachineStep m n t.front t.back (path_as m n l (t.front ++ t.back) t.whole p) in
     let line = t.first.0 in
@@ -265,11 +250,28 @@ hits x old (item ∷ items) s l m n o on w was t p =
       characters = one.character ∷ rest.characters;
       shown = (one.is_byte, shown_masked old line item.errors.0 one.character t.first.2 (rw was at one.shown), rest.shown);
       passed = passed-trans x x m parts.0 n made t.back [] [] (one.character ∷ []) rest.characters refl one.passed rest.passed;
+      stays = λ count taken p.
+          subst (λ (cs : List Character). Behind count cs n.chip.receiver) (append_assoc taken (one.character ∷ []) rest.characters)
+          (rest.stays count (taken ++ one.character ∷ []) (one.overruns.stays count taken p));
+      tell = λ f. (
+        (λ shown. later one.character rest.characters parts.0 rest.stays
+            (one.overruns.tells f (sym (has_and 1 line LSR.LINE_ERRORS.0 refl)
+            ∙ (ap (λ (v : ℕ). has_any v LSR.OVERRUN_ERROR.0) (sym t.first.2) ∙ shown)))),
+        rest.tell one.overruns.flag,
+      );
+      flag = λ f. rest.flag one.overruns.flag;
     })
+  where
+    later : (character : Character) (characters : List Character) (k : MachineState) →
+        ((count : ℕ) (taken : List Character) → Behind count taken k.chip.receiver → Behind count (taken ++ characters) n.chip.receiver) →
+        Behind 15 (character ∷ []) k.chip.receiver ⊎ Behind 16 (character ∷ []) k.chip.receiver →
+        IsLost (character ∷ (characters ++ n.chip.receiver.queue)) n.chip.receiver.marks
+    later character characters k stays (inl few) = inl (stays 15 (character ∷ []) few)
+    later character characters k stays (inr all) = inr (stays 16 (character ∷ []) all)
 
-looked : (x : Modes) (m n : MachineState) (line : ℕ) → IsOpen x → Stands x m → Path MachineStep m (Read offsets.LSR line ∷ []) n →
+look_passed : (x : Modes) (m n : MachineState) (line : ℕ) → IsOpen x → Stands x m → Path MachineStep m (Read offsets.LSR line ∷ []) n →
     Passed x m n (Read offsets.LSR line ∷ []) [] []
-looked x m n line o w p = rw p.2 (passed-look x m p.0 line o.loopback w p.1)
+look_passed x m n line o w p = rw p.2 (passed-look x m p.0 line o.loopback w p.1)
 
 receives : (x : Modes) (slots : ℕ) (items : List Received) (s : Settings) (l : List Access) (m n : MachineState) → IsOpen x →
     x.fifo ≡ true → Stands x m → ReceivesWithErrors slots items s l → Path MachineStep m l n →
@@ -280,11 +282,21 @@ receives x slots items s l m n o on w (inr (fewer, t)) p =
     let some = hits x _ items s t.front m parts.0 o on w refl t.first parts.1 in
     let look = path_as parts.0 n t.back (Read offsets.LSR t.second.answer ∷ []) t.second.is parts.2 in
     let last : Passed x parts.0 n (Read offsets.LSR t.second.answer ∷ []) [] [] =
-    looked x parts.0 n t.second.answer o (stands-after x m parts.0 _ _ _ some.passed) look in
+    look_passed x parts.0 n t.second.answer o (stands-after x m parts.0 _ _ _ some.passed) look in
+    let end = looked x parts.0 look.0 t.second.answer on o (stands-after x m parts.0 _ _ _ some.passed) look.1 in
+    let still : look.0 ≡ n = sym look.2 in
+    let same : Looked parts.0 n = subst (λ (k : MachineState). Looked parts.0 k) still end in
     let whole : l ≡ t.front ++ Read offsets.LSR t.second.answer ∷ [] = t.whole ∙ ap (λ zs. t.front ++ zs) t.second.is in
     let both = passed-trans x x m parts.0 n t.front (Read offsets.LSR t.second.answer ∷ []) [] [] some.characters [] refl
     some.passed last in
-    rw whole (record { characters = some.characters; shown = some.shown; passed = rw (append-nil some.characters) at both })
+    rw whole (record {
+      characters = some.characters;
+      shown = some.shown;
+      passed = rw (append-nil some.characters) at both;
+      stays = λ count taken p. same.stays count (taken ++ some.characters) (some.stays count taken p);
+      tell = λ f. tells_later items some.characters parts.0.chip.receiver n.chip.receiver same.stays (some.tell f);
+      flag = λ f. same.flag;
+    })
 
 -- ---- the call
 
@@ -293,6 +305,37 @@ pub exactly_received : (x : Modes) (m n : MachineState) (slots : ℕ) (items : L
 exactly_received x m n slots items s l o on w made path =
     let r = receives x slots items s l m n o on w made path in
     record { characters = r.characters; shown = r.shown; stay = taken_entered x m n l [] r.characters w.modes.cut r.passed }
+
+-- and what its overrun flags tell
+overruns_received : (x : Modes) (m n : MachineState) (slots : ℕ) (items : List Received) (s : Settings) (l : List Access) → IsOpen x →
+    x.fifo ≡ true → Stands x m → FlagTells m.chip.receiver → ReceivesWithErrors slots items s l → Path MachineStep m l n →
+    OverrunsStand m items n
+overruns_received x m n slots items s l o on w flag made path =
+    let r = receives x slots items s l m n o on w made path in
+    record {
+      exact = record { characters = r.characters; shown = r.shown; stay = taken_entered x m n l [] r.characters w.modes.cut r.passed };
+      tell = r.tell flag;
+      flag = r.flag flag;
+    }
+
+pub overruns_stand : (before after : Uart16550 MachineState) (slots : ℕ) (items : List Received) → IsSound (backend_of before) →
+    Ready (under_terminal before) → (fields before).fifo ≡ true → FlagTells (backend_of before).chip.receiver →
+    Made MachineStep (ReceivesWithErrors slots items) before after → OverrunsStand (backend_of before) items (backend_of after)
+overruns_stand before after slots items sound ready on flag made =
+    let s = under_terminal before in
+    let x = modes_of s in
+    let w = in_session s ready sound in
+    overruns_received x (backend_of before) (backend_of after) slots items _ made.list w.open_modes (sym w.fifo ∙ on) w.stands flag
+    made.fits made.path
+
+pub flag_stands : (before : Uart16550 MachineState) → IsSound (backend_of before) → (access : Access) (after : MachineState) →
+    Ready (under_terminal before) → (fields before).fifo ≡ true → LeavesReceiver access → MachineStep (backend_of before) access after →
+    FlagTells (backend_of before).chip.receiver → FlagTells after.chip.receiver
+flag_stands before sound access after ready on leaves step flag =
+    let s = under_terminal before in
+    let x = modes_of s in
+    let w = in_session s ready sound in
+    flag_lasts x access (backend_of before) after (sym w.fifo ∙ on) w.open_modes w.stands leaves step flag
 
 pub received_exactly : (before after : Uart16550 MachineState) (slots : ℕ) (items : List Received) → IsSound (backend_of before) →
     Ready (under_terminal before) → (fields before).fifo ≡ true → Made MachineStep (ReceivesWithErrors slots items) before after →

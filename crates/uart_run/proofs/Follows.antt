@@ -1,5 +1,7 @@
 -- Runs: each call of one follows what is promised of it alone, and each session in it conserves.
 use Rattle.std.proofs.Common.{List, [], ◌∷◌, sym, subst}
+use Rattle.uart_16550.specs.Driver.{fields, settings_of}
+use Rattle.uart_16550.specs.Tty.{inner_of}
 use Rattle.uart_events.specs.declared.call.Call.{Call}
 use Rattle.uart_events.specs.declared.call.Call.TheVariants as call
 use Rattle.uart_events.specs.declared.call.Answer.{Answer}
@@ -9,14 +11,17 @@ use Rattle.uart_run.specs.Ready.{ComesTo}
 use Rattle.uart_run.specs.Progress.{IsTimely, Succeeds}
 use Rattle.uart_run.specs.Session.{Follows, AllFollow, Ran}
 use Rattle.uart_run.proofs.Sessions.{session_conserves, lasts_call, lasts_wired, sound_call, sound_chain}
-use Rattle.uart_run.proofs.FrameLaws.{frames, attach_takes}
+use Rattle.uart_run.proofs.FrameLaws.{frames, attach_takes, attach_finds}
 use Rattle.uart_run.proofs.SetupLaws.{frames_when_idle, levels, quiets, restores}
+use Rattle.uart_run.proofs.OutputLaws.{sets_outputs, switches_rts, switches_dtr}
+use Rattle.uart_run.proofs.CheckAnswers.{checks}
 use Rattle.uart_run.proofs.initialising.SetUp.{arranges}
 use Rattle.uart_run.proofs.initialising.Initialised.{initialises}
 use Rattle.uart_run.proofs.loopback.LoopTests.{tested}
 use Rattle.uart_run.proofs.ReadyKept.{follows_ready}
 use Rattle.uart_run.proofs.progress.Succeeds.{flush_succeeds, write_succeeds, send_exact_succeeds, text_succeeds}
 use Rattle.uart_run.proofs.initialising.InitSucceeds.{init_succeeds}
+use Rattle.uart_run.proofs.initialising.InitWithSucceeds.{init_with_succeeds, frame_when_idle_succeeds}
 use Rattle.uart_run.proofs.loopback.LoopSucceeds.{test_succeeds}
 
 -- what a call comes to
@@ -27,6 +32,11 @@ comes_to s t call.Attach a w h = attach_takes s t a h
 comes_to s t (call.SetFrame config) a w h = frames s t config a h
 comes_to s t (call.SetFrameWhenIdle config) a w h = frames_when_idle s t config a h
 comes_to s t (call.SetTriggerLevel level) a w h = levels s t level a w h
+comes_to s t (call.SetModemControl outputs) a w h =
+    sets_outputs s t outputs.0 (settings_of (fields (inner_of s))) h.did.list h.did.does.0 h.did.path
+comes_to s t (call.SetRts on) a w h = switches_rts s t on (settings_of (fields (inner_of s))) h.did.list w h.did.does.0 h.did.path
+comes_to s t (call.SetDtr on) a w h = switches_dtr s t on (settings_of (fields (inner_of s))) h.did.list w h.did.does.0 h.did.path
+comes_to s t (call.CheckConfigured outputs) a w h = checks s t outputs a h
 comes_to s t (call.Quiesce outputs fifos) a w h = quiets s t outputs.0 fifos h.did.list w h.did.does h.did.path
 comes_to s t (call.Restore dump) a w h = restores s t dump h.did.list w h.did.does h.did.path
 comes_to s t call.TestLoopback a w h = λ ready. tested s t a w ready h
@@ -36,6 +46,12 @@ comes_to s t other a w h = tt
 succeeds : (s t : State) (call : Call) (a : Answer) → IsSound (machine_of s) → CallStep s call a t → IsTimely s → Succeeds s call a
 succeeds s t (call.Init config) a w h timely =
     λ room divisor. init_succeeds s t config a w timely room divisor h (initialises s t config a w h).is_present
+succeeds s t (call.InitWith config setup) a w h timely =
+    λ room divisor. init_with_succeeds s t config setup a w timely room divisor h (arranges s t config setup a w h).is_present
+succeeds s t (call.SetFrameWhenIdle config) a w h timely =
+    λ ready room divisor.
+    frame_when_idle_succeeds s t config a h.did.list h.outcome w timely room divisor h.answered h.did.does h.did.path
+succeeds s t call.Attach a w h timely = λ ready. attach_finds s t a h ready
 succeeds s t call.TestLoopback a w h timely = λ ready room. test_succeeds s t a w ready timely room h
 succeeds s t call.Flush a w h timely =
     λ ready room. flush_succeeds s t a h.did.list h.outcome w timely room h.answered h.did.does.0 h.did.path

@@ -1,7 +1,8 @@
 -- What a call does in a session that may change its modes: a `set_frame` writes LCR, a `set_modem_control` MCR.
 use Rattle.std.proofs.Common.{◌≡◌, ◌≢◌, ℕ, Bool, true, false, List, [], ◌∷◌, ◌++◌, ◌%◌, ◌/◌, map, refl, sym, ◌∙◌, ap, subst, bit_or, arith}
+use Rattle.std.proofs.Common.{append-nil}
 use Rattle.std.proofs.Common.{Result, Ok, Err, ◌+◌, ◌*◌, ◌||◌, bit_and}
-use lib.Bits.{or_zero_r}
+use Rattle.std.proofs.lemmas.Bool.{false≢true}
 use Rattle.std.proofs.lemmas.Nat.{and_assoc}
 use Rattle.std.proofs.lemmas.List.{map-append}
 use Rattle.std.proofs.lemmas.Grind.{common_steps}
@@ -16,15 +17,16 @@ use Rattle.uart_spec.specs.declared.errors.FrameError.TheVariants.{InvalidBaudRa
 use Rattle.uart_spec.specs.declared.errors.InvalidDivisorError.{InvalidDivisorError}
 use Rattle.uart_spec.specs.declared.registers.line_control.TheConstants.LCR
 use Rattle.uart_spec.specs.declared.registers.offsets.TheConstants as offsets
+use Rattle.uart_spec.specs.declared.setup.FifoAction.TheVariants.{Keep, Reset, Disable}
 use Rattle.uart_events.specs.declared.call.Call.{Call}
 use Rattle.uart_events.specs.declared.call.Call.TheVariants as call
 use Rattle.uart_events.specs.declared.call.Answer.{Answer}
 use Rattle.uart_events.specs.declared.call.Answer.TheVariants.{Latch}
 use Rattle.uart_16550.specs.Grammar.{Settings, Only, Then, Asks}
-use Rattle.uart_16550.specs.Driver.{Fields, fields, settings_of, saving, Sets, Saving, Next, with_fifo}
+use Rattle.uart_16550.specs.Driver.{Did, Fields, fields, settings_of, saving, Sets, Saving, Next, with_fifo}
 use Rattle.uart_16550.specs.Init.{DivisorOf, frame_bits}
 use Rattle.uart_16550.specs.Frame.{frame_writes, with_frame, SetsFrame, switched, unlooped, SetsBreak, SetsControl, SetsOutput}
-use Rattle.uart_16550.specs.Setup.{SetsFrameWhenIdle}
+use Rattle.uart_16550.specs.Setup.{SetsFrameWhenIdle, Quiesces}
 use Rattle.uart_16550.specs.Transmit.{WaitsFor}
 use Rattle.uart_16550.specs.Attach.{FindsLatch, FindsLoopback, FindsPort, Attaches}
 use Rattle.uart_16550.specs.Status.{ReadsDivisor, divisor_accesses}
@@ -40,7 +42,7 @@ use Rattle.uart_calls.specs.Meaning.{frame_answer, attach_answer}
 use Rattle.uart_chip.specs.declared.receiver.Character.{Character}
 use Rattle.uart_chip.specs.Chip.{ChipState, answer, divisor, is_dlab_set, is_loopback, word_length}
 use Rattle.uart_chip.specs.Machine.{MachineState, MachineStep, at_access}
-use Rattle.uart_chip.proofs.Bits.{has_or, has_and, has_not, has_one, and_or}
+use Rattle.uart_chip.proofs.Bits.{has_or, has_and, has_not, has_one}
 use Rattle.uart_chip.proofs.conservation.Went.{Modes, fixed}
 use Rattle.uart_chip.proofs.conservation.Passed.{passed-refl, passed-trans}
 use Rattle.uart_chip.proofs.conservation.BlockLaws.{IsOpen, PassedBlocks, nothing_taken, passed_frame, relined, path_as, stands-after}
@@ -54,22 +56,28 @@ use Rattle.uart_run.proofs.Wired.{wired_step, passed_mcr}
 use Rattle.uart_run.proofs.Latches.{Kept, kept_in, keep, kept_after, kept_step, kept_path, kept_list, kept_access}
 use Rattle.uart_run.proofs.Pieces.{then_parts, next_stages}
 use Rattle.uart_run.proofs.initialising.FifoShown.{fifo_shown}
-use Rattle.uart_run.proofs.CallBlocks.{InBlocks, passed_in_blocks, waits_blocks}
-use Rattle.uart_run.proofs.CallLaws.{Passes, InSession, passes_call, passes_quietly, saved_both}
-use Rattle.uart_run.proofs.initialising.Inits.{frame-dlab}
+use Rattle.uart_run.proofs.CallBlocks.{InBlocks, Makes, makes_quiet, makes_then, passed_in_blocks, waits_blocks}
+use Rattle.uart_run.proofs.CallKeeps.{reads_divisor_blocks, saving_keeps}
+use Rattle.uart_run.proofs.CallLaws.{Passes, InSession, passes_call, passes_did, passes_quietly, saved_both}
+use Rattle.uart_run.proofs.initialising.Inits.{frame-dlab, frame-unbroken}
 use Rattle.uart_run.proofs.initialising.Initialised.{ready_by}
 
 -- ---- modes that may change
+
+-- LCR has no break
+abbrev pub IsUnbrokenLcr : ℕ → Type 0
+IsUnbrokenLcr lcr = has_any lcr LCR.SET_BREAK.0 ≡ false
 
 -- the same, in the modes that the call leaves, which cut alike
 pub record Goes (x : Modes) (NoLsr NoMsr : Type 0) (s t : State) (written read : List ℕ) : Type 0 where
   pub modes : Modes
   pub same : fixed modes ≡ fixed x
+  pub unbroken : IsUnbrokenLcr x.lcr → IsUnbrokenLcr modes.lcr
   pub open_modes : IsOpen modes
   pub passes : Passes modes NoLsr NoMsr s t written read
 
 pub goes_still : (x : Modes) (N M : Type 0) (s t : State) (ws rs : List ℕ) → InSession x s → Passes x N M s t ws rs → Goes x N M s t ws rs
-goes_still x N M s t ws rs w p = record { modes = x; same = refl; open_modes = w.open_modes; passes = p }
+goes_still x N M s t ws rs w p = record { modes = x; same = refl; unbroken = λ u. u; open_modes = w.open_modes; passes = p }
 
 pub same_fifo : (x y : Modes) → fixed y ≡ fixed x → y.fifo ≡ x.fifo
 same_fifo x y same = ap (λ (p : Bool × (ℕ → ℕ)). p.0) same
@@ -116,33 +124,6 @@ framed_by d config f after l t = record {
       ∙ ap (λ zs. bit_or f.msr (saved_msr zs)) t.second.0.is);
 }
 
-goes_framed : (x : Modes) (N M : Type 0) (s t : State) (config : Config) (result : Result (Unit {0}) InvalidDivisorError)
-    (l : List Access) → InSession x s → x.cut ≡ (λ (byte : ℕ). byte) →
-    SetsFrame config result (fields (inner_of s)) l (fields (inner_of t)) →
-    Path MachineStep (machine_of s) l (machine_of t) → Goes x N M s t [] []
-goes_framed x N M s t config (Ok u) l w whole d path =
-    let z : Modes = record x { lcr = frame_bits config } in
-    let f = framed_by d.0 config (fields (inner_of s)) (fields (inner_of t)) l d.2 in
-    let p = passed_frame x (machine_of s) (machine_of t) (d.0 % 256) (d.0 / 256) (frame_bits config) w.open_modes w.stands whole
-    (path_as (machine_of s) (machine_of t) l (frame_writes d.0 (frame_bits config)) f.is path) in
-    record {
-      modes = z;
-      same = refl;
-      open_modes = record { dlab = frame-dlab config; loopback = w.open_modes.loopback };
-      passes = record {
-        made = frame_writes d.0 (frame_bits config);
-        passed = nothing_taken z (machine_of s) (machine_of t) _ [] p;
-        fifo = f.fifo;
-        lsr = λ n. f.lsr;
-        msr = λ n. f.msr;
-      };
-    }
-goes_framed x N M s t config (Err e) l w whole d path =
-    let still : machine_of t ≡ machine_of s = path_as (machine_of s) (machine_of t) l [] d.1 path in
-    goes_still x N M s t [] [] w
-    (passes_quietly x N M s t
-    (record { takes = []; bytes = refl; passed = rw still (passed-refl x (machine_of s) w.stands.sound w.stands.modes) }) d.2)
-
 -- ---- `set_frame_when_idle`
 
 -- the wait, whatever it ends with
@@ -172,6 +153,7 @@ goes_framed_when_idle x N M s t config (Ok u) l w whole d path =
     record {
       modes = z;
       same = refl;
+      unbroken = λ u. frame-unbroken config;
       open_modes = record { dlab = frame-dlab config; loopback = w.open_modes.loopback };
       passes = record {
         made = a.parts.front ++ frame;
@@ -200,10 +182,8 @@ goes_framed_when_idle x N M s t config (Err Stalled) l w whole d path =
 
 -- ---- `set_break`
 
-break_word : (on : Bool) (lcr : ℕ) → word_length (switched on LCR.SET_BREAK.0 lcr) ≡ word_length lcr
-break_word true lcr =
-    ap (λ (more : ℕ). 5 + more) (and_or lcr LCR.SET_BREAK.0 LCR.WORD_LENGTH.0 ∙ or_zero_r (bit_and lcr LCR.WORD_LENGTH.0))
-break_word false lcr = ap (λ (more : ℕ). 5 + more) (and_assoc LCR.WORD_LENGTH.0 lcr 191)
+break_word : (lcr : ℕ) → word_length (switched false LCR.SET_BREAK.0 lcr) ≡ word_length lcr
+break_word lcr = ap (λ (more : ℕ). 5 + more) (and_assoc LCR.WORD_LENGTH.0 lcr 191)
 
 or_off : (b : Bool) → (b || false) ≡ b
 or_off true = refl
@@ -213,20 +193,22 @@ break_dlab : (on : Bool) (lcr : ℕ) → has_any (switched on LCR.SET_BREAK.0 lc
 break_dlab true lcr = has_or 7 lcr LCR.SET_BREAK.0 ∙ or_off (has_any lcr LCR.DLAB.0)
 break_dlab false lcr = has_and 7 lcr 191 refl
 
-goes_break : (x : Modes) (N M : Type 0) (s t : State) (on : Bool) (l : List Access) → InSession x s →
-    Saving (SetsBreak on) (fields (inner_of s)) l (fields (inner_of t)) → Path MachineStep (machine_of s) l (machine_of t) →
+-- a break that is cleared
+goes_break : (x : Modes) (N M : Type 0) (s t : State) (l : List Access) → InSession x s →
+    Saving (SetsBreak false) (fields (inner_of s)) l (fields (inner_of t)) → Path MachineStep (machine_of s) l (machine_of t) →
     Goes x N M s t [] []
-goes_break x N M s t on l w ((lcr, is), saved) path =
-    let value = switched on LCR.SET_BREAK.0 lcr in
+goes_break x N M s t l w ((lcr, is), saved) path =
+    let value = switched false LCR.SET_BREAK.0 lcr in
     let made : List Access = Read offsets.LCR lcr ∷ Write offsets.LCR value ∷ [] in
     let z : Modes = record x { lcr = value } in
-    let r = relined x (machine_of s) (machine_of t) lcr value w.open_modes w.stands (break_word on lcr)
+    let r = relined x (machine_of s) (machine_of t) lcr value w.open_modes w.stands (break_word lcr)
     (path_as (machine_of s) (machine_of t) l made is path) in
     let dlab : has_any value LCR.DLAB.0 ≡ false =
-    break_dlab on lcr ∙ (ap (λ (v : ℕ). has_any v LCR.DLAB.0) r.same ∙ w.open_modes.dlab) in
+    break_dlab false lcr ∙ (ap (λ (v : ℕ). has_any v LCR.DLAB.0) r.same ∙ w.open_modes.dlab) in
     record {
       modes = z;
       same = refl;
+      unbroken = λ u. has_not 6 lcr 191 refl;
       open_modes = record { dlab = dlab; loopback = w.open_modes.loopback };
       passes = record {
         made = made;
@@ -254,6 +236,7 @@ goes_control x N M s t bits l w wired (done, saved) path =
     record {
       modes = z;
       same = refl;
+      unbroken = λ u. u;
       open_modes = record { dlab = w.open_modes.dlab; loopback = unlooped_off bits };
       passes = record {
         made = made;
@@ -282,6 +265,7 @@ goes_output x N M s t output on l w wired ((mcr, is), saved) path =
     record {
       modes = z;
       same = refl;
+      unbroken = λ u. u;
       open_modes = record { dlab = w.open_modes.dlab; loopback = off };
       passes = record {
         made = made;
@@ -291,53 +275,6 @@ goes_output x N M s t output on l w wired ((mcr, is), saved) path =
         msr = λ n. ap (λ (g : Fields). g.msr) saved ∙ ap (λ zs. bit_or (fields (inner_of s)).msr (saved_msr zs)) is;
       };
     }
-
--- ---- calls within a session
-
--- what each call of these does, where characters are cut so
-pub record GoOn (Within : State → Call → Type 0) (cut : ℕ → ℕ) : Type 0 where
-  pub go : (x : Modes) (s t : State) (c : Call) (a : Answer) → x.cut ≡ cut → InSession x s → Within s c → CallStep s c a t →
-      Goes x (c ≢ call.Lsr) (c ≢ call.Msr) s t (reported_by c a) (received_by c a)
-
--- each call is made in a state in which it may be
-abbrev pub AllAt : (State → Call → Type 0) → List Link → Type 0
-AllAt Within [] = Unit {0}
-AllAt Within (link ∷ links) = Within link.before link.call × AllAt Within links
-
-go_call : (cut : ℕ → ℕ) (x : Modes) (s t : State) (c : Call) (a : Answer) → x.cut ≡ cut → InSession x s → IsWithinSession s c →
-    CallStep s c a t → Goes x (c ≢ call.Lsr) (c ≢ call.Msr) s t (reported_by c a) (received_by c a)
-go_call cut x s t (call.Init config) a same w i h = absurd i
-go_call cut x s t (call.InitWith config setup) a same w i h = absurd i
-go_call cut x s t (call.SetFrame config) a same w i h = absurd i
-go_call cut x s t (call.SetFrameWhenIdle config) a same w i h = absurd i
-go_call cut x s t call.Attach a same w i h = absurd i
-go_call cut x s t (call.SetModemControl outputs) a same w i h = goes_control x _ _ s t outputs.0 h.did.list w i h.did.does h.did.path
-go_call cut x s t (call.SetRts on) a same w i h = goes_output x _ _ s t MCR.RTS.0 on h.did.list w i h.did.does h.did.path
-go_call cut x s t (call.SetDtr on) a same w i h = goes_output x _ _ s t MCR.DTR.0 on h.did.list w i h.did.does h.did.path
-go_call cut x s t (call.Quiesce outputs fifos) a same w i h = absurd i
-go_call cut x s t (call.Restore dump) a same w i h = absurd i
-go_call cut x s t call.TestLoopback a same w i h = absurd i
-go_call cut x s t (call.SetBreak on) a same w i h = goes_break x _ _ s t on h.did.list w h.did.does h.did.path
-go_call cut x s t other a same w i h = goes_still x _ _ s t _ _ w (passes_call x s t other a w tt h)
-
-pub go_within : (cut : ℕ → ℕ) → GoOn IsWithinSession cut
-go_within cut = record { go = go_call cut }
-
-go_uncut : (x : Modes) (s t : State) (c : Call) (a : Answer) → x.cut ≡ (λ (byte : ℕ). byte) → InSession x s → IsWithinUncut s c →
-    CallStep s c a t → Goes x (c ≢ call.Lsr) (c ≢ call.Msr) s t (reported_by c a) (received_by c a)
-go_uncut x s t (call.Init config) a whole w i h = absurd i
-go_uncut x s t (call.InitWith config setup) a whole w i h = absurd i
-go_uncut x s t call.Attach a whole w i h = absurd i
-go_uncut x s t (call.Quiesce outputs fifos) a whole w i h = absurd i
-go_uncut x s t (call.Restore dump) a whole w i h = absurd i
-go_uncut x s t call.TestLoopback a whole w i h = absurd i
-go_uncut x s t (call.SetFrame config) a whole w i h = goes_framed x _ _ s t config h.outcome h.did.list w whole h.did.does h.did.path
-go_uncut x s t (call.SetFrameWhenIdle config) a whole w i h =
-    goes_framed_when_idle x _ _ s t config h.outcome h.did.list w whole h.did.does h.did.path
-go_uncut x s t other a whole w i h = go_call (λ (byte : ℕ). byte) x s t other a whole w i h
-
-pub go_within_uncut : GoOn IsWithinUncut (λ (byte : ℕ). byte)
-go_within_uncut = record { go = go_uncut }
 
 -- ---- whatever the machine is
 
@@ -444,7 +381,7 @@ set_output_ready s t output on l ((mcr, is), saved) path ready =
 
 -- ---- `attach`
 
-mcr_read : (m n : MachineState) (value : ℕ) → MachineStep m (Read offsets.MCR value) n → value ≡ m.chip.latches.mcr
+pub mcr_read : (m n : MachineState) (value : ℕ) → MachineStep m (Read offsets.MCR value) n → value ≡ m.chip.latches.mcr
 mcr_read m n value s = s.1 ∙ ap (λ (k : Kept). k.latches.mcr) (kept_access m)
 
 -- a list of the first reads: nothing changes, and DLAB and loopback are off
@@ -485,10 +422,10 @@ latch_kept m n l low high v (lcr, is) path =
     ∙ ap (λ (x : ℕ). record (kept_in m.chip) { latches = record m.chip.latches { lcr = x } }) (lcr_read m p.0 lcr p.1)
 
 -- and what is read is what it has
-answer_low : (c : ChipState) → is_dlab_set c.latches ≡ true → answer offsets.DLL c ≡ c.latches.dll
+pub answer_low : (c : ChipState) → is_dlab_set c.latches ≡ true → answer offsets.DLL c ≡ c.latches.dll
 answer_low c on = rw on refl
 
-answer_high : (c : ChipState) → is_dlab_set c.latches ≡ true → answer offsets.DLM c ≡ c.latches.dlm
+pub answer_high : (c : ChipState) → is_dlab_set c.latches ≡ true → answer offsets.DLM c ≡ c.latches.dlm
 answer_high c on = rw on refl
 
 latch_read : (m n : MachineState) (lcr low high : ℕ) → Path MachineStep m (divisor_accesses lcr low high) n →
@@ -577,3 +514,159 @@ taken_ready s t a (Err x) l e d path low high is = absurd (cc)
 pub attach_takes : (s t : State) (a : Answer) → CallStep s call.Attach a t →
     (low high : ℕ) → a ≡ Latch low high → IsAttached low high s t
 attach_takes s t a h = taken_ready s t a h.outcome h.did.list h.answered h.did.does h.did.path
+
+-- one in a ready state finds DLAB and loopback off
+finds_port : (s t : State) (a : Answer) (result : Result (ℕ × ℕ) AttachError) (l : List Access) → a ≡ attach_answer result →
+    Attaches result (fields (inner_of s)) l (fields (inner_of t)) → Path MachineStep (machine_of s) l (machine_of t) → Ready s →
+    (low high : ℕ) × (a ≡ Latch low high)
+finds_port s t a (Ok latch) l e d path ready = (latch.0, latch.1, e)
+finds_port s t a (Err DivisorLatchOpen) l e d path ready =
+    let shown = d.0.answer in
+    let p = path_as (machine_of s) (machine_of t) l (Read offsets.LCR shown ∷ []) d.0.is path in
+    absurd (false≢true (sym ready.dlab ∙ (sym (ap (λ (v : ℕ). has_any v LCR.DLAB.0) (lcr_read (machine_of s) p.0 shown p.1))
+    ∙ (sym (has_one 7 shown) ∙ d.0.shows))))
+finds_port s t a (Err Loopback) l e d path ready =
+    let b = then_parts (FindsLatch false) (Asks offsets.MCR MCR.LOOP_BACK.0 true) (settings_of (fields (inner_of s))) l (machine_of s)
+    (machine_of t) d.0 path in
+    let shown = b.second.answer in
+    let p = path_as b.between (machine_of t) b.back (Read offsets.MCR shown ∷ []) b.second.is b.after in
+    let first = kept_list b.front (Read offsets.LCR b.first.answer ∷ []) (machine_of s) b.between b.first.is b.before in
+    absurd (false≢true (sym (ap (λ (k : Kept). is_loopback k.latches) first ∙ ready.loopback)
+    ∙ (sym (ap (λ (v : ℕ). has_any v MCR.LOOP_BACK.0) (mcr_read b.between p.0 shown p.1)) ∙ (sym (has_one 4 shown) ∙ b.second.shows))))
+
+pub attach_finds : (s t : State) (a : Answer) → CallStep s call.Attach a t → Ready s → (low high : ℕ) × (a ≡ Latch low high)
+attach_finds s t a h ready = finds_port s t a h.outcome h.did.list h.answered h.did.does h.did.path ready
+
+-- ---- an `attach` within a session: it reads, and opens and closes the divisor latch
+
+finds_latch_blocks : (v : Settings) (shows : Bool) → Makes v (FindsLatch shows) [] []
+finds_latch_blocks v shows = makes_quiet v offsets.LCR LCR.DLAB.0 shows refl
+
+finds_loopback_blocks : (v : Settings) (looped : Bool) → Makes v (FindsLoopback looped) [] []
+finds_loopback_blocks v looped l t =
+    makes_then v (FindsLatch false) (Asks offsets.MCR MCR.LOOP_BACK.0 looped) [] [] [] [] (finds_latch_blocks v false)
+    (makes_quiet v offsets.MCR MCR.LOOP_BACK.0 looped refl) l t
+
+finds_port_blocks : (v : Settings) (on : Bool) (low high : ℕ) → Makes v (FindsPort on low high) [] []
+finds_port_blocks v on low high l t =
+    makes_then v (FindsLoopback false) (Then (Asks offsets.ISR ISR.FIFOS_ENABLED.0 on) (ReadsDivisor low high)) [] [] [] []
+    (finds_loopback_blocks v false)
+    (λ k u. makes_then v (Asks offsets.ISR ISR.FIFOS_ENABLED.0 on) (ReadsDivisor low high) [] [] [] []
+    (makes_quiet v offsets.ISR ISR.FIFOS_ENABLED.0 on refl) (reads_divisor_blocks v low high) k u) l t
+
+-- the FIFO is taken to be as it was, since the machine's is as it was
+takes_port : (x : Modes) (N M : Type 0) (s t : State) (on : Bool) (low high : ℕ) (l : List Access) → InSession x s →
+    Next (Saving (FindsPort on low high)) (Sets (with_fifo on)) (fields (inner_of s)) l (fields (inner_of t)) →
+    Path MachineStep (machine_of s) l (machine_of t) → Passes x N M s t [] []
+takes_port x N M s t on low high l w d path =
+    let f = fields (inner_of s) in
+    let is : l ≡ d.front = d.whole ∙ (ap (λ zs. d.front ++ zs) d.second.0 ∙ append-nil d.front) in
+    let B : Bool → Type 0 = λ fifo. InBlocks fifo d.front [] [] in
+    let passed = passed_in_blocks x (machine_of s) (machine_of t) d.front [] [] w.open_modes w.stands
+    (subst B w.fifo (finds_port_blocks (settings_of f) on low high d.front d.first.0))
+    (path_as (machine_of s) (machine_of t) l d.front is path) in
+    let taken = attached s t on low high l d path in
+    record {
+      made = d.front;
+      passed = passed;
+      fifo = sym taken.ready.fifo ∙ (passed.passed.went.modes.fifo ∙ sym w.fifo);
+      lsr = λ no. ap (λ (g : Fields). g.lsr) d.second.1 ∙ ap (λ (g : Fields). g.lsr) d.first.1;
+      msr = λ no. ap (λ (g : Fields). g.msr) d.second.1 ∙ ap (λ (g : Fields). g.msr) d.first.1;
+    }
+
+attaches : (x : Modes) (N M : Type 0) (s t : State) (result : Result (ℕ × ℕ) AttachError) → InSession x s →
+    (did : Did MachineStep (Attaches result) (inner_of s) (inner_of t)) → Passes x N M s t [] []
+attaches x N M s t (Ok latch) w did = takes_port x N M s t did.does.0 latch.0 latch.1 did.list w did.does.1 did.path
+attaches x N M s t (Err DivisorLatchOpen) w did =
+    let f = fields (inner_of s) in
+    passes_did x N M (Saving (FindsLatch true)) [] [] s t w did
+    (saving_keeps (FindsLatch true) f (fields (inner_of t)) did.list [] [] (finds_latch_blocks (settings_of f) true) did.does)
+attaches x N M s t (Err Loopback) w did =
+    let f = fields (inner_of s) in
+    passes_did x N M (Saving (FindsLoopback true)) [] [] s t w did
+    (saving_keeps (FindsLoopback true) f (fields (inner_of t)) did.list [] [] (finds_loopback_blocks (settings_of f) true) did.does)
+
+-- ---- a `quiesce` within a session, which keeps the FIFOs: it writes IER and MCR
+
+goes_quiet : (x : Modes) (N M : Type 0) (s t : State) (outputs : ℕ) (l : List Access) → InSession x s → IsWired s →
+    Quiesces outputs Keep (fields (inner_of s)) l (fields (inner_of t)) → Path MachineStep (machine_of s) l (machine_of t) →
+    Goes x N M s t [] []
+goes_quiet x N M s t outputs l w wired does path =
+    let f = fields (inner_of s) in
+    let value = unlooped outputs in
+    let made : List Access = Write offsets.IER 0 ∷ Write offsets.MCR value ∷ [] in
+    let z : Modes = record x { mcr = bit_and value mcr_bits } in
+    let off = unlooped_off outputs in
+    let b = does.second in
+    let is : l ≡ made = does.whole ∙ (ap (λ zs. zs ++ does.back) does.first.0 ∙ (b.whole ∙ (ap (λ zs. zs ++ b.back) b.first.0.is
+    ∙ (ap (λ zs. made ++ zs) b.second.0 ∙ append-nil made)))) in
+    let p = path_as (machine_of s) (machine_of t) l made is path in
+    let q = p.2 in
+    let first = passed_quiet x (machine_of s) p.0 (Write offsets.IER 0) w.open_modes w.stands refl p.1 in
+    let written = passed_mcr x p.0 q.0 value w.open_modes off (stands-after x (machine_of s) p.0 (Write offsets.IER 0 ∷ []) [] [] first)
+    (wired_step (Write offsets.IER 0) (machine_of s) p.0 p.1 wired) q.1 in
+    let both = passed-trans x z (machine_of s) p.0 q.0 (Write offsets.IER 0 ∷ []) (Write offsets.MCR value ∷ []) [] [] [] [] refl
+    first written in
+    record {
+      modes = z;
+      same = refl;
+      unbroken = λ u. u;
+      open_modes = record { dlab = w.open_modes.dlab; loopback = off };
+      passes = record {
+        made = made;
+        passed = nothing_taken z (machine_of s) (machine_of t) made [] (rw q.2 both);
+        fifo = ap (λ (g : Fields). g.fifo) b.second.1;
+        lsr = λ n. ap (λ (g : Fields). g.lsr) b.second.1 ∙ (ap (λ (g : Fields). g.lsr) b.first.1
+            ∙ (ap (λ (g : Fields). bit_or g.lsr (saved_lsr b.front)) does.first.1 ∙ ap (λ zs. bit_or f.lsr (saved_lsr zs)) b.first.0.is));
+        msr = λ n. ap (λ (g : Fields). g.msr) b.second.1 ∙ (ap (λ (g : Fields). g.msr) b.first.1
+            ∙ (ap (λ (g : Fields). bit_or g.msr (saved_msr b.front)) does.first.1 ∙ ap (λ zs. bit_or f.msr (saved_msr zs)) b.first.0.is));
+      };
+    }
+
+-- ---- calls within a session
+
+-- what each call of these does, where characters are cut so
+pub record GoOn (Within : State → Call → Type 0) (cut : ℕ → ℕ) : Type 0 where
+  pub go : (x : Modes) (s t : State) (c : Call) (a : Answer) → x.cut ≡ cut → InSession x s → Within s c → CallStep s c a t →
+      Goes x (c ≢ call.Lsr) (c ≢ call.Msr) s t (reported_by c a) (received_by c a)
+
+-- each call is made in a state in which it may be
+abbrev pub AllAt : (State → Call → Type 0) → List Link → Type 0
+AllAt Within [] = Unit {0}
+AllAt Within (link ∷ links) = Within link.before link.call × AllAt Within links
+
+go_call : (cut : ℕ → ℕ) (x : Modes) (s t : State) (c : Call) (a : Answer) → x.cut ≡ cut → InSession x s → IsWithinSession s c →
+    CallStep s c a t → Goes x (c ≢ call.Lsr) (c ≢ call.Msr) s t (reported_by c a) (received_by c a)
+go_call cut x s t (call.Init config) a same w i h = absurd i
+go_call cut x s t (call.InitWith config setup) a same w i h = absurd i
+go_call cut x s t (call.SetFrame config) a same w i h = absurd i
+go_call cut x s t (call.SetFrameWhenIdle config) a same w i h = absurd i
+go_call cut x s t call.Attach a same w i h = goes_still x _ _ s t [] [] w (attaches x _ _ s t h.outcome w h.did)
+go_call cut x s t (call.SetModemControl outputs) a same w i h = goes_control x _ _ s t outputs.0 h.did.list w i h.did.does h.did.path
+go_call cut x s t (call.SetRts on) a same w i h = goes_output x _ _ s t MCR.RTS.0 on h.did.list w i h.did.does h.did.path
+go_call cut x s t (call.SetDtr on) a same w i h = goes_output x _ _ s t MCR.DTR.0 on h.did.list w i h.did.does h.did.path
+go_call cut x s t (call.Quiesce outputs Keep) a same w i h = goes_quiet x _ _ s t outputs.0 h.did.list w i.0 h.did.does h.did.path
+go_call cut x s t (call.Quiesce outputs Reset) a same w i h = absurd (let e = i.1 in cc)
+go_call cut x s t (call.Quiesce outputs Disable) a same w i h = absurd (let e = i.1 in cc)
+go_call cut x s t (call.Restore dump) a same w i h = absurd i
+go_call cut x s t call.TestLoopback a same w i h = absurd i
+go_call cut x s t (call.SetBreak true) a same w i h = absurd (cc)
+go_call cut x s t (call.SetBreak false) a same w i h = goes_break x _ _ s t h.did.list w h.did.does h.did.path
+go_call cut x s t other a same w i h = goes_still x _ _ s t _ _ w (passes_call x s t other a w tt h)
+
+pub go_within : (cut : ℕ → ℕ) → GoOn IsWithinSession cut
+go_within cut = record { go = go_call cut }
+
+go_uncut : (x : Modes) (s t : State) (c : Call) (a : Answer) → x.cut ≡ (λ (byte : ℕ). byte) → InSession x s → IsWithinUncut s c →
+    CallStep s c a t → Goes x (c ≢ call.Lsr) (c ≢ call.Msr) s t (reported_by c a) (received_by c a)
+go_uncut x s t (call.Init config) a whole w i h = absurd i
+go_uncut x s t (call.InitWith config setup) a whole w i h = absurd i
+go_uncut x s t (call.Restore dump) a whole w i h = absurd i
+go_uncut x s t call.TestLoopback a whole w i h = absurd i
+go_uncut x s t (call.SetFrame config) a whole w i h = absurd i
+go_uncut x s t (call.SetFrameWhenIdle config) a whole w i h =
+    goes_framed_when_idle x _ _ s t config h.outcome h.did.list w whole h.did.does h.did.path
+go_uncut x s t other a whole w i h = go_call (λ (byte : ℕ). byte) x s t other a whole w i h
+
+pub go_within_uncut : GoOn IsWithinUncut (λ (byte : ℕ). byte)
+go_within_uncut = record { go = go_uncut }

@@ -12,10 +12,10 @@ use Rattle.uart_spec.specs.Bits.{has_any}
 use Rattle.uart_spec.specs.declared.registers.fifo_control.TheConstants.FCR
 use Rattle.uart_spec.specs.declared.registers.offsets.TheConstants as offsets
 use Rattle.uart_chip.specs.Masks.{ier_bits, mcr_bits}
-use Rattle.uart_chip.specs.Receiver.{clear}
-use Rattle.uart_chip.specs.Chip.{LatchesState, ChipState, word_length, cut_to, is_dlab_set, ticks, interrupt}
-use Rattle.uart_chip.specs.Chip.{is_thr_empty, after_read, after_write, trigger_level, switch}
-use Rattle.uart_chip.specs.Chip.{reset_receiver, reset_transmitter, set_trigger, is_same, set_fifo, control}
+use Rattle.uart_chip.specs.Chip.{LatchesState, ChipState, word_length, cut_to, is_dlab_set, ticks}
+use Rattle.uart_chip.specs.Chip.{after_read, after_write, switch}
+use Rattle.uart_chip.specs.Chip.{is_same, set_fifo, control}
+use Rattle.uart_chip.proofs.AccessMoves.{ReadMove, takes, read_move, resets_last}
 use Rattle.uart_chip.specs.Machine.{MachineState, MachineStep, perform, before_access, at_access, before_mark, at_mark}
 
 -- what is kept until it is written: the latches, and whether the FIFO is on; and the model and the option, which are never written
@@ -69,10 +69,6 @@ kept_if : (b : Bool) (x y : ChipState) (p q : Kept) → kept_in x ≡ p → kept
 kept_if true x y p q h k = h
 kept_if false x y p q h k = k
 
-same_if : (b : Bool) (x y : ChipState) (k : Kept) → kept_in x ≡ k → kept_in y ≡ k → kept_in (if b then x else y) ≡ k
-same_if true x y k p q = p
-same_if false x y k p q = q
-
 kept-ticks : (n : ℕ) (c : ChipState) → kept_in (ticks n c) ≡ kept_in c
 kept-ticks zero c = refl
 kept-ticks (suc n) c = kept-ticks n c
@@ -89,12 +85,12 @@ kept-before (Mark ∷ events) c = refl
 kept-before (event ∷ events) c = kept-before events (perform event c) ∙ kept-perform event c
 
 -- a read
+kept-reads : (offset : ℕ) (c d : ChipState) → ReadMove offset c d → kept_in d ≡ kept_in c
+kept-reads offset c d (takes e q) = refl
+kept-reads offset c d _ = refl
+
 kept-read : (offset : ℕ) (c : ChipState) → kept_in (after_read offset c) ≡ kept_in c
-kept-read offset c =
-    let k = kept_in c in
-    same_if (offset == offsets.DATA) _ _ k (same_if (is_dlab_set c.latches) _ _ k refl refl)
-    (same_if (offset == offsets.ISR) _ _ k (same_if (is_thr_empty (interrupt c)) _ _ k refl refl)
-    (same_if (offset == offsets.LSR) _ _ k refl (same_if (offset == offsets.MSR) _ _ k refl refl)))
+kept-read offset c = kept-reads offset c _ (read_move offset c)
 
 -- ---- a write
 
@@ -116,14 +112,8 @@ kept-fifo : (value : ℕ) (c : ChipState) → kept_in (set_fifo value c) ≡ rec
 kept-fifo value c =
     let on : Bool = has_any value FCR.FIFO_ENABLE.0 in
     let k : Kept = record (kept_in c) { fifo = on } in
-    let d : ChipState = if is_same c.fifo on then c else switch on c in
-    let a : kept_in d ≡ k = kept-switched on c in
-    let e : ChipState = reset_receiver value d in
-    let b : kept_in e ≡ k = same_if (has_any value FCR.RX_FIFO_RESET.0) (record d { receiver = clear d.receiver }) d k a a in
-    let f : ChipState = reset_transmitter value e in
-    let g : kept_in f ≡ k = same_if (has_any value FCR.TX_FIFO_RESET.0)
-    (record e { transmitter = record e.transmitter { queue = []; is_thr_pending = true } }) e k b b in
-    same_if on (set_trigger (trigger_level value) f) d k g a
+    resets_last (λ (d : ChipState). kept_in d ≡ k) value (λ d p. p) (λ d p. p) (λ level d p. p) on
+    (if is_same c.fifo on then c else switch on c) (kept-switched on c)
 
 kept-control : (model : Chip) (value : ℕ) (c : ChipState) → kept_in (control model value c) ≡ keep_control model value (kept_in c)
 kept-control Uart16450 value c = refl

@@ -19,10 +19,15 @@ pub mod progress
 pub mod initialising
 pub mod loopback
 pub mod SetupLaws
+pub mod CheckAnswers
+pub mod OutputLaws
+pub mod Configured
 pub mod ReadyKept
 pub mod Follows
 pub mod Uncuts
 pub mod Runs
 pub mod ReadyTicks
+pub mod Between
+pub mod Overruns
 pub mod ExactErrors
 pub mod Switched

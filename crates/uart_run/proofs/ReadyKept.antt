@@ -8,7 +8,7 @@ use Rattle.uart_run.specs.Ready.{Ready}
 use Rattle.uart_chip.specs.Sound.{IsSound}
 use Rattle.uart_run.specs.Session.{IsWithinSession}
 use Rattle.uart_run.proofs.Sessions.{session_conserves}
-use Rattle.uart_run.proofs.FrameLaws.{set_frame_ready, attach_ready, set_control_ready, set_output_ready}
+use Rattle.uart_run.proofs.FrameLaws.{set_frame_ready, attach_ready, set_break_ready, set_control_ready, set_output_ready}
 use Rattle.uart_spec.specs.declared.registers.modem_control.TheConstants.MCR
 use Rattle.uart_run.proofs.SetupLaws.{frame_when_idle_ready, quiesce_ready, restores}
 use Rattle.uart_run.proofs.initialising.Initialised.{init_ready}
@@ -25,6 +25,7 @@ pub follows_ready : (s t : State) (call : Call) (a : Answer) → IsSound (machin
 follows_ready s t (call.Init config) a w h ready = init_ready s t config a w h ready
 follows_ready s t (call.InitWith config setup) a w h ready = init_with_ready s t config setup a w h ready
 follows_ready s t call.Attach a w h ready = attach_ready s t a h ready
+follows_ready s t (call.SetBreak on) a w h ready = set_break_ready s t on h.did.list h.did.does h.did.path ready
 follows_ready s t (call.SetModemControl outputs) a w h ready = set_control_ready s t outputs.0 h.did.list h.did.does h.did.path ready
 follows_ready s t (call.SetRts on) a w h ready = set_output_ready s t MCR.RTS.0 on h.did.list h.did.does h.did.path ready
 follows_ready s t (call.SetDtr on) a w h ready = set_output_ready s t MCR.DTR.0 on h.did.list h.did.does h.did.path ready

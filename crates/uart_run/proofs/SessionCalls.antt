@@ -67,6 +67,7 @@ goes-trans : (x : Modes) (N M O P : Type 0) (s t u : State) (ws vs rs qs : List 
 goes-trans x N M O P s t u ws vs rs qs p q = record {
   modes = q.modes;
   same = q.same ∙ p.same;
+  unbroken = λ u. q.unbroken (p.unbroken u);
   open_modes = q.open_modes;
   passes = passes-trans p.modes q.modes N M O P s t u ws vs rs qs q.same p.passes q.passes;
 }

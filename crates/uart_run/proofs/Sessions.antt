@@ -2,6 +2,8 @@
 use Rattle.std.proofs.Common.{◌≡◌, ℕ, List, [], ◌∷◌, ◌++◌, map, ap, sym, ◌∙◌, refl, subst}
 use Rattle.uart_chip.specs.Chip.{cut_of}
 use Rattle.uart_spec.specs.Access.{Path}
+use Rattle.uart_spec.specs.Bits.{has_any}
+use Rattle.uart_spec.specs.declared.registers.line_control.TheConstants.LCR
 use Rattle.uart_spec.specs.declared.access.Access.{Access}
 use Rattle.uart_events.specs.declared.call.Call.{Call}
 use Rattle.uart_events.specs.declared.call.Call.TheVariants as call
@@ -57,14 +59,14 @@ lasts_wired = record { path = wired_path; mark = wired_mark }
 -- ---- where each call is made
 
 -- a call that goes on with a session may be made in a state in which the machine is wired if it was at the start
-goes_on : (W : Type 0) (s : State) (c : Call) → (W → IsWired s) → GoesOn W c → IsWithinSession s c
+pub goes_on : (W : Type 0) (s : State) (c : Call) → (W → IsWired s) → GoesOn W c → IsWithinSession s c
 goes_on W s (call.SetModemControl outputs) f i = f i
 goes_on W s (call.SetRts on) f i = f i
 goes_on W s (call.SetDtr on) f i = f i
+goes_on W s (call.Quiesce outputs fifos) f i = (f i.0, i.1)
 goes_on W s other f i = i
 
 goes_on_uncut : (W : Type 0) (s : State) (c : Call) → (W → IsWired s) → GoesOnUncut W c → IsWithinUncut s c
-goes_on_uncut W s (call.SetFrame config) f i = tt
 goes_on_uncut W s (call.SetFrameWhenIdle config) f i = tt
 goes_on_uncut W s other f i = goes_on W s other f i
 
@@ -95,6 +97,8 @@ conserves k x s t links same w within chain =
         loopback = loopback-in y (machine_of t).chip went.modes ∙ g.open_modes.loopback;
         fifo = went.modes.fifo ∙ (same_fifo x y g.same ∙ (sym w.fifo ∙ sym p.fifo));
       };
+      unbroken = λ u. ap (λ (v : ℕ). has_any v LCR.SET_BREAK.0) went.modes.lcr
+          ∙ g.unbroken (sym (ap (λ (v : ℕ). has_any v LCR.SET_BREAK.0) w.stands.modes.lcr) ∙ u);
       sent = went.sends.grows ∙ sym (ap (λ (f : ℕ → ℕ). out (machine_of s) ++ map f (reported links)) cuts);
       no_overflow = went.sends.same_overflows;
       kept = received_kept y (machine_of s) (machine_of t) p.made (reported links) (received links) cuts p.passed;

@@ -39,6 +39,7 @@ conserves_uncut s t links e c =
     let byte : Character → ℕ = λ character. character.byte in
     record {
       ready = c.ready;
+      unbroken = c.unbroken;
       sent =
           c.sent ∙ (ap (λ (cut : ℕ → ℕ). out (machine_of s) ++ map cut (reported links)) (whole_cut (machine_of s).chip e) ∙
           ap (λ (bytes : List ℕ). out (machine_of s) ++ bytes) (map-id (reported links)));

@@ -1,9 +1,7 @@
 -- A wired machine stays wired, and a write of MCR changes no line of one that stays outside of loopback.
 use Rattle.std.proofs.Common.{◌≡◌, ℕ, zero, suc, Bool, true, false, not, ◌==◌, ◌&&◌, List, [], ◌∷◌, refl, sym, ◌∙◌, ap, subst}
-use Rattle.std.proofs.Common.{bit_and, bit_or, if◌then◌else◌, arith}
+use Rattle.std.proofs.Common.{bit_and, bit_or, arith}
 use Rattle.std.proofs.lemmas.Grind.{common_steps}
-use Rattle.uart_events.specs.declared.event.Chip.{Chip}
-use Rattle.uart_events.specs.declared.event.Chip.TheVariants.{Uart16550A, Uart16450}
 use Rattle.uart_events.specs.declared.event.Event.{Event}
 use Rattle.uart_events.specs.declared.event.Event.TheVariants.{Ticks, Lines, Access as Gate, Mark}
 use Rattle.uart_spec.specs.Access.{Path}
@@ -11,15 +9,12 @@ use Rattle.uart_spec.specs.Bits.{has_any}
 use Rattle.uart_spec.specs.Lines.{line_changes}
 use Rattle.uart_spec.specs.declared.access.Access.{Access}
 use Rattle.uart_spec.specs.declared.access.Access.TheVariants.{Read, Write}
-use Rattle.uart_spec.specs.declared.registers.fifo_control.TheConstants.FCR
 use Rattle.uart_spec.specs.declared.registers.modem_control.TheConstants.MCR
 use Rattle.uart_spec.specs.declared.registers.modem_status.TheConstants.MSR
 use Rattle.uart_spec.specs.declared.registers.offsets.TheConstants as offsets
 use Rattle.uart_chip.specs.Masks.{mcr_bits}
 use Rattle.uart_chip.specs.Modem.{ModemState, renew, lines_under}
-use Rattle.uart_chip.specs.Receiver.{clear}
-use Rattle.uart_chip.specs.Chip.{ChipState, is_dlab_set, ticks, interrupt, is_thr_empty, after_read, after_write}
-use Rattle.uart_chip.specs.Chip.{trigger_level, switch, reset_receiver, reset_transmitter, set_trigger, is_same, set_fifo, control}
+use Rattle.uart_chip.specs.Chip.{ChipState, ticks, after_read, after_write}
 use Rattle.uart_chip.specs.Machine.{MachineState, MachineStep, perform, before_access, at_access, before_mark, at_mark}
 use Rattle.uart_chip.specs.Sound.{IsSoundChip}
 use Rattle.uart_chip.proofs.soundness.Sounds.{sound_access, sound_write}
@@ -31,12 +26,9 @@ use Rattle.uart_chip.proofs.conservation.Went.{Modes, IsIn, loopback, loopback-i
 use Rattle.uart_chip.proofs.conservation.Passed.{Passed, passed-effect}
 use Rattle.uart_chip.proofs.conservation.BlockLaws.{IsOpen, Stands}
 use Rattle.uart_run.specs.Wired.{IsWiredChip}
+use Rattle.uart_chip.proofs.AccessMoves.{ReadMove, takes, read_move, WriteMove, steers, write_lasts}
 
 -- ---- what happens to a chip
-
-wired_if : (b : Bool) (c d : ChipState) → IsWiredChip c → IsWiredChip d → IsWiredChip (if b then c else d)
-wired_if true c d p q = p
-wired_if false c d p q = q
 
 pub wired-ticks : (n : ℕ) (c : ChipState) → IsWiredChip c → IsWiredChip (ticks n c)
 wired-ticks zero c w = w
@@ -58,37 +50,19 @@ wired-before_mark [] c w = w
 wired-before_mark (Mark ∷ events) c w = w
 wired-before_mark (event ∷ events) c w = wired-before_mark events (perform event c) (wired-perform event c w)
 
+wired-reads : (offset : ℕ) (c d : ChipState) → ReadMove offset c d → IsWiredChip c → IsWiredChip d
+wired-reads offset c d (takes p q) w = w
+wired-reads offset c d _ w = w
+
 wired-read : (offset : ℕ) (c : ChipState) → IsWiredChip c → IsWiredChip (after_read offset c)
-wired-read offset c w =
-    wired_if (offset == offsets.DATA) _ _ (wired_if (is_dlab_set c.latches) _ _ w w)
-    (wired_if (offset == offsets.ISR) _ _ (wired_if (is_thr_empty (interrupt c)) _ _ w w)
-    (wired_if (offset == offsets.LSR) _ _ w (wired_if (offset == offsets.MSR) _ _ w w)))
+wired-read offset c w = wired-reads offset c _ (read_move offset c) w
 
--- a write of FCR
-wired-fifo : (value : ℕ) (c : ChipState) → IsWiredChip c → IsWiredChip (set_fifo value c)
-wired-fifo value c w =
-    let on : Bool = has_any value FCR.FIFO_ENABLE.0 in
-    let d : ChipState = if is_same c.fifo on then c else switch on c in
-    let a : IsWiredChip d = wired_if (is_same c.fifo on) c (switch on c) w w in
-    let e : ChipState = reset_receiver value d in
-    let b : IsWiredChip e = wired_if (has_any value FCR.RX_FIFO_RESET.0) (record d { receiver = clear d.receiver }) d a a in
-    let f : ChipState = reset_transmitter value e in
-    let g : IsWiredChip f = wired_if (has_any value FCR.TX_FIFO_RESET.0)
-    (record e { transmitter = record e.transmitter { queue = []; is_thr_pending = true } }) e b b in
-    wired_if on (set_trigger (trigger_level value) f) d g a
-
-wired-control : (model : Chip) (value : ℕ) (c : ChipState) → IsWiredChip c → IsWiredChip (control model value c)
-wired-control Uart16450 value c w = w
-wired-control Uart16550A value c w = wired-fifo value c w
+wired-writes : (offset value : ℕ) (c d : ChipState) → WriteMove offset value c d → IsWiredChip c → IsWiredChip d
+wired-writes offset value c d (steers p) w = refl
+wired-writes offset value c d _ w = w
 
 wired-write : (offset value : ℕ) (c : ChipState) → IsWiredChip c → IsWiredChip (after_write offset value c)
-wired-write offset value c w =
-    wired_if (offset == offsets.DATA) _ _ (wired_if (is_dlab_set c.latches) _ _ w w)
-    (wired_if (offset == offsets.IER) _ _ (wired_if (is_dlab_set c.latches) _ _ w w)
-    (wired_if (offset == offsets.FCR) _ _ (wired-control c.model value c w)
-    (wired_if (offset == offsets.LCR) _ _ w
-    (wired_if (offset == offsets.MCR) _ _ refl
-    (wired_if (offset == offsets.SPR) _ _ w w)))))
+wired-write offset value c w = write_lasts IsWiredChip offset value (wired-writes offset value) c w
 
 -- ---- the machine
 

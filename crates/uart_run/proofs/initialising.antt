@@ -1,4 +1,4 @@
--- What an `init` and an `init_with` come to, and when an `init` must succeed.
+-- What an `init` and an `init_with` come to, and when they must succeed.
 pub mod Presence
 pub mod FifoShown
 pub mod FifoSteps
@@ -6,3 +6,4 @@ pub mod Inits
 pub mod Initialised
 pub mod InitSucceeds
 pub mod SetUp
+pub mod InitWithSucceeds

@@ -8,3 +8,4 @@ pub mod Progress
 pub mod Session
 pub mod Uncut
 pub mod ReceivedErrors
+pub mod Overruns

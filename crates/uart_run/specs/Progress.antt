@@ -9,7 +9,7 @@ use Rattle.uart_16550.specs.Tty.{inner_of}
 use Rattle.uart_events.specs.declared.call.Call.{Call}
 use Rattle.uart_events.specs.declared.call.Call.TheVariants as call
 use Rattle.uart_events.specs.declared.call.Answer.{Answer}
-use Rattle.uart_events.specs.declared.call.Answer.TheVariants.{Done, Count}
+use Rattle.uart_events.specs.declared.call.Answer.TheVariants.{Done, Count, Latch}
 use Rattle.uart_events.specs.declared.event.Event.{Event}
 use Rattle.uart_events.specs.declared.event.Event.TheVariants.{Ticks, Access as Gate, Mark}
 use Rattle.uart_chip.specs.declared.transmitter.Shifting.{Shifting}
@@ -67,11 +67,14 @@ pub record HasDivisor (config : Config) : Type 0 where
   pub divisor : ℕ
   pub is_divisor : DivisorOf config (Ok divisor)
 
--- with room on the wire for what it sends, a call does not stall: an `init` from any state; a loopback test (with the
--- answer of `test_answer`), a flush, an exact send, a `write` and a text from a ready one, the last three if CTS is not
--- checked
+-- with room on the wire for what it sends, a call does not stall: an `init` and an `init_with` from any state; a
+-- `set_frame_when_idle`, a loopback test (with the answer of `test_answer`), a flush, an exact send, a `write` and a
+-- text from a ready one, the last three if CTS is not checked; and an `attach` in a ready state takes the port
 abbrev pub Succeeds : State → Call → Answer → Type 0
 Succeeds s (call.Init config) a = HasRoom 0 (machine_of s) → HasDivisor config → a ≡ Done
+Succeeds s (call.InitWith config setup) a = HasRoom 0 (machine_of s) → HasDivisor config → a ≡ Done
+Succeeds s (call.SetFrameWhenIdle config) a = Ready s → HasRoom 0 (machine_of s) → HasDivisor config → a ≡ Done
+Succeeds s call.Attach a = Ready s → (low high : ℕ) × (a ≡ Latch low high)
 Succeeds s call.TestLoopback a = Ready s → HasRoom 0 (machine_of s) → a ≡ test_answer (is_narrow (machine_of s).chip)
 Succeeds s call.Flush a = Ready s → HasRoom 0 (machine_of s) → a ≡ Done
 Succeeds s (call.SendExact bytes) a = Ready s → IsUnchecked s → HasRoom (length bytes.items) (machine_of s) → a ≡ Done

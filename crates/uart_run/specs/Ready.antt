@@ -1,8 +1,9 @@
 -- States in which a session may begin, and the outcomes of an `init` and a loopback test over the machine.
-use Rattle.std.specs.Prelude.{◌≡◌, ◌≢◌, ◌⊎◌, ◌+◌, ◌*◌, ℕ, Bool, true, false}
+use Rattle.std.specs.Prelude.{◌≡◌, ◌≢◌, ◌⊎◌, ◌↔◌, ◌+◌, ◌*◌, ℕ, Bool, true, false}
 use Rattle.std.specs.Prelude.{◌&&◌, nat_lt, Option, Some, None, Ok, bit_and}
 use Rattle.bitflags.specs.Sets.{without}
-use Rattle.uart_spec.specs.Bits.{has}
+use Rattle.uart_spec.specs.Bits.{has, has_any}
+use Rattle.uart_spec.specs.Config.{IsComputable}
 use Rattle.uart_spec.specs.Dump.{divisor_of}
 use Rattle.uart_spec.specs.declared.config.Config.{Config}
 use Rattle.uart_spec.specs.declared.dump.ConfigRegisterDump.{ConfigRegisterDump}
@@ -13,6 +14,7 @@ use Rattle.uart_spec.specs.declared.errors.LoopbackError.TheVariants.{Stalled, U
 use Rattle.uart_spec.specs.declared.registers.fifo_trigger_level.FifoTriggerLevel.{FifoTriggerLevel}
 use Rattle.uart_spec.specs.declared.registers.interrupt_status.TheConstants.ISR
 use Rattle.uart_spec.specs.declared.registers.line_control.TheConstants.LCR
+use Rattle.uart_spec.specs.declared.registers.modem_control.TheConstants.MCR
 use Rattle.uart_spec.specs.declared.setup.FifoAction.{FifoAction}
 use Rattle.uart_spec.specs.declared.setup.Setup.{Setup}
 use Rattle.uart_spec.specs.declared.setup.TransmitterWait.TheVariants.{Never as NoWait}
@@ -50,6 +52,13 @@ pub record Ready (s : State) : Type 0 where
   pub loopback : is_loopback (latches_of s) ≡ false
   pub fifo : (machine_of s).chip.fifo ≡ (fields (inner_of s)).fifo
 
+-- The machine has no break on its line: what is shifted out goes to the wire. On a line that a break holds low the same
+-- characters are lost. So what is said of the wire is said of a line only while there is no break.
+
+-- no break is on the line: LCR bit 6 is clear
+abbrev pub IsUnbroken : State → Type 0
+IsUnbroken s = has_any (latches_of s).lcr LCR.SET_BREAK.0 ≡ false
+
 -- with the driver as it is, the second machine is ready if the first is
 abbrev pub KeepsReady : MachineState → MachineState → Type 0
 KeepsReady m n =
@@ -67,11 +76,12 @@ abbrev pub is_level : Option FifoTriggerLevel → Bool
 is_level (Some level) = true
 is_level None = false
 
--- the state after an `init` that is done, whatever the machine was before it: the state is ready, and the machine
--- wired, with the divisor, the frame and the interrupts as configured, MCR 0B, an empty transmitter, and the FIFO on
--- exactly if a level is configured and the chip has one
+-- the state after an `init` that is done, whatever the machine was before it: the state is ready, with no break, and
+-- the machine wired, with the divisor, the frame and the interrupts as configured, MCR 0B, an empty transmitter, and
+-- the FIFO on exactly if a level is configured and the chip has one
 pub record IsInitialised (config : Config) (t : State) : Type 0 where
   pub ready : Ready t
+  pub unbroken : IsUnbroken t
   pub wired : IsWired t
   pub divisor_latch : DivisorOf config (Ok (divisor (latches_of t)))
   pub lcr : (latches_of t).lcr ≡ frame_bits config
@@ -105,6 +115,7 @@ pub record Frames (config : Config) (s : State) (a : Answer) (t : State) : Type 
 -- outputs that were asked for, and the transmitter is empty if there was a wait
 pub record IsSetUp (setup : Setup) (config : Config) (t : State) : Type 0 where
   pub ready : Ready t
+  pub unbroken : IsUnbroken t
   pub wired : IsWired t
   pub divisor_latch : DivisorOf config (Ok (divisor (latches_of t)))
   pub lcr : (latches_of t).lcr ≡ frame_bits config
@@ -165,6 +176,41 @@ pub record IsAttached (low high : ℕ) (s t : State) : Type 0 where
   pub latches : latches_of t ≡ latches_of s
   pub divisor_latch : divisor (latches_of t) ≡ 256 * high + low
 
+-- ---- a `check_configured`
+
+-- the registers are as the driver's configuration says: the frame, with or without a break, the interrupts and the
+-- divisor; MCR has these outputs, without loopback; and the FIFO is on exactly if the driver takes it to be on
+pub record IsConfigured (outputs : ℕ) (s : State) : Type 0 where
+  pub computable : IsComputable (fields (inner_of s)).config
+  pub lcr : without 8 (latches_of s).lcr LCR.SET_BREAK.0 ≡ frame_bits (fields (inner_of s)).config
+  pub mcr : (latches_of s).mcr ≡ unlooped outputs
+  pub ier : (latches_of s).ier ≡ (fields (inner_of s)).config.interrupts.0
+  pub divisor_latch : DivisorOf (fields (inner_of s)).config (Ok (divisor (latches_of s)))
+  pub fifo : (machine_of s).chip.fifo ≡ (fields (inner_of s)).fifo
+
+-- a `check_configured` with these outputs returns Ok exactly if the registers are so
+abbrev pub Checks : (outputs : ℕ) → State → Answer → Type 0
+Checks outputs s a = (a ≡ Done) ↔ IsConfigured outputs s
+
+-- ---- after a `set_modem_control`, a `set_rts` or a `set_dtr`
+
+-- MCR alone has changed
+pub record ChangesOutputs (s t : State) : Type 0 where
+  pub latches : latches_of t ≡ record (latches_of s) { mcr = (latches_of t).mcr }
+  pub fifo : (machine_of t).chip.fifo ≡ (machine_of s).chip.fifo
+
+-- after a `set_modem_control` the outputs are as they were asked for, and loopback is off
+pub record SetsOutputs (outputs : ℕ) (s t : State) : Type 0 where
+  pub changes : ChangesOutputs s t
+  pub mcr : (latches_of t).mcr ≡ bit_and (unlooped outputs) mcr_bits
+
+-- after a `set_rts` or a `set_dtr` one output is as it was asked for, the other outputs are as they were, and loopback
+-- is off
+pub record Switches (output : ℕ) (on : Bool) (s t : State) : Type 0 where
+  pub changes : ChangesOutputs s t
+  pub is_on : has (latches_of t).mcr output ≡ on
+  pub others : without 8 (latches_of t).mcr output ≡ without 8 (unlooped (latches_of s).mcr) output
+
 -- ---- after a loopback test
 
 -- whether characters are cut to 5 or 6 bits, so that the bytes of a loopback test do not come back as they were sent
@@ -186,14 +232,19 @@ pub record IsTested (s : State) (a : Answer) (t : State) : Type 0 where
 -- ---- each call
 
 -- the outcome of a call: an `init` initialises, and so does an `init_with`; a `set_frame` sets the frame, a
--- `set_trigger_level` the level; a `restore`, and an `attach` that succeeds, leave a ready state, whatever it was
--- before; and in a ready state a `quiesce` leaves a quiet chip, and a loopback test tests
+-- `set_trigger_level` the level, a `set_modem_control`, a `set_rts` and a `set_dtr` the outputs; a `check_configured`
+-- checks; a `restore`, and an `attach` that succeeds, leave a ready state, whatever it was before; and in a ready state
+-- a `quiesce` leaves a quiet chip, and a loopback test tests
 abbrev pub ComesTo : State → Call → Answer → State → Type 0
 ComesTo s (call.Init config) a t = Initialises config a t
 ComesTo s (call.InitWith config setup) a t = Arranges setup config a t
 ComesTo s (call.SetFrame config) a t = Frames config s a t
 ComesTo s (call.SetFrameWhenIdle config) a t = FramesWhenIdle config s a t
 ComesTo s (call.SetTriggerLevel level) a t = Levels level s a t
+ComesTo s (call.SetModemControl outputs) a t = SetsOutputs outputs.0 s t
+ComesTo s (call.SetRts on) a t = Switches MCR.RTS.0 on s t
+ComesTo s (call.SetDtr on) a t = Switches MCR.DTR.0 on s t
+ComesTo s (call.CheckConfigured outputs) a t = Checks outputs.0 s a
 ComesTo s (call.Quiesce outputs fifos) a t = Ready s → IsQuiet outputs.0 fifos s t
 ComesTo s (call.Restore dump) a t = IsRestored dump t
 ComesTo s call.Attach a t = (low high : ℕ) → a ≡ Latch low high → IsAttached low high s t

@@ -1,7 +1,8 @@
 -- Sessions, and what holds in each.
-use Rattle.std.specs.Prelude.{◌≡◌, ℕ, List, [], ◌∷◌, ◌++◌, map, take}
+use Rattle.std.specs.Prelude.{◌≡◌, ℕ, false, List, [], ◌∷◌, ◌++◌, map, take}
 use Rattle.uart_16550.specs.Expansion.{expansion}
 use Rattle.uart_spec.specs.declared.received.Received.{Received}
+use Rattle.uart_spec.specs.declared.setup.FifoAction.TheVariants.{Keep}
 use Rattle.uart_events.specs.declared.call.Call.{Call}
 use Rattle.uart_events.specs.declared.call.Call.TheVariants as call
 use Rattle.uart_events.specs.declared.call.Answer.{Answer}
@@ -13,22 +14,22 @@ use Rattle.uart_run.specs.Run.{State, machine_of, Link, Chain, IsRun}
 use Rattle.uart_run.specs.Wired.{IsWired}
 use Rattle.uart_run.specs.Statuses.{Tells}
 use Rattle.uart_run.specs.Served.{AllServe}
-use Rattle.uart_run.specs.Ready.{Ready, ComesTo}
+use Rattle.uart_run.specs.Ready.{Ready, IsUnbroken, ComesTo}
 use Rattle.uart_run.specs.Progress.{IsTimely, Succeeds}
 
--- the call is no `init`, `init_with`, `restore`, `quiesce` and no loopback test, which end a session, and no `attach`;
--- it sets no frame, after which a machine may cut characters in another way; and it writes no MCR, unless that is
--- allowed
+-- the call is no `init`, `init_with`, `restore` and no loopback test, which end a session, and no `quiesce` that writes
+-- FCR. It sets no frame: characters that are still in the transmitter would go out in another one. It sets no break:
+-- characters that are shifted out in one are lost on a line. And it writes no MCR, unless that is allowed
 abbrev pub GoesOn : (WritesControl : Type 0) → Call → Type 0
 GoesOn WritesControl (call.Init config) = ⊥
 GoesOn WritesControl (call.InitWith config setup) = ⊥
 GoesOn WritesControl (call.SetFrame config) = ⊥
 GoesOn WritesControl (call.SetFrameWhenIdle config) = ⊥
-GoesOn WritesControl call.Attach = ⊥
+GoesOn WritesControl (call.SetBreak on) = on ≡ false
 GoesOn WritesControl (call.SetModemControl outputs) = WritesControl
 GoesOn WritesControl (call.SetRts on) = WritesControl
 GoesOn WritesControl (call.SetDtr on) = WritesControl
-GoesOn WritesControl (call.Quiesce outputs fifos) = ⊥
+GoesOn WritesControl (call.Quiesce outputs fifos) = WritesControl × (fifos ≡ Keep)
 GoesOn WritesControl (call.Restore dump) = ⊥
 GoesOn WritesControl call.TestLoopback = ⊥
 GoesOn WritesControl other = Unit {0}
@@ -116,10 +117,11 @@ abbrev pub overflows : State → ℕ
 overflows s = (machine_of s).chip.transmitter.overflows
 
 -- the wire and the transmitter grew by what was reported, no data write met a full transmitter, what was received and
--- what is in the receiver is what was kept; an `lsr` or `msr` at the end reports drops, line errors and changes; and
--- each call does at least what it is for
+-- what is in the receiver is what was kept; there is no break on the line if there was none at the start; an `lsr` or
+-- `msr` at the end reports drops, line errors and changes; and each call does at least what it is for
 pub record Conserves (s : State) (links : List Link) (t : State) : Type 0 where
   pub ready : Ready t
+  pub unbroken : IsUnbroken s → IsUnbroken t
   pub sent : out (machine_of t) ≡ out (machine_of s) ++ map (cut_of (machine_of s).chip) (reported links)
   pub no_overflow : overflows t ≡ overflows s
   pub kept : received links ++ waiting (machine_of t) ≡ kept (machine_of s) (machine_of t)

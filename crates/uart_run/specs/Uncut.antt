@@ -13,7 +13,7 @@ use Rattle.uart_run.specs.Chains.{EachLink}
 use Rattle.uart_run.specs.Run.{State, machine_of, Link, Chain, IsRun}
 use Rattle.uart_run.specs.Served.{AllServe, IsFlushed}
 use Rattle.uart_run.specs.Statuses.{Tells}
-use Rattle.uart_run.specs.Ready.{Ready}
+use Rattle.uart_run.specs.Ready.{Ready, IsUnbroken}
 use Rattle.uart_run.specs.Progress.{IsTimely, HasRoom}
 use Rattle.uart_run.specs.Session.{GoesOn, AllCalls, reported, received, overflows, AllFollow}
 use Rattle.uart_run.specs.Wired.{IsWired}
@@ -29,9 +29,9 @@ IsUncut s = (machine_of s).chip.cuts ≡ false
 abbrev pub entered_uncut : MachineState → MachineState → List Character
 entered_uncut m n = m.chip.receiver.queue ++ arriving m.chip.receiver.arrived (between m n)
 
--- the same calls go on with a session as on any machine, and also a `set_frame` and a `set_frame_when_idle`
+-- the same calls go on with a session as on any machine, and also a `set_frame_when_idle`, which waits until the
+-- transmitter is empty
 abbrev pub GoesOnUncut : (WritesControl : Type 0) → Call → Type 0
-GoesOnUncut WritesControl (call.SetFrame config) = Unit {0}
 GoesOnUncut WritesControl (call.SetFrameWhenIdle config) = Unit {0}
 GoesOnUncut WritesControl other = GoesOn WritesControl other
 
@@ -50,6 +50,7 @@ kept_uncut m n = map (λ character. character.byte) (filter (stands n.chip.recei
 -- characters that entered
 pub record ConservesUncut (s : State) (links : List Link) (t : State) : Type 0 where
   pub ready : Ready t
+  pub unbroken : IsUnbroken s → IsUnbroken t
   pub sent : out (machine_of t) ≡ out (machine_of s) ++ reported links
   pub no_overflow : overflows t ≡ overflows s
   pub kept : received links ++ waiting (machine_of t) ≡ kept_uncut (machine_of s) (machine_of t)

@@ -1,9 +1,17 @@
 //! Laws of driver and machine together. They follow from the contracts.
 //!
 //! The contract of each function is a law that callers can cite. The functions do nothing.
-ghost use Rattle.std.specs.Prelude.{◌≡◌, ℕ, Bool, List, true};
-ghost use Rattle.uart_16550.specs.Driver.{Made, backend_of, fields};
+ghost use Rattle.std.specs.Prelude.{◌≡◌, ℕ, Bool, List, true, Ok};
+ghost use Rattle.uart_16550.specs.Configured.{Verdict, ChecksConfigured};
+ghost use Rattle.uart_16550.specs.Driver.{Did, Made, backend_of, fields};
 ghost use Rattle.uart_16550.specs.Frame.{SetsBreak, SetsOutput};
+ghost use Rattle.uart_16550.specs.Init.{Inits};
+ghost use Rattle.uart_16550.specs.Setup.{InitsWith};
+ghost use Rattle.uart_chip.specs.Masks.{ier_bits, mcr_bits};
+ghost use Rattle.uart_spec.specs.Bits.{IsWithin};
+ghost use Rattle.uart_spec.specs.Config.{IsComputable};
+ghost use Rattle.uart_spec.specs.declared.config.Config.{Config};
+ghost use Rattle.uart_spec.specs.declared.setup.Setup.{Setup};
 ghost use Rattle.uart_16550.specs.Receive.{ReceivesWithErrors};
 ghost use Rattle.uart_spec.specs.declared.registers.modem_control.TheConstants.MCR;
 ghost use Rattle.uart_16550.specs.declared.driver.Uart16550.{Uart16550};
@@ -13,8 +21,11 @@ ghost use Rattle.uart_chip.specs.Machine.{MachineState, MachineStep, fresh, cutt
 ghost use Rattle.uart_events.specs.declared.event.Chip.{Chip};
 ghost use Rattle.uart_events.specs.declared.event.Event.{Event};
 ghost use Rattle.uart_spec.specs.declared.access.Access.{Access};
+ghost use Rattle.uart_spec.specs.declared.access.Access.TheVariants.{Read};
+ghost use Rattle.uart_spec.specs.declared.registers.offsets.TheConstants as offsets;
 ghost use Rattle.uart_run.specs.Wired.{IsWiredChip};
 ghost use Rattle.uart_run.specs.Ready.{KeepsReady, Ready};
+ghost use Rattle.uart_run.specs.Overruns.{FlagTells, LeavesReceiver, OverrunsStand};
 ghost use Rattle.uart_run.specs.ReceivedErrors.{ReceivedExactly, under_terminal};
 
 use uart_16550::Uart16550;
@@ -43,6 +54,67 @@ pub fn received_errors_are_exact(uart: &Uart16550<Device16550>)
         Ready (under_terminal uart.now) → (fields uart.now).fifo ≡ true →
         Made MachineStep (ReceivesWithErrors slots items) uart.now after →
         ReceivedExactly (backend_of uart.now) items (backend_of after) }
+{
+    // The contract of this call states what holds of every machine.
+    let _fifo = uart.backend().fifo_enabled();
+}
+
+/// With the FIFO on, an overrun at a byte that `receive_with_errors` returns tells that a character
+/// was lost right behind the 15th or the 16th byte from this one on, and not before this one: it
+/// came while the FIFO was full, so all that waited there are older. These are bytes that the call
+/// returns, and then bytes that are in the receiver after it.
+///
+/// If the overrun flag was set before the call, it has to tell the same of the characters that
+/// wait. After the call it does so again. It does so after each look at LSR, with which `init` ends
+/// but for accesses that take no character and reset no FIFO; and after those it does so still.
+///
+/// # Examples
+///
+/// ```
+/// overruns_tell_where_a_byte_is_lost(&uart);
+/// ```
+pub fn overruns_tell_where_a_byte_is_lost(uart: &Uart16550<Device16550>)
+    ensures stand { (after : Uart16550 MachineState) (slots : ℕ) (items : List Received) →
+        Ready (under_terminal uart.now) → (fields uart.now).fifo ≡ true →
+        FlagTells (backend_of uart.now).chip.receiver →
+        Made MachineStep (ReceivesWithErrors slots items) uart.now after →
+        OverrunsStand (backend_of uart.now) items (backend_of after) }
+    ensures looks { (line : ℕ) (after : MachineState) →
+        MachineStep (backend_of uart.now) (Read offsets.LSR line) after →
+        FlagTells after.chip.receiver }
+    ensures accesses { (access : Access) (after : MachineState) →
+        Ready (under_terminal uart.now) → (fields uart.now).fifo ≡ true → LeavesReceiver access →
+        MachineStep (backend_of uart.now) access after →
+        FlagTells (backend_of uart.now).chip.receiver → FlagTells after.chip.receiver }
+{
+    // The contract of this call states what holds of every machine.
+    let _fifo = uart.backend().fifo_enabled();
+}
+
+/// After an `init` that returns Ok, `check_configured` with `MCR::READY` returns Ok, and after an
+/// `init_with` that returns Ok, so does one with the outputs that it wrote. The configuration may
+/// enable only the four interrupts that the chip has, and the outputs be only those that it has: it
+/// shows no other bit.
+///
+/// # Examples
+///
+/// ```
+/// configured_chips_pass_the_check(&uart);
+/// ```
+pub fn configured_chips_pass_the_check(uart: &Uart16550<Device16550>)
+    ensures init { (config : Config) (after later : Uart16550 MachineState) (found : Verdict) →
+        IsComputable config → IsWithin config.interrupts.0 ier_bits →
+        Did MachineStep (Inits config (Ok (tt {0}))) uart.now after →
+        Made MachineStep (ChecksConfigured (fields after).config MCR.READY.0 found) after later →
+        found ≡ Ok tt }
+    ensures init_with { (setup : Setup) (config : Config) (after later : Uart16550 MachineState)
+        (found : Verdict) →
+        IsComputable config → IsWithin config.interrupts.0 ier_bits →
+        IsWithin setup.outputs.0 mcr_bits →
+        Did MachineStep (InitsWith setup config (Ok (tt {0}))) uart.now after →
+        Made MachineStep (ChecksConfigured (fields after).config setup.outputs.0 found)
+        after later →
+        found ≡ Ok tt }
 {
     // The contract of this call states what holds of every machine.
     let _fifo = uart.backend().fifo_enabled();

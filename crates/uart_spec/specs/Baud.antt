@@ -34,14 +34,17 @@ IsDivisorAnswer frequency baud_rate factor (Err (NonInteger error)) =
 abbrev pub distance : ℕ → ℕ → ℕ
 distance a b = (a - b) + (b - a)
 
--- of the factors that are at least 1 it is the one whose product with the ticks is nearest to the frequency, and the
--- larger one if two are equally near
+-- a factor gives the rate of the frequency divided by the factor, and the ticks are the rate that is wanted. Of the
+-- factors that are at least 1 it is the one whose rate is nearest to that, and the larger one if two are equally near.
+-- The two differences are `distance (ticks * factor) frequency / factor`; they are compared crosswise
 pub record IsNearestFactor (frequency ticks factor : ℕ) : Type 0 where
   pub some : 1 ≤ factor
-  pub nearest : (other : ℕ) → 1 ≤ other → distance (ticks * factor) frequency ≤ distance (ticks * other) frequency
-  pub largest : (other : ℕ) → factor < other → distance (ticks * factor) frequency < distance (ticks * other) frequency
+  pub nearest : (other : ℕ) → 1 ≤ other →
+      distance (ticks * factor) frequency * other ≤ distance (ticks * other) frequency * factor
+  pub largest : (other : ℕ) → factor < other →
+      distance (ticks * factor) frequency * other < distance (ticks * other) frequency * factor
 
--- no divisor gives the baud rate at a frequency that is nearer to this one, and no larger one at one that is as near
+-- no divisor gives a rate that is nearer to this baud rate, and no larger one a rate that is as near
 abbrev pub IsNearestDivisor : (frequency baud_rate : ℕ) → Option ℕ → (divisor : ℕ) → Type 0
 IsNearestDivisor frequency baud_rate factor divisor =
     IsNearestFactor frequency (16 * (prescaler factor + 1) * baud_rate) divisor

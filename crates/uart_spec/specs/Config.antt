@@ -25,15 +25,21 @@ IsNearestFor config divisor =
 abbrev pub Fits : Config → (divisor : ℕ) → Type 0
 Fits config divisor = (divisor ≤ 65535) × (exact_frequency config divisor < 2 ^ 32)
 
+-- no divisor gives a rate that is near enough
+abbrev pub NoneIsNear : Config → (per_mille : ℕ) → Type 0
+NoneIsNear config per_mille =
+    (divisor : ℕ) → 1 ≤ divisor →
+    per_mille * exact_frequency config divisor < 1000 * distance (exact_frequency config divisor) config.frequency
+
 -- the configuration with the frequency at which the nearest divisor is exact, so that it is the one that the exact
--- arithmetic computes, and this frequency is near enough; or the nearest divisor, which does not fit, or fits and is
--- too far off
+-- arithmetic computes, and the rate is near enough; or the nearest divisor, which does not fit, or fits and is too far
+-- off, as each other divisor then is
 abbrev pub IsNearestAnswer : Config → (per_mille : ℕ) → Result Config NearestDivisorError → Type 0
 IsNearestAnswer config per_mille (Ok near) = (divisor : ℕ) × IsNearestFor config divisor
     × (near ≡ record config { frequency = exact_frequency config divisor })
     × IsDivisorAnswer near.frequency (to_integer near.baud_rate) near.prescaler_division_factor (Ok divisor)
     × IsNear config.frequency near.frequency per_mille
 IsNearestAnswer config per_mille (Err (TooFar divisor)) = IsNearestFor config divisor × Fits config divisor
-    × (per_mille * exact_frequency config divisor < 1000 * distance (exact_frequency config divisor) config.frequency)
+    × NoneIsNear config per_mille
 IsNearestAnswer config per_mille (Err (OutOfRange divisor)) = IsNearestFor config divisor
     × ((65535 < divisor) ⊎ (2 ^ 32 ≤ exact_frequency config divisor))

@@ -11,6 +11,8 @@ use Rattle.uart_spec.specs.declared.registers.frame.WordLength.{WordLength}
 use Rattle.uart_spec.specs.declared.registers.frame.WordLength.TheVariants as word
 use Rattle.uart_spec.specs.declared.registers.interrupt_type.InterruptType.{InterruptType}
 use Rattle.uart_spec.specs.declared.registers.interrupt_type.InterruptType.TheVariants as interrupt
+use Rattle.uart_spec.specs.declared.setup.FifoSize.{FifoSize}
+use Rattle.uart_spec.specs.declared.setup.FifoSize.TheVariants as size
 
 -- each item of the list comes before the next one
 abbrev pub IsAscending : {A : Type 0} → (A → A → Ordering) → List A → Type 0
@@ -45,3 +47,7 @@ word_lengths = word.FiveBits ∷ word.SixBits ∷ word.SevenBits ∷ word.EightB
 
 abbrev pub parities : List Parity
 parities = parity.Disabled ∷ parity.Odd ∷ parity.Even ∷ parity.Forced1 ∷ parity.Forced0 ∷ []
+
+abbrev pub fifo_sizes : List FifoSize
+fifo_sizes =
+    size.Sixteen ∷ size.ThirtyTwo ∷ size.SixtyFour ∷ size.OneHundredTwentyEight ∷ size.TwoHundredFiftySix ∷ []

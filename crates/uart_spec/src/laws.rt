@@ -7,7 +7,8 @@ ghost use Rattle.std.specs.Ordering.{nat_cmp, bool_cmp};
 ghost use Rattle.std.specs.declared.cmp.Ordering.TheVariants.{Less};
 ghost use Rattle.uart_spec.specs.Divisors.{divisors};
 ghost use Rattle.uart_spec.specs.Orders.{IsAscending, in_turn, partial_in_turn};
-ghost use Rattle.uart_spec.specs.Orders.{interrupt_types, parities, trigger_levels, word_lengths};
+ghost use Rattle.uart_spec.specs.Orders.{fifo_sizes, interrupt_types, parities, trigger_levels};
+ghost use Rattle.uart_spec.specs.Orders.{word_lengths};
 ghost use Rattle.uart_spec.specs.declared.baud.TheConstants.{CLK_FREQUENCY_HZ};
 ghost use Rattle.uart_spec.specs.declared.baud.TheConstants.{FIFO_SIZE, NUM_REGISTERS};
 ghost use Rattle.uart_spec.specs.declared.config.BaudRate.{BaudRate};
@@ -22,6 +23,7 @@ ghost use Rattle.uart_spec.specs.declared.errors.InvalidDivisorError.TheVariants
 };
 ghost use Rattle.uart_spec.specs.declared.errors.NonIntegerBaudRateError.{NonIntegerBaudRateError};
 ghost use Rattle.uart_spec.specs.declared.errors.NonIntegerDivisorError.{NonIntegerDivisorError};
+ghost use Rattle.uart_spec.specs.declared.received.Received.{Received};
 ghost use Rattle.uart_spec.specs.declared.registers.divisors.Divisor.{Divisor};
 ghost use Rattle.uart_spec.specs.declared.registers.divisors.Divisor.TheVariants.{Divisor1};
 ghost use Rattle.uart_spec.specs.declared.registers.fifo_control.FCR.{FCR};
@@ -44,16 +46,20 @@ ghost use Rattle.uart_spec.specs.declared.registers.modem_control.TheConstants.M
 ghost use Rattle.uart_spec.specs.declared.registers.modem_status.MSR.{MSR};
 ghost use Rattle.uart_spec.specs.declared.registers.offsets.TheConstants as offsets;
 ghost use Rattle.uart_spec.specs.declared.registers.prescaler_division.PSD.{PSD};
+ghost use Rattle.uart_spec.specs.declared.setup.FifoSize.{FifoSize};
+ghost use Rattle.uart_spec.specs.declared.setup.FifoSize.TheVariants.{Sixteen};
 ghost use Rattle.uart_spec.specs.declared.setup.TheConstants.Setup.{DEFAULT as DEFAULT_SETUP};
 ghost use Rattle.uart_spec.specs.declared.setup.TransmitterWait.TheVariants.{Last};
 
 use crate::config::{BaudRate, Config};
 use crate::dump::ConfigRegisterDump;
 use crate::errors::{InvalidDivisorError, NonIntegerBaudRateError, NonIntegerDivisorError};
+use crate::received::Received;
 use crate::registers::{
     Divisor, FCR, FifoTriggerLevel, IER, ISR, InterruptType, LCR, LSR, MCR, MSR, PSD, Parity,
     WordLength,
 };
+use crate::setup::FifoSize;
 
 /// The default value of each type.
 pub fn defaults_are_these()
@@ -83,6 +89,10 @@ pub fn defaults_are_these()
     ensures divisor_error { (error : NonIntegerDivisorError) →
         ⟦<NonIntegerDivisorError as Default>⟧.is_default error →
         error ≡ record { frequency = 0; baud_rate = 0; prescaler_division_factor = None } }
+    ensures fifo_size { (size : FifoSize) → ⟦<FifoSize as Default>⟧.is_default size →
+        size ≡ Sixteen }
+    ensures received { (received : Received) → ⟦<Received as Default>⟧.is_default received →
+        received ≡ record { byte = 0; errors = record { 0 = 0 } } }
 {}
 
 /// The default configuration, field by field.
@@ -115,6 +125,7 @@ pub fn cases_are_in_order()
         ⟦<InvalidDivisorError as PartialOrd>⟧.partial_cmp (NonInteger error) (OutOfRange divisor) ≡
         Some Less }
     ensures divisors { IsAscending ⟦<Divisor as Ord>⟧.cmp divisors }
+    ensures fifo_sizes { IsAscending ⟦<FifoSize as Ord>⟧.cmp fifo_sizes }
 {}
 
 /// Structs are compared by their fields, in this order.

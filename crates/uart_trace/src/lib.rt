@@ -10,6 +10,7 @@
 #![tactic(auto)]
 
 mod comments;
+pub mod laws;
 mod lines;
 mod listener;
 mod recorder;

@@ -8,7 +8,7 @@ use Rattle.uart_ring_runs.specs.declared.call.RingCall.{RingCall}
 use Rattle.uart_ring_runs.specs.declared.call.RingCall.TheVariants as call
 use Rattle.uart_ring_runs.specs.declared.call.RingAnswer.{RingAnswer}
 use Rattle.uart_ring_runs.specs.declared.call.RingAnswer.TheVariants as answer
-use Rattle.uart_ring_runs.specs.RingBytes.{taken, taken_by, to_take}
+use Rattle.uart_ring_runs.specs.RingBytes.{taken, taken_by, to_take, TakesInTurn, AllTakeInTurn}
 use Rattle.uart_ring_runs.specs.RingRun.{RingState, RingLink, ring_machine, under}
 use Rattle.uart_ring_runs.specs.RingSession.{IsWithinRingSession, AllWithinRingSession, RanRing, RingConserves}
 
@@ -62,6 +62,19 @@ no_adjust s n (a ∷ b ∷ c ∷ []) calls =
     (subst W (sym next) tt, (subst W (sym service) tt, (subst W (sym take) tt, tt)))
 no_adjust s n (a ∷ b ∷ c ∷ d ∷ links) calls = absurd (cc (calls))
 
+-- no call of the driver receives
+in_turn : (n : ℕ) (links : List RingLink) → calls_of links ≡ call.Next ∷ call.Service ∷ call.Take n ∷ [] → AllTakeInTurn links
+in_turn n [] calls = absurd (cc (calls))
+in_turn n (a ∷ []) calls = absurd (cc (calls))
+in_turn n (a ∷ b ∷ []) calls = absurd (cc (calls))
+in_turn n (a ∷ b ∷ c ∷ []) calls =
+    let next : a.call ≡ call.Next = cc (calls) in
+    let service : b.call ≡ call.Service = cc (calls) in
+    let take : c.call ≡ call.Take n = cc (calls) in
+    let T : RingLink → RingCall → Type 0 = λ link made. TakesInTurn made (to_take link.before) in
+    (subst (T a) (sym next) tt, (subst (T b) (sym service) tt, (subst (T c) (sym take) tt, tt)))
+in_turn n (a ∷ b ∷ c ∷ d ∷ links) calls = absurd (cc (calls))
+
 -- what these calls conserve
 pub marked_conserves : (s t : RingState) (n : ℕ) (answers : List RingAnswer) →
     (ran : RanRing s (call.Next ∷ call.Service ∷ call.Take n ∷ []) answers t) → Ready (under s) → RingConserves s ran.run.links t
@@ -77,7 +90,7 @@ received s t n answers other bytes ran ready is =
     let c = marked_conserves s t n answers ran ready in
     ap (λ xs. xs ++ (to_take t ++ waiting (ring_machine t)))
     (is ∙ (sym (last_took n answers other ran.run.links ran.run.calls_same ran.run.answers_same) ∙
-    sym (c.all_taken (no_clear n ran.run.links ran.run.calls_same)))) ∙ c.kept
+    sym (c.all_taken (no_clear n ran.run.links ran.run.calls_same)))) ∙ c.kept (in_turn n ran.run.links ran.run.calls_same)
 
 -- no other answer has bytes
 pub none_taken : (n : ℕ) (a : RingAnswer) → ((bytes : _) → a ≡ answer.Bytes bytes → ⊥) → [] ≡ taken_by (call.Take n) a
@@ -89,4 +102,5 @@ none_taken n (answer.Modem modem) isnt = refl
 none_taken n (answer.Replaced replaced) isnt = refl
 none_taken n (answer.Low low) isnt = refl
 none_taken n (answer.Tried tried) isnt = refl
+none_taken n (answer.Driver a) isnt = refl
 none_taken n answer.Done isnt = refl

@@ -1,7 +1,7 @@
 //! Callers of `run_ring` that begin a session.
 ghost use Rattle.std.specs.Prelude.{◌≡◌, List, [], All, IfOk, length};
 ghost use Rattle.uart_ring_runs.specs.RingBytes.{to_send, to_take};
-ghost use Rattle.uart_ring_runs.specs.RingRun.{IsRingRunnable, RingLink, RingState, under};
+ghost use Rattle.uart_ring_runs.specs.RingRun.{IsOfRings, IsRingRunnable, RingLink, RingState, under};
 ghost use Rattle.uart_ring_runs.specs.RingSession.{RingConserves};
 ghost use Rattle.uart_run.specs.Chains.{answers_of, calls_of};
 ghost use Rattle.uart_run.specs.Ready.{Ready};
@@ -49,8 +49,9 @@ pub fn start_rings(
     }
 }
 
-/// Starts rings as `start_rings` does, and makes the calls. They are a session that begins with
-/// empty rings, so all that holds of a session holds of them.
+/// Starts rings as `start_rings` does, and makes the calls, which are the rings' own: one of the
+/// driver could end the session. They are a session that begins with empty rings, so all that holds
+/// of a session holds of them.
 pub fn run_from_init(
     alloc: Global,
     uart: Uart16550<Device16550>,
@@ -60,6 +61,7 @@ pub fn run_from_init(
 ) -> Result<Uart16550Ring<Device16550>, StartError>
     requires computable { IsComputable config }
     requires runnable { All IsRingRunnable calls.now }
+    requires of_rings { All IsOfRings calls.now }
     requires slots { length calls.now ≡ length answers.old }
     ensures { IfOk result (λ ring. (begins : RingState) × (links : List RingLink)
         × (to_send begins ≡ []) × (to_take begins ≡ [])

@@ -33,6 +33,11 @@ pub fn obey_signals<H: Host>(host: &mut H, todo: Todo) {
 
 /// Does what a call asks for, in a monitor whose interrupt controller takes levels.
 pub fn obey_levels<H: Host>(host: &mut H, todo: Todo) {
+    if todo.signal {
+        // The line may have fallen and risen. A pin that detects edges, as those of a PC do, sees
+        // that only so.
+        host.set_line(false);
+    }
     host.set_line(todo.level);
     if todo.has_room {
         host.resume_input();

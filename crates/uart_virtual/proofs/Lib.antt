@@ -3,6 +3,7 @@ pub mod Times
 pub mod Sends
 pub mod Waits
 pub mod Stays
+mod Rooms
 mod Quiet
 mod Passes
 mod Polls

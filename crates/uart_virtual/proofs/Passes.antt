@@ -7,12 +7,12 @@ use Rattle.uart_spec.specs.Bits.{has_any}
 use Rattle.uart_spec.specs.declared.registers.line_status.TheConstants.LSR
 use Rattle.uart_spec.specs.declared.registers.offsets.TheConstants as offsets
 use Rattle.uart_chip.specs.declared.transmitter.Shifting.{Shifting}
-use Rattle.uart_chip.specs.Chip.{ChipState, after_read, after_write, answer, line_status, take_wire}
+use Rattle.uart_chip.specs.Chip.{ChipState, after_read, after_write, line_status, take_wire}
 use Rattle.uart_chip.specs.Receiver.{has_errors}
 use Rattle.uart_chip.specs.Sending.{send_at_once, sends_at_once}
 use Rattle.uart_chip.specs.Transmitter.{held, shift_bytes}
 use Rattle.uart_live.proofs.Quick as quick
-use Rattle.uart_live.proofs.Sends.{Sends, each, sends, unset}
+use Rattle.uart_live.proofs.Sends.{Sends, each, sends}
 use Rattle.uart_live.specs.Live.{IsLive}
 use Rattle.uart_live.specs.Quick.{clear_status, passed}
 use Rattle.uart_virtual.specs.declared.told.Kind.{Kind}
@@ -20,11 +20,12 @@ use Rattle.uart_virtual.specs.declared.told.Seen.{Seen}
 use Rattle.uart_virtual.specs.declared.told.Todo.{Todo}
 use Rattle.uart_virtual.specs.declared.told.Told.{Told}
 use Rattle.uart_virtual.specs.Port.{PortState, PortCall, Read, Write, TakeOutput, IsPort, IsStill, IsTold, after, todo, tell, todo_of}
-use Rattle.uart_virtual.specs.Port.{kind_of, stays_up, settle, settle_ticks, is_up, has_room, idle, ignores_falls, is_quiet, seen_of}
+use Rattle.uart_virtual.specs.Port.{kind_of, stays_up, settle, settle_ticks, is_up, ignores_falls, seen_of, room_after, told_after}
+use Rattle.uart_virtual.specs.Port.{todo_after}
 use Rattle.uart_virtual.specs.Port.{passes, nothing_new}
 use Rattle.uart_virtual.proofs.Quiet.{IsQuiet, quiet_read, quiet_kind, quiet_told, quiet_tell, quiet_todo, take_kind}
 use Rattle.uart_virtual.proofs.Sends.{settle-sent, same_told, same_todo}
-use Rattle.uart_virtual.proofs.Tells.{nothing_told, nothing_todo}
+use Rattle.uart_virtual.proofs.Tells.{nothing_told, nothing_todo, told_holds}
 use Rattle.uart_virtual.proofs.Times.{still_read, still_ticks}
 
 -- ---- the byte is taken
@@ -47,7 +48,7 @@ passing_parts p e =
 
 -- the kind of the write
 abbrev pub sending : Kind
-sending = record { brings = false; looks = false; moves_data = true }
+sending = record { brings = false; looks = false; moves_data = true; may_make_room = false }
 
 -- nothing is left to happen to the chip then
 pub still_passed : (c : ChipState) → IsStill c → IsStill (passed c)
@@ -90,7 +91,7 @@ taken_after value p w h e =
     let same : take_wire 1 d ≡ passed c = sym (quick.pass value c parts.none) in
     let still : settle (passed c) ≡ passed c =
     still_ticks settle_ticks (passed c) (quick.live-pass c w).whole.sound.chip (still_passed c h.still) in
-    let told : IsTold (record { chip = passed c; told = t }) = record { line = refl; room = refl } in
+    let told : IsTold (record { chip = passed c; told = t }) = told_holds sending false (passed c) p.told in
     ap (λ (q : PortState). after (TakeOutput 1) q) (written value p w h e) ∙
     (ap (λ (x : ChipState). record { chip = settle x; told = tell (kind_of (TakeOutput 1) d) (is_up x) (settle x) t }) same ∙
     (ap (λ (x : ChipState). record { chip = x; told = tell (kind_of (TakeOutput 1) d) (is_up (passed c)) x t }) still ∙
@@ -124,22 +125,52 @@ take_todo value p w h e =
     let same : take_wire 1 d ≡ passed c = sym (quick.pass value c parts.none) in
     let still : settle (passed c) ≡ passed c =
     still_ticks settle_ticks (passed c) (quick.live-pass c w).whole.sound.chip (still_passed c h.still) in
-    let told : IsTold (record { chip = passed c; told = t }) = record { line = refl; room = refl } in
+    let told : IsTold (record { chip = passed c; told = t }) = told_holds sending false (passed c) p.told in
     ap (λ (q : PortState). todo (TakeOutput 1) q) (written value p w h e) ∙
     (ap (λ (x : ChipState). todo_of (kind_of (TakeOutput 1) d) (is_up x) (settle x) t) same ∙
     (ap (λ (x : ChipState). todo_of (kind_of (TakeOutput 1) d) (is_up (passed c)) x t) still ∙
     (ap (λ (kind : Kind). todo_of kind (is_up (passed c)) (passed c) t) (take_kind 1 d none) ∙
     sym (nothing_todo (passed c) t told))))
 
--- what is seen of the chip then
-pub seen_passed : (c : ChipState) (told : Told) (seen : Seen) → IsTold (record { chip = c; told = told }) → c.transmitter.wire ≡ [] →
-    seen.level ≡ is_up (passed c) → seen.has_room ≡ told.has_room → seen.fifo ≡ c.fifo → seen.ready ≡ 0 → seen ≡ seen_of (passed c)
-seen_passed c told seen h none level some fifo ready =
+-- what is seen of the chip then, but for its room: the monitor knows of as much room as before
+abbrev pub shown_passed : ChipState → Told → Seen
+shown_passed c told =
+    record {
+      level = is_up (passed c);
+      has_room = told.has_room;
+      is_empty = false;
+      fifo = c.fifo;
+      ready = length c.transmitter.wire;
+    }
+
+-- a byte of output is no news, and the room that is known stays
+same_room : (c : ChipState) (told : Told) → IsTold (record { chip = c; told = told }) →
+    room_after sending (shown_passed c told) told ≡ room_after sending (seen_of (passed c)) told
+same_room c told h = known_again told.has_room ∙ h.room
+  where
+    known_again : (known : Bool) → (known && (known || (false || false))) ≡ known
+    known_again true = refl
+    known_again false = refl
+
+pub told_passed : (c : ChipState) (told : Told) → IsTold (record { chip = c; told = told }) →
+    told_after sending false (shown_passed c told) told ≡ tell sending false (passed c) told
+told_passed c told h = ap (λ (some : Bool). record (tell sending false (passed c) told) { has_room = some }) (same_room c told h)
+
+pub todo_passed : (c : ChipState) (told : Told) → IsTold (record { chip = c; told = told }) →
+    todo_after sending false (shown_passed c told) told ≡ todo_of sending false (passed c) told
+todo_passed c told h =
+    ap (λ (some : Bool). record (todo_of sending false (passed c) told) { has_room = some && not told.has_room }) (same_room c told h)
+
+-- what the call looked at is that
+pub seen_passed : (c : ChipState) (told : Told) (seen : Seen) → c.transmitter.wire ≡ [] → seen.level ≡ is_up (passed c) →
+    seen.has_room ≡ told.has_room → seen.is_empty ≡ false → seen.fifo ≡ c.fifo → seen.ready ≡ 0 → seen ≡ shown_passed c told
+seen_passed c told seen none level some empty fifo ready =
     ap (λ (b : Bool). record seen { level = b }) level ∙
-    (ap (λ (b : Bool). record seen { level = is_up (passed c); has_room = b }) (some ∙ h.room) ∙
-    (ap (λ (b : Bool). record seen { level = is_up (passed c); has_room = has_room c; fifo = b }) fifo ∙
-    ap (λ (n : ℕ). record { level = is_up (passed c); has_room = has_room c; fifo = c.fifo; ready = n })
-    (ready ∙ ap (λ (wire : List ℕ). length wire) (sym none))))
+    (ap (λ (b : Bool). record seen { level = is_up (passed c); has_room = b }) some ∙
+    (ap (λ (b : Bool). record seen { level = is_up (passed c); has_room = told.has_room; is_empty = b }) empty ∙
+    (ap (λ (b : Bool). record seen { level = is_up (passed c); has_room = told.has_room; is_empty = false; fifo = b }) fifo ∙
+    ap (λ (n : ℕ). record { level = is_up (passed c); has_room = told.has_room; is_empty = false; fifo = c.fifo; ready = n })
+    (ready ∙ ap (λ (wire : List ℕ). length wire) (sym none)))))
 
 -- ---- reads of LSR
 
@@ -196,7 +227,7 @@ clear_keeps p x h read left = go (is_some (clear_status p.chip)) refl
 
 pub passed_port : (p : PortState) → IsPort p →
     IsPort (record { chip = passed p.chip; told = tell sending false (passed p.chip) p.told })
-passed_port p h = record { told = record { line = refl; room = refl }; still = still_passed p.chip h.still }
+passed_port p h = record { told = told_holds sending false (passed p.chip) p.told; still = still_passed p.chip h.still }
 
 -- the same of values that are equal to these
 pub is_passed : (p : PortState) (x : ChipState) (t : Told) → x ≡ passed p.chip → t ≡ tell sending false (passed p.chip) p.told →

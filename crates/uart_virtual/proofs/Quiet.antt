@@ -1,5 +1,5 @@
 -- A read that is quiet, and output that is taken while the transmitter is empty, leave nothing to be told.
-use Rattle.std.proofs.Common.{◌≡◌, ℕ, Bool, true, false, not, ◌&&◌, ◌==◌, length, refl, ap, sym, ◌∙◌, subst, arith}
+use Rattle.std.proofs.Common.{◌≡◌, ℕ, Bool, true, false, not, ◌&&◌, ◌||◌, ◌==◌, length, refl, ap, sym, ◌∙◌, subst, arith}
 use Rattle.std.proofs.lemmas.Grind.{common_steps}
 use Rattle.uart_spec.specs.Bits.{has_any}
 use Rattle.uart_spec.specs.declared.registers.line_status.TheConstants.LSR
@@ -10,7 +10,7 @@ use Rattle.uart_live.proofs.Sends.{each, unset}
 use Rattle.uart_virtual.specs.declared.told.Kind.{Kind}
 use Rattle.uart_virtual.specs.declared.told.Told.{Told}
 use Rattle.uart_virtual.specs.declared.told.Todo.{Todo}
-use Rattle.uart_virtual.specs.Port.{PortCall, Read, TakeOutput, kind_of, settle, is_up, has_room, is_quiet, idle, IsTold}
+use Rattle.uart_virtual.specs.Port.{PortCall, Read, TakeOutput, kind_of, settle, is_up, has_room, is_empty, is_quiet, idle, IsTold}
 use Rattle.uart_virtual.specs.Port.{tell, todo_of}
 use Rattle.uart_virtual.proofs.Stays.{quiet_status}
 
@@ -18,6 +18,7 @@ use Rattle.uart_virtual.proofs.Stays.{quiet_status}
 pub record IsQuiet (offset : ℕ) (c : ChipState) : Type 0 where
   pub line : is_up (after_read offset c) ≡ is_up c
   pub room : has_room (after_read offset c) ≡ has_room c
+  pub empty : is_empty (after_read offset c) ≡ is_empty c
   pub other : (offset == offsets.DATA) ≡ false
   pub unseen : (offset == offsets.ISR) ≡ false
 
@@ -25,6 +26,7 @@ quiet_lsr : (c : ChipState) → is_quiet offsets.LSR (answer offsets.LSR c) ≡ 
 quiet_lsr c e = record {
   line = quiet_status c (unset (has_any (line_status c) LSR.LINE_ERRORS.0) e);
   room = refl;
+  empty = refl;
   other = refl;
   unseen = refl;
 }
@@ -47,13 +49,18 @@ quiet_read offset c e = go (offset == offsets.LSR) refl
         record {
           line = ap is_up same;
           room = ap has_room same;
+          empty = ap is_empty same;
           other = moves;
           unseen = look;
         }
 
 pub quiet_told : (offset : ℕ) (c : ChipState) (told : Told) → IsQuiet offset c → IsTold (record { chip = c; told = told }) →
     IsTold (record { chip = after_read offset c; told = told })
-quiet_told offset c told q h = record { line = h.line ∙ sym q.line; room = h.room ∙ sym q.room }
+quiet_told offset c told q h = record {
+  line = h.line ∙ sym q.line;
+  room = h.room ∙ (ap (λ (some : Bool). some && (told.has_room || is_empty c)) (sym q.room) ∙
+      ap (λ (none : Bool). has_room (after_read offset c) && (told.has_room || none)) (sym q.empty));
+}
 
 pub quiet_kind : (offset : ℕ) (c : ChipState) → IsQuiet offset c → kind_of (Read offset) c ≡ idle
 quiet_kind offset c q =

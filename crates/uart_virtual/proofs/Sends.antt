@@ -17,7 +17,7 @@ use Rattle.uart_chip.proofs.soundness.Sounds.{steady_ticks, steady_write}
 use Rattle.uart_live.proofs.Sends.{Sends, sends}
 use Rattle.uart_virtual.specs.declared.told.Kind.{Kind}
 use Rattle.uart_virtual.specs.declared.told.Told.{Told}
-use Rattle.uart_virtual.specs.Port.{settle, settle_ticks, IsStill, tell, todo_of, is_up, spare_after, ignores_falls}
+use Rattle.uart_virtual.specs.Port.{settle, settle_ticks, IsStill, tell, todo_of, is_up, seen_of, is_news, spare_after, ignores_falls}
 use Rattle.uart_virtual.proofs.Times.{still_ticks, tick-shifted, last_tick}
 
 -- nothing in the queue and in the shift register
@@ -133,14 +133,14 @@ settle-sent value c w still e = (
 -- ---- what is told
 
 -- if the line was down, or a signal covers it, whether the line was up all the time is the same
-same_rise : (up line covered brings v w : Bool) → (not line || not covered) ≡ true →
-    (up && (not line || (brings || (not v && covered)))) ≡ (up && (not line || (brings || (not w && covered))))
-same_rise up false covered brings v w e = refl
-same_rise up true true brings v w e = absurd (cc)
-same_rise up true false brings true true e = refl
-same_rise up true false brings true false e = refl
-same_rise up true false brings false true e = refl
-same_rise up true false brings false false e = refl
+same_rise : (up line covered news v w : Bool) → (not line || not covered) ≡ true →
+    (up && (not line || (news || (not v && covered)))) ≡ (up && (not line || (news || (not w && covered))))
+same_rise up false covered news v w e = refl
+same_rise up true true news v w e = absurd (cc)
+same_rise up true false news true true e = refl
+same_rise up true false news true false e = refl
+same_rise up true false news false true e = refl
+same_rise up true false news false false e = refl
 
 pub same_told : (kind : Kind) (v w : Bool) (ended : ChipState) (told : Told) → ignores_falls told ≡ true →
     tell kind v ended told ≡ tell kind w ended told
@@ -148,13 +148,13 @@ same_told kind v w ended told e =
     ap (λ (signal : Bool). record (tell kind w ended told) {
       has_looked = kind.looks || (told.has_looked && not signal);
       spare = spare_after kind signal ended.fifo told;
-    }) (same_rise (is_up ended) told.line (told.spare == 0) kind.brings v w e)
+    }) (same_rise (is_up ended) told.line (told.spare == 0) (is_news kind (seen_of ended)) v w e)
 
 pub same_todo : (kind : Kind) (v w : Bool) (ended : ChipState) (told : Told) → ignores_falls told ≡ true →
     todo_of kind v ended told ≡ todo_of kind w ended told
 same_todo kind v w ended told e =
     ap (λ (signal : Bool). record (todo_of kind w ended told) { signal = signal })
-    (same_rise (is_up ended) told.line (told.spare == 0) kind.brings v w e)
+    (same_rise (is_up ended) told.line (told.spare == 0) (is_news kind (seen_of ended)) v w e)
 
 -- the same, or the line was down before
 pub told_alike : (kind : Kind) (v w : Bool) (ended : ChipState) (told : Told) → ((told.line ≡ false) ⊎ (v ≡ w)) →

@@ -23,10 +23,10 @@ use Rattle.uart_chip.specs.Jumps.{timeout_after, count_down}
 use Rattle.uart_chip.proofs.Jumps.{StillFor, ticks_skip}
 use Rattle.uart_chip.proofs.Bits.{and_or}
 use Rattle.uart_chip.proofs.soundness.Sounds.{latches-ticks}
-use Rattle.uart_live.proofs.Lives.{both_if}
+use Rattle.uart_chip.proofs.AccessMoves.{both_if}
 use Rattle.uart_live.proofs.Sends.{each, unset}
 use Rattle.uart_virtual.specs.Port.{PortCall, Read, Write, Receive, ReceiveOne, SetLines, TakeOutput}
-use Rattle.uart_virtual.specs.Port.{is_up, stays_up, happen, settle, brings, accepted, arrive_all, IsStill, IsUnmoved}
+use Rattle.uart_virtual.specs.Port.{is_up, stays_up, happen, settle, kind_of, seen_of, is_news, accepted, arrive_all, IsStill, IsUnmoved}
 use Rattle.uart_virtual.specs.Laws.{LineStays, EachDipIsSignalled}
 use Rattle.uart_virtual.proofs.Times.{unmoved-read, unmoved-all}
 
@@ -203,19 +203,19 @@ stays-up (ReceiveOne byte errors) c n s e = either_place (arrive_live byte error
 stays-up (SetLines inputs) c n s e = either_place (change_lines inputs c) n (λ l. s.unmoved) e
 stays-up (TakeOutput count) c n s e = either_place (take_wire count c) n (λ l. unmoved-take count c l s.unmoved) e
 
-signals_dip : (up line brings was covered : Bool) → up ≡ true → was ≡ false → covered ≡ true →
-    (up && (not line || (brings || (not was && covered)))) ≡ true
+signals_dip : (up line news was covered : Bool) → up ≡ true → was ≡ false → covered ≡ true →
+    (up && (not line || (news || (not was && covered)))) ≡ true
 signals_dip true false brings false true u w h = refl
 signals_dip true true true false true u w h = refl
 signals_dip true true false false true u w h = refl
-signals_dip false line brings was covered u w h = absurd (cc)
-signals_dip true line brings true covered u w h = absurd (cc)
-signals_dip true line brings false false u w h = absurd (cc)
+signals_dip false line news was covered u w h = absurd (cc)
+signals_dip true line news true covered u w h = absurd (cc)
+signals_dip true line news false false u w h = absurd (cc)
 
 pub dip_signalled : EachDipIsSignalled
 dip_signalled call p n h down up free =
-    signals_dip (is_up (settle (happen call p.chip))) p.told.line (brings call p.chip) (stays_up call (happen call p.chip))
-    (p.told.spare == 0) up (fell (stays_up call (happen call p.chip)) refl) (none p.told.spare free)
+    signals_dip (is_up (settle (happen call p.chip))) p.told.line (is_news (kind_of call p.chip) (seen_of (settle (happen call p.chip))))
+    (stays_up call (happen call p.chip)) (p.told.spare == 0) up (fell (stays_up call (happen call p.chip)) refl) (none p.told.spare free)
   where
     fell : (b : Bool) → stays_up call (happen call p.chip) ≡ b → b ≡ false
     fell false e = refl

@@ -1,14 +1,10 @@
 -- Lemmas of ports.
-use Rattle.std.proofs.Common.{◌≡◌, ◌≢◌, ◌≤◌, ℕ, zero, suc, ◌+◌, ◌-◌, ◌==◌, nat_lt, Bool, true, false, not, ◌&&◌, ◌||◌, ◌⊎◌, inl}
+use Rattle.std.proofs.Common.{◌≡◌, ◌≢◌, ℕ, ◌-◌, ◌==◌, Bool, true, false, not, ◌&&◌, ◌||◌, ◌⊎◌, inl}
 use Rattle.std.proofs.Common.{inr, List, [], ◌∷◌, ◌++◌, map, take, length, if◌then◌else◌}
 use Rattle.std.proofs.Common.{refl, ap, sym, ◌∙◌, arith}
 use Rattle.std.proofs.lemmas.Bool.{or_left, or_right}
-use Rattle.std.proofs.lemmas.Grind.{common_steps}
-use Rattle.std.proofs.lemmas.List.{length-append}
 use Rattle.uart_spec.specs.declared.registers.offsets.TheConstants as offsets
-use Rattle.uart_chip.specs.declared.receiver.Character.{Character}
-use Rattle.uart_chip.specs.declared.receiver.Origin.TheVariants.{Live}
-use Rattle.uart_chip.specs.Chip.{ChipState, tick, ticks, is_loopback, receive_room, arrive_live, cut_of, after_write}
+use Rattle.uart_chip.specs.Chip.{ChipState}
 use Rattle.uart_chip.specs.Transmitter.{TransmitterState, out, shift_bytes, room}
 use Rattle.uart_chip.proofs.lasting.Lasting.{LastsInAccesses, lasts-write}
 use Rattle.uart_live.specs.Live.{IsLive}
@@ -22,15 +18,25 @@ use Rattle.uart_virtual.specs.declared.told.Todo.{Todo}
 use Rattle.uart_virtual.specs.declared.told.Told.{Told}
 use Rattle.uart_virtual.specs.Port.{PortState, PortCall, Read, Write, Receive, ReceiveOne, SetLines, TakeOutput, after, todo}
 use Rattle.uart_virtual.specs.Port.{happen, brings, looks, moves_data, kind_of, stays_up, settle, settle_ticks, is_up, idle}
-use Rattle.uart_virtual.specs.Port.{has_room, IsTold, IsPaced, tell, todo_of, is_signalled, spare_after, differ, arrive_all, accepted}
+use Rattle.uart_virtual.specs.Port.{has_room, is_empty, IsTold, IsPaced, tell, todo_of, seen_of, is_signalled, spare_after, room_after}
+use Rattle.uart_virtual.specs.Port.{differ, arrive_all, accepted}
 use Rattle.uart_virtual.specs.Laws.{after_all, some_told, ToldStays, SignalsAreUp, EachRiseIsSignalled, ASignalCovers}
-use Rattle.uart_virtual.specs.Laws.{none_looks, NoLookCoversNothing, RoomIsTold, RefusalLeavesNoRoom, RestoredIsTold}
+use Rattle.uart_virtual.specs.Laws.{none_looks, NoLookCoversNothing, AFullFifoIsSignalled, NoOtherSignals}
 use Rattle.uart_virtual.specs.Laws.{acts_of, acts_of_all, BytesGoOut, FcrKeepsTheOutput}
 
 -- what a call leaves was told
 pub told_holds : (kind : Kind) (was_up : Bool) (ended : ChipState) (told : Told) →
     IsTold (record { chip = ended; told = tell kind was_up ended told })
-told_holds kind was_up ended told = record { line = refl; room = refl }
+told_holds kind was_up ended told =
+    record { line = refl; room = kept (has_room ended) told.has_room kind.may_make_room (is_empty ended) }
+  where
+    kept : (some known up none : Bool) →
+        (some && (known || (up || none))) ≡ (some && ((some && (known || (up || none))) || none))
+    kept false known up none = refl
+    kept true true up none = refl
+    kept true false true none = refl
+    kept true false false true = refl
+    kept true false false false = refl
 
 told_after : (call : PortCall) (p : PortState) → IsTold (after call p)
 told_after call p =
@@ -108,76 +114,41 @@ no_look_covers_nothing (call ∷ calls) p h k n =
     let left = none_left (todo call p).signal (moves_data call) p.told.has_looked (settle (happen call p.chip)).fifo p.told.spare 15 k n in
     no_look_covers_nothing calls (after call p) both.1 (rw blind left.0) (rw blind left.1)
 
--- ---- room
+-- ---- input
 
-told-room : (calls : List PortCall) (p : PortState) → p.told.has_room ≡ false → (after_all calls p).told.has_room ≡ true →
-    some_told (λ (t : Todo). t.has_room) calls p ≡ true
-told-room [] p none some = absurd (cc)
-told-room (call ∷ calls) p none some =
-    go (has_room (settle (happen call p.chip))) refl (λ e. told-room calls (after call p) e some)
+full : (up line b room dip : Bool) → b ≡ true → up ≡ true → room ≡ false → (up && (not line || ((b && not room) || dip))) ≡ true
+full true false true false dip e u r = refl
+full true true true false dip e u r = refl
+full false line b room dip e u r = absurd (cc)
+full true line false room dip e u r = absurd (cc)
+full true line true true dip e u r = absurd (cc)
+
+pub full_signalled : AFullFifoIsSignalled
+full_signalled call p h up none =
+    full (is_up (settle (happen call p.chip))) p.told.line (brings call p.chip) (has_room (settle (happen call p.chip)))
+    (not (stays_up call (happen call p.chip)) && (p.told.spare == 0)) h up none
+
+causes : (up line b room stays z : Bool) → (up && (not line || ((b && not room) || (not stays && z)))) ≡ true →
+    (line ≡ false) ⊎ ((stays ≡ false) ⊎ ((b ≡ true) × (room ≡ false)))
+causes false line b room stays z e = absurd (cc)
+causes true false b room stays z e = inl refl
+causes true true true false stays z e = inr (inr (refl, refl))
+causes true true true true false z e = inr (inl refl)
+causes true true true true true z e = absurd (cc)
+causes true true false room false z e = inr (inl refl)
+causes true true false room true z e = absurd (cc)
+
+pub no_other_signals : NoOtherSignals
+no_other_signals call p h s =
+    go (causes (is_up (settle (happen call p.chip))) p.told.line (brings call p.chip) (has_room (settle (happen call p.chip)))
+    (stays_up call (happen call p.chip)) (p.told.spare == 0) s)
   where
-    is_new : (now before : Bool) → now ≡ true → before ≡ false → (now && not before) ≡ true
-    is_new true false n b = refl
-    is_new true true n b = absurd (cc)
-    is_new false before n b = absurd (cc)
-
-    go : (now : Bool) → has_room (settle (happen call p.chip)) ≡ now →
-        ((after call p).told.has_room ≡ false → some_told (λ (t : Todo). t.has_room) calls (after call p) ≡ true) →
-        some_told (λ (t : Todo). t.has_room) (call ∷ calls) p ≡ true
-    go true e later = or_left (todo call p).has_room _ (is_new _ p.told.has_room e none)
-    go false e later = or_right (todo call p).has_room _ (later e)
-
-pub room_told : RoomIsTold
-room_told calls p h none some = told-room calls p (h.room ∙ none) ((told_stays calls p h).room ∙ some)
-
--- time makes no room and takes none
-room-tick : (c : ChipState) → receive_room (tick c) ≡ receive_room c
-room-tick c = go (is_loopback c.latches) refl
-  where
-    go : (b : Bool) → is_loopback c.latches ≡ b → receive_room (tick c) ≡ receive_room c
-    go true e = rw e refl
-    go false e = rw e refl
-
-room-ticks : (n : ℕ) (c : ChipState) → receive_room (ticks n c) ≡ receive_room c
-room-ticks zero c = refl
-room-ticks (suc n) c = room-tick (ticks n c) ∙ room-ticks n c
-
-room-arrive : (byte k : ℕ) (c : ChipState) → receive_room c ≡ suc k → receive_room (arrive_live byte 0 c) ≡ k
-room-arrive byte k c e = go (is_loopback c.latches) refl
-  where
-    new : Character
-    new = record { byte = cut_of c byte; errors = 0; origin = Live }
-
-    go : (b : Bool) → is_loopback c.latches ≡ b → receive_room (arrive_live byte 0 c) ≡ k
-    go true l = let no : 0 ≡ suc k = rw l at e in absurd (cc)
-    go false l =
-        let left : room c.fifo - length c.receiver.queue ≡ suc k = rw l at e in
-        let fits : nat_lt (length c.receiver.queue) (room c.fifo) ≡ true = grind (arith, common_steps) in
-        let longer = length-append c.receiver.queue (new ∷ []) in
-        rw (l, fits) (omega (arith, left, longer))
-
-room-all : (k : ℕ) (bytes : List ℕ) (c : ChipState) → receive_room c ≡ k → k ≤ length bytes →
-    receive_room (arrive_all (take k bytes) c) ≡ 0
-room-all zero bytes c e h = e
-room-all (suc k) [] c e h = absurd (omega (arith, h))
-room-all (suc k) (byte ∷ bytes) c e h =
-    room-all k bytes (arrive_live byte 0 c) (room-arrive byte k c e) (omega (arith, h))
-
-pub refusal_leaves_no_room : RefusalLeavesNoRoom
-refusal_leaves_no_room bytes p h =
-    let k : ℕ = receive_room p.chip in
-    let all : accepted bytes p.chip ≡ k = omega (arith, h) in
-    let none : receive_room (arrive_all (take k bytes) p.chip) ≡ 0 = room-all k bytes p.chip refl (omega (arith, h)) in
-    ap (λ (n : ℕ). not (n == 0))
-    (room-ticks settle_ticks (arrive_all (take (accepted bytes p.chip) bytes) p.chip) ∙
-    (ap (λ (n : ℕ). receive_room (arrive_all (take n bytes) p.chip)) all ∙ none))
-
-pub restored_is_told : RestoredIsTold
-restored_is_told c = (with_true (has_room c), with_true (is_up c))
-  where
-    with_true : (b : Bool) → (b && true) ≡ b
-    with_true true = refl
-    with_true false = refl
+    go : (p.told.line ≡ false) ⊎ ((stays_up call (happen call p.chip) ≡ false) ⊎
+        ((brings call p.chip ≡ true) × (has_room (settle (happen call p.chip)) ≡ false))) →
+        (is_up p.chip ≡ false) ⊎ ((stays_up call (happen call p.chip) ≡ false) ⊎
+        ((brings call p.chip ≡ true) × (has_room (settle (happen call p.chip)) ≡ false)))
+    go (inl e) = inl (sym h.line ∙ e)
+    go (inr e) = inr e
 
 -- ---- output
 
@@ -245,19 +216,28 @@ with_false : (b : Bool) → (b && true) ≡ b
 with_false true = refl
 with_false false = refl
 
+-- no signal is given
+quiet_signal : (c : ChipState) (told : Told) → IsTold (record { chip = c; told = told }) →
+    is_signalled idle (is_up c) (seen_of c) told ≡ false
+quiet_signal c told h =
+    let up : Bool = is_up c in
+    ap (λ (line : Bool). up && (not line || (false || (not up && (told.spare == 0))))) h.line ∙ quiet_line up (told.spare == 0)
+
 -- if line and room are as they were told, idle time tells nothing
 pub nothing_told : (c : ChipState) (told : Told) → IsTold (record { chip = c; told = told }) → tell idle (is_up c) c told ≡ told
 nothing_told c told h =
     let up : Bool = is_up c in
-    let none : (up && (not told.line || (false || (not up && (told.spare == 0))))) ≡ false =
-    ap (λ (line : Bool). up && (not line || (false || (not up && (told.spare == 0))))) h.line ∙ quiet_line up (told.spare == 0) in
     ap (λ (signal : Bool). record told {
       line = up;
-      has_room = has_room c;
+      has_room = room_after idle (seen_of c) told;
       has_looked = told.has_looked && not signal;
       spare = spare_after idle signal c.fifo told;
-    }) none ∙
-    (ap (λ (line : Bool). record told { line = line; has_room = has_room c; has_looked = told.has_looked && true }) (sym h.line) ∙
+    }) (quiet_signal c told h) ∙
+    (ap (λ (line : Bool). record told {
+      line = line;
+      has_room = room_after idle (seen_of c) told;
+      has_looked = told.has_looked && true;
+    }) (sym h.line) ∙
     (ap (λ (some : Bool). record told { has_room = some; has_looked = told.has_looked && true }) (sym h.room) ∙
     ap (λ (looked : Bool). record told { has_looked = looked }) (with_false told.has_looked)))
 
@@ -274,12 +254,10 @@ pub nothing_todo : (c : ChipState) (told : Told) → IsTold (record { chip = c; 
     nothing c told ≡ todo_of idle (is_up c) c told
 nothing_todo c told h =
     let up : Bool = is_up c in
-    let none : (up && (not told.line || (false || (not up && (told.spare == 0))))) ≡ false =
-    ap (λ (line : Bool). up && (not line || (false || (not up && (told.spare == 0))))) h.line ∙ quiet_line up (told.spare == 0) in
     let unmoved : differ told.line up ≡ false = ap (λ (line : Bool). differ line up) h.line ∙ same_differs up in
-    let no_room : (has_room c && not told.has_room) ≡ false =
-    ap (λ (some : Bool). has_room c && not some) h.room ∙ quiet_room (has_room c) in
+    let no_room : (room_after idle (seen_of c) told && not told.has_room) ≡ false =
+    ap (λ (some : Bool). some && not told.has_room) (sym h.room) ∙ quiet_room told.has_room in
     ap (λ (line : Bool). record (nothing c told) { level = line }) h.line ∙
-    (ap (λ (signal : Bool). record (nothing c told) { signal = signal; level = up }) (sym none) ∙
+    (ap (λ (signal : Bool). record (nothing c told) { signal = signal; level = up }) (sym (quiet_signal c told h)) ∙
     (ap (λ (moved : Bool). record (todo_of idle up c told) { has_moved = moved; has_room = false }) (sym unmoved) ∙
     ap (λ (some : Bool). record (todo_of idle up c told) { has_room = some }) (sym no_room)))

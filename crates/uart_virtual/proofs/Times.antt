@@ -19,7 +19,7 @@ use Rattle.uart_chip.proofs.lasting.Lasting.{LastsInAccesses, lasts-read, lasts-
 use Rattle.uart_chip.proofs.soundness.Sounds.{char_ticks-tick, steady_ticks}
 use Rattle.uart_live.specs.Held.{expire}
 use Rattle.uart_live.specs.declared.fixed.TheConstants.{WIRE_ROOM}
-use Rattle.uart_live.proofs.Lives.{both_if}
+use Rattle.uart_chip.proofs.AccessMoves.{both_if}
 use Rattle.uart_virtual.specs.Port.{PortCall, Read, Write, Receive, happen, settle, settle_ticks}
 use Rattle.uart_virtual.specs.Port.{accepted, arrive_all, IsStill, IsPaced, IsUnmoved}
 

@@ -16,7 +16,7 @@ use Rattle.uart_chip.specs.Receiver.{is_data_pending}
 use Rattle.uart_chip.specs.Chip.{ChipState, line_status, interrupt, is_transmitter_empty}
 use Rattle.uart_chip.specs.Jumps.{next_move_of}
 use Rattle.uart_chip.proofs.statuses.Status.{status_room, status_empty}
-use Rattle.uart_live.proofs.Lives.{both_if}
+use Rattle.uart_chip.proofs.AccessMoves.{both_if}
 use Rattle.uart_live.proofs.Holds.{due_interrupts}
 use Rattle.uart_virtual.specs.Laws.{HeldOnlyIfFull, WaitingInterrupts, EmptyThrTakesAByte, ASlowHostShows}
 

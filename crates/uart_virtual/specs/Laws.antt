@@ -1,7 +1,7 @@
 -- What a monitor expects of a port: it is told of each rise of the line and of room, no byte is lost, and no guest
 -- waits for time to pass.
 use Rattle.std.specs.Prelude.{◌≡◌, ◌≢◌, ℕ, ◌+◌, ◌-◌, Bool, true, false, not, ◌&&◌, ◌||◌, List, [], if◌then◌else◌}
-use Rattle.std.specs.Prelude.{◌∷◌, ◌++◌, map, take, ◌⊎◌, length, ◌<◌, ◌≤◌, nat_lt}
+use Rattle.std.specs.Prelude.{◌==◌, ◌∷◌, ◌++◌, map, take, ◌⊎◌, length, ◌<◌, ◌≤◌, nat_lt}
 use Rattle.uart_chip.specs.Chip.{ChipState, receive_room, is_loopback, line_status, ticks, after_write}
 use Rattle.uart_chip.specs.Transmitter.{out, held}
 use Rattle.uart_spec.specs.Bits.{has_any}
@@ -13,9 +13,9 @@ use Rattle.uart_live.specs.Laws.{Act, Ticks, Arrive, TakeWire, in_turn, AllInTur
 use Rattle.uart_live.specs.declared.fixed.TheConstants.{WIRE_ROOM}
 use Rattle.uart_virtual.specs.declared.told.Todo.{Todo}
 use Rattle.uart_virtual.specs.Port.{PortState, PortCall, Read, Write, Receive, ReceiveOne}
-use Rattle.uart_virtual.specs.Port.{SetLines, TakeOutput, after, todo, todo_of, idle, untold}
-use Rattle.uart_virtual.specs.Port.{happen, brings, looks, moves_data, settle_ticks, is_up}
-use Rattle.uart_virtual.specs.Port.{has_room, accepted, IsTold, IsStill, IsPort}
+use Rattle.uart_virtual.specs.Port.{SetLines, TakeOutput, after, todo, todo_of, untold}
+use Rattle.uart_virtual.specs.Port.{happen, brings, looks, moves_data, stays_up, settle_ticks, is_up, renewed}
+use Rattle.uart_virtual.specs.Port.{has_room, is_empty, accepted, IsTold, IsStill, IsPort}
 
 -- the port after these calls in turn
 abbrev pub after_all : List PortCall → PortState → PortState
@@ -87,20 +87,47 @@ NoLookCoversNothing =
     (calls : List PortCall) (p : PortState) → none_looks calls ≡ true → p.told.has_looked ≡ false → p.told.spare ≡ 0 →
     ((after_all calls p).told.has_looked ≡ false) × ((after_all calls p).told.spare ≡ 0)
 
--- whatever the host brings is signalled, if the line is up when the call ends
-abbrev pub EachInputIsSignalled : Type 0
-EachInputIsSignalled =
+-- input that leaves no room is signalled, if the line is up when the call ends. So no guest is without a signal for
+-- good while input comes
+abbrev pub AFullFifoIsSignalled : Type 0
+AFullFifoIsSignalled =
     (call : PortCall) (p : PortState) → brings call p.chip ≡ true → is_up (after call p).chip ≡ true →
-    (todo call p).signal ≡ true
+    has_room (after call p).chip ≡ false → (todo call p).signal ≡ true
+
+-- there are no other signals: the line was down before the call, or at a moment of it (a write in loopback counts as
+-- such a moment), or the call brings something and leaves no room
+abbrev pub NoOtherSignals : Type 0
+NoOtherSignals =
+    (call : PortCall) (p : PortState) → IsTold p → (todo call p).signal ≡ true →
+    (is_up p.chip ≡ false) ⊎ ((stays_up call (happen call p.chip) ≡ false) ⊎
+    ((brings call p.chip ≡ true) × (has_room (after call p).chip ≡ false)))
 
 -- ---- room
 
--- if there is no room between two calls and there is room later, a call in between told of it, whichever call made it
+-- if there is no room between two calls, and later there is room and nothing waits, a call in between told of room
 abbrev pub RoomIsTold : Type 0
 RoomIsTold =
     (calls : List PortCall) (p : PortState) → IsTold p → has_room p.chip ≡ false →
-    has_room (after_all calls p).chip ≡ true →
+    has_room (after_all calls p).chip ≡ true → is_empty (after_all calls p).chip ≡ true →
     some_told (λ (t : Todo). t.has_room) calls p ≡ true
+
+-- the guest reads DATA
+abbrev pub reads_data : PortCall → Bool
+reads_data (Read offset) = offset == offsets.DATA
+reads_data _ = false
+
+-- if there is no room before a call and there is room after it, the call tells of it, unless it is a read of DATA that
+-- leaves characters: so room that comes by a write of FCR or by the end of loopback is told at once
+abbrev pub RoomIsToldAtOnce : Type 0
+RoomIsToldAtOnce =
+    (call : PortCall) (p : PortState) → IsTold p → has_room p.chip ≡ false → has_room (after call p).chip ≡ true →
+    (reads_data call ≡ false) ⊎ (is_empty (after call p).chip ≡ true) → (todo call p).has_room ≡ true
+
+-- room is told only if there was none since it was told last: what is told stays so as long as there is room
+abbrev pub RoomIsToldOnce : Type 0
+RoomIsToldOnce =
+    (call : PortCall) (p : PortState) → p.told.has_room ≡ true →
+    ((todo call p).has_room ≡ false) × ((after call p).told.has_room ≡ has_room (after call p).chip)
 
 -- a call that receives fewer bytes than it was offered leaves no room
 abbrev pub RefusalLeavesNoRoom : Type 0
@@ -112,7 +139,7 @@ RefusalLeavesNoRoom =
 abbrev pub RestoredIsTold : Type 0
 RestoredIsTold =
     (c : ChipState) →
-    ((todo_of idle true c untold).has_room ≡ has_room c) × ((todo_of idle true c untold).signal ≡ is_up c)
+    ((todo_of renewed true c untold).has_room ≡ has_room c) × ((todo_of renewed true c untold).signal ≡ is_up c)
 
 -- ---- output
 

@@ -6,6 +6,7 @@ use Rattle.uart_chip.specs.Chip as chip
 use Rattle.uart_chip.specs.Chip.{ChipState, interrupt, ticks, arrive_live, take_wire}
 use Rattle.uart_chip.specs.Chip.{change_lines, after_read, after_write, is_loopback, receive_room, cut_of}
 use Rattle.uart_chip.specs.Jumps.{next_move}
+use Rattle.uart_chip.specs.Receiver.{waiting}
 use Rattle.uart_chip.specs.Sending.{sends_at_once}
 use Rattle.uart_chip.specs.Snapshot.{chip_of}
 use Rattle.uart_chip.specs.Transmitter.{held}
@@ -45,6 +46,10 @@ is_up c = is_some (interrupt c)
 -- a character can be received
 abbrev pub has_room : ChipState → Bool
 has_room c = not (receive_room c == 0)
+
+-- no character waits
+abbrev pub is_empty : ChipState → Bool
+is_empty c = length (waiting c.receiver) == 0
 
 -- ---- calls
 
@@ -97,9 +102,20 @@ moves_data (Read offset) = offset == offsets.DATA
 moves_data (Write offset value) = offset == offsets.DATA
 moves_data _ = false
 
+-- the guest writes FCR, which can empty the FIFO, or MCR, which can end loopback: both can make room at once
+abbrev pub may_make_room : PortCall → Bool
+may_make_room (Write offset value) = (offset == offsets.FCR) || (offset == offsets.MCR)
+may_make_room _ = false
+
 -- what the call is, as far as signals are concerned
 abbrev pub kind_of : PortCall → ChipState → Kind
-kind_of call c = record { brings = brings call c; looks = looks call; moves_data = moves_data call }
+kind_of call c =
+    record {
+      brings = brings call c;
+      looks = looks call;
+      moves_data = moves_data call;
+      may_make_room = may_make_room call;
+    }
 
 -- of the chip right after what happens in a call: the line is up and stays up while time passes. What the guest sends
 -- in loopback comes back while time passes, and that can take the line down for a moment
@@ -112,13 +128,24 @@ stays_up _ c = is_up c
 -- what is seen of the chip when a call ends
 abbrev pub seen_of : (ended : ChipState) → Seen
 seen_of ended =
-    record { level = is_up ended; has_room = has_room ended; fifo = ended.fifo; ready = length ended.transmitter.wire }
+    record {
+      level = is_up ended;
+      has_room = has_room ended;
+      is_empty = is_empty ended;
+      fifo = ended.fifo;
+      ready = length ended.transmitter.wire;
+    }
 
--- the guest's interrupt is signalled: the line is up when the call ends, and it was down before; or the host brings
--- something; or the line was down within the call, and no earlier signal covers that
-abbrev pub is_signalled : Kind → (was_up : Bool) → (ended : ChipState) → Told → Bool
-is_signalled kind was_up ended told =
-    is_up ended && (not told.line || (kind.brings || (not was_up && (told.spare == 0))))
+-- what the host brings is signalled although the line is up only if it leaves no room: nothing more can be received
+-- then until the guest reads
+abbrev pub is_news : Kind → Seen → Bool
+is_news kind seen = kind.brings && not seen.has_room
+
+-- the guest's interrupt is signalled: the line is up when the call ends, and it was down before; or what the host
+-- brings leaves no room; or the line was down within the call, and no earlier signal covers that
+abbrev pub is_signalled : Kind → (was_up : Bool) → Seen → Told → Bool
+is_signalled kind was_up seen told =
+    seen.level && (not told.line || (is_news kind seen || (not was_up && (told.spare == 0))))
 
 -- how many more accesses of DATA a signal covers. One that is given when the guest has looked, and now moves data,
 -- covers what is left of a FIFO: the guest is in its handler, and this one signal calls the handler again. Any other
@@ -130,15 +157,21 @@ spare_after kind signal fifo told =
     else if kind.moves_data then told.spare - 1
     else told.spare
 
--- what the monitor was told after a call, of which it is known whether the line was up all the time
-abbrev pub tell : Kind → (was_up : Bool) → (ended : ChipState) → Told → Told
-tell kind was_up ended told =
-    let signal = is_signalled kind was_up ended told in
+-- the monitor may take it that there is room: it knows that, or is told now. After there was none it is told when
+-- nothing waits, and at once if the guest may have made room by a write
+abbrev pub room_after : Kind → Seen → Told → Bool
+room_after kind seen told = seen.has_room && (told.has_room || (kind.may_make_room || seen.is_empty))
+
+-- what the monitor was told after a call of which this is seen, and of which it is known whether the line was up all
+-- the time
+abbrev pub told_after : Kind → (was_up : Bool) → Seen → Told → Told
+told_after kind was_up seen told =
+    let signal = is_signalled kind was_up seen told in
     record {
-      line = is_up ended;
-      has_room = has_room ended;
+      line = seen.level;
+      has_room = room_after kind seen told;
       has_looked = kind.looks || (told.has_looked && not signal);
-      spare = spare_after kind signal ended.fifo told;
+      spare = spare_after kind signal seen.fifo told;
     }
 
 -- the levels are not the same
@@ -146,19 +179,30 @@ abbrev pub differ : (before now : Bool) → Bool
 differ before now = if now then not before else before
 
 -- what the monitor has to do after it
-abbrev pub todo_of : Kind → (was_up : Bool) → (ended : ChipState) → Told → Todo
-todo_of kind was_up ended told =
+abbrev pub todo_after : Kind → (was_up : Bool) → Seen → Told → Todo
+todo_after kind was_up seen told =
     record {
-      signal = is_signalled kind was_up ended told;
-      level = is_up ended;
-      has_moved = differ told.line (is_up ended);
-      has_room = has_room ended && not told.has_room;
-      ready = length ended.transmitter.wire;
+      signal = is_signalled kind was_up seen told;
+      level = seen.level;
+      has_moved = differ told.line seen.level;
+      has_room = room_after kind seen told && not told.has_room;
+      ready = seen.ready;
     }
+
+-- the same, of the chip when the call ends
+abbrev pub tell : Kind → (was_up : Bool) → (ended : ChipState) → Told → Told
+tell kind was_up ended told = told_after kind was_up (seen_of ended) told
+
+abbrev pub todo_of : Kind → (was_up : Bool) → (ended : ChipState) → Told → Todo
+todo_of kind was_up ended told = todo_after kind was_up (seen_of ended) told
 
 -- a call that is nothing but time
 abbrev pub idle : Kind
-idle = record { brings = false; looks = false; moves_data = false }
+idle = record { brings = false; looks = false; moves_data = false; may_make_room = false }
+
+-- a port that is new, or restored
+abbrev pub renewed : Kind
+renewed = record { brings = false; looks = false; moves_data = false; may_make_room = true }
 
 -- nothing was told yet
 abbrev pub untold : Told
@@ -166,7 +210,7 @@ untold = record { line = false; has_room = false; has_looked = false; spare = 0 
 
 -- a port whose monitor was told of this chip, and of nothing before
 abbrev pub begun : ChipState → PortState
-begun c = record { chip = c; told = tell idle true c untold }
+begun c = record { chip = c; told = tell renewed true c untold }
 
 -- a port after power-on: the time of a call passed
 abbrev pub fresh : Chip → PortState
@@ -183,10 +227,11 @@ abbrev pub todo : PortCall → PortState → Todo
 todo call p =
     let c = happen call p.chip in todo_of (kind_of call p.chip) (stays_up call c) (settle c) p.told
 
--- what the monitor was told is true: the level of the line, and whether there is room
+-- what the monitor was told is true: the level of the line; if it may take it that there is room, there is, and if
+-- nothing waits and there is room, it may
 pub record IsTold (p : PortState) : Type 0 where
   pub line : p.told.line ≡ is_up p.chip
-  pub room : p.told.has_room ≡ has_room p.chip
+  pub room : p.told.has_room ≡ (has_room p.chip && (p.told.has_room || is_empty p.chip))
 
 -- a character takes one tick, and the wire has the room of a port's output
 pub record IsPaced (c : ChipState) : Type 0 where
@@ -235,10 +280,14 @@ nothing_new p =
 abbrev pub is_polled : PortState → Bool
 is_polled p = p.chip.latches.ier == 0
 
--- after a read of DATA the monitor has nothing to do: no interrupt is enabled, there was room before, and no signal
+-- after a read of DATA the monitor has nothing to do: no interrupt is enabled, the monitor knows of room, and no signal
 -- covers others
 abbrev pub reads_polled : PortState → Bool
 reads_polled p = is_polled p && (p.told.has_room && (p.told.spare == 0))
+
+-- after a byte of input the monitor has nothing to do: no interrupt is enabled, and the monitor knows of room
+abbrev pub receives_polled : PortState → Bool
+receives_polled p = is_polled p && (p.told.has_room && has_room p.chip)
 
 -- the host can take a byte that the guest writes to DATA before it is on the output: it would be alone there at once,
 -- and a fall of the line within the call makes no difference

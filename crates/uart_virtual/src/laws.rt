@@ -3,8 +3,10 @@
 //! The contract of each function is a law that callers can cite. The functions do nothing.
 ghost use Rattle.uart_virtual.specs.Laws.{LevelIsTold, ToldStays, SignalsAreUp, LineStays};
 ghost use Rattle.uart_virtual.specs.Laws.{EachRiseIsSignalled, EachDipIsSignalled};
-ghost use Rattle.uart_virtual.specs.Laws.{EachInputIsSignalled, ASignalCovers, NoLookCoversNothing};
-ghost use Rattle.uart_virtual.specs.Laws.{RoomIsTold, RefusalLeavesNoRoom, RestoredIsTold};
+ghost use Rattle.uart_virtual.specs.Laws.{AFullFifoIsSignalled, NoOtherSignals};
+ghost use Rattle.uart_virtual.specs.Laws.{ASignalCovers, NoLookCoversNothing};
+ghost use Rattle.uart_virtual.specs.Laws.{RoomIsTold, RoomIsToldAtOnce, RoomIsToldOnce};
+ghost use Rattle.uart_virtual.specs.Laws.{RefusalLeavesNoRoom, RestoredIsTold};
 ghost use Rattle.uart_virtual.specs.Laws.{BytesGoOut, EmptyThrTakesAByte, FcrKeepsTheOutput};
 ghost use Rattle.uart_virtual.specs.Laws.{ASlowHostShows, HeldOnlyIfFull, WaitingInterrupts};
 
@@ -15,26 +17,31 @@ pub fn level_is_told()
     ensures stays { ToldStays }
 {}
 
-/// Each rise of the line is signalled, and each input while the line is up. A signal is given only
-/// while the line is up.
+/// Each rise of the line is signalled, and input that leaves no room. A signal is given only while
+/// the line is up.
 ///
 /// A line that was down at any moment of a call, and is up at its end, is signalled too, unless an
 /// earlier signal covers that. A signal covers others only if it was given since the guest last
-/// read ISR, and at most 15 accesses of DATA. A guest that never reads ISR has none covered.
+/// read ISR, and at most 15 accesses of DATA. A guest that never reads ISR has none covered. There
+/// are no other signals.
 pub fn rises_are_signalled()
     ensures rise { EachRiseIsSignalled }
     ensures dip { EachDipIsSignalled }
     ensures covers { ASignalCovers }
     ensures blind { NoLookCoversNothing }
-    ensures input { EachInputIsSignalled }
+    ensures full { AFullFifoIsSignalled }
+    ensures others { NoOtherSignals }
     ensures up { SignalsAreUp }
     ensures stays { LineStays }
 {}
 
-/// The monitor is told of room for input after there was none, whichever call makes it, a restored
-/// port too. A call that refuses input leaves no room.
+/// The monitor is told of room for input after there was none: by the call after which nothing
+/// waits, and at once if another call than a read of DATA makes room. A restored port tells too. A
+/// call that refuses input leaves no room.
 pub fn room_is_told()
     ensures room { RoomIsTold }
+    ensures at_once { RoomIsToldAtOnce }
+    ensures told_once { RoomIsToldOnce }
     ensures refusal { RefusalLeavesNoRoom }
     ensures restored { RestoredIsTold }
 {}

@@ -20,7 +20,8 @@ const LINE: u8 = 5;
 
 const MODEM: u8 = 6;
 
-// Room that comes by a write of FCR, and by the end of loopback, is told.
+// Room that comes by a write of FCR, and by the end of loopback, is told at once. Room that comes
+// by reads of DATA is told when nothing waits.
 #[test]
 fn room_is_told_whichever_call_gives_it(rt: HostRuntime) -> Result<(), Fail> {
     let mut port = VirtualPort::new(Chip::Uart16550A);
@@ -30,6 +31,9 @@ fn room_is_told_whichever_call_gives_it(rt: HostRuntime) -> Result<(), Fail> {
     assert!(rt; port.write(FCR, 0x07).has_room);
     assert!(rt; !port.write(FCR, 0x07).has_room);
     assert!(rt; port.receive(b"0123456789abcdefg").count == 16);
+    for _ in 0..15 {
+        assert!(rt; !port.read(DATA).todo.has_room);
+    }
     assert!(rt; port.read(DATA).todo.has_room);
     assert!(rt; !port.write(MCR, 0x18).has_room);
     let received = port.receive(b"x");
@@ -77,18 +81,20 @@ fn a_handler_that_reads_its_trigger_level_comes_again(rt: HostRuntime) -> Result
     Ok(())
 }
 
-// Input while the line is up is signalled, once a call.
+// Input while the line is up is signalled if it fills the FIFO, once a call.
 #[test]
-fn a_top_up_is_signalled(rt: HostRuntime) -> Result<(), Fail> {
+fn a_top_up_is_signalled_when_it_fills_the_fifo(rt: HostRuntime) -> Result<(), Fail> {
     let mut port = VirtualPort::new(Chip::Uart16550A);
     port.write(FCR, 0x87);
     port.write(IER, 0x01);
     assert!(rt; port.receive(b"0123456789abcdef").todo.signal);
     assert!(rt; !port.read(LINE).todo.signal);
     assert!(rt; !port.read(DATA).todo.signal);
-    let todo = port.receive(b"g").todo;
-    assert!(rt; todo.signal && todo.level);
+    assert!(rt; !port.read(DATA).todo.signal);
     assert!(rt; !port.receive(b"g").todo.signal);
+    let todo = port.receive(b"h").todo;
+    assert!(rt; todo.signal && todo.level);
+    assert!(rt; !port.receive(b"i").todo.signal);
     Ok(())
 }
 

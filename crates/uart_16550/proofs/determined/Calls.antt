@@ -9,6 +9,7 @@ use Rattle.uart_spec.specs.declared.registers.offsets.TheConstants as offsets
 use Rattle.uart_spec.specs.declared.registers.line_control.TheConstants.LCR
 use Rattle.uart_spec.specs.declared.registers.line_status.TheConstants.LSR
 use Rattle.uart_16550.specs.Frame.{switched, unlooped}
+use Rattle.uart_16550.specs.declared.driver.status.TheConstants.{UNDRIVEN}
 use Rattle.uart_16550.proofs.determined.Parting.{Determined, read_determined, asks_determined, determined_so, determined_only}
 use Rattle.uart_16550.proofs.determined.Frame.{modifies_determined, sets_frame_determined, attaches_determined}
 use Rattle.uart_16550.proofs.determined.Doings.{no_choice, saving_determined, does_so, does_set}
@@ -36,6 +37,7 @@ lists_determined SavingCall.check_connected s = connects_determined s
 lists_determined SavingCall.dll_dlm s = divisor_determined s
 lists_determined SavingCall.check_present s = presence_determined s
 lists_determined SavingCall.is_idle s = asks_determined offsets.LSR LSR.TRANSMITTER_EMPTY.0
+lists_determined SavingCall.is_gone s = asks_determined offsets.MCR UNDRIVEN
 lists_determined (SavingCall.check_configured config outputs) s = checks_configured_determined config outputs s
 lists_determined (SavingCall.set_break on) s = modifies_determined s offsets.LCR (switched on LCR.SET_BREAK.0)
 lists_determined (SavingCall.set_modem_control bits) s = λ a b. determined_so (λ t. refl) (determined_only refl)

@@ -211,10 +211,13 @@ impl<B: Backend> Uart16550<B> {
     ///
     /// Only registers whose read changes nothing were read then, and the driver is unchanged.
     ///
+    /// A divisor of 0 means that no port is set up there, or that there is none: a bus where all
+    /// registers read as 0 is not refused.
+    ///
     /// # Examples
     ///
     /// ```
-    /// let mut uart = Uart16550::new_port(0x3f8, ports)?;
+    /// // In place of `init`, on a port that firmware has set up.
     /// let (dll, dlm) = uart.attach()?;
     /// uart.send_bytes_exact(b"hello")?;
     /// ```

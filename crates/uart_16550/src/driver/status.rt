@@ -5,7 +5,7 @@ ghost use Rattle.uart_spec.specs.declared.access.Access.TheVariants.{Read};
 ghost use Rattle.uart_16550.specs.Grammar.{Only};
 ghost use Rattle.uart_16550.specs.Status.{TakesLsr, TakesMsr, Connects, ReadsDivisor};
 ghost use Rattle.uart_16550.specs.Status.{StoresInterrupts, Enables, Disables, Dumps};
-ghost use Rattle.uart_16550.specs.Status.{Retriggers};
+ghost use Rattle.uart_16550.specs.Status.{Retriggers, ShowsGone};
 ghost use Rattle.uart_16550.specs.Driver.{Made, Did};
 
 use super::Uart16550;
@@ -13,6 +13,9 @@ use crate::backend::Backend;
 use bitflags::Flags;
 use uart_spec::registers::{DLL, DLM, IER, ISR, LCR, LSR, MCR, MSR, SPR, offsets};
 use uart_spec::{ConfigRegisterDump, RemoteReadyToReceiveError};
+
+// What a read shows if no device is there to drive the lines of the bus: all bits set.
+const UNDRIVEN: u8 = 0xff;
 
 impl<B: Backend> Uart16550<B> {
     /// Reads and returns the interrupt enable register (IER). Reading it changes nothing.
@@ -67,6 +70,31 @@ impl<B: Backend> Uart16550<B> {
         ensures { Made B.step (Only (Read offsets.MCR result.0 ∷ [])) self.old self.new }
     {
         MCR::from_bits_retain(self.read_register(offsets::MCR))
+    }
+
+    /// Returns whether the chip is gone, as one that was unplugged: whether MCR shows FF, which is
+    /// what most buses show where nobody answers.
+    ///
+    /// Then LSR shows FF too: a byte waits, and the transmitter is empty. So each call that
+    /// receives finds bytes, all of them FF, and each call that sends succeeds. Call this after
+    /// bytes of FF, or now and then.
+    ///
+    /// Does not wait: reads MCR once, which changes nothing. A chip that is there does not show FF:
+    /// a 16550 has no bits 5 to 7 in MCR, and on later chips all bits would be set only together
+    /// with `LOOP_BACK`, which the driver leaves off. A bus that shows something else where nobody
+    /// answers, as 0, is not told from a chip.
+    ///
+    /// # Examples
+    ///
+    /// ```
+    /// assert!(rt; !uart.is_gone());
+    /// ```
+    pub fn is_gone(&mut self) -> bool
+        ensures { Made B.step (ShowsGone result) self.old self.new }
+    {
+        // MCR, and no other register: a read of DATA, LSR, MSR or ISR changes a chip that is there
+        // after all, IER is the divisor latch under DLAB, and LCR and SPR may be FF.
+        self.mcr().contains(MCR::from_bits_retain(UNDRIVEN))
     }
 
     /// Reads the line status register (LSR). Returns it joined with the error bits that earlier

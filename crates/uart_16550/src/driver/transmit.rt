@@ -9,7 +9,7 @@ ghost use Rattle.uart_16550.specs.Driver.{Made, settings};
 ghost use Rattle.uart_spec.specs.declared.access.Access.TheVariants.{Write};
 ghost use Rattle.uart_spec.specs.declared.registers.offsets.TheConstants as offsets;
 
-use super::{PIECE_SIZE, Uart16550};
+use super::Uart16550;
 use crate::backend::Backend;
 use bitflags::Flags;
 use uart_spec::registers::{LSR, MCR, MSR, offsets};
@@ -80,7 +80,7 @@ impl<B: Backend> Uart16550<B> {
     // fit. LSR shows whether the FIFO is empty, and no register shows how full it is. One byte more
     // could be lost, and nothing would tell.
     //
-    // A whole burst is written from a copy, for the reason at `PIECE_SIZE`.
+    // A whole burst is apart, since its length is known to the compiler: it then counts no bytes.
     fn write_burst(&mut self, bytes: &[u8]) -> usize
         requires { 0 < length bytes.now }
         ensures made { Made B.step (Only (data_writes (take result bytes.now))) self.old self.new }
@@ -92,8 +92,7 @@ impl<B: Backend> Uart16550<B> {
         }
         match bytes.first_chunk::<FIFO_SIZE>() {
             Some(burst) => {
-                let copy = *burst;
-                self.write_data(&copy);
+                self.write_data(burst);
                 FIFO_SIZE
             }
             None => {
@@ -198,38 +197,6 @@ impl<B: Backend> Uart16550<B> {
         Ok(())
     }
 
-    // Sends the bytes of one piece: a whole piece is sent from a copy.
-    #[inline(always)]
-    fn send_piece(&mut self, bytes: &[u8]) -> Result<(), StalledError>
-        ensures made { Made B.step (SendsSingly bytes.now result) self.old self.new }
-        ensures done { IfErr result (λ e. e.done < length bytes.now) }
-    {
-        if bytes.len() != PIECE_SIZE {
-            return self.send_singly(bytes);
-        }
-        let mut copy = [0; PIECE_SIZE];
-        copy.copy_from_slice(bytes);
-        self.send_singly(&copy)
-    }
-
-    // Sends the bytes piece by piece.
-    fn send_pieces(&mut self, bytes: &[u8]) -> Result<(), StalledError>
-        ensures made { Made B.step (SendsSingly bytes.now result) self.old self.new }
-        ensures done { IfErr result (λ e. e.done < length bytes.now) }
-    {
-        let mut done = 0;
-        while done < bytes.len() {
-            let end = bytes.len().min(done + PIECE_SIZE);
-            if let Err(stall) = self.send_piece(&bytes[done..end]) {
-                return Err(StalledError {
-                    done: done + stall.done,
-                });
-            }
-            done = end;
-        }
-        Ok(())
-    }
-
     // Sends the bytes burst by burst, and waits for room before each burst.
     fn send_bursts(&mut self, bytes: &[u8]) -> Result<(), StalledError>
         ensures made { Made B.step (SendsExact bytes.now result) self.old self.new }
@@ -274,7 +241,7 @@ impl<B: Backend> Uart16550<B> {
         if self.fifo_enabled {
             self.send_bursts(bytes)
         } else {
-            self.send_pieces(bytes)
+            self.send_singly(bytes)
         }
     }
 

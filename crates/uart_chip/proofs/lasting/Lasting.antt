@@ -7,19 +7,14 @@ use Rattle.std.specs.List.{AllByRecursion}
 use Rattle.uart_spec.specs.Access.{Path}
 use Rattle.uart_spec.specs.declared.access.Access.{Access}
 use Rattle.uart_spec.specs.declared.access.Access.TheVariants.{Read, Write}
-use Rattle.uart_events.specs.declared.event.Chip.{Chip}
-use Rattle.uart_events.specs.declared.event.Chip.TheVariants.{Uart16550A, Uart16450}
 use Rattle.uart_events.specs.declared.event.Event.{Event}
 use Rattle.uart_events.specs.declared.event.Event.TheVariants.{Ticks, Arrive, Lines, Access as Gate, Mark}
-use Rattle.uart_spec.specs.Bits.{has_any}
-use Rattle.uart_spec.specs.declared.registers.fifo_control.TheConstants.FCR
 use Rattle.uart_spec.specs.declared.registers.offsets.TheConstants as offsets
 use Rattle.uart_chip.specs.Transmitter as transmitter
 use Rattle.uart_chip.specs.Transmitter.{TransmitterState}
-use Rattle.uart_chip.specs.Receiver.{clear}
-use Rattle.uart_chip.specs.Chip.{ChipState, is_dlab_set, is_loopback, tick, ticks, arrive, change_lines, interrupt, is_thr_empty}
+use Rattle.uart_chip.specs.Chip.{ChipState, is_dlab_set, is_loopback, tick, ticks, arrive, change_lines}
 use Rattle.uart_chip.specs.Chip.{after_read, after_write}
-use Rattle.uart_chip.specs.Chip.{trigger_level, switch, reset_receiver, reset_transmitter, set_trigger, is_same, set_fifo, control}
+use Rattle.uart_chip.proofs.AccessMoves.{ReadMove, acknowledges, read_move, WriteMove, sends, enables, switches, empties, write_lasts}
 use Rattle.uart_chip.specs.Machine.{MachineState, MachineStep, perform, before_access, before_mark, at_access}
 
 -- a property lasts if the queue is emptied or the interrupt flag changes: an access that sends nothing does no more than that
@@ -50,38 +45,25 @@ module _ (P : TransmitterState → Type 0) where
   either c d false p q = q
 
 module _ (P : TransmitterState → Type 0) (w : LastsInAccesses P) where
+  lasts-reads : (offset : ℕ) (c d : ChipState) → ReadMove offset c d → P c.transmitter → P d.transmitter
+  lasts-reads offset c d (acknowledges e) p = w.pending c.transmitter false p
+  lasts-reads offset c d _ p = p
+
   pub lasts-read : (offset : ℕ) (c : ChipState) → P c.transmitter → P (after_read offset c).transmitter
-  lasts-read offset c p =
-      either P _ _ (offset == offsets.DATA) (either P _ _ (is_dlab_set c.latches) p p)
-      (either P _ _ (offset == offsets.ISR) (either P _ _ (is_thr_empty (interrupt c)) (w.pending c.transmitter false p) p)
-      (either P _ _ (offset == offsets.LSR) p (either P _ _ (offset == offsets.MSR) p p)))
+  lasts-read offset c p = lasts-reads offset c _ (read_move offset c) p
 
-  lasts-fifo : (value : ℕ) (c : ChipState) → P c.transmitter → P (set_fifo value c).transmitter
-  lasts-fifo value c p =
-      let on : Bool = has_any value FCR.FIFO_ENABLE.0 in
-      let d : ChipState = if is_same c.fifo on then c else switch on c in
-      let switched : P d.transmitter =
-      either P c (switch on c) (is_same c.fifo on) p (w.cleared c.transmitter c.transmitter.is_thr_pending p) in
-      let e : ChipState = reset_receiver value d in
-      let received : P e.transmitter =
-      either P (record d { receiver = clear d.receiver }) d (has_any value FCR.RX_FIFO_RESET.0) switched switched in
-      let f : ChipState = reset_transmitter value e in
-      let emptied : ChipState = record e { transmitter = record e.transmitter { queue = []; is_thr_pending = true } } in
-      let reset : P f.transmitter =
-      either P emptied e (has_any value FCR.TX_FIFO_RESET.0) (w.cleared e.transmitter true received) received in
-      either P (set_trigger (trigger_level value) f) d on reset switched
-
-  lasts-control : (model : Chip) (value : ℕ) (c : ChipState) → P c.transmitter → P (control model value c).transmitter
-  lasts-control Uart16450 value c p = p
-  lasts-control Uart16550A value c p = lasts-fifo value c p
+  lasts-writes : (offset value : ℕ) → (offset == offsets.DATA) ≡ false → (c d : ChipState) → WriteMove offset value c d →
+      P c.transmitter → P d.transmitter
+  lasts-writes offset value other c d (sends e q) p = let no : true ≡ false = rw e at other in absurd (cc)
+  lasts-writes offset value other c d (enables e q) p = w.pending c.transmitter _ p
+  lasts-writes offset value other c d (switches e m on) p = w.cleared c.transmitter _ p
+  lasts-writes offset value other c d (empties e) p = w.cleared c.transmitter _ p
+  lasts-writes offset value other c d _ p = p
 
   -- another register is written than that of the data
   pub lasts-write : (offset value : ℕ) (c : ChipState) → (offset == offsets.DATA) ≡ false → P c.transmitter →
       P (after_write offset value c).transmitter
-  lasts-write offset value c other p =
-      rw other (either P _ _ (offset == offsets.IER) (either P _ _ (is_dlab_set c.latches) p (w.pending c.transmitter _ p))
-      (either P _ _ (offset == offsets.FCR) (lasts-control c.model value c p)
-      (either P _ _ (offset == offsets.LCR) p (either P _ _ (offset == offsets.MCR) p (either P _ _ (offset == offsets.SPR) p p)))))
+  lasts-write offset value c other p = write_lasts (λ d. P d.transmitter) offset value (lasts-writes offset value other) c p
 
   -- under DLAB the divisor latch is written
   pub lasts-latch : (value : ℕ) (c : ChipState) → is_dlab_set c.latches ≡ true → P c.transmitter →

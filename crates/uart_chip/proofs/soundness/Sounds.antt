@@ -29,6 +29,9 @@ use Rattle.uart_chip.proofs.soundness.Within.{within_and, within-le}
 use Rattle.uart_chip.proofs.soundness.ReceiverSounds.{Safe, safe_tick, safe_arrive, safe_take_front, safe_clear, sound_report}
 use Rattle.uart_chip.proofs.soundness.ReceiverSounds.{sound_trigger}
 use Rattle.uart_chip.proofs.soundness.TransmitterSounds.{sound_tick as sound_shift_tick, sound_load, sound_clear, sound_pending}
+use Rattle.uart_chip.proofs.AccessMoves.{ReadMove, stays, takes, acknowledges, looks, sees, read_move, WriteMove}
+use Rattle.uart_chip.proofs.AccessMoves.{ignores, sets_low, sends, sets_high}
+use Rattle.uart_chip.proofs.AccessMoves.{enables, switches, clears, empties, triggers, frames, steers, notes, write_lasts}
 use Rattle.uart_chip.proofs.soundness.TransmitterSounds.{sound_renew}
 
 -- the chip is sound after a move, with the same number of arrivals, and as many to come
@@ -167,34 +170,31 @@ steady_lines inputs c w i = record {
 
 -- ---- reads
 
+steady_unchanged : (c : ChipState) → IsSoundChip c → Steady c.receiver.arrived c (record c { modem = record c.modem { deltas = 0 } })
+steady_unchanged c w = record {
+  sound = record {
+    receiver = w.receiver;
+    transmitter = w.transmitter;
+    modem = record { inputs = w.modem.inputs; lines = w.modem.lines; deltas = refl };
+    latches = w.latches;
+    implemented = w.implemented;
+    limit = w.limit;
+  };
+  number = refl;
+  known = refl;
+}
+
+steady_reads : (offset : ℕ) (c d : ChipState) → ReadMove offset c d → IsSoundChip c → Steady c.receiver.arrived c d
+steady_reads offset c d (stays e) w = steady_refl c w
+steady_reads offset c d (takes e q) w = steady_receiver c.receiver.arrived c _ w (safe_take_front c.fifo c.receiver w.receiver)
+steady_reads offset c d (acknowledges e) w = steady_transmitter c _ w (sound_pending c.fifo false c.transmitter w.transmitter) refl
+steady_reads offset c d (looks e) w =
+    steady_receiver c.receiver.arrived c _ w
+    (record { sound = sound_report c.fifo c.receiver w.receiver; number = refl; known = refl; limit = refl })
+steady_reads offset c d (sees e) w = steady_unchanged c w
+
 pub steady_read : (offset : ℕ) (c : ChipState) → IsSoundChip c → Steady c.receiver.arrived c (after_read offset c)
-steady_read offset c w =
-    let n : ℕ = c.receiver.arrived in
-    steady_if n c _ _ (offset == offsets.DATA)
-    (steady_if n c _ _ (is_dlab_set c.latches) (steady_refl c w)
-    (steady_receiver n c (take_front c.receiver.queue c.receiver) w (safe_take_front c.fifo c.receiver w.receiver)))
-    (steady_if n c _ _ (offset == offsets.ISR)
-    (steady_if n c _ _ (is_thr_empty (interrupt c))
-    (steady_transmitter c (record c.transmitter { is_thr_pending = false }) w
-    (sound_pending c.fifo false c.transmitter w.transmitter) refl) (steady_refl c w))
-    (steady_if n c _ _ (offset == offsets.LSR)
-    (steady_receiver n c (report c.receiver) w
-    (record { sound = sound_report c.fifo c.receiver w.receiver; number = refl; known = refl; limit = refl }))
-    (steady_if n c _ _ (offset == offsets.MSR) (unchanged) (steady_refl c w))))
-  where
-    unchanged : Steady c.receiver.arrived c (record c { modem = record c.modem { deltas = 0 } })
-    unchanged = record {
-      sound = record {
-        receiver = w.receiver;
-        transmitter = w.transmitter;
-        modem = record { inputs = w.modem.inputs; lines = w.modem.lines; deltas = refl };
-        latches = w.latches;
-        implemented = w.implemented;
-        limit = w.limit;
-      };
-      number = refl;
-      known = refl;
-    }
+steady_read offset c w = steady_reads offset c _ (read_move offset c) w
 
 -- ---- the FIFO control register
 
@@ -213,39 +213,6 @@ steady_switch on c w has_fifo =
       number = a.number;
       known = a.known;
     }
-
-pub steady_fifo : (value : ℕ) (c : ChipState) → IsSoundChip c → c.model ≡ Uart16550A → Steady c.receiver.arrived c (set_fifo value c)
-steady_fifo value c w has_fifo =
-    let n : ℕ = c.receiver.arrived in
-    let on : Bool = has_any value FCR.FIFO_ENABLE.0 in
-    let d : ChipState = if is_same c.fifo on then c else switch on c in
-    let a : Steady n c d = steady_if n c c (switch on c) (is_same c.fifo on) (steady_refl c w) (steady_switch on c w has_fifo) in
-    let e : ChipState = reset_receiver value d in
-    let b : Steady d.receiver.arrived d e =
-    steady_if d.receiver.arrived d (record d { receiver = clear d.receiver }) d (has_any value FCR.RX_FIFO_RESET.0)
-    (steady_receiver d.receiver.arrived d (clear d.receiver) a.sound (safe_clear d.fifo d.fifo d.receiver a.sound.receiver))
-    (steady_refl d a.sound) in
-    let f : ChipState = reset_transmitter value e in
-    let g : Steady e.receiver.arrived e f =
-    steady_if e.receiver.arrived e (record e { transmitter = record e.transmitter { queue = []; is_thr_pending = true } }) e
-    (has_any value FCR.TX_FIFO_RESET.0)
-    (steady_transmitter e (record e.transmitter { queue = []; is_thr_pending = true }) b.sound
-    (sound_clear e.fifo e.fifo true e.transmitter b.sound.transmitter) refl) (steady_refl e b.sound) in
-    let h : Steady f.receiver.arrived f (set_trigger (trigger_level value) f) =
-    steady_receiver f.receiver.arrived f (record f.receiver { trigger = trigger_level value }) g.sound
-    (record {
-      sound = sound_trigger f.fifo f.receiver (trigger_level value) g.sound.receiver;
-      number = refl;
-      known = refl;
-      limit = refl;
-    }) in
-    steady_if n c (set_trigger (trigger_level value) f) d on
-    (steady_trans n c d _ a (steady_trans d.receiver.arrived d e _ b (steady_trans e.receiver.arrived e f _ g h))) a
-
-steady_control : (model : Chip) (value : ℕ) (c : ChipState) → IsSoundChip c → c.model ≡ model →
-    Steady c.receiver.arrived c (control model value c)
-steady_control Uart16450 value c w e = steady_refl c w
-steady_control Uart16550A value c w e = steady_fifo value c w e
 
 -- ---- writes
 
@@ -278,32 +245,40 @@ steady_modem_control value c w = record {
   known = refl;
 }
 
+kept_latches : (c : ChipState) (l : LatchesState) → IsSoundChip c → l.ier ≡ c.latches.ier → l.mcr ≡ c.latches.mcr →
+    Steady c.receiver.arrived c (with_latches l c)
+kept_latches c l w p q = steady_latches c l w (record { ier = rw p w.latches.ier; mcr = rw q w.latches.mcr })
+
+char_ticks-load : (fifo : Bool) (byte : ℕ) (t : TransmitterState) → (load fifo byte t).char_ticks ≡ t.char_ticks
+char_ticks-load fifo byte t = either _ _ (nat_lt (length t.queue) (transmitter.room fifo)) refl refl
+  where
+    either : (x y : TransmitterState) (b : Bool) → x.char_ticks ≡ t.char_ticks → y.char_ticks ≡ t.char_ticks →
+        (if b then x else y).char_ticks ≡ t.char_ticks
+    either x y true p q = p
+    either x y false p q = q
+
+steady_writes : (offset value : ℕ) (c d : ChipState) → WriteMove offset value c d → IsSoundChip c → Steady c.receiver.arrived c d
+steady_writes offset value c d (ignores e) w = steady_refl c w
+steady_writes offset value c d (sets_low e q) w = kept_latches c _ w refl refl
+steady_writes offset value c d (sends e q) w =
+    steady_transmitter c (load c.fifo (cut_of c value) c.transmitter) w
+    (sound_load c.fifo (cut_of c value) c.transmitter w.transmitter) (char_ticks-load c.fifo (cut_of c value) c.transmitter)
+steady_writes offset value c d (sets_high e q) w = kept_latches c _ w refl refl
+steady_writes offset value c d (enables e q) w = steady_enable value c w
+steady_writes offset value c d (switches e has_fifo on) w = steady_switch on c w has_fifo
+steady_writes offset value c d (clears e) w = steady_receiver c.receiver.arrived c _ w (safe_clear c.fifo c.fifo c.receiver w.receiver)
+steady_writes offset value c d (empties e) w = steady_transmitter c _ w (sound_clear c.fifo c.fifo true c.transmitter w.transmitter) refl
+steady_writes offset value c d (triggers e level) w =
+    steady_receiver c.receiver.arrived c _ w
+    (record { sound = sound_trigger c.fifo c.receiver level w.receiver; number = refl; known = refl; limit = refl })
+steady_writes offset value c d (frames e) w = kept_latches c _ w refl refl
+steady_writes offset value c d (steers e) w = steady_modem_control value c w
+steady_writes offset value c d (notes e) w = kept_latches c _ w refl refl
+
 pub steady_write : (offset value : ℕ) (c : ChipState) → IsSoundChip c → Steady c.receiver.arrived c (after_write offset value c)
 steady_write offset value c w =
     let n : ℕ = c.receiver.arrived in
-    let same : IsSoundLatches c.latches = w.latches in
-    let still : (l : LatchesState) → l.ier ≡ c.latches.ier → l.mcr ≡ c.latches.mcr → Steady n c (with_latches l c) =
-    λ l p q. steady_latches c l w (kept l p q) in
-    steady_if n c _ _ (offset == offsets.DATA)
-    (steady_if n c _ _ (is_dlab_set c.latches) (still _ refl refl)
-    (steady_transmitter c (load c.fifo (cut_of c value) c.transmitter) w
-    (sound_load c.fifo (cut_of c value) c.transmitter w.transmitter) (char_ticks-load c.fifo (cut_of c value) c.transmitter)))
-    (steady_if n c _ _ (offset == offsets.IER) (steady_if n c _ _ (is_dlab_set c.latches) (still _ refl refl) (steady_enable value c w))
-    (steady_if n c _ _ (offset == offsets.FCR) (steady_control c.model value c w refl)
-    (steady_if n c _ _ (offset == offsets.LCR) (still _ refl refl)
-    (steady_if n c _ _ (offset == offsets.MCR) (steady_modem_control value c w)
-    (steady_if n c _ _ (offset == offsets.SPR) (still _ refl refl) (steady_refl c w))))))
-  where
-    kept : (l : LatchesState) → l.ier ≡ c.latches.ier → l.mcr ≡ c.latches.mcr → IsSoundLatches l
-    kept l p q = record { ier = rw p w.latches.ier; mcr = rw q w.latches.mcr }
-
-    char_ticks-load : (fifo : Bool) (byte : ℕ) (t : TransmitterState) → (load fifo byte t).char_ticks ≡ t.char_ticks
-    char_ticks-load fifo byte t = either _ _ (nat_lt (length t.queue) (transmitter.room fifo)) refl refl
-      where
-        either : (x y : TransmitterState) (b : Bool) → x.char_ticks ≡ t.char_ticks → y.char_ticks ≡ t.char_ticks →
-            (if b then x else y).char_ticks ≡ t.char_ticks
-        either x y true p q = p
-        either x y false p q = q
+    write_lasts (Steady n c) offset value (λ d e m p. steady_trans n c d e p (steady_writes offset value d e m p.sound)) c (steady_refl c w)
 
 -- ---- the machine
 

@@ -43,7 +43,7 @@ use Rattle.uart_run.proofs.progress.Succeeds.{few_left}
 -- ---- up to the wait
 
 -- the divisor latch is written under DLAB, so nothing is sent
-free-line : (divisor frame : ℕ) (m n : MachineState) → RunsFree m → Path MachineStep m (line_writes divisor frame) n → RunsFree n
+pub free-line : (divisor frame : ℕ) (m n : MachineState) → RunsFree m → Path MachineStep m (line_writes divisor frame) n → RunsFree n
 free-line divisor frame m n r (m₁, s₁, (m₂, s₂, (m₃, under, (m₄, latch, rest)))) =
     let a = free-path (Write offsets.LCR 0 ∷ Write offsets.IER 0 ∷ Write offsets.LCR LCR.DLAB.0 ∷ []) m m₃ r (refl, (refl, (refl, tt)))
     (m₁, s₁, (m₂, s₂, (m₃, under, refl))) in
@@ -55,7 +55,7 @@ free-line divisor frame m n r (m₁, s₁, (m₂, s₂, (m₃, under, (m₄, lat
     (refl, (refl, (refl, tt))) rest
 
 -- a list that sends nothing
-free-list : (s : Settings) (L : Language) (l : List Access) (m n : MachineState) → IsSilent s L → RunsFree m → L s l →
+pub free-list : (s : Settings) (L : Language) (l : List Access) (m n : MachineState) → IsSilent s L → RunsFree m → L s l →
     Path MachineStep m l n → RunsFree n
 free-list s L l m n silent r t path = free-path l m n r (silent l t) path
 
@@ -77,17 +77,17 @@ free-set_up config divisor fifo s l m n r t path =
     free-list s (SetsFifo level fifo) q.back q.between n (silent_sets_fifo s level fifo) b q.second q.after
 
 -- the drain and MCR
-free-drained : (f mid : Fields) (l : List Access) (m n : MachineState) → RunsFree m →
-    Next (Plain DrainsReceiver) (Saving (Only (Write offsets.MCR raised_outputs ∷ []))) f l mid → Path MachineStep m l n → RunsFree n
-free-drained f mid l m n r t path =
-    let a = next_stages (Plain DrainsReceiver) (Saving (Only (Write offsets.MCR raised_outputs ∷ []))) f mid l m n t path in
+pub free-drained : (outputs : ℕ) (f mid : Fields) (l : List Access) (m n : MachineState) → RunsFree m →
+    Next (Plain DrainsReceiver) (Saving (Only (Write offsets.MCR outputs ∷ []))) f l mid → Path MachineStep m l n → RunsFree n
+free-drained outputs f mid l m n r t path =
+    let a = next_stages (Plain DrainsReceiver) (Saving (Only (Write offsets.MCR outputs ∷ []))) f mid l m n t path in
     let b = free-list (settings_of f) DrainsReceiver a.parts.front m a.parts.between (silent_drains (settings_of f)) r
     a.parts.first.0 a.parts.before in
-    free-path (Write offsets.MCR raised_outputs ∷ []) a.parts.between n b (refl, tt)
-    (path_as a.parts.between n a.parts.back (Write offsets.MCR raised_outputs ∷ []) a.parts.second.0.is a.parts.after)
+    free-path (Write offsets.MCR outputs ∷ []) a.parts.between n b (refl, tt)
+    (path_as a.parts.between n a.parts.back (Write offsets.MCR outputs ∷ []) a.parts.second.0.is a.parts.after)
 
 -- fields that are set make no access
-free-sets : (change : Fields → Fields) (H : Doing) (f after : Fields) (l : List Access) (m n : MachineState) →
+pub free-sets : (change : Fields → Fields) (H : Doing) (f after : Fields) (l : List Access) (m n : MachineState) →
     Next (Sets change) H f l after → Path MachineStep m l n →
     ((mid : Fields) (back : List Access) → H mid back after → Path MachineStep m back n → RunsFree n) → RunsFree n
 free-sets change H f after l m n t path next =
@@ -108,7 +108,7 @@ free-begins config divisor fifo f mid l m n r t path =
         let b = free-set_up config divisor fifo (settings_of g) a.parts.front m a.parts.between r a.parts.first.0 a.parts.before in
         free-sets (with_fifo fifo) (Next (Plain DrainsReceiver) (Saving (Only (Write offsets.MCR raised_outputs ∷ [])))) a.mid mid
         a.parts.back a.parts.between n a.parts.second a.parts.after
-        (λ h back w q. free-drained h mid back a.parts.between n b w q)
+        (λ h back w q. free-drained raised_outputs h mid back a.parts.between n b w q)
 
 -- the limit stays
 limit-begins : (config : Config) (divisor : ℕ) (fifo : Bool) (f mid : Fields) (l : List Access) → Begins config divisor fifo f l mid →
@@ -122,7 +122,7 @@ limit-begins config divisor fifo f mid l b =
 
 -- ---- a configuration with a divisor is not refused for its baud rate
 
-no_refusal : (config : Config) (cause : InvalidDivisorError) → HasDivisor config → DivisorOf config (Err cause) → ⊥
+pub no_refusal : (config : Config) (cause : InvalidDivisorError) → HasDivisor config → DivisorOf config (Err cause) → ⊥
 no_refusal config (NonInteger error) h refused = refused.0 h.divisor h.is_divisor.0
 no_refusal config (OutOfRange other) h refused =
     let factor : ℕ = 16 * (prescaler config.prescaler_division_factor + 1) * to_integer config.baud_rate in

@@ -2,9 +2,11 @@
 use Rattle.std.proofs.Common.{◌≡◌, ℕ, Bool, true, false, ◌&&◌, List, [], ◌∷◌, Result, Ok}
 use Rattle.std.proofs.Common.{Err, refl, sym, ◌∙◌, ap, subst, bit_and, if◌then◌else◌}
 use Rattle.std.proofs.Math.Nat.{div-add-mod}
+use Rattle.uart_spec.specs.Bits.{has_any}
 use Rattle.uart_spec.specs.declared.config.Config.{Config}
 use Rattle.uart_spec.specs.declared.errors.InitError.{InitError}
 use Rattle.uart_spec.specs.declared.errors.InitError.TheVariants.{InvalidBaudRate, DeviceNotPresent, Stalled}
+use Rattle.uart_spec.specs.declared.registers.line_control.TheConstants.LCR
 use Rattle.uart_spec.specs.declared.registers.offsets.TheConstants as offsets
 use Rattle.uart_spec.specs.declared.registers.line_status.TheConstants.LSR
 use Rattle.uart_spec.specs.Access.{Path}
@@ -31,7 +33,7 @@ use Rattle.uart_run.proofs.Pieces.{then_parts, next_stages}
 use Rattle.uart_run.proofs.initialising.Presence.{never_absent}
 use Rattle.uart_run.proofs.KeptLists.{keeps_waits, kept_still}
 use Rattle.uart_run.proofs.EmptyTransmitter.{IsEmpty, empty_shown}
-use Rattle.uart_run.proofs.initialising.Inits.{frame-dlab, set_up, Begun, begun, ended}
+use Rattle.uart_run.proofs.initialising.Inits.{frame-dlab, frame-unbroken, set_up, Begun, begun, ended}
 
 -- ready by what the registers keep
 pub ready_by : (t : State) (k : Kept) → kept_in (machine_of t).chip ≡ k → is_dlab_set k.latches ≡ false → is_loopback k.latches ≡ false →
@@ -62,6 +64,7 @@ initialised : (config : Config) (d scr : ℕ) (on : Bool) (k : Kept) (t : State)
     (fields (inner_of t)).fifo ≡ on → IsWired t → IsEmpty (machine_of t).chip.transmitter → IsInitialised config t
 initialised config d scr on k t of kept is_on knows wired empty = record {
   ready = ready_by t (last config d scr on k) kept (frame-dlab config) refl knows;
+  unbroken = ap (λ (v : Kept). has_any v.latches.lcr LCR.SET_BREAK.0) kept ∙ frame-unbroken config;
   wired = wired;
   divisor_latch = subst (λ n. DivisorOf config (Ok n)) (sym (ap (λ (v : Kept). divisor v.latches) kept ∙ div-add-mod d 256)) of;
   lcr = ap (λ (v : Kept). v.latches.lcr) kept;
@@ -79,7 +82,7 @@ still_begun config d on m n o g l empty b t p =
     kept_still (settings_of g) (WaitsFor LSR.TRANSMITTER_EMPTY.0 empty) l n o (keeps_waits (settings_of g) LSR.TRANSMITTER_EMPTY.0 empty)
     (ap (λ (v : Kept). is_dlab_set v.latches) b.kept ∙ frame-dlab config) t p
 
-done : (config : Config) (d : ℕ) (on : Bool) (f : Fields) (l : List Access) (m : MachineState) (t : State) → IsSound m →
+pub done : (config : Config) (d : ℕ) (on : Bool) (f : Fields) (l : List Access) (m : MachineState) (t : State) → IsSound m →
     DivisorOf config (Ok d) →
     Next (Begins config d on) (Next (Saving (WaitsFor LSR.TRANSMITTER_EMPTY.0 true)) (Ends config)) f l (fields (inner_of t)) →
     Path MachineStep m l (machine_of t) → IsInitialised config t

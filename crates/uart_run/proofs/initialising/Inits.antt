@@ -34,12 +34,10 @@ use Rattle.uart_run.proofs.EmptyTransmitter.{IsEmpty, empty_path}
 
 -- ---- the frame
 
--- no frame has the bit that shows the divisor latch
-pub frame-dlab : (config : Config) → has_any (frame_bits config) 128 ≡ false
-frame-dlab config =
-    let low : frame_bits config < 128 = sum (word_length_code config.data_bits) _ (parity_code config.parity) (word config.data_bits)
-    (stop config.extra_stop_bits) (parity config.parity) in
-    has_bit 7 (frame_bits config) ∙ ap (λ b. b == 1) (bit_at_above (frame_bits config) 7 7 low (omega arith))
+pub frame-low : (config : Config) → frame_bits config < 64
+frame-low config =
+    sum (word_length_code config.data_bits) _ (parity_code config.parity) (word config.data_bits) (stop config.extra_stop_bits)
+    (parity config.parity)
   where
     word : (length : WordLength) → word_length_code length ≤ 3
     word FiveBits = omega arith
@@ -58,8 +56,18 @@ frame-dlab config =
     parity Forced1 = omega arith
     parity Forced0 = omega arith
 
-    sum : (a b c : ℕ) → a ≤ 3 → b ≤ 4 → c ≤ 7 → a + b + 8 * c < 128
+    sum : (a b c : ℕ) → a ≤ 3 → b ≤ 4 → c ≤ 7 → a + b + 8 * c < 64
     sum a b c p q r = omega arith
+
+-- no frame has the bit that shows the divisor latch
+pub frame-dlab : (config : Config) → has_any (frame_bits config) 128 ≡ false
+frame-dlab config =
+    has_bit 7 (frame_bits config) ∙ ap (λ b. b == 1) (bit_at_above (frame_bits config) 6 7 (frame-low config) (omega arith))
+
+-- nor the bit of a break
+pub frame-unbroken : (config : Config) → has_any (frame_bits config) 64 ≡ false
+frame-unbroken config =
+    has_bit 6 (frame_bits config) ∙ ap (λ b. b == 1) (bit_at_above (frame_bits config) 6 6 (frame-low config) (omega arith))
 
 -- ---- up to MCR
 

@@ -2,12 +2,14 @@
 use Rattle.std.proofs.Common.{◌≡◌, ◌≢◌, ◌⊎◌, inl, inr, ℕ, Bool, true, false, ◌&&◌, List, [], ◌∷◌, Result, Ok, Err}
 use Rattle.std.proofs.Common.{refl, sym, ◌∙◌, ap, subst, bit_and, if◌then◌else◌}
 use Rattle.std.proofs.Math.Nat.{div-add-mod}
+use Rattle.uart_spec.specs.Bits.{has_any}
 use Rattle.uart_spec.specs.Access.{Path}
 use Rattle.uart_spec.specs.declared.access.Access.{Access}
 use Rattle.uart_spec.specs.declared.access.Access.TheVariants.{Write}
 use Rattle.uart_spec.specs.declared.config.Config.{Config}
 use Rattle.uart_spec.specs.declared.errors.InitError.{InitError}
 use Rattle.uart_spec.specs.declared.errors.InitError.TheVariants.{InvalidBaudRate, DeviceNotPresent, Stalled}
+use Rattle.uart_spec.specs.declared.registers.line_control.TheConstants.LCR
 use Rattle.uart_spec.specs.declared.registers.line_status.TheConstants.LSR
 use Rattle.uart_spec.specs.declared.registers.offsets.TheConstants as offsets
 use Rattle.uart_spec.specs.declared.setup.Setup.{Setup}
@@ -40,7 +42,7 @@ use Rattle.uart_run.proofs.SilentLists.{silent_sets_fifo, silent_drains}
 use Rattle.uart_run.proofs.EmptyTransmitter.{IsEmpty, wait_empties, empty_path, empty_lined}
 use Rattle.uart_run.proofs.initialising.Presence.{never_absent}
 use Rattle.uart_run.proofs.initialising.FifoSteps.{sets_fifo}
-use Rattle.uart_run.proofs.initialising.Inits.{frame-dlab, set_up, checked, drained, ended}
+use Rattle.uart_run.proofs.initialising.Inits.{frame-dlab, frame-unbroken, set_up, checked, drained, ended}
 use Rattle.uart_run.proofs.initialising.Initialised.{ready_by, untouched}
 use Rattle.uart_run.proofs.FrameLaws.{unlooped_off}
 
@@ -185,6 +187,7 @@ arranged : (setup : Setup) (config : Config) (d scr : ℕ) (on : Bool) (k : Kept
     IsSetUp setup config t
 arranged setup config d scr on k t of kept is_on knows wired empty = record {
   ready = ready_by t (last setup config d scr on k) kept (frame-dlab config) (unlooped_off setup.outputs.0) knows;
+  unbroken = ap (λ (v : Kept). has_any v.latches.lcr LCR.SET_BREAK.0) kept ∙ frame-unbroken config;
   wired = wired;
   divisor_latch = subst (λ n. DivisorOf config (Ok n)) (sym (ap (λ (v : Kept). divisor v.latches) kept ∙ div-add-mod d 256)) of;
   lcr = ap (λ (v : Kept). v.latches.lcr) kept;
@@ -200,7 +203,7 @@ some_wait First some = inl refl
 some_wait Last some = inr refl
 some_wait NoWait some = absurd (some refl)
 
-done : (setup : Setup) (config : Config) (d : ℕ) (on : Bool) (f : Fields) (l : List Access) (m : MachineState) (t : State) → IsSound m →
+pub done : (setup : Setup) (config : Config) (d : ℕ) (on : Bool) (f : Fields) (l : List Access) (m : MachineState) (t : State) → IsSound m →
     DivisorOf config (Ok d) →
     Next (Sets (with_config config)) (Next (Saving (Looks setup true))
     (Next (SetsUp setup config d on) (Next (Saving (WaitsIf (is_last setup.wait) true)) (Ends config)))) f l (fields (inner_of t)) →

@@ -41,7 +41,7 @@ settings_at s = settings_of (fields (inner_of s))
 less_room : (n k : ℕ) (m : MachineState) → n ≤ k → HasRoom k m → HasRoom n m
 less_room n k m h room = omega (arith, h, room)
 
-runs : (s : State) → IsSound (machine_of s) → IsTimely s → HasRoom 0 (machine_of s) → Runs (machine_of s)
+pub runs : (s : State) → IsSound (machine_of s) → IsTimely s → HasRoom 0 (machine_of s) → Runs (machine_of s)
 runs s w timely room = record { sound = w; ticked = timely.ticked; flows = λ e. omega (arith, room) }
 
 -- the limit exceeds what is left, there and after some accesses

@@ -14,11 +14,14 @@ const IER: u8 = 1;
 
 const ISR: u8 = 2;
 
+const FCR: u8 = 2;
+
 // A host that takes at most three bytes at a time, and counts what it was asked for.
 #[derive(Clone, Copy, Debug, PartialEq, Eq)]
 struct Counts {
     signals: u8,
     line: bool,
+    rises: u8,
     resumed: u8,
 }
 
@@ -28,6 +31,9 @@ impl Host for Counts {
     }
 
     fn set_line(&mut self, level: bool) {
+        if level && !self.line {
+            self.rises = self.rises.saturating_add(1);
+        }
         self.line = level;
     }
 
@@ -44,6 +50,7 @@ fn host() -> Counts {
     Counts {
         signals: 0,
         line: false,
+        rises: 0,
         resumed: 0,
     }
 }
@@ -81,5 +88,23 @@ fn a_monitor_that_sets_the_line(rt: HostRuntime) -> Result<(), Fail> {
     assert!(rt; host.line);
     obey_levels(&mut host, port.read(DATA).todo);
     assert!(rt; !host.line && host.signals == 0);
+    Ok(())
+}
+
+// The guest reads 8 of 12 characters and returns. The line fell and rose in that, and a pin that
+// detects edges is to see it.
+#[test]
+fn a_pin_that_detects_edges_sees_a_fall_within_a_call(rt: HostRuntime) -> Result<(), Fail> {
+    let mut port = VirtualPort::new(Chip::Uart16550A);
+    let mut host = host();
+    obey_levels(&mut host, port.write(FCR, 0x87));
+    obey_levels(&mut host, port.write(IER, 0x01));
+    obey_levels(&mut host, port.receive(b"0123456789ab").todo);
+    assert!(rt; host.line && host.rises == 1);
+    assert!(rt; port.read(ISR).value == 0xc4);
+    for _ in 0..8 {
+        obey_levels(&mut host, port.read(DATA).todo);
+    }
+    assert!(rt; host.line && host.rises == 2);
     Ok(())
 }

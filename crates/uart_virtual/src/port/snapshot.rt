@@ -2,9 +2,9 @@
 ghost use Rattle.std.specs.Prelude.{◌≡◌, Err, IfOk, IsOk, true, false};
 ghost use Rattle.uart_chip.specs.Snapshot.{chip_of};
 ghost use Rattle.uart_live.specs.declared.errors.RestoreError.{RestoreError};
-ghost use Rattle.uart_virtual.specs.Port.{IsSaved, IsStill, begun, idle, is_unmoved, todo_of, untold};
+ghost use Rattle.uart_virtual.specs.Port.{IsSaved, IsStill, begun, is_unmoved, renewed, todo_of, untold};
 
-use super::{CHAR_TICKS, IDLE, UNTOLD, VirtualPort, decide};
+use super::{CHAR_TICKS, RENEWED, UNTOLD, VirtualPort, decide};
 use crate::told::Todo;
 use bitflags::Flags;
 use uart_live::{ChipData, LiveChip, RestoreError, TransmitterData, WIRE_ROOM};
@@ -86,7 +86,7 @@ impl VirtualPort {
     pub fn from_data(saved: &ChipData, output: &[u8]) -> Result<Restored, RestoreError>
         ensures port { IfOk result (λ r. r.port ≡ begun (chip_of saved.now output.now)) }
         ensures todo { IfOk result (λ r.
-            r.todo ≡ todo_of idle true (chip_of saved.now output.now) untold) }
+            r.todo ≡ todo_of renewed true (chip_of saved.now output.now) untold) }
         ensures accepted { IsSaved saved.now output.now → IsOk result }
         ensures refused { (IsSaved saved.now output.now → ⊥) →
             result ≡ Err RestoreError.BadData }
@@ -96,7 +96,7 @@ impl VirtualPort {
         }
         let chip = LiveChip::from_data(saved, output)?;
         let mut told = UNTOLD;
-        let todo = decide(&chip, true, &mut told, IDLE);
+        let todo = decide(&chip, true, &mut told, RENEWED);
         let port = VirtualPort { chip, told };
         Ok(Restored { port, todo })
     }

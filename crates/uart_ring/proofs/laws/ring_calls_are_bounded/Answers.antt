@@ -3,6 +3,7 @@ use Rattle.uart_ring.proofs.Bounding.{handles_size, retriggers_size}
 use Rattle.uart_ring.proofs.Bounding.{holds_size, releases_size, queues_urgent_size, clears_transmit_size, clears_receive_size}
 use Rattle.uart_ring.proofs.Bounding.{sets_low_mark_size, takes_low_size, tries_size, restarts_size}
 use Rattle.uart_ring.proofs.Bounding.{adjusts_size}
+use Rattle.uart_ring.proofs.Bounding.{dumps_registers_size}
 use Rattle.uart_ring.proofs.laws.ring_calls_are_bounded.Goals as goal
 
 pub returns : goal.returns
@@ -24,5 +25,6 @@ returns c = record {
   take_low = takes_low_size;
   try_handle = tries_size;
   restart = restarts_size;
+  config_register_dump = dumps_registers_size;
   adjust_rts = adjusts_size;
 }

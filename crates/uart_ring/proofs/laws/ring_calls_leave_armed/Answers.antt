@@ -5,6 +5,7 @@ use Rattle.uart_ring.proofs.Arming.{holds_leave, releases_arm, releases_arm_unle
 use Rattle.uart_ring.proofs.Arming.{clears_transmit_leave, clears_receive_leave, sets_low_mark_leave, takes_low_leave, tries_leave}
 use Rattle.uart_ring.proofs.Arming.{restarts_arm}
 use Rattle.uart_ring.proofs.Arming.{adjusts_leave}
+use Rattle.uart_ring.proofs.Arming.{dumps_registers_arm}
 use Rattle.uart_ring.proofs.laws.ring_calls_leave_armed.Goals as goal
 
 pub returns : goal.returns
@@ -31,5 +32,6 @@ returns c = record {
   take_low = takes_low_leave;
   try_handle = tries_leave;
   restart = restarts_arm;
+  config_register_dump = dumps_registers_arm;
   adjust_rts = adjusts_leave;
 }

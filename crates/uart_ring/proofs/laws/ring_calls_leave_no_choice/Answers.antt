@@ -5,6 +5,7 @@ use Rattle.uart_ring.proofs.Choices.{holds_leave_no_choice, releases_leave_no_ch
 use Rattle.uart_ring.proofs.Choices.{clears_transmit_leaves_no_choice, clears_receive_leaves_no_choice, sets_low_mark_leaves_no_choice}
 use Rattle.uart_ring.proofs.Choices.{takes_low_leaves_no_choice, tries_leave_no_choice, restarts_leave_no_choice}
 use Rattle.uart_ring.proofs.Choices.{adjusts_leave_no_choice}
+use Rattle.uart_ring.proofs.Choices.{dumps_registers_leave_no_choice}
 use Rattle.uart_ring.proofs.laws.ring_calls_leave_no_choice.Goals as goal
 
 pub returns : goal.returns
@@ -26,5 +27,6 @@ returns c = record {
   take_low = takes_low_leaves_no_choice;
   try_handle = tries_leave_no_choice;
   restart = restarts_leave_no_choice;
+  config_register_dump = dumps_registers_leave_no_choice;
   adjust_rts = adjusts_leave_no_choice;
 }

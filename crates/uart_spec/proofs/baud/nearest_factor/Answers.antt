@@ -1,17 +1,20 @@
-use Rattle.std.proofs.Common.{arith}
-use Rattle.uart_spec.proofs.NearestLemmas.{rounded_nearest, rounded_largest, one_nearest, one_largest}
+use Rattle.std.proofs.Common.{◌<◌, ◌/◌, ℕ, arith}
+use Rattle.std.proofs.Math.Nat.{div-add-mod, mod-lt}
+use Rattle.uart_spec.proofs.NearestLemmas.{above_nearest, below_nearest}
 use Rattle.uart_spec.proofs.baud.nearest_factor.Goals as goal
 
-pub returns-then-rounded-eq0-clause-nearest : goal.returns-then-rounded-eq0-clause-nearest
-returns-then-rounded-eq0-clause-nearest c = record {
-  some = omega arith;
-  nearest = λ other more. one_nearest c.args.frequency c.args.ticks other c.requires.some c.if-rounded-eq0.true more;
-  largest = λ other more. one_largest c.args.frequency c.args.ticks other c.requires.some c.if-rounded-eq0.true more;
-}
+pub returns-then-product-frequency-clause-nearest : goal.returns-then-product-frequency-clause-nearest
+returns-then-product-frequency-clause-nearest c =
+    let f : ℕ = c.args.frequency in
+    let t : ℕ = c.args.ticks in
+    let some : 0 < t = omega (arith, c.requires.some) in
+    above_nearest f t (f / t) c.requires.runs (omega (arith, div-add-mod f t)) (omega (arith, div-add-mod f t, mod-lt f some))
+    (omega (arith, c.if-product-frequency.true))
 
-pub returns-else-rounded-eq0-clause-nearest : goal.returns-else-rounded-eq0-clause-nearest
-returns-else-rounded-eq0-clause-nearest c = record {
-  some = omega (arith, c.if-rounded-eq0.false);
-  nearest = λ other more. rounded_nearest c.args.frequency c.args.ticks other c.requires.some;
-  largest = λ other more. rounded_largest c.args.frequency c.args.ticks other c.requires.some more;
-}
+pub returns-else-product-frequency-clause-nearest : goal.returns-else-product-frequency-clause-nearest
+returns-else-product-frequency-clause-nearest c =
+    let f : ℕ = c.args.frequency in
+    let t : ℕ = c.args.ticks in
+    let some : 0 < t = omega (arith, c.requires.some) in
+    below_nearest f t (f / t) (omega (arith, div-add-mod f t)) (omega (arith, div-add-mod f t, mod-lt f some))
+    (omega (arith, c.if-product-frequency.false))

@@ -1,7 +1,6 @@
-use Rattle.std.proofs.Common.{◌≡◌, ◌⊎◌, inl, inr, Bool, false, ◌∙◌, ap, sym, subst}
+use Rattle.std.proofs.Common.{◌≡◌, ◌⊎◌, inl, inr, false, ◌∙◌, ap, sym, subst}
 use Rattle.uart_chip.specs.Chip.{ChipState}
 use Rattle.uart_chip.specs.Sound.{IsSoundChip}
-use Rattle.uart_live.specs.Held.{expire}
 use Rattle.uart_virtual.specs.Port.{settle, tell, todo_of, is_up}
 use Rattle.uart_virtual.proofs.Times.{settle-unmoved, still-expire}
 use Rattle.uart_virtual.proofs.Sends.{told_alike, todo_alike}

@@ -1,4 +1,3 @@
-use Rattle.std.proofs.Common.{ap, ◌∙◌}
 use Rattle.uart_virtual.proofs.Tells.{nothing_told, nothing_todo, ready_is}
 use Rattle.uart_virtual.proofs.port.nothing_new.Goals as goal
 

@@ -1,7 +1,7 @@
-use Rattle.std.proofs.Common.{◌≡◌, true, ◌∙◌, ap, sym, subst}
+use Rattle.std.proofs.Common.{◌≡◌, true, ◌∙◌, sym, subst}
 use Rattle.uart_chip.specs.Chip.{ChipState, answer, after_read}
 use Rattle.uart_live.specs.Live.{IsLive}
-use Rattle.uart_virtual.specs.Port.{Read, settle, settle_ticks, is_up, idle, is_quiet, tell, todo_of}
+use Rattle.uart_virtual.specs.Port.{Read, settle_ticks, is_up, idle, is_quiet, tell, todo_of}
 use Rattle.uart_virtual.proofs.Times.{paced-happen, unmoved-read, still_read, still_ticks}
 use Rattle.uart_virtual.proofs.Quiet.{IsQuiet, quiet_read, quiet_told, quiet_kind, quiet_tell, quiet_todo}
 use Rattle.uart_virtual.proofs.port.read.Goals as goal

@@ -4,7 +4,7 @@ use Rattle.uart_chip.specs.Chip.{ChipState, take_wire}
 use Rattle.uart_chip.specs.Transmitter.{held}
 use Rattle.uart_live.specs.Live.{IsLive}
 use Rattle.uart_virtual.specs.declared.told.Kind.{Kind}
-use Rattle.uart_virtual.specs.Port.{TakeOutput, kind_of, settle, settle_ticks, is_up, idle, tell, todo_of, IsStill}
+use Rattle.uart_virtual.specs.Port.{TakeOutput, settle, settle_ticks, is_up, idle, tell, todo_of}
 use Rattle.uart_virtual.proofs.Times.{still_take, still_ticks}
 use Rattle.uart_virtual.proofs.Quiet.{take_kind, quiet_tell, quiet_todo}
 use Rattle.uart_virtual.proofs.port.take.Goals as goal

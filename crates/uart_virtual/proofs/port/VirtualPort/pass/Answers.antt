@@ -1,12 +1,13 @@
-use Rattle.std.proofs.Common.{◌≡◌, ◌∙◌, ap, sym, subst, ℕ, true, false, refl}
+use Rattle.std.proofs.Common.{◌≡◌, ◌∙◌, ap, sym, subst, true, false, refl}
 use Rattle.uart_spec.specs.declared.registers.offsets.TheConstants as offsets
 use Rattle.uart_chip.specs.Chip.{ChipState}
 use Rattle.uart_live.specs.Quick.{passed}
 use Rattle.uart_virtual.specs.declared.told.Kind.{Kind}
 use Rattle.uart_virtual.specs.declared.told.Seen.{Seen}
 use Rattle.uart_virtual.specs.Port.{PortState, IsPort, Write, TakeOutput, after, todo, nothing_new, passes, tell, todo_of, is_up}
+use Rattle.uart_virtual.specs.Port.{told_after, todo_after}
 use Rattle.uart_virtual.proofs.Passes.{sending, passing_parts, seen_passed, passed_port, is_passed, taken_after, same_some}
-use Rattle.uart_virtual.proofs.Passes.{pass_todo, pass_taken}
+use Rattle.uart_virtual.proofs.Passes.{told_passed, todo_passed, pass_todo, pass_taken}
 use Rattle.uart_virtual.proofs.port.VirtualPort.pass.Goals as goal
 
 pub invariant_of-self : goal.invariant_of-self
@@ -19,16 +20,18 @@ invariant_of-self c =
     let shown : Seen = record {
       level = c.is_interrupting.result;
       has_room = c.self.inside.told.has_room;
+      is_empty = false;
       fifo = c.has_fifo_on.result;
       ready = 0;
     } in
     let seen =
-    seen_passed p.chip p.told shown c.self.invariant.told (passing_parts p e).none
-    (c.is_interrupting.ensures.pending ∙ ap (λ (x : ChipState). is_up x) chip) refl
+    seen_passed p.chip p.told shown (passing_parts p e).none
+    (c.is_interrupting.ensures.pending ∙ ap (λ (x : ChipState). is_up x) chip) refl refl
     (c.has_fifo_on.ensures ∙ ap (λ (x : ChipState). x.fifo) chip) refl in
     let told : c.tell.new.told ≡ tell sending false (passed p.chip) p.told =
-    c.tell.ensures.told (passed p.chip) seen ∙
-    ap (λ (kind : Kind). tell kind false (passed p.chip) p.told) c.kind_of_write-kind.ensures in
+    c.tell.ensures.told ∙
+    (ap (λ (kind : Kind). told_after kind false shown p.told) c.kind_of_write-kind.ensures ∙
+    (ap (λ (s : Seen). told_after sending false s p.told) seen ∙ told_passed p.chip p.told c.self.invariant.told)) in
     subst (λ (q : PortState). IsPort q) (sym (is_passed p c.pass_wire-passed.new.self c.tell.new.told chip told))
     (passed_port p c.self.invariant)
 
@@ -42,16 +45,18 @@ returns-clause-after c = λ value _.
     let shown : Seen = record {
       level = c.is_interrupting.result;
       has_room = c.self.inside.told.has_room;
+      is_empty = false;
       fifo = c.has_fifo_on.result;
       ready = 0;
     } in
     let seen =
-    seen_passed p.chip p.told shown c.self.invariant.told (passing_parts p e).none
-    (c.is_interrupting.ensures.pending ∙ ap (λ (x : ChipState). is_up x) chip) refl
+    seen_passed p.chip p.told shown (passing_parts p e).none
+    (c.is_interrupting.ensures.pending ∙ ap (λ (x : ChipState). is_up x) chip) refl refl
     (c.has_fifo_on.ensures ∙ ap (λ (x : ChipState). x.fifo) chip) refl in
     let told : c.tell.new.told ≡ tell sending false (passed p.chip) p.told =
-    c.tell.ensures.told (passed p.chip) seen ∙
-    ap (λ (kind : Kind). tell kind false (passed p.chip) p.told) c.kind_of_write-kind.ensures in
+    c.tell.ensures.told ∙
+    (ap (λ (kind : Kind). told_after kind false shown p.told) c.kind_of_write-kind.ensures ∙
+    (ap (λ (s : Seen). told_after sending false s p.told) seen ∙ told_passed p.chip p.told c.self.invariant.told)) in
     is_passed p c.pass_wire-passed.new.self c.tell.new.told chip told ∙
     (sym (taken_after value p c.pass_wire-passed.ensures.live c.self.invariant e) ∙
     ap (λ (q : PortState). after (TakeOutput 1) (after (Write offsets.DATA value) q)) c.self.view_is)
@@ -66,16 +71,18 @@ returns-clause-todo c = λ value it same.
     let shown : Seen = record {
       level = c.is_interrupting.result;
       has_room = c.self.inside.told.has_room;
+      is_empty = false;
       fifo = c.has_fifo_on.result;
       ready = 0;
     } in
     let seen =
-    seen_passed p.chip p.told shown c.self.invariant.told (passing_parts p e).none
-    (c.is_interrupting.ensures.pending ∙ ap (λ (x : ChipState). is_up x) chip) refl
+    seen_passed p.chip p.told shown (passing_parts p e).none
+    (c.is_interrupting.ensures.pending ∙ ap (λ (x : ChipState). is_up x) chip) refl refl
     (c.has_fifo_on.ensures ∙ ap (λ (x : ChipState). x.fifo) chip) refl in
     let result : c.tell.result ≡ todo_of sending false (passed p.chip) p.told =
-    c.tell.ensures.todo (passed p.chip) seen ∙
-    ap (λ (kind : Kind). todo_of kind false (passed p.chip) p.told) c.kind_of_write-kind.ensures in
+    c.tell.ensures.todo ∙
+    (ap (λ (kind : Kind). todo_after kind false shown p.told) c.kind_of_write-kind.ensures ∙
+    (ap (λ (s : Seen). todo_after sending false s p.told) seen ∙ todo_passed p.chip p.told c.self.invariant.told)) in
     sym (same_some c.tell.result it same) ∙
     (pass_todo value p c.tell.result c.pass_wire-passed.ensures.live c.self.invariant e result ∙
     ap (λ (q : PortState). record (todo (Write offsets.DATA value) q) { ready = 0 }) c.self.view_is)

@@ -1,4 +1,4 @@
-use Rattle.std.proofs.Common.{arith}
+use Rattle.std.proofs.Common.{arith, ◌≡◌, true, false}
 use Rattle.std.proofs.lemmas.Grind.{common_steps}
 use Rattle.uart_spec.specs.Bits.{IsWithin}
 use Rattle.uart_spec.specs.declared.registers.modem_status.TheConstants.MSR
@@ -21,3 +21,15 @@ finish_unmoved-todo-requires-clause-unmoved c =
 
 pub invariant_of-self : goal.invariant_of-self
 invariant_of-self c = record { told = c.finish_unmoved-todo.ensures.holds; still = c.finish_unmoved-todo.ensures.still }
+
+pub returns-then-ne-clause-accepted : goal.returns-then-ne-clause-accepted
+returns-then-ne-clause-accepted c = λ within.
+    let no : false ≡ true =
+    grind (arith, common_steps, c.intersection.ensures, c.ne.ensures, c.if-ne.ensures, c.if-ne.true, within) in
+    absurd (cc)
+
+pub returns-then-ne-clause-todo : goal.returns-then-ne-clause-todo
+returns-then-ne-clause-todo c = λ within.
+    let no : false ≡ true =
+    grind (arith, common_steps, c.intersection.ensures, c.ne.ensures, c.if-ne.ensures, c.if-ne.true, within) in
+    absurd (cc)

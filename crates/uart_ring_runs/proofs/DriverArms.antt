@@ -1,0 +1,255 @@
+-- The driver's calls that leave the THR-empty interrupt: what they read is not ISR, and what they write is neither IER nor FCR; or they
+-- write IER with the interrupt in it, or FCR without a reset.
+use Rattle.std.proofs.Common.{◌≡◌, ℕ, ◌==◌, ◌||◌, ◌%◌, ◌/◌, true, false, List, [], ◌∷◌, ◌++◌, refl, sym, ◌∙◌}
+use Rattle.std.proofs.Common.{ap, Result, Ok, Err, bit_or, arith}
+use Rattle.std.proofs.lemmas.Grind.{common_steps}
+use Rattle.bitflags.specs.Sets.{without}
+use Rattle.uart_spec.specs.Access.{Path}
+use Rattle.uart_spec.specs.Bits.{has, has_any}
+use Rattle.uart_spec.specs.declared.access.Access.{Access}
+use Rattle.uart_spec.specs.declared.access.Access.TheVariants.{Read, Write}
+use Rattle.uart_spec.specs.declared.config.Config.{Config}
+use Rattle.uart_spec.specs.declared.errors.FifosOffError.{FifosOffError}
+use Rattle.uart_spec.specs.declared.errors.FrameError.{FrameError}
+use Rattle.uart_spec.specs.declared.errors.FrameError.TheVariants.{InvalidBaudRate, Stalled}
+use Rattle.uart_spec.specs.declared.errors.InvalidDivisorError.{InvalidDivisorError}
+use Rattle.uart_spec.specs.declared.registers.fifo_trigger_level.FifoTriggerLevel.{FifoTriggerLevel}
+use Rattle.uart_spec.specs.declared.registers.interrupt_enable.TheConstants.IER
+use Rattle.uart_spec.specs.declared.registers.line_control.TheConstants.LCR
+use Rattle.uart_spec.specs.declared.registers.line_status.TheConstants.LSR
+use Rattle.uart_spec.specs.declared.registers.offsets.TheConstants as offsets
+use Rattle.uart_events.specs.declared.call.Call.{Call}
+use Rattle.uart_events.specs.declared.call.Call.TheVariants as driver
+use Rattle.uart_events.specs.declared.call.Answer.{Answer}
+use Rattle.uart_events.specs.declared.event.Chip.{Chip}
+use Rattle.uart_events.specs.declared.event.Chip.TheVariants.{Uart16550A, Uart16450}
+use Rattle.uart_16550.specs.Grammar.{Language, Settings, Only}
+use Rattle.uart_16550.specs.Driver.{Fields, Sets, Saving, Next, fields, settings_of}
+use Rattle.uart_16550.specs.Frame.{frame_writes, with_frame, SetsFrame}
+use Rattle.uart_16550.specs.Init.{frame_bits}
+use Rattle.uart_16550.specs.Setup.{SetsFrameWhenIdle, SetsTrigger, level_bits}
+use Rattle.uart_16550.specs.Status.{Enables, Disables, Retriggers, retrigger_accesses}
+use Rattle.uart_16550.specs.Transmit.{WaitsFor}
+use Rattle.uart_16550.specs.Tty.{inner_of}
+use Rattle.uart_events.specs.declared.call.Answer.TheVariants.{Flag, Count, Register}
+use Rattle.uart_calls.specs.Meaning.{CalledAs, ShowsRegister, connected_answer, receive_ready_answer, received_answer}
+use Rattle.uart_calls.specs.Meaning.{sent_answer, exact_answer, count_answer, ready_answer, latch_answer, bytes_answer}
+use Rattle.uart_calls.specs.Meaning.{with_errors_answer, receive_exact_answer, read_answer}
+use Rattle.uart_chip.specs.Chip.{ChipState, control, is_dlab_set}
+use Rattle.uart_chip.specs.Machine.{MachineState, MachineStep, at_access}
+use Rattle.uart_chip.proofs.Bits.{has_one, has_or}
+use Rattle.uart_chip.proofs.conservation.BlockLaws.{path_as}
+use Rattle.uart_chip.proofs.conservation.Effects.{IsLevel, levelled}
+use Rattle.uart_chip.proofs.lasting.Lasting.{chip_lasts-before_mark}
+use Rattle.uart_run.specs.Ready.{Ready}
+use Rattle.uart_run.specs.Run.{State, machine_of, CallStep}
+use Rattle.uart_run.proofs.CallLaws.{level_bits_keep}
+use Rattle.uart_run.proofs.FrameLaws.{framed_by}
+use Rattle.uart_run.proofs.Latches.{Kept, kept_in, keep, kept_access, kept_step}
+use Rattle.uart_run.proofs.Pieces.{next_stages}
+use Rattle.uart_ring_runs.specs.RingArmed.{LeavesThrEmpty}
+use Rattle.uart_ring.specs.Armed.{ThrEmpty, KeepsIer, known_after_all}
+use Rattle.uart_ring_runs.proofs.RingBlocks.{AllLeaveLcr}
+use Rattle.uart_ring_runs.proofs.RingDue.{Holds, IsDlabOff, path_holds}
+use Rattle.uart_ring_runs.proofs.ThrSpared.{IsToCome, IsThrArmed, to_come, comes, in_events, at_once, spared_step, Spare, spare_asks}
+use Rattle.uart_ring_runs.proofs.ThrSpared.{spare_waits, spare_receives, spare_receives_with, spare_receives_exact, spare_reads}
+use Rattle.uart_ring_runs.proofs.ThrSpared.{spare_try_receive, spare_ready_to_receive, spare_ready_to_send, spare_sends, spare_try_sends}
+use Rattle.uart_ring_runs.proofs.ThrSpared.{spare_sends_exact, spare_writes, spare_text, spare_flushes, spare_answers_read}
+use Rattle.uart_ring_runs.proofs.ThrSpared.{spare_answers_write, spare_presence, spare_connects, spare_divisor, spared_list}
+use Rattle.uart_ring_runs.proofs.CheckArms.{checks_arm}
+
+-- ---- calls whose accesses spare it
+
+spared_call : {R : Type 0} (L : R → Language) (answer_of : R → Answer) (s t : State) (a : Answer) →
+    ((v : Settings) (r : R) → Spare v (L r)) → CalledAs MachineStep (λ r. Saving (L r)) answer_of a (inner_of s) (inner_of t) →
+    IsThrArmed (machine_of s) → IsThrArmed (machine_of t)
+spared_call L answer_of s t a spare c h =
+    spared_list c.did.list (machine_of s) (machine_of t) (spare (settings_of (fields (inner_of s))) c.outcome c.did.list c.did.does.0)
+    c.did.path h
+
+-- ---- writes of IER with the interrupt in it
+
+abbrev live : ThrEmpty
+live = record { enabled = true; due = true }
+
+live_path : (l made : List Access) (m n : MachineState) → l ≡ made → AllLeaveLcr made → IsDlabOff m → IsThrArmed m →
+    Path MachineStep m l n → KeepsIer live made × Holds (known_after_all live made) n
+live_path l made m n is leaves off h path =
+    path_holds live made m n leaves off (λ e. h.0, λ e. h.1) (path_as m n l made is path)
+
+joined : (ier bits : ℕ) → has ier IER.THR_EMPTY.0 ≡ true → has (bit_or ier bits) IER.THR_EMPTY.0 ≡ true
+joined ier bits e =
+    has_one 1 (bit_or ier bits) ∙ (has_or 1 ier bits ∙ ap (λ b. b || has_any bits IER.THR_EMPTY.0) (sym (has_one 1 ier) ∙ e))
+
+enables_arm : (bits : ℕ) (f after : Fields) (l : List Access) (m n : MachineState) → Enables bits f l after → IsDlabOff m →
+    Path MachineStep m l n → IsThrArmed m → IsThrArmed n
+enables_arm bits f after l m n (ier, is, changed) off path h =
+    let k = live_path l (Read offsets.IER ier ∷ Write offsets.IER (bit_or ier bits) ∷ []) m n is (tt, (refl, tt)) off h path in
+    (k.1.0 (joined ier bits (k.0.0 refl refl)), k.1.1 refl)
+
+disables_arm : (bits : ℕ) (f after : Fields) (l : List Access) (m n : MachineState) →
+    ((ier : ℕ) → has ier IER.THR_EMPTY.0 ≡ true → has (without 8 ier bits) IER.THR_EMPTY.0 ≡ true) → Disables bits f l after →
+    IsDlabOff m → Path MachineStep m l n → IsThrArmed m → IsThrArmed n
+disables_arm bits f after l m n left (ier, is, changed) off path h =
+    let k = live_path l (Read offsets.IER ier ∷ Write offsets.IER (without 8 ier bits) ∷ []) m n is (tt, (refl, tt)) off h path in
+    (k.1.0 (left ier (k.0.0 refl refl)), k.1.1 refl)
+
+retriggers_arm : (s : Settings) (l : List Access) (m n : MachineState) → Retriggers s l → IsDlabOff m → Path MachineStep m l n →
+    IsThrArmed m → IsThrArmed n
+retriggers_arm s l m n (ier, is) off path h =
+    let k = live_path l (retrigger_accesses ier) m n is (tt, (refl, (refl, tt))) off h path in
+    (k.1.0 (k.0.0 refl refl), k.1.1 refl)
+
+-- ---- the trigger level
+
+level_chip : (model : Chip) (value : ℕ) (c : ChipState) → c.fifo ≡ true → IsLevel value → IsToCome c → IsToCome (control model value c)
+level_chip Uart16450 value c on level h = h
+level_chip Uart16550A value c on level h = rw (levelled c value on level) h
+
+levels_arm : (level : FifoTriggerLevel) (result : Result (Unit {0}) FifosOffError) (s t : State) (l : List Access) → Ready s →
+    SetsTrigger level result (fields (inner_of s)) l (fields (inner_of t)) → Path MachineStep (machine_of s) l (machine_of t) →
+    IsThrArmed (machine_of s) → IsThrArmed (machine_of t)
+levels_arm level (Ok u) s t l ready (on, d) path h =
+    let m = machine_of s in
+    let is : l ≡ Write offsets.FCR (level_bits level) ∷ [] = d.whole ∙ (ap (λ zs. zs ++ d.back) d.first.0 ∙ d.second.0.is) in
+    let p = path_as m (machine_of t) l (Write offsets.FCR (level_bits level) ∷ []) is path in
+    let c = (at_access m).chip in
+    let fifo : c.fifo ≡ true = ap (λ (k : Kept). k.fifo) (kept_access m) ∙ (ready.fifo ∙ on) in
+    let after : IsToCome p.0.chip =
+    rw p.1 (level_chip c.model (level_bits level) c fifo (level_bits_keep level) (at_once m (to_come m h))) in
+    comes (machine_of t) (rw p.2 after)
+levels_arm level (Err e) s t l ready (off, is, same) path h = spared_list l (machine_of s) (machine_of t) (rw is tt) path h
+
+-- ---- the frame
+
+-- the high byte of the divisor latch is at the place of IER, while DLAB is on
+high_step : (value : ℕ) (m n : MachineState) → is_dlab_set m.chip.latches ≡ true → IsToCome m.chip →
+    MachineStep m (Write offsets.DLM value) n → IsToCome n.chip
+high_step value m n on h s =
+    let there : is_dlab_set (at_access m).chip.latches ≡ true = ap (λ (k : Kept). is_dlab_set k.latches) (kept_access m) ∙ on in
+    rw (s, there) (at_once m h)
+
+low_kept : (value : ℕ) (k : Kept) → is_dlab_set k.latches ≡ true → is_dlab_set (keep (Write offsets.DLL value) k).latches ≡ true
+low_kept value k on = rw on on
+
+frame_arms : (divisor frame : ℕ) (l : List Access) (m n : MachineState) → l ≡ frame_writes divisor frame → Path MachineStep m l n →
+    IsThrArmed m → IsThrArmed n
+frame_arms divisor frame l m n is path h = go (path_as m n l (frame_writes divisor frame) is path)
+  where
+    go : Path MachineStep m (frame_writes divisor frame) n → IsThrArmed n
+    go (m₁, s₁, (m₂, s₂, (m₃, s₃, (m₄, s₄, e)))) =
+        let opened : is_dlab_set m₁.chip.latches ≡ true =
+        ap (λ (k : Kept). is_dlab_set k.latches) (kept_step (Write offsets.LCR (bit_or frame LCR.DLAB.0)) m m₁ s₁)
+        ∙ (has_or 7 frame 128 ∙ grind (arith, common_steps)) in
+        let still : is_dlab_set m₂.chip.latches ≡ true =
+        ap (λ (k : Kept). is_dlab_set k.latches) (kept_step (Write offsets.DLL (divisor % 256)) m₁ m₂ s₂)
+        ∙ low_kept (divisor % 256) (kept_in m₁.chip) opened in
+        let a = spared_step (Write offsets.LCR (bit_or frame LCR.DLAB.0)) m m₁ (refl, refl) (to_come m h) s₁ in
+        let b = spared_step (Write offsets.DLL (divisor % 256)) m₁ m₂ (refl, refl) a s₂ in
+        let c = high_step (divisor / 256) m₂ m₃ still b s₃ in
+        let d = spared_step (Write offsets.LCR frame) m₃ m₄ (refl, refl) c s₄ in
+        comes n (rw e d)
+
+frames_arm : (config : Config) (result : Result (Unit {0}) InvalidDivisorError) (f after : Fields) (l : List Access)
+    (m n : MachineState) → SetsFrame config result f l after → Path MachineStep m l n → IsThrArmed m → IsThrArmed n
+frames_arm config (Ok u) f after l m n d path h =
+    frame_arms d.0 (frame_bits config) l m n (framed_by d.0 config f after l d.2).is path h
+frames_arm config (Err e) f after l m n d path h = spared_list l m n (rw d.1 tt) path h
+
+frames_when_idle_arm : (config : Config) (result : Result (Unit {0}) FrameError) (f after : Fields) (l : List Access)
+    (m n : MachineState) → SetsFrameWhenIdle config result f l after → Path MachineStep m l n → IsThrArmed m → IsThrArmed n
+frames_when_idle_arm config (Ok u) f after l m n d path h =
+    let frame = frame_writes d.0 (frame_bits config) in
+    let a = next_stages (Saving (WaitsFor LSR.TRANSMITTER_EMPTY.0 true)) (Next (Sets (with_frame config)) (Saving (Only frame))) f
+    after l m n d.2 path in
+    let first = spared_list a.parts.front m a.parts.between
+    (spare_waits (settings_of f) LSR.TRANSMITTER_EMPTY.0 true a.parts.front a.parts.first.0) a.parts.before h in
+    frame_arms d.0 (frame_bits config) a.parts.back a.parts.between n (framed_by d.0 config a.mid after a.parts.back a.parts.second).is
+    a.parts.after first
+frames_when_idle_arm config (Err (InvalidBaudRate e)) f after l m n d path h = spared_list l m n (rw d.1 tt) path h
+frames_when_idle_arm config (Err Stalled) f after l m n d path h =
+    spared_list l m n (spare_waits (settings_of f) LSR.TRANSMITTER_EMPTY.0 false l d.2.0) path h
+
+-- ---- each call
+
+-- one read of a register
+spare_register : (register : ℕ) → (register == offsets.ISR) ≡ false → (s : Settings) (value : ℕ) → Spare s (ShowsRegister register value)
+spare_register register other s value l t = rw t.is (other, tt)
+
+pub driver_arms : (s t : State) (c : Call) (a : Answer) → Ready s → LeavesThrEmpty c → CallStep s c a t → IsThrArmed (machine_of s) →
+    IsThrArmed (machine_of t)
+driver_arms s t driver.Next a ready k h armed =
+    let lasts = chip_lasts-before_mark IsToCome in_events (machine_of s).ahead (machine_of s).chip (to_come (machine_of s) armed) in
+    comes (machine_of t) (rw h.machine lasts)
+driver_arms s t driver.Isr a ready k h armed = absurd k
+driver_arms s t driver.Dump a ready k h armed = absurd k
+driver_arms s t driver.Attach a ready k h armed = absurd k
+driver_arms s t (driver.Quiesce outputs fifos) a ready k h armed = absurd k
+driver_arms s t (driver.Restore dump) a ready k h armed = absurd k
+driver_arms s t driver.TestLoopback a ready k h armed = absurd k
+driver_arms s t (driver.Init config) a ready k h armed = absurd k
+driver_arms s t (driver.InitWith config setup) a ready k h armed = absurd k
+driver_arms s t (driver.CheckConfigured outputs) a ready k h armed =
+    checks_arm (fields (inner_of s)).config outputs.0 h.outcome (settings_of (fields (inner_of s))) h.did.list
+    (machine_of s) (machine_of t) h.did.does.0 ready.dlab h.did.path armed
+driver_arms s t (driver.Enable bits) a ready k h armed =
+    enables_arm bits.0 (fields (inner_of s)) (fields (inner_of t)) h.did.list
+    (machine_of s) (machine_of t) h.did.does ready.dlab h.did.path armed
+driver_arms s t (driver.Disable bits) a ready k h armed =
+    disables_arm bits.0 (fields (inner_of s)) (fields (inner_of t)) h.did.list
+    (machine_of s) (machine_of t) k h.did.does ready.dlab h.did.path armed
+driver_arms s t driver.RetriggerInterrupts a ready k h armed =
+    retriggers_arm (settings_of (fields (inner_of s))) h.did.list
+    (machine_of s) (machine_of t) h.did.does.0 ready.dlab h.did.path armed
+driver_arms s t (driver.SetFrame config) a ready k h armed =
+    frames_arm config h.outcome (fields (inner_of s)) (fields (inner_of t)) h.did.list
+    (machine_of s) (machine_of t) h.did.does h.did.path armed
+driver_arms s t (driver.SetFrameWhenIdle config) a ready k h armed =
+    frames_when_idle_arm config h.outcome (fields (inner_of s)) (fields (inner_of t)) h.did.list
+    (machine_of s) (machine_of t) h.did.does h.did.path armed
+driver_arms s t (driver.SetTriggerLevel level) a ready k h armed =
+    levels_arm level h.outcome s t h.did.list ready h.did.does h.did.path armed
+driver_arms s t (driver.SetBreak on) a ready k h armed =
+    spared_list h.did.list (machine_of s) (machine_of t) (rw h.did.does.0.1 (refl, ((refl, refl), tt))) h.did.path armed
+driver_arms s t (driver.SetModemControl outputs) a ready k h armed =
+    spared_list h.did.list (machine_of s) (machine_of t) (rw h.did.does.0.is ((refl, refl), tt)) h.did.path armed
+driver_arms s t (driver.SetRts on) a ready k h armed =
+    spared_list h.did.list (machine_of s) (machine_of t) (rw h.did.does.0.1 (refl, ((refl, refl), tt))) h.did.path armed
+driver_arms s t (driver.SetDtr on) a ready k h armed =
+    spared_list h.did.list (machine_of s) (machine_of t) (rw h.did.does.0.1 (refl, ((refl, refl), tt))) h.did.path armed
+driver_arms s t driver.CheckPresent a ready k h armed = spared_call _ Flag s t a (λ v r. spare_presence v r) h armed
+driver_arms s t driver.CheckConnected a ready k h armed = spared_call _ connected_answer s t a (λ v r. spare_connects v r) h armed
+driver_arms s t driver.ReadyToReceive a ready k h armed =
+    spared_call _ receive_ready_answer s t a (λ v r. spare_ready_to_receive v r) h armed
+driver_arms s t driver.ReadyToSend a ready k h armed = spared_call _ sent_answer s t a (λ v r. spare_ready_to_send v r) h armed
+driver_arms s t driver.TryReceive a ready k h armed = spared_call _ received_answer s t a (λ v r. spare_try_receive v r) h armed
+driver_arms s t driver.Flush a ready k h armed = spared_call _ exact_answer s t a (λ v r. spare_flushes v r) h armed
+driver_arms s t driver.ReadReady a ready k h armed = spared_call _ ready_answer s t a (λ v r. spare_answers_read v r) h armed
+driver_arms s t driver.WriteReady a ready k h armed = spared_call _ ready_answer s t a (λ v r. spare_answers_write v r) h armed
+driver_arms s t driver.Ier a ready k h armed = spared_call _ Register s t a (spare_register offsets.IER refl) h armed
+driver_arms s t driver.Lcr a ready k h armed = spared_call _ Register s t a (spare_register offsets.LCR refl) h armed
+driver_arms s t driver.Mcr a ready k h armed = spared_call _ Register s t a (spare_register offsets.MCR refl) h armed
+driver_arms s t driver.Lsr a ready k h armed =
+    spared_list h.did.list (machine_of s) (machine_of t) (rw h.did.does.1 (refl, tt)) h.did.path armed
+driver_arms s t driver.Msr a ready k h armed =
+    spared_list h.did.list (machine_of s) (machine_of t) (rw h.did.does.1 (refl, tt)) h.did.path armed
+driver_arms s t driver.PeekModem a ready k h armed = spared_call _ Register s t a (spare_register offsets.MSR refl) h armed
+driver_arms s t driver.IsIdle a ready k h armed =
+    spared_call _ Flag s t a (λ v r. spare_asks v offsets.LSR LSR.TRANSMITTER_EMPTY.0 r refl) h armed
+driver_arms s t driver.Spr a ready k h armed = spared_call _ Register s t a (spare_register offsets.SPR refl) h armed
+driver_arms s t driver.DllDlm a ready k h armed = spared_call _ latch_answer s t a (λ v latch. spare_divisor v latch.0 latch.1) h armed
+driver_arms s t driver.FifoEnabled a ready k h armed =
+    spared_list h.did.list (machine_of s) (machine_of t) (rw h.did.does.1.0 tt) h.did.path armed
+driver_arms s t (driver.TrySend byte) a ready k h armed = spared_call _ sent_answer s t a (λ v r. spare_try_sends v byte r) h armed
+driver_arms s t (driver.Receive slots) a ready k h armed =
+    spared_call _ bytes_answer s t a (λ v bytes. spare_receives v slots bytes) h armed
+driver_arms s t (driver.ReceiveExact slots) a ready k h armed =
+    spared_call _ receive_exact_answer s t a (λ v got. spare_receives_exact v slots got) h armed
+driver_arms s t (driver.ReceiveWithErrors slots) a ready k h armed =
+    spared_call _ with_errors_answer s t a (λ v items. spare_receives_with v slots items) h armed
+driver_arms s t (driver.Read slots) a ready k h armed = spared_call _ read_answer s t a (λ v got. spare_reads v slots got) h armed
+driver_arms s t (driver.Send bytes) a ready k h armed = spared_call _ Count s t a (λ v sent. spare_sends v bytes.items sent) h armed
+driver_arms s t (driver.SendExact bytes) a ready k h armed =
+    spared_call _ exact_answer s t a (λ v r. spare_sends_exact v bytes.items r) h armed
+driver_arms s t (driver.Write bytes) a ready k h armed = spared_call _ count_answer s t a (λ v r. spare_writes v bytes.items r) h armed
+driver_arms s t (driver.Text text) a ready k h armed = spared_call _ exact_answer s t a (λ v r. spare_text v text.bytes r) h armed

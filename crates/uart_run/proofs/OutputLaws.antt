@@ -1,0 +1,81 @@
+-- What the calls that write MCR alone leave: the outputs are as they were asked for.
+use Rattle.std.proofs.Common.{◌≡◌, ℕ, ◌-◌, Bool, true, false, List, [], ◌∷◌, refl, sym, ◌∙◌, ap, bit_and, bit_or}
+use Rattle.std.proofs.lemmas.Nat.{and_assoc}
+use Rattle.bitflags.specs.Sets.{without}
+use Rattle.uart_spec.specs.Access.{Path}
+use Rattle.uart_spec.specs.Bits.{has, IsWithin}
+use Rattle.uart_spec.specs.declared.access.Access.{Access}
+use Rattle.uart_spec.specs.declared.access.Access.TheVariants.{Read, Write}
+use Rattle.uart_spec.specs.declared.registers.modem_control.TheConstants.MCR
+use Rattle.uart_spec.specs.declared.registers.offsets.TheConstants as offsets
+use Rattle.uart_16550.specs.Frame.{switched, unlooped, SetsControl, SetsOutput, ChangesOutput}
+use Rattle.uart_16550.specs.Grammar.{Settings}
+use Rattle.uart_16550.proofs.Switching.{changes_rts, changes_dtr}
+use Rattle.uart_chip.specs.Machine.{MachineStep}
+use Rattle.uart_chip.specs.Masks.{mcr_bits}
+use Rattle.uart_chip.specs.Sound.{IsSound}
+use Rattle.uart_chip.proofs.Bits.{and_or}
+use Rattle.uart_run.specs.Ready.{latches_of, ChangesOutputs, SetsOutputs, Switches}
+use Rattle.uart_run.specs.Run.{State, machine_of}
+use Rattle.uart_run.proofs.FrameLaws.{mcr_read}
+use Rattle.uart_run.proofs.Latches.{Kept, kept_in, kept_list}
+use Rattle.uart_chip.proofs.conservation.BlockLaws.{path_as}
+
+-- ---- MCR keeps all of what is written
+
+-- the outputs among these bits stay among them
+pub within_unlooped : (value : ℕ) → IsWithin value mcr_bits → bit_and (unlooped value) mcr_bits ≡ unlooped value
+within_unlooped value within =
+    and_assoc mcr_bits value 239 ∙ (sym (and_assoc 239 value mcr_bits) ∙ ap (λ (v : ℕ). bit_and v 239) within)
+
+within_switched : (on : Bool) (output mcr : ℕ) → IsWithin mcr mcr_bits → IsWithin output mcr_bits →
+    bit_and (255 - output) mcr_bits ≡ bit_and mcr_bits (255 - output) → IsWithin (switched on output mcr) mcr_bits
+within_switched true output mcr within is swap = and_or mcr output mcr_bits ∙ (λ i. bit_or (within i) (is i))
+within_switched false output mcr within is swap =
+    and_assoc mcr_bits mcr (255 - output) ∙ (ap (bit_and mcr) swap ∙ (sym (and_assoc (255 - output) mcr mcr_bits)
+    ∙ ap (λ (v : ℕ). bit_and v (255 - output)) within))
+
+-- ---- a write of MCR
+
+-- MCR has this value, and nothing else changed
+outputs_changed : (s t : State) (mcr : ℕ) →
+    kept_in (machine_of t).chip ≡ record (kept_in (machine_of s).chip) { latches = record (latches_of s) { mcr = mcr } } →
+    ChangesOutputs s t
+outputs_changed s t mcr kept = record {
+  latches = ap (λ (k : Kept). k.latches) kept
+      ∙ ap (λ (v : ℕ). record (latches_of s) { mcr = v }) (sym (ap (λ (k : Kept). k.latches.mcr) kept));
+  fifo = ap (λ (k : Kept). k.fifo) kept;
+}
+
+pub sets_outputs : (s t : State) (outputs : ℕ) (v : Settings) (l : List Access) → SetsControl outputs v l →
+    Path MachineStep (machine_of s) l (machine_of t) → SetsOutputs outputs s t
+sets_outputs s t outputs v l made path =
+    let kept = kept_list l (Write offsets.MCR (unlooped outputs) ∷ []) (machine_of s) (machine_of t) made.is path in
+    record { changes = outputs_changed s t _ kept; mcr = ap (λ (k : Kept). k.latches.mcr) kept }
+
+switches : (s t : State) (output : ℕ) (on : Bool) (v : Settings) (l : List Access) → ChangesOutput output → IsWithin output mcr_bits →
+    bit_and (255 - output) mcr_bits ≡ bit_and mcr_bits (255 - output) → IsSound (machine_of s) → SetsOutput output on v l →
+    Path MachineStep (machine_of s) l (machine_of t) → Switches output on s t
+switches s t output on v l changes is swap w (mcr, list) path =
+    let value = unlooped (switched on output mcr) in
+    let made : List Access = Read offsets.MCR mcr ∷ Write offsets.MCR value ∷ [] in
+    let p = path_as (machine_of s) (machine_of t) l made list path in
+    let shown : mcr ≡ (latches_of s).mcr = mcr_read (machine_of s) p.0 mcr p.1 in
+    let kept = kept_list l made (machine_of s) (machine_of t) list path in
+    let within : IsWithin mcr mcr_bits = ap (λ (n : ℕ). bit_and n mcr_bits) shown ∙ (w.chip.latches.mcr ∙ sym shown) in
+    let now : (latches_of t).mcr ≡ value = ap (λ (k : Kept). k.latches.mcr) kept
+    ∙ within_unlooped (switched on output mcr) (within_switched on output mcr within is swap) in
+    let only = changes on mcr in
+    record {
+      changes = outputs_changed s t _ kept;
+      is_on = ap (λ (n : ℕ). has n output) now ∙ only.0;
+      others = ap (λ (n : ℕ). without 8 n output) now ∙ (only.1 ∙ ap (λ (n : ℕ). without 8 (unlooped n) output) shown);
+    }
+
+pub switches_rts : (s t : State) (on : Bool) (v : Settings) (l : List Access) → IsSound (machine_of s) → SetsOutput MCR.RTS.0 on v l →
+    Path MachineStep (machine_of s) l (machine_of t) → Switches MCR.RTS.0 on s t
+switches_rts s t on v l = switches s t MCR.RTS.0 on v l changes_rts refl refl
+
+pub switches_dtr : (s t : State) (on : Bool) (v : Settings) (l : List Access) → IsSound (machine_of s) → SetsOutput MCR.DTR.0 on v l →
+    Path MachineStep (machine_of s) l (machine_of t) → Switches MCR.DTR.0 on s t
+switches_dtr s t on v l = switches s t MCR.DTR.0 on v l changes_dtr refl refl

@@ -1,0 +1,176 @@
+-- Where ticks come before each access, the spin limit is long enough and the wire has room, neither an `init_with` nor a
+-- `set_frame_when_idle` stalls.
+use Rattle.std.proofs.Common.{◌≡◌, ◌≢◌, ℕ, ◌<◌, Bool, true, false, inl, inr, List, [], ◌∷◌, ◌++◌, Result, Ok, Err, refl}
+use Rattle.std.proofs.Common.{sym, ◌∙◌, ap, subst}
+use Rattle.uart_spec.specs.declared.config.Config.{Config}
+use Rattle.uart_spec.specs.declared.errors.FrameError.{FrameError}
+use Rattle.uart_spec.specs.declared.errors.FrameError.TheVariants as frame_error
+use Rattle.uart_spec.specs.declared.errors.InitError.{InitError}
+use Rattle.uart_spec.specs.declared.errors.InitError.TheVariants.{InvalidBaudRate, DeviceNotPresent, Stalled}
+use Rattle.uart_spec.specs.declared.registers.offsets.TheConstants as offsets
+use Rattle.uart_spec.specs.declared.registers.line_status.TheConstants.LSR
+use Rattle.uart_spec.specs.declared.setup.Setup.{Setup}
+use Rattle.uart_spec.specs.Access.{Path}
+use Rattle.uart_spec.specs.declared.access.Access.{Access}
+use Rattle.uart_spec.specs.declared.access.Access.TheVariants.{Write}
+use Rattle.uart_16550.specs.Grammar.{Settings, Only, Then}
+use Rattle.uart_16550.specs.Driver.{Fields, fields, settings_of, Doing, Saving, Plain, Sets, Next, with_config, with_fifo}
+use Rattle.uart_16550.specs.Frame.{unlooped}
+use Rattle.uart_16550.specs.Init.{frame_bits, line_writes, SetsFifo, DrainsReceiver}
+use Rattle.uart_16550.specs.Setup.{ChecksIf, WaitsIf, is_first, is_last, Looks, SetsUp, InitsWith, SetsFrameWhenIdle}
+use Rattle.uart_16550.specs.Tty.{inner_of}
+use Rattle.uart_16550.proofs.Paths.{path_then}
+use Rattle.uart_events.specs.declared.call.Call.TheVariants as call
+use Rattle.uart_events.specs.declared.call.Answer.{Answer}
+use Rattle.uart_events.specs.declared.call.Answer.TheVariants.{Done, InitRefused}
+use Rattle.uart_chip.specs.Machine.{MachineState, MachineStep}
+use Rattle.uart_chip.specs.Sound.{IsSound}
+use Rattle.uart_calls.specs.Meaning.{init_answer, frame_when_idle_answer}
+use Rattle.uart_run.specs.Run.{State, machine_of, CallStep}
+use Rattle.uart_run.specs.Progress.{HasDivisor, IsTimely, HasRoom, left}
+use Rattle.uart_chip.proofs.conservation.BlockLaws.{path_as}
+use Rattle.uart_run.proofs.ListsInTurn.{all_only, all_then, all_few}
+use Rattle.uart_run.proofs.Pieces.{then_parts, next_stages}
+use Rattle.uart_run.proofs.progress.Nearing.{Runs, RunsFree, free_runs}
+use Rattle.uart_run.proofs.SilentLists.{IsSilent, silence, silent_asks, silent_presence, silent_sets_fifo}
+use Rattle.uart_run.proofs.progress.WaitEnds.{no_stall-empty}
+use Rattle.uart_run.proofs.progress.Succeeds.{few_left, runs, settings_at}
+use Rattle.uart_run.proofs.initialising.InitSucceeds.{free-line, free-list, free-drained, free-sets, no_refusal}
+
+-- ---- what comes before a wait
+
+silent_checks_if : (v : Settings) (asked : Bool) → IsSilent v (ChecksIf asked true)
+silent_checks_if v true = silent_presence v
+silent_checks_if v false = all_only silence v [] tt
+
+silent_waits_if : (v : Settings) (asked : Bool) → IsSilent v (WaitsIf asked true)
+silent_waits_if v true =
+    all_then silence v _ _ (all_few silence v _ (silent_asks v offsets.LSR LSR.TRANSMITTER_EMPTY.0 false))
+    (silent_asks v offsets.LSR LSR.TRANSMITTER_EMPTY.0 true)
+silent_waits_if v false = all_only silence v [] tt
+
+silent_looks : (v : Settings) (setup : Setup) → IsSilent v (Looks setup true)
+silent_looks v setup = all_then silence v _ _ (silent_checks_if v setup.checks_presence) (silent_waits_if v (is_first setup.wait))
+
+free-set : (setup : Setup) (config : Config) (divisor : ℕ) (fifo : Bool) (f mid : Fields) (l : List Access) (m n : MachineState) →
+    RunsFree m → SetsUp setup config divisor fifo f l mid → Path MachineStep m l n → RunsFree n
+free-set setup config divisor fifo f mid l m n r t path =
+    let line = line_writes divisor (frame_bits config) in
+    let level = config.fifo_trigger_level in
+    let outputs = unlooped setup.outputs.0 in
+    let rest : Doing = Next (Sets (with_fifo fifo)) (Next (Plain DrainsReceiver) (Saving (Only (Write offsets.MCR outputs ∷ [])))) in
+    let a = next_stages (Saving (Then (Only line) (SetsFifo level fifo))) rest f mid l m n t path in
+    let v = settings_of f in
+    let p = then_parts (Only line) (SetsFifo level fifo) v a.parts.front m a.parts.between a.parts.first.0 a.parts.before in
+    let b = free-line divisor (frame_bits config) m p.between r (path_as m p.between p.front line p.first.is p.before) in
+    let c = free-list v (SetsFifo level fifo) p.back p.between a.parts.between (silent_sets_fifo v level fifo) b p.second p.after in
+    free-sets (with_fifo fifo) (Next (Plain DrainsReceiver) (Saving (Only (Write offsets.MCR outputs ∷ [])))) a.mid mid a.parts.back
+    a.parts.between n a.parts.second a.parts.after (λ h back w q. free-drained outputs h mid back a.parts.between n c w q)
+
+-- the limit stays
+limit-set : (setup : Setup) (config : Config) (divisor : ℕ) (fifo : Bool) (f mid : Fields) (l : List Access) →
+    SetsUp setup config divisor fifo f l mid → mid.limit ≡ f.limit
+limit-set setup config divisor fifo f mid l t =
+    let at : Fields → ℕ = λ g. g.limit in
+    let c = t.second in
+    let d = c.second in
+    ap at d.second.1 ∙ (ap at d.first.1 ∙ (ap at c.first.1 ∙ ap at t.first.1))
+
+-- ---- waits in vain
+
+vain : (asked : Bool) (v : Settings) (l : List Access) (m n : MachineState) → Runs m → left m.chip.transmitter < v.limit →
+    WaitsIf asked false v l → Path MachineStep m l n → ⊥
+vain true v l m n r few t p = no_stall-empty v v.limit l m n r few t p
+vain false v l m n r few t p = absurd t
+
+-- the fields are set, and the rest follows from the same machine
+after_sets : (change : Fields → Fields) (H : Doing) (f after : Fields) (l : List Access) (m n : MachineState) →
+    Next (Sets change) H f l after → Path MachineStep m l n →
+    ((mid : Fields) (back : List Access) → mid ≡ change f → H mid back after → Path MachineStep m back n → ⊥) → ⊥
+after_sets change H f after l m n t path next =
+    let whole : l ≡ t.back = t.whole ∙ ap (λ zs. zs ++ t.back) t.first.0 in
+    next t.mid t.back t.first.1 t.second (path_as m n l t.back whole path)
+
+no_stall-first : (setup : Setup) (config : Config) (s t : State) (l : List Access) → IsSound (machine_of s) → IsTimely s →
+    HasRoom 0 (machine_of s) →
+    Next (Sets (with_config config)) (Saving (Looks setup false)) (fields (inner_of s)) l (fields (inner_of t)) →
+    Path MachineStep (machine_of s) l (machine_of t) → ⊥
+no_stall-first setup config s t l w timely room does path =
+    after_sets (with_config config) (Saving (Looks setup false)) (fields (inner_of s)) (fields (inner_of t)) l (machine_of s) (machine_of t)
+    does path looks
+  where
+    looks : (mid : Fields) (back : List Access) → mid ≡ with_config config (fields (inner_of s)) →
+        Saving (Looks setup false) mid back (fields (inner_of t)) → Path MachineStep (machine_of s) back (machine_of t) → ⊥
+    looks mid back same u q =
+        let v = settings_of mid in
+        let asked = setup.checks_presence in
+        let p = then_parts (ChecksIf asked true) (WaitsIf (is_first setup.wait) false) v back (machine_of s) (machine_of t) u.0 q in
+        let r = free-list v (ChecksIf asked true) p.front (machine_of s) p.between (silent_checks_if v asked)
+        (record { sound = w; ticked = timely.ticked; room = room }) p.first p.before in
+        let few : left p.between.chip.transmitter < mid.limit =
+        subst (λ (n : ℕ). left p.between.chip.transmitter < n) (sym (ap (λ (g : Fields). g.limit) same))
+        (few_left s p.front p.between w timely p.before) in
+        vain (is_first setup.wait) v p.back p.between (machine_of t) (free_runs p.between r) few p.second p.after
+
+no_stall-last : (setup : Setup) (config : Config) (divisor : ℕ) (fifo : Bool) (s t : State) (l : List Access) → IsSound (machine_of s) →
+    IsTimely s → HasRoom 0 (machine_of s) →
+    Next (Sets (with_config config)) (Next (Saving (Looks setup true))
+    (Next (SetsUp setup config divisor fifo) (Saving (WaitsIf (is_last setup.wait) false)))) (fields (inner_of s)) l (fields (inner_of t)) →
+    Path MachineStep (machine_of s) l (machine_of t) → ⊥
+no_stall-last setup config divisor fifo s t l w timely room does path =
+    after_sets (with_config config) (Next (Saving (Looks setup true)) rest) (fields (inner_of s)) (fields (inner_of t)) l (machine_of s)
+    (machine_of t) does path sets
+  where
+    rest : Doing
+    rest = Next (SetsUp setup config divisor fifo) (Saving (WaitsIf (is_last setup.wait) false))
+
+    sets : (mid : Fields) (back : List Access) → mid ≡ with_config config (fields (inner_of s)) →
+        Next (Saving (Looks setup true)) rest mid back (fields (inner_of t)) → Path MachineStep (machine_of s) back (machine_of t) → ⊥
+    sets mid back same u q =
+        let m = machine_of s in
+        let n = machine_of t in
+        let b = next_stages (Saving (Looks setup true)) rest mid (fields (inner_of t)) back m n u q in
+        let c = next_stages (SetsUp setup config divisor fifo) (Saving (WaitsIf (is_last setup.wait) false)) b.mid (fields (inner_of t))
+        b.parts.back b.parts.between n b.parts.second b.parts.after in
+        let first = free-list (settings_of mid) (Looks setup true) b.parts.front m b.parts.between (silent_looks (settings_of mid) setup)
+        (record { sound = w; ticked = timely.ticked; room = room }) b.parts.first.0 b.parts.before in
+        let set = free-set setup config divisor fifo b.mid c.mid c.parts.front b.parts.between c.parts.between first c.parts.first
+        c.parts.before in
+        let at : Fields → ℕ = λ g. g.limit in
+        let limit : c.mid.limit ≡ (fields (inner_of s)).limit =
+        limit-set setup config divisor fifo b.mid c.mid c.parts.front c.parts.first ∙ (ap at b.parts.first.1 ∙ ap at same) in
+        let few : left c.parts.between.chip.transmitter < c.mid.limit =
+        subst (λ (n : ℕ). left c.parts.between.chip.transmitter < n) (sym limit)
+        (few_left s (b.parts.front ++ c.parts.front) c.parts.between w timely
+        (path_then MachineStep m b.parts.between c.parts.between b.parts.front c.parts.front b.parts.before c.parts.before)) in
+        vain (is_last setup.wait) (settings_of c.mid) c.parts.back c.parts.between n (free_runs c.parts.between set) few c.parts.second.0
+        c.parts.after
+
+-- ---- `init_with`
+
+pub init_with_succeeds : (s t : State) (config : Config) (setup : Setup) (a : Answer) → IsSound (machine_of s) → IsTimely s →
+    HasRoom 0 (machine_of s) → HasDivisor config → CallStep s (call.InitWith config setup) a t → a ≢ InitRefused DeviceNotPresent →
+    a ≡ Done
+init_with_succeeds s t config setup a w timely room divisor h present = go h.outcome h.answered h.did.does
+  where
+    go : (result : Result (Unit {0}) InitError) → a ≡ init_answer result →
+        InitsWith setup config result (fields (inner_of s)) h.did.list (fields (inner_of t)) → a ≡ Done
+    go (Ok x) e does = e
+    go (Err (InvalidBaudRate cause)) e does = absurd (no_refusal config cause divisor does.0)
+    go (Err DeviceNotPresent) e does = absurd (present e)
+    go (Err Stalled) e (other, of, inl does) = absurd (no_stall-first setup config s t h.did.list w timely room does h.did.path)
+    go (Err Stalled) e (other, of, inr (fifo, does)) =
+        absurd (no_stall-last setup config other fifo s t h.did.list w timely room does h.did.path)
+
+-- ---- `set_frame_when_idle`
+
+pub frame_when_idle_succeeds : (s t : State) (config : Config) (a : Answer) (l : List Access) (result : Result (Unit {0}) FrameError) →
+    IsSound (machine_of s) → IsTimely s → HasRoom 0 (machine_of s) → HasDivisor config → a ≡ frame_when_idle_answer result →
+    SetsFrameWhenIdle config result (fields (inner_of s)) l (fields (inner_of t)) → Path MachineStep (machine_of s) l (machine_of t) →
+    a ≡ Done
+frame_when_idle_succeeds s t config a l (Ok x) w timely room divisor e does path = e
+frame_when_idle_succeeds s t config a l (Err (frame_error.InvalidBaudRate cause)) w timely room divisor e does path =
+    absurd (no_refusal config cause divisor does.0)
+frame_when_idle_succeeds s t config a l (Err frame_error.Stalled) w timely room divisor e (other, of, (waits, saved)) path =
+    absurd (no_stall-empty (settings_at s) (settings_at s).limit l (machine_of s) (machine_of t) (runs s w timely room)
+    (few_left s [] (machine_of s) w timely refl) waits path)
