@@ -11,14 +11,16 @@ of bytes before the last line, and does not come back either. A machine that sen
 """
 import os
 import random
-import select
 import subprocess
 import sys
 import threading
 import time
 
+sys.dont_write_bytecode = True
+from patience import Patience
+
 COUNTS = [int(count) for count in os.environ.get("COUNT", "10000").split()]
-PATIENCE = 10  # seconds without a byte, after which the machine is stopped
+PATIENCE = 10  # seconds in which the machine works or sleeps and sends no byte, after which it is stopped
 # Around the sizes of a FIFO and of the rings, so that each is filled again while it is read, and runs empty.
 MOST_IN_A_BURST = 600
 LONGEST_PAUSE = 0.001  # seconds
@@ -69,8 +71,8 @@ def type_in(machine, pieces):
 
 def read(machine, count):
     """Reads so many bytes, or fewer if the machine ends or sends nothing for a while."""
-    found = b""
-    while len(found) < count and select.select([machine.stdout], [], [], PATIENCE)[0]:
+    found, patience = b"", Patience([machine], PATIENCE)
+    while len(found) < count and patience.can_read(machine.stdout):
         piece = machine.stdout.read(count - len(found))
         if not piece:
             break
@@ -95,10 +97,7 @@ def expect_end(machine):
     """Ends unless the machine sends nothing more and ends with the status."""
     more = read(machine, 60)
     machine.stdout.close()
-    try:
-        status = machine.wait(PATIENCE)
-    except subprocess.TimeoutExpired:
-        status = "none"
+    status = Patience([machine], PATIENCE).end(machine)
     if more or status != int(os.environ.get("STATUS", "0")):
         print(f"the machine sent {more!r} more, and ended with status {status}")
         sys.exit(1)

@@ -13,9 +13,12 @@ import subprocess
 import sys
 import time
 
+sys.dont_write_bytecode = True
+from patience import Patience
+
 QUESTION = b"which end of the cable?\r\n"
 WANTED = b"sent 1048576, received 1048576, errors 00\r\n"
-PATIENCE = 300  # seconds without a byte, after which the machines are stopped: on a busy computer they are slow
+PATIENCE = 60  # seconds in which the machines work or sleep and send no byte, after which they are stopped
 DONE = 33  # the status of a kernel that is done
 
 
@@ -34,7 +37,7 @@ def main():
         for machine, letter in zip(machines, letters):
             machine.stdin.write(letter.encode())
         listen(machines, found, lambda text: False)
-        statuses = [machine.wait(PATIENCE) for machine in machines]
+        statuses = [Patience(machines, PATIENCE).end(machine) for machine in machines]
     finally:
         for machine in machines:
             machine.kill()
@@ -51,10 +54,11 @@ def listen(machines, found, is_enough):
     with selectors.DefaultSelector() as selector:
         for number, machine in enumerate(machines):
             selector.register(machine.stdout, selectors.EVENT_READ, number)
+        patience = Patience(machines, PATIENCE)
         while selector.get_map():
-            ready = selector.select(PATIENCE)
-            if not ready:
+            if not patience.can_read(selector):
                 sys.exit(f"nothing more was said after {found}")
+            ready = selector.select(0)
             for key, _ in ready:
                 piece = os.read(key.fd, 4096)
                 found[key.data] += piece

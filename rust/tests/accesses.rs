@@ -44,6 +44,22 @@ pub fn accesses(base: NonZeroUsize, value: u8) -> u8 {
     access(unsafe { VolatileMemory::from_address(base, 4) }.ok(), value)
 }
 
+// One access alone, as the first one in a lock and the last one: no other access brings a barrier.
+#[unsafe(no_mangle)]
+pub fn read_alone(base: NonZeroUsize) -> u8 {
+    // SAFETY: nobody calls this.
+    let registers = unsafe { VolatileMemory::from_address(base, 4) };
+    registers.map_or(0, |mut registers| registers.read(5))
+}
+
+#[unsafe(no_mangle)]
+pub fn write_alone(base: NonZeroUsize, value: u8) {
+    // SAFETY: nobody calls this.
+    if let Ok(mut registers) = unsafe { VolatileMemory::from_address(base, 4) } {
+        registers.write(0, value);
+    }
+}
+
 #[unsafe(no_mangle)]
 pub fn accesses_of_8_bits(base: NonZeroUsize, value: u8) -> u8 {
     access_wide(base, RegisterWidth::Bits8, SWAPPED, value)

@@ -19,8 +19,8 @@ use uart_16550::native::{
 };
 use core::task::{Context, Poll};
 use uart_16550::emergency::EmergencyConsole;
-use uart_16550::ring::{Global, Handled, Memory, ReceiveMarks, RingError, StuckError, Uart16550Ring};
-use uart_16550::shared::{CriticalSection, Shared, SharedError, StartError, Unfinished, Wait};
+use uart_16550::ring::{Global, Handled, LinePort, LinePorts, Lowered, Memory, ReceiveMarks, RingError, StuckError, Uart16550Ring};
+use uart_16550::shared::{CriticalSection, Shared, SharedError, SharedLine, StartError, Unfinished, Wait};
 use uart_16550::spec::registers::{
     DLL, DLM, FCR, FifoTriggerLevel, IER, ISR, InterruptType, LCR, LSR, MCR, MSR, PSD, Parity, SPR,
     WordLength,
@@ -54,6 +54,24 @@ impl CriticalSection for Section {
 }
 
 type Port = Shared<Section, Device>;
+type Line = SharedLine<Section, Device, 4>;
+
+/// A line with one port.
+pub struct One(LinePort<Device>);
+
+impl LinePorts for One {
+    fn number(&self) -> usize {
+        1
+    }
+
+    fn lower(&mut self, _port: usize, limit: usize, rounds: u32) -> bool {
+        self.0.lower(limit, rounds)
+    }
+
+    fn raise(&mut self, _port: usize) {
+        self.0.raise();
+    }
+}
 
 /// A thread that does not wait.
 struct Once;
@@ -130,6 +148,7 @@ calls! {
     uart_check_configured(uart: &mut Uart, outputs: MCR) -> Result<(), ConfigurationError> { uart.check_configured(outputs) }
     uart_attach(uart: &mut Uart) -> Result<(DLL, DLM), AttachError> { uart.attach() }
     uart_is_idle(uart: &mut Uart) -> bool { uart.is_idle() }
+    uart_is_gone(uart: &mut Uart) -> bool { uart.is_gone() }
     uart_set_break(uart: &mut Uart, on: bool) { uart.set_break(on) }
     uart_set_modem_control(uart: &mut Uart, outputs: MCR) { uart.set_modem_control(outputs) }
     uart_set_rts(uart: &mut Uart, on: bool) { uart.set_rts(on) }
@@ -249,10 +268,25 @@ calls! {
     ring_take(ring: &mut Ring, slots: &mut [u8]) -> usize { ring.take(slots) }
     ring_take_line(ring: &mut Ring) -> LSR { ring.take_line() }
     ring_take_modem(ring: &mut Ring) -> MSR { ring.take_modem() }
+    ring_config_register_dump(ring: &mut Ring) -> ConfigRegisterDump { ring.config_register_dump() }
     ring_service(ring: &mut Ring) -> usize { ring.service() }
     ring_handle(ring: &mut Ring, limit: usize) -> Handled { ring.handle(limit) }
     ring_retrigger(ring: &mut Ring) { ring.retrigger() }
     ring_resume_transmit(ring: &mut Ring) { ring.resume_transmit() }
+    ring_lower_line(ring: &mut Ring, limit: usize, rounds: u32) -> Lowered { ring.lower_line(limit, rounds) }
+    ring_raise_line(ring: &mut Ring, enabled: IER) { ring.raise_line(enabled) }
+
+    line_port_new(ring: Ring) -> LinePort<Device> { LinePort::new(ring) }
+    line_port_handled(port: &LinePort<Device>) -> Result<Handled, StuckError> { port.handled() }
+    line_port_lower(port: &mut LinePort<Device>, limit: usize, rounds: u32) -> bool { port.lower(limit, rounds) }
+    line_port_raise(port: &mut LinePort<Device>) { port.raise() }
+    line_handle_line(port: &mut One, limit: usize, rounds: u32) -> bool { uart_16550::ring::handle_line(port, limit, rounds) }
+    line_handle_ports(ports: &mut [LinePort<Device>], limit: usize, rounds: u32) -> bool { uart_16550::ring::handle_ports(ports, limit, rounds) }
+    line_start(line: &Line, port: usize, memory: Global<'_>, uart: Uart) -> Result<(), (Uart, StartError)> { line.start(port, memory, uart, 64, 64) }
+    line_stop(line: &Line, port: usize) -> Result<Ring, SharedError> { line.stop(port) }
+    line_handle(line: &Line, limit: usize, rounds: u32) -> Result<bool, SharedError> { line.handle(limit, rounds) }
+    line_handled(line: &Line, port: usize) -> Result<Handled, SharedError> { line.handled(port) }
+    line_with_port(line: &Line, port: usize) -> Result<usize, SharedError> { line.with_port(port, |ring| ring.transmit_len()) }
 
     shared_start(port: &Port, memory: Global<'_>, uart: Uart) -> Result<(), (Uart, StartError)> { port.start(memory, uart, 64, 64) }
     shared_stop(port: &Port) -> Result<Ring, SharedError> { port.stop() }

@@ -1,6 +1,6 @@
 //! Threads over drivers, for tools that find data races and accesses outside of memory: two threads with a device each, a driver
-//! that goes from thread to thread, rings behind a lock with a thread as their interrupt handler, and rings of one `Memory` on
-//! threads of their own.
+//! that goes from thread to thread, rings behind a lock with a thread as their interrupt handler, rings in a `Shared` whose section
+//! keeps nobody out, and rings of one `Memory` on threads of their own.
 //!
 //! With the name of a fault it makes this fault and ends. What runs it has to find the fault, or else finds nothing in the tests
 //! either: `one-device`, two objects for one device; `no-lock`, the rings without their lock; `outside`, a device that is larger
@@ -19,6 +19,7 @@ use uart_16550::native::backend::{Backend, VolatileMemory};
 use uart_16550::native::spec::registers::{IER, LSR, offsets};
 use uart_16550::native::{Config, Uart16550};
 use uart_16550::ring::{Global, MAX_INTERRUPTS, Memory, Uart16550Ring};
+use uart_16550::shared::{CriticalSection, Shared, SharedError};
 
 const MESSAGES: usize = 50;
 const MESSAGE: usize = 100;
@@ -191,13 +192,17 @@ fn ring(global: Global<'_>) -> Ring {
     let uart = Uart16550::new_with_backend(Looped::new());
     let made = Ring::new(global, uart, CAPACITY, CAPACITY).map_err(|(_uart, error)| error);
     let mut ring = made.expect("there is memory");
+    set_up(&mut ring);
+    ring
+}
+
+fn set_up(ring: &mut Ring) {
     let interrupts = IER::DATA_READY | IER::RECEIVER_LINE_STATUS;
     let config = Config {
         interrupts,
         ..Config::DEFAULT
     };
     ring.inner_mut().init(config).expect("cells keep patterns");
-    ring
 }
 
 fn memory(rings: usize) -> Memory {
@@ -245,29 +250,89 @@ fn open_port() {
     });
 }
 
+/// Lets the interrupt handler end, also if the sender panics.
+struct Over;
+
+impl Drop for Over {
+    fn drop(&mut self) {
+        PORT.with(|port| port.as_mut().expect("the port is there").is_over = true);
+    }
+}
+
 /// One thread sends and takes, and another is the interrupt handler.
 fn test_shared() {
     open_port();
+    // It goes on for as long as the sender, which has its own bound: a busy machine may let it make any number of turns before that
+    // makes one. Each gives way to the other.
     let handler = thread::spawn(|| {
-        for _turn in 0..TURNS {
-            let is_over = PORT.with(|port| {
-                let port = port.as_mut().expect("the port is there");
-                handle(&mut port.ring);
-                port.is_over
-            });
-            if is_over {
-                break;
-            }
+        while !PORT.with(|port| {
+            let port = port.as_mut().expect("the port is there");
+            handle(&mut port.ring);
+            port.is_over
+        }) {
+            thread::yield_now();
+        }
+    });
+    let over = Over;
+    for n in 0..MESSAGES {
+        echo(n, |call| {
+            PORT.with(|port| call(&mut port.as_mut().expect("the port is there").ring));
+            thread::yield_now();
+        });
+    }
+    drop(over);
+    handler.join().expect("no panic");
+}
+
+// ---- rings in a `Shared`
+
+/// A section that keeps nobody out. So what orders the threads' accesses is the sign in `Shared` alone, that somebody is in.
+struct Open;
+
+impl CriticalSection for Open {
+    fn run<R>(&self, call: impl FnOnce() -> R) -> R {
+        call()
+    }
+}
+
+static RINGS: Shared<Open, Looped> = Shared::new(Open);
+
+/// Calls the function over the rings, as soon as nobody else is in.
+fn enter(call: &mut dyn FnMut(&mut Ring)) {
+    for _turn in 0..TURNS {
+        let entered = RINGS.with(&mut *call);
+        thread::yield_now();
+        match entered {
+            Ok(()) => return,
+            Err(SharedError::InUse) => {}
+            Err(other) => panic!("{other}"),
+        }
+    }
+    panic!("somebody else is always in");
+}
+
+/// One thread sends and takes, and another is the interrupt handler, as above.
+fn test_refusals() {
+    let uart = Uart16550::new_with_backend(Looped::new());
+    let started = RINGS.start(memory(1).global(), uart, CAPACITY, CAPACITY);
+    started
+        .map_err(|(_uart, error)| error)
+        .expect("there is memory");
+    enter(&mut set_up);
+    let handler = thread::spawn(|| {
+        while !IS_OVER.load(Ordering::Relaxed) {
+            enter(&mut handle);
         }
     });
     for n in 0..MESSAGES {
-        echo(n, |call| {
-            PORT.with(|port| call(&mut port.as_mut().expect("the port is there").ring))
-        });
+        echo(n, |call| enter(call));
     }
-    PORT.with(|port| port.as_mut().expect("the port is there").is_over = true);
+    IS_OVER.store(true, Ordering::Relaxed);
     handler.join().expect("no panic");
 }
+
+// Says nothing about the rings, and so orders no access to them.
+static IS_OVER: AtomicBool = AtomicBool::new(false);
 
 // ---- rings of one memory
 
@@ -366,9 +431,10 @@ fn main() -> ExitCode {
         None => {
             test_own();
             test_shared();
+            test_refusals();
             test_memory();
             test_heap();
-            println!("{MESSAGES} messages on each of eight drivers");
+            println!("{MESSAGES} messages on each of nine drivers");
         }
     }
     ExitCode::SUCCESS

@@ -5,6 +5,7 @@ use crate::judging::{Audited, Stop};
 use crate::kinds::Kind;
 use crate::moments::{Arrival, Happened, Moment, Seen, parts, register_of};
 use crate::picture::picture_of_recording;
+use crate::piece::Piece;
 use crate::table::table_of_recording;
 use crate::text::file_name;
 use std::collections::{BTreeSet, VecDeque};
@@ -242,7 +243,7 @@ fn title(file: &str, moments: &[Moment]) -> String {
 /// Why the recording was not read up to that line.
 pub fn timeline_of(excerpt: &Excerpt<'_>, reader: impl Read) -> Result<String, Stop> {
     let mut watch = Watch::new(excerpt.most);
-    let mut recording = Recording::new(heap(), reader)?;
+    let mut recording = Recording::new(heap(), Piece::new(reader))?;
     let is_end = read_up_to(&mut watch, &mut recording, excerpt.line)?;
     let mut found: Vec<_> = watch.warnings().collect();
     if is_end {

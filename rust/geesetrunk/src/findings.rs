@@ -206,6 +206,9 @@ pub fn stopped(file: &str, stop: Stop) -> End {
             End::failed(format!("{file}:{line}: {fault}"))
         }
         Stop::Recording(RecordingError::Unread(cause)) => End::unread(file, cause),
+        Stop::NoAccess => End::failed(format!(
+            "{file}: no line of it is an access of a driver, so nothing was judged"
+        )),
         Stop::Output(cause) => End::unwritten(cause),
         Stop::OutOfMemory => End::out_of_memory(),
     }

@@ -2,6 +2,7 @@
 
 use crate::heap;
 use crate::kinds::Kind;
+use crate::piece::Piece;
 use geesetrunk_kit::alloc::AllocError;
 use std::io::{self, Read};
 use uart_chip::Chip;
@@ -24,6 +25,8 @@ pub enum Judge {
 pub enum Stop {
     /// A line is no line of a recording, or the reader failed.
     Recording(RecordingError),
+    /// It is read to its end, and has no access to a chip.
+    NoAccess,
     /// What was found could not be printed.
     Output(io::Error),
     /// Memory could not be allocated.
@@ -285,23 +288,30 @@ impl ChipJudge {
 }
 
 // Reads a recording to its end, and tells what is found at each entry. Returns how many lines it has.
-// It is one function for both judges, so that what reads a line is part of it.
+// It is one function for both judges, so that what reads a line is part of it. Without an access nothing was judged, which is not to
+// look as if nothing was found.
 fn judge_entries(
     reader: impl Read,
     tell: &mut impl FnMut(&Found) -> io::Result<()>,
     step: &mut dyn FnMut(&Entry, &mut Vec<Found>),
 ) -> Result<u64, Stop> {
-    let mut recording = Recording::new(heap(), reader)?;
+    let mut recording = Recording::new(heap(), Piece::new(reader))?;
+    let mut has_access = false;
     let mut found = Vec::new();
     // More than are found at an entry.
     found.try_reserve(64).map_err(|_| Stop::OutOfMemory)?;
     while let Some(entry) = recording.next_entry()? {
+        has_access |= matches!(entry.happening, Happening::Access(_));
         step(&entry, &mut found);
         for found in found.drain(..) {
             tell(&found).map_err(Stop::Output)?;
         }
     }
-    Ok(recording.lines())
+    if has_access {
+        Ok(recording.lines())
+    } else {
+        Err(Stop::NoAccess)
+    }
 }
 
 /// Judges a recording, and tells what is found as soon as it is found. Returns how many lines it

@@ -22,6 +22,7 @@ pub mod link;
 pub mod moments;
 pub mod observing;
 pub mod picture;
+pub mod piece;
 pub mod port;
 pub mod repeats;
 pub mod script;

@@ -355,3 +355,59 @@ fn the_manual_page_is_what_is_stored() {
         "docs/geesetrunk.1 is not what `geesetrunk manual` prints:\n{page}"
     );
 }
+
+// Fails unless each judge ends so with what is on standard input.
+#[track_caller]
+fn assert_judged(recording: &str, status: i32, output: &str, errors: &str) {
+    for judge in ["audit", "replay"] {
+        for form in [&[judge][..], &[judge, "--json"], &[judge, "--all"]] {
+            let (found, printed, told) = parts(&run(GEESETRUNK, form, recording.as_bytes()));
+            assert_eq!(found, status, "{form:?}: {told}");
+            assert!(told.starts_with(errors), "{form:?}: {told}");
+            let is_for_people = form.len() == 1;
+            assert!(
+                !is_for_people || printed.contains(output),
+                "{form:?}: {printed}"
+            );
+        }
+    }
+}
+
+// Nothing is found in it, since nothing was looked at: that is not to look as a recording without faults.
+#[test]
+fn a_recording_without_an_access_is_not_judged() {
+    let none = "-: no line of it is an access of a driver";
+    for recording in [
+        "",
+        "\n",
+        "# a remark\n",
+        "kvm_pio_write at 0x3f8\n",
+        "x 3\n",
+        "a 00 41\nm 30\n",
+    ] {
+        assert_judged(recording, 2, "", none);
+    }
+    assert_judged("r 5 60\n", 0, "-: 1 line, 0 ", "");
+}
+
+// What was read is not in the piece. Its lines keep their numbers.
+#[test]
+fn a_piece_may_begin_with_a_repeat() {
+    assert_judged("x 3\nr 5 60\nx 2\n", 0, "-: 3 lines, 0 ", "");
+    assert_judged("x 3\nX 1\nr 5 60\nz\n", 2, "", "-:4: ");
+    assert_judged("w 0 41\nx 3\n", 2, "", "-:2: no read before it");
+    let timeline = ["timeline", "--recording", "--text"];
+    let (status, printed, told) = parts(&run(GEESETRUNK, &timeline, b"x 3\nr 5 60\n"));
+    assert_eq!(status, 0, "{told}");
+    assert!(printed.contains("2  r LSR  60"), "{printed}");
+}
+
+// Two chips look as one that forgets what is written to it.
+#[test]
+fn lines_of_two_processes_are_not_judged_as_one_chip() {
+    let of = |process: u32| format!("{process}@1.000001:serial_read addr 0x05 val 0x60\n");
+    let told =
+        "- cannot be read: line 3 is an access of process 14, and those before are of process 13.";
+    assert_judged(&[of(13), of(13), of(14)].concat(), 2, "", told);
+    assert_judged(&[of(13), of(13)].concat(), 0, "-: 2 lines, 0 ", "");
+}

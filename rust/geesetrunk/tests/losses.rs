@@ -2,6 +2,7 @@
 
 use geesetrunk::judging::Audited;
 use geesetrunk::kinds::Kind;
+use uart_judges::audit::Finding;
 use uart_judges::recording::{Entry, Happening};
 use uart_live::{Chip, LiveChip, WIRE_ROOM};
 use uart_spec::access::Access;
@@ -84,6 +85,27 @@ fn a_byte_beyond_the_room_is_dropped() {
     }
     assert_eq!(slow.write(DATA, b'a'), ["sent-beyond-room"]);
     assert_eq!(slow.chip.held_len(), 17);
+}
+
+// An empty shift register takes the first byte, so there was room for one more than LSR tells. That is
+// why this warning says that the byte may be lost, and not that it is.
+#[test]
+fn a_seventeenth_byte_can_still_fit() {
+    let mut slow = Slow::new();
+    slow.chip.ticks(2000);
+    let wire = slow.chip.wire().len();
+    assert_eq!(slow.look(), LSR::THR_EMPTY | LSR::TRANSMITTER_EMPTY);
+    for sent in 1..=17 {
+        let names = slow.write(DATA, b'a' + sent);
+        assert_eq!(names.contains(&"sent-beyond-room"), sent == 17, "{names:?}");
+        slow.chip.ticks(4);
+    }
+    assert_eq!(slow.chip.held_len(), 17);
+    slow.chip.ticks(20_000);
+    let sent: Vec<u8> = (1..=17).map(|sent| b'a' + sent).collect();
+    assert_eq!(slow.chip.wire()[wire..], sent);
+    let finding = Kind::Finding(Finding::SentBeyondRoom { sent: 17, room: 16 });
+    assert!(finding.to_string().contains("this byte may be lost"));
 }
 
 #[test]

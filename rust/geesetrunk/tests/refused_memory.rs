@@ -6,28 +6,35 @@ use geesetrunk::judging::{Judge, judge_recording};
 use geesetrunk_kit::Vec as List;
 use geesetrunk_kit::alloc::AllocError;
 use std::alloc::{GlobalAlloc, Layout, System};
+use std::cell::Cell;
 use std::fmt::Debug;
 use std::num::NonZeroU64;
 use std::ptr;
-use std::sync::atomic::{AtomicBool, AtomicUsize, Ordering::Relaxed};
 use uart_judges::findings;
 use uart_language::ScriptError;
 use uart_play::{PlayError, Std, play};
 use uart_spec::access::Access;
 use uart_trace::{Listener, Remarks, plain, tell, trace};
 
-// How many requests are granted before one is refused, and whether one was.
-static LEFT: AtomicUsize = AtomicUsize::new(usize::MAX);
-
-static HAS_REFUSED: AtomicBool = AtomicBool::new(false);
+thread_local! {
+    // How many requests are granted before one is refused, and whether one was. Of this thread alone: what runs the test asks for
+    // memory in another one meanwhile.
+    static LEFT: Cell<usize> = const { Cell::new(usize::MAX) };
+    static HAS_REFUSED: Cell<bool> = const { Cell::new(false) };
+}
 
 struct Refusing;
 
 fn is_refused() -> bool {
-    let next = |left: usize| (left != usize::MAX).then(|| left.wrapping_sub(1));
-    let is_refused = LEFT.fetch_update(Relaxed, Relaxed, next) == Ok(0);
-    HAS_REFUSED.fetch_or(is_refused, Relaxed);
-    is_refused
+    let left = LEFT.get();
+    if left == usize::MAX {
+        return false;
+    }
+    LEFT.set(left.wrapping_sub(1));
+    if left == 0 {
+        HAS_REFUSED.set(true);
+    }
+    left == 0
 }
 
 // SAFETY: each request is one to `System`, or returns null, as a refused request does.
@@ -61,11 +68,11 @@ static ALLOCATOR: Refusing = Refusing;
 fn each<T: PartialEq + Debug>(name: &str, refusal: T, call: impl Fn() -> T) {
     let expected = call();
     for granted in 0.. {
-        HAS_REFUSED.store(false, Relaxed);
-        LEFT.store(granted, Relaxed);
+        HAS_REFUSED.set(false);
+        LEFT.set(granted);
         let result = call();
-        LEFT.store(usize::MAX, Relaxed);
-        if !HAS_REFUSED.load(Relaxed) {
+        LEFT.set(usize::MAX);
+        if !HAS_REFUSED.get() {
             assert_eq!(result, expected, "{name}");
             println!("{name}: {granted} requests refused");
             return;

@@ -136,7 +136,8 @@ fn findings_of_a_recording_that_still_grows() {
             .map_while(Result::ok)
             .try_for_each(|line| sender.send(line))
     });
-    let next = || found.recv_timeout(Duration::from_secs(20)).unwrap();
+    // A busy machine may take long. The time is only there so that a finding which never comes ends the test.
+    let next = || found.recv_timeout(Duration::from_secs(600)).unwrap();
     recording.write_all(b"w 3 03\nr 3 13\n").unwrap();
     assert!(next().starts_with("-:2: difference: LCR reads 13"));
     recording.write_all(b"w 7 5a\nr 7 00\n").unwrap();

@@ -11,17 +11,20 @@ import fcntl
 import os
 import random
 import re
-import select
 import subprocess
 import sys
 import threading
 import time
 
+sys.dont_write_bytecode = True
+sys.path.insert(0, os.path.dirname(os.path.dirname(os.path.abspath(__file__))))
+from patience import Patience
+
 MARK = b"\x04"
 TYPED = 10_000
 TYPED_BY_INTERRUPTS = int(os.environ.get("BY_INTERRUPTS", TYPED))
 PATTERN = bytes(at % 251 for at in range(65_536))
-PATIENCE = 20  # seconds without a byte, after which the machine is stopped
+PATIENCE = 20  # seconds in which the machine works or sleeps and sends no byte, after which it is stopped
 PAUSE = 1  # seconds in which nothing is read
 # As little as a pipe can hold, so that the machine notices that nobody reads.
 PIPE_SIZE = 4096
@@ -42,9 +45,9 @@ class Machine:
         fcntl.fcntl(self.process.stdout, fcntl.F_SETPIPE_SZ, PIPE_SIZE)
         self.found = b""
 
-    def more(self, patience):
+    def more(self, seconds):
         """Waits for bytes. Whether some came."""
-        if not select.select([self.process.stdout], [], [], patience)[0]:
+        if not Patience([self.process], seconds).can_read(self.process.stdout):
             return False
         piece = os.read(self.process.stdout.fileno(), PIPE_SIZE)
         self.found += piece

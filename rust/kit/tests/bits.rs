@@ -1,6 +1,7 @@
 //! Sets of named bits, some of which have no name.
 
 use geesetrunk_kit::{Flag, Flags, Names};
+use std::fmt;
 
 #[derive(Clone, Copy, Debug, PartialEq, Eq)]
 struct Set(u8);
@@ -87,4 +88,27 @@ fn bits_are_named_in_order() {
         format!("{:?} {:?}", Names(&Set(0x81)), Names(&Set(0))),
         "LOW | BOTH | HIGH 0x0"
     );
+}
+
+/// A writer of which one call fails.
+struct FailsOnce {
+    calls_before: usize,
+}
+
+impl fmt::Write for FailsOnce {
+    fn write_str(&mut self, _text: &str) -> fmt::Result {
+        let fails = self.calls_before == 0;
+        self.calls_before = self.calls_before.wrapping_sub(1);
+        if fails { Err(fmt::Error) } else { Ok(()) }
+    }
+}
+
+#[test]
+fn a_text_that_is_not_written_to_its_end_is_an_error() {
+    // Two names, and what is between them.
+    for calls_before in 0..4 {
+        let mut writer = FailsOnce { calls_before };
+        let written = fmt::write(&mut writer, format_args!("{:?}", Names(&Set(3))));
+        assert_eq!(written.is_ok(), calls_before == 3, "{calls_before}");
+    }
 }

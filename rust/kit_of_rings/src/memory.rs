@@ -12,6 +12,7 @@ mod tests;
 #[cfg(feature = "alloc")]
 use alloc::boxed::Box;
 use core::cell::Cell;
+use core::fmt;
 use geesetrunk_kit::alloc::AllocError;
 
 /// Memory for rings. Each ring takes its part from the front.
@@ -60,11 +61,21 @@ impl Memory {
     }
 }
 
+/// Shows how many bytes are free, and not the bytes.
+impl fmt::Debug for Memory {
+    fn fmt(&self, f: &mut fmt::Formatter<'_>) -> fmt::Result {
+        let free = self.free.take();
+        let count = free.len();
+        self.free.set(free);
+        f.debug_struct("Memory").field("free", &count).finish()
+    }
+}
+
 /// Where the memory of rings comes from.
-#[derive(Clone, Copy)]
+#[derive(Clone, Copy, Debug)]
 pub struct Global<'a>(Source<'a>);
 
-#[derive(Clone, Copy)]
+#[derive(Clone, Copy, Debug)]
 enum Source<'a> {
     Given(&'a Memory),
     #[cfg(feature = "alloc")]

@@ -2,14 +2,15 @@
 //! beside this file use it under `forbid(unsafe_code)`.
 #![allow(missing_docs)]
 
-use std::ptr::{self, NonNull};
+use std::ptr::NonNull;
 use uart_16550::compat::backend::{Backend, MmioBackend};
 use uart_16550::compat::{Config, Uart16550, Uart16550Tty};
 use uart_16550::native;
 
-/// Memory that a pointer leads to. Anyone may make one, since an access is `unsafe`.
-#[derive(Clone, Copy, Debug)]
-pub struct Pointed(pub *mut u8);
+/// Memory that a pointer leads to. Each is over registers of its own, and they are not copied: that is what the
+/// constructor of a driver asks for, since safe code may put one in the place of another.
+#[derive(Debug)]
+pub struct Pointed(*mut u8);
 
 impl Backend for Pointed {
     unsafe fn read(&mut self, register_offset: u8) -> u8 {
@@ -21,11 +22,6 @@ impl Backend for Pointed {
         // SAFETY: by the promise of the caller.
         unsafe { self.0.add(register_offset.into()).write_volatile(value) }
     }
-}
-
-/// Returns a backend that leads nowhere.
-pub fn nowhere() -> Pointed {
-    Pointed(ptr::null_mut())
 }
 
 fn registers() -> NonNull<u8> {

@@ -1,8 +1,9 @@
 //! The accesses to a device: ports of x86 by `in` and `out`, and memory by volatile loads and stores,
 //! with barriers where the architecture needs them.
 //!
-//! This and `shared/exclusive.rs` are the files with `unsafe`, and no proof covers them. An access object has its base and
-//! its stride in itself, tested when it is made, so safe code can make it access nothing else.
+//! Of this crate, this and `shared/exclusive.rs` are the files that do something `unsafe`, and no proof covers them; `emergency.rs` has a
+//! promise alone. An access object has its base and its stride in itself, tested when it is made, so safe code can make it access nothing
+//! else.
 #![allow(unsafe_code)]
 
 use crate::design_ware::DesignWareRegisters;
@@ -871,13 +872,31 @@ pub(crate) mod original {
         }
     }
 
-    // A backend of the original kind as one of the driver's.
-    #[repr(transparent)]
-    pub struct Adapter<B>(B);
+    // A backend of the original kind as one of the driver's, and what `backend_mut` lends of it. The backend
+    // is first, as it is in the driver, so a call of it adds nothing to the address.
+    #[repr(C)]
+    pub struct Adapter<B> {
+        backend: B,
+        lent: Lent,
+    }
+
+    // What `backend_mut` lends to safe code, which may put another value of the type in its place.
+    enum Lent {
+        // The backend itself. Whoever made the driver promised that each such value may be accessed.
+        Itself,
+        // A copy of the backend, in a driver whose `B` is this type. Its values are addresses, and safe code
+        // has those of other drivers too. So what is put here has no effect on the driver's accesses.
+        #[cfg(any(target_arch = "x86", target_arch = "x86_64"))]
+        Ports(PioBackend),
+        Memory(MmioBackend),
+    }
+
+    // SAFETY: a shared reference to it is used for nothing: what is lent is reached by an exclusive one.
+    unsafe impl Sync for Lent {}
 
     impl<B: fmt::Debug> fmt::Debug for Adapter<B> {
         fn fmt(&self, f: &mut fmt::Formatter<'_>) -> fmt::Result {
-            self.0.fmt(f)
+            self.backend.fmt(f)
         }
     }
 
@@ -886,13 +905,44 @@ pub(crate) mod original {
         fn read(&mut self, register_offset: u8) -> u8 {
             // SAFETY: the driver alone has the adapter, and passes offsets below 8. The caller of
             // the constructor promised that the device is there.
-            unsafe { self.0.read(register_offset) }
+            unsafe { self.backend.read(register_offset) }
         }
 
         #[inline]
         fn write(&mut self, register_offset: u8, value: u8) {
             // SAFETY: as for `read`.
-            unsafe { self.0.write(register_offset, value) }
+            unsafe { self.backend.write(register_offset, value) }
+        }
+    }
+
+    impl<B> Adapter<B> {
+        const fn lend(&mut self) -> &mut B {
+            match &mut self.lent {
+                Lent::Itself => &mut self.backend,
+                #[cfg(any(target_arch = "x86", target_arch = "x86_64"))]
+                Lent::Ports(copy) => {
+                    // SAFETY: `new_port` alone makes this case, in a driver whose `B` is `PioBackend`.
+                    unsafe { lend_copy(&self.backend, ptr::from_mut(copy).cast()) }
+                }
+                Lent::Memory(copy) => {
+                    // SAFETY: `new_mmio` and `new_mmio_from_address` alone make this case, in a driver whose
+                    // `B` is `MmioBackend`.
+                    unsafe { lend_copy(&self.backend, ptr::from_mut(copy).cast()) }
+                }
+            }
+        }
+    }
+
+    // Makes `copy` the same as the backend, whatever safe code had put there, and lends it.
+    //
+    // # Safety
+    //
+    // `copy` is a `B` that may be written to as long as the result lives, and `B` is `Copy`.
+    const unsafe fn lend_copy<'a, B>(backend: &B, copy: *mut B) -> &'a mut B {
+        // SAFETY: by the promise of the caller. The two are fields of one struct, so they do not overlap.
+        unsafe {
+            ptr::copy_nonoverlapping(backend, copy, 1);
+            &mut *copy
         }
     }
 
@@ -918,8 +968,10 @@ pub(crate) mod original {
         /// backend does nothing by itself: each of its accesses is `unsafe` again.
         pub const unsafe fn new_port(base_port: u16) -> Result<Self, InvalidAddressError> {
             match check_ports(base_port) {
-                // SAFETY: by the promise of the caller.
-                Ok(()) => Ok(unsafe { Self::new_with_backend(PioBackend { base: base_port }) }),
+                Ok(()) => {
+                    let ports = PioBackend { base: base_port };
+                    Ok(Self::over_backend(ports, Lent::Ports(ports)))
+                }
                 Err(cause) => Err(cause),
             }
         }
@@ -944,8 +996,8 @@ pub(crate) mod original {
         ) -> Result<Self, InvalidAddressError> {
             let stride = check_memory(base_address.addr().get(), stride)?;
             let base = base_address;
-            // SAFETY: by the promise of the caller.
-            Ok(unsafe { Self::new_with_backend(MmioBackend { base, stride }) })
+            let memory = MmioBackend { base, stride };
+            Ok(Self::over_backend(memory, Lent::Memory(memory)))
         }
 
         /// Does the same as [`new_mmio`](Self::new_mmio) for an address that is a number.
@@ -968,8 +1020,8 @@ pub(crate) mod original {
                 Err(cause) => return Err(cause),
             };
             let base = pointer_to(base_address);
-            // SAFETY: by the promise of the caller.
-            Ok(unsafe { Self::new_with_backend(MmioBackend { base, stride }) })
+            let memory = MmioBackend { base, stride };
+            Ok(Self::over_backend(memory, Lent::Memory(memory)))
         }
     }
 
@@ -979,28 +1031,39 @@ pub(crate) mod original {
         /// # Safety
         ///
         /// As long as the driver lives, and on each thread to which it is sent, it must be sound to
-        /// call `read` and `write` of the backend with offsets below 8, whatever safe code does by
-        /// [`backend`](Self::backend).
+        /// call `read` and `write` with offsets below 8, whatever safe code does meanwhile by
+        /// [`backend`](Self::backend) and [`backend_mut`](Self::backend_mut): it must be sound for
+        /// this backend, and for each other value of its type that safe code can put in its place.
+        ///
+        /// So a type whose only values are devices in software meets this, and a type for a device
+        /// whose values are made under such a promise alone, and are not copied. A type that has an
+        /// address in a public field does not.
+        ///
+        /// Nor do [`MmioBackend`] and `PioBackend`, of which safe code has copies: their drivers are
+        /// made by `new_mmio`, `new_mmio_from_address` and `new_port`.
         pub const unsafe fn new_with_backend(backend: B) -> Self {
-            let mut driver = native::Uart16550::new_with_backend(Adapter(backend));
+            Self::over_backend(backend, Lent::Itself)
+        }
+
+        // Returns a driver over a backend, with what `backend_mut` lends.
+        const fn over_backend(backend: B, lent: Lent) -> Self {
+            let mut driver = native::Uart16550::new_with_backend(Adapter { backend, lent });
             driver.set_spin_limit(NonZeroU64::MAX);
             Uart16550(driver)
         }
 
         /// Returns the backend, to read its state. Makes no access.
         pub const fn backend(&self) -> &B {
-            &self.0.backend().0
+            &self.0.backend().backend
         }
 
-        /// Returns the backend, for raw accesses by the caller. Makes no access itself.
+        /// Returns the backend, for raw accesses by the caller, and for the other calls of a backend of
+        /// your own. Makes no access itself.
         ///
         /// After raw accesses that changed the setup of the chip, call [`init`](Self::init) again.
         ///
-        /// # Safety
-        ///
-        /// What is here when the borrow ends must be a backend for which the promise of
-        /// [`new_with_backend`](Self::new_with_backend) holds. So do not put another one here, nor
-        /// a copy of another driver's: no call of the driver asks again.
+        /// A [`MmioBackend`] and a `PioBackend` are returned as a copy: an access by the copy is one of
+        /// this device, and another address that is put in its place does not change the driver.
         ///
         /// # Examples
         ///
@@ -1009,14 +1072,12 @@ pub(crate) mod original {
         /// use uart_16550::compat::backend::{Backend, MmioBackend};
         ///
         /// fn leave_a_mark(uart: &mut Uart16550<MmioBackend>) {
-        ///     // SAFETY: the scratch register is written, and the backend stays the one that it was.
+        ///     // SAFETY: the driver's device may be accessed, and the scratch register changes nothing.
         ///     unsafe { uart.backend_mut().write(7, 0x5a) };
         /// }
         /// ```
-        // In the original this call is safe. There safe code can put another backend here, whose
-        // accesses nobody promised anything about, and the next safe call makes them.
-        pub const unsafe fn backend_mut(&mut self) -> &mut B {
-            &mut self.0.backend_mut().0
+        pub const fn backend_mut(&mut self) -> &mut B {
+            self.0.backend_mut().lend()
         }
 
         // Returns the driver under this one. A plain move would not do in a constant.

@@ -36,6 +36,7 @@ pub trait DesignWareRegisters: Backend {
 
 /// What a DesignWare UART did that this backend could not mend.
 #[derive(Clone, Copy, Debug, PartialEq, Eq, Hash)]
+#[cfg_attr(not(feature = "exhaustive"), non_exhaustive)]
 pub enum DesignWareFault {
     /// The chip was busy for longer than the patience, and LCR does not have what was written to it.
     LineControlIgnored,

@@ -67,6 +67,7 @@ const NO_TEXT: LCR = LCR::DLAB.union(LCR::SET_BREAK);
 /// #     assert_eq!(board::chip().sent, b"\r\nno memory");
 /// # }
 /// ```
+#[derive(Debug)]
 pub struct EmergencyConsole<B> {
     terminal: Uart16550Tty<B>,
     patience: NonZeroU64,

@@ -102,6 +102,7 @@ impl RegisterLayout {
 
 /// Why the registers of a device cannot lie so in memory. What is first in this list is checked first.
 #[derive(Clone, Copy, Debug, PartialEq, Eq, Hash)]
+#[cfg_attr(not(feature = "exhaustive"), non_exhaustive)]
 pub enum InvalidLayoutError {
     /// No device can be there, however wide its registers are.
     InvalidAddress(InvalidAddressError),

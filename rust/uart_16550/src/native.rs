@@ -28,6 +28,7 @@ pub mod backend {
     //! | [`DesignWare`] | a UART of DesignWare, over registers that have USR too | |
     //! | [`DesignWareMemory`] | these registers in memory | its constructors |
     //! | your own | anything with eight registers: implement [`Backend`] | |
+    //! | `&mut B` | a device that outlives its driver, and is looked at then | |
     //!
     //! The driver passes offsets of 0 to 7. Other code that gets hold of a backend may pass any, so a
     //! backend that is unsafe inside tests its offset, as the first three do.

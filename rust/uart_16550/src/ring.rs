@@ -45,8 +45,8 @@
 //!
 #![doc = include_str!("../HANDLERS.md")]
 
-pub use uart_ring::{
-    HandleEnd, Handled, MAX_CAPACITY, MAX_INTERRUPTS, ReceiveMarks, RingError, StuckError,
-    Uart16550Ring,
-};
 pub use geesetrunk_kit_of_rings::alloc::{Global, Memory};
+pub use uart_ring::{
+    HandleEnd, Handled, LinePort, LinePorts, Lowered, MAX_CAPACITY, MAX_INTERRUPTS, ReceiveMarks,
+    RingError, StuckError, Uart16550Ring, handle_line, handle_ports,
+};

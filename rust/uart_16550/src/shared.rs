@@ -5,6 +5,7 @@
 //! | has a handler, and threads that look from time to time | [`Shared::with`] |
 //! | has threads that wait | [`Shared::blocking`] |
 //! | has tasks of an executor | [`Shared::read`], [`Shared::write`] and [`Shared::flush`] |
+//! | has several ports on one interrupt line | [`SharedLine`] |
 //!
 //! [HANDLERS](crate::ring#a-handler-of-interrupts) has each as a whole. A [`Shared`] is there on each target with an atomic swap
 //! of a byte.
@@ -14,8 +15,10 @@ mod blocking;
 mod exclusive;
 #[cfg(feature = "embedded-io")]
 mod io;
+mod line;
 
 pub use blocking::{Blocking, Unfinished, Wait};
+pub use line::SharedLine;
 
 use crate::native::Uart16550;
 use crate::native::backend::Backend;
@@ -87,8 +90,9 @@ pub trait CriticalSection {
 
 /// Why a call over shared rings did nothing more.
 #[derive(Clone, Copy, Debug, PartialEq, Eq)]
+#[cfg_attr(not(feature = "exhaustive"), non_exhaustive)]
 pub enum SharedError {
-    /// There are no rings: [`Shared::start`] was not called, or [`Shared::stop`] was.
+    /// There are no rings: [`Shared::start`] was not called, or [`Shared::stop`] was. Or a line has no such port.
     NoRings,
     /// The call came in the middle of another one, which goes on when this one has returned. Or the kernel's section let two in.
     InUse,
@@ -113,11 +117,14 @@ impl core::error::Error for SharedError {}
 
 /// Why no rings were started.
 #[derive(Clone, Copy, Debug, PartialEq, Eq)]
+#[cfg_attr(not(feature = "exhaustive"), non_exhaustive)]
 pub enum StartError {
     /// The rings could not be made.
     NoRings(RingError),
     /// There are rings already.
     Started,
+    /// The line has no place of this number.
+    NoPlace,
     /// The call came in the middle of another one.
     InUse,
 }
@@ -127,6 +134,7 @@ impl fmt::Display for StartError {
         match self {
             Self::NoRings(cause) => cause.fmt(f),
             Self::Started => f.write_str("there are rings already"),
+            Self::NoPlace => f.write_str("the line has no such place"),
             Self::InUse => SharedError::InUse.fmt(f),
         }
     }
@@ -172,6 +180,23 @@ impl core::error::Error for StartError {}
 pub struct Shared<S, B> {
     section: S,
     port: Exclusive<Port<B>>,
+}
+
+/// Shows how many bytes wait, or why nothing can be shown: the rings are looked at as by [`with`](Shared::with).
+impl<S: CriticalSection, B: Backend> fmt::Debug for Shared<S, B> {
+    fn fmt(&self, f: &mut fmt::Formatter<'_>) -> fmt::Result {
+        // What writes the text is not called in the section: it may take long, and may write by these rings.
+        let seen = self.with(|ring| (ring.transmit_len(), ring.receive_len(), ring.stuck()));
+        let mut shown = f.debug_struct("Shared");
+        match seen {
+            Ok((transmit_len, receive_len, stuck)) => shown
+                .field("transmit_len", &transmit_len)
+                .field("receive_len", &receive_len)
+                .field("stuck", &stuck),
+            Err(refused) => shown.field("rings", &refused),
+        };
+        shown.finish_non_exhaustive()
+    }
 }
 
 /// What is behind the lock.

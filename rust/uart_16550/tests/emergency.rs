@@ -275,6 +275,51 @@ fn a_break_ends_as_soon_as_the_chip_lets_it() {
     assert_eq!(cable.chip().text(), b"after");
 }
 
+/// A chip whose LCR keeps these bits set.
+struct KeepsBits(LCR);
+
+impl Backend for KeepsBits {
+    fn read(&mut self, register_offset: u8) -> u8 {
+        if usize::from(register_offset) == offsets::LCR {
+            self.0.bits()
+        } else {
+            0
+        }
+    }
+
+    fn write(&mut self, _register_offset: u8, _value: u8) {}
+}
+
+#[test]
+fn a_break_or_a_latch_that_does_not_end_is_refused() {
+    for kept in [LCR::SET_BREAK, LCR::DLAB, LCR::SET_BREAK | LCR::DLAB] {
+        let keeps = KeepsBits(kept | LCR::WORD_LENGTH);
+        // SAFETY: nobody else has it.
+        let refused = unsafe { EmergencyConsole::take_over(keeps, PATIENCE) }.err();
+        assert_eq!(refused, Some(AttachError::DivisorLatchOpen), "{kept:?}");
+    }
+}
+
+/// The general outputs may be wired to anything, as to the gate of a PC's interrupt line: they stay. Loopback and the chip's flow
+/// control end, and the remote may send and receive.
+#[test]
+fn outputs_of_the_board_stay_as_they_are() {
+    const FLOW_CONTROL: MCR = MCR::from_bits_retain(0x20);
+    let outputs = [MCR::empty(), MCR::OUT_1, MCR::OUT_2_INT_ENABLE];
+    for kept in outputs
+        .into_iter()
+        .chain([MCR::OUT_1 | MCR::OUT_2_INT_ENABLE])
+    {
+        for others in [MCR::empty(), MCR::LOOP_BACK | FLOW_CONTROL | MCR::DTR] {
+            let cable = Cable::default();
+            cable.chip().cells[offsets::MCR] = (kept | others).bits();
+            assert!(take_over(&cable).is_ok());
+            let left = MCR::from_bits_retain(cable.chip().cells[offsets::MCR]);
+            assert_eq!(left, kept | MCR::DTR | MCR::RTS);
+        }
+    }
+}
+
 #[test]
 fn what_was_sent_before_keeps_its_frame() {
     let cable = Cable::default();

@@ -17,7 +17,7 @@ use uart_16550::native::{
     StalledError, TransmitterWait, Uart16550,
 };
 use uart_16550::ring::{HandleEnd, Handled, MAX_INTERRUPTS, Memory, Uart16550Ring};
-use uart_16550::spec::registers::{IER, LCR, LSR, MCR, MSR, offsets};
+use uart_16550::spec::registers::{FCR, IER, LCR, LSR, MCR, MSR, offsets};
 
 // The low four bits of an ISR that shows a line status, and of one that has no name.
 const LINE_STATUS: u8 = 0x06;
@@ -511,12 +511,97 @@ mod design_ware_backend {
         assert_eq!(uart.try_receive_byte(), Ok(b'a'));
         assert!(!uart.lsr().contains(LSR::OVERRUN_ERROR));
 
+        // An overrun behind what is kept is told at once too, and once.
+        let [kept, behind] = overrun.map(|character| VecDeque::from([character]));
+        let faulty = Faulty {
+            waiting: behind,
+            cells: [0; 8],
+        };
+        let mut backend = DesignWare::new(faulty, PATIENCE);
+        backend.write(offsets::LCR as u8, LINE.bits());
+        backend.registers_mut().waiting = kept;
+        let looks = [(); 3].map(|()| LSR::from_bits_retain(backend.read(offsets::LSR as u8)));
+        let once = [
+            LSR::DATA_READY | LSR::OVERRUN_ERROR,
+            LSR::DATA_READY,
+            LSR::DATA_READY,
+        ];
+        assert_eq!(looks, once);
+
         // Errors of a byte that is read without a look are told afterwards.
         let unseen = [character(b'f', LSR::PARITY_ERROR)];
         uart.backend_mut().registers_mut().waiting.extend(unseen);
         assert_eq!(uart.set_frame(&Config::DEFAULT), Ok(()));
         while uart.backend_mut().read(offsets::DATA as u8) != b'f' {}
         assert!(uart.lsr().contains(LSR::PARITY_ERROR));
+    }
+
+    /// A backend over a chip on which these characters wait, and that keeps them after a write of LCR.
+    fn that_keeps(bytes: &[u8]) -> DesignWare<Faulty> {
+        let errors = LSR::empty();
+        let faulty = Faulty {
+            waiting: bytes
+                .iter()
+                .map(|&byte| Received { byte, errors })
+                .collect(),
+            cells: [0; 8],
+        };
+        let mut backend = DesignWare::new(faulty, PATIENCE);
+        backend.write(offsets::LCR as u8, LINE.bits());
+        assert!(backend.registers_mut().waiting.is_empty());
+        backend
+    }
+
+    /// Data that are kept interrupt as data that wait: if the driver enabled that, from the first character on.
+    #[test]
+    fn kept_data_interrupt_if_it_is_enabled() {
+        for count in 0..3 {
+            let mut backend = that_keeps(&[b'a'; 2][..count]);
+            backend.registers_mut().cells[offsets::ISR] = 0xc1;
+            assert_eq!(backend.read(offsets::ISR as u8), 0xc1);
+            backend.write(offsets::IER as u8, IER::THR_EMPTY.bits());
+            assert_eq!(backend.read(offsets::ISR as u8), 0xc1);
+            backend.write(offsets::IER as u8, IER::DATA_READY.bits());
+            let shown = if count > 0 { 0xc4 } else { 0xc1 };
+            assert_eq!(backend.read(offsets::ISR as u8), shown);
+        }
+    }
+
+    /// The first write of FCR turns the FIFOs on, which empties the chip's receiver. Later ones with the same bit do not.
+    #[test]
+    fn kept_data_are_discarded_when_the_fifos_are_turned_on_or_off() {
+        let data = offsets::DATA as u8;
+        let fcr = offsets::FCR as u8;
+        let mut backend = that_keeps(b"a");
+        backend.write(fcr, FCR::FIFO_ENABLE.bits());
+        assert_eq!(backend.read(data), 0);
+        backend.registers_mut().waiting.push_back(Received {
+            byte: b'b',
+            errors: LSR::empty(),
+        });
+        backend.write(offsets::LCR as u8, LINE.bits());
+        backend.write(fcr, FCR::FIFO_ENABLE.bits());
+        assert_eq!(backend.read(data), b'b');
+        let mut backend = that_keeps(b"a");
+        backend.write(fcr, 0);
+        assert_eq!(backend.read(data), b'a');
+    }
+
+    /// A receiver whose data are out of reach is reset with the FIFOs as the driver set them. What the transmitter holds stays: a reset
+    /// that the driver made is not made again.
+    #[test]
+    fn a_reset_of_the_receiver_leaves_the_transmitter() {
+        let mut backend = that_keeps(b"");
+        let control = FCR::FIFO_ENABLE | FCR::TX_FIFO_RESET | FCR::RX_FIFO_RESET;
+        backend.write(offsets::FCR as u8, control.bits());
+        backend.registers_mut().cells[offsets::LCR] = LCR::DLAB.bits();
+        backend.registers_mut().waiting.push_back(Received {
+            byte: b'a',
+            errors: LSR::empty(),
+        });
+        backend.write(offsets::LCR as u8, LINE.bits());
+        let written = FCR::from_bits_retain(backend.registers_mut().cells[offsets::FCR]);
+        assert_eq!(written, FCR::FIFO_ENABLE | FCR::RX_FIFO_RESET);
     }
 
     /// What empties the chip's receiver empties what is kept.
@@ -640,6 +725,103 @@ mod design_ware_backend {
         assert_eq!(ring.handle(32).end, HandleEnd::Idle);
         let mut slots = [0; 4];
         assert_eq!((ring.take(&mut slots), slots[0]), (1, b'r'));
+    }
+
+    /// A chip that shows these values of ISR one after the other, the next one after an access that ends an interrupt, and always
+    /// this LSR.
+    struct Shows {
+        isr: VecDeque<u8>,
+        lsr: LSR,
+        ier: u8,
+        reads_of_data: usize,
+        reads_of_usr: usize,
+    }
+
+    impl Shows {
+        fn new(isr: &[u8], lsr: LSR) -> DesignWare<Self> {
+            let shows = Shows {
+                isr: isr.iter().copied().collect(),
+                lsr,
+                ier: 0,
+                reads_of_data: 0,
+                reads_of_usr: 0,
+            };
+            DesignWare::new(shows, PATIENCE)
+        }
+    }
+
+    impl Backend for Shows {
+        fn read(&mut self, register_offset: u8) -> u8 {
+            match usize::from(register_offset) {
+                offsets::DATA => {
+                    self.reads_of_data += 1;
+                    self.isr.pop_front();
+                    0
+                }
+                offsets::ISR => self.isr.front().copied().unwrap_or(0xc1),
+                offsets::LSR => self.lsr.bits(),
+                _ => 0,
+            }
+        }
+
+        fn write(&mut self, register_offset: u8, value: u8) {
+            if usize::from(register_offset) == offsets::IER {
+                self.ier = value;
+            }
+        }
+    }
+
+    impl DesignWareRegisters for Shows {
+        fn read_usr(&mut self) -> u8 {
+            self.reads_of_usr += 1;
+            self.isr.pop_front();
+            0
+        }
+    }
+
+    const ISR: u8 = offsets::ISR as u8;
+    const BUSY_DETECT: u8 = 0xc7;
+    const TIMEOUT: u8 = 0xcc;
+    const NONE: u8 = 0xc1;
+
+    /// RBR is read for a timeout if LSR shows neither data nor a break, and only then: what comes with a break is the break's
+    /// character, and the driver's to read. The break is shown by the driver's next look too.
+    #[test]
+    fn a_timeout_with_data_or_with_a_break_is_the_drivers() {
+        let shown = [
+            (LSR::empty(), 1, NONE),
+            (LSR::THR_EMPTY | LSR::PARITY_ERROR, 1, NONE),
+            (LSR::DATA_READY, 0, TIMEOUT),
+            (LSR::BREAK_INTERRUPT, 0, TIMEOUT),
+            (LSR::DATA_READY | LSR::BREAK_INTERRUPT, 0, TIMEOUT),
+        ];
+        for (lsr, reads_of_data, isr) in shown {
+            let mut backend = Shows::new(&[TIMEOUT], lsr);
+            assert_eq!(backend.read(ISR), isr, "LSR {lsr:?}");
+            let chip = backend.registers_mut();
+            assert_eq!(chip.reads_of_data, reads_of_data, "LSR {lsr:?}");
+            chip.lsr = LSR::empty();
+            let told = LSR::from_bits_retain(backend.read(offsets::LSR as u8));
+            assert_eq!(told, lsr & LSR::LINE_ERRORS);
+        }
+    }
+
+    /// An interrupt that comes again is ended again, three times in one read of ISR. The fourth one is a fault.
+    #[test]
+    fn an_interrupt_that_comes_again() {
+        for (cause, lsr) in [(BUSY_DETECT, LSR::DATA_READY), (TIMEOUT, LSR::empty())] {
+            for times in 0..6 {
+                let mut backend = Shows::new(&vec![cause; times], lsr);
+                backend.write(offsets::IER as u8, IER::DATA_READY.bits());
+                assert_eq!(backend.read(ISR), NONE);
+                let fault = (times > 3).then_some(DesignWareFault::InterruptWithoutEnd);
+                assert_eq!(backend.fault(), fault, "{times} times");
+                let chip = backend.registers_mut();
+                assert_eq!(chip.reads_of_usr + chip.reads_of_data, times.min(4));
+                let enabled = if times > 3 { 0 } else { IER::DATA_READY.bits() };
+                assert_eq!(chip.ier, enabled);
+            }
+        }
     }
 
     /// Data that were kept while LCR was written raise no interrupt, but a handler that is called takes them.

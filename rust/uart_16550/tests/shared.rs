@@ -207,6 +207,16 @@ impl Wait for Turns {
     }
 }
 
+/// A thread that calls this for each wait, and goes on.
+struct Each<F>(F);
+
+impl<F: FnMut()> Wait for Each<F> {
+    fn wait(&mut self, _is_there: impl FnMut() -> bool) -> bool {
+        self.0();
+        true
+    }
+}
+
 /// A thread that waits until the function returns true, at most so many looks, and lets time pass for the chip.
 struct Looks<'a> {
     port: &'a Shared<Alone, Cable>,
@@ -321,6 +331,25 @@ fn a_flush_ends_when_the_chip_never_empties() {
         .unwrap();
     port.with(|ring| ring.queue(b"x")).unwrap();
     assert_eq!(waiting(&port, &cable).flush(), Err(SharedError::GaveUp));
+    // It looks as many times as the limit, and waits after each look.
+    let mut count = 0;
+    let counted = || count += 1;
+    assert_eq!(
+        port.blocking(Each(counted)).flush(),
+        Err(SharedError::GaveUp)
+    );
+    assert_eq!(count, 5);
+    // The third wait empties the chip, so the fourth look ends it.
+    let mut waits = 0;
+    let emptied = || {
+        waits += 1;
+        if waits == 3 {
+            cable.chip().send_all();
+        }
+    };
+    assert_eq!(port.blocking(Each(emptied)).flush(), Ok(()));
+    assert_eq!(waits, 3);
+    port.with(|ring| ring.queue(b"x")).unwrap();
     let mut context = Context::from_waker(Waker::noop());
     let mut flush = pin!(port.flush());
     for _look in 0..5 {
@@ -330,6 +359,61 @@ fn a_flush_ends_when_the_chip_never_empties() {
         flush.poll(&mut context),
         Poll::Ready(Err(SharedError::GaveUp))
     );
+}
+
+/// A thread that looks by the function after something happened, and goes on no more. It keeps what the function returned.
+struct LooksOnce<'a, F> {
+    happens: F,
+    is_there: &'a mut Option<bool>,
+}
+
+impl<F: FnMut(&mut dyn FnMut() -> bool) -> bool> Wait for LooksOnce<'_, F> {
+    fn wait(&mut self, mut is_there: impl FnMut() -> bool) -> bool {
+        *self.is_there = Some((self.happens)(&mut is_there));
+        false
+    }
+}
+
+/// What happens at a port while a thread looks whether what it waits for is there.
+type Look = fn(&Shared<Alone, Cable>, &mut dyn FnMut() -> bool) -> bool;
+
+/// A thread that slept on would wait for what never comes.
+#[test]
+fn a_thread_does_not_sleep_where_no_call_would_wait() {
+    let looks: [Look; 3] = [
+        |_port, is_there| is_there(),
+        |port, is_there| port.stop().is_ok() && is_there(),
+        |port, is_there| port.with(|_ring| is_there()).unwrap(),
+    ];
+    for (look, expected) in looks.into_iter().zip([false, true, true]) {
+        let (port, cable) = (Shared::new(Alone), Cable::default());
+        start(&port, &cable);
+        let mut is_there = None;
+        let wait = LooksOnce {
+            happens: |is_there: &mut dyn FnMut() -> bool| look(&port, is_there),
+            is_there: &mut is_there,
+        };
+        assert_eq!(port.blocking(wait).read(&mut [0]), Err(SharedError::GaveUp));
+        assert_eq!(is_there, Some(expected));
+    }
+}
+
+#[test]
+fn a_flush_that_is_given_up_is_given_up_even_if_the_chip_then_empties() {
+    let (port, cable) = (Shared::new(Alone), Cable::default());
+    start(&port, &cable);
+    port.with(|ring| ring.queue(b"x")).unwrap();
+    let mut is_there = None;
+    let wait = LooksOnce {
+        happens: |is_there: &mut dyn FnMut() -> bool| {
+            cable.chip().send_all();
+            is_there()
+        },
+        is_there: &mut is_there,
+    };
+    assert_eq!(port.blocking(wait).flush(), Err(SharedError::GaveUp));
+    // For the chip no interrupt comes, so there is nothing to sleep for.
+    assert_eq!(is_there, Some(true));
 }
 
 // ---- no wake is lost
@@ -660,44 +744,107 @@ fn of_two_tasks_that_wait_for_the_same_none_is_forgotten() {
     assert_eq!(poll(0), Poll::Ready(Ok(1)));
 }
 
-#[test]
-fn a_reader_and_a_writer_do_not_wake_each_other() {
-    let (port, cable) = (Shared::new(Alone), Cable::default());
-    start(&port, &cable);
-    let counts = [(); 2].map(|()| Arc::new(Count::default()));
-    let [reader, writer] = counts.clone().map(Waker::from);
-    let woken = || {
-        counts
-            .clone()
+/// Two tasks that wait, one at each end, with how often each was woken since the last look.
+struct Pair {
+    counts: [Arc<Count>; 2],
+    wakers: [Waker; 2],
+}
+
+impl Pair {
+    fn new() -> Self {
+        let counts = [(); 2].map(|()| Arc::new(Count::default()));
+        let wakers = counts.clone().map(Waker::from);
+        Self { counts, wakers }
+    }
+
+    fn contexts(&self) -> [Context<'_>; 2] {
+        self.wakers.each_ref().map(Context::from_waker)
+    }
+
+    fn woken(&self) -> [usize; 2] {
+        self.counts
+            .each_ref()
             .map(|count| count.0.swap(0, Ordering::SeqCst))
-    };
+    }
+}
+
+/// Both tasks wait: the reader for a byte, and the writer for room.
+fn both_wait(port: &Shared<Alone, Cable>, pair: &Pair) {
+    let [mut reader, mut writer] = pair.contexts();
     assert_eq!(port.with(|ring| ring.queue(&[0; 16])), Ok(16));
     assert_eq!(port.with(|ring| ring.queue(&[0; CAPACITY])), Ok(CAPACITY));
-    let mut slots = [0];
-    assert!(
-        port.poll_read(&mut Context::from_waker(&reader), &mut slots)
-            .is_pending()
-    );
-    assert!(
-        port.poll_write(&mut Context::from_waker(&writer), b"x")
-            .is_pending()
-    );
-    assert_eq!(woken(), [0, 0]);
+    assert!(port.poll_read(&mut reader, &mut [0]).is_pending());
+    assert!(port.poll_write(&mut writer, b"x").is_pending());
+    assert_eq!(pair.woken(), [0, 0]);
+}
+
+#[test]
+fn a_reader_and_a_writer_do_not_wake_each_other() {
+    let (port, cable, pair) = (Shared::new(Alone), Cable::default(), Pair::new());
+    start(&port, &cable);
+    both_wait(&port, &pair);
     cable.chip().received.extend(b"a");
     handle(&port, &cable);
-    assert_eq!(woken(), [1, 0]);
+    assert_eq!(pair.woken(), [1, 0]);
     cable.chip().send_all();
     handle(&port, &cable);
-    assert_eq!(woken(), [0, 1]);
+    assert_eq!(pair.woken(), [0, 1]);
+}
+
+#[test]
+fn two_tasks_whose_turn_comes_in_one_call_are_both_woken() {
+    let (port, cable, pair) = (Shared::new(Alone), Cable::default(), Pair::new());
+    start(&port, &cable);
+    both_wait(&port, &pair);
+    cable.chip().received.push_back(b'a');
+    cable.chip().send_all();
+    // One interrupt, whose handler finds a byte and an empty transmitter.
+    handle(&port, &cable);
+    assert_eq!(pair.woken(), [1, 1]);
+}
+
+#[test]
+fn two_tasks_that_wait_when_the_rings_go_are_both_told() {
+    let (port, cable, pair) = (Shared::new(Alone), Cable::default(), Pair::new());
+    start(&port, &cable);
+    both_wait(&port, &pair);
+    assert!(port.stop().is_ok());
+    assert_eq!(pair.woken(), [1, 1]);
+}
+
+#[test]
+fn a_flush_does_not_take_the_place_of_a_reader() {
+    let (port, cable, pair) = (Shared::new(Alone), Cable::default(), Pair::new());
+    start(&port, &cable);
+    let [mut reader, mut flusher] = pair.contexts();
+    assert_eq!(port.with(|ring| ring.queue(&[0; 16 + 1])), Ok(16 + 1));
+    assert!(port.poll_read(&mut reader, &mut [0]).is_pending());
+    let mut flush = pin!(port.flush());
+    assert!(flush.as_mut().poll(&mut flusher).is_pending());
+    // The reader would be woken if the flush had its place.
+    assert_eq!(pair.woken(), [0, 0]);
+    cable.chip().received.push_back(b'a');
+    handle(&port, &cable);
+    assert_eq!(pair.woken(), [1, 0]);
+    assert_eq!(port.poll_read(&mut reader, &mut [0]), Poll::Ready(Ok(1)));
+    cable.chip().send_all();
+    handle(&port, &cable);
+    assert_eq!(pair.woken(), [0, 1]);
+    cable.chip().send_all();
+    assert_eq!(flush.poll(&mut flusher), Poll::Ready(Ok(())));
 }
 
 // ---- tasks on threads
 
-// In which a test has to come to its end.
-const TURNS: usize = 10_000_000;
+// How many bytes go round.
+const COUNT: usize = 10_000;
 
-// How long a thread sleeps at most, where a wake is due in microseconds.
-const PATIENCE: Duration = Duration::from_secs(20);
+// How often a task is woken at most: some times for each byte. A wait that never sleeps is found by it within seconds.
+const WAKES: usize = 100 * COUNT;
+
+// How long a thread sleeps at most, where a wake is due in microseconds. A busy machine may take any time, so this is only there so
+// that a wake which is lost ends the test.
+const PATIENCE: Duration = Duration::from_secs(600);
 
 /// A thread that sleeps until it is woken.
 struct Parked(thread::Thread);
@@ -711,7 +858,7 @@ impl Wake for Parked {
 fn park_on<F: Future>(task: F) -> F::Output {
     let waker = Waker::from(Arc::new(Parked(thread::current())));
     let mut task = pin!(task);
-    for _turn in 0..TURNS {
+    for _wake in 0..WAKES {
         if let Poll::Ready(output) = task.as_mut().poll(&mut Context::from_waker(&waker)) {
             return output;
         }
@@ -731,18 +878,15 @@ async fn write_all(port: &Shared<ProcessorLock, Cable>, mut bytes: &[u8]) {
 #[test]
 fn two_threads_of_tasks_and_a_handler_lose_no_byte() {
     static PORT: Shared<ProcessorLock, Cable> = Shared::new(ProcessorLock::new());
-    const COUNT: usize = 10_000;
     let cable = Cable::default();
     start(&PORT, &cable);
     let text: Vec<u8> = (0..COUNT).map(|index| (index % 251) as u8).collect();
     let is_over = AtomicBool::new(false);
     thread::scope(|scope| {
-        // The handler, and the other end, which sends back what comes.
+        // The handler, and the other end, which sends back what comes. They go on for as long as the tasks, which have their own
+        // bounds: a busy machine may let these two make any number of turns before it lets a task make one.
         scope.spawn(|| {
-            for _turn in 0..TURNS {
-                if is_over.load(Ordering::SeqCst) {
-                    break;
-                }
+            while !is_over.load(Ordering::SeqCst) {
                 {
                     let mut chip = cable.chip();
                     chip.send_all();

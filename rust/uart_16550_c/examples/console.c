@@ -18,13 +18,13 @@ void unmask_line(void);
 void interrupts_off(void);
 void interrupts_on(void);
 
-static uint8_t load(void *context, uintptr_t address)
+static uint8_t U16550_CALL load(void *context, uintptr_t address)
 {
     (void)context;
     return *(volatile uint8_t *)address;
 }
 
-static void store(void *context, uintptr_t address, uint8_t value)
+static void U16550_CALL store(void *context, uintptr_t address, uint8_t value)
 {
     (void)context;
     *(volatile uint8_t *)address = value;

@@ -23,13 +23,45 @@
 #include <stdint.h>
 #endif
 
-#if defined(__cplusplus)
+/*
+ * How the library calls and is called. A compiler for 32-bit x86 that is told to pass arguments in registers, as Linux and SeaBIOS tell it
+ * by -mregparm=3, would pass them where the library does not look. So each function of the library, and each that it gets, has this. A
+ * function of yours without it that goes into a struct u16550_io is told by the compiler: its type is another one.
+ *
+ * Define it before for another compiler, or if all of the program has another convention than the library's target: on x86-64 that is
+ * __attribute__((sysv_abi)) for x86_64-unknown-none, and __attribute__((ms_abi)) for x86_64-unknown-uefi.
+ */
+#ifndef U16550_CALL
+#if defined(__i386__) && defined(__GNUC__)
+#define U16550_CALL __attribute__((cdecl, regparm(0)))
+#elif defined(_M_IX86)
+#define U16550_CALL __cdecl
+#else
+#define U16550_CALL
+#endif
+#endif
+
+#if defined(__GNUC__)
+#define U16550_NORETURN __attribute__((noreturn))
+#elif defined(_MSC_VER)
+#define U16550_NORETURN __declspec(noreturn)
+#else
+#define U16550_NORETURN
+#endif
+
+#define U16550_JOINED(left, right) left##right
+#define U16550_NAMED(left, right) U16550_JOINED(left, right)
+#if defined(__cplusplus) && __cplusplus >= 201103L
 #define U16550_ASSERT(condition, text) static_assert(condition, text)
-extern "C" {
-#elif defined(__STDC_VERSION__) && __STDC_VERSION__ >= 201112L
+#elif !defined(__cplusplus) && defined(__STDC_VERSION__) && __STDC_VERSION__ >= 201112L
 #define U16550_ASSERT(condition, text) _Static_assert(condition, text)
 #else
-#define U16550_ASSERT(condition, text) struct u16550_no_assert
+/* An array of negative size is an error in every C and C++. */
+#define U16550_ASSERT(condition, text) typedef char U16550_NAMED(u16550_assert_, __LINE__)[(condition) ? 1 : -1]
+#endif
+
+#if defined(__cplusplus)
+extern "C" {
 #endif
 
 enum u16550_status { U16550_OK = 0 };
@@ -144,13 +176,13 @@ enum u16550_design_ware_fault {
 };
 
 /* Returns a text for what a function returned, for a log. Never null. */
-const char *u16550_text(int status);
+const char *U16550_CALL u16550_text(int status);
 
 /*
  * The library calls this in a panic. The program defines it; it must not return, throw or jump back into the library. No
  * call of the library is known to panic, so a panic is a defect of the library: stop the machine, or end the program.
  */
-void u16550_panic(void);
+U16550_NORETURN void u16550_panic(void);
 
 /* --------------------------------------------------------------- the device and the memory of a driver */
 
@@ -161,8 +193,8 @@ void u16550_panic(void);
  */
 struct u16550_io {
     void *context;
-    uint8_t (*read)(void *context, uintptr_t address);
-    void (*write)(void *context, uintptr_t address, uint8_t value);
+    uint8_t (U16550_CALL *read)(void *context, uintptr_t address);
+    void (U16550_CALL *write)(void *context, uintptr_t address, uint8_t value);
 };
 
 /* Which byte of a register of several bytes is the first in memory. The chip's eight bits are in the lowest byte. */
@@ -264,7 +296,7 @@ struct u16550_difference { uint16_t expected, shown; };
 /* A received byte, and the line errors that LSR showed with it. */
 struct u16550_received {
     uint8_t byte;                       /* 0 for a break */
-    uint8_t errors;                     /* as in LSR: parity, framing and break are of this byte, an overrun came before it */
+    uint8_t errors;                     /* as in LSR: parity, framing and break are of this byte, an overrun may be behind it */
 };
 
 /* Why a call of u16550_ring_handle ended. */
@@ -278,6 +310,14 @@ enum u16550_handle_end {
 struct u16550_handled {
     size_t served;                      /* how many interrupts */
     uint8_t end;                        /* an enum u16550_handle_end */
+};
+
+/* A port of an interrupt line that several ports share, and what u16550_line_handle did there. */
+struct u16550_line_port {
+    struct u16550 *uart;                /* a driver with rings; this alone is given */
+    struct u16550_handled handled;      /* all 0 if the chip is stuck */
+    int status;                         /* U16550_OK, or an enum u16550_stuck_error if the chip is stuck */
+    uint8_t enabled;                    /* the interrupts that were enabled, for the library */
 };
 
 /* The urgent byte of rings. */
@@ -312,6 +352,8 @@ U16550_ASSERT(sizeof(struct u16550_stuck) == 2, "struct u16550_stuck");
 U16550_ASSERT(offsetof(struct u16550_received, errors) == 1, "struct u16550_received");
 U16550_ASSERT(sizeof(struct u16550_handled) == 2 * sizeof(size_t), "struct u16550_handled");
 U16550_ASSERT(offsetof(struct u16550_handled, end) == sizeof(size_t), "struct u16550_handled");
+U16550_ASSERT(sizeof(struct u16550_line_port) == 3 * sizeof(void *) + 2 * sizeof(int), "struct u16550_line_port");
+U16550_ASSERT(offsetof(struct u16550_line_port, status) == 3 * sizeof(void *), "struct u16550_line_port");
 
 /* --------------------------------------------------------------- making a driver
  *
@@ -321,16 +363,16 @@ U16550_ASSERT(offsetof(struct u16550_handled, end) == sizeof(size_t), "struct u1
  */
 
 /* A driver whose functions get offsets. */
-int u16550_new(struct u16550 *uart, const struct u16550_io *io);
+int U16550_CALL u16550_new(struct u16550 *uart, const struct u16550_io *io);
 
 /* A driver whose functions get ports, from base on. Refused by U16550_BAD_BASE if base + 7 is above 65535. */
-int u16550_new_port(struct u16550 *uart, const struct u16550_io *io, uint16_t base);
+int U16550_CALL u16550_new_port(struct u16550 *uart, const struct u16550_io *io, uint16_t base);
 
 /*
  * A driver whose functions get addresses of memory, from base on and stride apart. Refused by U16550_BAD_STRIDE if stride
  * is no power of two, else by U16550_BAD_BASE if base is 0 or base + 7 * stride is too large.
  */
-int u16550_new_mmio(struct u16550 *uart, const struct u16550_io *io, uintptr_t base, uint8_t stride);
+int U16550_CALL u16550_new_mmio(struct u16550 *uart, const struct u16550_io *io, uintptr_t base, uint8_t stride);
 
 /*
  * A driver for registers in memory that the library accesses itself, by functions of its own, which u16550_get_io returns.
@@ -338,7 +380,7 @@ int u16550_new_mmio(struct u16550 *uart, const struct u16550_io *io, uintptr_t b
  * one. A read gives the lowest eight bits of a register, and a write sets the others to 0. Refused by U16550_BAD_WIDTH, by
  * U16550_BAD_CODE if the byte order is none, else as u16550_new_mmio, else by U16550_STRIDE_TOO_SMALL or U16550_MISALIGNED_BASE.
  */
-int u16550_new_mmio_wide(struct u16550 *uart, uintptr_t base, const struct u16550_layout *layout);
+int U16550_CALL u16550_new_mmio_wide(struct u16550 *uart, uintptr_t base, const struct u16550_layout *layout);
 
 /*
  * A driver for a UART of Synopsys' DesignWare, as Rockchip, Allwinner, StarFive, Intel and others have it. Such a chip ignores a write of
@@ -349,30 +391,30 @@ int u16550_new_mmio_wide(struct u16550 *uart, uintptr_t base, const struct u1655
  * The functions get the offset of a register, 0 to 7, or 31 for the register USR. With mmio there are none, and the registers lie in
  * memory as for u16550_new_mmio_wide. Each driver has its own chip, which is in no other use as long as the driver is used.
  */
-int u16550_new_design_ware(struct u16550 *uart, struct u16550_design_ware *chip, const struct u16550_io *io, uint64_t patience);
-int u16550_new_mmio_design_ware(struct u16550 *uart, struct u16550_design_ware *chip, uintptr_t base,
-                                const struct u16550_layout *layout, uint64_t patience);
+int U16550_CALL u16550_new_design_ware(struct u16550 *uart, struct u16550_design_ware *chip, const struct u16550_io *io, uint64_t patience);
+int U16550_CALL u16550_new_mmio_design_ware(struct u16550 *uart, struct u16550_design_ware *chip, uintptr_t base,
+                                            const struct u16550_layout *layout, uint64_t patience);
 
 /*
  * What went wrong since the last write of LCR that the chip took, as an enum u16550_design_ware_fault, or U16550_OK. After a fault the
  * chip's interrupts are off, whatever is written to IER. The calls return no error for it: u16550_check_configured does. Makes no access.
  * U16550_NOT_MADE if the driver has another chip.
  */
-int u16550_design_ware_fault(struct u16550 *uart, struct u16550_design_ware *chip);
+int U16550_CALL u16550_design_ware_fault(struct u16550 *uart, struct u16550_design_ware *chip);
 
 /* A driver in this state, whose functions get offsets. */
-int u16550_from_state(struct u16550 *uart, const struct u16550_io *io, const struct u16550_state *state);
+int U16550_CALL u16550_from_state(struct u16550 *uart, const struct u16550_io *io, const struct u16550_state *state);
 
 /*
  * Ends a driver: the memory is the caller's again, and so is that of its rings. If a call over the driver is not done, this
  * returns U16550_BUSY, and the driver stays.
  */
-int u16550_end(struct u16550 *uart);
+int U16550_CALL u16550_end(struct u16550 *uart);
 
 /* --------------------------------------------------------------- what a driver keeps; none of these makes an access */
 
 /* Writes the default: no interrupts, 1843200 Hz, 9600 baud, FIFO with trigger level 14, 8 data bits, 1 stop bit, no parity. */
-int u16550_default_config(struct u16550_config *config);
+int U16550_CALL u16550_default_config(struct u16550_config *config);
 
 /*
  * Writes the configuration with the frequency at which the nearest divisor gives its baud rate exactly, if that differs from
@@ -380,35 +422,35 @@ int u16550_default_config(struct u16550_config *config);
  * line then has a rate that differs by as many thousandths at most. Receivers tolerate about 20, of both sides together.
  * Returns an enum u16550_nearest_error if there is none. nearest may be config.
  */
-int u16550_nearest(const struct u16550_config *config, uint32_t per_mille, struct u16550_config *nearest);
+int U16550_CALL u16550_nearest(const struct u16550_config *config, uint32_t per_mille, struct u16550_config *nearest);
 
-int u16550_get_io(struct u16550 *uart, struct u16550_io *io);
-int u16550_set_io(struct u16550 *uart, const struct u16550_io *io);
-int u16550_get_config(struct u16550 *uart, struct u16550_config *config);
-int u16550_get_state(struct u16550 *uart, struct u16550_state *state);
-int u16550_fifo_enabled(struct u16550 *uart, uint8_t *enabled);
-int u16550_spin_limit(struct u16550 *uart, uint64_t *limit);
-int u16550_set_spin_limit(struct u16550 *uart, uint64_t limit);
+int U16550_CALL u16550_get_io(struct u16550 *uart, struct u16550_io *io);
+int U16550_CALL u16550_set_io(struct u16550 *uart, const struct u16550_io *io);
+int U16550_CALL u16550_get_config(struct u16550 *uart, struct u16550_config *config);
+int U16550_CALL u16550_get_state(struct u16550 *uart, struct u16550_state *state);
+int U16550_CALL u16550_fifo_enabled(struct u16550 *uart, uint8_t *enabled);
+int U16550_CALL u16550_spin_limit(struct u16550 *uart, uint64_t *limit);
+int U16550_CALL u16550_set_spin_limit(struct u16550 *uart, uint64_t limit);
 
 /* --------------------------------------------------------------- setting up */
 
 /* Whether a chip is there: its scratch register keeps two patterns. */
-int u16550_check_present(struct u16550 *uart, uint8_t *present);
+int U16550_CALL u16550_check_present(struct u16550 *uart, uint8_t *present);
 
 /* Sets the device up. Returns an enum u16550_init_error if it cannot be. */
-int u16550_init(struct u16550 *uart, const struct u16550_config *config);
+int U16550_CALL u16550_init(struct u16550 *uart, const struct u16550_config *config);
 
 /*
  * Does the same otherwise: without the test of the scratch register, with the wait for the transmitter first or not at all,
  * with other outputs. If the wait that comes first ends by U16550_INIT_STALLED, nothing was written but the scratch register.
  */
-int u16550_init_with(struct u16550 *uart, const struct u16550_config *config, const struct u16550_setup *setup);
+int U16550_CALL u16550_init_with(struct u16550 *uart, const struct u16550_config *config, const struct u16550_setup *setup);
 
 /*
  * Tests the chip in loopback. Returns an enum u16550_loopback_error if it fails; *failure then has what came back. failure
  * may be null.
  */
-int u16550_test_loopback(struct u16550 *uart, struct u16550_loopback_failure *failure);
+int U16550_CALL u16550_test_loopback(struct u16550 *uart, struct u16550_loopback_failure *failure);
 
 /*
  * Whether the chip shows what was written to it: the frame, these outputs, which after u16550_init are 0x0b, the interrupts, the
@@ -416,10 +458,10 @@ int u16550_test_loopback(struct u16550 *uart, struct u16550_loopback_failure *fa
  * enum u16550_configuration_error if a register differs; *difference then has both values. difference may be null. It reads the
  * latch only if LCR shows DLAB, writes LCR back, and is without interrupts while it reads ISR.
  */
-int u16550_check_configured(struct u16550 *uart, uint8_t outputs, struct u16550_difference *difference);
+int U16550_CALL u16550_check_configured(struct u16550 *uart, uint8_t outputs, struct u16550_difference *difference);
 
 /* Whether a remote is there and ready to receive. Returns an enum u16550_remote_error if not. */
-int u16550_check_connected(struct u16550 *uart);
+int U16550_CALL u16550_check_connected(struct u16550 *uart);
 
 /*
  * Changes baud rate and frame to those of this configuration while the port runs: writes LCR, DLL, DLM and LCR, and nothing
@@ -427,28 +469,28 @@ int u16550_check_connected(struct u16550 *uart);
  * line may be cut, and a break ends. interrupts, fifo_trigger_level and check_cts_before_sending are not used. Returns an enum
  * u16550_frame_error if the divisor cannot be had.
  */
-int u16550_set_frame(struct u16550 *uart, const struct u16550_config *config);
+int U16550_CALL u16550_set_frame(struct u16550 *uart, const struct u16550_config *config);
 
 /* Waits until all that was sent is on the line, within the spin limit, and then does the same. */
-int u16550_set_frame_when_idle(struct u16550 *uart, const struct u16550_config *config);
+int U16550_CALL u16550_set_frame_when_idle(struct u16550 *uart, const struct u16550_config *config);
 
 /*
  * Sets the trigger level of the receiver FIFO to 1, 4, 8 or 14 characters, without a reset: what is in the FIFOs stays. Returns
  * U16550_FIFOS_OFF, without an access, if the FIFOs are off.
  */
-int u16550_set_trigger_level(struct u16550 *uart, uint8_t characters);
+int U16550_CALL u16550_set_trigger_level(struct u16550 *uart, uint8_t characters);
 
 /*
  * Leaves the port so that the chip interrupts nobody: writes 0 to IER, then the outputs to MCR without loopback, and does with
  * the FIFOs what an enum u16550_fifo_action says. Does not wait.
  */
-int u16550_quiesce(struct u16550 *uart, uint8_t outputs, uint8_t fifos);
+int U16550_CALL u16550_quiesce(struct u16550 *uart, uint8_t outputs, uint8_t fifos);
 
 /*
  * Writes what a dump shows back to the chip, for example after it was without power: divisor and frame without DLAB, FCR, MCR
  * without loopback, SPR, and IER in the end. Both FIFOs are emptied; if they were on, they get the configured trigger level.
  */
-int u16550_restore(struct u16550 *uart, const struct u16550_dump *dump);
+int U16550_CALL u16550_restore(struct u16550 *uart, const struct u16550_dump *dump);
 
 /*
  * Takes a port as it was set up, for example by firmware: finds out whether the FIFO is on, and gives the divisor. It reads
@@ -456,7 +498,7 @@ int u16550_restore(struct u16550 *uart, const struct u16550_dump *dump);
  * acknowledges a THR_EMPTY interrupt. The driver's configuration stays as it was, since nobody knows the chip's clock. Returns
  * an enum u16550_attach_error if the port is not one to be taken.
  */
-int u16550_attach(struct u16550 *uart, uint8_t *dll, uint8_t *dlm);
+int U16550_CALL u16550_attach(struct u16550 *uart, uint8_t *dll, uint8_t *dlm);
 
 /*
  * For last words, in a panic. The call that the panic came into is never done, and every function over its driver returns
@@ -471,7 +513,7 @@ int u16550_attach(struct u16550 *uart, uint8_t *dll, uint8_t *dlm);
  * Returns U16550_ATTACH_DIVISOR_LATCH_OPEN if DLAB or the break stays set after as many writes as the spin limit, as where no
  * device is, and U16550_ATTACH_LOOPBACK if the chip stays in loopback. Refused by U16550_HAS_RINGS if the driver has rings.
  */
-int u16550_emergency(struct u16550 *uart);
+int U16550_CALL u16550_emergency(struct u16550 *uart);
 
 /* --------------------------------------------------------------- outputs
  *
@@ -479,98 +521,104 @@ int u16550_emergency(struct u16550 *uart);
  */
 
 /* Writes MCR with these bits, an enum u16550_mcr_bits, but never loopback. */
-int u16550_set_modem_control(struct u16550 *uart, uint8_t outputs);
+int U16550_CALL u16550_set_modem_control(struct u16550 *uart, uint8_t outputs);
 
 /* Asserts or clears one output, and leaves the others. Clears loopback. */
-int u16550_set_rts(struct u16550 *uart, uint8_t on);
-int u16550_set_dtr(struct u16550 *uart, uint8_t on);
+int U16550_CALL u16550_set_rts(struct u16550 *uart, uint8_t on);
+int U16550_CALL u16550_set_dtr(struct u16550 *uart, uint8_t on);
 
 /* Begins or ends a break. */
-int u16550_set_break(struct u16550 *uart, uint8_t on);
+int U16550_CALL u16550_set_break(struct u16550 *uart, uint8_t on);
 
 /* --------------------------------------------------------------- sending and receiving */
 
 /* These two and the next two do not wait. They return U16550_RECEIVE_NO_DATA or an enum u16550_send_error. */
-int u16550_ready_to_receive(struct u16550 *uart);
-int u16550_ready_to_send(struct u16550 *uart);
-int u16550_try_receive_byte(struct u16550 *uart, uint8_t *byte);
-int u16550_try_send_byte(struct u16550 *uart, uint8_t byte);
+int U16550_CALL u16550_ready_to_receive(struct u16550 *uart);
+int U16550_CALL u16550_ready_to_send(struct u16550 *uart);
+int U16550_CALL u16550_try_receive_byte(struct u16550 *uart, uint8_t *byte);
+int U16550_CALL u16550_try_send_byte(struct u16550 *uart, uint8_t byte);
 
 /* Receive what is there, or send one burst, without waiting. *count is how many bytes it was, perhaps 0. */
-int u16550_receive_bytes(struct u16550 *uart, uint8_t *buffer, size_t len, size_t *count);
-int u16550_send_bytes(struct u16550 *uart, const uint8_t *buffer, size_t len, size_t *count);
+int U16550_CALL u16550_receive_bytes(struct u16550 *uart, uint8_t *buffer, size_t len, size_t *count);
+int U16550_CALL u16550_send_bytes(struct u16550 *uart, const uint8_t *buffer, size_t len, size_t *count);
 
 /*
  * The same as u16550_send_bytes for a chip whose transmitter FIFO has 16, 32, 64, 128 or 256 characters: one burst of that size.
  * On a chip with fewer the bytes that do not fit are lost.
  */
-int u16550_send_burst(struct u16550 *uart, const uint8_t *buffer, size_t len, uint16_t fifo_size, size_t *count);
+int U16550_CALL u16550_send_burst(struct u16550 *uart, const uint8_t *buffer, size_t len, uint16_t fifo_size, size_t *count);
 
 /*
  * The same as u16550_try_receive_byte and u16550_receive_bytes, with the line errors of each byte. A chip shows these once: if
  * an earlier call has looked at the first byte, its errors are missing here. The next u16550_lsr has all of them.
  */
-int u16550_try_receive_with_errors(struct u16550 *uart, struct u16550_received *received);
-int u16550_receive_with_errors(struct u16550 *uart, struct u16550_received *received, size_t len, size_t *count);
+int U16550_CALL u16550_try_receive_with_errors(struct u16550 *uart, struct u16550_received *received);
+int U16550_CALL u16550_receive_with_errors(struct u16550 *uart, struct u16550_received *received, size_t len, size_t *count);
 
 /*
  * Receive or send all bytes, and wait for each. They return U16550_STALLED after as many unsuccessful polls in a row as the
  * spin limit. *done is how many bytes were done, also after a stall. done may be null.
  */
-int u16550_receive_bytes_exact(struct u16550 *uart, uint8_t *buffer, size_t len, size_t *done);
-int u16550_send_bytes_exact(struct u16550 *uart, const uint8_t *buffer, size_t len, size_t *done);
+int U16550_CALL u16550_receive_bytes_exact(struct u16550 *uart, uint8_t *buffer, size_t len, size_t *done);
+int U16550_CALL u16550_send_bytes_exact(struct u16550 *uart, const uint8_t *buffer, size_t len, size_t *done);
 
 /* As the traits of embedded-io: some bytes, and a wait for the first. They return U16550_STALLED as the last two. */
-int u16550_read(struct u16550 *uart, uint8_t *buffer, size_t len, size_t *count);
-int u16550_write(struct u16550 *uart, const uint8_t *buffer, size_t len, size_t *count);
-int u16550_flush(struct u16550 *uart);
-int u16550_read_ready(struct u16550 *uart, uint8_t *ready);
-int u16550_write_ready(struct u16550 *uart, uint8_t *ready);
+int U16550_CALL u16550_read(struct u16550 *uart, uint8_t *buffer, size_t len, size_t *count);
+int U16550_CALL u16550_write(struct u16550 *uart, const uint8_t *buffer, size_t len, size_t *count);
+int U16550_CALL u16550_flush(struct u16550 *uart);
+int U16550_CALL u16550_read_ready(struct u16550 *uart, uint8_t *ready);
+int U16550_CALL u16550_write_ready(struct u16550 *uart, uint8_t *ready);
 
 /* Whether the transmitter has sent everything: the FIFO and the byte on the line. Does not wait. */
-int u16550_is_idle(struct u16550 *uart, uint8_t *idle);
+int U16550_CALL u16550_is_idle(struct u16550 *uart, uint8_t *idle);
+
+/*
+ * Whether the chip is gone, as one that was unplugged: whether MCR shows 0xff, as most buses do where nobody answers. Then all that is
+ * received is 0xff, and all sends succeed. Reads MCR once, which changes nothing.
+ */
+int U16550_CALL u16550_is_gone(struct u16550 *uart, uint8_t *gone);
 
 /*
  * Sends a text as terminals expect it: a line feed as carriage return and line feed, backspace and delete as backspace,
  * space and backspace. The text is UTF-8, and needs no zero at its end. After U16550_STALLED *done is how many bytes were
  * sent. done may be null.
  */
-int u16550_write_text(struct u16550 *uart, const char *text, size_t len, size_t *done);
+int U16550_CALL u16550_write_text(struct u16550 *uart, const char *text, size_t len, size_t *done);
 
 /* The same for a text that need not be UTF-8. */
-int u16550_write_raw_text(struct u16550 *uart, const char *text, size_t len, size_t *done);
+int U16550_CALL u16550_write_raw_text(struct u16550 *uart, const char *text, size_t len, size_t *done);
 
 /* --------------------------------------------------------------- registers */
 
 /* LSR and MSR are joined with what the driver saved of them, which is then forgotten. */
-int u16550_ier(struct u16550 *uart, uint8_t *value);
-int u16550_isr(struct u16550 *uart, uint8_t *value);
-int u16550_lcr(struct u16550 *uart, uint8_t *value);
-int u16550_mcr(struct u16550 *uart, uint8_t *value);
-int u16550_lsr(struct u16550 *uart, uint8_t *value);
-int u16550_msr(struct u16550 *uart, uint8_t *value);
-int u16550_spr(struct u16550 *uart, uint8_t *value);
-int u16550_dll_dlm(struct u16550 *uart, uint8_t *dll, uint8_t *dlm);
+int U16550_CALL u16550_ier(struct u16550 *uart, uint8_t *value);
+int U16550_CALL u16550_isr(struct u16550 *uart, uint8_t *value);
+int U16550_CALL u16550_lcr(struct u16550 *uart, uint8_t *value);
+int U16550_CALL u16550_mcr(struct u16550 *uart, uint8_t *value);
+int U16550_CALL u16550_lsr(struct u16550 *uart, uint8_t *value);
+int U16550_CALL u16550_msr(struct u16550 *uart, uint8_t *value);
+int U16550_CALL u16550_spr(struct u16550 *uart, uint8_t *value);
+int U16550_CALL u16550_dll_dlm(struct u16550 *uart, uint8_t *dll, uint8_t *dlm);
 
 /* MSR as it is now. The changes in it stay saved for the next u16550_msr. */
-int u16550_peek_modem(struct u16550 *uart, uint8_t *msr);
+int U16550_CALL u16550_peek_modem(struct u16550 *uart, uint8_t *msr);
 
-int u16550_enable_interrupts(struct u16550 *uart, uint8_t interrupts);
-int u16550_disable_interrupts(struct u16550 *uart, uint8_t interrupts);
+int U16550_CALL u16550_enable_interrupts(struct u16550 *uart, uint8_t interrupts);
+int U16550_CALL u16550_disable_interrupts(struct u16550 *uart, uint8_t interrupts);
 
 /*
  * Makes the interrupt line fall, and rise again if an interrupt is enabled and pending: reads IER, writes 0, and writes what it
  * read. A controller that detects edges sees no new edge while the line stays high. Call this at the end of a handler that
  * leaves before ISR has shown that none is pending, and after the interrupt was masked at a controller that forgets edges.
  */
-int u16550_retrigger_interrupts(struct u16550 *uart);
+int U16550_CALL u16550_retrigger_interrupts(struct u16550 *uart);
 
 /* Reads all registers. What the driver saved of LSR and MSR is in the dump, and stays saved. */
-int u16550_config_register_dump(struct u16550 *uart, struct u16550_dump *dump);
+int U16550_CALL u16550_config_register_dump(struct u16550 *uart, struct u16550_dump *dump);
 
 /* The divisor of a dump, and the baud rate that it gives with the frequency and the prescaler of a configuration. */
-int u16550_dump_divisor(const struct u16550_dump *dump, uint16_t *divisor);
-int u16550_dump_baud_rate(const struct u16550_dump *dump, const struct u16550_config *config, uint32_t *baud_rate);
+int U16550_CALL u16550_dump_divisor(const struct u16550_dump *dump, uint16_t *divisor);
+int U16550_CALL u16550_dump_baud_rate(const struct u16550_dump *dump, const struct u16550_config *config, uint32_t *baud_rate);
 
 /* Bits of registers. */
 enum u16550_ier_bits {
@@ -627,53 +675,53 @@ enum u16550_msr_bits {
  * the rings' until u16550_ring_end or u16550_end, or until another driver is made in the place of this one. Refused by an
  * enum u16550_ring_error.
  */
-int u16550_ring_new(struct u16550 *uart, uint8_t *memory, size_t size, size_t tx_capacity, size_t rx_capacity);
+int U16550_CALL u16550_ring_new(struct u16550 *uart, uint8_t *memory, size_t size, size_t tx_capacity, size_t rx_capacity);
 
 /* Ends the rings, with the bytes in them. The driver stays. */
-int u16550_ring_end(struct u16550 *uart);
+int U16550_CALL u16550_ring_end(struct u16550 *uart);
 
 /* How many bytes wait to be sent, how many were received and not taken, and whether receiving is paused. */
-int u16550_ring_transmit_len(struct u16550 *uart, size_t *len);
-int u16550_ring_receive_len(struct u16550 *uart, size_t *len);
-int u16550_ring_is_paused(struct u16550 *uart, uint8_t *paused);
+int U16550_CALL u16550_ring_transmit_len(struct u16550 *uart, size_t *len);
+int U16550_CALL u16550_ring_receive_len(struct u16550 *uart, size_t *len);
+int U16550_CALL u16550_ring_is_paused(struct u16550 *uart, uint8_t *paused);
 
 /* Queues bytes to be sent, as many as there is room for. *count is how many. */
-int u16550_ring_queue(struct u16550 *uart, const uint8_t *buffer, size_t len, size_t *count);
+int U16550_CALL u16550_ring_queue(struct u16550 *uart, const uint8_t *buffer, size_t len, size_t *count);
 
 /* How many more bytes can be queued. */
-int u16550_ring_transmit_room(struct u16550 *uart, size_t *room);
+int U16550_CALL u16550_ring_transmit_room(struct u16550 *uart, size_t *room);
 
 /*
  * Holds the bytes that are queued: what is in the chip goes out, and nothing more is handed over. The release starts sending
  * again, and misses no interrupt that came meanwhile.
  */
-int u16550_ring_hold_transmit(struct u16550 *uart);
-int u16550_ring_release_transmit(struct u16550 *uart);
-int u16550_ring_is_held(struct u16550 *uart, uint8_t *held);
+int U16550_CALL u16550_ring_hold_transmit(struct u16550 *uart);
+int U16550_CALL u16550_ring_release_transmit(struct u16550 *uart);
+int U16550_CALL u16550_ring_is_held(struct u16550 *uart, uint8_t *held);
 
 /*
  * Sends a byte before all that wait, as XON and XOFF are, also during a hold. There is one place: a byte that still waits there is
  * replaced, and *replaced is that byte. The second tells which byte still waits.
  */
-int u16550_ring_queue_urgent(struct u16550 *uart, uint8_t byte, struct u16550_urgent *replaced);
-int u16550_ring_urgent(struct u16550 *uart, struct u16550_urgent *urgent);
+int U16550_CALL u16550_ring_queue_urgent(struct u16550 *uart, uint8_t byte, struct u16550_urgent *replaced);
+int U16550_CALL u16550_ring_urgent(struct u16550 *uart, struct u16550_urgent *urgent);
 
 /*
  * Drop the bytes that are queued, and those that were received and not taken. *count is how many. An urgent byte and what is in the
  * chip stay.
  */
-int u16550_ring_clear_transmit(struct u16550 *uart, size_t *count);
-int u16550_ring_clear_receive(struct u16550 *uart, size_t *count);
+int U16550_CALL u16550_ring_clear_transmit(struct u16550 *uart, size_t *count);
+int U16550_CALL u16550_ring_clear_receive(struct u16550 *uart, size_t *count);
 
 /*
  * The low mark, a number of queued bytes, is 0 at first. *low is whether their number fell from above the mark to the mark or
  * below since the last call. Ask at the end of the handler, and wake who waits for room.
  */
-int u16550_ring_set_low_mark(struct u16550 *uart, size_t mark);
-int u16550_ring_take_low(struct u16550 *uart, uint8_t *low);
+int U16550_CALL u16550_ring_set_low_mark(struct u16550 *uart, size_t mark);
+int U16550_CALL u16550_ring_take_low(struct u16550 *uart, uint8_t *low);
 
 /* Takes received bytes, as many as there are and as there is room for. *count is how many. */
-int u16550_ring_take(struct u16550 *uart, uint8_t *buffer, size_t len, size_t *count);
+int U16550_CALL u16550_ring_take(struct u16550 *uart, uint8_t *buffer, size_t len, size_t *count);
 
 /*
  * Holds the other end back by RTS, or lets it go on: RTS goes off if there is room for fewer received bytes than hold, and on if there
@@ -682,13 +730,14 @@ int u16550_ring_take(struct u16550 *uart, uint8_t *buffer, size_t len, size_t *c
  * the handler. docs/INTERRUPTS.md says which marks to choose; release is to be at most the capacity, or RTS never goes on again. MCR is
  * read, and written if RTS is not so yet: the other outputs as they were, and loopback off.
  */
-int u16550_ring_adjust_rts(struct u16550 *uart, size_t hold, size_t release);
+int U16550_CALL u16550_ring_adjust_rts(struct u16550 *uart, size_t hold, size_t release);
 
 /*
- * Starts sending again if bytes wait with no interrupt to come: after u16550_init, or when CTS came back and the configuration
- * checks it.
+ * Starts sending again if bytes wait with no interrupt to come: when CTS came back and the configuration checks it; and after each
+ * of these, which take the interrupt away: u16550_isr, u16550_config_register_dump, u16550_attach, u16550_disable_interrupts of
+ * U16550_IER_THR_EMPTY, u16550_quiesce, u16550_restore, u16550_test_loopback, u16550_init and u16550_init_with.
  */
-int u16550_ring_resume_transmit(struct u16550 *uart);
+int U16550_CALL u16550_ring_resume_transmit(struct u16550 *uart);
 
 /*
  * Serves interrupts until ISR shows that none is pending, but at most limit. Otherwise it makes the interrupt line fall and
@@ -698,37 +747,59 @@ int u16550_ring_resume_transmit(struct u16550 *uart);
  * the call, so what is pending afterwards makes a new edge. It does not wait, and ends on a chip that shows an interrupt for
  * ever. But then the controller calls the handler for ever, unless somebody counts: u16550_ring_try_handle does.
  */
-int u16550_ring_handle(struct u16550 *uart, size_t limit, struct u16550_handled *handled);
+int U16550_CALL u16550_ring_handle(struct u16550 *uart, size_t limit, struct u16550_handled *handled);
 
 /*
  * Handles the interrupt as u16550_ring_handle does, and ends a storm. If so many rounds in a row have ended with another end
- * than U16550_HANDLE_IDLE, it reads ISR once more. If that still shows an interrupt, the chip is stuck: the call writes 0 to
- * IER, and returns an enum u16550_stuck_error. While the chip is stuck, each further call writes 0 to IER again and returns the
- * same, and the rings hand no byte to the chip. 100 rounds are 3,200 interrupts without a pause, if the limit is 32.
+ * than U16550_HANDLE_IDLE, and moved no byte between the rings and the chip, it reads ISR once more. If that still shows an
+ * interrupt, the chip is stuck: the call writes 0 to IER, and returns an enum u16550_stuck_error. While the chip is stuck, each
+ * further call writes 0 to IER again and returns the same, and the rings hand no byte to the chip. A limit of at least 6 keeps a
+ * chip that works from it: see docs/INTERRUPTS.md. 100 rounds are 3,200 interrupts without a pause, if the limit is 32.
  */
-int u16550_ring_try_handle(struct u16550 *uart, size_t limit, uint32_t rounds, struct u16550_handled *handled);
+int U16550_CALL u16550_ring_try_handle(struct u16550 *uart, size_t limit, uint32_t rounds, struct u16550_handled *handled);
 
 /* Whether the chip is stuck, and what ISR showed. */
-int u16550_ring_stuck(struct u16550 *uart, struct u16550_stuck *stuck);
+int U16550_CALL u16550_ring_stuck(struct u16550 *uart, struct u16550_stuck *stuck);
 
 /*
  * Starts a chip again that is stuck: enables these interrupts, U16550_IER_DATA_READY not while receiving is paused, and sends
  * what waits. After u16550_init, which enables interrupts itself, give 0.
  */
-int u16550_ring_restart(struct u16550 *uart, uint8_t interrupts);
+int U16550_CALL u16550_ring_restart(struct u16550 *uart, uint8_t interrupts);
 
 /* The same as u16550_retrigger_interrupts. */
-int u16550_ring_retrigger(struct u16550 *uart);
+int U16550_CALL u16550_ring_retrigger(struct u16550 *uart);
 
 /*
  * Serves the interrupts that are pending, at most U16550_MAX_INTERRUPTS, for a handler of your own. *count is how many. If it
  * is the most, or ISR shows an interrupt without a name, the line may still be high.
  */
-int u16550_ring_service(struct u16550 *uart, size_t *count);
+int U16550_CALL u16550_ring_service(struct u16550 *uart, size_t *count);
+
+/*
+ * Handles the interrupt of a line that these ports share, whether the controller detects levels or edges. At each port in turn it
+ * does what u16550_ring_try_handle does, and disables the chip's interrupts; once all are disabled, so that the line is low, it
+ * enables them again at each. So if the line is high afterwards, it has risen since, and a controller that detects edges calls the
+ * handler again. A chip that is stuck stays off, and the others are served. *served is whether an interrupt was served at one of
+ * them.
+ *
+ * Call it once in the handler of the line, under one lock that all calls at these ports take. With a lock for each port another
+ * processor could let the line of one rise before that of the next has fallen, and no edge would ever come again.
+ *
+ * If one of the ports has no driver or no rings, or a call at it is not done, the number of this is returned, and nothing was done
+ * at any.
+ */
+int U16550_CALL u16550_line_handle(struct u16550_line_port *ports, size_t count, size_t limit, uint32_t rounds, uint8_t *served);
 
 /* LSR or MSR, joined with the errors or changes that were noted since the last of these calls. */
-int u16550_ring_take_line(struct u16550 *uart, uint8_t *lsr);
-int u16550_ring_take_modem(struct u16550 *uart, uint8_t *msr);
+int U16550_CALL u16550_ring_take_line(struct u16550 *uart, uint8_t *lsr);
+int U16550_CALL u16550_ring_take_modem(struct u16550 *uart, uint8_t *msr);
+
+/*
+ * Reads all registers, as u16550_config_register_dump does, and then starts sending again if bytes wait: the read of ISR may take
+ * away the interrupt that would have sent them.
+ */
+int U16550_CALL u16550_ring_config_register_dump(struct u16550 *uart, struct u16550_dump *dump);
 
 #ifdef __cplusplus
 }

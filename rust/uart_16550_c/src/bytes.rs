@@ -218,6 +218,12 @@ pub unsafe extern "C" fn u16550_is_idle(uart: *mut Memory, idle: *mut u8) -> c_i
 }
 
 #[unsafe(no_mangle)]
+pub unsafe extern "C" fn u16550_is_gone(uart: *mut Memory, gone: *mut u8) -> c_int {
+    // SAFETY: the caller promises that pointers are null or valid.
+    unsafe { report(uart, gone, |driver| Ok(driver.is_gone().into())) }
+}
+
+#[unsafe(no_mangle)]
 pub unsafe extern "C" fn u16550_read_ready(uart: *mut Memory, ready: *mut u8) -> c_int {
     // SAFETY: the caller promises that pointers are null or valid.
     unsafe {

@@ -386,6 +386,11 @@ pub struct CHandled {
     end: u8,
 }
 
+impl CHandled {
+    /// No interrupt was served, since none was pending.
+    pub const NOTHING: Self = Self { served: 0, end: 0 };
+}
+
 const _: () = assert!(size_of::<CHandled>() == 2 * size_of::<usize>());
 const _: () = assert!(offset_of!(CHandled, end) == size_of::<usize>());
 

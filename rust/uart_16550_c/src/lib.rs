@@ -11,6 +11,7 @@ mod data;
 mod design_ware;
 mod device;
 mod emergency;
+mod line;
 mod make;
 mod memory;
 mod registers;
@@ -27,8 +28,22 @@ unsafe extern "C" {
 
 #[panic_handler]
 fn panic(_info: &core::panic::PanicInfo<'_>) -> ! {
+    // SAFETY: the function takes nothing, and the program may do in it what it wants.
+    unsafe { u16550_panic() };
+    stop()
+}
+
+// Behind a call that is promised not to return. Objtool, which follows the paths of a module of Linux, accepts this one
+// instruction there whether it knows of the promise or not. Anything else is a path that nothing reaches.
+#[cfg(any(target_arch = "x86", target_arch = "x86_64"))]
+fn stop() -> ! {
+    // SAFETY: the processor goes no further.
+    unsafe { core::arch::asm!("ud2", options(noreturn, nomem, nostack)) }
+}
+
+#[cfg(not(any(target_arch = "x86", target_arch = "x86_64")))]
+fn stop() -> ! {
     loop {
-        // SAFETY: the function takes nothing, and the program may do in it what it wants.
-        unsafe { u16550_panic() }
+        core::hint::spin_loop();
     }
 }

@@ -158,19 +158,35 @@ pub unsafe fn make(
     at: *mut Memory,
     driver: impl FnOnce() -> Result<Driver, Failure>,
 ) -> Result<(), Failure> {
+    // The sign is there before the driver is: a handler must not use the old one meanwhile, whose chip of DesignWare may be the
+    // one that is made anew.
     // SAFETY: the caller promises it.
-    unsafe { check_free(at) }?;
-    let driver = driver()?;
-    // SAFETY: the memory is large enough and aligned, and no call that is not done borrows it.
-    unsafe { put(at.cast(), driver) };
-    Ok(())
+    let before = unsafe { take_memory(at) }?;
+    let made = at.cast::<Made>();
+    match driver() {
+        Ok(driver) => {
+            // SAFETY: the memory is large enough and aligned and has the sign, and no call that is not done borrows it.
+            unsafe { put(made, driver) };
+            Ok(())
+        }
+        Err(failure) => {
+            // A refused call changes nothing, whatever is in the memory.
+            // SAFETY: there is memory.
+            unsafe {
+                (&raw mut (*made).is_busy)
+                    .cast::<u32>()
+                    .write_volatile(before)
+            };
+            Err(failure)
+        }
+    }
 }
 
-// Refuses memory in which a call is not done.
+// Sets the sign of a call that is not done, unless there is one. Returns what was there instead.
 //
 // Safety: that of `make`.
 #[inline(never)]
-unsafe fn check_free(at: *mut Memory) -> Result<(), Failure> {
+unsafe fn take_memory(at: *mut Memory) -> Result<u32, Failure> {
     let made = usable(at)?.cast::<Made>();
     // A call that is not done borrows what would be replaced here. It has set the sign, and only this library writes the sign
     // meanwhile: so no such call is overlooked, and that is what safety needs. The sign proves nothing the other way round,
@@ -180,25 +196,29 @@ unsafe fn check_free(at: *mut Memory) -> Result<(), Failure> {
     if unsafe { is_in_call(made) } {
         return Err(Failure::Busy);
     }
-    Ok(())
+    // SAFETY: the same.
+    unsafe {
+        let is_busy = (&raw mut (*made).is_busy).cast::<u32>();
+        let before = is_busy.read_volatile();
+        is_busy.write_volatile(BUSY);
+        compiler_fence(Ordering::SeqCst);
+        Ok(before)
+    }
 }
 
-// Puts a driver into the memory.
+// Puts a driver into the memory, and takes the sign away.
 //
-// Safety: the memory is large enough and aligned, and no call that is not done borrows it.
+// Safety: the memory is large enough and aligned, and has the sign, but no call that is not done borrows it.
 #[inline(never)]
 unsafe fn put(made: *mut Made, driver: Driver) {
     // An interrupt handler that comes now finds a call that is not done, and never a part of the old driver with a part of the
-    // new one. The sign is set before the mark: so a mark without the sign is that of a whole driver.
+    // new one. The sign was set before the mark is: so a mark without the sign is that of a whole driver.
     // SAFETY: the caller promises it.
     unsafe {
-        let is_busy = (&raw mut (*made).is_busy).cast::<u32>();
-        is_busy.write_volatile(BUSY);
         (&raw mut (*made).mark).write_volatile(MARK);
         compiler_fence(Ordering::SeqCst);
         (&raw mut (*made).held).write(Held::Plain(driver));
-        compiler_fence(Ordering::SeqCst);
-        is_busy.write_volatile(FREE);
+        leave(made);
     }
 }
 
@@ -266,8 +286,14 @@ unsafe fn leave(made: *mut Made) {
 /// That of [`with`].
 pub unsafe fn end(at: *mut Memory) -> Result<(), Failure> {
     // SAFETY: the caller promises it.
-    unsafe { with(at, |_held| Ok(())) }?;
-    // SAFETY: a driver was made there. Neither driver nor rings own anything.
-    unsafe { (&raw mut (*at.cast::<Made>()).mark).write_volatile(0) };
+    unsafe { enter(at) }?;
+    let made = at.cast::<Made>();
+    // The mark goes before the sign. A handler that comes in between finds a call that is not done; one that came behind the sign
+    // could make a driver here, which this would end unseen.
+    // SAFETY: a driver was made there, and this call has entered. Neither driver nor rings own anything.
+    unsafe {
+        (&raw mut (*made).mark).write_volatile(0);
+        leave(made);
+    }
     Ok(())
 }

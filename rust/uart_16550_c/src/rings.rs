@@ -1,6 +1,6 @@
 //! The rings, for use with interrupts.
 
-use crate::data::{CHandled, CStuck, CUrgent};
+use crate::data::{CDump, CHandled, CStuck, CUrgent};
 use crate::device::Device;
 use crate::memory::{Held, Memory, bytes, slots, usable, with};
 use crate::status::{Failure, status};
@@ -276,4 +276,17 @@ pub unsafe extern "C" fn u16550_ring_stuck(uart: *mut Memory, stuck: *mut CStuck
 pub unsafe extern "C" fn u16550_ring_restart(uart: *mut Memory, interrupts: u8) -> c_int {
     // SAFETY: the caller promises that the pointer is null or valid.
     unsafe { order(uart, |ring| ring.restart(IER::from_bits_retain(interrupts))) }
+}
+
+#[unsafe(no_mangle)]
+pub unsafe extern "C" fn u16550_ring_config_register_dump(
+    uart: *mut Memory,
+    dump: *mut CDump,
+) -> c_int {
+    // SAFETY: the caller promises that pointers are null or valid.
+    unsafe {
+        report(uart, dump, |ring| {
+            Ok(CDump::from(&ring.config_register_dump()))
+        })
+    }
 }

@@ -677,6 +677,7 @@ static void outputs(void)
     MISUSE(u16550_set_break(&uart, 2), U16550_BAD_CODE);
     MISUSE(u16550_peek_modem(&uart, NULL), U16550_NULL_POINTER);
     MISUSE(u16550_is_idle(&uart, NULL), U16550_NULL_POINTER);
+    MISUSE(u16550_is_gone(&uart, NULL), U16550_NULL_POINTER);
     ready();
     IS(d.registers[MCR], U16550_MCR_DTR | U16550_MCR_RTS | U16550_MCR_OUT_2_INT_ENABLE);
     OK(u16550_set_rts(&uart, 0));
@@ -708,6 +709,12 @@ static void outputs(void)
     d.is_stuck = 0;
     OK(u16550_lsr(&uart, &value));
     IS(value, 0x60 | U16550_LSR_PARITY_ERROR);
+    d.registers[MCR] = 0xef;
+    OK(u16550_is_gone(&uart, &value));
+    IS(value, 0);
+    d.registers[MCR] = 0xff;
+    OK(u16550_is_gone(&uart, &value));
+    IS(value, 1);
 }
 
 /* Received bytes with their errors. */
@@ -1210,8 +1217,147 @@ static void storms(void)
     IS(strcmp(u16550_text(U16550_RING_STUCK_PENDING), "an interrupt does not go away"), 0);
 }
 
+/* ---- two ports on one line */
+
+static struct device other_device;
+static struct u16550 other;
+static struct u16550_line_port line_ports[2];
+static uint8_t other_memory[64];
+static unsigned lows; /* at how many instants of a call the common line was low */
+
+static void look_at_line(struct device *device)
+{
+    (void)device;
+    lows += !device_is_interrupting(&d) && !device_is_interrupting(&other_device);
+}
+
+static void line_ready(void)
+{
+    struct u16550_io io;
+    rings_ready();
+    other_device = device_new();
+    io = device_io(&other_device);
+    memset(&other, 0, sizeof other);
+    OK(u16550_new(&other, &io));
+    OK(u16550_ring_new(&other, other_memory, sizeof other_memory, 40, 24));
+    OK(u16550_init(&other, &config));
+    memset(line_ports, 0, sizeof line_ports);
+    line_ports[0].uart = &uart;
+    line_ports[1].uart = &other;
+}
+
+/* Each port is served, and keeps its interrupts. */
+static void shared_line(void)
+{
+    uint8_t served = 9;
+    line_ready();
+    IS(sizeof(struct u16550_line_port), 3 * sizeof(void *) + 2 * sizeof(int));
+    IS(offsetof(struct u16550_line_port, handled), sizeof(void *));
+    IS(offsetof(struct u16550_line_port, status), 3 * sizeof(void *));
+    OK(u16550_line_handle(line_ports, 2, 4, 2, &served));
+    IS(served, 0);
+    device_arrive(&d, "a");
+    device_arrive(&other_device, "bc");
+    d.falls = other_device.falls = 0;
+    OK(u16550_line_handle(line_ports, 2, 4, 2, &served));
+    IS(served, 1);
+    OK(line_ports[0].status);
+    IS(line_ports[0].handled.served, 1);
+    IS(line_ports[0].handled.end, U16550_HANDLE_IDLE);
+    OK(line_ports[1].status);
+    IS(line_ports[1].handled.served, 1);
+    IS(d.falls, 1);
+    IS(other_device.falls, 1);
+    IS(d.registers[IER], config.interrupts);
+    IS(other_device.registers[IER], config.interrupts);
+    device_arrive(&other_device, "d");
+    OK(u16550_line_handle(line_ports + 1, 1, 4, 2, &served));
+    IS(served, 1);
+    OK(u16550_line_handle(NULL, 0, 4, 2, &served));
+    IS(served, 0);
+}
+
+/* Interrupts that nothing ends are pending at both ports before the call and after it, and in between the line is low. */
+static void line_falls(void)
+{
+    uint8_t served;
+    line_ready();
+    d.shows = other_device.shows = RECEIVED_DATA;
+    d.meanwhile = other_device.meanwhile = look_at_line;
+    lows = 0;
+    OK(u16550_line_handle(line_ports, 2, 4, 9, &served));
+    IS(served, 1);
+    IS(lows > 0, 1);
+    IS(device_is_interrupting(&d) && device_is_interrupting(&other_device), 1);
+    IS(line_ports[0].handled.end, U16550_HANDLE_LIMIT);
+}
+
+/* A chip that is stuck is off, and the other one is served. */
+static void line_storm(void)
+{
+    struct u16550_stuck stuck;
+    uint8_t served;
+    line_ready();
+    d.shows = 0xc8;
+    device_arrive(&other_device, "e");
+    OK(u16550_line_handle(line_ports, 2, 4, 1, &served));
+    IS(served, 1);
+    IS(line_ports[0].status, U16550_RING_STUCK_UNKNOWN);
+    IS(line_ports[0].handled.served, 0);
+    IS(d.registers[IER], 0);
+    OK(line_ports[1].status);
+    IS(line_ports[1].handled.served, 1);
+    IS(other_device.registers[IER], config.interrupts);
+    OK(u16550_ring_stuck(&uart, &stuck));
+    IS(stuck.is_stuck, 1);
+    d.shows = SHOWS_WHAT_IS;
+    OK(u16550_ring_restart(&uart, config.interrupts));
+    OK(u16550_line_handle(line_ports, 2, 4, 1, &served));
+    OK(line_ports[0].status);
+}
+
+/* What is wrong with one port is wrong with the call, and none was accessed. */
+static void line_misuses(void)
+{
+    uint8_t served = 9;
+    struct u16550_line_port *crooked = (struct u16550_line_port *)((uint8_t *)line_ports + 1);
+    line_ready();
+    accesses = d.accesses;
+    MISUSE(u16550_line_handle(line_ports, 2, 4, 1, NULL), U16550_NULL_POINTER);
+    MISUSE(u16550_line_handle(NULL, 1, 4, 1, &served), U16550_NULL_POINTER);
+    MISUSE(u16550_line_handle(crooked, 1, 4, 1, &served), U16550_MISALIGNED);
+    MISUSE(u16550_line_handle(line_ports, SIZE_MAX, 4, 1, &served), U16550_BAD_LENGTH);
+    line_ports[1].uart = NULL;
+    MISUSE(u16550_line_handle(line_ports, 2, 4, 1, &served), U16550_NULL_POINTER);
+    line_ports[1].uart = &other;
+    OK(u16550_ring_end(&other));
+    MISUSE(u16550_line_handle(line_ports, 2, 4, 1, &served), U16550_NO_RINGS);
+    OK(u16550_end(&other));
+    MISUSE(u16550_line_handle(line_ports, 2, 4, 1, &served), U16550_NOT_MADE);
+    IS(served, 9);
+}
+
+/* A dump acknowledges THR_EMPTY, and sends what the handler would have sent then. */
+static void ring_dump(void)
+{
+    static const char forty[] = "abcdefghijklmnopqrstuvwxyzABCDEFGHIJKLMN";
+    struct u16550_dump dump;
+    size_t count;
+    rings_ready();
+    OK(u16550_ring_queue(&uart, (const uint8_t *)forty, 40, &count));
+    IS(count, 40);
+    IS(d.sent_len, 16);
+    OK(u16550_ring_config_register_dump(&uart, &dump));
+    IS(dump.ier & U16550_IER_THR_EMPTY, U16550_IER_THR_EMPTY);
+    IS(d.sent_len, 32);
+    BYTES(d.sent, "abcdefghijklmnopqrstuvwxyzABCDEF");
+    OK(u16550_ring_transmit_len(&uart, &count));
+    IS(count, 8);
+}
+
 static void ring_errors(void)
 {
+    struct u16550_dump dump;
     struct u16550_handled handled;
     struct u16550_urgent urgent;
     struct u16550_stuck stuck;
@@ -1252,6 +1398,7 @@ static void ring_errors(void)
     MISUSE(u16550_ring_try_handle(&uart, 1, 1, &handled), U16550_NO_RINGS);
     MISUSE(u16550_ring_stuck(&uart, &stuck), U16550_NO_RINGS);
     MISUSE(u16550_ring_restart(&uart, 1), U16550_NO_RINGS);
+    MISUSE(u16550_ring_config_register_dump(&uart, &dump), U16550_NO_RINGS);
 }
 
 /* Each call over this memory is refused by this number, and makes no access. `u` is the memory. */
@@ -1296,6 +1443,7 @@ static void refused(struct u16550 *u, int wanted)
     MISUSE(u16550_try_receive_with_errors(u, &received), wanted);
     MISUSE(u16550_receive_with_errors(u, &received, 1, &count), wanted);
     MISUSE(u16550_is_idle(u, &byte), wanted);
+    MISUSE(u16550_is_gone(u, &byte), wanted);
     MISUSE(u16550_peek_modem(u, &byte), wanted);
     MISUSE(u16550_retrigger_interrupts(u), wanted);
     MISUSE(u16550_ready_to_receive(u), wanted);
@@ -1352,6 +1500,7 @@ static void refused(struct u16550 *u, int wanted)
     MISUSE(u16550_ring_try_handle(u, 1, 1, &handled), wanted);
     MISUSE(u16550_ring_stuck(u, &stuck), wanted);
     MISUSE(u16550_ring_restart(u, 1), wanted);
+    MISUSE(u16550_ring_config_register_dump(u, &dump), wanted);
 }
 
 static void misuses(void)
@@ -1455,6 +1604,7 @@ static void nulls(void)
     MISUSE(u16550_ring_handle(&uart, 1, NULL), null);
     MISUSE(u16550_ring_take_line(&uart, NULL), null);
     MISUSE(u16550_ring_take_modem(&uart, NULL), null);
+    MISUSE(u16550_ring_config_register_dump(&uart, NULL), null);
     MISUSE(u16550_ring_transmit_room(&uart, NULL), null);
     MISUSE(u16550_ring_is_held(&uart, NULL), null);
     MISUSE(u16550_ring_queue_urgent(&uart, 1, NULL), null);
@@ -1699,6 +1849,11 @@ int main(void)
     telling();
     pacing();
     storms();
+    shared_line();
+    line_falls();
+    line_storm();
+    line_misuses();
+    ring_dump();
     ring_errors();
     misuses();
     nulls();

@@ -292,6 +292,93 @@ static void making_two(void)
     IS(once.mixed, 0);
 }
 
+/* Tries to make a driver over the other device, from one step on, until it has made one. */
+static void make_when_free(int signal)
+{
+    struct u16550_io io = device_io(&other);
+    (void)signal;
+    if (once.step++ < once.at || once.status == U16550_OK)
+        return;
+    once.status = u16550_new(&uart, &io);
+    once.looks += once.status == U16550_BUSY;
+}
+
+/* A driver that a handler makes once an end has begun stays: the end is that of the driver before. */
+static void making_beside_an_end(void)
+{
+    struct u16550_io io;
+    unsigned stayed = 0;
+    interrupt_by(make_when_free);
+    for (memset(&once, 0, sizeof once);; once.at++) {
+        ready();
+        once.step = once.looks = 0;
+        once.status = U16550_BUSY;
+        steps_on();
+        OK(made(u16550_end(&uart)));
+        if (once.step <= once.at)
+            break;
+        if (once.looks > 0 && once.status == U16550_OK) {
+            IS(u16550_get_io(&uart, &io), U16550_OK);
+            stayed++;
+        }
+    }
+    IS(stayed > 0, 1);
+}
+
+/* ---- a chip of DesignWare, which has memory beside the driver's */
+
+static struct u16550_design_ware design_ware;
+static unsigned reads;
+
+/* Both devices are always idle. Each has functions of its own, which see whether their context is theirs. */
+static uint8_t read_one(void *context, uintptr_t offset)
+{
+    (void)offset;
+    reads++;
+    once.mixed += context != &d;
+    return 0;
+}
+
+static uint8_t read_two(void *context, uintptr_t offset)
+{
+    (void)offset;
+    reads++;
+    once.mixed += context != &other;
+    return 0;
+}
+
+static void write_none(void *context, uintptr_t offset, uint8_t value)
+{
+    (void)context;
+    (void)offset;
+    (void)value;
+}
+
+static void look_at_chip(int signal)
+{
+    uint8_t value;
+    (void)signal;
+    count(u16550_lsr(&uart, &value));
+}
+
+/* A handler that uses a driver over a chip, where another chip is made in the place of that one, never meets a part of each. */
+static void making_a_chip_again(void)
+{
+    struct u16550_io one = { &d, read_one, write_none }, two = { &other, read_two, write_none };
+    memset(&uart, 0, sizeof uart);
+    memset(&once, 0, sizeof once);
+    OK(u16550_new_design_ware(&uart, &design_ware, &one, 10));
+    interrupt_by(look_at_chip);
+    reads = 0;
+    STEPS(u16550_new_design_ware(&uart, &design_ware, &two, 10), U16550_OK, 0, 0);
+    IS(reads > 0, 1);
+    IS(once.mixed, 0);
+    /* A refused one leaves the driver as it is. */
+    STEPS(u16550_new_design_ware(&uart, &design_ware, &one, 0), U16550_ZERO_LIMIT, 0, 0);
+    IS(once.mixed, 0);
+    OK(u16550_end(&uart));
+}
+
 int main(void)
 {
     interrupt_by(handle);
@@ -299,6 +386,8 @@ int main(void)
     calls();
     ending();
     making_two();
+    making_beside_an_end();
+    making_a_chip_again();
     interrupt_by(replace);
     replacing();
     printf("%d compared, %d failed\n", compared, failed);

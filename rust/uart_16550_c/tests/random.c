@@ -9,7 +9,7 @@
 
 #include "u16550.h"
 
-enum { CALLS = 40000, NESTED_IN = 16, ROOM = 64, LAST = 79 };
+enum { CALLS = 40000, NESTED_IN = 16, ROOM = 64, LAST = 82 };
 
 void u16550_panic(void)
 {
@@ -200,6 +200,12 @@ static int make(struct u16550 *u, unsigned which, struct room *r)
     case 76: return u16550_ring_try_handle(u, below(10), below(4), &r->handled);
     case 77: return u16550_ring_restart(u, (uint8_t)below(256));
     case 78: return u16550_ring_adjust_rts(u, below(20), below(20));
+    case 79: return u16550_is_gone(u, &r->value);
+    case 80: {
+        struct u16550_line_port port = { u, { 0, 0 }, U16550_OK, 0 };
+        return u16550_line_handle(&port, 1, below(10), below(4), &r->value);
+    }
+    case 81: return u16550_ring_config_register_dump(u, &r->dump);
     default: return u16550_ring_take_modem(u, &r->value);
     }
 }

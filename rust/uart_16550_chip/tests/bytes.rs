@@ -95,6 +95,72 @@ fn other_bytes_are_refused() {
     assert_eq!(SerialState::from_bytes(&no_flag), Err(BadState::Bytes));
 }
 
+/// A state has one form. So nothing is in bytes that are read, but the state: not behind a list, nor beside what is not there.
+#[test]
+fn no_other_bytes_are_those_of_a_state() {
+    let mut random = Random(9);
+    for state in states() {
+        let mut bytes = state.to_bytes();
+        for place in 4..bytes.len() {
+            let was = bytes[place];
+            for value in [0, 1, 2, 0x10, 0x80, 0xff, random.byte()] {
+                bytes[place] = value;
+                if let Ok(read) = SerialState::from_bytes(&bytes) {
+                    assert_eq!(read.to_bytes(), bytes, "{value} at {place}");
+                }
+            }
+            bytes[place] = was;
+        }
+    }
+}
+
+/// The form of a state in which everything is set, byte by byte. A state that was stored is read by what comes later.
+#[test]
+fn the_form_of_a_state_stays() {
+    let mut serial = Serial::new(Line, Nobody);
+    serial.write(2, 0x81).unwrap();
+    serial.write(3, 0x83).unwrap();
+    serial.write(0, 0x0c).unwrap();
+    serial.write(1, 0x0d).unwrap();
+    serial.write(3, 0x1b).unwrap();
+    serial.write(1, 0x05).unwrap();
+    serial.write(7, 0x5a).unwrap();
+    serial.write(4, 0x1b).unwrap();
+    serial.write(0, 0xaa).unwrap();
+    serial.write(4, 0x0b).unwrap();
+    assert_eq!(serial.enqueue_raw_bytes(&[0x61]).unwrap(), 1);
+    let errors = uart_16550_chip::registers::LSR::PARITY_ERROR;
+    serial.enqueue_with_errors(0x62, errors).unwrap();
+    let lines = uart_16550_chip::registers::MSR::CTS | uart_16550_chip::registers::MSR::RI;
+    serial.set_lines(lines).unwrap();
+    for byte in 0..66 + 17 {
+        serial.write(0, byte).unwrap();
+    }
+    let state = serial.state();
+    let bytes = state.to_bytes();
+    let fifo = |items: &[u8]| [items, &vec![0; 16 - items.len()]].concat();
+    let form = [
+        vec![1, 0, 0, 0],
+        // IER, LCR, MCR, SPR, the divisor, the FIFO's switch, and the due interrupt of the transmitter
+        vec![0x05, 0x1b, 0x0b, 0x5a, 0x0c, 0x0d, 1, 0],
+        // overflows, the shift register, and the queue behind it
+        vec![2, 0, 0, 0, 0, 0, 0, 0, 1, 64, 16],
+        (65..81).collect(),
+        // overrun, whether the front's errors were reported, the last byte, and the trigger level
+        vec![0, 0, 0, 2, 3],
+        fifo(&[0xaa, 0x61, 0x62]),
+        fifo(&[0, 0, 0x04]),
+        // which of the characters came by loopback
+        vec![0x01, 0x00],
+        // the inputs, what MSR shows of them, and their changes
+        vec![0x50, 0x50, 0x0a],
+        vec![64],
+        (0..64).collect(),
+    ];
+    assert_eq!(bytes.to_vec(), form.concat());
+    assert_eq!(SerialState::from_bytes(&bytes), Ok(state));
+}
+
 #[test]
 fn no_bytes_panic() {
     let mut random = Random(7);

@@ -1,19 +1,20 @@
 //! Handlers of guests as real drivers have them, behind a controller that keeps one edge. None of them waits for ever.
 //!
 //! They decide what counts as a look of the guest: a read of ISR. So a burst of a driver that reads ISR is one signal, and one that never
-//! does is signalled each time that the line falls and rises.
+//! does is signalled each time that the line falls and rises. Input while the line is up is signalled if it fills the FIFO.
 
 #![cfg(feature = "std")]
 
 use std::cell::Cell;
 use std::convert::Infallible;
 use std::rc::Rc;
-use uart_16550_chip::{NoEvents, Serial, Trigger};
+use uart_16550_chip::{NoEvents, Serial, SerialEvents, Trigger};
 
 const DATA: u8 = 0;
 const IER: u8 = 1;
 const ISR: u8 = 2;
 const FCR: u8 = 2;
+const LCR: u8 = 3;
 const LSR: u8 = 5;
 
 const NONE_PENDING: u8 = 0x01;
@@ -225,4 +226,179 @@ fn linux_is_signalled_as_often_as_it_has_to_be() {
     }
     // One for each piece of input, and one when its rest is below the trigger level.
     assert_eq!((guest.received.len(), guest.edges.count.get()), (1600, 200));
+}
+
+/// Goes by ISR, and reads as many as the trigger level, as far as LSR shows that there are some.
+fn trigger_level_by_lsr(guest: &mut Guest) {
+    if guest.read(ISR) & NONE_PENDING == 0 {
+        for _ in 0..8 {
+            if guest.read(LSR) & RECEIVED != 0 {
+                guest.receive();
+            }
+        }
+    }
+}
+
+/// Sixteen characters, one by one, while the guest is busy elsewhere: the first is a rise, and the last fills the FIFO.
+#[test]
+fn input_for_a_busy_guest_is_signalled_twice() {
+    let mut guest = Guest::new(0x07, 0x01, &[]);
+    for _ in 0..16 {
+        guest.serial.enqueue_raw_bytes(b"x").unwrap();
+    }
+    assert_eq!(guest.edges.count.get(), 2);
+    guest.interrupts(linux);
+    assert_eq!(guest.received.len(), 16);
+}
+
+/// Counts how often the monitor is told that there is room.
+#[derive(Clone, Default)]
+struct Room(Rc<Cell<usize>>);
+
+impl SerialEvents for Room {
+    fn buffer_read(&self) {}
+    fn out_byte(&self) {}
+    fn tx_lost_byte(&self) {}
+    fn in_buffer_empty(&self) {
+        self.0.set(self.0.get() + 1);
+    }
+}
+
+/// A monitor reads its input by pieces, and not byte by byte: it is told of room when nothing waits.
+#[test]
+fn a_full_fifo_is_drained_before_room_is_told() {
+    let room = Room::default();
+    let mut serial = Serial::with_events(Edges::default(), room.clone(), std::io::sink());
+    serial.write(FCR, 0x81).unwrap();
+    serial.write(IER, 0x01).unwrap();
+    for _ in 0..100 {
+        assert_eq!(serial.enqueue_raw_bytes(&[0; 20]).unwrap(), 16);
+        for _ in 0..15 {
+            serial.read(DATA);
+        }
+        assert_eq!(room.0.take(), 0);
+        serial.read(DATA);
+        assert_eq!(room.0.take(), 1);
+    }
+}
+
+/// A monitor that goes on with its input as soon as it is told of room, while the guest is in its handler: 16 characters for each event,
+/// and at most two signals for them, if the guest looks at ISR for each FIFO.
+#[test]
+fn a_guest_in_its_handler_is_topped_up_piece_by_piece() {
+    let mut guest = Guest::new(0x81, 0x01, &[]);
+    guest.serial.enqueue_raw_bytes(&[0; 16]).unwrap();
+    let mut left = 1600;
+    while guest.edges.is_latched.take() {
+        while guest.read(ISR) & NONE_PENDING == 0 {
+            for _ in 0..16 {
+                if guest.read(LSR) & RECEIVED != 0 {
+                    guest.receive();
+                }
+            }
+            if left > 0 && guest.serial.fifo_capacity() == 16 {
+                left -= guest.serial.enqueue_raw_bytes(&[0; 16]).unwrap();
+            }
+        }
+    }
+    assert_eq!(guest.received.len(), 1616);
+    assert!(
+        guest.edges.count.get() <= 2 * 101,
+        "{}",
+        guest.edges.count.get()
+    );
+}
+
+/// A guest that leaves its handler too early, with a line that is up, is called again once the FIFO is full: on hardware it never would be.
+#[test]
+fn a_full_fifo_is_signalled() {
+    let mut guest = Guest::new(0x07, 0x01, &[]);
+    guest.serial.enqueue_raw_bytes(&[0; 12]).unwrap();
+    guest.interrupts(trigger_level_by_lsr);
+    assert_eq!(guest.received.len(), 8);
+    for _ in 0..11 {
+        guest.serial.enqueue_raw_bytes(b"x").unwrap();
+    }
+    assert!(!guest.edges.is_latched.get());
+    guest.serial.enqueue_raw_bytes(b"x").unwrap();
+    assert!(guest.edges.is_latched.get());
+}
+
+/// A pin that detects edges, and is driven by levels, as a PC's is by `KVM_IRQ_LINE`.
+#[derive(Clone, Default)]
+struct Pin {
+    level: Rc<Cell<bool>>,
+    edges: Edges,
+}
+
+impl Trigger for Pin {
+    type E = Infallible;
+
+    fn trigger(&self) -> Result<(), Infallible> {
+        Ok(())
+    }
+
+    fn set_level(&self, level: bool) -> Result<(), Infallible> {
+        if level && !self.level.get() {
+            self.edges.is_latched.set(true);
+            self.edges.count.set(self.edges.count.get() + 1);
+        }
+        self.level.set(level);
+        Ok(())
+    }
+}
+
+#[test]
+fn levels_convey_each_signal_to_a_pin_that_detects_edges() {
+    let pin = Pin::default();
+    let mut serial = Serial::new(pin.clone(), std::io::sink());
+    serial.write(FCR, 0x81).unwrap();
+    serial.write(IER, 0x01).unwrap();
+    serial.enqueue_raw_bytes(&[0; 12]).unwrap();
+    assert_eq!(pin.edges.count.get(), 1);
+    assert_eq!(serial.read(ISR), 0xc4);
+    // The fifth read takes the line down and, by a timeout that is due at once, up again.
+    for _ in 0..8 {
+        serial.read(DATA);
+    }
+    assert_eq!((pin.edges.count.get(), pin.level.get()), (2, true));
+    serial.enqueue_raw_bytes(b"y").unwrap();
+    assert_eq!((pin.edges.count.get(), pin.level.get()), (2, true));
+    serial.resample().unwrap();
+    assert_eq!((pin.edges.count.get(), pin.level.get()), (3, true));
+    for _ in 0..5 {
+        serial.read(DATA);
+    }
+    assert!(!pin.level.get());
+}
+
+/// What was told of breaks.
+#[derive(Clone, Default)]
+struct Breaks(Rc<Cell<[u8; 2]>>);
+
+impl SerialEvents for Breaks {
+    fn buffer_read(&self) {}
+    fn out_byte(&self) {}
+    fn tx_lost_byte(&self) {}
+    fn in_buffer_empty(&self) {}
+    fn out_break(&self, begins: bool) {
+        let mut counts = self.0.get();
+        counts[usize::from(begins)] += 1;
+        self.0.set(counts);
+    }
+}
+
+#[test]
+fn a_break_of_the_guest_is_told_once() {
+    let breaks = Breaks::default();
+    let mut serial = Serial::with_events(Edges::default(), breaks.clone(), Vec::new());
+    serial.write(LCR, 0x03).unwrap();
+    assert_eq!(breaks.0.get(), [0, 0]);
+    serial.write(LCR, 0x43).unwrap();
+    serial.write(LCR, 0x47).unwrap();
+    serial.write(DATA, b'x').unwrap();
+    assert_eq!(breaks.0.get(), [0, 1]);
+    serial.write(LCR, 0x07).unwrap();
+    assert_eq!(breaks.0.get(), [1, 1]);
+    assert_eq!(serial.writer(), b"x");
 }

@@ -203,7 +203,7 @@ impl Random {
 struct Plain {
     chip: LiveChip,
     is_line_high: bool,
-    had_room: bool,
+    knows_room: bool,
     has_looked: bool,
     spare: u8,
 }
@@ -214,6 +214,7 @@ struct Kind {
     brings: bool,
     looks: bool,
     moves_data: bool,
+    may_make_room: bool,
     may_dip: bool,
 }
 
@@ -221,6 +222,7 @@ const INPUT: Kind = Kind {
     brings: true,
     looks: false,
     moves_data: false,
+    may_make_room: false,
     may_dip: false,
 };
 
@@ -231,7 +233,7 @@ impl Plain {
         Plain {
             chip,
             is_line_high: false,
-            had_room: true,
+            knows_room: true,
             has_looked: false,
             spare: 0,
         }
@@ -245,13 +247,16 @@ impl Plain {
             was_low |= !self.chip.is_interrupting();
         }
         let level = self.chip.is_interrupting();
-        let signal = level && (!self.is_line_high || kind.brings || was_low && self.spare == 0);
         let has_room = self.chip.receive_room() > 0;
+        let is_full = kind.brings && !has_room;
+        let signal = level && (!self.is_line_high || is_full || was_low && self.spare == 0);
+        let is_empty = self.chip.waiting_len() == 0;
+        let knows_room = has_room && (self.knows_room || kind.may_make_room || is_empty);
         let todo = Todo {
             signal,
             level,
             has_moved: level != self.is_line_high,
-            has_room: has_room && !self.had_room,
+            has_room: knows_room && !self.knows_room,
             ready: self.chip.wire().len(),
         };
         self.spare = match kind {
@@ -266,7 +271,7 @@ impl Plain {
         };
         self.has_looked = kind.looks || self.has_looked && !signal;
         self.is_line_high = level;
-        self.had_room = has_room;
+        self.knows_room = knows_room;
         todo
     }
 
@@ -290,6 +295,7 @@ impl Plain {
         let may_dip = self.is_loopback();
         self.end_call(Kind {
             moves_data: offset == DATA,
+            may_make_room: [FCR_OFFSET, offsets::MCR as u8].contains(&offset),
             may_dip,
             ..Kind::default()
         })
@@ -406,6 +412,28 @@ fn compare_short_call(random: &mut Random, port: &mut VirtualPort, plain: &mut P
     }
 }
 
+/// Lets the guest read ISR until it shows none, and some characters in between, and the host top up its FIFO meanwhile.
+fn handle(random: &mut Random, port: &mut VirtualPort, plain: &mut Plain) {
+    for _look in 0..4 {
+        let answer = port.read(ISR_OFFSET);
+        assert_eq!(answer, plain.read(ISR_OFFSET));
+        if answer.value & 1 != 0 {
+            return;
+        }
+        for offset in [LSR_OFFSET, MSR_OFFSET] {
+            assert_eq!(port.read(offset), plain.read(offset));
+        }
+        for _character in 0..random.below(20) {
+            assert_eq!(port.read(DATA), plain.read(DATA));
+            if random.below(8) == 0 {
+                let input = [random.byte(); 9];
+                let input = &input[..random.below(10)];
+                assert_eq!(port.receive(input), plain.receive(input));
+            }
+        }
+    }
+}
+
 /// Restores a port now and then. Its monitor is told anew.
 fn restore(random: &mut Random, port: &mut VirtualPort, plain: &mut Plain) {
     if random.below(30) > 0 {
@@ -426,7 +454,7 @@ fn restore(random: &mut Random, port: &mut VirtualPort, plain: &mut Plain) {
     *plain = Plain {
         chip: LiveChip::from_data(&plain.chip.data(), plain.chip.wire()).unwrap(),
         is_line_high: level,
-        had_room: has_room,
+        knows_room: has_room,
         has_looked: false,
         spare: 0,
     };
@@ -444,4 +472,27 @@ fn each_call_does_what_its_definition_says() {
             restore(&mut random, &mut port, &mut plain);
         }
     }
+}
+
+#[test]
+fn a_guest_with_a_handler_is_told_what_the_definition_says() {
+    let mut refusals = 0;
+    for seed in 1..=20 {
+        let mut random = Random(seed);
+        let (mut port, mut plain) = (port(), Plain::new(Chip::Uart16550A));
+        for (offset, value) in [(FCR_OFFSET, 0x81), (IER_OFFSET, 0x0f)] {
+            assert_eq!(port.write(offset, value), plain.write(offset, value));
+        }
+        for _call in 0..100 {
+            let input = vec![random.byte(); random.below(18)];
+            let received = port.receive(&input);
+            assert_eq!(received, plain.receive(&input));
+            refusals += u32::from(received.count < input.len());
+            handle(&mut random, &mut port, &mut plain);
+            if random.below(20) == 0 {
+                compare_call(&mut random, &mut port, &mut plain);
+            }
+        }
+    }
+    assert!(refusals > 100, "{refusals}");
 }

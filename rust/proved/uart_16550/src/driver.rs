@@ -22,11 +22,6 @@ use uart_spec::registers::{LSR, MSR, offsets};
 /// returns an error.
 pub const DEFAULT_SPIN_LIMIT: u64 = 1_000_000;
 
-// Slices are sent and received in pieces of this size, each in a copy. No access can change the
-// copy, so the compiler may keep a backend's fields in registers during the loop. It cannot assume
-// that of the slice itself.
-const PIECE_SIZE: usize = 128;
-
 /// A driver for one serial chip of the 16550 family, over any backend.
 ///
 /// Construct it with `new_port`, `new_mmio` or `new_with_backend`, and call `init` before any other
@@ -56,6 +51,7 @@ const PIECE_SIZE: usize = 128;
 // There is no model of a driver: over a generic backend each access of a field would cost the
 // prover a rewrite. Clauses speak of the fields by words over them, such as `fields`, `settings`
 // and `backend_of`.
+#[repr(C)]
 #[derive(Debug)]
 pub struct Uart16550<B> {
     backend: B,

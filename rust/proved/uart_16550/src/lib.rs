@@ -17,6 +17,7 @@
 //! # include!(concat!(env!("CARGO_MANIFEST_DIR"), "/examples.rs"));
 //! # fn main() {}
 //! # fn example(ports: Device) -> Outcome<()> {
+//! // `ports` is a `PortAccess`: how this program accesses I/O ports.
 //! let mut uart = Uart16550::new_port(0x3f8, ports)?;
 //! uart.init(Config::DEFAULT)?;
 //! uart.send_bytes_exact(b"hello")?;

@@ -23,6 +23,6 @@ pub mod replay;
 mod tape;
 
 pub use checking::{Followed, NextStep, Returned, Turn, check, follow, next};
-pub use performing::perform;
+pub use performing::{perform, perform_on_driver};
 pub use tape::{Recorded, Request, Tape};
 pub use uart_events::{Answer, CALL_BYTES, Call};

@@ -28,90 +28,102 @@ use uart_spec::{
 pub fn perform<B: Backend>(uart: &mut Uart16550Tty<B>, call: &Call) -> Answer {
     match call {
         Call::Next => Answer::Done,
-        Call::Init(config) => init(uart.inner_mut(), config),
-        Call::InitWith(config, setup) => init_with(uart.inner_mut(), config, setup),
-        Call::SetFrame(config) => framed(uart.inner_mut().set_frame(config)),
-        Call::SetFrameWhenIdle(config) => {
-            framed_when_idle(uart.inner_mut().set_frame_when_idle(config))
-        }
-        Call::SetTriggerLevel(level) => levelled(uart.inner_mut().set_trigger_level(*level)),
-        Call::Attach => attached(uart.inner_mut().attach()),
+        Call::Text(text) => exact(uart.write_text(text.as_str())),
+        _ => perform_on_driver(uart.inner_mut(), call),
+    }
+}
+
+/// Makes one call of a driver that has no terminal around it, as [`perform`] does. This is every
+/// call but [`Call::Next`], which is one of a device, and [`Call::Text`], which is one of a
+/// terminal.
+///
+/// # Examples
+///
+/// ```text
+/// perform_on_driver(ring.inner_mut(), &Call::Attach)
+/// ```
+pub fn perform_on_driver<B: Backend>(uart: &mut Uart16550<B>, call: &Call) -> Answer {
+    match call {
+        // No caller gets here: the two are not calls of a driver.
+        Call::Next | Call::Text(_) => Answer::Done,
+        Call::Init(config) => init(uart, config),
+        Call::InitWith(config, setup) => init_with(uart, config, setup),
+        Call::SetFrame(config) => framed(uart.set_frame(config)),
+        Call::SetFrameWhenIdle(config) => { framed_when_idle(uart.set_frame_when_idle(config)) }
+        Call::SetTriggerLevel(level) => levelled(uart.set_trigger_level(*level)),
+        Call::Attach => attached(uart.attach()),
         Call::SetBreak(on) => {
-            uart.inner_mut().set_break(*on);
+            uart.set_break(*on);
             Answer::Done
         }
         Call::SetModemControl(outputs) => {
-            uart.inner_mut().set_modem_control(*outputs);
+            uart.set_modem_control(*outputs);
             Answer::Done
         }
         Call::SetRts(on) => {
-            uart.inner_mut().set_rts(*on);
+            uart.set_rts(*on);
             Answer::Done
         }
         Call::SetDtr(on) => {
-            uart.inner_mut().set_dtr(*on);
+            uart.set_dtr(*on);
             Answer::Done
         }
         Call::Quiesce(outputs, fifos) => {
-            uart.inner_mut().quiesce(*outputs, *fifos);
+            uart.quiesce(*outputs, *fifos);
             Answer::Done
         }
         Call::Restore(dump) => {
-            uart.inner_mut().restore(dump);
+            uart.restore(dump);
             Answer::Done
         }
-        Call::CheckConfigured(outputs) => configured(uart.inner_mut().check_configured(*outputs)),
-        Call::TestLoopback => tested(uart.inner_mut().test_loopback()),
-        Call::CheckPresent => Answer::Flag(uart.inner_mut().check_present()),
-        Call::CheckConnected => connected(uart.inner_mut().check_connected()),
-        Call::ReadyToReceive => receive_ready(uart.inner_mut().ready_to_receive()),
-        Call::ReadyToSend => sent(uart.inner_mut().ready_to_send()),
-        Call::TryReceive => received(uart.inner_mut().try_receive_byte()),
-        Call::Flush => exact(uart.inner_mut().flush()),
-        Call::ReadReady => ready(uart.inner_mut().read_ready()),
-        Call::WriteReady => ready(uart.inner_mut().write_ready()),
-        Call::Ier => Answer::Register(uart.inner_mut().ier().bits()),
-        Call::Isr => Answer::Register(uart.inner_mut().isr().bits()),
-        Call::Lcr => Answer::Register(uart.inner_mut().lcr().bits()),
-        Call::Mcr => Answer::Register(uart.inner_mut().mcr().bits()),
-        Call::Lsr => Answer::Register(uart.inner_mut().lsr().bits()),
-        Call::Msr => Answer::Register(uart.inner_mut().msr().bits()),
-        Call::PeekModem => Answer::Register(uart.inner_mut().peek_modem().bits()),
-        Call::IsIdle => Answer::Flag(uart.inner_mut().is_idle()),
-        Call::Spr => Answer::Register(uart.inner_mut().spr()),
+        Call::CheckConfigured(outputs) => configured(uart.check_configured(*outputs)),
+        Call::TestLoopback => tested(uart.test_loopback()),
+        Call::CheckPresent => Answer::Flag(uart.check_present()),
+        Call::CheckConnected => connected(uart.check_connected()),
+        Call::ReadyToReceive => receive_ready(uart.ready_to_receive()),
+        Call::ReadyToSend => sent(uart.ready_to_send()),
+        Call::TryReceive => received(uart.try_receive_byte()),
+        Call::Flush => exact(uart.flush()),
+        Call::ReadReady => ready(uart.read_ready()),
+        Call::WriteReady => ready(uart.write_ready()),
+        Call::Ier => Answer::Register(uart.ier().bits()),
+        Call::Isr => Answer::Register(uart.isr().bits()),
+        Call::Lcr => Answer::Register(uart.lcr().bits()),
+        Call::Mcr => Answer::Register(uart.mcr().bits()),
+        Call::Lsr => Answer::Register(uart.lsr().bits()),
+        Call::Msr => Answer::Register(uart.msr().bits()),
+        Call::PeekModem => Answer::Register(uart.peek_modem().bits()),
+        Call::IsIdle => Answer::Flag(uart.is_idle()),
+        Call::Spr => Answer::Register(uart.spr()),
         Call::DllDlm => {
-            let (dll, dlm) = uart.inner_mut().dll_dlm();
+            let (dll, dlm) = uart.dll_dlm();
             Answer::Latch(dll, dlm)
         }
-        Call::FifoEnabled => Answer::Flag(uart.inner().fifo_enabled()),
-        Call::Dump => Answer::Dump(uart.inner_mut().config_register_dump()),
-        Call::TrySend(byte) => sent(uart.inner_mut().try_send_byte(*byte)),
+        Call::FifoEnabled => Answer::Flag(uart.fifo_enabled()),
+        Call::Dump => Answer::Dump(uart.config_register_dump()),
+        Call::TrySend(byte) => sent(uart.try_send_byte(*byte)),
         Call::Enable(interrupts) => {
-            uart.inner_mut().enable_interrupts(*interrupts);
+            uart.enable_interrupts(*interrupts);
             Answer::Done
         }
         Call::Disable(interrupts) => {
-            uart.inner_mut().disable_interrupts(*interrupts);
+            uart.disable_interrupts(*interrupts);
             Answer::Done
         }
         Call::RetriggerInterrupts => {
-            uart.inner_mut().retrigger_interrupts();
+            uart.retrigger_interrupts();
             Answer::Done
         }
-        Call::Receive(slots) => receive(uart.inner_mut(), &mut [0; CALL_BYTES][..*slots]),
-        Call::ReceiveExact(slots) => receive_exact(
-            uart.inner_mut(),
-            &mut [0; CALL_BYTES][..*slots],
-        ),
+        Call::Receive(slots) => receive(uart, &mut [0; CALL_BYTES][..*slots]),
+        Call::ReceiveExact(slots) => receive_exact(uart, &mut [0; CALL_BYTES][..*slots]),
         Call::ReceiveWithErrors(slots) => receive_with_errors(
-            uart.inner_mut(),
+            uart,
             &mut [Received::default(); CALL_BYTES][..*slots],
         ),
-        Call::Read(slots) => read(uart.inner_mut(), &mut [0; CALL_BYTES][..*slots]),
-        Call::Send(bytes) => Answer::Count(uart.inner_mut().send_bytes(bytes.as_slice())),
-        Call::SendExact(bytes) => exact(uart.inner_mut().send_bytes_exact(bytes.as_slice())),
-        Call::Write(bytes) => counted(uart.inner_mut().write(bytes.as_slice())),
-        Call::Text(text) => exact(uart.write_text(text.as_str())),
+        Call::Read(slots) => read(uart, &mut [0; CALL_BYTES][..*slots]),
+        Call::Send(bytes) => Answer::Count(uart.send_bytes(bytes.as_slice())),
+        Call::SendExact(bytes) => exact(uart.send_bytes_exact(bytes.as_slice())),
+        Call::Write(bytes) => counted(uart.write(bytes.as_slice())),
     }
 }
 

@@ -115,6 +115,28 @@ fn seventeen_characters_take_so_much_time() {
     assert_eq!(changed(rest - 1), [Finding::FrameChangedWhileSending]);
 }
 
+// No rate is faster than that of divisor 1. So a byte that would be on its way even then is on its way.
+#[test]
+fn without_a_divisor_characters_take_at_least_so_much_time() {
+    let at = |happening, time| Entry {
+        time: Some(time),
+        ..entry(Happening::Access(happening))
+    };
+    let emptied = |time| {
+        let begun = [at(Read(LCR, 0x03), 1), at(Read(STATUS, 0x60), 2)];
+        let bytes = (0..3).map(|_| at(Write(DATA, b'a'), 10));
+        found(
+            begun
+                .into_iter()
+                .chain(bytes)
+                .chain([at(Write(FCR, 0x07), time)]),
+        )
+    };
+    let rest = 10 + CHARACTER_TIME * 3;
+    assert_eq!(emptied(rest), []);
+    assert_eq!(emptied(rest - 1), [Finding::ResetWhileSending]);
+}
+
 #[test]
 fn a_handler_has_so_much_time() {
     let at = |happening, time, interrupt| Entry {

@@ -39,13 +39,15 @@ pub struct LinkCall {
     /// What happens at that end, in order: what comes before the last access of the call happens
     /// during the call, and the rest before the next call of this end.
     pub moments: ArrayVec<Moment, CALL_MOMENTS>,
-    /// The call. In a link, `Next` makes no access and lets all of the moments happen.
+    /// The call, which is no `Driver`. In a link, `Next` makes no access and lets all of the
+    /// moments happen.
     pub call: RingCall,
 }
 
 impl LinkCall {
-    /// Returns whether the call can be made: there are at most [`uart_calls::CALL_BYTES`] slots.
+    /// Returns whether the call can be made: there are at most [`uart_calls::CALL_BYTES`] slots,
+    /// and the call is one of the rings themselves.
     pub fn is_runnable(&self) -> bool {
-        self.call.is_runnable()
+        self.call.is_runnable() && self.call.is_of_rings()
     }
 }

@@ -80,15 +80,15 @@ fn make_link_call(link: &mut Link, call: &LinkCall) -> RingAnswer {
 /// that begins when a session may begin at both ends, on chips that cut no characters. In each such
 /// part and in each direction
 ///
-/// - the bytes taken or dropped by a `ClearReceive`, those in the receive ring and in the receiver,
-///   and then those on their way are, in this order, those that were there and those that were
-///   queued, less those that the receiver dropped. On their way are bytes on the cable, in the
-///   sender's transmitter and in its rings. This holds if no call of the sender is a `QueueUrgent`
-///   or a `ClearTransmit`;
+/// - the bytes taken, or dropped by a `ClearReceive`, each with which of the two, then those in the
+///   receive ring and in the receiver, and then those on their way are, in this order, those that
+///   were there and those that were queued, less those that the receiver dropped. On their way are
+///   bytes on the cable, in the sender's transmitter and in its rings. This holds if no call of the
+///   sender is a `QueueUrgent` or a `ClearTransmit`;
 /// - the first `TakeLine` of an end shows a drop there as the overrun flag;
-/// - no character is dropped at either end, if both programs keep to flow control: both check CTS,
-///   `AdjustRts` follows each run of the handler, with marks that leave room for what may arrive
-///   before it and what is on the cable. The README says it exactly;
+/// - no character is dropped, if both programs keep to flow control in this direction: the sender
+///   checks CTS, and the receiver's `AdjustRts` follows each run of the handler, with marks that
+///   leave room for what may arrive before it and what is on the cable. The README says it exactly;
 /// - all that was there at first is taken after as many rounds as bytes wait in the sender's rings,
 ///   and one more, if no character is dropped. In a round time passes at the sender, what is on the
 ///   cable arrives, the receiver's handler runs, its program takes, and the sender goes on to send;

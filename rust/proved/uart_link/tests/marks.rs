@@ -17,13 +17,13 @@ use uart_spec::registers::{FifoTriggerLevel, IER};
 const ON_CABLE: usize = 1;
 const BETWEEN: usize = 14;
 
-fn rings(receive_capacity: usize) -> Uart16550Ring<CabledChip> {
+fn rings(receive_capacity: usize, check_cts_before_sending: bool) -> Uart16550Ring<CabledChip> {
     let chip = CabledChip::new(Global::heap(), Chip::Uart16550A, 4, 64, 64).unwrap();
     let mut uart = Uart16550::new_with_backend(chip);
     uart.init(Config {
         fifo_trigger_level: Some(FifoTriggerLevel::One),
         interrupts: IER::DATA_READY,
-        check_cts_before_sending: true,
+        check_cts_before_sending,
         ..Config::DEFAULT
     })
     .unwrap();
@@ -39,12 +39,34 @@ fn listed<T: Copy + Default, const N: usize>(some: &[T]) -> ArrayVec<T, N> {
     list
 }
 
+fn link(room: usize, right_checks: bool) -> Link {
+    match Link::new(rings(32, true), rings(room, right_checks)) {
+        Ok(link) => link,
+        Err(_) => panic!("nothing has arrived yet"),
+    }
+}
+
+/// Makes these calls, each at its end with its moments, and returns their answers.
+fn made(
+    link: &mut Link,
+    steps: impl IntoIterator<Item = (Side, Vec<Moment>, RingCall)>,
+) -> Vec<RingAnswer> {
+    let calls: Vec<_> = steps
+        .into_iter()
+        .map(|(side, moments, call)| LinkCall {
+            side,
+            moments: listed(&moments),
+            call,
+        })
+        .collect();
+    let mut answers: Vec<_> = calls.iter().map(|_| RingAnswer::Done).collect();
+    run_link(link, &calls, &mut answers);
+    answers
+}
+
 /// What becomes of the last of 32 characters that go from the left to the right, whose receive ring has room for so many. The left end is
 /// held back as soon as the ring has room for fewer.
-fn last_of_32(room: usize) -> Option<ArrivalMark> {
-    let Ok(mut link) = Link::new(rings(32), rings(room)) else {
-        panic!("nothing has arrived yet");
-    };
+fn last_of_32(mut link: Link, room: usize) -> Option<ArrivalMark> {
     let marks = ReceiveMarks {
         hold: room,
         release: room,
@@ -84,29 +106,54 @@ fn last_of_32(room: usize) -> Option<ArrivalMark> {
     let mut calls = Vec::new();
     let mut expected = Vec::new();
     for (side, moments, call, answer) in steps {
-        let moments = listed(moments);
-        calls.push(LinkCall {
-            side,
-            moments,
-            call,
-        });
+        calls.push((side, moments.to_vec(), call));
         expected.push(answer);
     }
-    let mut answers: Vec<_> = calls.iter().map(|_| RingAnswer::Done).collect();
-    run_link(&mut link, &calls, &mut answers);
+    let answers = made(&mut link, calls);
     assert_eq!(answers, expected);
     link.right.inner().backend().mark(31)
 }
 
 #[test]
 fn a_mark_above_what_may_come_loses_nothing() {
+    let room = ON_CABLE + BETWEEN + 1;
     assert_eq!(
-        last_of_32(ON_CABLE + BETWEEN + 1),
+        last_of_32(link(room, true), room),
         Some(ArrivalMark::Waiting)
     );
 }
 
 #[test]
 fn a_mark_that_is_one_lower_loses_a_character() {
-    assert_eq!(last_of_32(ON_CABLE + BETWEEN), Some(ArrivalMark::Dropped));
+    let room = ON_CABLE + BETWEEN;
+    assert_eq!(
+        last_of_32(link(room, true), room),
+        Some(ArrivalMark::Dropped)
+    );
+}
+
+/// The right end checks no CTS and never looks at the lines, and the left end never adjusts RTS: the 17th character on this way is dropped,
+/// and on the other way none.
+#[test]
+fn flow_control_may_be_in_one_direction_alone() {
+    let room = ON_CABLE + BETWEEN + 1;
+    let mut link = link(room, false);
+    let ticks = || vec![Moment::Ticks(100)];
+    let bytes = RingCall::Queue(listed(&[b'y'; 17]));
+    let answers = made(
+        &mut link,
+        [
+            (Side::Right, vec![], bytes),
+            (Side::Right, ticks(), RingCall::Next),
+            (Side::Right, vec![], RingCall::ResumeTransmit),
+            (Side::Right, ticks(), RingCall::Next),
+            (Side::Right, vec![], RingCall::Service),
+            (Side::Left, vec![Moment::Arrives; 17], RingCall::Next),
+        ],
+    );
+    assert_eq!(answers[0], RingAnswer::Count(17));
+    let left = link.left.inner().backend();
+    assert_eq!(left.mark(15), Some(ArrivalMark::Waiting));
+    assert_eq!(left.mark(16), Some(ArrivalMark::Dropped));
+    assert_eq!(last_of_32(link, room), Some(ArrivalMark::Waiting));
 }

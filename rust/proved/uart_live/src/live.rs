@@ -10,7 +10,7 @@ use uart_chip::receiving::{ReceiverParts, take_front};
 use uart_chip::transmitting::TransmitterParts;
 use uart_chip::{Character, Origin, Uart, room_of};
 use uart_events::{Chip, MAX_CHAR_TICKS};
-use uart_spec::registers::{LSR, MSR, offsets};
+use uart_spec::registers::{LCR, LSR, MSR, offsets};
 
 // A chip all of whose memory is in arrays, without a schedule. So no call can be refused memory.
 // The wire has room for 64 bytes, as in the library for C: its owner takes them after each `ticks`.
@@ -458,6 +458,14 @@ impl LiveChip {
     /// Returns whether the guest has DLAB set: then DATA and IER are the divisor latch.
     pub fn is_dlab_set(&self) -> bool {
         self.uart.is_dlab_set()
+    }
+
+    /// Returns whether the guest sends a break: LCR bit 6 is set, and a line would be at 0 as long.
+    ///
+    /// The chip has no line, so what the guest writes in a break is on the wire all the same. On a
+    /// real line it would be lost.
+    pub fn is_breaking(&self) -> bool {
+        self.uart.lcr().intersects(LCR::SET_BREAK)
     }
 
     /// Returns whether the guest has the FIFOs on.

@@ -12,10 +12,14 @@
 extern crate geesetrunk_kit_of_rings as std;
 extern crate geesetrunk_kit as bitflags;
 
+mod line;
 mod queue;
 mod ring;
 
+pub use line::{LinePort, LinePorts, handle_line, handle_ports};
 pub use ring::{
-    HandleEnd, Handled, MAX_CAPACITY, MAX_INTERRUPTS, ReceiveMarks, RingError, StuckError,
+    HandleEnd, Handled, Lowered, MAX_CAPACITY, MAX_INTERRUPTS, ReceiveMarks, RingError, StuckError,
     Uart16550Ring,
 };
+
+mod by_hand;

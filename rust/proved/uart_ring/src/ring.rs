@@ -1,5 +1,6 @@
 //! The rings over a driver: their fields, the constructor, and the calls that read their state.
 
+mod line;
 mod receive;
 mod service;
 mod status;
@@ -8,6 +9,7 @@ mod transmit;
 
 use crate::queue::ByteQueue;
 use bitflags::Flags;
+pub use line::Lowered;
 pub use receive::ReceiveMarks;
 pub use service::{HandleEnd, Handled, MAX_INTERRUPTS};
 use std::alloc::Global;
@@ -20,6 +22,7 @@ use uart_spec::registers::{LSR, MSR};
 pub const MAX_CAPACITY: usize = 4096;
 
 /// Why no rings were made: the first reason in this order.
+#[cfg_attr(not(feature = "exhaustive"), non_exhaustive)]
 #[derive(Clone, Copy, Debug, PartialEq, Eq)]
 pub enum RingError {
     /// A capacity is 0 or more than [`MAX_CAPACITY`].
@@ -295,8 +298,18 @@ impl<B: Backend> Uart16550Ring<B> {
     /// `enable_interrupts`. Makes no access itself.
     ///
     /// Bytes that such a call sends or receives bypass the rings. The rings change two bits of IER:
-    /// `THR_EMPTY`, and `DATA_READY` while receiving is paused. Do not change these two. After an
-    /// `init` while bytes wait in the transmit ring, call `resume_transmit`.
+    /// `THR_EMPTY`, and `DATA_READY` while receiving is paused. Do not change these two.
+    ///
+    /// These calls may take away the interrupt on which bytes in the transmit ring wait, and then
+    /// the bytes wait for ever. Call `resume_transmit` after
+    ///
+    /// - `isr`, `config_register_dump` and `attach`, which read ISR: that acknowledges the
+    ///   interrupt. The rings have a `config_register_dump` of their own, which needs nothing;
+    /// - `disable_interrupts` of `THR_EMPTY`;
+    /// - `init`, `init_with`, `restore`, `quiesce` and `test_loopback`, which set the port up, test
+    ///   it or leave it.
+    ///
+    /// After every other call the interrupt is still to come.
     ///
     /// # Examples
     ///

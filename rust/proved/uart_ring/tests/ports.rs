@@ -2,141 +2,35 @@
 //! rings over a chip. The line is high as long as one of the chips interrupts, so it does not fall for one port that was served while
 //! another one waits.
 
+mod board;
+
+use board::{Board, LIMIT, Registers, runs, started};
 use geesetrunk_kit_of_rings::alloc::Global;
-use proved_uart_ring::{HandleEnd, Uart16550Ring};
+use proved_uart_ring::{
+    HandleEnd, Handled, LinePort, MAX_INTERRUPTS, RingError, StuckError, Uart16550Ring, handle_ports,
+};
 use std::cell::RefCell;
 use std::rc::Rc;
 use uart_16550::Uart16550;
 use uart_16550::backend::Backend;
-use uart_live::{Chip, LiveChip, WIRE_ROOM};
-use uart_spec::Config;
-use uart_spec::registers::{IER, LSR};
+use uart_spec::registers::{IER, LSR, MSR};
+use uart_spec::{Config, InitError};
+
+include!("documented/port.rs");
 
 const PORTS: usize = 4;
-const CHAR_TICKS: u16 = 8;
 const STEPS: usize = 2_000;
-const RUNS: u64 = 40;
 const RING_SIZE: usize = 64;
-
-/// How many interrupts the handler of the documents serves of a port each time, and how many rounds it may leave unfinished.
-const LIMIT: usize = 32;
-const MAX_UNFINISHED_ROUNDS: u32 = 100;
 
 /// More rounds than the handlers that go round need.
 const ROUNDS: usize = 64;
 
-/// Pseudorandom numbers: xorshift.
-struct Random(u64);
-
-impl Random {
-    fn below(&mut self, end: usize) -> usize {
-        self.0 ^= self.0 << 13;
-        self.0 ^= self.0 >> 7;
-        self.0 ^= self.0 << 17;
-        (self.0 % end as u64) as usize
-    }
-}
-
-/// The chips, and the controller.
-struct Board {
-    chips: [LiveChip; PORTS],
-    random: Random,
-    /// Whether characters still arrive.
-    is_busy: bool,
-    is_line_high: bool,
-    /// An edge that the handler was not yet called for.
-    edge: bool,
-}
-
-impl Board {
-    fn new(seed: u64) -> Self {
-        let chip = || LiveChip::new(Chip::Uart16550A, CHAR_TICKS, WIRE_ROOM).expect("in range");
-        Board {
-            chips: std::array::from_fn(|_| chip()),
-            random: Random(seed),
-            is_busy: true,
-            is_line_high: false,
-            edge: false,
-        }
-    }
-
-    /// The controller notes that the line rose.
-    fn look(&mut self) {
-        let is_high = self.chips.iter().any(LiveChip::is_interrupting);
-        self.edge |= is_high && !self.is_line_high;
-        self.is_line_high = is_high;
-    }
-
-    /// Some ticks pass, one after the other, and perhaps a character arrives at some port.
-    fn pass(&mut self) {
-        for _ in 0..self.random.below(4) {
-            for at in 0..PORTS {
-                self.chips[at].ticks(1);
-                let sent = self.chips[at].wire().len();
-                self.chips[at].take_wire(sent);
-                self.look();
-            }
-        }
-        if self.is_busy && self.random.below(6) == 0 {
-            let at = self.random.below(PORTS);
-            let arrived = self.chips[at].arrive(0x55, LSR::empty());
-            assert!(arrived.is_ok());
-            self.look();
-        }
-    }
-}
-
-/// The registers of one chip. Time passes before each access.
-struct Registers {
-    board: Rc<RefCell<Board>>,
-    at: usize,
-}
-
-impl Backend for Registers {
-    fn read(&mut self, register_offset: u8) -> u8 {
-        let board = &mut *self.board.borrow_mut();
-        board.pass();
-        let value = board.chips[self.at].read(register_offset);
-        board.look();
-        value
-    }
-
-    fn write(&mut self, register_offset: u8, value: u8) {
-        let board = &mut *self.board.borrow_mut();
-        board.pass();
-        board.chips[self.at].write(register_offset, value);
-        board.look();
-    }
-}
-
-type Port = Uart16550Ring<Registers>;
-
-/// The handler of a line that several ports share. Returns whether one of them had an interrupt.
-fn serve_line(ports: &mut [Port]) -> bool {
-    let mut has_served = false;
-    for port in ports.iter_mut() {
-        let handled = port.try_handle(LIMIT, MAX_UNFINISHED_ROUNDS);
-        has_served |= handled.is_ok_and(|handled| handled.served > 0);
-    }
-    let mut enabled = [IER::empty(); PORTS];
-    for (port, enabled) in ports.iter_mut().zip(&mut enabled) {
-        *enabled = port.inner_mut().ier();
-        port.inner_mut().disable_interrupts(IER::all());
-    }
-    // All lines are low here. If one is high afterwards, the common line has risen, and the handler
-    // is called again.
-    for (port, enabled) in ports.iter_mut().zip(enabled) {
-        port.inner_mut().enable_interrupts(enabled);
-    }
-    has_served
-}
-
 /// Goes round until a whole round in which no port had an interrupt.
-fn serve_until_quiet(ports: &mut [Port]) {
+fn serve_until_quiet(ports: &mut [LinePort<Registers>]) {
     for _ in 0..ROUNDS {
         let mut is_quiet = true;
         for port in ports.iter_mut() {
-            let handled = port.handle(LIMIT);
+            let handled = port.ring.handle(LIMIT);
             is_quiet &= handled.served == 0 && handled.end == HandleEnd::Idle;
         }
         if is_quiet {
@@ -147,47 +41,24 @@ fn serve_until_quiet(ports: &mut [Port]) {
 }
 
 /// A handler that is right for one port alone: each port is served once.
-fn serve_once(ports: &mut [Port]) {
+fn serve_once(ports: &mut [LinePort<Registers>]) {
     for port in ports {
-        port.handle(LIMIT);
+        port.ring.handle(LIMIT);
     }
 }
 
-fn config() -> Config {
-    Config {
-        interrupts: IER::DATA_READY | IER::RECEIVER_LINE_STATUS,
-        ..Config::DEFAULT
+/// Lowers the line of each port, and raises it at once: no two are low at one time.
+fn serve_port_by_port(ports: &mut [LinePort<Registers>]) {
+    for port in ports {
+        port.lower(LIMIT, MAX_UNFINISHED_ROUNDS);
+        port.raise();
     }
-}
-
-fn started(board: &Rc<RefCell<Board>>) -> Vec<Port> {
-    let start = |at| {
-        let board = board.clone();
-        let mut uart = Uart16550::new_with_backend(Registers { board, at });
-        assert_eq!(uart.init(config()), Ok(()));
-        match Uart16550Ring::new(Global::heap(), uart, RING_SIZE, RING_SIZE) {
-            Ok(ring) => ring,
-            Err((_uart, cause)) => panic!("{cause}"),
-        }
-    };
-    (0..PORTS).map(start).collect()
-}
-
-/// Whether the controller has an edge. It is noted once.
-fn take_edge(board: &RefCell<Board>) -> bool {
-    std::mem::take(&mut board.borrow_mut().edge)
-}
-
-/// Whether the line is high and no edge is to come: nobody is ever called again.
-fn is_asleep(board: &RefCell<Board>) -> bool {
-    let board = board.borrow();
-    board.is_line_high && !board.edge
 }
 
 /// Runs programs that queue and take at random. Returns whether the handler was called as long as there was anything to do.
-fn runs_on(seed: u64, serve: fn(&mut [Port])) -> bool {
-    let board = Rc::new(RefCell::new(Board::new(seed)));
-    let mut ports = started(&board);
+fn runs_on(seed: u64, serve: fn(&mut [LinePort<Registers>])) -> bool {
+    let board = Rc::new(RefCell::new(Board::new(PORTS, seed)));
+    let mut ports = started(&board, IER::DATA_READY | IER::RECEIVER_LINE_STATUS, RING_SIZE);
     for step in 0..STEPS {
         board.borrow_mut().is_busy = step < STEPS / 2;
         board.borrow_mut().pass();
@@ -198,31 +69,31 @@ fn runs_on(seed: u64, serve: fn(&mut [Port])) -> bool {
         // The handler is masked during these, and the controller notes edges.
         match what {
             0 if step < STEPS / 2 => {
-                ports[at].queue(b"some bytes to send");
+                ports[at].ring.queue(b"some bytes to send");
             }
             1 => {
-                ports[at].take(&mut [0; 40]);
+                ports[at].ring.take(&mut [0; 40]);
             }
             _ => {}
         }
-        while take_edge(&board) {
+        while board.borrow_mut().take_edge() {
             serve(&mut ports);
         }
-        if is_asleep(&board) {
+        if board.borrow().is_asleep() {
             return false;
         }
     }
-    ports.iter().all(|port| port.transmit_len() == 0)
+    ports.iter().all(|port| port.ring.transmit_len() == 0)
 }
 
 /// How many runs fall asleep.
-fn asleep(serve: fn(&mut [Port])) -> usize {
-    (1..=RUNS).filter(|&seed| !runs_on(seed, serve)).count()
+fn asleep(serve: fn(&mut [LinePort<Registers>])) -> usize {
+    (1..=runs(10)).filter(|&seed| !runs_on(seed, serve)).count()
 }
 
 #[test]
 fn falling_at_once_loses_no_edge() {
-    let serve = |ports: &mut [Port]| {
+    let serve = |ports: &mut [LinePort<Registers>]| {
         serve_line(ports);
     };
     assert_eq!(asleep(serve), 0);
@@ -238,4 +109,45 @@ fn a_quiet_round_loses_edges() {
 #[test]
 fn one_call_for_each_port_loses_edges() {
     assert_ne!(asleep(serve_once), 0);
+}
+
+#[test]
+fn falling_port_by_port_loses_edges() {
+    assert_ne!(asleep(serve_port_by_port), 0);
+}
+
+/// The port of the page, with a line of its own.
+#[test]
+fn the_port_of_the_page_loses_no_edge() {
+    let without_lines = || Config {
+        interrupts: IER::DATA_READY | IER::RECEIVER_LINE_STATUS,
+        ..Config::DEFAULT
+    };
+    for seed in 1..=runs(10) {
+        let board = Rc::new(RefCell::new(Board::new(1, seed)));
+        let registers = Registers::new(&board, 0);
+        let mut port = Port::start(Global::heap(), registers).expect("a port");
+        // The lines of this chip are clear, so CTS is not checked.
+        assert_eq!(port.configure(without_lines()), Ok(()));
+        for step in 0..STEPS {
+            board.borrow_mut().is_busy = step < STEPS / 2;
+            board.borrow_mut().pass();
+            let what = board.borrow_mut().random.below(8);
+            match what {
+                0 if step < STEPS / 2 => {
+                    port.write(b"byte");
+                }
+                1 => {
+                    port.read(&mut [0; 40]);
+                }
+                _ => {}
+            }
+            while board.borrow_mut().take_edge() {
+                assert!(port.on_interrupt().is_ok());
+            }
+            assert!(!board.borrow().is_asleep());
+        }
+        assert_eq!((port.ring.transmit_len(), port.stuck()), (0, None));
+        port.restart();
+    }
 }

@@ -135,16 +135,20 @@ fn a_storm_of_unknown_interrupts() {
 
 #[test]
 fn an_interrupt_that_does_not_go_away() {
-    // At the limit a look shows that none is left, so the chip is not stuck. Then one is.
+    // A round in which a byte moves is not counted. At the limit a look shows that none is left, so
+    // the chip is not stuck. Then one is.
     let steps = [
         Read(ISR, DATA_READY),
         Received(b"A"),
         Read(LSR, 0x60),
         Changed(IER, 0x01, 0x00),
         Write(IER, 0x01),
+        Read(ISR, DATA_READY),
+        Read(LSR, 0x60),
+        Changed(IER, 0x01, 0x00),
+        Write(IER, 0x01),
         Read(ISR, NONE),
         Read(ISR, DATA_READY),
-        Received(b"B"),
         Read(LSR, 0x60),
         Changed(IER, 0x01, 0x00),
         Write(IER, 0x01),
@@ -158,6 +162,7 @@ fn an_interrupt_that_does_not_go_away() {
         end: HandleEnd::Limit,
     };
     let stuck = StuckError::Pending(InterruptType::ReceivedDataReady);
+    assert_eq!(ring.try_handle(1, 0), Ok(one));
     assert_eq!(ring.try_handle(1, 1), Ok(one));
     assert_eq!(ring.try_handle(1, 0), Err(stuck));
     assert_made(ring.inner().backend(), &steps);

@@ -1,13 +1,14 @@
 //! Calls of the rings, and their answers, as data.
 
 use arrayvec::ArrayVec;
-use uart_calls::CALL_BYTES;
+use uart_calls::{Answer, CALL_BYTES, Call};
 use uart_ring::{Handled, ReceiveMarks, StuckError};
 use uart_spec::registers::{IER, LSR, MSR};
 
 /// A call of the rings as data.
 ///
-/// Each case is the call of that name, except for `Next`, which is a call of the device.
+/// Each case is the call of that name, except for `Driver`, which is a call of the driver under the
+/// rings, and `Next`, which is one of the device.
 #[derive(Debug, PartialEq)]
 pub enum RingCall {
     /// `queue` of these bytes.
@@ -46,17 +47,32 @@ pub enum RingCall {
     Restart(IER),
     /// `adjust_rts` at these marks.
     AdjustRts(ReceiveMarks),
+    /// This call of the driver, through `inner_mut`: any but [`Call::Next`], which is one of the
+    /// device, and [`Call::Text`], which is one of a terminal.
+    Driver(Call),
     /// `Device16550::next`: goes on to the next mark of the schedule.
     Next,
 }
 
+// Returns whether this is a call of a driver, and not of a device or a terminal.
+fn is_of_driver(call: &Call) -> bool {
+    !matches!(call, Call::Next | Call::Text(_))
+}
+
 impl RingCall {
-    /// Returns whether the call can be made: there are at most [`CALL_BYTES`] slots.
+    /// Returns whether the call can be made: there are at most [`CALL_BYTES`] slots, and a call of
+    /// the driver is one that can be made through `inner_mut`.
     pub fn is_runnable(&self) -> bool {
         match self {
             RingCall::Take(slots) => *slots <= CALL_BYTES,
+            RingCall::Driver(call) => is_of_driver(call) && call.is_runnable(),
             _ => true,
         }
+    }
+
+    /// Returns whether the call is one of the rings themselves, and not of the driver under them.
+    pub fn is_of_rings(&self) -> bool {
+        !matches!(self, RingCall::Driver(_))
     }
 }
 
@@ -79,6 +95,8 @@ pub enum RingAnswer {
     Low(bool),
     /// What `try_handle` returned.
     Tried(Result<Handled, StuckError>),
+    /// The answer of the driver's call.
+    Driver(Answer),
     /// The call returned nothing.
     Done,
 }

@@ -9,10 +9,13 @@ const _: () = assert!(usize::BITS == 64, "what is not for users is for targets o
 
 #[macro_use]
 extern crate geesetrunk_kit as std;
+extern crate geesetrunk_kit as bitflags;
 extern crate geesetrunk_kit as arrayvec;
 
 mod call;
+mod performing;
 mod running;
 
 pub use call::{RingAnswer, RingCall};
+pub use performing::perform_ring;
 pub use running::run_ring;

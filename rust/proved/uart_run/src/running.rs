@@ -19,30 +19,38 @@ fn run_call(uart: &mut Uart16550Tty<Device16550>, call: &Call) -> Answer {
 /// no memory.
 ///
 /// A *session* begins in a ready state: DLAB and loopback are off, and the driver knows whether the
-/// FIFO is on. It goes on up to the next `Init`, `InitWith`, `Quiesce`, `Restore`, `Attach` or
-/// `TestLoopback`, or a call that sets the frame. It goes on through a call that writes MCR if it
-/// began with a wired machine, whose modem lines are its inputs. A new machine is wired, and so is
-/// one after an `Init` or an `InitWith` that succeeds, and every call keeps that. In each session
+/// FIFO is on. It goes on up to the next `Init`, `InitWith`, `Restore` or `TestLoopback`, a
+/// `Quiesce` that writes FCR, a `SetBreak` that begins a break, or a call that sets the frame. It
+/// goes on through a call that writes MCR if it began with a wired machine, whose modem lines are
+/// its inputs. A new machine is wired, and so is one after an `Init` or an `InitWith` that
+/// succeeds, and every call keeps that. In each session
 ///
 /// - the wire and the transmitter grow by exactly the bytes that sends reported;
 /// - no data write meets a full transmitter;
 /// - the bytes received, and then those in the receiver, are those that were in the receiver at the
-///   start and those that arrived, in order, without those that were dropped.
+///   start and those that arrived, in order, without those that were dropped;
+/// - no break is on the line if there was none at the start. There is none after an `Init` or an
+///   `InitWith` that succeeds.
+///
+/// The machine sends what is shifted out in a break, and a line loses it. So of a session that
+/// begins in a break the wire is none.
 ///
 /// On a machine that cuts characters to the word length ([`Device16550::new_cut`]) this holds with
 /// the bytes that sends reported and those that arrived cut in this way. The clause `uncut` states
-/// it without cutting, for every other machine. There a session goes on through a `SetFrame` and a
-/// `SetFrameWhenIdle`.
+/// it without cutting, for every other machine. There a session goes on through a
+/// `SetFrameWhenIdle`, which waits until the transmitter is empty.
 ///
 /// A `SetFrame` or a `SetFrameWhenIdle` that succeeds leaves LCR and the divisor latch as
 /// configured, and the other latches and the FIFO as they were. A `SetTriggerLevel` that succeeds
 /// in a ready state sets the level of the receiver. An `Attach` that succeeds leaves a ready state,
 /// whatever the machine was before, and changes no latch. A `Restore` leaves one too, with the
-/// registers as in the dump. After a `Quiesce` in a ready state the chip raises no interrupt. An
-/// `IsIdle` that is true found the transmitter empty, and all that was in it on the wire, and so
-/// did a `SetFrameWhenIdle` that succeeds. With the FIFO on, each byte of a `ReceiveWithErrors`
-/// comes with exactly the errors that it arrived with, unless an earlier look has shown those of
-/// the first.
+/// registers as in the dump. After a `Quiesce` in a ready state the chip raises no interrupt. A
+/// `SetModemControl`, a `SetRts` and a `SetDtr` leave the outputs as they were asked for, without
+/// loopback, and change no other register. A `CheckConfigured` succeeds exactly if the registers
+/// are as the driver's configuration says, with the outputs that it names. An `IsIdle` that is true
+/// found the transmitter empty, and all that was in it on the wire, and so did a `SetFrameWhenIdle`
+/// that succeeds. With the FIFO on, each byte of a `ReceiveWithErrors` comes with exactly the
+/// errors that it arrived with, unless an earlier look has shown those of the first.
 ///
 /// An `Init` or an `InitWith` finds the device. If it succeeds, the state after it is ready,
 /// whatever the machine was before. A `TestLoopback` in a ready state succeeds or stalls, and if it
@@ -50,9 +58,9 @@ fn run_call(uart: &mut Uart16550Tty<Device16550>, call: &Call) -> Answer {
 /// unexpected byte instead of success. Every call preserves a ready state, whatever its answer is.
 ///
 /// If each access of the schedule has a tick before it, the spin limit is at least 17 (t + 1) for a
-/// character of t ticks, and the wire has room for all that is to be sent, then an `Init` with a
-/// divisor succeeds, and in a ready state so do `TestLoopback`, `Flush` and, without CTS checking,
-/// `SendExact`, `Write` and `Text`.
+/// character of t ticks, and the wire has room for all that is to be sent, then an `Init` and an
+/// `InitWith` with a divisor succeed, and in a ready state so do a `SetFrameWhenIdle` with one,
+/// `Attach`, `TestLoopback`, `Flush` and, without CTS checking, `SendExact`, `Write` and `Text`.
 ///
 /// # Examples
 ///

@@ -144,9 +144,20 @@ pub(crate) fn ticks_of(baud_rate: u32, prescaler_division_factor: Option<u32>) -
     16 * (prescaler_division_factor.unwrap_or(0) as u64 + 1) * baud_rate as u64
 }
 
-// Returns the factor, at least 1, whose product with the ticks is nearest to the frequency, and the
-// larger one if two are equally near.
+// Returns the factor, at least 1, at which the rate is nearest to the one that is wanted, if the
+// clock has this frequency, and if the factor 1 is exact at this number of ticks. If two are
+// equally near, it is the larger one.
+//
+// A factor gives the rate `frequency / factor`, and the wanted one is `ticks`. Rates are not spaced
+// as their factors are: between two neighbours the rates are equally far off where the frequency
+// divided by the ticks is the harmonic mean of the two, which is below the middle.
 pub(crate) fn nearest_factor(frequency: u64, ticks: u64) -> u64 {
-    let rounded = (frequency + ticks / 2) / ticks;
-    if rounded == 0 { 1 } else { rounded }
+    let below = frequency / ticks;
+    let above = below + 1;
+    let product = ticks * below * above;
+    if 2 * product <= frequency * (below + above) {
+        above
+    } else {
+        below
+    }
 }

@@ -215,8 +215,9 @@ impl Config {
                 .is_none_or(|factor| factor <= 15)
     }
 
-    /// Returns the configuration for the nearest divisor, if the rate that it gives is near enough.
-    /// Use it for a clock that gives no exact divisor, since `init` and `set_frame` round nothing.
+    /// Returns the configuration for the divisor whose rate is nearest to the configured one, if it
+    /// is near enough. Use it for a clock that gives no exact divisor, since `init` and `set_frame`
+    /// round nothing.
     ///
     /// In the result only `frequency` differs: it is the one, in hertz, at which the nearest
     /// divisor gives the configured baud rate exactly. So `init` accepts the result, and writes
@@ -231,7 +232,8 @@ impl Config {
     ///
     /// - `OutOfRange`, with the nearest divisor, if it is above 65,535, or its frequency needs more
     ///   than 32 bits.
-    /// - `TooFar`, with the nearest divisor, if it is in range, and the rate differs by more.
+    /// - `TooFar`, with the nearest divisor, if it is in range, and the rate differs by more. Then
+    ///   the rate of each divisor does.
     ///
     /// # Panics
     ///

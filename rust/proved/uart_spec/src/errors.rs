@@ -64,6 +64,7 @@ impl std::fmt::Display for NonIntegerDivisorError {
 }
 
 /// Why a port cannot be taken as it is.
+#[cfg_attr(not(feature = "exhaustive"), non_exhaustive)]
 #[derive(Clone, Copy, Debug, PartialEq, Eq, PartialOrd, Hash)]
 pub enum AttachError {
     /// DLAB is set: offsets 0 and 1 are the divisor latch.
@@ -98,6 +99,7 @@ impl std::fmt::Display for FifosOffError {
 }
 
 /// Why a change of the frame that waits for an empty transmitter failed.
+#[cfg_attr(not(feature = "exhaustive"), non_exhaustive)]
 #[derive(Clone, Debug, PartialEq, Eq, Hash)]
 pub enum FrameError {
     /// There is no divisor for the baud rate. No access was made, and nothing changed.
@@ -120,6 +122,7 @@ impl std::fmt::Display for FrameError {
 
 /// What a chip shows in place of what was written to it. The first difference is told, in the order
 /// of the cases.
+#[cfg_attr(not(feature = "exhaustive"), non_exhaustive)]
 #[derive(Clone, Copy, Debug, PartialEq, Eq, Hash)]
 pub enum ConfigurationError {
     /// The configuration of the driver has no divisor, so no chip can be set up so. No access was
@@ -198,6 +201,7 @@ impl std::fmt::Display for ConfigurationError {
 }
 
 /// Why the nearest divisor for a baud rate cannot be used. `OutOfRange` comes first.
+#[cfg_attr(not(feature = "exhaustive"), non_exhaustive)]
 #[derive(Clone, Debug, PartialEq, Eq, PartialOrd, Hash)]
 pub enum NearestDivisorError {
     /// The baud rate that the nearest divisor gives differs by more than the tolerance.
@@ -230,6 +234,7 @@ impl std::fmt::Display for NearestDivisorError {
 }
 
 /// Why there is no divisor for a baud rate.
+#[cfg_attr(not(feature = "exhaustive"), non_exhaustive)]
 #[derive(Clone, Debug, PartialEq, Eq, PartialOrd, Hash)]
 pub enum InvalidDivisorError {
     /// No whole divisor gives the baud rate.
@@ -283,6 +288,7 @@ impl std::fmt::Display for InvalidAddressError {
 }
 
 /// Why an initialisation failed.
+#[cfg_attr(not(feature = "exhaustive"), non_exhaustive)]
 #[derive(Clone, Debug, PartialEq, Eq, Hash)]
 pub enum InitError {
     /// The scratch register did not keep what was written to it, so no device is at the address.
@@ -397,6 +403,7 @@ impl std::fmt::Display for RemoteReadyToReceiveError {
 const LOOPBACK: &str = "loopback test failed";
 
 /// Why a loopback test failed.
+#[cfg_attr(not(feature = "exhaustive"), non_exhaustive)]
 #[derive(Clone, Debug, PartialEq, Eq, Hash)]
 pub enum LoopbackError {
     /// The device did not accept the single test byte, although its transmitter had been empty. The
@@ -481,6 +488,7 @@ impl std::fmt::Display for StalledError {
 }
 
 /// Why a terminal could not be set up.
+#[cfg_attr(not(feature = "exhaustive"), non_exhaustive)]
 #[derive(Clone, Debug, PartialEq, Eq, Hash)]
 pub enum Uart16550TtyError {
     /// No device can be at the address. No access was made.

@@ -14,8 +14,8 @@ pub struct Todo {
     pub level: bool,
     /// The level is another one than after the call before.
     pub has_moved: bool,
-    /// Offer input again: there is room now, and after the call before there was none. It is told
-    /// once.
+    /// Offer input again: there was no room, and now nothing waits, or the guest made room by
+    /// another call than a read of DATA. It is told once.
     pub has_room: bool,
     /// How many bytes of output are ready. `output` returns them.
     pub ready: usize,
@@ -30,7 +30,8 @@ pub const REST_OF_A_FIFO: u8 = FIFO_SIZE as u8 - 1;
 pub struct Told {
     /// The level of the line.
     pub line: bool,
-    /// Whether there was room for input.
+    /// Whether the monitor may take it that there is room for input: it was told so, and since then
+    /// there was always room.
     pub has_room: bool,
     /// The guest has read ISR since the last signal.
     pub has_looked: bool,
@@ -47,6 +48,9 @@ pub struct Kind {
     pub looks: bool,
     /// The guest reads or writes DATA.
     pub moves_data: bool,
+    /// The guest writes FCR, which can empty the FIFO, or MCR, which can end loopback, or the port
+    /// is a new one: room that there is now is told at once.
+    pub may_make_room: bool,
 }
 
 /// What is seen of a chip when a call ends, as far as its monitor is told of it.
@@ -56,6 +60,8 @@ pub struct Seen {
     pub level: bool,
     /// There is room for input.
     pub has_room: bool,
+    /// No character waits.
+    pub is_empty: bool,
     /// The guest has the FIFOs on.
     pub fifo: bool,
     /// How many bytes of output are ready.

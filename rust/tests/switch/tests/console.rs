@@ -47,11 +47,8 @@ fn port(chip: Chip) -> Uart16550<Chip> {
     unsafe { Uart16550::new_with_backend(chip) }
 }
 
-// Over the original crate no promise is asked for.
-#[allow(unused_unsafe)]
 fn chip(uart: &mut Uart16550<Chip>) -> &mut Chip {
-    // SAFETY: whatever its state, a chip in software may be accessed.
-    unsafe { uart.backend_mut() }
+    uart.backend_mut()
 }
 
 #[test]

@@ -85,8 +85,8 @@ impl core::error::Error for Unfinished {}
 /// Shared rings for one thread, whose calls wait. Returned by [`Shared::blocking`].
 ///
 /// It has the traits of [`embedded_io`](crate::native::embedded_io), and with the feature `embedded-io` those of the crate of this
-/// name. `flush` waits until the transmit ring is empty, and then until the chip is. For the chip no interrupt comes, so the wait
-/// function gets a function that returns true, at most as many times as the driver's spin limit.
+/// name. [`flush`](Self::flush) waits until the transmit ring is empty, and then until the chip is. For the chip no interrupt comes, so the
+/// wait function gets a function that returns true, at most as many times as the driver's spin limit.
 ///
 /// # Errors
 ///
@@ -199,6 +199,39 @@ impl<S: CriticalSection, B: Backend, W: Wait> Blocking<'_, S, B, W> {
         Ok(())
     }
 
+    /// Waits until all that was queued is on the line: until the transmit ring is empty, and then the chip.
+    ///
+    /// # Errors
+    ///
+    /// Those of the type.
+    ///
+    /// # Examples
+    ///
+    /// ```
+    /// # include!(concat!(env!("CARGO_MANIFEST_DIR"), "/tests/common/shared.rs"));
+    /// # fn main() {
+    /// # start();
+    /// let mut port = PORT.blocking(Turns(1000));
+    /// assert_eq!(port.send_bytes_exact(b"bye"), Ok(()));
+    /// assert_eq!(port.flush(), Ok(()));
+    /// # assert_eq!(board::chip().sent, b"bye");
+    /// # }
+    /// ```
+    pub fn flush(&mut self) -> Result<(), SharedError> {
+        self.wait_for(Awaited::EmptyTransmitRing, |ring| {
+            (ring.transmit_len() == 0).then_some(())
+        })?;
+        let limit = self.shared.with(|ring| ring.inner().spin_limit())?;
+        for _look in 0..limit.get() {
+            if self.shared.is_sent()? {
+                return Ok(());
+            }
+            // No interrupt comes when the chip is empty, so there is nothing to sleep for.
+            self.wait_once(|| true)?;
+        }
+        Err(SharedError::GaveUp)
+    }
+
     // Looks, and waits, until it is found.
     fn wait_for<R>(
         &mut self,
@@ -249,18 +282,27 @@ impl<S: CriticalSection, B: Backend, W: Wait> Write for Blocking<'_, S, B, W> {
     }
 
     fn flush(&mut self) -> Result<(), SharedError> {
-        self.wait_for(Awaited::EmptyTransmitRing, |ring| {
-            (ring.transmit_len() == 0).then_some(())
-        })?;
-        let limit = self.shared.with(|ring| ring.inner().spin_limit())?;
-        for _look in 0..limit.get() {
-            if self.shared.is_sent()? {
-                return Ok(());
-            }
-            // No interrupt comes when the chip is empty, so there is nothing to sleep for.
-            self.wait_once(|| true)?;
-        }
-        Err(SharedError::GaveUp)
+        Blocking::flush(self)
+    }
+}
+
+/// Text is queued as it is: a line feed stays one.
+///
+/// # Errors
+///
+/// Those of the type, of which `fmt::Error` says nothing.
+impl<S: CriticalSection, B: Backend, W: Wait> fmt::Write for Blocking<'_, S, B, W> {
+    fn write_str(&mut self, text: &str) -> fmt::Result {
+        self.send_bytes_exact(text.as_bytes())
+            .map_err(|_unfinished| fmt::Error)
+    }
+}
+
+impl<S: CriticalSection, B: Backend, W> fmt::Debug for Blocking<'_, S, B, W> {
+    fn fmt(&self, f: &mut fmt::Formatter<'_>) -> fmt::Result {
+        f.debug_struct("Blocking")
+            .field("shared", self.shared)
+            .finish_non_exhaustive()
     }
 }
 

@@ -23,8 +23,10 @@
 #include <linux/serial_reg.h>
 #include <linux/slab.h>
 #include <linux/sysrq.h>
+#include <linux/timer.h>
 #include <linux/tty.h>
 #include <linux/tty_flip.h>
+#include <linux/version.h>
 #include <linux/workqueue.h>
 
 #define U16550_HAS_TYPES		/* linux/types.h */
@@ -36,6 +38,7 @@
 #define TRIGGER_LEVEL 8			/* the other half takes what arrives until the handler comes */
 #define REGISTERS 8
 #define LAST_PORT 0xffff
+#define LARGEST_DIVISOR 0xffff
 
 /* How many interrupts one run of the handler serves, and how many characters it takes for one of them. */
 #define MOST_INTERRUPTS 256
@@ -43,6 +46,13 @@
 
 /* How many runs in a row may leave an interrupt pending and do nothing. No sound chip comes to that. */
 #define MOST_VAIN_RUNS 100
+
+/*
+ * How often a timer looks at a chip whose interrupts come, and how many looks in a row may find one that nobody has announced. That may
+ * be chance once: an interrupt was on its way.
+ */
+#define LOOK (HZ / 5)
+#define MOST_MISSED 5
 
 /* The longest time that a console waits in a panic for the lock: a thousand tenths of a millisecond. */
 #define LOCK_TRIES 1000
@@ -55,7 +65,7 @@ static bool with_console;
 module_param_array(ports, uint, &port_count, 0444);
 MODULE_PARM_DESC(ports, "the first I/O port of each chip; none may belong to another driver");
 module_param_array(irqs, uint, &irq_count, 0444);
-MODULE_PARM_DESC(irqs, "the interrupt of each chip; each has its own");
+MODULE_PARM_DESC(irqs, "the interrupt of each chip, which several may share, or 0: then a timer looks at the chip");
 module_param_named(console, with_console, bool, 0444);
 MODULE_PARM_DESC(console, "console=ttyP0 on the kernel's command line makes a port a console");
 
@@ -63,14 +73,26 @@ struct line {
 	struct uart_port port;
 	struct u16550 uart;
 	struct u16550 last_words;	/* another driver of the same chip, for a panic */
-	struct u16550 *console;		/* the one of these that a console's text goes through */
+	struct u16550 debugger;		/* another one, for a debugger */
+	struct u16550 *console;		/* the one of the first two that a console's text goes through */
 	struct u16550_config config;
+	u64 patience;			/* the spin limit of each of them */
+	unsigned long base;		/* the first port of the region that this line has; 0 without one, and then no driver is made */
+	struct u16550_dump registers;	/* before the machine slept */
 	u8 interrupts;			/* those that are enabled */
 	u8 shown;			/* the errors that LSR has shown of the character that is the next to be read */
 	u8 errors;			/* those of the character that was read last */
 	struct work_struct report;	/* says what is wrong */
 	const char *trouble, *detail;
+	char which[24];			/* the interrupt, for that */
 	unsigned int vain_runs;
+	struct timer_list timer;	/* looks at the chip, whether it interrupts or not */
+	unsigned int missed;		/* how many of its looks in a row have found an interrupt that did not come */
+	bool has_come;			/* an interrupt came since the last look */
+	bool is_polled;			/* the timer does what the interrupt should */
+	bool is_masked;			/* the chip is not to interrupt for now, so `enable` waits */
+	bool loops;			/* TIOCM_LOOP is set */
+	bool is_added;
 	bool is_open;			/* startup was called, and shutdown not yet */
 	bool is_broken;			/* the chip interrupts without end, so it may not */
 	bool is_taken_over;		/* last_words has the chip */
@@ -78,12 +100,48 @@ struct line {
 	char name[16];
 };
 
-static struct line *lines[MOST_PORTS];
+static struct line lines[MOST_PORTS];
 
 static struct line *line_of(struct uart_port *port)
 {
 	return container_of(port, struct line, port);
 }
+
+/* ------------------------------------------------------------------ what differs between versions of Linux */
+
+#if LINUX_VERSION_CODE < KERNEL_VERSION(6, 2, 0)
+#define timer_delete_sync del_timer_sync
+#endif
+
+#if LINUX_VERSION_CODE >= KERNEL_VERSION(6, 10, 0)
+/* How many bytes wait to be sent. */
+static unsigned int waiting(struct uart_port *port)
+{
+	return kfifo_len(&port->state->port.xmit_fifo);
+}
+
+/* Copies those that come next, and leaves them there. Returns how many. */
+static size_t peek(struct uart_port *port, u8 *burst, size_t most)
+{
+	return kfifo_out_peek(&port->state->port.xmit_fifo, burst, most);
+}
+#else
+static unsigned int waiting(struct uart_port *port)
+{
+	return uart_circ_chars_pending(&port->state->xmit);
+}
+
+static size_t peek(struct uart_port *port, u8 *burst, size_t most)
+{
+	struct circ_buf *xmit = &port->state->xmit;
+	size_t len = 0;
+	int at;
+
+	for (at = xmit->tail; at != xmit->head && len < most; at = (at + 1) & (UART_XMIT_SIZE - 1))
+		burst[len++] = xmit->buf[at];
+	return len;
+}
+#endif
 
 /* ------------------------------------------------------------------ what the library needs */
 
@@ -96,7 +154,7 @@ static uint8_t read_register(void *context, uintptr_t address)
 	struct line *line = context;
 	u8 value = inb(address);
 
-	switch (address - line->port.iobase) {
+	switch (address - line->base) {
 	case UART_LSR:
 		line->shown |= value & UART_LSR_BRK_ERROR_BITS;
 		break;
@@ -108,8 +166,13 @@ static uint8_t read_register(void *context, uintptr_t address)
 	return value;
 }
 
+/* No call of the library leaves a chip in loopback, so TIOCM_LOOP is added to what it writes. */
 static void write_register(void *context, uintptr_t address, uint8_t value)
 {
+	struct line *line = context;
+
+	if (line->loops && address - line->base == UART_MCR)
+		value |= UART_MCR_LOOP;
 	outb(value, address);
 }
 
@@ -143,10 +206,13 @@ static void report_later(struct line *line, const char *trouble, const char *det
 	schedule_work(&line->report);
 }
 
-/* Whether a call has failed. None of those that are asked about here does, unless this driver is wrong. */
+/*
+ * Whether a call has failed. None of those that are asked about here does, unless this driver is wrong; or the port has no chip, as after
+ * `setserial .. uart none`, and then there is nothing to do.
+ */
 static bool failed(struct line *line, const char *call, int status)
 {
-	if (status != U16550_OK)
+	if (status != U16550_OK && status != U16550_NOT_MADE)
 		report_later(line, call, u16550_text(status));
 	return status != U16550_OK;
 }
@@ -156,7 +222,8 @@ static void enable(struct line *line, u8 interrupts)
 	if ((line->interrupts & interrupts) == interrupts || line->is_broken)
 		return;
 	line->interrupts |= interrupts;
-	failed(line, "enable", u16550_enable_interrupts(&line->uart, interrupts));
+	if (!line->is_masked)
+		failed(line, "enable", u16550_enable_interrupts(&line->uart, interrupts));
 }
 
 static void disable(struct line *line, u8 interrupts)
@@ -171,23 +238,19 @@ static void disable(struct line *line, u8 interrupts)
 
 static bool has_more(struct uart_port *port)
 {
-	return port->x_char || (!uart_circ_empty(&port->state->xmit) && !uart_tx_stopped(port));
+	return port->x_char || (waiting(port) && !uart_tx_stopped(port));
 }
 
 static void send_burst(struct line *line)
 {
-	struct circ_buf *xmit = &line->port.state->xmit;
-	u8 burst[FIFO_SIZE];
-	size_t len = 0, sent = 0;
-	int at;
-
 	/* One array, also where the buffer ends: the chip takes one burst each time that it is empty, and half a one would cost as much. */
-	for (at = xmit->tail; at != xmit->head && len < sizeof(burst); at = (at + 1) & (UART_XMIT_SIZE - 1))
-		burst[len++] = xmit->buf[at];
+	u8 burst[FIFO_SIZE];
+	size_t len = peek(&line->port, burst, sizeof(burst)), sent = 0;
+
 	if (failed(line, "send", u16550_send_bytes(&line->uart, burst, len, &sent)))
 		return;
 	uart_xmit_advance(&line->port, sent);
-	if (uart_circ_chars_pending(xmit) < WAKEUP_CHARS)
+	if (waiting(&line->port) < WAKEUP_CHARS)
 		uart_write_wakeup(&line->port);
 }
 
@@ -321,7 +384,6 @@ static unsigned int get_mctrl(struct uart_port *port)
 	       (msr & UART_MSR_DSR ? TIOCM_DSR : 0) | (msr & UART_MSR_CTS ? TIOCM_CTS : 0);
 }
 
-/* TIOCM_LOOP is left out: no call of the library sets loopback but for the time of a test. */
 static u8 outputs_of(unsigned int mctrl)
 {
 	return (mctrl & TIOCM_DTR ? U16550_MCR_DTR : 0) | (mctrl & TIOCM_RTS ? U16550_MCR_RTS : 0) |
@@ -332,6 +394,7 @@ static void set_mctrl(struct uart_port *port, unsigned int mctrl)
 {
 	struct line *line = line_of(port);
 
+	line->loops = mctrl & TIOCM_LOOP;
 	failed(line, "set_modem_control", u16550_set_modem_control(&line->uart, outputs_of(mctrl)));
 }
 
@@ -432,22 +495,96 @@ static void leave(struct line *line, bool was_vain, u8 isr)
 	spin_unlock_irqrestore(&line->port.lock, flags);
 }
 
-static irqreturn_t handle(int irq, void *context)
+/* Serves what is pending. Returns how many interrupts that was. */
+static unsigned int run(struct line *line)
 {
-	struct line *line = context;
 	bool was_vain = true;
 	unsigned int served;
 	u8 isr = 0;
 
+	if (line->is_broken)
+		return 0;
 	for (served = 0; served < MOST_INTERRUPTS; served++) {
 		enum outcome outcome = serve_next(line, &isr);
 
 		if (outcome == IDLE)
-			return IRQ_RETVAL(served);
+			return served;
 		was_vain &= outcome == VAIN;
 	}
 	leave(line, was_vain, isr);
-	return IRQ_HANDLED;
+	return served;
+}
+
+static bool shares(struct line *line, unsigned int irq)
+{
+	return READ_ONCE(line->is_open) && line->port.irq == irq;
+}
+
+static void set_masked(struct line *line, bool is_masked)
+{
+	unsigned long flags;
+
+	spin_lock_irqsave(&line->port.lock, flags);
+	if (is_masked && line->is_open)
+		failed(line, "disable", u16550_disable_interrupts(&line->uart, 0xff));
+	if (!is_masked && line->is_masked)
+		failed(line, "enable", u16550_enable_interrupts(&line->uart, line->interrupts));
+	line->is_masked = is_masked && line->is_open;
+	spin_unlock_irqrestore(&line->port.lock, flags);
+}
+
+/*
+ * Ports that share an interrupt: while one of them is served, another one may keep their common line high, and a controller that detects
+ * edges would never call again. So the line is low here for a moment. If one of them has something then, the line rises.
+ */
+static void let_fall(unsigned int irq)
+{
+	int index, sharing = 0;
+
+	for (index = 0; index < port_count; index++)
+		sharing += shares(&lines[index], irq);
+	if (sharing < 2)
+		return;
+	for (index = 0; index < port_count; index++) {
+		if (shares(&lines[index], irq))
+			set_masked(&lines[index], true);
+	}
+	for (index = 0; index < port_count; index++)
+		set_masked(&lines[index], false);
+}
+
+static irqreturn_t handle(int irq, void *context)
+{
+	struct line *line = context;
+	unsigned int served = run(line);
+
+	if (served) {
+		WRITE_ONCE(line->has_come, true);
+		let_fall(irq);
+	}
+	return IRQ_RETVAL(served);
+}
+
+/* Whoever has named a wrong interrupt hears of it, and the port works, if slowly. */
+static void judge_interrupt(struct line *line, bool has_found)
+{
+	if (xchg(&line->has_come, false))
+		line->missed = 0;
+	else if (has_found && ++line->missed == MOST_MISSED) {
+		line->is_polled = true;
+		snprintf(line->which, sizeof(line->which), "interrupt %u", line->port.irq);
+		report_later(line, "a timer looks at the port from now on, since its interrupt does not come", line->which);
+	}
+}
+
+static void look(struct timer_list *timer)
+{
+	struct line *line = container_of(timer, struct line, timer);
+	bool has_found = run(line);
+
+	if (!line->is_polled)
+		judge_interrupt(line, has_found);
+	mod_timer(timer, jiffies + (line->is_polled ? uart_poll_timeout(&line->port) : LOOK));
 }
 
 /* ------------------------------------------------------------------ opening and closing */
@@ -457,8 +594,9 @@ static int set_up(struct line *line)
 {
 	struct u16550_setup setup = { 1, U16550_WAIT_NEVER, outputs_of(line->port.mctrl) };
 
-	line->interrupts = line->shown = line->vain_runs = 0;
-	line->is_broken = false;
+	line->interrupts = line->shown = line->vain_runs = line->missed = 0;
+	line->is_broken = line->has_come = line->is_masked = false;
+	line->is_polled = !line->port.irq;
 	return u16550_init_with(&line->uart, &line->config, &setup);
 }
 
@@ -484,14 +622,15 @@ static int startup(struct uart_port *port)
 	int status, error;
 
 	spin_lock_irqsave(&port->lock, flags);
-	port->mctrl |= TIOCM_OUT2;	/* on a PC the interrupt is connected by it */
+	if (port->irq)
+		port->mctrl |= TIOCM_OUT2;	/* on a PC the interrupt is connected by it */
 	status = set_up(line);
 	spin_unlock_irqrestore(&port->lock, flags);
 	if (status != U16550_OK) {
 		pr_err("%s: init: %s\n", line->name, u16550_text(status));
 		return -EIO;
 	}
-	error = request_irq(port->irq, handle, 0, line->name, line);
+	error = port->irq ? request_irq(port->irq, handle, IRQF_SHARED, line->name, line) : 0;
 	if (error) {
 		pr_err("%s: interrupt %u cannot be had: error %d\n", line->name, port->irq, error);
 		silence(port);
@@ -502,13 +641,18 @@ static int startup(struct uart_port *port)
 	line->is_open = true;
 	enable(line, U16550_IER_DATA_READY | U16550_IER_RECEIVER_LINE_STATUS);
 	spin_unlock_irqrestore(&port->lock, flags);
+	mod_timer(&line->timer, jiffies + 1);
 	return 0;
 }
 
 static void shutdown(struct uart_port *port)
 {
+	struct line *line = line_of(port);
+
 	silence(port);
-	free_irq(port->irq, line_of(port));
+	if (port->irq)
+		free_irq(port->irq, line);
+	timer_delete_sync(&line->timer);
 }
 
 /* ------------------------------------------------------------------ baud rate, frame, and what the tty layer wants to know */
@@ -549,23 +693,38 @@ static u64 patience(unsigned int baud)
 	return max(8 * FIFO_SIZE * 12 * 1000000u / baud, 200000u);
 }
 
-/* Sets the nearest rate that the chip has, and the frame. Returns the rate. */
+/* The divisor that the user has set for 38,400 baud by `setserial .. spd_cust`, or 0 if there is none. */
+static unsigned int own_divisor(const struct uart_port *port, unsigned int baud)
+{
+	return baud == 38400 && (port->flags & UPF_SPD_MASK) == UPF_SPD_CUST ? port->custom_divisor : 0;
+}
+
+static int set_patience(struct line *line, unsigned int baud)
+{
+	line->patience = patience(baud);
+	u16550_set_spin_limit(&line->debugger, line->patience);
+	return u16550_set_spin_limit(&line->uart, line->patience);
+}
+
+/* Sets the nearest rate that the chip has, or the user's divisor, and the frame. Returns the rate. */
 static unsigned int set_frame(struct line *line, const struct ktermios *termios, unsigned int baud)
 {
+	unsigned int divisor = own_divisor(&line->port, baud);
 	struct u16550_config config = line->config;
 
-	config.frequency = line->port.uartclk;
-	config.baud_rate = baud;
+	/* At 16 Hz for each of the divisor's, it makes one baud exactly. */
+	config.frequency = divisor ? 16 * divisor : line->port.uartclk;
+	config.baud_rate = divisor ? 1 : baud;
 	config.data_bits = tty_get_char_size(termios->c_cflag);
 	config.extra_stop_bits = !!(termios->c_cflag & CSTOPB);
 	config.parity = parity_of(termios);
 	/* However far it is: the user reads the rate back. The configuration then has the frequency at which the divisor is exact. */
 	if (failed(line, "nearest", u16550_nearest(&config, 1000, &config)))
-		return line->config.baud_rate;
+		return baud;
 	/* No byte is lost that is in the FIFOs, and RTS and DTR stay as they are. */
 	failed(line, "set_frame", u16550_set_frame(&line->uart, &config));
 	line->config = config;
-	return DIV_ROUND_CLOSEST(line->port.uartclk, config.frequency / baud);
+	return max(DIV_ROUND_CLOSEST(line->port.uartclk, config.frequency / config.baud_rate), 1u);
 }
 
 /* Lets a chip interrupt again that was given up. The port of a console is not closed, so to open it again would not help. */
@@ -583,12 +742,12 @@ static void set_termios(struct uart_port *port, struct ktermios *new, const stru
 {
 	struct line *line = line_of(port);
 	unsigned int slowest = DIV_ROUND_UP(port->uartclk, 16 * 0xffff), fastest = port->uartclk / 16;
-	unsigned int baud = uart_get_baud_rate(port, new, old, slowest, fastest);
+	unsigned int wanted = uart_get_baud_rate(port, new, old, slowest, fastest), baud;
 	unsigned long flags;
 
 	spin_lock_irqsave(&port->lock, flags);
-	baud = set_frame(line, new, baud);
-	u16550_set_spin_limit(&line->uart, patience(baud));
+	baud = set_frame(line, new, wanted);
+	set_patience(line, baud);
 	uart_update_timeout(port, new->c_cflag, baud);
 	set_masks(port, new);
 	start_again(line);
@@ -598,6 +757,9 @@ static void set_termios(struct uart_port *port, struct ktermios *new, const stru
 		disable(line, U16550_IER_MODEM_STATUS);
 	/* A console has DTR raised so before anybody opens the port. */
 	set_mctrl(port, port->mctrl);
+	/* Programs go on to ask for 38,400 baud where the user has set another divisor for it. */
+	if (own_divisor(port, wanted))
+		baud = wanted;
 	spin_unlock_irqrestore(&port->lock, flags);
 	if (tty_termios_baud_rate(new))
 		tty_termios_encode_baud_rate(new, baud, baud);
@@ -607,35 +769,98 @@ static void set_termios(struct uart_port *port, struct ktermios *new, const stru
 
 static const char *type(struct uart_port *port)
 {
-	return port->type == PORT_16550A ? "16550A" : NULL;
+	switch (port->type) {
+	case PORT_16550A:
+		return "16550A";
+	case PORT_16450:
+		return "16450";
+	}
+	return NULL;
 }
 
-static int request_port(struct uart_port *port)
-{
-	return request_region(port->iobase, REGISTERS, KBUILD_MODNAME) ? 0 : -EBUSY;
-}
-
-static void release_port(struct uart_port *port)
-{
-	release_region(port->iobase, REGISTERS);
-}
-
-/* Whether there is a chip that works. */
-static int find_chip(struct line *line)
+/* Makes the library's drivers for the chip at these ports, without an access. The first one is made last: it is what a console looks at. */
+static int make_drivers(struct line *line)
 {
 	struct u16550_io io = io_of(line);
-	int status = u16550_new_port(&line->uart, &io, line->port.iobase);
+	int status = u16550_new_port(&line->debugger, &io, line->port.iobase);
 
 	if (status == U16550_OK)
 		status = u16550_default_config(&line->config);
 	line->config.frequency = line->port.uartclk;
-	line->config.fifo_trigger_level = TRIGGER_LEVEL;
+	line->config.fifo_trigger_level = line->port.type == PORT_16450 ? 0 : TRIGGER_LEVEL;
 	/* serial_core looks at CTS, if the user wants that. */
 	line->config.check_cts_before_sending = 0;
+	line->base = line->port.iobase;
 	if (status == U16550_OK)
-		status = u16550_set_spin_limit(&line->uart, patience(line->config.baud_rate));
+		status = u16550_new_port(&line->uart, &io, line->port.iobase);
 	if (status == U16550_OK)
+		status = set_patience(line, line->config.baud_rate);
+	return status;
+}
+
+/*
+ * Takes the chip's ports, and makes the drivers for them. serial_core calls this also when a port was moved by `setserial .. port`: nobody
+ * may drive ports that he does not have.
+ */
+static int request_port(struct uart_port *port)
+{
+	struct line *line = line_of(port);
+	unsigned long flags;
+	int status;
+
+	if (!request_region(port->iobase, REGISTERS, KBUILD_MODNAME))
+		return -EBUSY;
+	spin_lock_irqsave(&port->lock, flags);
+	status = make_drivers(line);
+	spin_unlock_irqrestore(&port->lock, flags);
+	if (status == U16550_OK)
+		return 0;
+	pr_err("%s: no driver for %#lx: %s\n", line->name, port->iobase, u16550_text(status));
+	release_region(port->iobase, REGISTERS);
+	return -EINVAL;
+}
+
+/* Gives the ports back that this line has, whatever serial_core believes that they are, and ends the drivers: they can reach nothing then. */
+static void release_port(struct uart_port *port)
+{
+	struct line *line = line_of(port);
+	unsigned long flags, base;
+
+	/* Nobody closes the port of a console. */
+	if (line->is_open)
+		shutdown(port);
+	spin_lock_irqsave(&port->lock, flags);
+	u16550_end(&line->uart);
+	u16550_end(&line->debugger);
+	base = line->base;
+	line->base = 0;
+	spin_unlock_irqrestore(&port->lock, flags);
+	if (base)
+		release_region(base, REGISTERS);
+}
+
+/* Whether the FIFOs are on, once they were turned on. A 16450 has none. */
+static bool has_fifos(struct line *line)
+{
+	u8 isr = 0;
+
+	failed(line, "isr", u16550_isr(&line->uart, &isr));
+	return (isr & 0xc0) == 0xc0;
+}
+
+/* Whether there is a chip that works, and which. */
+static int find_chip(struct line *line)
+{
+	int status;
+
+	line->loops = false;
+	line->port.mctrl &= ~TIOCM_LOOP;
+	status = set_up(line);
+	if (status == U16550_OK && !has_fifos(line)) {
+		line->port.type = PORT_16450;
+		line->config.fifo_trigger_level = 0;
 		status = set_up(line);
+	}
 	if (status == U16550_OK)
 		status = u16550_test_loopback(&line->uart, NULL);
 	if (status == U16550_OK)
@@ -651,7 +876,9 @@ static void config_port(struct uart_port *port, int what)
 
 	if (!(what & UART_CONFIG_TYPE))
 		return;
+	port->type = PORT_16550A;
 	if (request_port(port)) {
+		port->type = PORT_UNKNOWN;
 		pr_err("%s: the ports at %#lx belong to another driver\n", line->name, port->iobase);
 		return;
 	}
@@ -661,16 +888,61 @@ static void config_port(struct uart_port *port, int what)
 	if (status != U16550_OK) {
 		pr_err("%s: no chip at %#lx: %s\n", line->name, port->iobase, u16550_text(status));
 		release_port(port);
+		port->type = PORT_UNKNOWN;
 		return;
 	}
-	port->type = PORT_16550A;
 	pr_info("%s: a chip at %#lx with interrupt %u has passed the loopback test\n", line->name, port->iobase, port->irq);
 }
 
+/* What a user may set by TIOCSSERIAL. What else he asks for changes nothing. */
 static int verify_port(struct uart_port *port, struct serial_struct *wanted)
 {
-	return wanted->type == PORT_UNKNOWN || wanted->type == PORT_16550A ? 0 : -EINVAL;
+	if (wanted->type != PORT_UNKNOWN && wanted->type != PORT_16450 && wanted->type != PORT_16550A)
+		return -EINVAL;
+	if (wanted->io_type != UPIO_PORT || wanted->iomem_base || wanted->iomem_reg_shift || wanted->hub6)
+		return -EINVAL;
+	if (!wanted->port || wanted->port > LAST_PORT - (REGISTERS - 1) || wanted->port_high)
+		return -EINVAL;
+	if (wanted->custom_divisor < 0 || wanted->custom_divisor > LARGEST_DIVISOR)
+		return -EINVAL;
+	/* The kernel's log goes on to come, and would find no chip, or one that nobody has set up. */
+	if (uart_console(port) && (wanted->port != port->iobase || wanted->type != port->type))
+		return -EBUSY;
+	return 0;
 }
+
+/* ------------------------------------------------------------------ a port for a debugger */
+
+#ifdef CONFIG_CONSOLE_POLL
+/*
+ * kgdb stops all processors, perhaps in the middle of a call, and lets them go on afterwards. So it has a driver of its own, which
+ * reads LSR and moves single characters. While the divisor latch is open there are no characters: it stays so until they go on.
+ */
+static bool has_characters(struct line *line)
+{
+	u8 lcr;
+
+	return u16550_lcr(&line->debugger, &lcr) == U16550_OK && !(lcr & UART_LCR_DLAB);
+}
+
+static int poll_get_char(struct uart_port *port)
+{
+	struct line *line = line_of(port);
+	u8 byte;
+
+	if (!has_characters(line) || u16550_try_receive_byte(&line->debugger, &byte) != U16550_OK)
+		return NO_POLL_CHAR;
+	return byte;
+}
+
+static void poll_put_char(struct uart_port *port, unsigned char character)
+{
+	struct line *line = line_of(port);
+
+	if (has_characters(line))
+		u16550_send_bytes_exact(&line->debugger, &character, 1, NULL);
+}
+#endif
 
 static const struct uart_ops operations = {
 	.tx_empty = tx_empty,
@@ -689,6 +961,10 @@ static const struct uart_ops operations = {
 	.request_port = request_port,
 	.config_port = config_port,
 	.verify_port = verify_port,
+#ifdef CONFIG_CONSOLE_POLL
+	.poll_get_char = poll_get_char,
+	.poll_put_char = poll_put_char,
+#endif
 };
 
 /* ------------------------------------------------------------------ a port as console */
@@ -724,11 +1000,12 @@ static void take_over(struct line *line)
 {
 	struct u16550_io io = io_of(line);
 
-	if (line->is_taken_over)
+	if (line->is_taken_over || !line->base)
 		return;
 	line->is_taken_over = true;
-	u16550_new_port(&line->last_words, &io, line->port.iobase);
-	u16550_set_spin_limit(&line->last_words, patience(line->config.baud_rate));
+	line->loops = false;
+	u16550_new_port(&line->last_words, &io, line->base);
+	u16550_set_spin_limit(&line->last_words, line->patience);
 	u16550_emergency(&line->last_words);
 }
 
@@ -743,7 +1020,7 @@ static void put_character(struct uart_port *port, unsigned char character)
 
 static void console_write(struct console *console, const char *text, unsigned int len)
 {
-	struct line *line = lines[console->index];
+	struct line *line = &lines[console->index];
 	unsigned long flags;
 	bool is_locked = lock_for_console(line, &flags);
 
@@ -765,8 +1042,8 @@ static int console_setup(struct console *console, char *options)
 
 	if (console->index < 0 || console->index >= port_count)
 		return -ENODEV;
-	line = lines[console->index];
-	if (!line || line->port.type == PORT_UNKNOWN)
+	line = &lines[console->index];
+	if (line->port.type == PORT_UNKNOWN)
 		return -ENODEV;
 	if (options)
 		uart_parse_options(options, &baud, &parity, &bits, &flow);
@@ -783,8 +1060,6 @@ static struct console the_console = {
 	.data = &driver,
 };
 
-/* ------------------------------------------------------------------ the module */
-
 static struct uart_driver driver = {
 	.owner = THIS_MODULE,
 	.driver_name = KBUILD_MODNAME,
@@ -792,18 +1067,82 @@ static struct uart_driver driver = {
 	.nr = MOST_PORTS,
 };
 
+/* ------------------------------------------------------------------ sleep */
+
+/* Keeps the registers of a port that does not sleep itself: that of a console with no_console_suspend. The chip loses them all the same. */
+static void keep_registers(struct line *line)
+{
+	unsigned long flags;
+
+	spin_lock_irqsave(&line->port.lock, flags);
+	failed(line, "dump", u16550_config_register_dump(&line->uart, &line->registers));
+	spin_unlock_irqrestore(&line->port.lock, flags);
+}
+
+/* Writes them back, unless the chip has kept them: that would empty its FIFOs. */
+static void restore_registers(struct line *line)
+{
+	unsigned long flags;
+	u8 ier;
+
+	spin_lock_irqsave(&line->port.lock, flags);
+	if (!failed(line, "ier", u16550_ier(&line->uart, &ier)) && ier != line->registers.ier)
+		failed(line, "restore", u16550_restore(&line->uart, &line->registers));
+	spin_unlock_irqrestore(&line->port.lock, flags);
+}
+
+/* serial_core closes the chip of a port that is open, and sets it up again afterwards. */
+static int suspend(struct device *unused)
+{
+	int index;
+
+	for (index = 0; index < port_count; index++) {
+		struct line *line = &lines[index];
+
+		uart_suspend_port(&driver, &line->port);
+		if (line->is_open)
+			keep_registers(line);
+	}
+	return 0;
+}
+
+static int resume(struct device *unused)
+{
+	int index;
+
+	for (index = 0; index < port_count; index++) {
+		struct line *line = &lines[index];
+
+		if (line->is_open)
+			restore_registers(line);
+		uart_resume_port(&driver, &line->port);
+	}
+	return 0;
+}
+
+static DEFINE_SIMPLE_DEV_PM_OPS(sleep, suspend, resume);
+
+/* The device that all ports belong to. It is there for sleep, and for what /sys shows. */
+static struct platform_driver platform_driver = {
+	.driver = {
+		.name = KBUILD_MODNAME,
+		.pm = pm_sleep_ptr(&sleep),
+	},
+};
+
 static struct platform_device *device;
+
+/* ------------------------------------------------------------------ the module */
 
 static int add_line(int index)
 {
-	struct line *line = kzalloc(sizeof(*line), GFP_KERNEL);
+	struct line *line = &lines[index];
 	int error;
 
-	if (!line)
-		return -ENOMEM;
 	snprintf(line->name, sizeof(line->name), "%s%d", driver.dev_name, index);
 	spin_lock_init(&line->port.lock);
 	INIT_WORK(&line->report, report);
+	timer_setup(&line->timer, look, 0);
 	line->port.ops = &operations;
 	line->port.line = index;
 	line->port.iotype = UPIO_PORT;
@@ -814,12 +1153,8 @@ static int add_line(int index)
 	line->port.flags = UPF_BOOT_AUTOCONF;
 	line->port.has_sysrq = IS_ENABLED(CONFIG_MAGIC_SYSRQ_SERIAL);
 	line->port.dev = &device->dev;
-	lines[index] = line;
 	error = uart_add_one_port(&driver, &line->port);
-	if (error) {
-		lines[index] = NULL;
-		kfree(line);
-	}
+	line->is_added = !error;
 	return error;
 }
 
@@ -828,15 +1163,10 @@ static void remove_lines(void)
 	int index;
 
 	for (index = 0; index < port_count; index++) {
-		if (!lines[index])
+		if (!lines[index].is_added)
 			continue;
-		uart_remove_one_port(&driver, &lines[index]->port);
-		/* Nobody closes the port of a console. */
-		if (lines[index]->is_open)
-			shutdown(&lines[index]->port);
-		flush_work(&lines[index]->report);
-		kfree(lines[index]);
-		lines[index] = NULL;
+		uart_remove_one_port(&driver, &lines[index].port);
+		flush_work(&lines[index].report);
 	}
 }
 
@@ -849,14 +1179,19 @@ static int __init begin(void)
 		return -EINVAL;
 	}
 	for (index = 0; index < port_count; index++) {
-		if (ports[index] > LAST_PORT - (REGISTERS - 1)) {
+		if (!ports[index] || ports[index] > LAST_PORT - (REGISTERS - 1)) {
 			pr_err("there is no port %#x\n", ports[index]);
 			return -EINVAL;
 		}
 	}
+	error = platform_driver_register(&platform_driver);
+	if (error)
+		return error;
 	device = platform_device_register_simple(KBUILD_MODNAME, PLATFORM_DEVID_NONE, NULL, 0);
-	if (IS_ERR(device))
-		return PTR_ERR(device);
+	if (IS_ERR(device)) {
+		error = PTR_ERR(device);
+		goto without_device;
+	}
 	if (with_console)
 		driver.cons = &the_console;
 	error = uart_register_driver(&driver);
@@ -874,6 +1209,8 @@ without_lines:
 	uart_unregister_driver(&driver);
 without_driver:
 	platform_device_unregister(device);
+without_device:
+	platform_driver_unregister(&platform_driver);
 	return error;
 }
 
@@ -882,6 +1219,7 @@ static void __exit end(void)
 	remove_lines();
 	uart_unregister_driver(&driver);
 	platform_device_unregister(device);
+	platform_driver_unregister(&platform_driver);
 }
 
 module_init(begin);

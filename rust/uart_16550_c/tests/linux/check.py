@@ -1,11 +1,12 @@
 #!/usr/bin/env python3
-"""Tries u16550_tty in a guest, and beside Linux's own driver on the same port: check.py [--whole] WORK KERNEL INITRAMFS LINES.so
+"""Tries u16550_tty in a guest, and beside Linux's own driver on the same port: check.py [--whole] --lines LINES.so WORK KERNEL INITRAMFS
 
 Without --whole it makes the checks that take a minute together. Prints a line for each check, and what the two drivers came to. The last
 line is 'N passed, M failed', and the status is 0 if nothing failed.
 
-The guest's ports are: one whose other end is here; two that are joined; one with modem lines, which lines.c gives it; and one for the
-guest's shell, which is a PCI card, since a PC has four others. Linux's own driver keeps this and one of the two that are joined.
+The guest's ports are: one whose other end is here; two that are joined, one of which shares the interrupt of the first; one with modem
+lines, which lines.c gives it; and one for the guest's shell, which is a PCI card, since a PC has four others. Linux's own driver keeps this
+and one of the two that are joined.
 """
 import argparse
 import mmap
@@ -18,10 +19,13 @@ import tty
 
 sys.dont_write_bytecode = True
 
-from guest import RECEIVED, SENT, Guest, Line, Task, Unexpected, stream
+from guest import CLOCK, RECEIVED, SENT, Guest, Line, Task, Unexpected, stream
 
 OWN, HERE, JOINED, OTHER, MODEM = "ttyS1", "ttyP0", "ttyP1", "ttyS3", "ttyP2"
-PORTS = "ports=0x2f8,0x3e8,0x3f8 irqs=3,5,4"
+PORTS = "ports=0x2f8,0x3e8,0x3f8 irqs=3,3,4"
+NOBODYS = 0x2D8  # here is neither a chip nor a driver
+UNUSED_INTERRUPT = 6
+UNKNOWN, C16450, C16550A, CUSTOM_DIVISOR = 0, 2, 4, 0x30  # of linux/serial_core.h and linux/tty_flags.h
 TAKEN = ("0x2f8", "0x3e8", "0x3f8")  # Linux's own driver has these at first
 RTS, DTR, CTS, CARRIER, DSR = 4, 2, 0x20, 0x40, 0x100
 CONNECTED = CTS | CARRIER | DSR
@@ -55,13 +59,13 @@ class Modem:
     def breaks(self):
         return struct.unpack_from("<i", self.shared, 8)[0]
 
-    def receive(self, seconds):
-        """What comes until nothing has come for so long."""
-        came, last = bytearray(), time.monotonic()
-        while time.monotonic() - last < seconds:
+    def receive(self, seconds, wanted=1 << 40):
+        """What comes until nothing has come for so long, or these are so many bytes."""
+        came, last = bytearray(), CLOCK.now()
+        while CLOCK.now() - last < seconds and len(came) < wanted:
             try:
                 came += os.read(self.end, 4096)
-                last = time.monotonic()
+                last = CLOCK.now()
             except BlockingIOError:
                 time.sleep(0.01)
         return bytes(came)
@@ -71,13 +75,13 @@ class Bench:
     """The guest with its ports, and what was found."""
 
     def __init__(self, work, kernel, initramfs, lines, whole):
-        self.whole, self.passed, self.failed = whole, 0, 0
+        self.whole, self.passed, self.failed, self.log = whole, 0, 0, ""
         self.modem = Modem(work)
         self.trace = f"{work}/trace"
         ports = []
         for name, chardev, base, interrupt in (
                 ("here", f"socket,path={work}/here,server=on,wait=off", 0x2F8, 3),
-                ("joined", f"socket,path={work}/joined,server=on,wait=off", 0x3E8, 5),
+                ("joined", f"socket,path={work}/joined,server=on,wait=off", 0x3E8, 3),
                 ("other", f"socket,path={work}/joined,server=off", 0x2E8, 7),
                 ("modem", f"serial,path={self.modem.name}", 0x3F8, 4)):
             ports += ["-chardev", f"{chardev},id={name}", "-device", f"isa-serial,chardev={name},iobase={base:#x},irq={interrupt}"]
@@ -109,6 +113,12 @@ class Bench:
     def insert(self, more=""):
         return self.run(f"insmod /modules/u16550_tty.ko {PORTS} {more}; dmesg | tail -20")
 
+    def take_log(self):
+        """What the kernel has said since the last time. It is kept for the check that nothing is wrong."""
+        news = self.run("dmesg -c")
+        self.log += news
+        return news
+
     def task(self, command):
         return Task(self.guest, command)
 
@@ -136,16 +146,173 @@ def finds_chips(bench):
     bench.judge("three chips are found, and pass the loopback test", told.count("has passed the loopback test") == 3, told)
 
 
-def shares_no_interrupt(bench):
-    """An interrupt that another port has."""
-    bench.run("rmmod u16550_tty; insmod /modules/u16550_tty.ko ports=0x2f8,0x3e8 irqs=3,3; sleep 3 < /dev/ttyP0 &")
-    time.sleep(0.5)
-    # Whoever may set a port up may open it also if it does not work.
-    told = bench.run("echo a 2>&1 > /dev/ttyP1; dmesg | tail -2")
-    bench.judge("a port whose interrupt another has does not work, and the kernel's log says why",
-                "Input/output error" in told and "ttyP1: interrupt 3 cannot be had: error -16" in told, told)
-    time.sleep(3)
+def insert_with(bench, ports):
+    """Inserts the module with these ports instead."""
     bench.run("rmmod u16550_tty")
+    bench.take_log()
+    return bench.run(f"insmod /modules/u16550_tty.ko {ports}; dmesg")
+
+
+def insert_again(bench):
+    bench.run("rmmod u16550_tty")
+    bench.insert()
+
+
+def both_work(bench, device, size):
+    """So many bytes each way over a port, and meanwhile over the two that are joined."""
+    # Both are open and set up before the first sends.
+    bench.run(f"for port in {JOINED} {OTHER}; do stty -F /dev/$port raw -echo 115200; sleep 1000 < /dev/$port & done; "
+              "jobs -p > /tmp/keepers")
+    tasks = [bench.task(f"terminal transfer /dev/{one} {size} {size} 0 {SENT}") for one in (JOINED, OTHER)]
+    good, told = bench.transfer(device, size, size, 120)
+    for task in tasks:
+        ended = task.result(120)
+        told += ended
+        good = good and f"sent {size} of {size}, received {size} of {size}, wrong 0, overruns 0" in ended
+    bench.run("kill $(cat /tmp/keepers)")
+    return good, told
+
+
+def shares_an_interrupt(bench):
+    """Two ports on one line of a controller that detects edges, and each of the two alone."""
+    good, told = both_work(bench, HERE, 60_000 if bench.whole else 20_000)
+    bench.judge("two ports share an interrupt, and both move bytes", good, told)
+    good, told = bench.transfer(HERE, 2000, 2000)
+    bench.judge("the first goes on when the second is closed", good, told)
+
+
+def needs_no_interrupt(bench):
+    told = insert_with(bench, "ports=0x2f8 irqs=0")
+    good, more = bench.transfer(HERE, 5000, 5000, 120)
+    bench.judge("without an interrupt a timer looks at the port", good, told + more)
+    told = insert_with(bench, f"ports=0x2f8 irqs={UNUSED_INTERRUPT}")
+    good, more = bench.transfer(HERE, 5000, 5000, 120)
+    more += bench.run("dmesg")
+    wanted = f"{HERE}: a timer looks at the port from now on, since its interrupt does not come: interrupt {UNUSED_INTERRUPT}"
+    bench.judge("with a wrong interrupt too, and the kernel's log says so", good and wanted in more, told + more)
+    insert_again(bench)
+
+
+def regions(bench):
+    """The I/O ports that the module has."""
+    return bench.run("grep u16550_tty /proc/ioports").split()[::3]
+
+
+def moves_a_port(bench):
+    told = insert_with(bench, "ports=0x2f8 irqs=3")
+    more = bench.run(f"terminal set /dev/{HERE} port=0x2e8")
+    good, moved = bench.transfer(HERE, 500, 500)
+    bench.judge("a port is not moved to one that another driver has, and goes on where it is",
+                "set: Device or resource busy, type 4, port 0x2f8" in more and good, told + more + moved)
+    more = bench.run(f"terminal set /dev/{HERE} port=0x3e8; grep . /proc/ioports")
+    task = bench.task(f"stty -F /dev/{OTHER} raw -echo 115200; echo ready; head -c 6 /dev/{OTHER}").ready()
+    bench.here.drain(0.2)
+    bench.run(f"stty -F /dev/{HERE} raw -echo 115200; echo moved > /dev/{HERE}")
+    came = task.wait_for("moved", 10)
+    here = bench.here.drain(0.3)
+    bench.judge("a port is moved to another chip, with its region",
+                "set: done, type 4, port 0x3e8" in more and "moved" in came and not here and regions(bench) == ["03e8-03ef"],
+                f"{more}{came}{here}{regions(bench)}")
+    # Linux's own driver can have the port that was left. Then there are two drivers, each on its own chip.
+    bench.run(f"echo {bench.devices['0x2f8']} > /sys/bus/pnp/drivers/serial/bind")
+    good, told = bench.transfer(OWN, 500, 500)
+    more = bench.run(f"terminal set /dev/{HERE} port=0x2f8")
+    bench.judge("the port that was left can be had by Linux's own driver, and then not be had back",
+                good and "set: Device or resource busy, type 4, port 0x3e8" in more, told + more)
+    bench.run(f"echo {bench.devices['0x2f8']} > /sys/bus/pnp/drivers/serial/unbind")
+    more = bench.run(f"terminal set /dev/{HERE} port=0x2f8")
+    good, told = bench.transfer(HERE, 500, 500)
+    bench.judge("moved back, it works", good and "port 0x2f8" in more, told + more)
+
+
+def finds_no_chip(bench):
+    told = insert_with(bench, "ports=0x2f8 irqs=3")
+    told += bench.run(f"terminal set /dev/{HERE} port={NOBODYS:#x}; terminal find /dev/{HERE}; terminal set /dev/{HERE}")
+    bench.judge("where no chip is found the port has no type and no region",
+                f"type {UNKNOWN}, port {NOBODYS:#x}" in told and not regions(bench), told)
+    more = bench.run(f"stty -F /dev/{HERE} 9600 2>&1; stty -F /dev/{HERE} 115200; echo a > /dev/{HERE}; "
+                     f"terminal set /dev/{HERE} port=0x2f8 type={C16550A}") + bench.take_log()
+    # This is what is wanted here.
+    bench.log = bench.log.replace("init: there is no device", "")
+    good, moved = bench.transfer(HERE, 500, 500)
+    bench.judge("a chip is named again, and works; nothing was freed that was not had",
+                good and f"set: done, type {C16550A}, port 0x2f8" in more and "nonexistent" not in more and regions(bench) == ["02f8-02ff"],
+                more + moved)
+    insert_again(bench)
+
+
+def is_another_chip(bench):
+    more = bench.run(f"terminal set /dev/{HERE} type={C16450}")
+    good, told = bench.transfer(HERE, 3000, 3000)
+    bench.judge("as a 16450 the port works, without a FIFO", good and f"set: done, type {C16450}" in more, more + told)
+    more = bench.run(f"terminal set /dev/{HERE} type=17; terminal set /dev/{HERE} type={C16550A}")
+    good, told = bench.transfer(HERE, 3000, 3000)
+    bench.judge("another type is refused",
+                good and f"set: Invalid argument, type {C16450}" in more and f"set: done, type {C16550A}" in more, more + told)
+
+
+def divisors(bench, command):
+    """The low bytes of the divisors that a command has written."""
+    with open(bench.trace, "wb"):
+        pass
+    bench.guest.tell_monitor("trace-event serial_write on")
+    told = bench.run(command)
+    bench.guest.tell_monitor("trace-event serial_write off")
+    found, latch = [], False
+    with open(bench.trace, encoding="utf-8", errors="replace") as trace:
+        for row in trace:
+            if match := re.search(r"serial_write write addr 0x0(\d) val 0x(\w+)", row):
+                register, value = int(match[1]), int(match[2], 16)
+                if register == 3:
+                    latch = value & 0x80
+                elif register == 0 and latch:
+                    found.append(value)
+    return found, told
+
+
+def has_a_divisor_of_its_own(bench):
+    divisor = 77
+    found, told = divisors(bench, f"terminal set /dev/{HERE} flags={CUSTOM_DIVISOR:#x} divisor={divisor}; stty -F /dev/{HERE} 38400; "
+                                  f"stty -F /dev/{HERE}")
+    bench.judge("with spd_cust 38,400 baud is the divisor that the user has set",
+                found[-1:] == [divisor] and "speed 38400 baud" in told, f"{found}{told}")
+    found, told = divisors(bench, f"terminal set /dev/{HERE} flags=0; stty -F /dev/{HERE} 115200; stty -F /dev/{HERE} 38400")
+    bench.judge("without it, it is 3", found[-1:] == [3], f"{found}{told}")
+
+
+def loops_back(bench):
+    told = bench.run(f"terminal loop /dev/{HERE} 100")
+    came = bench.here.drain(0.3)
+    bench.judge("with TIOCM_LOOP what is sent comes back, and nothing goes out",
+                "loop: sent 100, came 100" in told and not came, f"{told}{came}")
+    good, told = bench.transfer(HERE, 500, 500)
+    bench.judge("without it again, it goes out", good, told)
+
+
+def sleep_and_wake(bench):
+    """Suspends the machine to memory, and wakes it up. The chips have no power meanwhile."""
+    bench.guest.count += 1
+    bench.guest.shell.send(b"echo deep > /sys/power/mem_sleep; echo mem > /sys/power/state\n")
+    end = CLOCK.now() + 60
+    while "suspended" not in (told := bench.guest.tell_monitor("info status")) and CLOCK.now() < end:
+        time.sleep(0.1)
+    bench.guest.tell_monitor("system_wakeup")
+    return told + bench.guest.read_until(rb"shell: done %d (\d+)\r?\n" % bench.guest.count, 120)
+
+
+def hears_after_sleep(bench):
+    for more, console_sleeps in ("", "Y"), ("console=1", "N"):
+        bench.run(f"rmmod u16550_tty; echo {console_sleeps} > /sys/module/printk/parameters/console_suspend")
+        bench.insert(more)
+        bench.here.drain(0.5)
+        task = bench.task(f"terminal transfer /dev/{HERE} 0 3000 0").ready()
+        told = sleep_and_wake(bench)
+        bench.here.drain(0.5)
+        bench.here.exchange(stream(3000, RECEIVED), 0, 10)
+        told += task.result(60)
+        bench.judge(f"a port that is open hears after suspend to memory{', also a console that does not sleep' if more else ''}",
+                    "suspended" in told and "received 3000 of 3000, wrong 0, overruns 0" in told, told)
+    bench.run("rmmod u16550_tty; echo Y > /sys/module/printk/parameters/console_suspend")
     bench.insert()
 
 
@@ -205,7 +372,7 @@ def waits_for_cts(bench):
     task = bench.task(f"terminal flow /dev/{MODEM} 5000").ready()
     held = bench.modem.receive(0.5)
     bench.modem.put(CONNECTED)
-    came = bench.modem.receive(1.5)
+    came = bench.modem.receive(10, 5000)
     told = task.result()
     bench.judge("without CTS nothing is sent, and all when CTS comes", not held and came == stream(5000, SENT),
                 f"{told}{len(held)} before, {len(came)} after")
@@ -437,6 +604,24 @@ def gives_up_a_broken_chip(bench):
     bench.judge("set again, the port works", good, told)
 
 
+def debugs(bench):
+    """A module that is built for a kernel with kgdb. In the emulator's transmitter there is always room."""
+    bench.run("rmmod u16550_tty; insmod /modules/debugged.ko ports=0x2f8 irqs=3")
+    task = bench.task(f"(echo ready; sleep 5) < /dev/{HERE}").ready()
+    bench.here.drain(0.3)
+    bench.run("insmod /modules/faults.ko fault=debugger symbol=debugged:read_register")
+    stop = bench.task(f"stty -F /dev/{HERE} 9600")
+    came = bench.here.until(b"stopped\n", 10)
+    bench.here.send(b"g")
+    came += bench.here.until(b"g", 20)
+    told = stop.result() + bench.run("rmmod faults") + task.result()
+    good, more = bench.transfer(HERE, 500, 500)
+    bench.judge("a debugger talks from the middle of a call, and the port goes on",
+                came.endswith(b"stopped\ng") and good, f"{came}{told}{more}")
+    bench.run("rmmod debugged")
+    bench.insert()
+
+
 def is_removed_while_busy(bench):
     task = bench.task(f"terminal transfer /dev/{HERE} 10000000 0 0").ready()
     bench.here.exchange(b"", 50_000, 5)
@@ -444,8 +629,9 @@ def is_removed_while_busy(bench):
     bench.here.drain(0.3)
     ended = task.result()
     bench.judge("removed while a program sends: it is hung up", "u16550_tty" not in told and "hangup" in ended, told + ended)
-    told = bench.run("dmesg | grep -E 'WARNING|BUG|Oops|Unknown symbol|u16550_tty: ttyP.: [a-z_]+:'")
-    bench.judge("the kernel and the driver have found nothing wrong until here", not told.strip(), told)
+    bench.take_log()
+    wrong = re.findall(r".*(?:WARNING|BUG|Oops|Unknown symbol|u16550_tty: ttyP.: [a-z_]+:).*", bench.log)
+    bench.judge("the kernel and the driver have found nothing wrong until here", not wrong, "\n".join(wrong))
 
 
 def writes_in_a_panic(bench):
@@ -459,19 +645,21 @@ def writes_in_a_panic(bench):
                 came.count(b"in the middle of a call") == 2 and b" u16550_init_with+" in came and b" startup+" in came, came)
 
 
-QUICK = (takes_no_port_of_another, finds_chips, shares_no_interrupt, moves_bytes, sets_rates, changes_speed, has_modem_lines,
-         waits_for_cts, sends_breaks, marks_breaks, obeys_xoff, logs_in, is_a_console, gives_up_a_broken_chip, is_removed_while_busy,
-         writes_in_a_panic)
-WHOLE = (takes_no_port_of_another, finds_chips, shares_no_interrupt, moves_bytes, sets_rates, opens_and_closes, changes_speed,
+QUICK = (takes_no_port_of_another, finds_chips, shares_an_interrupt, needs_no_interrupt, moves_a_port, finds_no_chip, is_another_chip,
+         has_a_divisor_of_its_own, loops_back, hears_after_sleep, moves_bytes, sets_rates, changes_speed, has_modem_lines, waits_for_cts,
+         sends_breaks, marks_breaks, obeys_xoff, logs_in, is_a_console, gives_up_a_broken_chip, is_removed_while_busy, writes_in_a_panic)
+WHOLE = (takes_no_port_of_another, finds_chips, shares_an_interrupt, needs_no_interrupt, moves_a_port, finds_no_chip, is_another_chip,
+         has_a_divisor_of_its_own, loops_back, hears_after_sleep, moves_bytes, sets_rates, opens_and_closes, changes_speed,
          changes_speed_while_receiving, has_modem_lines, waits_for_cts, sends_breaks, marks_breaks, obeys_xoff, sends_xoff, hangs_up,
-         logs_in, moves_files, carries_ip, compares, is_a_console, gives_up_a_broken_chip, is_removed_while_busy, writes_in_a_panic)
+         logs_in, moves_files, carries_ip, compares, debugs, is_a_console, gives_up_a_broken_chip, is_removed_while_busy, writes_in_a_panic)
 
 
 def main():
     parser = argparse.ArgumentParser()
     parser.add_argument("--whole", action="store_true")
     parser.add_argument("--only", help="the names of checks, with commas")
-    for name in "work", "kernel", "initramfs", "lines":
+    parser.add_argument("--lines", required=True, help="what lines.c is built into")
+    for name in "work", "kernel", "initramfs":
         parser.add_argument(name)
     given = parser.parse_args()
     os.makedirs(given.work, exist_ok=True)

@@ -1,4 +1,5 @@
 """Linux in an emulator, the other ends of its serial ports, and what runs in it."""
+import glob
 import os
 import re
 import select
@@ -9,7 +10,7 @@ import time
 
 SENT, RECEIVED = 3, 9  # the streams of terminal.c
 PIECE = 4096
-BOOT = 180  # seconds, on a machine that does much else
+BOOT = 180  # seconds
 
 
 def stream(count, seed):
@@ -19,6 +20,30 @@ def stream(count, seed):
 
 class Unexpected(Exception):
     """What the guest did otherwise."""
+
+
+class Clock:
+    """Time in which the emulator, or this program, could do something. While one of their threads waits for a processor it stands still, so
+    that a bound of so many seconds is a bound on what was done, and not on what else the machine does."""
+
+    def __init__(self):
+        self.process, self.time, self.waited, self.spent = None, time.monotonic(), {}, 0
+
+    def now(self):
+        time_now, waited = time.monotonic(), {}
+        for path in glob.glob(f"/proc/{self.process}/task/*/schedstat") + glob.glob("/proc/self/task/*/schedstat"):
+            try:
+                with open(path, encoding="ascii") as file:
+                    waited[path] = int(file.read().split()[1]) / 1e9
+            except (OSError, IndexError):
+                pass  # the thread has ended, or the kernel does not tell
+        most = max((waited[path] - self.waited.get(path, waited[path]) for path in waited), default=0)
+        self.spent += max(0, time_now - self.time - most)
+        self.time, self.waited = time_now, waited
+        return self.spent
+
+
+CLOCK = Clock()
 
 
 class Line:
@@ -57,8 +82,8 @@ class Line:
 
     def exchange(self, out, wanted, idle):
         """Sends, and receives so many bytes at once. Ends when nothing has moved for so many seconds. Returns what came."""
-        came, sent, last = bytearray(), 0, time.monotonic()
-        while (sent < len(out) or len(came) < wanted) and time.monotonic() - last < idle:
+        came, sent, last = bytearray(), 0, CLOCK.now()
+        while (sent < len(out) or len(came) < wanted) and CLOCK.now() - last < idle:
             piece = self.take(0 if sent < len(out) else 0.05)
             came += piece
             moved = len(piece)
@@ -66,7 +91,7 @@ class Line:
                 moved = self.socket.send(out[sent:sent + PIECE], socket.MSG_DONTWAIT)
                 sent += moved
             if moved:
-                last = time.monotonic()
+                last = CLOCK.now()
         return bytes(came)
 
     def send(self, out):
@@ -79,8 +104,8 @@ class Line:
 
     def until(self, wanted, seconds):
         """What comes, up to these bytes."""
-        came, end = b"", time.monotonic() + seconds
-        while wanted not in came and time.monotonic() < end:
+        came, end = b"", CLOCK.now() + seconds
+        while wanted not in came and CLOCK.now() < end:
             came += self.take(0.2)
         return came
 
@@ -118,27 +143,39 @@ class Guest:
 
     def __init__(self, work, kernel, initramfs, more, append="", processors=1, environment=None, console="ttyS4"):
         self.work, self.tasks, self.count, self.found, self.monitor = work, 0, 0, b"", None
+        # no_timer_check: a processor that the machine has no time for sees no tick of the timer, and Linux would panic. earlyprintk: a
+        # panic before the console is there is heard too, on the card, which is the first device of the bus that is not the board's own.
+        append = f"console={console} 8250.nr_uarts=8 panic=-1 no_timer_check earlyprintk=pciserial,00:02.0,115200 quiet {append}"
         with open(f"{work}/qemu.log", "wb") as log:
             self.process = subprocess.Popen(
                 ["qemu-system-x86_64", "-accel", "tcg", "-cpu", "max", "-smp", str(processors), "-m", "512", "-display", "none",
-                 "-nodefaults", "-no-reboot", "-kernel", kernel, "-initrd", initramfs, "-append", f"console={console} 8250.nr_uarts=8 panic=-1 quiet {append}",
+                 "-nodefaults", "-no-reboot", "-kernel", kernel, "-initrd", initramfs, "-append", append,
                  "-chardev", f"socket,id=shell,path={work}/shell,server=on,wait=on",
                  "-device", "pci-serial,chardev=shell",
                  "-monitor", f"unix:{work}/monitor,server=on,wait=off", *more],
                 stdin=subprocess.DEVNULL, stderr=log, env=environment)
+        CLOCK.process = self.process.pid
         self.shell = Line(f"{work}/shell")
         self.read_until(rb"shell: ready\r?\n", BOOT)
 
     def read_until(self, pattern, seconds):
         """What the shell prints before this."""
-        end = time.monotonic() + seconds
+        end = CLOCK.now() + seconds
         while not (match := re.search(pattern, self.found)):
-            if self.process.poll() is not None or time.monotonic() > end:
-                raise Unexpected(f"the guest's shell: no {pattern}: {self.found[-1500:].decode(errors='replace')}")
+            if self.process.poll() is not None or CLOCK.now() > end:
+                raise Unexpected(f"the guest's shell: no {pattern}, {self.state()}. Its console ends with:\n"
+                                 f"{self.found[-1500:].decode(errors='replace')}")
             self.found += self.shell.take(0.2)
         before, self.found = self.found[:match.start()], self.found[match.end():]
         self.last = match
         return before.decode(errors="replace").replace("\r", "")
+
+    def state(self):
+        """What the emulator does, and what it has said."""
+        with open(f"{self.work}/qemu.log", encoding="utf-8", errors="replace") as log:
+            said = log.read().strip()
+        ended = self.process.poll()
+        return ("the emulator runs" if ended is None else f"the emulator ended with {ended}") + f" {said}".rstrip()
 
     def run(self, command, seconds=60):
         """Runs a command, and returns what it prints."""

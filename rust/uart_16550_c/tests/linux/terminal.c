@@ -1,7 +1,8 @@
 /*
  * What uses a terminal in the guest, beside busybox: terminal COMMAND DEVICE [ARGUMENT..]
  *
- * transfer DEVICE SEND RECEIVE CRTSCTS   sends and receives so many bytes at once, at 115,200 baud, and compares what comes
+ * transfer DEVICE SEND RECEIVE CRTSCTS [SEED]  sends and receives so many bytes at once, at 115,200 baud, and compares what comes; SEED is
+ *                                        3 if another transfer sends, of which some may have come before
  * marks DEVICE COUNT IFLAG               prints so many bytes that come, in hexadecimal, and those that come soon after; IFLAG is octal
  * cycles DEVICE COUNT                    opens, sends one byte and closes, so many times
  * change DEVICE COUNT WAITS              sends 256 bytes and changes the rate, so many times; WAITS is 1 for TCSADRAIN
@@ -12,12 +13,14 @@
  * loop DEVICE BYTES                      sends in the chip's loopback, and counts what comes
  * find DEVICE                            lets the driver find out which chip this is
  * chip DEVICE TYPE IRQ                   sets the type of the chip, as linux/serial_core.h has it, and the interrupt; 0 is none
+ * set DEVICE NAME=NUMBER..               sets these of type, port, irq, flags and divisor, as setserial does, and prints all of them
  *
  * A transfer ends when nothing has moved for ten seconds. Each command says `ready` when the port is open, and prints one line at its end.
  */
 #define _GNU_SOURCE
 #include <asm/ioctls.h>
 #include <asm/termbits.h>
+#include <errno.h>
 #include <fcntl.h>
 #include <linux/serial.h>
 #include <poll.h>
@@ -99,14 +102,15 @@ static void print_counts(int port)
                counts.buf_overrun - before.buf_overrun);
 }
 
-static void transfer(int port, uint32_t send, uint32_t receive, int crtscts)
+static void transfer(int port, uint32_t send, uint32_t receive, int crtscts, uint32_t seed)
 {
     static uint8_t out[4096], in[65536];
     uint32_t sent = 0, received = 0, wrong = 0, i;
     double last;
 
     set_rate(port, TCSETS2, RATE, 0, CS8 | (crtscts ? CRTSCTS : 0));
-    ioctl(port, TCFLSH, 2);
+    if (seed == RECEIVED)
+        ioctl(port, TCFLSH, 2);
     ready(port);
     for (last = now(); (sent < send || received < receive) && now() - last < PATIENCE;) {
         struct pollfd events = { port, (sent < send ? POLLOUT : 0) | (received < receive ? POLLIN : 0), 0 };
@@ -119,7 +123,7 @@ static void transfer(int port, uint32_t send, uint32_t receive, int crtscts)
         }
         if (events.revents & POLLIN && (count = read(port, in, sizeof in)) > 0) {
             for (i = 0; i < count; i++, received++)
-                wrong += in[i] != byte_of(received, RECEIVED);
+                wrong += in[i] != byte_of(received, seed);
             last = now();
         }
         if (events.revents & POLLOUT) {
@@ -297,13 +301,47 @@ static void set_chip(int port, int type, int irq)
     printf("chip: type %d, irq %d\n", type, irq);
 }
 
+/* Sets some fields of a port in one request, and prints what the port then has. */
+static void set_fields(int port, int count, char **fields)
+{
+    struct serial_struct serial;
+    int i, failed;
+
+    if (ioctl(port, TIOCGSERIAL, &serial))
+        fail("TIOCGSERIAL");
+    for (i = 0; i < count; i++) {
+        char *value = strchr(fields[i], '=');
+        int number = value ? (int)strtol(value + 1, NULL, 0) : 0;
+
+        if (value && !strncmp(fields[i], "type=", 5))
+            serial.type = number;
+        else if (value && !strncmp(fields[i], "port=", 5))
+            serial.port = number;
+        else if (value && !strncmp(fields[i], "irq=", 4))
+            serial.irq = number;
+        else if (value && !strncmp(fields[i], "flags=", 6))
+            serial.flags = number;
+        else if (value && !strncmp(fields[i], "divisor=", 8))
+            serial.custom_divisor = number;
+        else {
+            fprintf(stderr, "terminal: no such field: %s\n", fields[i]);
+            exit(1);
+        }
+    }
+    failed = count && ioctl(port, TIOCSSERIAL, &serial);
+    printf("set: %s, ", failed ? strerror(errno) : "done");
+    if (ioctl(port, TIOCGSERIAL, &serial))
+        fail("TIOCGSERIAL");
+    printf("type %d, port %#x, irq %d\n", serial.type, serial.port, serial.irq);
+}
+
 int main(int count, char **words)
 {
     const char *command = count > 2 ? words[1] : "";
     char **more = words + 3;
 
-    if (!strcmp(command, "transfer") && count == 6)
-        transfer(open_port(words[2], O_NONBLOCK), atoi(more[0]), atoi(more[1]), atoi(more[2]));
+    if (!strcmp(command, "transfer") && (count == 6 || count == 7))
+        transfer(open_port(words[2], O_NONBLOCK), atoi(more[0]), atoi(more[1]), atoi(more[2]), count == 7 ? atoi(more[3]) : RECEIVED);
     else if (!strcmp(command, "marks") && count == 5)
         marks(open_port(words[2], O_NONBLOCK), atoi(more[0]), strtoul(more[1], 0, 8));
     else if (!strcmp(command, "cycles") && count == 4)
@@ -324,6 +362,8 @@ int main(int count, char **words)
         printf("find: %d\n", ioctl(open_port(words[2], O_NONBLOCK), TIOCSERCONFIG));
     else if (!strcmp(command, "chip") && count == 5)
         set_chip(open_port(words[2], O_NONBLOCK), atoi(more[0]), atoi(more[1]));
+    else if (!strcmp(command, "set") && count >= 3)
+        set_fields(open_port(words[2], O_NONBLOCK), count - 3, more);
     else {
         fprintf(stderr, "terminal: no such command\n");
         return 1;

@@ -62,13 +62,12 @@ impl<'a> Reader<'a> {
         }
     }
 
-    /// A list, of at most as many bytes as there is room for. What is behind its end is 0.
+    /// A list, of at most as many bytes as there is room for.
     fn list(&mut self, room: usize) -> Option<&'a [u8]> {
         let length = usize::from(self.byte()?);
         let (list, rest) = self.0.split_at_checked(room)?;
         self.0 = rest;
-        let (list, behind) = list.split_at_checked(length)?;
-        behind.iter().all(|byte| *byte == 0).then_some(list)
+        list.get(..length)
     }
 }
 
@@ -127,7 +126,10 @@ impl SerialState {
         let mut from = Reader(bytes);
         let version = from.take().map(u32::from_le_bytes);
         match version.ok_or(BadState::Bytes)? {
-            Self::VERSION if bytes.len() == Self::LEN => read(&mut from).ok_or(BadState::Bytes),
+            // A state has one form: what is not the state's, as bytes behind the end of a list, is 0.
+            Self::VERSION if bytes.len() == Self::LEN => read(&mut from)
+                .filter(|state| state.to_bytes() == bytes)
+                .ok_or(BadState::Bytes),
             Self::VERSION => Err(BadState::Bytes),
             other => Err(BadState::Version(other)),
         }

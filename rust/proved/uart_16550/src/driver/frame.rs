@@ -209,13 +209,16 @@ impl<B: Backend> Uart16550<B> {
     ///
     /// Only registers whose read changes nothing were read then, and the driver is unchanged.
     ///
+    /// A divisor of 0 means that no port is set up there, or that there is none: a bus where all
+    /// registers read as 0 is not refused.
+    ///
     /// # Examples
     ///
     /// ```
     /// # include!(concat!(env!("CARGO_MANIFEST_DIR"), "/examples.rs"));
     /// # fn main() {}
-    /// # fn example(ports: Device) -> Outcome<()> {
-    /// let mut uart = Uart16550::new_port(0x3f8, ports)?;
+    /// # fn example(uart: &mut Uart16550<Device>) -> Outcome<()> {
+    /// // In place of `init`, on a port that firmware has set up.
     /// let (dll, dlm) = uart.attach()?;
     /// uart.send_bytes_exact(b"hello")?;
     /// # Ok(()) }

@@ -1,6 +1,6 @@
 //! Receiving.
 
-use super::{PIECE_SIZE, Uart16550};
+use super::Uart16550;
 use crate::backend::Backend;
 use bitflags::Flags;
 use uart_spec::registers::{LSR, offsets};
@@ -74,8 +74,6 @@ impl<B: Backend> Uart16550<B> {
     /// # Ok(()) }
     /// ```
     pub fn receive_bytes(&mut self, buffer: &mut [u8]) -> usize {
-        // No copy here, unlike in `receive_piece`: the loop is short, and a copy of a length that
-        // the compiler does not know costs a call.
         for (count, slot) in buffer.iter_mut().enumerate() {
             match self.try_receive_byte() {
                 Ok(byte) => *slot = byte,
@@ -171,41 +169,11 @@ impl<B: Backend> Uart16550<B> {
         None
     }
 
-    // Receives a byte into each slot, and waits for each.
-    fn receive_each(&mut self, slots: &mut [u8]) -> Result<(), StalledError> {
-        for (done, slot) in slots.iter_mut().enumerate() {
-            match self.receive_one() {
-                Some(byte) => *slot = byte,
-                None => return Err(StalledError { done }),
-            }
-        }
-        Ok(())
-    }
-
-    // Receives into the slots of one piece: a whole piece is received into a copy.
-    //
-    // As far as the compiler knows, a slice may overlap the driver. So at each access of the slots
-    // it would have to store the slot and load the backend's fields again, in order. No access can
-    // reach a copy on the stack, so the compiler keeps these fields in registers.
-    //
-    // The slots are copied in as well as out. So the copy begins as the slots do, and after a stall
-    // the slots that got no byte are as they were.
-    #[inline(always)]
-    fn receive_piece(&mut self, slots: &mut [u8]) -> Result<(), StalledError> {
-        if slots.len() != PIECE_SIZE {
-            return self.receive_each(slots);
-        }
-        let mut copy = [0; PIECE_SIZE];
-        copy.copy_from_slice(slots);
-        let result = self.receive_each(&mut copy);
-        slots.copy_from_slice(&copy);
-        result
-    }
-
     /// Receives a byte into each slot, and waits for each.
     ///
     /// Each wait makes at most `spin_limit` polls of LSR. Error bits are saved for the next `lsr`,
-    /// and do not end the call. An empty slice makes no access.
+    /// and do not end the call. An empty slice makes no access. If the chip is gone, bytes of FF
+    /// are received: `is_gone` tells.
     ///
     /// # Errors
     ///
@@ -228,15 +196,11 @@ impl<B: Backend> Uart16550<B> {
     /// # Ok(()) }
     /// ```
     pub fn receive_bytes_exact(&mut self, buffer: &mut [u8]) -> Result<(), StalledError> {
-        let mut done = 0;
-        while done < buffer.len() {
-            let end = buffer.len().min(done + PIECE_SIZE);
-            if let Err(stall) = self.receive_piece(&mut buffer[done..end]) {
-                return Err(StalledError {
-                    done: done + stall.done,
-                });
+        for (done, slot) in buffer.iter_mut().enumerate() {
+            match self.receive_one() {
+                Some(byte) => *slot = byte,
+                None => return Err(StalledError { done }),
             }
-            done = end;
         }
         Ok(())
     }

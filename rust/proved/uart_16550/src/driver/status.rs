@@ -6,6 +6,9 @@ use bitflags::Flags;
 use uart_spec::registers::{DLL, DLM, IER, ISR, LCR, LSR, MCR, MSR, SPR, offsets};
 use uart_spec::{ConfigRegisterDump, RemoteReadyToReceiveError};
 
+// What a read shows if no device is there to drive the lines of the bus: all bits set.
+const UNDRIVEN: u8 = 0xff;
+
 impl<B: Backend> Uart16550<B> {
     /// Reads and returns the interrupt enable register (IER). Reading it changes nothing.
     ///
@@ -69,6 +72,33 @@ impl<B: Backend> Uart16550<B> {
     /// ```
     pub fn mcr(&mut self) -> MCR {
         MCR::from_bits_retain(self.read_register(offsets::MCR))
+    }
+
+    /// Returns whether the chip is gone, as one that was unplugged: whether MCR shows FF, which is
+    /// what most buses show where nobody answers.
+    ///
+    /// Then LSR shows FF too: a byte waits, and the transmitter is empty. So each call that
+    /// receives finds bytes, all of them FF, and each call that sends succeeds. Call this after
+    /// bytes of FF, or now and then.
+    ///
+    /// Does not wait: reads MCR once, which changes nothing. A chip that is there does not show FF:
+    /// a 16550 has no bits 5 to 7 in MCR, and on later chips all bits would be set only together
+    /// with `LOOP_BACK`, which the driver leaves off. A bus that shows something else where nobody
+    /// answers, as 0, is not told from a chip.
+    ///
+    /// # Examples
+    ///
+    /// ```
+    /// # include!(concat!(env!("CARGO_MANIFEST_DIR"), "/examples.rs"));
+    /// # fn main() {}
+    /// # fn example(uart: &mut Uart16550<Device>) -> Outcome<()> {
+    /// assert!(!uart.is_gone());
+    /// # Ok(()) }
+    /// ```
+    pub fn is_gone(&mut self) -> bool {
+        // MCR, and no other register: a read of DATA, LSR, MSR or ISR changes a chip that is there
+        // after all, IER is the divisor latch under DLAB, and LCR and SPR may be FF.
+        self.mcr().contains(MCR::from_bits_retain(UNDRIVEN))
     }
 
     /// Reads the line status register (LSR). Returns it joined with the error bits that earlier

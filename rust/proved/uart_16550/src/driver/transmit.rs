@@ -1,6 +1,6 @@
 //! Sending.
 
-use super::{PIECE_SIZE, Uart16550};
+use super::Uart16550;
 use crate::backend::Backend;
 use bitflags::Flags;
 use uart_spec::registers::{LSR, MCR, MSR, offsets};
@@ -67,7 +67,7 @@ impl<B: Backend> Uart16550<B> {
     // fit. LSR shows whether the FIFO is empty, and no register shows how full it is. One byte more
     // could be lost, and nothing would tell.
     //
-    // A whole burst is written from a copy, for the reason at `PIECE_SIZE`.
+    // A whole burst is apart, since its length is known to the compiler: it then counts no bytes.
     fn write_burst(&mut self, bytes: &[u8]) -> usize {
         if !self.fifo_enabled {
             self.write_byte(bytes[0]);
@@ -75,8 +75,7 @@ impl<B: Backend> Uart16550<B> {
         }
         match bytes.first_chunk::<FIFO_SIZE>() {
             Some(burst) => {
-                let copy = *burst;
-                self.write_data(&copy);
+                self.write_data(burst);
                 FIFO_SIZE
             }
             None => {
@@ -175,32 +174,6 @@ impl<B: Backend> Uart16550<B> {
         Ok(())
     }
 
-    // Sends the bytes of one piece: a whole piece is sent from a copy.
-    #[inline(always)]
-    fn send_piece(&mut self, bytes: &[u8]) -> Result<(), StalledError> {
-        if bytes.len() != PIECE_SIZE {
-            return self.send_singly(bytes);
-        }
-        let mut copy = [0; PIECE_SIZE];
-        copy.copy_from_slice(bytes);
-        self.send_singly(&copy)
-    }
-
-    // Sends the bytes piece by piece.
-    fn send_pieces(&mut self, bytes: &[u8]) -> Result<(), StalledError> {
-        let mut done = 0;
-        while done < bytes.len() {
-            let end = bytes.len().min(done + PIECE_SIZE);
-            if let Err(stall) = self.send_piece(&bytes[done..end]) {
-                return Err(StalledError {
-                    done: done + stall.done,
-                });
-            }
-            done = end;
-        }
-        Ok(())
-    }
-
     // Sends the bytes burst by burst, and waits for room before each burst.
     fn send_bursts(&mut self, bytes: &[u8]) -> Result<(), StalledError> {
         let mut done = 0;
@@ -244,7 +217,7 @@ impl<B: Backend> Uart16550<B> {
         if self.fifo_enabled {
             self.send_bursts(bytes)
         } else {
-            self.send_pieces(bytes)
+            self.send_singly(bytes)
         }
     }
 

@@ -29,17 +29,18 @@ pub struct Step {
 /// character has more bits.
 pub const CHARACTER_TIME: u64 = 104_167;
 
-/// The divisor that is taken where none was seen: 9600 baud at 1.8432 MHz.
-pub const USUAL_DIVISOR: u64 = 12;
+/// The divisor that is taken where none was seen: 115,200 baud at 1.8432 MHz. No rate is faster, so
+/// what is still going out then is still going out at any rate.
+pub const LEAST_DIVISOR: u64 = 1;
 
 /// The most characters that a transmitter holds: those in the FIFO, and one on its way.
 pub const MOST_HELD: u64 = 17;
 
-// Returns the divisor, or the usual one if it was not seen.
+// Returns the divisor, or the least one if it was not seen.
 fn divisor(bytes: DivisorBytes) -> u64 {
     match (bytes.low, bytes.high) {
         (Some(low), Some(high)) => u64::from(high) * 256 + u64::from(low),
-        _ => USUAL_DIVISOR,
+        _ => LEAST_DIVISOR,
     }
 }
 

@@ -9,6 +9,7 @@ use uart_spec::registers::InterruptType;
 pub const MAX_INTERRUPTS: usize = 8;
 
 /// Why a call of `handle` ended.
+#[cfg_attr(not(feature = "exhaustive"), non_exhaustive)]
 #[derive(Clone, Copy, Debug, PartialEq, Eq)]
 pub enum HandleEnd {
     /// ISR showed that no interrupt is pending.
@@ -70,10 +71,10 @@ impl<B: Backend> Uart16550Ring<B> {
     /// Serves the interrupts that ISR identifies, until it identifies none or [`MAX_INTERRUPTS`]
     /// were served. Returns how many.
     ///
-    /// This is for a program that polls, or that has several chips on one line and looks at each in
-    /// turn. A handler calls `handle`, which also leaves the interrupt line so that the next
-    /// interrupt is noticed. `service` does not write IER for that, and its count alone does not
-    /// tell whether an interrupt is left: one that has no name may be.
+    /// This is for a program that polls. A handler calls `handle`, or `handle_ports` for several
+    /// chips on one line, which also leaves the interrupt line so that the next interrupt is
+    /// noticed. `service` does not write IER for that, and its count alone does not tell whether an
+    /// interrupt is left: one that has no name may be.
     ///
     /// Does not wait. What it does depends on the interrupt:
     ///

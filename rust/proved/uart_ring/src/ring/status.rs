@@ -1,9 +1,10 @@
 //! Line errors and changes of the modem lines: noted when their interrupts are served, and taken by
-//! the caller.
+//! the caller. And all registers at once.
 
 use super::Uart16550Ring;
 use bitflags::Flags;
 use uart_16550::backend::Backend;
+use uart_spec::ConfigRegisterDump;
 use uart_spec::registers::{LSR, MSR};
 
 impl<B: Backend> Uart16550Ring<B> {
@@ -63,5 +64,38 @@ impl<B: Backend> Uart16550Ring<B> {
         let modem = self.uart.msr().union(self.modem);
         self.modem = MSR::from_bits_retain(0);
         modem
+    }
+
+    /// Reads all registers, as the driver's `config_register_dump` does, and then sends bytes that
+    /// wait, as `resume_transmit` does.
+    ///
+    /// ISR is among the registers, and a read of it that shows `THR_EMPTY` acknowledges that
+    /// interrupt. So after the driver's own call, through `inner_mut`, bytes in the transmit ring
+    /// may wait for ever. After this call they do not.
+    ///
+    /// `take_line` and `take_modem` still return what the reads of LSR and MSR have cleared.
+    ///
+    /// Does not wait. Under DLAB, which is set meanwhile, the divisor latch is read in place of
+    /// DATA and IER: mask the interrupt, as for every call.
+    ///
+    /// # Examples
+    ///
+    /// ```
+    /// # include!(concat!(env!("CARGO_MANIFEST_DIR"), "/examples.rs"));
+    /// # fn main() {}
+    /// # use facade::ring::{self, *};
+    /// # struct Port { ring: Uart16550Ring<Device>, overruns: u32 }
+    /// # impl Port {
+    /// # fn example(&mut self) {
+    /// let dump = self.ring.config_register_dump();
+    /// # } }
+    /// ```
+    pub fn config_register_dump(&mut self) -> ConfigRegisterDump {
+        let dump = self.uart.config_register_dump();
+        // Behind the dump, since what it acknowledges never comes again. A `retrigger` would raise
+        // the interrupt again on a chip that does so whenever THR_EMPTY is enabled while THR is
+        // empty; to send what waits needs nothing of the chip.
+        self.resume_transmit();
+        dump
     }
 }

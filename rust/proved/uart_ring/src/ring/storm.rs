@@ -6,6 +6,7 @@ use uart_16550::backend::Backend;
 use uart_spec::registers::{IER, ISR, InterruptType};
 
 /// Why a chip is stuck: what ISR still showed after as many rounds as the caller allows.
+#[cfg_attr(not(feature = "exhaustive"), non_exhaustive)]
 #[derive(Clone, Copy, Debug, PartialEq, Eq)]
 pub enum StuckError {
     /// An interrupt that has no name, which nobody can serve.
@@ -50,7 +51,20 @@ fn shown_by(isr: ISR) -> Option<StuckError> {
     }
 }
 
+// Returns how a round counts that ended so: as idle if a byte moved.
+fn counted_as(has_moved: bool, end: HandleEnd) -> HandleEnd {
+    if has_moved { HandleEnd::Idle } else { end }
+}
+
 impl<B: Backend> Uart16550Ring<B> {
+    // Returns whether a byte has moved between the rings and the chip since there were so many in
+    // the rings.
+    fn has_moved(&self, transmit: usize, is_urgent: bool, receive: usize) -> bool {
+        self.transmit.len() != transmit
+            || is_urgent && !self.urgent.is_some()
+            || self.receive.len() != receive
+    }
+
     // Reads ISR once more. If it shows an interrupt, disables all interrupts and returns why.
     fn look_once_more(&mut self) -> Option<StuckError> {
         // This read may acknowledge a THR_EMPTY interrupt, which is then not served. The chip is
@@ -94,8 +108,12 @@ impl<B: Backend> Uart16550Ring<B> {
 
     // Handles the interrupt, and counts the round.
     fn handle_round(&mut self, limit: usize, rounds: u32) -> Result<Handled, StuckError> {
+        let transmit = self.transmit.len();
+        let is_urgent = self.urgent.is_some();
+        let receive = self.receive.len();
         let handled = self.handle(limit);
-        match self.count_round(rounds, handled.end) {
+        let has_moved = self.has_moved(transmit, is_urgent, receive);
+        match self.count_round(rounds, counted_as(has_moved, handled.end)) {
             None => Ok(handled),
             Some(error) => Err(error),
         }
@@ -104,17 +122,28 @@ impl<B: Backend> Uart16550Ring<B> {
     /// Handles the chip's interrupt as `handle` does, and ends a storm: a chip that shows an
     /// interrupt for ever gets its interrupts disabled.
     ///
-    /// A call that does not end with `Idle` is a round that is left unfinished. The controller then
-    /// calls the handler again, and on a broken chip for ever. So this call counts such rounds. If
-    /// there were `rounds` of them in a row, the last one reads ISR once more. If that shows no
-    /// interrupt, the count begins again. Otherwise the chip is stuck: the call reads IER, writes 0
-    /// to it, and returns why.
+    /// A call that does not end with `Idle`, and that moves no byte between the rings and the chip,
+    /// is a round that is left unfinished. The controller then calls the handler again, and on a
+    /// broken chip for ever. So this call counts such rounds. If there were `rounds` of them in a
+    /// row, the last one reads ISR once more. If that shows no interrupt, the count begins again.
+    /// Otherwise the chip is stuck: the call reads IER, writes 0 to it, and returns why.
     ///
     /// While the chip is stuck, the rings hand no byte to it, and each further call of `try_handle`
     /// serves nothing, writes 0 to IER again, and returns the same error. `restart` starts again.
     ///
-    /// If `rounds` is 0 or 1, the first unfinished round is the last one. A chip that works leaves
-    /// a round unfinished only if interrupts come as fast as they are served.
+    /// Let the limit be at least 6. Then a chip that works leaves a round unfinished, without a
+    /// byte that moves, only if the rest arrives while the round is served: at least `limit - 5`
+    /// characters or changes of the modem lines. So it is never found stuck, unless as many come
+    /// in the course of each of `rounds` rounds in a row. With a lower limit it may be: a round of
+    /// one interrupt never ends with `Idle`, so `rounds` line errors or changes of modem lines in a
+    /// row count, however slowly they come, and one that is pending at the last look is enough
+    /// then. If `rounds` is 0 or 1, the first unfinished round is the last one.
+    ///
+    /// As long as bytes move, the rounds end by themselves: a handler alone moves no more bytes
+    /// than wait in the transmit ring and fit into the receive ring.
+    ///
+    /// A chip whose line stays high while ISR shows no interrupt is not found: its rounds end with
+    /// `Idle`. DesignWare's busy detect is such a one.
     ///
     /// Does not wait: makes at most 35 accesses for each interrupt of the limit, and 6 more.
     ///

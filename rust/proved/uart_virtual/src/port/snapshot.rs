@@ -1,6 +1,6 @@
 //! A port as plain data, and back.
 
-use super::{CHAR_TICKS, IDLE, UNTOLD, VirtualPort, decide};
+use super::{CHAR_TICKS, RENEWED, UNTOLD, VirtualPort, decide};
 use crate::told::Todo;
 use bitflags::Flags;
 use uart_live::{ChipData, LiveChip, RestoreError, TransmitterData, WIRE_ROOM};
@@ -84,7 +84,7 @@ impl VirtualPort {
         }
         let chip = LiveChip::from_data(saved, output)?;
         let mut told = UNTOLD;
-        let todo = decide(&chip, true, &mut told, IDLE);
+        let todo = decide(&chip, true, &mut told, RENEWED);
         let port = VirtualPort { chip, told };
         Ok(Restored { port, todo })
     }

@@ -10,6 +10,7 @@ use geesetrunk_kit::Flags;
 use crate::runtime::Abort;
 use crate::runtime::Fail;
 use uart_16550::{Received, Uart16550};
+use uart_calls::{Answer, Call};
 use uart_ring::{HandleEnd, Handled, Uart16550Ring};
 use uart_spec::Config;
 use uart_spec::registers::{FifoTriggerLevel, IER, LSR, MSR};
@@ -106,6 +107,33 @@ fn bytes_that_wait_are_sent_at_the_interrupt() -> Result<(), Fail> {
     for (place, byte) in [(0, 18), (1, 19), (2, 20)] {
         assert_equal(&rt, machine.held_at(place), Some(byte));
     }
+    Ok(())
+}
+
+#[test]
+fn a_look_at_isr_takes_the_interrupt_away() -> Result<(), Fail> {
+    let rt = HostRuntime;
+    let mut ring = slow_rings(&rt, 32)?;
+    let sent = [
+        1, 2, 3, 4, 5, 6, 7, 8, 9, 10, 11, 12, 13, 14, 15, 16, 17, 18, 19, 20,
+    ];
+    let asleep = [
+        (RingCall::Queue(bytes(&sent)), RingAnswer::Count(20), false),
+        (RingCall::Next, RingAnswer::Done, false),
+        (RingCall::Next, RingAnswer::Done, false),
+        // The FIFO is on, and THR is empty.
+        (
+            RingCall::Driver(Call::Isr),
+            RingAnswer::Driver(Answer::Register(0xc2)),
+            false,
+        ),
+        (RingCall::Service, RingAnswer::Count(0), false),
+    ];
+    made(&rt, &mut ring, &asleep);
+    assert_equal(&rt, ring.transmit_len(), 4);
+    let awake = [(RingCall::ResumeTransmit, RingAnswer::Done, false)];
+    made(&rt, &mut ring, &awake);
+    assert_equal(&rt, ring.transmit_len(), 0);
     Ok(())
 }
 

@@ -24,7 +24,8 @@ const LINE: u8 = 5;
 
 const MODEM: u8 = 6;
 
-// Room that comes by a write of FCR, and by the end of loopback, is told.
+// Room that comes by a write of FCR, and by the end of loopback, is told at once. Room that comes
+// by reads of DATA is told when nothing waits.
 #[test]
 fn room_is_told_whichever_call_gives_it() -> Result<(), Fail> {
     let rt = HostRuntime;
@@ -35,6 +36,9 @@ fn room_is_told_whichever_call_gives_it() -> Result<(), Fail> {
     assert!(rt; port.write(FCR, 0x07).has_room);
     assert!(rt; !port.write(FCR, 0x07).has_room);
     assert!(rt; port.receive(b"0123456789abcdefg").count == 16);
+    for _ in 0..15 {
+        assert!(rt; !port.read(DATA).todo.has_room);
+    }
     assert!(rt; port.read(DATA).todo.has_room);
     assert!(rt; !port.write(MCR, 0x18).has_room);
     let received = port.receive(b"x");
@@ -84,9 +88,9 @@ fn a_handler_that_reads_its_trigger_level_comes_again() -> Result<(), Fail> {
     Ok(())
 }
 
-// Input while the line is up is signalled, once a call.
+// Input while the line is up is signalled if it fills the FIFO, once a call.
 #[test]
-fn a_top_up_is_signalled() -> Result<(), Fail> {
+fn a_top_up_is_signalled_when_it_fills_the_fifo() -> Result<(), Fail> {
     let rt = HostRuntime;
     let mut port = VirtualPort::new(Chip::Uart16550A);
     port.write(FCR, 0x87);
@@ -94,9 +98,11 @@ fn a_top_up_is_signalled() -> Result<(), Fail> {
     assert!(rt; port.receive(b"0123456789abcdef").todo.signal);
     assert!(rt; !port.read(LINE).todo.signal);
     assert!(rt; !port.read(DATA).todo.signal);
-    let todo = port.receive(b"g").todo;
-    assert!(rt; todo.signal && todo.level);
+    assert!(rt; !port.read(DATA).todo.signal);
     assert!(rt; !port.receive(b"g").todo.signal);
+    let todo = port.receive(b"h").todo;
+    assert!(rt; todo.signal && todo.level);
+    assert!(rt; !port.receive(b"i").todo.signal);
     Ok(())
 }
 

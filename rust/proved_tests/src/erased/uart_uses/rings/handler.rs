@@ -24,7 +24,7 @@ pub enum StartError {
     NoDevice(InitError),
 }
 
-// A chip is stuck if this many rounds of the handler in a row did not end with `Idle`, and it
+// A chip is stuck if this many rounds in a row moved no byte and did not end with `Idle`, and it
 // still shows an interrupt.
 //
 // One that works leaves a round unfinished only if interrupts come as fast as they are served, and

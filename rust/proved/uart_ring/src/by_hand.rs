@@ -1,0 +1,17 @@
+//! What is by hand in this crate, since it is of the rings' own type: how they are shown.
+
+use crate::Uart16550Ring;
+use core::fmt;
+use uart_16550::backend::Backend;
+
+/// Shows the driver and how many bytes wait, and not the bytes: they may be a password.
+impl<B: Backend + fmt::Debug> fmt::Debug for Uart16550Ring<B> {
+    fn fmt(&self, f: &mut fmt::Formatter<'_>) -> fmt::Result {
+        f.debug_struct("Uart16550Ring")
+            .field("uart", self.inner())
+            .field("transmit_len", &self.transmit_len())
+            .field("receive_len", &self.receive_len())
+            .field("stuck", &self.stuck())
+            .finish_non_exhaustive()
+    }
+}

@@ -1,0 +1,199 @@
+//! Several ports on one interrupt line.
+//!
+//! A controller that detects edges sees none while another port keeps the common line high. So all
+//! ports are handled under one lock, and all their lines are low at one time before any of them may
+//! rise again: [`handle_ports`] for ports in a slice, [`handle_line`] wherever they are.
+
+use crate::ring::{HandleEnd, Handled, Lowered, StuckError, Uart16550Ring};
+use bitflags::Flags;
+use uart_16550::backend::Backend;
+use uart_spec::registers::IER;
+
+/// The ports of one interrupt line, by their numbers from 0 on.
+///
+/// For ports in a slice there is [`handle_ports`]. Implement this for ports that are elsewhere:
+/// behind pointers, or in places of which some are empty.
+pub trait LinePorts {
+    /// Returns how many ports there are.
+    fn number(&self) -> usize;
+
+    /// Makes a `lower_line` at this port. Returns whether an interrupt was served.
+    fn lower(&mut self, port: usize, limit: usize, rounds: u32) -> bool;
+
+    /// Makes a `raise_line` at this port, as `lower` has left it.
+    fn raise(&mut self, port: usize);
+}
+
+/// Handles the interrupt of a line that several ports share, whether the controller detects levels
+/// or edges. Returns whether an interrupt was served at one of them.
+///
+/// Call it once each time the controller calls the handler, under the lock that all calls at these
+/// ports take: one lock for the line. With a lock for each port another processor could let the
+/// line of one rise, before that of the next has fallen.
+///
+/// At each port, in turn, it handles what is pending and disables the chip's interrupts. Then the
+/// common line is low, whatever happens to the chips. After that it enables the interrupts again,
+/// at each port in turn. So if the line is high afterwards, it has risen since the call began, and
+/// a controller that detects edges calls the handler again.
+///
+/// A chip that is stuck has its interrupts disabled, as after a `try_handle`, and the others are
+/// served.
+///
+/// # Examples
+///
+/// ```
+/// # include!(concat!(env!("CARGO_MANIFEST_DIR"), "/examples.rs"));
+/// # fn main() {}
+/// # use facade::ring::{self, *};
+/// # const MAX_UNFINISHED_ROUNDS: u32 = 100;
+/// # fn example(mut ports: impl LinePorts) -> Outcome<()> {
+/// let has_served = handle_line(&mut ports, 4 * MAX_INTERRUPTS, MAX_UNFINISHED_ROUNDS);
+/// # Ok(()) }
+/// ```
+pub fn handle_line<P: LinePorts>(ports: &mut P, limit: usize, rounds: u32) -> bool {
+    let number = ports.number();
+    let mut has_served = false;
+    for port in 0..number {
+        has_served |= ports.lower(port, limit, rounds);
+    }
+    // All lines are low here, at one time. It is not enough that each was low at some time: another
+    // one may have risen before, and the common line has then not fallen.
+    for port in 0..number {
+        ports.raise(port);
+    }
+    has_served
+}
+
+/// A port of a line: its rings, and what was last handled there.
+pub struct LinePort<B> {
+    /// The rings. Make no call of them while the line is handled.
+    pub ring: Uart16550Ring<B>,
+    lowered: Lowered,
+}
+
+impl<B: Backend> LinePort<B> {
+    /// Returns a port with these rings, at which nothing was handled yet. Makes no access.
+    ///
+    /// # Examples
+    ///
+    /// ```
+    /// # include!(concat!(env!("CARGO_MANIFEST_DIR"), "/examples.rs"));
+    /// # fn main() {}
+    /// # use facade::ring::{self, *};
+    /// # const MAX_UNFINISHED_ROUNDS: u32 = 100;
+    /// # fn example(console: Uart16550Ring<Device>, modem: Uart16550Ring<Device>) -> Outcome<()> {
+    /// let mut ports = [LinePort::new(console), LinePort::new(modem)];
+    /// # Ok(()) }
+    /// ```
+    pub fn new(ring: Uart16550Ring<B>) -> Self {
+        let handled = Handled {
+            served: 0,
+            end: HandleEnd::Idle,
+        };
+        LinePort {
+            ring,
+            lowered: Lowered {
+                handled: Ok(handled),
+                enabled: IER::from_bits_retain(0),
+            },
+        }
+    }
+
+    /// Returns what the last [`handle_ports`] handled here, or why the chip is stuck. Makes no
+    /// access.
+    ///
+    /// # Examples
+    ///
+    /// ```
+    /// # include!(concat!(env!("CARGO_MANIFEST_DIR"), "/examples.rs"));
+    /// # fn main() {}
+    /// # use facade::ring::{self, *};
+    /// # const MAX_UNFINISHED_ROUNDS: u32 = 100;
+    /// # fn example(ports: &[LinePort<Device>]) -> Result<(), StuckError> {
+    /// let handled = ports[0].handled()?;
+    /// # Ok(()) }
+    /// ```
+    pub fn handled(&self) -> Result<Handled, StuckError> {
+        self.lowered.handled
+    }
+
+    /// Makes a `lower_line` of the rings, and notes what it did. Returns whether an interrupt was
+    /// served.
+    ///
+    /// # Examples
+    ///
+    /// ```
+    /// # include!(concat!(env!("CARGO_MANIFEST_DIR"), "/examples.rs"));
+    /// # fn main() {}
+    /// # use facade::ring::{self, *};
+    /// # const MAX_UNFINISHED_ROUNDS: u32 = 100;
+    /// # fn example(mut port: LinePort<Device>) -> Outcome<()> {
+    /// let has_served = port.lower(4 * MAX_INTERRUPTS, MAX_UNFINISHED_ROUNDS);
+    /// # Ok(()) }
+    /// ```
+    pub fn lower(&mut self, limit: usize, rounds: u32) -> bool {
+        self.lowered = self.ring.lower_line(limit, rounds);
+        match self.lowered.handled {
+            Ok(handled) => handled.served > 0,
+            Err(_) => false,
+        }
+    }
+
+    /// Makes a `raise_line` of the rings, as the last `lower` says.
+    ///
+    /// # Examples
+    ///
+    /// ```
+    /// # include!(concat!(env!("CARGO_MANIFEST_DIR"), "/examples.rs"));
+    /// # fn main() {}
+    /// # use facade::ring::{self, *};
+    /// # const MAX_UNFINISHED_ROUNDS: u32 = 100;
+    /// # fn example(mut port: LinePort<Device>) -> Outcome<()> {
+    /// port.raise();
+    /// # Ok(()) }
+    /// ```
+    pub fn raise(&mut self) {
+        self.ring.raise_line(self.lowered.enabled);
+    }
+}
+
+// Makes a `lower` at each port, in turn. Returns whether an interrupt was served at one of them.
+fn lower_each<B: Backend>(ports: &mut [LinePort<B>], limit: usize, rounds: u32) -> bool {
+    let mut has_served = false;
+    for port in ports.iter_mut() {
+        has_served |= port.lower(limit, rounds);
+    }
+    has_served
+}
+
+// Makes a `raise` at each port, in turn.
+fn raise_each<B: Backend>(ports: &mut [LinePort<B>]) {
+    for port in ports.iter_mut() {
+        port.raise();
+    }
+}
+
+/// Handles the interrupt of a line that the ports of this slice share, as [`handle_line`] does.
+/// Returns whether an interrupt was served at one of them; [`LinePort::handled`] tells what was
+/// handled at each, and which chip is stuck.
+///
+/// Does not wait: makes at most 35 accesses for each interrupt of the limit and 11 more, at each
+/// port.
+///
+/// # Examples
+///
+/// ```
+/// # include!(concat!(env!("CARGO_MANIFEST_DIR"), "/examples.rs"));
+/// # fn main() {}
+/// # use facade::ring::{self, *};
+/// # const MAX_UNFINISHED_ROUNDS: u32 = 100;
+/// # fn example(mut ports: [LinePort<Device>; 2]) -> Outcome<()> {
+/// let has_served = handle_ports(&mut ports, 4 * MAX_INTERRUPTS, MAX_UNFINISHED_ROUNDS);
+/// # Ok(()) }
+/// ```
+pub fn handle_ports<B: Backend>(ports: &mut [LinePort<B>], limit: usize, rounds: u32) -> bool {
+    let has_served = lower_each(ports, limit, rounds);
+    // All lines are low here, as in `handle_line`.
+    raise_each(ports);
+    has_served
+}

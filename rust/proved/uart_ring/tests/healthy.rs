@@ -1,0 +1,238 @@
+//! Chips that work, under `try_handle`: none is declared stuck, and none that has more to do than a round serves. And how few rounds and
+//! interrupts are too few.
+
+use geesetrunk_kit_of_rings::alloc::Global;
+use proved_uart_ring::{HandleEnd, StuckError, Uart16550Ring};
+use uart_16550::Uart16550;
+use uart_16550::backend::Backend;
+use uart_live::{Chip, LiveChip, WIRE_ROOM};
+use uart_spec::Config;
+use uart_spec::registers::{IER, InterruptType, LSR, MSR};
+
+/// Pseudorandom numbers: xorshift.
+struct Random(u64);
+
+impl Random {
+    fn below(&mut self, end: usize) -> usize {
+        self.0 ^= self.0 << 13;
+        self.0 ^= self.0 >> 7;
+        self.0 ^= self.0 << 17;
+        (self.0 % end as u64) as usize
+    }
+}
+
+/// A chip whose wire somebody reads, with time that passes at each access.
+struct Registers {
+    chip: LiveChip,
+    ticks: u16,
+}
+
+impl Registers {
+    fn pass(&mut self, ticks: u16) {
+        self.chip.ticks(ticks);
+        self.chip.take_wire(self.chip.wire().len());
+    }
+}
+
+impl Backend for Registers {
+    fn read(&mut self, register_offset: u8) -> u8 {
+        self.pass(self.ticks);
+        self.chip.read(register_offset)
+    }
+
+    fn write(&mut self, register_offset: u8, value: u8) {
+        self.pass(self.ticks);
+        self.chip.write(register_offset, value);
+    }
+}
+
+type Port = Uart16550Ring<Registers>;
+
+fn port(char_ticks: u16, ticks: u16, capacity: usize, config: Config) -> Port {
+    let chip = LiveChip::new(Chip::Uart16550A, char_ticks, WIRE_ROOM).expect("in range");
+    let mut uart = Uart16550::new_with_backend(Registers { chip, ticks });
+    assert_eq!(uart.init(config), Ok(()));
+    match Uart16550Ring::new(Global::heap(), uart, capacity, capacity) {
+        Ok(ring) => ring,
+        Err((_uart, cause)) => panic!("{cause}"),
+    }
+}
+
+fn all() -> Config {
+    Config {
+        interrupts: IER::DATA_READY | IER::RECEIVER_LINE_STATUS | IER::MODEM_STATUS,
+        ..Config::DEFAULT
+    }
+}
+
+fn chip(ring: &mut Port) -> &mut LiveChip {
+    &mut ring.inner_mut().backend_mut().chip
+}
+
+fn interrupts(ring: &Port) -> bool {
+    ring.inner().backend().chip.is_interrupting()
+}
+
+/// Serves as a controller asks for it: as long as the line is high. Returns why the chip was declared stuck.
+fn serve(ring: &mut Port, limit: usize, rounds: u32) -> Result<(), StuckError> {
+    while interrupts(ring) {
+        ring.try_handle(limit, rounds)?;
+    }
+    Ok(())
+}
+
+/// How many of some runs end with a chip that is declared stuck: one or two things happen at a time, and then the line is low for long.
+fn stuck_runs(runs: u64, limit: usize, rounds: u32) -> u64 {
+    let mut stuck = 0;
+    for seed in 1..=runs {
+        let mut random = Random(seed.wrapping_mul(0x9e37_79b9_7f4a_7c15));
+        let mut ring = port(8, 1, 64, all());
+        let outcome = (0..5_000).try_for_each(|_| {
+            ring.inner_mut().backend_mut().pass(2_000);
+            for _ in 0..=random.below(2) {
+                match random.below(4) {
+                    0 => assert!(chip(&mut ring).arrive(0x55, LSR::PARITY_ERROR).is_ok()),
+                    1 => assert!(chip(&mut ring).set_lines(MSR::CTS).is_ok()),
+                    2 => assert!(chip(&mut ring).set_lines(MSR::empty()).is_ok()),
+                    _ => drop((ring.queue(b"byte"), ring.take(&mut [0; 64]))),
+                }
+            }
+            ring.inner_mut().backend_mut().pass(2_000);
+            serve(&mut ring, limit, rounds)
+        });
+        stuck += u64::from(outcome.is_err());
+    }
+    stuck
+}
+
+/// Of 200 such runs 196 ended so while each round counted that did not end with `Idle`.
+#[test]
+fn a_slow_chip_is_not_stuck_at_any_limit() {
+    for (limit, rounds) in [(1, 100), (1, 1_000), (2, 100), (8, 100), (32, 100)] {
+        assert_eq!(stuck_runs(20, limit, rounds), 0, "{rounds} rounds of {limit}");
+    }
+}
+
+/// 4,096 bytes go out one at a time, as fast as they are written: 128 rounds of 32, more than there may be in a row without a byte.
+#[test]
+fn a_large_ring_goes_out_in_more_rounds_than_are_allowed() {
+    let config = Config {
+        fifo_trigger_level: None,
+        ..all()
+    };
+    let mut ring = port(1, 2, 4_096, config);
+    assert_eq!(ring.queue(&[0x55; 4_096]), 4_096);
+    let mut calls = 0;
+    while ring.transmit_len() > 0 {
+        assert!(interrupts(&ring));
+        let handled = ring.try_handle(32, 100).expect("a chip that works");
+        calls += 1;
+        assert!(handled.end == HandleEnd::Limit || ring.transmit_len() == 0);
+    }
+    assert!(calls > 100, "{calls}");
+}
+
+/// A receiver that is full, so that each further character is an overrun, and no byte moves.
+fn full_port() -> Port {
+    let mut ring = port(8, 1, 16, all());
+    for _ in 0..32 {
+        assert!(chip(&mut ring).arrive(0x55, LSR::empty()).is_ok());
+        assert_eq!(serve(&mut ring, 32, 100), Ok(()));
+    }
+    assert!(ring.is_paused());
+    ring
+}
+
+/// Overruns, or changes of a modem line, or both at once, and the handler runs after each.
+fn status_news(
+    limit: usize,
+    rounds: u32,
+    has_overruns: bool,
+    has_changes: bool,
+) -> Result<(), StuckError> {
+    let mut ring = full_port();
+    (0..1_000).try_for_each(|change| {
+        ring.inner_mut().backend_mut().pass(2_000);
+        if has_overruns {
+            assert!(chip(&mut ring).arrive(0x55, LSR::empty()).is_ok());
+        }
+        if has_changes {
+            let lines = if change % 2 == 0 { MSR::CTS } else { MSR::empty() };
+            assert!(chip(&mut ring).set_lines(lines).is_ok());
+        }
+        serve(&mut ring, limit, rounds)
+    })
+}
+
+/// One a round is not enough: the last round looks once more, and sees none.
+#[test]
+fn status_news_one_at_a_time_are_not_enough() {
+    for limit in [1, 2, 6, 32] {
+        assert_eq!(status_news(limit, 100, true, false), Ok(()), "{limit}");
+        assert_eq!(status_news(limit, 100, false, true), Ok(()), "{limit}");
+    }
+}
+
+/// With a limit of one no round ends with `Idle`, so a chip that works is declared stuck if two are pending at the last round.
+#[test]
+fn two_at_a_time_want_a_limit_above_one() {
+    assert_eq!(
+        status_news(1, 99, true, true),
+        Err(StuckError::Pending(InterruptType::ModemStatus))
+    );
+    for limit in [6, 32] {
+        assert_eq!(status_news(limit, 99, true, true), Ok(()), "{limit}");
+    }
+}
+
+/// With a limit of one the last access of each round raises THR_EMPTY again, and CTS holds back what it is for.
+#[test]
+fn a_clear_cts_wants_a_limit_above_one() {
+    let held_back = |limit| {
+        let config = Config {
+            check_cts_before_sending: true,
+            ..all()
+        };
+        let mut ring = port(8, 1, 64, config);
+        ring.queue(b"held back");
+        (0..1_000).try_for_each(|_| {
+            ring.inner_mut().backend_mut().pass(2_000);
+            if interrupts(&ring) {
+                ring.try_handle(limit, 100)?;
+            }
+            Ok(())
+        })
+    };
+    assert_eq!(
+        held_back(1),
+        Err(StuckError::Pending(InterruptType::TransmitterHoldingRegisterEmpty))
+    );
+    for limit in [2, 6, 32] {
+        assert_eq!(held_back(limit), Ok(()));
+    }
+}
+
+/// At a limit of six a round without a byte ends with `Idle`, whatever waits at its start, if nothing arrives meanwhile.
+#[test]
+fn what_waits_at_the_start_of_a_round_is_served_in_it() {
+    let mut random = Random(1);
+    for _ in 0..2_000 {
+        let mut ring = port(8, 1, 16, all());
+        for _ in 0..random.below(60) {
+            match random.below(4) {
+                0 => drop(chip(&mut ring).arrive(0x55, LSR::FRAMING_ERROR)),
+                1 => drop(chip(&mut ring).set_lines(MSR::CTS)),
+                2 => drop(chip(&mut ring).set_lines(MSR::empty())),
+                _ => drop(ring.queue(b"a")),
+            }
+            ring.inner_mut().backend_mut().pass(random.below(64) as u16);
+            if random.below(8) == 0 {
+                ring.handle(1);
+            }
+        }
+        let before = (ring.transmit_len(), ring.receive_len());
+        let handled = ring.handle(6);
+        let is_still = before == (ring.transmit_len(), ring.receive_len());
+        assert!(!is_still || handled.end == HandleEnd::Idle);
+    }
+}

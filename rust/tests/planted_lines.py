@@ -1,0 +1,95 @@
+"""Lines that `planted` plants by name, and what it cannot find. Text of a source stands here once, as it is there."""
+
+SHARED = 'rust/uart_16550/src/shared.rs'
+TASKS = 'rust/uart_16550/src/shared/asynchronous.rs'
+BLOCKING = 'rust/uart_16550/src/shared/blocking.rs'
+EXCLUSIVE = 'rust/uart_16550/src/shared/exclusive.rs'
+EMERGENCY = 'rust/uart_16550/src/emergency.rs'
+DESIGN_WARE = 'rust/uart_16550/src/design_ware.rs'
+ACCESS = 'rust/uart_16550/src/access.rs'
+SERIAL = 'rust/uart_16550_chip/src/serial.rs'
+BYTES = 'rust/uart_16550_chip/src/serial/bytes.rs'
+SERDE = 'rust/uart_16550_chip/src/serial/serde.rs'
+
+LOAD = '''    barrier();
+    // SAFETY: by the promise of the caller.
+    let value = unsafe { W::load(address) };
+    barrier();
+'''
+STORE = '''    barrier();
+    // SAFETY: by the promise of the caller.
+    unsafe { W::store(address, value) }
+    barrier();
+'''
+BARRIER = '    barrier();\n'
+
+# What is wrong, the file, the text, what stands in its place, and what finds it: the packages' tests, the thread sanitiser, or a look
+# at the assembly for a target that needs barriers.
+NAMED = [
+    ('the second of two due tasks is not woken', SHARED, 'for waiter in due.into_iter().flatten() {', 'if let Some(waiter) = due.into_iter().flatten().next() {', 'tests'),
+    ('a flush waits in the place of the reader', TASKS, 'Self::ReceivedByte => Side::Receive,\n            Self::TransmitRoom | Self::EmptyTransmitRing => Side::Transmit,', 'Self::ReceivedByte | Self::EmptyTransmitRing => Side::Receive,\n            Self::TransmitRoom => Side::Transmit,', 'tests'),
+    ('what was done before is not seen in the next call', EXCLUSIVE, 'Ordering::Acquire', 'Ordering::Relaxed', 'races'),
+    ('what is done in a call is not seen after it', EXCLUSIVE, 'Ordering::Release', 'Ordering::Relaxed', 'races'),
+    ('the sign is cleared before the call', EXCLUSIVE, 'let _in_use = InUse(', 'let _ = InUse(', 'tests'),
+    ('a task whose place is taken is forgotten', TASKS, '            other.wake();\n', '            drop(other);\n', 'tests'),
+    ('a task that is polled again wakes itself', TASKS, '.filter(|other| !other.waker.will_wake(context.waker()))', '', 'tests'),
+    ('a task waits for a chip that is stuck', SHARED, 'self.has(awaited) || self.ring.stuck().is_some()', 'self.has(awaited)', 'tests'),
+    ('a task waits for rings that are gone', TASKS, 'rings.is_none_or(|rings| rings.ends_wait(waiter.awaited))', 'rings.is_some_and(|rings| rings.ends_wait(waiter.awaited))', 'tests'),
+    ('a writer waits for an empty ring', SHARED, 'self.ring.transmit_len() < self.transmit_capacity', 'self.ring.transmit_len() == 0', 'tests'),
+    ('a flush does not wait for the chip', SHARED, 'ring.transmit_len() == 0 && ring.inner_mut().is_idle()', 'ring.transmit_len() == 0', 'tests'),
+    ('a flush of a task looks at the chip once', TASKS, 'for _look in 0..limit.get() {', 'for _look in 0..limit.get().min(1) {', 'tests'),
+    ('a flush of a thread looks at the chip once', BLOCKING, 'for _look in 0..limit.get() {', 'for _look in 0..limit.get().min(1) {', 'tests'),
+    ('after a failed output one byte is taken, and all are told as lost', SERIAL, 'let todo = self.port.take_output(offered);', 'let todo = self.port.take_output(1);', 'tests'),
+    ('a failed trigger is not tried again at a read of DATA', SERIAL, 'if !self.is_owed && !self.port.chip().is_dlab_set() {', 'if !self.port.chip().is_dlab_set() {', 'tests'),
+    ('a failed trigger is not tried again at a read of LSR', SERIAL, 'if offset == LSR_OFFSET && !self.is_owed {', 'if offset == LSR_OFFSET {', 'tests'),
+    ('a failed trigger is not tried again at a write of DATA', SERIAL, 'if offset == DATA && !self.is_owed {', 'if offset == DATA {', 'tests'),
+    ('a failed trigger is not tried again at input', SERIAL, 'if !self.is_owed && self.port.receive_polled(*byte) {', 'if self.port.receive_polled(*byte) {', 'tests'),
+    ('a failed trigger is not tried again at a look for output', SERIAL, 'let mut raised = self.tell_owed();', 'let mut raised = Ok(());', 'tests'),
+    ('a failed trigger is forgotten', SERIAL, '        self.is_owed = true;\n', '', 'tests'),
+    ('a restored device owes nothing', SERIAL, 'is_owed: true,', 'is_owed: false,', 'tests'),
+    ('a line that moved is ignored after a byte that passes', SERIAL, 'if todo.signal || todo.has_moved => self.obey_passed(todo)', 'if todo.signal => self.obey_passed(todo)', 'tests'),
+    ('a flush that fails, but by a broken pipe, is none that failed', SERIAL, 'Err((_, cause)) => Err(cause),', 'Err((ErrorKind::BrokenPipe, cause)) => Err(cause),\n                        Err(_) => Ok(count),', 'tests'),
+    ('a flush that a signal interrupts is one that failed', SERIAL, 'ErrorKind::WouldBlock | ErrorKind::Interrupted, _', 'ErrorKind::WouldBlock, _', 'tests'),
+    ('a write that a signal interrupts is one that failed', SERIAL, '                Err(cause) if cause.kind() == ErrorKind::Interrupted => {}\n', '', 'tests'),
+    ('an output takes more than it was offered', SERIAL, 'Ok(taken) => taken.min(offered),', 'Ok(taken) => taken,', 'tests'),
+    ('bytes behind a list are ignored', BYTES, '                .filter(|state| state.to_bytes() == bytes)\n', '', 'tests'),
+    ('a break is left set', EMERGENCY, '    if uart.lcr().intersects(NO_TEXT) {', '    if uart.lcr().intersects(LCR::DLAB) {', 'tests'),
+    ('a general output is cleared', EMERGENCY, 'MCR::OUT_1.union(MCR::OUT_2_INT_ENABLE)', 'MCR::OUT_2_INT_ENABLE', 'tests'),
+    ('interrupts are left enabled', EMERGENCY, '        uart.backend_mut().write(offsets::IER as u8, 0);\n', '', 'tests'),
+    ('a stuck chip is waited for again and again', EMERGENCY, '            NonZeroU64::MIN\n', '            self.patience\n', 'tests'),
+    ('a timeout with a break is taken for one without data', DESIGN_WARE, 'let shown = LSR::DATA_READY | LSR::BREAK_INTERRUPT;', 'let shown = LSR::DATA_READY;', 'tests'),
+    ('an interrupt that comes again is given up earlier', DESIGN_WARE, 'const ROUNDS: usize = 4;', 'const ROUNDS: usize = 3;', 'tests'),
+    ('an interrupt that comes again is given up later', DESIGN_WARE, 'const ROUNDS: usize = 4;', 'const ROUNDS: usize = 5;', 'tests'),
+    ('errors of a kept character are lost', DESIGN_WARE, '        self.cleared |= character.errors;\n', '', 'tests'),
+    ('an overrun is told twice', DESIGN_WARE, '        self.cleared -= overrun;\n', '', 'tests'),
+    ('the last ignored write goes on interrupting', DESIGN_WARE, '        // The last write may have been ignored, which interrupts.\n        self.registers.read_usr();\n', '', 'tests'),
+    ('a load without its first barrier', ACCESS, LOAD, LOAD.replace(BARRIER, '', 1), 'barriers'),
+    ('a load without its last barrier', ACCESS, LOAD, LOAD.removesuffix(BARRIER), 'barriers'),
+    ('a store without its first barrier', ACCESS, STORE, STORE.replace(BARRIER, '', 1), 'barriers'),
+    ('a store without its last barrier', ACCESS, STORE, STORE.removesuffix(BARRIER), 'barriers'),
+    ('USR is one register too low', ACCESS, 'const USR: usize = 0x1f;', 'const USR: usize = 0x1e;', 'tests'),
+]
+
+# Functions that the packages' tests do not run, from a text to the next one, and what looks at them.
+ELSEWHERE = [
+    # `in` and `out`, which a process may not use: kernels in emulated machines do. Behind them are the barriers, which `accesses` looks
+    # at in the assembly: with the lines that have a name above, and for each architecture in `integration/rust`.
+    (ACCESS, '// Reads a port. The caller must be allowed to access it.', '// What one access loads or stores'),
+    (ACCESS, '#[cfg(all(any(target_arch = "arm", target_arch = "aarch64"), not(miri)))]\nmacro_rules! word', 'word!(u8, "ldrb", "strb");'),
+    # The order of the sign: the thread sanitiser sees it, with the lines that have a name above.
+    (EXCLUSIVE, 'if self.is_in_use.swap(', 'return None;'),
+    (EXCLUSIVE, 'self.0.store(', '\n}'),
+]
+
+# Lines that no test can find: the file, a part of the line, what stands in its place or None for anything, and why.
+KNOWN = [
+    (SERIAL, 'if todo.signal || todo.has_moved => self.obey_passed(todo)', 'if todo.signal => self.obey_passed(todo)',
+     'a byte that passes does not take the line down, and a rise is a signal: tests/passing.rs'),
+    (SERIAL, 'if todo.signal || todo.has_moved => self.obey_passed(todo)', '&&', 'the same, and there is no other signal then'),
+    (TASKS, 'Self::ReceivedByte => Side::Receive,', None, 'two places whose names are swapped are two places'),
+    (DESIGN_WARE, 'byte: 0,', '1', 'a cell is written before it is read'),
+    (DESIGN_WARE, 'errors: LSR::from_bits_retain(0),', '1', 'a cell is written before it is read'),
+    (DESIGN_WARE, 'first: 0,', '1', 'an empty queue may begin anywhere'),
+    (DESIGN_WARE, 'line: LCR::from_bits_retain(0),', '1', 'before LCR is written, DLAB alone counts of it'),
+    (SERDE, 'let mut bytes = [0; SerialState::LEN];', '1', 'bytes are written before they are read'),
+]

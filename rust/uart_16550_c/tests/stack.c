@@ -1,0 +1,303 @@
+/*
+ * How much stack each call of the library takes: prints its name and bytes. A call is made on a stack of its own that was painted before,
+ * and what has another colour afterwards was used: from the return address of the call on, with the return addresses of the two functions of
+ * this program, which use no more. For hosts with glibc's contexts.
+ */
+#define _GNU_SOURCE
+#include <stdint.h>
+#include <stdio.h>
+#include <stdlib.h>
+#include <string.h>
+#include <ucontext.h>
+
+#include "u16550.h"
+
+enum { SIZE = 1 << 16, COLOUR = 0xa5, DLAB = 0x80, FIFO_ENABLE = 1 };
+
+void u16550_panic(void)
+{
+    puts("panic");
+    abort();
+}
+
+/* ---- a chip whose transmitter is joined to its receiver: what is sent comes back. It calls nothing, and so uses no stack */
+
+static struct {
+    uint8_t registers[8], dll, dlm, fifo[256], in, out, fifos, isr;
+} chip;
+
+static uint8_t U16550_CALL read_register(void *context, uintptr_t address)
+{
+    (void)context;
+    switch (address & 7) {
+    case 0:
+        return chip.registers[3] & DLAB ? chip.dll : chip.in != chip.out ? chip.fifo[chip.out++] : 0;
+    case 1:
+        return chip.registers[3] & DLAB ? chip.dlm : chip.registers[1];
+    case 2:
+        return chip.fifos | chip.isr;
+    case 5:
+        return U16550_LSR_THR_EMPTY | U16550_LSR_TRANSMITTER_EMPTY | (chip.in != chip.out);
+    case 6:
+        return chip.registers[4] & U16550_MCR_LOOP_BACK ? 0 : U16550_MSR_CTS | U16550_MSR_DSR | U16550_MSR_CD | U16550_MSR_DELTA_CTS;
+    default:
+        return chip.registers[address & 7];
+    }
+}
+
+static void U16550_CALL write_register(void *context, uintptr_t address, uint8_t value)
+{
+    (void)context;
+    if ((address & 7) == 0 && chip.registers[3] & DLAB)
+        chip.dll = value;
+    else if ((address & 7) == 1 && chip.registers[3] & DLAB)
+        chip.dlm = value;
+    else if ((address & 7) == 0)
+        chip.fifo[chip.in++] = value;
+    else if ((address & 7) == 2)
+        chip.fifos = value & FIFO_ENABLE ? 0xc0 : 0;
+    else
+        chip.registers[address & 7] = value;
+}
+
+static const struct u16550_io io = { NULL, read_register, write_register };
+
+/* ---- a stack that is painted */
+
+static uint8_t stack[SIZE] __attribute__((aligned(64)));
+static ucontext_t here, there;
+static void (*the_call)(void);
+static size_t used;
+
+/* The look at the colours is made on the painted stack too, and calls nothing: leaving it would use more of it. */
+static void run_the_call(void)
+{
+    size_t untouched = 0;
+
+    the_call();
+    while (untouched < sizeof stack && stack[untouched] == COLOUR)
+        untouched++;
+    used = sizeof stack - untouched;
+}
+
+/* How many bytes of the stack a call has used, with all above it. */
+static size_t used_by(void (*call)(void))
+{
+    memset(stack, COLOUR, sizeof stack);
+    the_call = call;
+    if (getcontext(&there))
+        abort();
+    there.uc_stack.ss_sp = stack;
+    there.uc_stack.ss_size = sizeof stack;
+    there.uc_link = &here;
+    makecontext(&there, run_the_call, 0);
+    if (swapcontext(&here, &there))
+        abort();
+    return used;
+}
+
+static struct u16550 uart;
+static struct u16550_design_ware design_ware;
+static struct u16550_config config;
+static struct u16550_state state;
+static struct u16550_dump dump;
+static struct u16550_setup setup = { 1, U16550_WAIT_FIRST, 0x0b };
+static struct u16550_layout layout = { 4, 32, U16550_NATIVE_ENDIAN };
+static struct u16550_io got_io;
+static struct u16550_loopback_failure failure;
+static struct u16550_difference difference;
+static struct u16550_received received, many[32];
+static struct u16550_handled handled;
+static struct u16550_urgent urgent;
+static struct u16550_stuck stuck;
+static struct u16550_line_port line_ports[1] = { { &uart, { 0, 0 }, 0, 0 } };
+static uint32_t device[64];
+static uint8_t rings[512], bytes[256], byte, other;
+static uint16_t divisor;
+static uint32_t baud_rate;
+static uint64_t limit;
+static size_t len;
+static int status;
+
+/* Takes what a call returns, so that each call has the same frame above it. */
+static void __attribute__((noinline)) keep(int result)
+{
+    status = result;
+}
+
+static int __attribute__((noinline)) nothing(void)
+{
+    __asm__ volatile("");
+    return 0;
+}
+
+/* Everything as it is before each call: a driver with rings and queued bytes, or one without; bytes that arrived. */
+static void ready(int has_rings)
+{
+    static const uint8_t isr_idle = 1;
+    size_t count;
+
+    memset(&chip, 0, sizeof chip);
+    memset(&uart, 0, sizeof uart);
+    chip.isr = isr_idle;
+    u16550_new(&uart, &io);
+    u16550_default_config(&config);
+    u16550_init(&uart, &config);
+    u16550_set_spin_limit(&uart, 100);
+    u16550_config_register_dump(&uart, &dump);
+    u16550_get_state(&uart, &state);
+    chip.in = 40;
+    if (has_rings) {
+        u16550_ring_new(&uart, rings, sizeof rings, 256, 256);
+        u16550_ring_hold_transmit(&uart);
+        u16550_ring_queue(&uart, bytes, 64, &count);
+        u16550_ring_release_transmit(&uart);
+    }
+}
+
+static size_t above;
+
+static void call_nothing(void)
+{
+    keep(nothing());
+}
+
+#define CALLS(PLAIN, RING)                                                                            \
+    PLAIN(u16550_new, &uart, &io)                                                                     \
+    PLAIN(u16550_new_port, &uart, &io, 0x3f8)                                                         \
+    PLAIN(u16550_new_mmio, &uart, &io, 0x1000, 4)                                                     \
+    PLAIN(u16550_new_mmio_wide, &uart, (uintptr_t)device, &layout)                                    \
+    PLAIN(u16550_new_design_ware, &uart, &design_ware, &io, 10)                                       \
+    PLAIN(u16550_new_mmio_design_ware, &uart, &design_ware, (uintptr_t)device, &layout, 10)           \
+    PLAIN(u16550_design_ware_fault, &uart, &design_ware)                                              \
+    PLAIN(u16550_from_state, &uart, &io, &state)                                                      \
+    PLAIN(u16550_end, &uart)                                                                          \
+    PLAIN(u16550_default_config, &config)                                                             \
+    PLAIN(u16550_nearest, &config, 20, &config)                                                       \
+    PLAIN(u16550_get_io, &uart, &got_io)                                                              \
+    PLAIN(u16550_set_io, &uart, &io)                                                                  \
+    PLAIN(u16550_get_config, &uart, &config)                                                          \
+    PLAIN(u16550_get_state, &uart, &state)                                                            \
+    PLAIN(u16550_fifo_enabled, &uart, &byte)                                                          \
+    PLAIN(u16550_spin_limit, &uart, &limit)                                                           \
+    PLAIN(u16550_set_spin_limit, &uart, 100)                                                          \
+    PLAIN(u16550_check_present, &uart, &byte)                                                         \
+    PLAIN(u16550_init, &uart, &config)                                                                \
+    PLAIN(u16550_init_with, &uart, &config, &setup)                                                   \
+    PLAIN(u16550_test_loopback, &uart, &failure)                                                      \
+    PLAIN(u16550_check_configured, &uart, 0x0b, &difference)                                          \
+    PLAIN(u16550_check_connected, &uart)                                                              \
+    PLAIN(u16550_set_frame, &uart, &config)                                                           \
+    PLAIN(u16550_set_frame_when_idle, &uart, &config)                                                 \
+    PLAIN(u16550_set_trigger_level, &uart, 8)                                                         \
+    PLAIN(u16550_quiesce, &uart, 0, U16550_FIFOS_RESET)                                               \
+    PLAIN(u16550_restore, &uart, &dump)                                                               \
+    PLAIN(u16550_attach, &uart, &byte, &other)                                                        \
+    PLAIN(u16550_emergency, &uart)                                                                    \
+    PLAIN(u16550_set_modem_control, &uart, 0x0b)                                                      \
+    PLAIN(u16550_set_rts, &uart, 1)                                                                   \
+    PLAIN(u16550_set_dtr, &uart, 1)                                                                   \
+    PLAIN(u16550_set_break, &uart, 1)                                                                 \
+    PLAIN(u16550_ready_to_receive, &uart)                                                             \
+    PLAIN(u16550_ready_to_send, &uart)                                                                \
+    PLAIN(u16550_try_receive_byte, &uart, &byte)                                                      \
+    PLAIN(u16550_try_send_byte, &uart, 'a')                                                           \
+    PLAIN(u16550_receive_bytes, &uart, bytes, sizeof bytes, &len)                                     \
+    PLAIN(u16550_send_bytes, &uart, bytes, sizeof bytes, &len)                                        \
+    PLAIN(u16550_send_burst, &uart, bytes, sizeof bytes, 64, &len)                                    \
+    PLAIN(u16550_try_receive_with_errors, &uart, &received)                                           \
+    PLAIN(u16550_receive_with_errors, &uart, many, 32, &len)                                          \
+    PLAIN(u16550_receive_bytes_exact, &uart, bytes, sizeof bytes, &len)                               \
+    PLAIN(u16550_send_bytes_exact, &uart, bytes, sizeof bytes, &len)                                  \
+    PLAIN(u16550_read, &uart, bytes, sizeof bytes, &len)                                              \
+    PLAIN(u16550_write, &uart, bytes, sizeof bytes, &len)                                             \
+    PLAIN(u16550_flush, &uart)                                                                        \
+    PLAIN(u16550_read_ready, &uart, &byte)                                                            \
+    PLAIN(u16550_write_ready, &uart, &byte)                                                           \
+    PLAIN(u16550_is_idle, &uart, &byte)                                                               \
+    PLAIN(u16550_is_gone, &uart, &byte)                                                               \
+    PLAIN(u16550_write_text, &uart, "a\nb\bc\177", 6, &len)                                           \
+    PLAIN(u16550_write_raw_text, &uart, "a\nb\bc\177", 6, &len)                                       \
+    PLAIN(u16550_ier, &uart, &byte)                                                                   \
+    PLAIN(u16550_isr, &uart, &byte)                                                                   \
+    PLAIN(u16550_lcr, &uart, &byte)                                                                   \
+    PLAIN(u16550_mcr, &uart, &byte)                                                                   \
+    PLAIN(u16550_lsr, &uart, &byte)                                                                   \
+    PLAIN(u16550_msr, &uart, &byte)                                                                   \
+    PLAIN(u16550_spr, &uart, &byte)                                                                   \
+    PLAIN(u16550_dll_dlm, &uart, &byte, &other)                                                       \
+    PLAIN(u16550_peek_modem, &uart, &byte)                                                            \
+    PLAIN(u16550_enable_interrupts, &uart, 3)                                                         \
+    PLAIN(u16550_disable_interrupts, &uart, 3)                                                        \
+    PLAIN(u16550_retrigger_interrupts, &uart)                                                         \
+    PLAIN(u16550_config_register_dump, &uart, &dump)                                                  \
+    PLAIN(u16550_dump_divisor, &dump, &divisor)                                                       \
+    PLAIN(u16550_dump_baud_rate, &dump, &config, &baud_rate)                                          \
+    PLAIN(u16550_ring_new, &uart, rings, sizeof rings, 256, 256)                                      \
+    RING(u16550_ring_end, &uart)                                                                      \
+    RING(u16550_ring_transmit_len, &uart, &len)                                                       \
+    RING(u16550_ring_receive_len, &uart, &len)                                                        \
+    RING(u16550_ring_is_paused, &uart, &byte)                                                         \
+    RING(u16550_ring_queue, &uart, bytes, 128, &len)                                                  \
+    RING(u16550_ring_transmit_room, &uart, &len)                                                      \
+    RING(u16550_ring_hold_transmit, &uart)                                                            \
+    RING(u16550_ring_release_transmit, &uart)                                                         \
+    RING(u16550_ring_is_held, &uart, &byte)                                                           \
+    RING(u16550_ring_queue_urgent, &uart, 0x13, &urgent)                                              \
+    RING(u16550_ring_urgent, &uart, &urgent)                                                          \
+    RING(u16550_ring_clear_transmit, &uart, &len)                                                     \
+    RING(u16550_ring_clear_receive, &uart, &len)                                                      \
+    RING(u16550_ring_set_low_mark, &uart, 16)                                                         \
+    RING(u16550_ring_take_low, &uart, &byte)                                                          \
+    RING(u16550_ring_take, &uart, bytes, sizeof bytes, &len)                                          \
+    RING(u16550_ring_adjust_rts, &uart, 32, 64)                                                       \
+    RING(u16550_ring_resume_transmit, &uart)                                                          \
+    RING(u16550_ring_handle, &uart, 8, &handled)                                                      \
+    RING(u16550_ring_try_handle, &uart, 8, 1, &handled)                                               \
+    RING(u16550_ring_stuck, &uart, &stuck)                                                            \
+    RING(u16550_ring_restart, &uart, 5)                                                               \
+    RING(u16550_ring_retrigger, &uart)                                                                \
+    RING(u16550_ring_service, &uart, &len)                                                            \
+    RING(u16550_line_handle, line_ports, 1, 8, 1, &byte)                                              \
+    RING(u16550_ring_take_line, &uart, &byte)                                                         \
+    RING(u16550_ring_take_modem, &uart, &byte)                                                        \
+    RING(u16550_ring_config_register_dump, &uart, &dump)
+
+/* A function for each call. */
+#define WRAPPER(name, ...)                 \
+    static void call_##name(void)          \
+    {                                      \
+        keep(name(__VA_ARGS__));           \
+    }
+CALLS(WRAPPER, WRAPPER)
+
+static void call_u16550_text(void)
+{
+    keep(u16550_text(U16550_NULL_POINTER) != NULL);
+}
+
+/* The most that a call takes, whichever interrupt the chip shows. */
+static void measure(const char *name, void (*call)(void), int has_rings)
+{
+    static const uint8_t isrs[] = { 1, 0, 2, 4, 6, 8, 0x0c };
+    size_t most = 0, i;
+
+    for (i = 0; i < sizeof isrs; i++) {
+        ready(has_rings);
+        chip.isr = isrs[i];
+        if (used_by(call) > most)
+            most = used;
+    }
+    printf("%s %zu\n", name, most - above);
+}
+
+int main(void)
+{
+    /* But for the return address. */
+    above = used_by(call_nothing) - sizeof(void *);
+#define PLAIN(name, ...) measure(#name, call_##name, 0);
+#define RING(name, ...) measure(#name, call_##name, 1);
+    CALLS(PLAIN, RING)
+    measure("u16550_text", call_u16550_text, 0);
+    return 0;
+}
