@@ -24,6 +24,8 @@ TABLE = types.SimpleNamespace(
         "ERRORS": [],
         "BY_HAND": {},
         "CONSTANT": [],
+        "IN_ORDER": [],
+        "MAY_GROW": [],
         "GUARDS": {},
         "IMPLEMENTED": {},
         "LARGE": {"corpus/src/values.rt": ["115_200"]},

@@ -1,11 +1,14 @@
 """Reads the crates, erases each file, and makes all files of the emitted packages."""
 import collections
 import concurrent.futures
+import functools
 import hashlib
+import os
 import pathlib
 import re
 import shutil
 import subprocess
+import threading
 
 import documentation
 import examples
@@ -61,14 +64,63 @@ def kit():
     return subprocess.run(["rt", "version"], check=True, capture_output=True, text=True).stdout.strip()
 
 
+def kept_folder():
+    """Where what `rt expand` printed is kept, for each user of the machine."""
+    home = os.environ.get("XDG_CACHE_HOME") or os.path.expanduser("~/.cache")
+    return pathlib.Path(home) / "geesetrunk" / "expanded"
+
+
+@functools.lru_cache(maxsize=None)
+def macros(root, crate):
+    """What could change the meaning of a macro's name in a crate, beside the file and the kit: its line of crates.txt, which names the
+    libraries, and each line of its sources, and of those of the crates below it, that speaks of a macro."""
+    lines = (root / "crates.txt").read_text(encoding="utf-8").splitlines()
+    uses = {re.match(r"\w+", line)[0]: line for line in lines if re.match(r"\w", line)}
+    found = [crate]
+    for name in found:
+        found += [one for one in re.findall(r"\w+", uses[name]) if one in uses and one not in found]
+    told = [uses[name] for name in found]
+    for name in sorted(found):
+        for path in sorted((root / "crates" / name / "src").rglob("*.rt")):
+            told += re.findall(rb"[^\n]*\bmacro[^\n]*", path.read_bytes())
+    return repr(told).encode()
+
+
+def kit_files():
+    """What tells one kit from another: its name, and the size and time of the compiler and of the library with the macro."""
+    rt = pathlib.Path(shutil.which("rt")).resolve()
+    top = rt.parent.parent
+    paths = [rt, rt.parent / "rattle", top / "KIT-ID", *sorted((top / "rlibs" / "thiserror.rlib").rglob("*"))]
+    return repr([(str(path), path.stat().st_size, path.stat().st_mtime_ns) for path in paths if path.exists()]).encode()
+
+
 def expanded(root, name):
-    """The source of a file with the implementations of thiserror written out."""
+    """The source of a file with the implementations of thiserror written out. What was made of the same file by the same kit is taken from
+    where it is kept, unless GEESETRUNK_ANEW is set."""
     crate, file = name.split("/", 1)
+    key = hashlib.sha256(b"\0".join([kit_files(), name.encode(), macros(root, crate), (root / "crates" / name).read_bytes()])).hexdigest()
+    kept = kept_folder() / key
+    if not os.environ.get("GEESETRUNK_ANEW"):
+        try:
+            data = kept.read_bytes()
+            # The first line is the sum of the others: half a file counts for nothing.
+            head, _, text = data.partition(b"\n")
+            if head.decode() == hashlib.sha256(text).hexdigest():
+                return text
+        except (OSError, UnicodeDecodeError):
+            pass
     done = subprocess.run(
         ["rt", "expand", "--file", file], cwd=root / "crates" / crate, capture_output=True, timeout=600, check=False
     )
     if done.returncode != 0:
         raise Failed(f"crates/{name}: rt expand failed: {done.stderr.decode()[-300:]}")
+    try:
+        kept.parent.mkdir(parents=True, exist_ok=True)
+        made = kept.with_name(f"{key}.{os.getpid()}.{threading.get_ident()}")
+        made.write_bytes(hashlib.sha256(done.stdout).hexdigest().encode() + b"\n" + done.stdout)
+        made.replace(kept)
+    except OSError:
+        pass
     return done.stdout
 
 

@@ -91,6 +91,7 @@ PORT = [
     "struct Port { ring: Uart16550Ring<Device>, overruns: u32 }",
     "impl Port {",
 ]
+LINE = ["use facade::ring::{self, *};", "const MAX_UNFINISHED_ROUNDS: u32 = 100;"]
 
 SPEC = "use facade::native::{*, spec::*};"
 
@@ -119,7 +120,7 @@ EXAMPLES = {
     "uart_16550::driver::frame::Uart16550::set_modem_control": compiles(UART),
     "uart_16550::driver::frame::Uart16550::set_rts": compiles(UART),
     "uart_16550::driver::frame::Uart16550::set_dtr": compiles(UART),
-    "uart_16550::driver::frame::Uart16550::attach": compiles("ports: Device"),
+    "uart_16550::driver::frame::Uart16550::attach": compiles(UART),
     "uart_16550::driver::configured::Uart16550::check_configured": compiles(UART),
     "uart_16550::driver::setup::Uart16550::set_trigger_level": compiles(UART),
     "uart_16550::driver::setup::Uart16550::set_frame_when_idle": compiles(UART),
@@ -144,6 +145,7 @@ EXAMPLES = {
     ),
     "uart_16550::driver::state::Uart16550::state": compiles("uart: &Uart16550Tty<Device>"),
     "uart_16550::driver::status::Uart16550::ier": compiles(UART),
+    "uart_16550::driver::status::Uart16550::is_gone": compiles(UART),
     "uart_16550::driver::status::Uart16550::isr": (
         INCLUDE
         + ["# struct Port { uart: Uart16550<Device> }", "# impl Port {", "# fn example(&mut self) -> Option<InterruptType> {"],
@@ -230,6 +232,7 @@ EXAMPLES = {
     ),
     "uart_ring::ring::status::Uart16550Ring::take_line": in_port(),
     "uart_ring::ring::status::Uart16550Ring::take_modem": in_port(),
+    "uart_ring::ring::status::Uart16550Ring::config_register_dump": in_port(),
     "uart_ring::ring::transmit::Uart16550Ring::resume_transmit": in_port(),
     "uart_ring::ring::transmit::Uart16550Ring::queue": (
         INCLUDE
@@ -256,6 +259,21 @@ EXAMPLES = {
         + ["# fn example(mut ring: Uart16550Ring<Device>, config: Config) -> Result<Port, StartError> {"],
         ["# }"],
     ),
+    "uart_ring::ring::line::Uart16550Ring::lower_line": compiles(RING, items=LINE),
+    "uart_ring::ring::line::Uart16550Ring::raise_line": compiles(RING + ", lowered: Lowered", items=LINE),
+    "uart_ring::line::handle_line": compiles("mut ports: impl LinePorts", items=LINE),
+    "uart_ring::line::handle_ports": compiles("mut ports: [LinePort<Device>; 2]", items=LINE),
+    "uart_ring::line::LinePort::new": compiles(
+        "console: Uart16550Ring<Device>, modem: Uart16550Ring<Device>", items=LINE
+    ),
+    "uart_ring::line::LinePort::handled": (
+        INCLUDE
+        + [f"# {line}" for line in LINE]
+        + ["# fn example(ports: &[LinePort<Device>]) -> Result<(), StuckError> {"],
+        ["# Ok(()) }"],
+    ),
+    "uart_ring::line::LinePort::lower": compiles("mut port: LinePort<Device>", items=LINE),
+    "uart_ring::line::LinePort::raise": compiles("mut port: LinePort<Device>", items=LINE),
     "uart_ring::ring::Uart16550Ring::into_inner": compiles("ring: ring::Uart16550Ring<Device>", items=["use facade::ring;"]),
 }
 for path, like in {

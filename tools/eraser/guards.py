@@ -43,7 +43,7 @@ MEANINGS = {
         "Rattle.uart_virtual.specs.Port",
         "uart_virtual/specs/Port.antt",
         "pub record IsTold (p : PortState) : Type 0 where pub line : p.told.line ≡ is_up p.chip "
-        "pub room : p.told.has_room ≡ has_room p.chip",
+        "pub room : p.told.has_room ≡ (has_room p.chip && (p.told.has_room || is_empty p.chip))",
     ),
     "NUM_REGISTERS": (
         "Rattle.uart_spec.specs.declared.baud.TheConstants",
@@ -53,7 +53,8 @@ MEANINGS = {
 }
 
 # What a public trait promises of each implementation, which in Rust nobody proves. The code may rely on nothing else: `step` and the like
-# are relations of the implementation itself, and no emitted code reads or writes through any `Read` or `Write`.
+# are relations of the implementation itself, no emitted code reads or writes through any `Read` or `Write`, and a port of a line is no index
+# of emitted code.
 PROMISES = {
     "uart_spec::backend::Backend::read": ["ensures { step self.old (Read register_offset result) self.new }"],
     "uart_spec::backend::Backend::write": ["ensures { step self.old (Write register_offset value) self.new }"],
@@ -72,6 +73,15 @@ PROMISES = {
         "ensures writes { writes self.old buf.now result self.new }",
         "ensures count { IfOk result (λ count. count ≤ length buf.now) }",
         "ensures none { IfOk result (λ count. count ≡ 0 → length buf.now ≡ 0) }",
+    ],
+    "uart_ring::line::LinePorts::number": ["ensures { result ≡ number self.now }"],
+    "uart_ring::line::LinePorts::lower": [
+        "ensures did { lowers limit rounds port result self.old self.new }",
+        "ensures number { number self.new ≡ number self.old }",
+    ],
+    "uart_ring::line::LinePorts::raise": [
+        "ensures did { raises port self.old self.new }",
+        "ensures number { number self.new ≡ number self.old }",
     ],
     "uart_16550::embedded_io::Write::flush": ["ensures { flushes self.old result self.new }"],
     "uart_16550::embedded_io::ReadReady::read_ready": ["ensures { answers_read self.old result self.new }"],

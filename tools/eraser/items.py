@@ -7,6 +7,7 @@ import collections
 import re
 
 import table
+import words
 from tokens import Refused, tokens
 
 # An edit of the text from `start` to `end`. The tokens in it become those of `text`.
@@ -286,6 +287,10 @@ class File:
             self.refuse("a register without `Debug`", first)
         self.attribute([one for one in attributes if one[0] != "derive"], ("automatically_derived",))
         self.derive(attributes, is_register)
+        if f"{path}::{name}" in self.table.IN_ORDER:
+            self.insert("order", self.code[first].start, "#[repr(C)]\n")
+        if f"{path}::{name}" in self.table.MAY_GROW:
+            self.insert("grows", self.code[first].start, '#[cfg_attr(not(feature = "exhaustive"), non_exhaustive)]\n')
         if self.word(at) == "{":
             close = self.closing(at)
             self.fields(at + 1, close, f"{path}::{name}")
@@ -562,10 +567,10 @@ class File:
 
     def allocating(self):
         """A method that is given an allocator is the one of the kit, and a list or a text is too: the file has a `use` of what it names."""
-        dropped = [edit for edit in self.edits if edit.end > edit.start]
+        dropped = words.Spans((edit.start, edit.end) for edit in self.edits if edit.end > edit.start)
         used = set()
         for at, token in enumerate(self.code):
-            if token.kind != "word" or any(edit.start <= token.start < edit.end for edit in dropped):
+            if token.kind != "word" or token.start in dropped:
                 continue
             is_given = self.word(at + 1) == "(" and self.word(at + 2) == "alloc" and self.word(at + 3) in (")", ",")
             if self.word(at - 1) == "." and token.text in self.table.WITH_ALLOCATOR and is_given:

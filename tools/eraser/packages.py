@@ -53,19 +53,29 @@ def manifest(crate, crates):
     text += f'description = "Part of geesetrunk, and no interface: {crates.about[crate]}"\nlicense = "MIT OR Apache-2.0"\n'
     text += "" if ships else "publish = false\n"
     text += f'\n[lib]\nname = "proved_{crate}"\n'
-    if has_io:
-        below = [quoted(f"{one}/embedded-io") for one in uses if one in table.EMBEDDED_IO]
-        text += f"\n[features]\nembedded-io = [{', '.join([quoted('dep:embedded-io'), *below])}]\n"
+    text += features(crate, uses)
     text += "\n[dependencies]\n"
     for name in dict.fromkeys(one for _, one in libraries(crate, uses)):
-        features = {} if ships else {"features": '["std"]'}
-        text += dependency(name, path=quoted(FOLDERS[name]), version=quoted(f"={VERSION}"), **features)
+        on = {} if ships else {"features": '["std"]'}
+        text += dependency(name, path=quoted(FOLDERS[name]), version=quoted(f"={VERSION}"), **on)
     for name in uses:
         if name in table.CRATES:
-            text += dependency(name, package=quoted(package(name)), path=quoted(f"../{name}"), version=quoted(f"={VERSION}"))
+            on = {"features": '["exhaustive"]'} if crate in table.NAME_EACH and name in table.GROWING else {}
+            text += dependency(name, package=quoted(package(name)), path=quoted(f"../{name}"), version=quoted(f"={VERSION}"), **on)
     if has_io:
         text += dependency("embedded-io", version=quoted("0.7"), optional="true")
     return text + for_tests(crate)
+
+
+def features(crate, uses):
+    """The features of a crate."""
+    lines = []
+    if crate in table.EMBEDDED_IO:
+        below = [quoted(f"{one}/embedded-io") for one in uses if one in table.EMBEDDED_IO]
+        lines.append(f"embedded-io = [{', '.join([quoted('dep:embedded-io'), *below])}]\n")
+    if crate in table.GROWING:
+        lines += ["# For this repository's own packages, of the same version: a match names each case of an error.\n", "exhaustive = []\n"]
+    return "".join(["\n[features]\n", *lines]) if lines else ""
 
 
 def for_tests(crate):

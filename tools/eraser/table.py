@@ -20,6 +20,8 @@ RULES = [
     ("debug", "`Debug` in the derive of a register", "nothing: by hand there is one with the names of the bits"),
     ("guard", "the body of a function in `GUARDS`", "the test of what its clause requires, then the body"),
     ("const", "a function in `CONSTANT`", "`const fn`"),
+    ("order", "a struct in `IN_ORDER`", "also `#[repr(C)]`"),
+    ("grows", "an enum in `MAY_GROW`", "also `#[non_exhaustive]`, if the feature `exhaustive` is off"),
     ("formatter", "`fn fmt<W: fmt::Write>(&self, f: &mut fmt::Formatter<W>)`", "`fn fmt(&self, f: &mut fmt::Formatter<'_>)`"),
     ("writer", "`use std::fmt;` in a file that calls `write_char`", "also `use std::fmt::Write as _;`"),
     ("allocator", "`collect(alloc)`, `to_vec(alloc)`, `to_string(alloc)`", "`collect_with(alloc)`, and so on"),
@@ -54,6 +56,7 @@ BY_HAND = {
     "uart_spec/src/lib.rt": "pub mod by_hand;",
     "uart_spec/src/registers.rt": "mod by_hand;",
     "uart_16550/src/lib.rt": "mod by_hand;",
+    "uart_ring/src/lib.rt": "mod by_hand;",
     "uart_chip/src/lib.rt": "mod by_hand;",
     "uart_live/src/lib.rt": "mod by_hand;",
     "uart_virtual/src/lib.rt": "mod by_hand;",
@@ -63,6 +66,22 @@ EMBEDDED_IO = ["uart_spec", "uart_16550"]
 
 # Files whose errors have `core::error::Error` by hand: Rattle's has no `source`.
 ERRORS = ["uart_spec/src/errors.rt"]
+
+# Structs whose fields stay in the order of the source. So the backend is at the driver's own address, and a call of it adds nothing to that.
+# rustc puts a field first that has a value which never occurs: the spin limit, which is not 0.
+IN_ORDER = ["uart_16550::driver::Uart16550"]
+
+# Enums that may get more cases, so that a match of a user has one for all others. They are not those that the original's interface has too.
+# With the feature `exhaustive` a match of this repository's own packages names each case, and rustc tells them of a new one.
+MAY_GROW = [
+    *(f"uart_spec::errors::{name}Error" for name in "Init InvalidDivisor Loopback Uart16550Tty Attach Configuration Frame NearestDivisor".split()),
+    "uart_ring::ring::RingError",
+    "uart_ring::ring::service::HandleEnd",
+    "uart_ring::ring::storm::StuckError",
+]
+# Of these, the crates that others match, and the crates that do.
+GROWING = ["uart_spec", "uart_ring"]
+NAME_EACH = ["uart_language"]
 
 # The functions that are `const fn`, so that callers can make a driver or a configuration in a `static`.
 CONSTANT = """
@@ -113,6 +132,7 @@ Guard = collections.namedtuple("Guard", "clauses test tested_by panics reason", 
 
 REGISTER_OFFSET = ["requires { register_offset < NUM_REGISTERS }"]
 COMPUTABLE = ["requires { IsComputable config }"]
+LINE_PORT = ["requires { port < number self.old }"]
 NOT_COMPUTABLE = "If the configuration is not computable (`Config::is_computable`)."
 NO_BODY = "no body: each implementation has its own entry"
 INSIDE = "private: each caller is proved to meet it"
@@ -178,8 +198,9 @@ GUARDS = {
     "uart_spec::baud::ticks_of": Guard(["requires prescaler { prescaler prescaler_division_factor ≤ 15 }"], reason=INSIDE),
     "uart_spec::baud::nearest_factor": Guard(
         [
-            "requires some { 0 < ticks }",
+            "requires some { 16 ≤ ticks }",
             "requires ticks { ticks < 2 ^ 40 }",
+            "requires runs { 0 < frequency }",
             "requires frequency { frequency < 2 ^ 32 }",
         ],
         reason=INSIDE,
@@ -260,6 +281,8 @@ GUARDS = {
     "uart_ring::ring::transmit::Uart16550Ring::drop_sent": Guard(
         ["requires { count ≤ length (sendable (ring_fields self.old)) }"], reason=IN_FILE
     ),
+    "uart_ring::line::LinePorts::lower": Guard(LINE_PORT, reason=NO_BODY),
+    "uart_ring::line::LinePorts::raise": Guard(LINE_PORT, reason=NO_BODY),
     "uart_16550::pio::PioBackend::port": Guard(REGISTER_OFFSET, test=EIGHT, reason="private, but reached by `Backend::read` and `Backend::write`"),
     "uart_16550::mmio::MmioBackend::address": Guard(
         REGISTER_OFFSET, test=EIGHT, reason="private, but reached by `Backend::read` and `Backend::write`"

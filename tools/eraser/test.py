@@ -248,6 +248,8 @@ BYTES = [
     ("uart_16550/src/driver/init.rs", "/// Initialises the device", "/// Initializes the device"),
     ("uart_16550/src/driver.rs", "// Reads LSR, and", "// Reads LSR; \rlet x = 1; //"),
     ("uart_16550/src/driver.rs", "impl<B: Backend>", "impl<B:  Backend>"),
+    ("uart_16550/src/driver.rs", "#[repr(C)]\n", ""),
+    ("uart_spec/src/errors.rs", "non_exhaustive", "must_use"),
     ("uart_ring/src/lib.rs", "mod ring;", "pub mod ring;"),
     ("uart_ring/src/lib.rs", "#![forbid(unsafe_code)]\n", ""),
     ("uart_spec/src/lib.rs", "pub mod by_hand;", "#[cfg(unix)]\npub mod by_hand;"),

@@ -28,6 +28,9 @@ TOKEN = re.compile(
     |(?P<sign>::|->|=>|==|!=|<=|>=|&&|\|\||\.\.=|\.\.|[-+*/%&|^]=|[!#$%&()*+,\-./:;<=>?@\[\]^_{|}~])""",
     re.VERBOSE,
 )
+# What may be no letter, digit or sign: all but those of ASCII and ends of lines.
+ODD = re.compile(r"[^\n -~]")
+RAW = re.compile(r"b?r#*\"|r#|c\"")
 STRING = re.compile(r'(?P<string>b?"(?:\\.|[^"\\])*")', re.DOTALL)
 # What Rust code has and a clause does not.
 CODE = re.compile(r"\b(fn|pub|impl|mod|use|struct|enum|trait|unsafe|extern|macro_rules)\b|->|=>|[;'`#\\\"@!?]|--|//|/\*|\*/")
@@ -107,9 +110,9 @@ def clause(text, start, word, strict=True):
 
 def check_letters(text):
     """Refuses control characters, and what is not ASCII outside of clauses is refused by `tokens`."""
-    for at, letter in enumerate(text):
-        if letter != "\n" and unicodedata.category(letter) in ("Cc", "Cf", "Zl", "Zp", "Co", "Cn", "Cs"):
-            raise Refused(f"the character {ascii(letter)}", at)
+    for found in ODD.finditer(text):
+        if unicodedata.category(found[0]) in ("Cc", "Cf", "Zl", "Zp", "Co", "Cn", "Cs"):
+            raise Refused(f"the character {ascii(found[0])}", found.start())
 
 
 def tokens(text, clauses=True, strict=True):
@@ -121,9 +124,9 @@ def tokens(text, clauses=True, strict=True):
     code, comments, at = [], [], 0
     while at < len(text):
         found = not strict and STRING.match(text, at) or TOKEN.match(text, at)
-        if text.startswith("/*", at) or text.startswith("*/", at):
+        if text[at] in "/*" and text[at : at + 2] in ("/*", "*/"):
             raise Refused("a block comment", at)
-        if re.compile(r"b?r#*\"|r#|c\"").match(text, at) or not found:
+        if not found or text[at] in "brc" and RAW.match(text, at):
             raise Refused(f"no token: {ascii(text[at:at + 12])}", at)
         token = Token(found.lastgroup, found[0], at, found.end())
         if not token.text.isascii():

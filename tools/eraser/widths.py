@@ -17,6 +17,10 @@ LISTED = {
         ") * baud_rate": "of u32 or u64, as what is before it",
         "baud_rate * divisor": U32,
         ") * factor": U64,
+        "ticks * below": U64,
+        "below * above": U64,
+        "2 * product": U64,
+        "frequency * (": U64,
     },
     "uart_spec/src/config.rt": {
         "ticks * divisor": U64,

@@ -1,4 +1,5 @@
 """Refuses, in the code of a file that is left, words and macros that the table does not let through, and a `usize` of 64 bits."""
+import bisect
 import re
 
 # Rules that keep what they rewrite as code.
@@ -10,11 +11,28 @@ pub ref return static struct super trait try type typeof union unsafe unsized us
 """.split()
 
 
+class Spans:
+    """Parts of a text, of which one tells quickly whether an offset is in any."""
+
+    def __init__(self, spans):
+        self.starts, self.ends = [], []
+        for start, end in sorted(spans):
+            if self.ends and start <= self.ends[-1]:
+                self.ends[-1] = max(self.ends[-1], end)
+            else:
+                self.starts.append(start)
+                self.ends.append(end)
+
+    def __contains__(self, offset):
+        at = bisect.bisect_right(self.starts, offset) - 1
+        return at >= 0 and offset < self.ends[at]
+
+
 def check(file):
-    gone = [(edit.start, edit.end) for edit in file.edits if edit.rule not in REWRITES and edit.end > edit.start]
+    gone = Spans((edit.start, edit.end) for edit in file.edits if edit.rule not in REWRITES and edit.end > edit.start)
     for at, token in enumerate(file.code):
         word, before, after = token.text, file.word(at - 1), file.word(at + 1)
-        if any(start <= token.start < end for start, end in gone):
+        if token.start in gone:
             continue
         if token.kind in ("clause", "ghost", "ghost use"):
             file.refuse(f"a {token.kind} that no rule drops", at)

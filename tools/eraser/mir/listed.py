@@ -29,6 +29,7 @@ DIFFER = {
     r"^uart_spec::setup::SetupDebug::fmt": SHOWS_REGISTER,
     r"::state::DriverStateDebug::fmt": SHOWS_REGISTER,
     r"^uart_ring::ring::storm::StuckError(Debug|Display)::fmt": SHOWS_REGISTER,
+    r"^uart_ring::ring::line::LoweredDebug::fmt": SHOWS_REGISTER,
     r"::config::ConfigDebug::fmt": SHOWS_REGISTER,
     r"::dump::ConfigRegisterDumpDebug::fmt": SHOWS_REGISTER,
 }
@@ -40,6 +41,7 @@ SKIPPED = {
     r"^uart_chip::receiver::Receiver::(arrive|waiting_at|arrivals): generic": SCHEDULED,
     r"^uart_chip::transmitter::Transmitter::held_at: generic": SCHEDULED,
     r"^uart_16550::.*Debug::fmt .*: printed and generic": "prints a backend, which the MIR's formatter does not know",
+    r"^uart_ring::line::handle_line: generic": "over ports that its caller has: rust/uart_16550/tests/shared_line.rs calls it",
 }
 
 # Emitted functions that have no MIR: a pattern of the name, and why.
@@ -70,7 +72,7 @@ NOT_REACHED = {
 }
 
 # Functions that read outside of an empty slice, as their contract allows.
-NOT_EMPTY = ["receive_some", "write_burst", "send_some", "send_piece", "copy_sendable"]
+NOT_EMPTY = ["receive_some", "write_burst", "send_some", "copy_sendable"]
 
 # When a call breaks what a guard of the eraser is for, as Rust code over the arguments a0, a1, .. of the function: Rust has to panic then,
 # and at no other time. By the path that the eraser gives.

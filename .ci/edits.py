@@ -1,0 +1,350 @@
+"""Wrong bodies: which there are, in which function each is, and what the prover says of it.
+
+Many edits are tried in one check of a copy of the crate, each in the body of another function. A body is no part of what other functions
+are proved from, which is contracts, so each is judged by what the prover says of its own function alone: an error in the proof of that
+function, or that no proof of it was found. One whose function only waits for another that is refused is tried in a later check, without
+that one. What a batch does not refuse, and what is not in the body of one function, is tried in a check of its own. So a batch gives only
+the verdict 'refused', and if anything else is refused in it than what is edited, it gives none.
+
+Each check begins with what a check of the crate as it stands has kept, and that check must prove the crate: else no edit is to blame. The
+verdict on an edit is kept for each user of the machine by all that it can depend on: the edit, the interfaces below, and the crate without
+the bodies and proofs of other functions.
+"""
+import collections
+import functools
+import glob
+import os
+import re
+import shutil
+import tempfile
+
+import gate
+import proofs
+
+HERE = os.path.join(gate.TOP, ".ci", "edits-by-hand")
+# How many edits a check tries at most. More make a check that runs out of memory or time dearer.
+BATCH = 80
+PARTS = ("src", "specs", "proofs")
+# The verdicts that are the same wherever the same is tried.
+SETTLED = ("refused", "proved", "does not compile", "is not there", "only a name", "only a limit")
+# A function's head, as rt fmt lays it out, and what the kit says of a function and of a place.
+HEAD = re.compile(r'^( *)(?:pub(?:\([a-z]+\))? )?(const )?(?:unsafe )?(?:extern "C" )?fn (\w+)')
+SAID = re.compile(r"^(?:fn|impl) (\S+?): (proved|not proved|no proof|could not tell)(.*)$", re.M)
+ERROR = re.compile(r"^(?:\./)?(src|specs|proofs)/([^\s:]+):\d+:\d+: error: ?(.*(?:\n  .*)*)", re.M)
+# An error of a proof file that names what the edit took away, a text that the prover cannot read, and a limit of its own, as `rt must-fail`
+# tells them apart.
+NAMES = re.compile(r"has no field|is not in scope|has no `|was not admitted")
+UNREAD = re.compile(r"is not in scope|has no field|is no name|operand is missing|expected the end|cannot continue")
+LIMIT = re.compile(r"antt ran out of (stack|the (steps|memory) that the check of one declaration may)"
+                   r"|(outgrew the memory|stopped at the step) limit \(")
+
+
+def text_of(name):
+    with open(name, encoding="utf-8") as file:
+        return file.read()
+
+
+# ---- edits
+
+
+class Edit:
+    """A file of a wrong body: the texts that it replaces, and the function in whose body all of them are, if there is one."""
+
+    def __init__(self, crate, path):
+        self.crate, self.path, self.text = crate, path, text_of(path)
+        self.name = os.path.basename(path)[: -len(".edit")]
+        self.label = f"{crate.name}/{self.name}"
+        self.pairs = [*pairs(self.text)]
+        self.place = place(crate, self.pairs)
+
+    def apply(self, folder):
+        """Makes the edit in a copy of the crate, and returns whether each text that it replaces is there once."""
+        for file, old, new in self.pairs:
+            path = os.path.join(folder, file or "")
+            text = text_of(path) if file and os.path.isfile(path) else ""
+            if not old or text.count(old) != 1:
+                return False
+            with open(path, "w", encoding="utf-8") as to:
+                to.write(text.replace(old, new))
+        return bool(self.pairs)
+
+    def key(self, faces):
+        """Returns a sum of all that the verdict on the edit can depend on."""
+        below = [(one.name, faces[one.name]) for one in self.crate.below]
+        kit = proofs.read(os.path.join(proofs.KIT, "KIT-ID"))
+        return gate.sum_of(2, kit, self.crate.line, self.text, below, around(self.crate, self.place))
+
+
+def edits_of(crate, in_gate=False):
+    """Returns the edits of a crate that are tried by hand, and those that the gate tries, if they are asked for."""
+    folders = [os.path.join(HERE, crate.name), *([os.path.join(crate.folder, "must-fail")] if in_gate else [])]
+    return [Edit(crate, path) for folder in folders for path in sorted(glob.glob(os.path.join(glob.escape(folder), "*.edit")))]
+
+
+def pairs(text):
+    """Yields the changes that an edit makes, as the kit reads them: file, old text, new text."""
+    file = old = None
+    for line in text.split("\n"):
+        if line.startswith("file: "):
+            file = line[len("file: ") :].strip()
+        elif line.startswith("old: "):
+            old = line[len("old: ") :]
+        elif line.startswith("new:"):
+            yield file, old, line[len("new:") :].removeprefix(" ")
+
+
+# ---- the functions of a source
+
+
+def bodies(text):
+    """Returns the functions of a source that have a body: name, whether it is const, the line of the head, and the first and last line of
+    the body. rt fmt has put its braces at the head's own indent, or the first of them behind the head."""
+    lines, found, at = text.split("\n"), [], 0
+    while at < len(lines):
+        head = HEAD.match(lines[at])
+        if head:
+            first = next((it for it in range(at, len(lines)) if lines[it].endswith(("{", ";", "{}"))), at)
+            last = next((it for it in range(first, len(lines)) if lines[it] == f"{head[1]}}}"), None)
+            if lines[first].endswith("{") and last is not None:
+                found.append((head[3], bool(head[2]), at + 1, first + 2, last))
+                at = last
+        at += 1
+    return found
+
+
+def owner(text, line):
+    """Returns the type, and the trait behind it, of the `impl` that a line is in, as the kit names it; nothing for a free function."""
+    lines = text.split("\n")
+    for at in range(line - 2, -1, -1):
+        if lines[at].startswith("}"):
+            return ""
+        if re.match(r"impl\b", lines[at]):
+            head, depth, bare = " ".join(lines[at:line]).split("{")[0][len("impl") :].replace("->", ""), 0, ""
+            for letter in head:
+                depth += (letter == "<") - (letter == ">")
+                bare += letter if depth == 0 and letter != ">" else ""
+            named = re.match(r"\s*(?:\w+::)*(\w+)\s*(?:for\s+&?\s*(?:mut\s+)?(?:\w+::)*(\w+))?", bare)
+            return (named[2] or "") + named[1] if named else ""
+    return ""
+
+
+class Place:
+    """A function with a body: its file, its name, the `impl` that it is in, and its text, contract included."""
+
+    def __init__(self, crate, file, body, text):
+        self.crate, self.file = crate, file
+        self.name, self.is_const, self.line, self.first, self.last = body
+        self.owner = owner(text, self.line)
+        lines = text.split("\n")
+        self.text = "\n".join(lines[self.line - 1 : self.last + 1])
+        # Functions of a cycle have one proof.
+        self.is_in_cycle = "#[cycle" in "\n".join(lines[max(self.line - 6, 0) : self.line])
+
+    def key(self):
+        return self.file, self.owner, self.name
+
+    def told(self, names):
+        """Returns the kit's name of the function, if one alone of the names fits."""
+        module = [] if self.file == "src/lib.rt" else self.file[len("src/") : -len(".rt")].split("/")
+        # A method stands in the module of its type, and behind its types if only some of a generic type have it.
+        exact = ["::".join([self.crate.name, *module, *([self.owner] if self.owner else []), self.name])]
+        ends = [rf"::{self.owner}(\+\S+)?::{self.name}$"] if self.owner else []
+        found = [it for it in names if it in exact] or [it for it in names if any(re.search(end, it) for end in ends)]
+        # The same name in two modules: that of the file.
+        here = "::".join([self.crate.name, *module]) + "::"
+        found = found if len(found) < 2 else [it for it in found if it.startswith(here)]
+        return found[0] if len(found) == 1 else None
+
+
+@functools.lru_cache(maxsize=None)
+def source(crate, file):
+    """Returns the text of a source, and its functions. It is read once in a run."""
+    text = text_of(os.path.join(crate.folder, file))
+    return text, [Place(crate, file, body, text) for body in bodies(text)]
+
+
+@functools.lru_cache(maxsize=None)
+def sources(crate):
+    """Returns the names of a crate's files but its tests, in its folder."""
+    return sorted(os.path.relpath(name, crate.folder) for name in crate.files())
+
+
+def place(crate, changes):
+    """Returns the one function in whose body all these changes are, or None."""
+    found = {}
+    for file, old, _ in changes:
+        is_source = file and file.startswith("src/") and os.path.isfile(os.path.join(crate.folder, file))
+        text, functions_of = source(crate, file) if is_source else ("", [])
+        if not old or text.count(old) != 1:
+            return None
+        line = text.count("\n", 0, text.index(old)) + 1
+        one = next((it for it in functions_of if it.first <= line <= it.last), None)
+        if not one or one.is_in_cycle:
+            return None
+        found[one.key()] = one
+    return next(iter(found.values())) if len(found) == 1 else None
+
+
+def functions(crate):
+    """Returns a sum of the text of each function of a crate, its contract included, by its file and name."""
+    found = (one for name in sources(crate) if name.endswith(".rt") for one in source(crate, name)[1])
+    return {"::".join(one.key()): gate.sum_of(one.text) for one in found}
+
+
+@functools.lru_cache(maxsize=None)
+def without_bodies(crate, name, kept):
+    """Returns a sum of a source without the bodies of its functions but one. A const function may be part of a type, so its body stays.
+    Where a function stands in its file is no part of it."""
+    text, functions_of = source(crate, name)
+    lines = text.split("\n")
+    for one in functions_of:
+        if one.key() != kept and not one.is_const:
+            lines[one.first - 1 : one.last] = [""] * (one.last - one.first + 1)
+    return gate.sum_of([line for line in lines if line])
+
+
+@functools.lru_cache(maxsize=None)
+def file_sum(crate, name):
+    return gate.sum_of(proofs.read(os.path.join(crate.folder, name)))
+
+
+def around(crate, one):
+    """Returns what an edit in the body of this function can depend on, of the crate's files: all but the bodies of other functions, and
+    the files of their proofs. Of an edit that is elsewhere: all."""
+    found = []
+    for name in sources(crate):
+        folder, file = os.path.split(name)
+        if one and file in proofs.ANSWERS and os.path.basename(folder) != one.name:
+            continue
+        is_blanked = one and name.endswith(".rt")
+        found.append((name, without_bodies(crate, name, one.key() if name == one.file else None) if is_blanked else file_sum(crate, name)))
+    return found
+
+
+# ---- verdicts
+
+
+def checked(crate, batch, made, seed):
+    """Returns the status of a check of a copy of the crate with all edits of a batch, over what a check kept, what the prover said, and the
+    seconds of the processor."""
+    with tempfile.TemporaryDirectory(prefix="edits-") as room:
+        for part in PARTS:
+            if os.path.isdir(os.path.join(crate.folder, part)):
+                shutil.copytree(os.path.join(crate.folder, part), os.path.join(room, part))
+        if not all(edit.apply(room) for edit in batch):
+            return 1, "", 0.0
+        work = os.path.join(room, "seed")
+        proofs.copy_of_work(seed, work)
+        return proofs.prove(crate, made, work, cwd=room)
+
+
+def folder_of(name):
+    """Returns the folder of a function's proof, by the kit's name of the function."""
+    return "/".join(name.split("::")[1:]) + "/"
+
+
+def judged(batch, out):
+    """Returns what a check says of each edit of a batch."""
+    said = {name: (verdict, rest) for name, verdict, rest in SAID.findall(out)}
+    errors = [(part, path, text) for part, path, text in ERROR.findall(out)]
+    verdicts, edited = {}, set()
+    for edit in batch:
+        name = edit.place.told(said)
+        if name:
+            edited.add(folder_of(name))
+        _, rest = said.get(name, ("", ""))
+        own = [text for part, path, text in errors if name and part == "proofs" and path.startswith(folder_of(name))]
+        if "`search` did not prove" in rest or any(not NAMES.search(text) for text in own):
+            verdicts[edit] = "refused"
+        elif "it calls" in rest or "it waits" in rest:
+            verdicts[edit] = "waits"
+        else:
+            # Proved, only a name, no verdict, or no line.
+            verdicts[edit] = "alone"
+    # A body is no part of what others are proved from. If another function is refused, what an edit is to blame for cannot be told.
+    others = [path for part, path, _ in errors if part != "proofs" or not any(path.startswith(folder) for folder in edited)]
+    others += [name for name, (_, rest) in said.items() if "`search` did not prove" in rest and folder_of(name) not in edited]
+    return dict.fromkeys(batch, "alone") if others and len(batch) > 1 else verdicts
+
+
+def judged_alone(edit, status, out):
+    """Returns what a check says of the only edit in it, as `rt must-fail` judges."""
+    if not out:
+        return "is not there"
+    errors, changed = ERROR.findall(out), {file for file, *_ in edit.pairs}
+    for part, path, text in errors:
+        plain = re.sub(r"`[^`]*`", "", text)
+        if (part != "proofs" or f"{part}/{path}" in changed) and (not text.startswith("`") or UNREAD.search(plain)):
+            return "does not compile"
+    if status == 0:
+        return "proved"
+    if re.search(r"^logic=not-proved", out, re.M):
+        told = [(part, text) for part, _, text in errors]
+        is_search = any("`search` did not prove" in rest for _, _, rest in SAID.findall(out))
+        is_name = told and not is_search and all(part == "proofs" and NAMES.search(text) for part, text in told)
+        return "only a name" if is_name else "refused"
+    if LIMIT.search(out):
+        return "only a limit"
+    return "does not compile" if re.search(r"\berror\[[\w-]+\]", out) else "not tried"
+
+
+def tried(crate, edits, made, say):
+    """Tries edits of a crate over the libraries that `made` names. Returns the verdict on each, and its processor seconds; `say` is told
+    of each check. Without a verdict is everything if the crate is not proved as it stands."""
+    verdicts, seconds = {}, collections.Counter()
+    with proofs.work_of(crate) as seed:
+        status, out, took = proofs.prove(crate, made, seed, jobs=proofs.CORES)
+        if status:
+            say(f"{proofs.told(out)}\n{crate.name} is not proved as it stands, so nothing can be said of its edits")
+            return dict.fromkeys(edits, "not tried"), seconds
+        say(f"{crate.name}: the crate as it stands, for its edits to begin with: {took:.0f} cpu s")
+        left, alone, most = [edit for edit in edits if edit.place], [edit for edit in edits if not edit.place], BATCH
+        while left:
+            batch = {}
+            for edit in left:
+                if len(batch) < most:
+                    batch.setdefault(edit.place.key(), edit)
+            batch = [*batch.values()]
+            _, out, took = checked(crate, batch, made, seed)
+            if not SAID.search(out):
+                # One does not compile, or two change one line: half of them, and then the other.
+                if len(batch) == 1:
+                    alone += batch
+                    left.remove(batch[0])
+                half, most = batch[: len(batch) // 2], max(len(batch) // 2, 1)
+                left = half + [edit for edit in left if edit not in half]
+                say(f"{crate.name}: {len(batch)} edits in a check that does not compile")
+                continue
+            found = judged(batch, out)
+            if all(verdict == "waits" for verdict in found.values()):
+                found = dict.fromkeys(found, "alone")
+            say(f"{crate.name}: {len(batch)} edits in a check of {took:.0f} cpu s: {sum(it == 'refused' for it in found.values())} refused")
+            for edit, one in found.items():
+                seconds[edit] += took / len(batch)
+                if one != "waits":
+                    left.remove(edit)
+                    (alone.append(edit) if one == "alone" else verdicts.__setitem__(edit, one))
+            # Those that waited come first, without those that they waited for.
+            left.sort(key=lambda edit: found.get(edit) != "waits")
+            most = min(2 * most, BATCH)
+        for edit in alone:
+            status, out, took = checked(crate, [edit], made, seed)
+            verdicts[edit] = judged_alone(edit, status, out)
+            seconds[edit] += took
+            say(f"{edit.label}: alone: {verdicts[edit]}")
+    return verdicts, seconds
+
+
+def known(edit, faces):
+    """Returns the verdict that was kept on an edit, or None."""
+    told = gate.kept("edits", edit.key(faces))
+    return told and told["verdict"]
+
+
+def keep(edit, faces, verdict):
+    if verdict in SETTLED:
+        gate.keep("edits", edit.key(faces), {"verdict": verdict, "edit": edit.label}, most=20_000)
+
+
+def row(edit, verdict, seconds=None):
+    return f"{edit.label:<64} {verdict:<17} {'kept' if seconds is None else f'{seconds:5.1f}'}"

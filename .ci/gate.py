@@ -1,0 +1,274 @@
+"""What the scripts of this folder share: files by their content, what passed before on this machine, commands with what they read, and how
+their time is told.
+
+A script here imports it by `sys.dont_write_bytecode = True; import gate`: Python looks beside the script first.
+"""
+import contextlib
+import fcntl
+import fnmatch
+import hashlib
+import json
+import os
+import pathlib
+import re
+import shutil
+import subprocess
+import sys
+import tempfile
+import threading
+import time
+
+TOP = pathlib.Path(__file__).resolve().parent.parent
+COUNTED = re.compile(r"^(\d+) passed, (\d+) failed")
+BEGAN = time.monotonic()
+DAY = 24 * 60 * 60
+
+
+def store():
+    """Returns the folder of what is kept: for each user of a machine, and beside no checkout, so that clones share it. Without a home that
+    can be written to it is a folder for temporary files, and another user's is never taken."""
+    caches = pathlib.Path(os.environ.get("XDG_CACHE_HOME") or pathlib.Path.home() / ".cache")
+    for folder in (caches / "geesetrunk", pathlib.Path(tempfile.gettempdir()) / f"geesetrunk-{os.geteuid()}"):
+        with contextlib.suppress(OSError):
+            folder.mkdir(0o700, parents=True, exist_ok=True)
+            if folder.stat().st_uid == os.geteuid() and os.access(folder, os.W_OK):
+                return folder
+    return pathlib.Path(tempfile.mkdtemp(prefix="geesetrunk-"))
+
+
+STORE = store()
+
+
+def sum_of(*told):
+    """Returns a sum of texts, numbers, lists and tuples of them."""
+    return hashlib.sha256(repr(told).encode()).hexdigest()
+
+
+def files():
+    """Returns a sum of the content of each file of the checkout, by its name. Git is asked for names alone: those that it knows, and those
+    that it would add. What it is told to ignore is made by commands."""
+    listed = subprocess.run(["git", "-C", TOP, "ls-files", "-z", "--cached", "--others", "--exclude-standard"],
+                            capture_output=True, check=True).stdout
+    found = {}
+    for name in sorted({os.fsdecode(one) for one in listed.split(b"\0") if one}):
+        path = TOP / name
+        if path.is_symlink():
+            found[name] = f"link {os.readlink(path)}"
+        elif path.is_file():
+            found[name] = f"{os.access(path, os.X_OK)} {hashlib.sha256(path.read_bytes()).hexdigest()}"
+    return found
+
+
+def machine():
+    """Returns a sum of what tells one machine from another: the kit, the compilers, Debian's packages, the kernel, whether it may make
+    virtual machines and cut programs off from the network, and what the environment says to cargo, compilers and tests."""
+    asked = [["rt", "version"], ["rustc", "-vV"], ["cargo", "-V"], ["rustup", "toolchain", "list"], ["gcc", "--version"],
+             ["dpkg-query", "-W"], ["uname", "-srm"], ["bash", "-c", ": <> /dev/kvm"], ["unshare", "-rn", "true"]]
+    told = [os.geteuid() == 0, shutil.which("rt") and os.path.realpath(shutil.which("rt"))]
+    told += sorted(one for one in os.environ.items() if re.match(r"GEESETRUNK_|CARGO|RUST|CC$|CFLAGS$", one[0]))
+    for words in asked:
+        ended = subprocess.run(words, cwd=TOP, capture_output=True, check=False) if shutil.which(words[0]) else None
+        told.append(ended and (ended.returncode, ended.stdout))
+    return sum_of(told)
+
+
+# ---- what is kept on this machine
+
+
+def kept(kind, key):
+    """Returns what was kept under a key, or None. One that is not whole counts for nothing."""
+    with contextlib.suppress(OSError, ValueError, KeyError, TypeError):
+        told = json.loads((STORE / kind / key).read_text(encoding="utf-8"))
+        if told["key"] == key:
+            os.utime(STORE / kind / key)
+            return told
+    return None
+
+
+def keep(kind, key, told, most=5000):
+    """Keeps what is told under a key: written apart and renamed, so that nobody reads half of it. Of each kind as many are kept as `most`,
+    and those that were not read for the longest time go first. Nothing is kept on a full disk."""
+    folder, name = STORE / kind, None
+    with contextlib.suppress(OSError):
+        folder.mkdir(0o700, parents=True, exist_ok=True)
+        try:
+            with tempfile.NamedTemporaryFile("w", dir=folder, prefix="new-", delete=False, encoding="utf-8") as made:
+                name = made.name
+                json.dump({"key": key, **told}, made)
+            os.replace(name, folder / key)
+        except OSError:
+            if name:
+                os.unlink(name)
+            raise
+        entries = sorted((one.stat().st_mtime, one.path) for one in os.scandir(folder))
+        for _, path in entries[: max(len(entries) - most, 0)]:
+            with contextlib.suppress(OSError):
+                os.unlink(path)
+
+
+@contextlib.contextmanager
+def in_turn(name, what):
+    """Waits while another run on this machine has the lock of this name, and says so. Gives whether it had to wait. The lock of a process
+    that dies is free."""
+    folder = STORE / "locks"
+    folder.mkdir(0o700, parents=True, exist_ok=True)
+    with open(folder / name, "w", encoding="utf-8") as lock:
+        has_waited = False
+        try:
+            fcntl.flock(lock, fcntl.LOCK_EX | fcntl.LOCK_NB)
+        except BlockingIOError:
+            has_waited = True
+            print(f"{what}: another run on this machine does the same; waiting for it", flush=True)
+            fcntl.flock(lock, fcntl.LOCK_EX)
+        yield has_waited
+
+
+# ---- commands
+
+
+class Command:
+    """A command of the repository that counts what passed: its words, the commands that it waits for, and what of the checkout it does not
+    read, as patterns whose * takes / too. `but` names exceptions. So a new file counts for all until somebody says otherwise, and
+    `.ci/inputs` shows whether a command reads what is excepted here. One that is `always` run is never taken from an earlier run."""
+
+    def __init__(self, words, after=(), without=(), but=(), always=False, nice=0):
+        self.words, self.after, self.without, self.but, self.always, self.nice = words, after, without, but, always, nice
+        self.passed = self.failed = 0
+        self.wall = self.cpu = 0.0
+        self.status, self.is_running, self.lines, self.told = "not run", False, [], None
+
+    def reads(self, name):
+        return any(fnmatch.fnmatch(name, one) for one in self.but) or not any(fnmatch.fnmatch(name, one) for one in self.without)
+
+    def key(self, found, of_machine):
+        return sum_of(2, of_machine, self.words, [(name, told) for name, told in found.items() if self.reads(name)])
+
+    def take(self, key):
+        """Takes what an earlier run of the same counted, and returns whether there was one."""
+        told = kept("green", key)
+        # What was skipped for want of a package may be there tomorrow.
+        if told and told["skipped"] and time.time() - told["at"] > DAY:
+            return False
+        if told:
+            self.told = told
+            self.passed, self.status = told["passed"], f"kept: as on {told['when']}, when it took {told['wall']:.0f} s"
+            self.lines = [f"kept: {self.words}: {told['passed']} passed with the same files and tools on {told['when']}", *told["skipped"]]
+        return told is not None
+
+    def run(self, out=None, counts=True):
+        """Runs the command and counts what it came to. With `out` each line is handed to that at once."""
+        start, self.lines, self.is_running = time.monotonic(), [], True
+        began = subprocess.Popen(["nice", "-n", str(self.nice), *self.words.split()], cwd=TOP, stdin=subprocess.DEVNULL,
+                                 stdout=subprocess.PIPE, stderr=subprocess.STDOUT, text=True, errors="replace")
+        for line in began.stdout:
+            self.lines.append(line.rstrip("\n"))
+            if out:
+                out(self.lines[-1])
+        _, status, used = os.wait4(began.pid, 0)
+        began.returncode = os.waitstatus_to_exitcode(status)
+        self.is_running, self.wall, self.cpu = False, time.monotonic() - start, used.ru_utime + used.ru_stime
+        counted = COUNTED.match(self.lines[-1]) if self.lines else None
+        if counted:
+            self.passed, self.failed = int(counted[1]), int(counted[2])
+        # One that fails without counting a failure is a failure, and so is one that was cut off before it counted.
+        self.failed = self.failed or int(began.returncode != 0 or counts and not counted)
+        self.status = "failed" if self.failed else "passed"
+
+    def keep(self, key):
+        """Keeps that the command passed. One that tested nothing has shown nothing."""
+        if self.passed and not self.failed:
+            self.told = self.told or {"passed": self.passed, "wall": self.wall, "at": time.time(),
+                                      "when": time.strftime("%Y-%m-%d %H:%M", time.gmtime()),
+                                      "skipped": [line for line in self.lines if line.startswith("skipped")]}
+            keep("green", key, {**self.told, "key": key})
+
+
+# ---- how time is told
+
+
+def ticks(stat):
+    """Returns the processor seconds of a process with its ended children, and when it began, of the words of its stat behind its name."""
+    hertz = os.sysconf("SC_CLK_TCK")
+    return sum(int(stat[at]) for at in (11, 12, 13, 14)) / hertz, int(stat[19]) / hertz
+
+
+def provers(root):
+    """Returns the provers that run below a process: by their number what each proves, its processor seconds and when it began."""
+    told, parents = {}, {}
+    for number in filter(str.isdecimal, os.listdir("/proc")):
+        with contextlib.suppress(OSError, IndexError, ValueError):
+            stat = pathlib.Path(f"/proc/{number}/stat").read_text(encoding="utf-8", errors="replace").rpartition(")")[2].split()
+            parents[int(number)] = int(stat[1])
+            words = pathlib.Path(f"/proc/{number}/cmdline").read_bytes().decode(errors="replace").split("\0")
+            if os.path.basename(words[0]) == "rattle" and "--crate-name" in words:
+                name = words[words.index("--crate-name") + 1]
+                what = "its tests" if "--test" in words else "" if words[1] == "build" else "a wrong body"
+                told[int(number)] = (f"{name}: {what}" if what else name, *ticks(stat))
+    # A prover forks copies of itself: they are counted by the first.
+    found = {}
+    for number, one in told.items():
+        above, seen = parents.get(number), set()
+        while above and above != root and above not in told and above not in seen:
+            seen.add(above)
+            above = parents.get(above)
+        if above == root:
+            found[number] = one
+    return found
+
+
+class Clock:
+    """Says each minute what is running, and adds up what each proof takes. `running` returns the commands that run."""
+
+    def __init__(self, say, running, minute=60):
+        self.say, self.running, self.minute = say, running, minute
+        self.proofs, self.last, self.over = {}, {}, threading.Event()
+        self.thread = threading.Thread(target=self.watch, daemon=True)
+
+    def __enter__(self):
+        self.thread.start()
+        return self
+
+    def __exit__(self, *_):
+        self.over.set()
+        self.thread.join()
+        self.note({})
+
+    def note(self, found):
+        """Adds up the provers that have ended. What one does in its last second is not seen."""
+        for number in self.last.keys() - found.keys():
+            what, cpu, began = self.last[number]
+            count, wall, used = self.proofs.get(what, (0, 0.0, 0.0))
+            self.proofs[what] = count + 1, wall + time.clock_gettime(time.CLOCK_BOOTTIME) - began, used + cpu
+        self.last = found
+
+    def watch(self):
+        told = time.monotonic()
+        while not self.over.wait(1):
+            with contextlib.suppress(OSError):
+                self.note(provers(os.getpid()))
+            if time.monotonic() - told >= self.minute:
+                told = time.monotonic()
+                proving = sorted({what for what, *_ in self.last.values()})
+                names = [*self.running(), *([f"the prover on {', '.join(proving)}"] if proving else [])]
+                self.say(f"{time.monotonic() - BEGAN:6.0f} s: at work: {'; '.join(names) or 'nothing'}")
+
+    def table(self):
+        """Returns the rows of the proofs that took longest."""
+        rows = sorted(self.proofs.items(), key=lambda one: -one[1][2])
+        head = [f"\n| {'proof':<42} | times | seconds | cpu s |", f"|{'-' * 44}|{'-' * 7}|{'-' * 9}|{'-' * 7}|"] if rows else []
+        return head + [f"| {what:<42} | {count:>5} | {wall:>7.0f} | {cpu:>5.0f} |" for what, (count, wall, cpu) in rows]
+
+
+def table(commands):
+    """Returns the rows of commands with what each counted and took."""
+    head = [f"\n| {'command':<42} | passed | failed | seconds | cpu s |", f"|{'-' * 44}|{'-' * 8}|{'-' * 8}|{'-' * 9}|{'-' * 7}|"]
+    return head + [f"| {one.words[:42]:<42} | {one.passed:>6} | {one.failed:>6} | {one.wall:>7.0f} | {one.cpu:>5.0f} | {one.status}"
+                   for one in commands]
+
+
+def main_of(call):
+    """Ends the script with the status that a call returns; a reader of its output that leaves, or Ctrl-C, ends it without a trace."""
+    try:
+        sys.exit(call())
+    except (BrokenPipeError, KeyboardInterrupt):
+        os._exit(130)
