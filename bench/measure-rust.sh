@@ -29,7 +29,7 @@ build() {
     local folder=$work/$1 dependency=$2
     mkdir -p "$folder" && cp -r bench/rust/src "$folder" &&
         awk -v line="uart_16550 = $dependency" '/^uart_16550 = / { $0 = line } { print }' bench/rust/Cargo.toml > "$folder/Cargo.toml" &&
-        (cd "$folder" && cargo build --quiet --release "${@:3}") || return
+        (cd "$folder" && cargo build --quiet --release --target-dir target "${@:3}") || return
     echo "$folder/target/release/measure_rust"
 }
 

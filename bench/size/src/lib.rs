@@ -1,0 +1,109 @@
+//! Programs for firmware, of which `measure-size.sh` counts the bytes. A feature says which one is built, over this repository's crate or,
+//! with the feature `original`, over one with the original's signatures.
+#![no_std]
+
+use core::num::NonZeroUsize;
+use uart_16550::{Config, Uart16550};
+
+#[cfg(feature = "original")]
+type Registers = uart_16550::backend::MmioBackend;
+#[cfg(not(feature = "original"))]
+type Registers = uart_16550::backend::VolatileMemory;
+
+const BASE: NonZeroUsize = NonZeroUsize::new(0x1000_0000).unwrap();
+
+#[panic_handler]
+fn panic(_info: &core::panic::PanicInfo<'_>) -> ! {
+    loop {}
+}
+
+// Returns a driver for the board's chip.
+#[cfg(feature = "original")]
+fn driver() -> Option<Uart16550<Registers>> {
+    // SAFETY: this runs on no board. On one, a 16550 would be there, and nothing else would access it.
+    unsafe { Uart16550::new_mmio_from_address(BASE, 1) }.ok()
+}
+
+// Returns a driver for the board's chip.
+#[cfg(not(feature = "original"))]
+fn driver() -> Option<Uart16550<Registers>> {
+    // SAFETY: this runs on no board. On one, a 16550 would be there, and nothing else would access it.
+    let registers = unsafe { Registers::from_address(BASE, 1) }.ok()?;
+    Some(Uart16550::new_with_backend(registers))
+}
+
+// Returns the driver, initialised.
+fn start() -> Option<Uart16550<Registers>> {
+    let mut uart = driver()?;
+    uart.init(Config::default()).ok()?;
+    Some(uart)
+}
+
+/// Initialises the chip, and sends a text.
+#[cfg(feature = "init")]
+#[unsafe(no_mangle)]
+extern "C" fn program() -> bool {
+    let Some(mut uart) = start() else {
+        return false;
+    };
+    _ = uart.send_bytes_exact(b"hello\r\n");
+    true
+}
+
+/// Sends back what comes, in pieces of so many bytes.
+#[cfg(feature = "echo")]
+#[unsafe(no_mangle)]
+extern "C" fn program(length: usize) -> bool {
+    let Some(mut uart) = start() else {
+        return false;
+    };
+    let mut room = [0; 256];
+    let Some(piece) = room.get_mut(..length) else {
+        return false;
+    };
+    loop {
+        _ = uart.receive_bytes_exact(piece);
+        _ = uart.send_bytes_exact(piece);
+    }
+}
+
+/// Sends back what comes, as soon as it comes.
+#[cfg(feature = "poll")]
+#[unsafe(no_mangle)]
+extern "C" fn program() -> bool {
+    let Some(mut uart) = start() else {
+        return false;
+    };
+    let mut piece = [0; 16];
+    loop {
+        let count = uart.receive_bytes(&mut piece);
+        _ = uart.send_bytes_exact(&piece[..count]);
+    }
+}
+
+/// Formats a number onto a terminal.
+#[cfg(feature = "text")]
+#[unsafe(no_mangle)]
+extern "C" fn program(answer: u32) -> bool {
+    let Some(uart) = start() else {
+        return false;
+    };
+    told(uart, answer)
+}
+
+/// Does the same behind a loopback test.
+#[cfg(feature = "terminal")]
+#[unsafe(no_mangle)]
+extern "C" fn program(answer: u32) -> bool {
+    let Some(mut uart) = start() else {
+        return false;
+    };
+    uart.test_loopback().is_ok() && told(uart, answer)
+}
+
+#[cfg(any(feature = "text", feature = "terminal"))]
+fn told(uart: Uart16550<Registers>, answer: u32) -> bool {
+    use core::fmt::Write;
+    let mut terminal = uart_16550::Uart16550Tty::from_inner(uart);
+    writeln!(terminal, "the answer is {answer}").is_ok()
+}
