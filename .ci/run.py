@@ -1,0 +1,190 @@
+"""The gate, at the top of a clean checkout: .ci/run [WORD ..]
+
+What documents say and quote, and how long lines are; whether what ships stands alone; whether pictures and the Rust packages are what the
+repository makes; then every proof, the wrong bodies in must-fail, every test and program of the proved crates, and beside them the tests
+of the eraser and of the Rust packages, and the commands of the READMEs, which need no proof; and then side by side what needs what was
+proved: refused memory, uart_port on an emulated PC, the programs, the emitted Rust compared with the proved MIR, a dozen of the wrong
+bodies that are tried by hand, the example monitor, the tty driver in Linux, the library for C, and the Rust packages compared with it.
+
+A command that passed on this machine with the same files, tools and kit is not run again: its line names it and says what it counted then.
+`rt ci` is always run, and decides by itself what it keeps. CI=full runs everything, as the nightly does; with WORDs only the commands
+whose name has one of them are run, which is not the gate. What cannot be installed is skipped by name. Each minute a line says what is
+running. At the end are tables of seconds, of the commands and of the proofs; the last line is 'N passed, M failed' over all commands, kept
+ones too, and the status is 0 if nothing failed. What takes hours is in .ci/nightly.
+"""
+import concurrent.futures
+import os
+import pathlib
+import re
+import shutil
+import subprocess
+import sys
+import tempfile
+import threading
+import time
+
+sys.dont_write_bytecode = True
+import gate
+from gate import Command
+
+IS_FULL = os.environ.get("CI") == "full"
+# What of the checkout a command does not read. `.ci/inputs` runs the commands and finds what is wrong here.
+PAGES = ["CHANGELOG.md", "CONTRIBUTING.md", "SECURITY.md", "docs/*.md", ".ci/*", ".github/*"]
+# Definitions are none of them: the eraser holds what it writes beside some of these.
+PROOFS = ["crates/*/proofs/*", "crates/*/must-fail/*"]
+# The pages that commands compare with code, and what is in .ci and is such a command.
+C_PAGES = ["docs/C.md", "docs/HARDWARE.md", "docs/INTERRUPTS.md", "docs/MANUAL.md", "docs/AUDIT.md"]
+
+CI, C = "rt ci", "./prove --after-ci uart_c"
+USES = dict(re.findall(r"^(\w+)[^:#\n]*:(.*)$", (gate.TOP / "crates.txt").read_text(encoding="utf-8"), re.M))
+OF_C = [f"{CI}: {one}" for one in USES["uart_c"].split() if one in USES]
+SETTLED = re.compile(r"rt: (\w+) (?:proved|is kept: .*)$")
+# The fast ones, one after the other. Who forgot to renew something hears of it within half a minute, before anything is proved.
+FIRST = [
+    Command(".ci/documents", always=True),
+    Command(".ci/houses", always=True),
+    Command(".ci/constants", always=True),
+    Command(".ci/calling", always=True),
+    Command(".ci/pictures --check", always=True),
+    Command("tools/eraser/erase check", without=[*PAGES, *PROOFS]),
+]
+# What needs no proof gives way to the proofs, on which all else waits.
+BESIDE = {"nice": 10, "without": [*PAGES, *PROOFS], "but": C_PAGES}
+# What cargo alone builds is made of the erased crates, and of no source in Rattle. The READMEs of those are read.
+OF_RUST = [*PAGES, "crates/*", "bench/*", "tools/*"]
+READMES = [*C_PAGES, "README.md", "*/README.md", "*/COMPAT.md"]
+# What is built by `rt ci` and read by these depends on the sources of the crates, which the sums have.
+OVER = {"after": [CI], "without": [*PAGES, "crates/*/must-fail/*"], "but": C_PAGES}
+COMMANDS = [
+    *FIRST,
+    Command(CI, always=True),
+    Command("tools/eraser/erase test", **BESIDE),
+    Command("tools/eraser/erase corpus", **BESIDE),
+    Command("integration/readme", **BESIDE | {"without": OF_RUST, "but": READMES}),
+    Command("integration/rust apart", **BESIDE),
+    Command(".ci/refused-memory", **OVER | {"but": [".ci/refused-memory"]}),
+    Command("integration/port", **OVER | {"without": OF_RUST}),
+    Command("integration/programs", **OVER),
+    Command("tools/eraser/mir/compare", **OVER),
+    Command(".ci/edits-by-hand/try --after-ci --some 12", after=[CI], always=True),
+    # It waits for the libraries below alone, and so runs beside what `rt ci` does last: that proves this crate too, and does not build it.
+    Command(C, after=OF_C, always=True),
+    Command("integration/library", **OVER | {"after": [C], "nice": 10}),
+    Command("integration/rust compare", **OVER | {"after": [C], "nice": 10}),
+    # These wait for other machines as a person would. Each takes less than a core, so they run side by side, and nothing else beside them.
+    Command("integration/monitor", **OVER | {"without": OF_RUST}),
+    Command("integration/linux", **OVER | {"without": OF_RUST}),
+]
+for alone in COMMANDS[-2:]:
+    alone.after = [one.words for one in COMMANDS[:-2]]
+
+PRINTING = threading.Lock()
+# What `rt ci` has settled so far, as the names that others wait for.
+DONE = set()
+
+
+def say(*lines):
+    with PRINTING:
+        print(*lines, sep="\n", flush=True)
+
+
+def told_by_ci(line):
+    """Says at once what `rt ci` says: a crate that is not proved is to be seen before the others are."""
+    settled = SETTLED.match(line)
+    if settled:
+        DONE.add(f"{CI}: {settled[1]}")
+    say(f"{time.monotonic() - gate.BEGAN:6.0f} s: {line}" if line.startswith("rt: ") else line)
+
+
+def clear_libraries():
+    """Removes the libraries that earlier runs left in this checkout: `rt ci` would put them back in place of its own, and what runs behind
+    it would be linked with what was proved some time ago. A clean checkout has none."""
+    for path in gate.TOP.glob("crates/*/out/rlib"):
+        shutil.rmtree(path)
+
+
+def hand_over(what):
+    """Has .ci/change know what passed here, so that it begins with that."""
+    ended = subprocess.run([gate.TOP / ".ci" / "change", "--keep", what], stdin=subprocess.DEVNULL, stdout=subprocess.PIPE,
+                           stderr=subprocess.STDOUT, text=True, check=False)
+    if ended.returncode:
+        say("note: .ci/change will not know of this run:", ended.stdout.rstrip("\n"))
+
+
+def run(command, found, machine, logs):
+    """Runs a command unless an earlier run of the same passed, prints what it says, and keeps that it passed."""
+    key = command.key(found, machine)
+    if not (command.always or IS_FULL) and command.take(key):
+        say(*command.lines)
+        return
+    is_ci = command.words == CI
+    if is_ci:
+        clear_libraries()
+    say(f"runs: {command.words}")
+    command.run(told_by_ci if is_ci else None, counts=command.words != C)
+    (logs / re.sub(r"\W+", "-", command.words)).write_text("\n".join(command.lines) + "\n", encoding="utf-8")
+    say(f"ran: {command.words}: {command.wall:.0f} s, {command.cpu:.0f} cpu s", *([] if is_ci else command.lines))
+    # What was changed meanwhile may have been read before or after.
+    if not command.failed and gate.files() == found:
+        if is_ci:
+            hand_over("proofs")
+        elif not command.always:
+            command.keep(key)
+
+
+def is_ready(command, waited):
+    """Returns whether all that a command waits for has ended: a command, or a crate of `rt ci`, which ends with it at the latest."""
+    return all(one not in waited and (one in DONE or not (one.startswith(f"{CI}: ") and CI in waited)) for one in command.after)
+
+
+def run_all(left, found, machine, logs):
+    """Runs commands side by side, each once those that it waits for have ended."""
+    left, running, failed = [*left], {}, set()
+    with concurrent.futures.ThreadPoolExecutor(len(COMMANDS)) as pool:
+        while left or running:
+            waited = {one.words for one in [*left, *running.values()]}
+            for one in [one for one in left if is_ready(one, waited)]:
+                left.remove(one)
+                lacking = sorted(failed.intersection(one.after))
+                if lacking:
+                    one.status = f"not run, since {lacking[0]} failed"
+                    say(f"{one.words}: {one.status}")
+                else:
+                    running[pool.submit(run, one, found, machine, logs)] = one
+            for ended in concurrent.futures.wait(running, timeout=1, return_when=concurrent.futures.FIRST_COMPLETED).done:
+                ended.result()
+                one = running.pop(ended)
+                # The others say more on their own. Without these two there is nothing to look at, or it is of some time ago.
+                failed |= {one.words} if one.failed and one.words in (CI, C) else set()
+
+
+def main():
+    words = sys.argv[1:]
+    chosen = [one for one in COMMANDS if not words or any(word in one.words for word in words)]
+    if not chosen:
+        sys.exit(f"run: no command has one of these words: {' '.join(words)}")
+    logs = pathlib.Path(tempfile.mkdtemp(prefix="ci-"))
+    found, machine = gate.files(), gate.machine()
+    with gate.Clock(say, lambda: [one.words for one in chosen if one.is_running]) as clock:
+        for one in chosen:
+            if one in FIRST:
+                run(one, found, machine, logs)
+        run_all([one for one in chosen if one not in FIRST], found, machine, logs)
+    # Commands install what they lack. Who needed it installed it, so what passed before passes with it too.
+    now = gate.machine()
+    if now != machine and gate.files() == found:
+        for one in chosen:
+            if not one.always and one.passed:
+                one.keep(one.key(found, now))
+    say(*clock.table(), *gate.table(chosen), f"All took {time.monotonic() - gate.BEGAN:.0f} s. What each command printed is in {logs}.")
+    passed, failed = sum(one.passed for one in chosen), sum(one.failed for one in chosen)
+    if not (words or failed) and gate.files() == found:
+        hand_over("tests")
+    if words:
+        print("This is not the gate: it was asked for some commands alone.")
+    print(f"{passed} passed, {failed} failed")
+    return failed > 0
+
+
+if __name__ == "__main__":
+    gate.main_of(main)
