@@ -47,7 +47,8 @@ NAMED = [
     ('a failed trigger is not tried again at a look for output', SERIAL, 'let mut raised = self.tell_owed();', 'let mut raised = Ok(());', 'tests'),
     ('a failed trigger is forgotten', SERIAL, '        self.is_owed = true;\n', '', 'tests'),
     ('a restored device owes nothing', SERIAL, 'is_owed: true,', 'is_owed: false,', 'tests'),
-    ('a line that moved is ignored after a byte that passes', SERIAL, 'if todo.signal || todo.has_moved => self.obey_passed(todo)', 'if todo.signal => self.obey_passed(todo)', 'tests'),
+    ('a signal is ignored after a byte that passes', SERIAL, 'Some(todo) if todo.signal => self.obey_passed(todo)', 'Some(todo) if todo.has_room => self.obey_passed(todo)', 'tests'),
+    ('a line that moved is ignored', SERIAL, 'if todo.signal || todo.has_moved || self.is_owed {', 'if todo.signal || self.is_owed {', 'tests'),
     ('a flush that fails, but by a broken pipe, is none that failed', SERIAL, 'Err((_, cause)) => Err(cause),', 'Err((ErrorKind::BrokenPipe, cause)) => Err(cause),\n                        Err(_) => Ok(count),', 'tests'),
     ('a flush that a signal interrupts is one that failed', SERIAL, 'ErrorKind::WouldBlock | ErrorKind::Interrupted, _', 'ErrorKind::WouldBlock, _', 'tests'),
     ('a write that a signal interrupts is one that failed', SERIAL, '                Err(cause) if cause.kind() == ErrorKind::Interrupted => {}\n', '', 'tests'),
@@ -83,9 +84,6 @@ ELSEWHERE = [
 
 # Lines that no test can find: the file, a part of the line, what stands in its place or None for anything, and why.
 KNOWN = [
-    (SERIAL, 'if todo.signal || todo.has_moved => self.obey_passed(todo)', 'if todo.signal => self.obey_passed(todo)',
-     'a byte that passes does not take the line down, and a rise is a signal: tests/passing.rs'),
-    (SERIAL, 'if todo.signal || todo.has_moved => self.obey_passed(todo)', '&&', 'the same, and there is no other signal then'),
     (TASKS, 'Self::ReceivedByte => Side::Receive,', None, 'two places whose names are swapped are two places'),
     (DESIGN_WARE, 'byte: 0,', '1', 'a cell is written before it is read'),
     (DESIGN_WARE, 'errors: LSR::from_bits_retain(0),', '1', 'a cell is written before it is read'),
