@@ -49,7 +49,7 @@ FIRST = [
     Command("tools/eraser/erase check", without=[*PAGES, *PROOFS]),
 ]
 # What needs no proof gives way to the proofs, on which all else waits.
-BESIDE = {"nice": 10, "without": [*PAGES, *PROOFS], "but": C_PAGES}
+BESIDE = {"nice": 19, "without": [*PAGES, *PROOFS], "but": C_PAGES}
 # What cargo alone builds is made of the erased crates, and of no source in Rattle. The READMEs of those are read.
 OF_RUST = [*PAGES, "crates/*", "bench/*", "tools/*"]
 READMES = [*C_PAGES, "README.md", "*/README.md", "*/COMPAT.md"]
@@ -69,8 +69,8 @@ COMMANDS = [
     Command(".ci/edits-by-hand/try --after-ci --some 12", after=[CI], always=True),
     # It waits for the libraries below alone, and so runs beside what `rt ci` does last: that proves this crate too, and does not build it.
     Command(C, after=OF_C, always=True),
-    Command("integration/library", **OVER | {"after": [C], "nice": 10}),
-    Command("integration/rust compare", **OVER | {"after": [C], "nice": 10}),
+    Command("integration/library", **OVER | {"after": [C], "nice": 19}),
+    Command("integration/rust compare", **OVER | {"after": [C], "nice": 19}),
     # These wait for other machines as a person would. Each takes less than a core, so they run side by side, and nothing else beside them.
     Command("integration/monitor", **OVER | {"without": OF_RUST}),
     Command("integration/linux", **OVER | {"without": OF_RUST}),

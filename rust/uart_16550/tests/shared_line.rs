@@ -5,6 +5,7 @@
 mod chip;
 
 use chip::Cable;
+use uart_16550::native::spec::FIFO_SIZE;
 use uart_16550::native::{Config, Uart16550};
 use uart_16550::ring::{HandleEnd, MAX_INTERRUPTS, Memory, RingError, StuckError};
 use uart_16550::shared::{CriticalSection, SharedError, SharedLine, StartError};
@@ -53,6 +54,23 @@ fn handle(line: &Line) -> Result<bool, SharedError> {
 
 fn ier(line: &Line, port: usize) -> IER {
     line.with_port(port, |ring| ring.inner_mut().ier()).unwrap()
+}
+
+#[test]
+fn a_line_shows_how_many_bytes_wait_and_not_which() {
+    let (line, cable) = (Line::new(Alone), Cable::default());
+    start(&line, 1, &cable);
+    let bytes = [b's'; FIFO_SIZE + 6];
+    assert_eq!(
+        line.with_port(1, |ring| ring.queue(&bytes)),
+        Ok(FIFO_SIZE + 6)
+    );
+    assert_eq!(
+        format!("{line:?}"),
+        "SharedLine { ports: [None, Some(Waiting { transmit_len: 6, receive_len: 0 }), None], .. }"
+    );
+    let within = line.with_port(1, |_ring| format!("{line:?}"));
+    assert_eq!(within.unwrap(), "SharedLine { ports: InUse, .. }");
 }
 
 #[test]

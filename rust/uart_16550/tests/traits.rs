@@ -8,8 +8,8 @@ use std::num::NonZeroU64;
 use uart_16550::emergency::EmergencyConsole;
 use uart_16550::native::backend::Backend;
 use uart_16550::native::{Config, Uart16550, Uart16550Tty};
-use uart_16550::ring::{Global, MAX_INTERRUPTS, Memory, Uart16550Ring};
-use uart_16550::shared::{Blocking, CriticalSection, Shared, SharedError, Wait};
+use uart_16550::ring::{Global, LinePort, MAX_INTERRUPTS, Memory, Uart16550Ring};
+use uart_16550::shared::{Blocking, CriticalSection, Shared, SharedError, SharedLine, Wait};
 
 /// A section for a program of one thread.
 struct Section;
@@ -58,7 +58,9 @@ fn shared() -> Shared<Section, Chip> {
 fn each_type_is_shown() {
     fn is_shown<T: Debug>() {}
     is_shown::<Uart16550Ring<Chip>>();
+    is_shown::<LinePort<Chip>>();
     is_shown::<Shared<Section, Chip>>();
+    is_shown::<SharedLine<Section, Chip, 2>>();
     is_shown::<Blocking<'_, Section, Chip, Turns>>();
     is_shown::<Memory>();
     is_shown::<Global<'_>>();

@@ -1,6 +1,6 @@
 //! What is by hand in this crate, since it is of the rings' own type: how they are shown.
 
-use crate::Uart16550Ring;
+use crate::{LinePort, Uart16550Ring};
 use core::fmt;
 use uart_16550::backend::Backend;
 
@@ -13,5 +13,15 @@ impl<B: Backend + fmt::Debug> fmt::Debug for Uart16550Ring<B> {
             .field("receive_len", &self.receive_len())
             .field("stuck", &self.stuck())
             .finish_non_exhaustive()
+    }
+}
+
+/// Shows the rings, and what was last handled there.
+impl<B: Backend + fmt::Debug> fmt::Debug for LinePort<B> {
+    fn fmt(&self, f: &mut fmt::Formatter<'_>) -> fmt::Result {
+        f.debug_struct("LinePort")
+            .field("ring", &self.ring)
+            .field("handled", &self.handled())
+            .finish()
     }
 }

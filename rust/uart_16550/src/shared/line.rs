@@ -5,6 +5,7 @@ use super::{CriticalSection, SharedError, StartError};
 use crate::native::Uart16550;
 use crate::native::backend::Backend;
 use crate::ring::{Global, Handled, LinePort, LinePorts, StuckError, Uart16550Ring, handle_line};
+use core::fmt;
 
 /// The ports of one interrupt line, which an interrupt handler and threads share: `N` places for them, behind one lock.
 ///
@@ -76,6 +77,36 @@ impl<B, const N: usize> Places<B, N> {
     fn port(&mut self, port: usize) -> Result<&mut LinePort<B>, SharedError> {
         let place = self.0.get_mut(port).and_then(Option::as_mut);
         place.ok_or(SharedError::NoRings)
+    }
+}
+
+// How many bytes wait in the rings of a port.
+#[derive(Debug)]
+#[expect(dead_code, reason = "it is shown")]
+struct Waiting {
+    transmit_len: usize,
+    receive_len: usize,
+}
+
+/// Shows how many bytes wait at each port, or why nothing can be shown: the rings are looked at as by
+/// [`with_port`](SharedLine::with_port).
+impl<S: CriticalSection, B: Backend, const N: usize> fmt::Debug for SharedLine<S, B, N> {
+    fn fmt(&self, f: &mut fmt::Formatter<'_>) -> fmt::Result {
+        // What writes the text is not called in the section: it may take long, and may write by these rings.
+        let seen = self.in_section(|places| {
+            places.0.each_ref().map(|place| {
+                place.as_ref().map(|port| Waiting {
+                    transmit_len: port.ring.transmit_len(),
+                    receive_len: port.ring.receive_len(),
+                })
+            })
+        });
+        let mut shown = f.debug_struct("SharedLine");
+        match seen {
+            Ok(ports) => shown.field("ports", &ports),
+            Err(refused) => shown.field("ports", &refused),
+        };
+        shown.finish_non_exhaustive()
     }
 }
 
