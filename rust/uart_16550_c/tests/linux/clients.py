@@ -143,6 +143,12 @@ def normal(text, port):
     return re.sub(r"^sh: .*\n|^\[\d+\].*\n", "", text, flags=re.M)
 
 
+def without_alarms(text):
+    """A text without what the kernel wrote between its lines. An interrupt that comes when its handler has just gone is told at the most
+    urgent level, which cannot be kept from the console. In a guest on a busy machine that happens to Linux's own driver now and then."""
+    return re.sub(r"^\[ *\d+\.\d+\] __common_interrupt: .* No irq handler for vector\n", "", text, flags=re.M)
+
+
 def play(guest, port, driver, programs):
     """What each step prints."""
     told = {}
@@ -184,7 +190,8 @@ def main():
                   "dmesg -c > /dev/null")
         module = play(guest, MODULE, "u16550_tty", programs)
         for name, text in own.items():
-            found, (wanted, reason) = changes(text, module[name]), DIFFERENCES.get(name, ("", ""))
+            # Of the module nothing is left out: an alarm of its own would be a difference.
+            found, (wanted, reason) = changes(without_alarms(text), module[name]), DIFFERENCES.get(name, ("", ""))
             good = re.fullmatch(wanted, found) is not None
             print(f"{name}: {'ok' if good else 'failed'}{f' (differs: {reason})' if good and found else ''}", flush=True)
             passed, failed = passed + good, failed + (not good)
