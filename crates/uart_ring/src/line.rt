@@ -102,6 +102,7 @@ impl<B: Backend> LinePort<B> {
         ensures ring { result.ring ≡ ring }
         ensures handled { result.lowered.handled ≡
             Ok (record { served = 0; end = HandleEnd.Idle }) }
+        ensures enabled { result.lowered.enabled.0 ≡ 0 }
     {
         let handled = Handled {
             served: 0,

@@ -1,7 +1,7 @@
 -- How many interrupts a chip may still show without news from outside, and what events and accesses do to that.
 use Rattle.std.proofs.Common.{◌≡◌, ℕ, ◌+◌, ◌≤◌, ◌<◌, ◌==◌, ◌-◌, ◌||◌, zero, suc, Bool, true, false, not, nat_lt, List}
 use Rattle.std.proofs.Common.{[], ◌∷◌}
-use Rattle.std.proofs.Common.{◌++◌, length, length-append, Option, Some, None, refl, ◌∙◌, ap, arith}
+use Rattle.std.proofs.Common.{◌++◌, length, length-append, Option, Some, None, refl, sym, ◌∙◌, ap, subst, arith}
 use Rattle.std.proofs.lemmas.Bool.Decides.{nat_tests}
 use Rattle.uart_spec.specs.Bits.{has_any}
 use Rattle.uart_spec.specs.declared.registers.interrupt_enable.TheConstants.IER
@@ -59,12 +59,12 @@ left_most c =
 
 -- ---- events
 
--- from one chip to another these events came: of each kind no more is left than before and what they may have brought; the latches
--- are as they were, and data that waited still waits
-pub record Drifts (c d : ChipState) (came : List Event) : Type 0 where
+-- from one chip to another there were at most so many news: of each kind no more is left than before and what they may have brought;
+-- the latches are as they were, and data that waited still waits
+pub record Drifts (c d : ChipState) (most : ℕ) : Type 0 where
   pub errors : ℕ
   pub changes : ℕ
-  pub brought : errors + changes ≤ news came
+  pub brought : errors + changes ≤ most
   pub line : line_left d.receiver ≤ line_left c.receiver + errors
   pub modem : modem_left d ≤ modem_left c + changes
   pub sent : sent_left d.transmitter ≤ sent_left c.transmitter
@@ -77,7 +77,7 @@ news-append (Arrive byte errors ∷ xs) ys = let e = news-append xs ys in omega 
 news-append (Lines inputs ∷ xs) ys = let e = news-append xs ys in omega (arith, e)
 news-append (_ ∷ xs) ys = news-append xs ys
 
-drifts-none : (c : ChipState) → Drifts c c []
+drifts-none : (c : ChipState) → Drifts c c 0
 drifts-none c = record {
   errors = 0;
   changes = 0;
@@ -89,11 +89,11 @@ drifts-none c = record {
   waits = λ w. w;
 }
 
-pub drifts-trans : (c d e : ChipState) (xs ys : List Event) → Drifts c d xs → Drifts d e ys → Drifts c e (xs ++ ys)
-drifts-trans c d e xs ys a b = record {
+drifts-trans : (c d e : ChipState) (j k : ℕ) → Drifts c d j → Drifts d e k → Drifts c e (j + k)
+drifts-trans c d e j k a b = record {
   errors = a.errors + b.errors;
   changes = a.changes + b.changes;
-  brought = omega (arith, a.brought, b.brought, news-append xs ys);
+  brought = omega (arith, a.brought, b.brought);
   line = omega (arith, a.line, b.line);
   modem = omega (arith, a.modem, b.modem);
   sent = omega (arith, a.sent, b.sent);
@@ -139,7 +139,7 @@ sent_tick loopback t =
     let same : sent_left u ≡ sent_left t = λ i. one_if (s.1 i) + one_if (not (length (s.0 i) == 0)) in
     omega (arith, less, same)
 
-drifts-tick : (c : ChipState) → is_loopback c.latches ≡ false → Drifts c (tick c) []
+drifts-tick : (c : ChipState) → is_loopback c.latches ≡ false → Drifts c (tick c) 0
 drifts-tick c off = record {
   errors = 0;
   changes = 0;
@@ -151,12 +151,12 @@ drifts-tick c off = record {
   waits = rw off (λ w. w);
 }
 
-drifts-ticks : (n : ℕ) (c : ChipState) → is_loopback c.latches ≡ false → Drifts c (ticks n c) []
+drifts-ticks : (n : ℕ) (c : ChipState) → is_loopback c.latches ≡ false → Drifts c (ticks n c) 0
 drifts-ticks zero c off = drifts-none c
 drifts-ticks (suc n) c off =
     let first = drifts-ticks n c off in
     let still : is_loopback (ticks n c).latches ≡ false = ap is_loopback first.latches ∙ off in
-    drifts-trans c (ticks n c) (tick (ticks n c)) [] [] first (drifts-tick (ticks n c) still)
+    drifts-trans c (ticks n c) (tick (ticks n c)) 0 0 first (drifts-tick (ticks n c) still)
 
 -- ---- an arrival
 
@@ -176,17 +176,8 @@ arrived_waits : (loopback fifo : Bool) (byte errors : ℕ) (r : ReceiverState) �
 arrived_waits loopback fifo byte errors r w =
     let P : ReceiverState → Type 0 = λ s. 0 < length s.queue in both_if P _ _ loopback w (entered_waits fifo _ _ w)
 
-drifts-event : (event : Event) (c : ChipState) → is_loopback c.latches ≡ false → Drifts c (perform event c) (event ∷ [])
-drifts-event (Ticks n) c off = let d = drifts-ticks n c off in record {
-  errors = d.errors;
-  changes = d.changes;
-  brought = d.brought;
-  line = d.line;
-  modem = d.modem;
-  sent = d.sent;
-  latches = d.latches;
-  waits = d.waits;
-}
+drifts-event : (event : Event) (c : ChipState) → is_loopback c.latches ≡ false → Drifts c (perform event c) (news (event ∷ []))
+drifts-event (Ticks n) c off = drifts-ticks n c off
 drifts-event (Arrive byte errors) c off =
     let r : ReceiverState = (arrive byte errors c).receiver in
     let most = one_most (r.is_overrun || not (front_errors r.queue r.is_front_reported == 0)) in
@@ -212,37 +203,19 @@ drifts-event (Lines inputs) c off =
       latches = refl;
       waits = λ w. w;
     }
-drifts-event Gate c off = record {
-  errors = 0;
-  changes = 0;
-  brought = omega arith;
-  line = omega arith;
-  modem = omega arith;
-  sent = omega arith;
-  latches = refl;
-  waits = λ w. w;
-}
-drifts-event Mark c off = record {
-  errors = 0;
-  changes = 0;
-  brought = omega arith;
-  line = omega arith;
-  modem = omega arith;
-  sent = omega arith;
-  latches = refl;
-  waits = λ w. w;
-}
+drifts-event Gate c off = drifts-none c
+drifts-event Mark c off = drifts-none c
 
 -- ---- the events before an access
 
 pub record Comes (events : List Event) (c : ChipState) : Type 0 where
   pub came : List Event
   pub whole : events ≡ came ++ after_access events
-  pub drifts : Drifts c (before_access events c) came
+  pub drifts : Drifts c (before_access events c) (news came)
 
 comes : (events : List Event) (c : ChipState) → is_loopback c.latches ≡ false → Comes events c
 comes [] c off = record { came = []; whole = refl; drifts = drifts-tick c off }
-comes (Gate ∷ events) c off = record { came = Gate ∷ []; whole = refl; drifts = drifts-event Gate c off }
+comes (Gate ∷ events) c off = record { came = Gate ∷ []; whole = refl; drifts = drifts-none c }
 comes (Mark ∷ events) c off = record { came = []; whole = refl; drifts = drifts-tick c off }
 comes (event ∷ events) c off =
     let first = drifts-event event c off in
@@ -250,7 +223,8 @@ comes (event ∷ events) c off =
     record {
       came = event ∷ rest.came;
       whole = ap (λ es. event ∷ es) rest.whole;
-      drifts = drifts-trans c (perform event c) _ (event ∷ []) rest.came first rest.drifts;
+      drifts = subst (Drifts c (before_access (event ∷ events) c)) (sym (news-append (event ∷ []) rest.came))
+          (drifts-trans c (perform event c) _ (news (event ∷ [])) (news rest.came) first rest.drifts);
     }
 
 -- what happens to the machine before an access

@@ -38,7 +38,7 @@ use Rattle.uart_chip.proofs.AccessMoves as move
 use Rattle.uart_chip.proofs.Bits.{has_and, has_not, has_one, has_or}
 use Rattle.uart_chip.proofs.conservation.BlockLaws.{path_as, look_data}
 use Rattle.uart_ring_runs.specs.Healthy.{news}
-use Rattle.uart_ring_runs.proofs.Pending.{one_if, line_left, sent_left, data_left, modem_left, left, waited}
+use Rattle.uart_ring_runs.proofs.Pending.{Drifts, one_if, line_left, sent_left, data_left, modem_left, left, waited}
 use Rattle.uart_ring_runs.proofs.Pending.{news-append}
 use Rattle.uart_ring_runs.proofs.RingEdges.{named}
 
@@ -76,24 +76,36 @@ record Calm (c d : ChipState) : Type 0 where
   pub dlab : is_dlab_set d.latches ≡ is_dlab_set c.latches
   pub loopback : is_loopback d.latches ≡ is_loopback c.latches
 
-calm_step : (m n : MachineState) (d : ChipState) → IsOpenAt m → n ≡ record { chip = d; ahead = (at_access m).ahead } →
-    Calm (at_access m).chip d → Leaves m n 0
-calm_step m n d o is calm =
+-- what is left after an effect, and so many interrupts, were left before the events that led up to it, or were brought by them
+abbrev LeavesBy : MachineState → ChipState → ℕ → Type 0
+LeavesBy m d served =
+    (most : ℕ) → Drifts m.chip (at_access m).chip most → left d + served ≤ left m.chip + most
+
+calm_step : (m n : MachineState) (d : ChipState) (served : ℕ) → IsOpenAt m → n ≡ record { chip = d; ahead = (at_access m).ahead } →
+    Calm (at_access m).chip d → LeavesBy m d served → Leaves m n served
+calm_step m n d served o is calm by =
     let w = waited m o.loopback in
-    let e = w.drifts in
+    let latches = w.drifts.latches in
     let chip : n.chip ≡ d = ap (λ (k : MachineState). k.chip) is in
-    let readable : data_left (at_access m).chip.latches ≡ data_left m.chip.latches = ap (λ (l : LatchesState). data_left l) e.latches in
-    let less : left d ≤ left m.chip + news w.came =
-    omega (arith, calm.line, calm.readable, calm.sent, calm.modem, e.brought, e.line, e.modem, e.sent, readable) in
     record {
       came = w.came;
       ahead = w.whole ∙ ap (λ es. w.came ++ es) (sym (ap (λ (k : MachineState). k.ahead) is));
-      fewer = let same : left n.chip ≡ left d = ap left chip in omega (arith, same, less);
+      fewer = let less = by (news w.came) w.drifts in let same : left n.chip ≡ left d = ap left chip in omega (arith, same, less);
       open_at = record {
-        dlab = ap (λ (k : ChipState). is_dlab_set k.latches) chip ∙ (calm.dlab ∙ (ap is_dlab_set e.latches ∙ o.dlab));
-        loopback = ap (λ (k : ChipState). is_loopback k.latches) chip ∙ (calm.loopback ∙ (ap is_loopback e.latches ∙ o.loopback));
+        dlab = ap (λ (k : ChipState). is_dlab_set k.latches) chip ∙ (calm.dlab ∙ (ap is_dlab_set latches ∙ o.dlab));
+        loopback = ap (λ (k : ChipState). is_loopback k.latches) chip ∙ (calm.loopback ∙ (ap is_loopback latches ∙ o.loopback));
       };
     }
+
+-- data is as readable as before the events
+still_readable : (m : MachineState) (most : ℕ) → Drifts m.chip (at_access m).chip most →
+    data_left (at_access m).chip.latches ≡ data_left m.chip.latches
+still_readable m most e = ap data_left e.latches
+
+calm_leaves : (m : MachineState) (d : ChipState) → Calm (at_access m).chip d → LeavesBy m d 0
+calm_leaves m d calm most e =
+    let readable = still_readable m most e in
+    omega (arith, calm.line, calm.readable, calm.sent, calm.modem, e.brought, e.line, e.modem, e.sent, readable)
 
 -- ---- reads
 
@@ -137,8 +149,9 @@ AllLooks l = AllByRecursion IsLook l
 read_left : (offset value : ℕ) (m n : MachineState) → IsOpenAt m → (offset == offsets.DATA) ≡ false → MachineStep m (Read offset value) n →
     Leaves m n 0
 read_left offset value m n o other s =
-    calm_step m n (after_read offset (at_access m).chip) o s.0
-    (calm_read offset (at_access m).chip _ other (read_move offset (at_access m).chip))
+    let d : ChipState = after_read offset (at_access m).chip in
+    let calm = calm_read offset (at_access m).chip d other (read_move offset (at_access m).chip) in
+    calm_step m n d 0 o s.0 calm (calm_leaves m d calm)
 
 pub looks_left : (l : List Access) (m n : MachineState) → AllLooks l → IsOpenAt m → Path MachineStep m l n → Leaves m n 0
 looks_left [] m n all o p = rw p (leaves-none m o)
@@ -185,9 +198,9 @@ ier_left value m n o thr readable s =
     let c = (at_access m).chip in
     let off : is_dlab_set c.latches ≡ false = ap is_dlab_set w.drifts.latches ∙ o.dlab in
     let moved : n ≡ record { chip = enable value c; ahead = (at_access m).ahead } = rw off at s in
-    calm_step m n (enable value c) o moved
-    (calm_enable value c (λ e. ap (λ (v : ℕ). has_any v IER.THR_EMPTY.0) ier ∙ thr e)
-    (λ e. ap (λ (v : ℕ). has_any v IER.DATA_READY.0) ier ∙ readable e))
+    let calm = calm_enable value c (λ e. ap (λ (v : ℕ). has_any v IER.THR_EMPTY.0) ier ∙ thr e)
+    (λ e. ap (λ (v : ℕ). has_any v IER.DATA_READY.0) ier ∙ readable e) in
+    calm_step m n (enable value c) 0 o moved calm (calm_leaves m (enable value c) calm)
 
 -- IER is read, and written with what was read, changed
 changed_left : (change : ℕ → ℕ) (ier : ℕ) (l : List Access) (m n : MachineState) → IsOpenAt m →
@@ -313,126 +326,56 @@ line_counts c e = go c.receiver.is_overrun (front_errors c.receiver.queue c.rece
     go false false p q = rw (p, q) refl
     go false true p q = absurd (false≢true (sym (unlined c p (grind (arith, nat_tests))) ∙ e))
 
--- what follows a read of ISR, in which no chip's line, modem or receiver changed
-kept_isr : (c : ChipState) → is_thr_empty (interrupt c) ≡ false → after_read offsets.ISR c ≡ c
-kept_isr c e = rw e refl
+-- a read of ISR that does not show THR-empty acknowledges nothing
+kept_isr : (m o : MachineState) (isr : ℕ) → is_thr_empty (interrupt (at_access m).chip) ≡ false → MachineStep m (Read offsets.ISR isr) o →
+    o.chip ≡ (at_access m).chip
+kept_isr m o isr other s = ap (λ (k : MachineState). k.chip) s.0 ∙ same (at_access m).chip other
+  where
+    same : (c : ChipState) → is_thr_empty (interrupt c) ≡ false → after_read offsets.ISR c ≡ c
+    same c e = rw e refl
 
 pub not_thr : (c : ChipState) (i : InterruptType) → interrupt c ≡ Some i → is_thr_empty (Some i) ≡ false →
     is_thr_empty (interrupt c) ≡ false
 not_thr c i is other = ap is_thr_empty is ∙ other
 
+-- a read that tells of an interrupt
+told_left : (offset value : ℕ) (m n : MachineState) → IsOpenAt m → (offset == offsets.DATA) ≡ false →
+    MachineStep m (Read offset value) n → LeavesBy m (after_read offset (at_access m).chip) 1 → Leaves m n 1
+told_left offset value m n o other s by =
+    calm_step m n (after_read offset (at_access m).chip) 1 o s.0
+    (calm_read offset (at_access m).chip _ other (read_move offset (at_access m).chip)) by
+
 -- the errors of the line are told
 pub line_served : (m o n : MachineState) (isr status : ℕ) → IsOpenAt m → interrupt (at_access m).chip ≡ Some interrupts.ReceiverLineStatus →
     MachineStep m (Read offsets.ISR isr) o → Path MachineStep o (Read offsets.LSR status ∷ []) n → Leaves m n 1
 line_served m o n isr status open_at is s p =
-    let w = waited m open_at.loopback in
     let c = (at_access m).chip in
     let told = both_true (has_any c.latches.ier IER.RECEIVER_LINE_STATUS.0) (has_any (line_status c) LSR.LINE_ERRORS.0)
     (told_by c interrupts.ReceiverLineStatus is) in
-    let one = line_counts c told.1 in
-    let chip : o.chip ≡ c =
-    ap (λ (k : MachineState). k.chip) s.0 ∙ kept_isr c (not_thr c interrupts.ReceiverLineStatus is refl) in
+    let chip = kept_isr m o isr (not_thr c interrupts.ReceiverLineStatus is refl) s in
+    let one : line_left o.chip.receiver ≡ 1 = ap (λ (k : ChipState). line_left k.receiver) chip ∙ line_counts c told.1 in
     let first = read_left offsets.ISR isr m o open_at refl s in
-    let v = waited o first.open_at.loopback in
     let d = (at_access o).chip in
     let none = looked d.receiver in
-    let last : n.chip ≡ record d { receiver = report d.receiver } =
-    ap (λ (k : MachineState). k.chip) p.2 ∙ ap (λ (k : MachineState). k.chip) p.1.0 in
-    let second = looks_left (Read offsets.LSR status ∷ []) o n (refl, tt) first.open_at p in
-    let readable : data_left d.latches ≡ data_left o.chip.latches = ap (λ (l : LatchesState). data_left l) v.drifts.latches in
-    let data_c : data_left c.latches ≡ data_left m.chip.latches = ap (λ (l : LatchesState). data_left l) w.drifts.latches in
-    let e = v.drifts in
-    let f = w.drifts in
-    let at_end : left n.chip ≡ 0 + (data_left d.latches + (sent_left d.transmitter + modem_left d)) =
-    ap left last ∙ ap (λ k. k + (data_left d.latches + (sent_left d.transmitter + modem_left d))) none in
-    let total = news-append w.came v.came in
-    let line_o : line_left o.chip.receiver ≡ line_left c.receiver = ap (λ (k : ChipState). line_left k.receiver) chip in
-    let data_o : data_left o.chip.latches ≡ data_left c.latches = ap (λ (k : ChipState). data_left k.latches) chip in
-    let sent_o : sent_left o.chip.transmitter ≡ sent_left c.transmitter = ap (λ (k : ChipState). sent_left k.transmitter) chip in
-    let modem_o : modem_left o.chip ≡ modem_left c = ap modem_left chip in
-    record {
-      came = w.came ++ v.came;
-      ahead =
-          let a : m.ahead ≡ w.came ++ o.ahead = w.whole ∙ ap (λ es. w.came ++ es) (sym (ap (λ (k : MachineState). k.ahead) s.0)) in
-          let b : o.ahead ≡ v.came ++ n.ahead =
-          v.whole ∙ ap (λ es. v.came ++ es) (sym (ap (λ (k : MachineState). k.ahead) p.2 ∙ ap (λ (k : MachineState). k.ahead) p.1.0)) in
-          a ∙ (ap (λ es. w.came ++ es) b ∙ sym (append_assoc w.came v.came n.ahead));
-      fewer = omega (
-        arith,
-        one,
-        none,
-        at_end,
-        total,
-        readable,
-        data_c,
-        line_o,
-        data_o,
-        sent_o,
-        modem_o,
-        e.brought,
-        e.modem,
-        e.sent,
-        f.brought,
-        f.line,
-        f.modem,
-        f.sent,
-      );
-      open_at = second.open_at;
-    }
+    let at_end : left (after_read offsets.LSR d) ≡
+    line_left (report d.receiver) + (data_left d.latches + (sent_left d.transmitter + modem_left d)) = refl in
+    rw p.2 (leaves-trans m o p.0 0 1 first (told_left offsets.LSR status o p.0 first.open_at refl p.1
+    (λ most e. let readable = still_readable o most e in omega (arith, one, none, at_end, readable, e.brought, e.modem, e.sent))))
 
 -- the changes of the modem lines are told
 pub modem_served : (m o n : MachineState) (isr status : ℕ) → IsOpenAt m → interrupt (at_access m).chip ≡ Some interrupts.ModemStatus →
     MachineStep m (Read offsets.ISR isr) o → Path MachineStep o (Read offsets.MSR status ∷ []) n → Leaves m n 1
 modem_served m o n isr status open_at is s p =
-    let w = waited m open_at.loopback in
     let c = (at_access m).chip in
     let told = both_true (has_any c.latches.ier IER.MODEM_STATUS.0) (not (c.modem.deltas == 0))
     (told_by c interrupts.ModemStatus is) in
-    let one : modem_left c ≡ 1 = ap one_if told.1 in
-    let chip : o.chip ≡ c =
-    ap (λ (k : MachineState). k.chip) s.0 ∙ kept_isr c (not_thr c interrupts.ModemStatus is refl) in
+    let chip = kept_isr m o isr (not_thr c interrupts.ModemStatus is refl) s in
+    let one : modem_left o.chip ≡ 1 = ap modem_left chip ∙ ap one_if told.1 in
     let first = read_left offsets.ISR isr m o open_at refl s in
-    let v = waited o first.open_at.loopback in
     let d = (at_access o).chip in
-    let last : n.chip ≡ record d { modem = record d.modem { deltas = 0 } } =
-    ap (λ (k : MachineState). k.chip) p.2 ∙ ap (λ (k : MachineState). k.chip) p.1.0 in
-    let second = looks_left (Read offsets.MSR status ∷ []) o n (refl, tt) first.open_at p in
-    let readable : data_left d.latches ≡ data_left o.chip.latches = ap (λ (l : LatchesState). data_left l) v.drifts.latches in
-    let data_c : data_left c.latches ≡ data_left m.chip.latches = ap (λ (l : LatchesState). data_left l) w.drifts.latches in
-    let e = v.drifts in
-    let f = w.drifts in
-    let at_end : left n.chip ≡ line_left d.receiver + (data_left d.latches + (sent_left d.transmitter + 0)) = ap left last in
-    let total = news-append w.came v.came in
-    let line_o : line_left o.chip.receiver ≡ line_left c.receiver = ap (λ (k : ChipState). line_left k.receiver) chip in
-    let data_o : data_left o.chip.latches ≡ data_left c.latches = ap (λ (k : ChipState). data_left k.latches) chip in
-    let sent_o : sent_left o.chip.transmitter ≡ sent_left c.transmitter = ap (λ (k : ChipState). sent_left k.transmitter) chip in
-    record {
-      came = w.came ++ v.came;
-      ahead =
-          let a : m.ahead ≡ w.came ++ o.ahead = w.whole ∙ ap (λ es. w.came ++ es) (sym (ap (λ (k : MachineState). k.ahead) s.0)) in
-          let b : o.ahead ≡ v.came ++ n.ahead =
-          v.whole ∙ ap (λ es. v.came ++ es) (sym (ap (λ (k : MachineState). k.ahead) p.2 ∙ ap (λ (k : MachineState). k.ahead) p.1.0)) in
-          a ∙ (ap (λ es. w.came ++ es) b ∙ sym (append_assoc w.came v.came n.ahead));
-      fewer = omega (
-        arith,
-        one,
-        at_end,
-        total,
-        readable,
-        data_c,
-        line_o,
-        data_o,
-        sent_o,
-        e.brought,
-        e.line,
-        e.sent,
-        f.brought,
-        f.line,
-        f.modem,
-        f.sent,
-      );
-      open_at = second.open_at;
-    }
+    let at_end : left (after_read offsets.MSR d) ≡ line_left d.receiver + (data_left d.latches + (sent_left d.transmitter + 0)) = refl in
+    rw p.2 (leaves-trans m o p.0 0 1 first (told_left offsets.MSR status o p.0 first.open_at refl p.1
+    (λ most e. let readable = still_readable o most e in omega (arith, one, at_end, readable, e.brought, e.line, e.sent))))
 
 -- that the transmitter's queue became empty is acknowledged
 pub record ThrServed (m o : MachineState) : Type 0 where
@@ -442,27 +385,20 @@ pub record ThrServed (m o : MachineState) : Type 0 where
 pub thr_served : (m o : MachineState) (isr : ℕ) → IsOpenAt m →
     interrupt (at_access m).chip ≡ Some interrupts.TransmitterHoldingRegisterEmpty → MachineStep m (Read offsets.ISR isr) o → ThrServed m o
 thr_served m o isr open_at is s =
-    let w = waited m open_at.loopback in
     let c = (at_access m).chip in
     let told = both_true _ _ (told_by c interrupts.TransmitterHoldingRegisterEmpty is) in
     let acknowledged : after_read offsets.ISR c ≡ record c { transmitter = record c.transmitter { is_thr_pending = false } } =
     let thr : is_thr_empty (interrupt c) ≡ true = ap is_thr_empty is in rw thr refl in
-    let chip : o.chip ≡ record c { transmitter = record c.transmitter { is_thr_pending = false } } =
-    ap (λ (k : MachineState). k.chip) s.0 ∙ acknowledged in
-    let at_end : left o.chip ≡
-    line_left c.receiver + (data_left c.latches + ((0 + one_if (not (length c.transmitter.queue == 0))) + modem_left c)) = ap left chip in
+    let at_end : left (after_read offsets.ISR c) ≡
+    line_left c.receiver + (data_left c.latches + ((0 + one_if (not (length c.transmitter.queue == 0))) + modem_left c)) =
+    ap left acknowledged in
     let one : one_if c.transmitter.is_thr_pending ≡ 1 = ap one_if told.1 in
-    let readable : data_left c.latches ≡ data_left m.chip.latches = ap (λ (l : LatchesState). data_left l) w.drifts.latches in
-    let f = w.drifts in
-    let first = read_left offsets.ISR isr m o open_at refl s in
     record {
-      leaves = record {
-        came = w.came;
-        ahead = w.whole ∙ ap (λ es. w.came ++ es) (sym (ap (λ (k : MachineState). k.ahead) s.0));
-        fewer = omega (arith, at_end, one, readable, f.brought, f.line, f.modem, f.sent);
-        open_at = first.open_at;
-      };
-      enabled = ap (λ (k : ChipState). has_any k.latches.ier IER.THR_EMPTY.0) chip ∙ told.0;
+      leaves = told_left offsets.ISR isr m o open_at refl s
+          (λ most e.
+          let readable = still_readable m most e in omega (arith, at_end, one, readable, e.brought, e.line, e.modem, e.sent));
+      enabled =
+          ap (λ (k : ChipState). has_any k.latches.ier IER.THR_EMPTY.0) (ap (λ (k : MachineState). k.chip) s.0 ∙ acknowledged) ∙ told.0;
     }
 
 -- ---- the accesses of a pump that sends nothing
@@ -520,7 +456,7 @@ pub data_shown : (m o n : MachineState) (isr line : ℕ) → IsOpenAt m →
     MachineStep m (Read offsets.ISR isr) o → MachineStep o (Read offsets.LSR line) n → has line LSR.DATA_READY.0 ≡ false → ⊥
 data_shown m o n isr line open_at readable other s t none =
     let c = (at_access m).chip in
-    let chip : o.chip ≡ c = ap (λ (k : MachineState). k.chip) s.0 ∙ kept_isr c other in
+    let chip = kept_isr m o isr other s in
     let some : 0 < length o.chip.receiver.queue =
     subst (λ (k : ChipState). 0 < length k.receiver.queue) (sym chip) (waits_shown c readable) in
     let first = read_left offsets.ISR isr m o open_at refl s in
@@ -541,32 +477,24 @@ data_gone : (value : ℕ) (m n : MachineState) → IsOpenAt m → has_any m.chip
     has_any value IER.DATA_READY.0 ≡ false → Within IER.THR_EMPTY.0 value m.chip.latches.ier → MachineStep m (Write offsets.IER value) n →
     Leaves m n 1
 data_gone value m n o enabled gone thr s =
-    let w = waited m o.loopback in
-    let e = w.drifts in
+    let latches = (waited m o.loopback).drifts.latches in
     let c = (at_access m).chip in
-    let ier = ap (λ (l : LatchesState). l.ier) e.latches in
-    let off : is_dlab_set c.latches ≡ false = ap is_dlab_set e.latches ∙ o.dlab in
+    let off : is_dlab_set c.latches ≡ false = ap is_dlab_set latches ∙ o.dlab in
     let moved : n ≡ record { chip = enable value c; ahead = (at_access m).ahead } = rw off at s in
     let d : ChipState = enable value c in
-    let calm = calm_enable value c (λ x. ap (λ (v : ℕ). has_any v IER.THR_EMPTY.0) ier ∙ thr x) (λ x. absurd (false≢true (sym gone ∙ x))) in
+    let calm = calm_enable value c
+    (λ x. ap (λ (l : LatchesState). has_any l.ier IER.THR_EMPTY.0) latches ∙ thr x) (λ x. absurd (false≢true (sym gone ∙ x))) in
     let none : data_left d.latches ≡ 0 = ap one_if (has_and 0 value ier_bits refl ∙ gone) in
     let one : data_left m.chip.latches ≡ 1 = ap one_if enabled in
-    let same : left n.chip ≡ left d = ap left (ap (λ (k : MachineState). k.chip) moved) in
-    let less = calm_step m n d o moved calm in
-    record {
-      came = w.came;
-      ahead = w.whole ∙ ap (λ es. w.came ++ es) (sym (ap (λ (k : MachineState). k.ahead) moved));
-      fewer = omega (arith, same, none, one, calm.line, calm.sent, calm.modem, e.brought, e.line, e.modem, e.sent);
-      open_at = less.open_at;
-    }
+    calm_step m n d 1 o moved calm
+    (λ most e. omega (arith, none, one, calm.line, calm.sent, calm.modem, e.brought, e.line, e.modem, e.sent))
 
 -- the interrupt of data is disabled
 pub data_served : (m o n : MachineState) (isr ier : ℕ) → IsOpenAt m → has_any (at_access m).chip.latches.ier IER.DATA_READY.0 ≡ true →
     is_thr_empty (interrupt (at_access m).chip) ≡ false → MachineStep m (Read offsets.ISR isr) o →
     Path MachineStep o (Read offsets.IER ier ∷ Write offsets.IER (without 8 ier IER.DATA_READY.0) ∷ []) n → Leaves m n 1
 data_served m o n isr ier open_at enabled other s p =
-    let c = (at_access m).chip in
-    let chip : o.chip ≡ c = ap (λ (k : MachineState). k.chip) s.0 ∙ kept_isr c other in
+    let chip = kept_isr m o isr other s in
     let first = read_left offsets.ISR isr m o open_at refl s in
     let at_o : has_any o.chip.latches.ier IER.DATA_READY.0 ≡ true =
     ap (λ (k : ChipState). has_any k.latches.ier IER.DATA_READY.0) chip ∙ enabled in

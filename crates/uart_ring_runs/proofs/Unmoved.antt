@@ -116,6 +116,10 @@ kept_moves f g t u r = record {
 moves_by : (f g h : RingFields) → h ≡ g → g.transmit ≡ f.transmit → g.urgent ≡ f.urgent → g.receive ≡ f.receive → Moves f h
 moves_by f g h e t u r = subst (λ (k : RingFields). Moves f k) (sym e) (kept_moves f g t u r)
 
+-- the driver's fields changed too
+moves_with : (f g : RingFields) (d : Fields) → Moves f g → Moves f (with_driver d g)
+moves_with f g d m = record { transmit = m.transmit; urgent = m.urgent; receive = m.receive; capacity = m.capacity }
+
 moves_as : (f g h : RingFields) → h ≡ g → Moves f g → Moves f h
 moves_as f g h e m = subst (λ (k : RingFields). Moves f k) (sym e) m
 
@@ -218,16 +222,9 @@ pauses_moves false f l after t = moves_by f f after t.1 refl refl refl
 fills_moves : (f : RingFields) (l : List Access) (after : RingFields) → FillsReceiveRing f l after → Moves f after
 fills_moves f l after (bytes, t) =
     let g : RingFields = with_driver t.mid.driver (with_received bytes f) in
-    moves-trans f t.mid after (moves_as f g t.mid t.first.1 (received_more bytes f t.mid.driver))
+    moves-trans f t.mid after
+    (moves_as f g t.mid t.first.1 (moves_with f (with_received bytes f) t.mid.driver (received_moves bytes f)))
     (pauses_moves (is_full t.mid.receive) t.mid t.back after t.second)
-  where
-    received_more : (bytes : List ℕ) (f : RingFields) (d : Fields) → Moves f (with_driver d (with_received bytes f))
-    received_more bytes f d = record {
-      transmit = omega arith;
-      urgent = λ e. e;
-      receive = omega (arith, length-append f.receive.items bytes);
-      capacity = refl;
-    }
 
 none_long : (xs : List ℕ) → length xs ≡ 0 → xs ≡ []
 none_long [] e = refl
@@ -292,11 +289,8 @@ serve_moves : (interrupt : InterruptType) (f : RingFields) (l : List Access) (af
 serve_moves interrupts.ReceiverLineStatus f l after (status, (t, same)) = moves_by f _ after same refl refl refl
 serve_moves interrupts.ReceivedDataReady f l after t = fills_moves f l after t
 serve_moves interrupts.ReceptionTimeout f l after t = fills_moves f l after t
-serve_moves interrupts.TransmitterHoldingRegisterEmpty f l after (sent, (t, same)) = moves_as f _ after same (sent_with sent f after.driver)
-  where
-    sent_with : (sent : ℕ) (f : RingFields) (d : Fields) → Moves f (with_driver d (without_sent sent f))
-    sent_with sent f d = let s = sent_moves sent f in
-        record { transmit = s.transmit; urgent = s.urgent; receive = s.receive; capacity = s.capacity }
+serve_moves interrupts.TransmitterHoldingRegisterEmpty f l after (sent, (t, same)) =
+    moves_as f _ after same (moves_with f (without_sent sent f) after.driver (sent_moves sent f))
 serve_moves interrupts.ModemStatus f l after (status, (t, same)) = moves_by f _ after same refl refl refl
 serve_moves interrupts.DmaReceptionEndOfTransfer f l after t = moves_by f f after t.1 refl refl refl
 serve_moves interrupts.DmaTransmissionEndOfTransfer f l after t = moves_by f f after t.1 refl refl refl
@@ -317,22 +311,14 @@ interrupt_left interrupts.ReceiverLineStatus f after l m o n isr a (status, ((li
     line_served m o n isr line a e s (path_as o n l (Read offsets.LSR line ∷ []) is path)
 interrupt_left interrupts.ReceivedDataReady f after l m o n isr a t still room e s path =
     let told = both_true _ _ (told_by (at_access m).chip interrupts.ReceivedDataReady e) in
-    fills_left f after l m o n isr (record {
-      open_at = a;
-      enabled = told.0;
-      readable = inl told.1;
-      other = not_thr (at_access m).chip interrupts.ReceivedDataReady e refl;
-      step = s;
-    }) t still room path
+    let other = not_thr (at_access m).chip interrupts.ReceivedDataReady e refl in
+    fills_left f after l m o n isr
+    (record { open_at = a; enabled = told.0; readable = inl told.1; other = other; step = s }) t still room path
 interrupt_left interrupts.ReceptionTimeout f after l m o n isr a t still room e s path =
     let told = both_true _ _ (told_by (at_access m).chip interrupts.ReceptionTimeout e) in
-    fills_left f after l m o n isr (record {
-      open_at = a;
-      enabled = told.0;
-      readable = inr told.1;
-      other = not_thr (at_access m).chip interrupts.ReceptionTimeout e refl;
-      step = s;
-    }) t still room path
+    let other = not_thr (at_access m).chip interrupts.ReceptionTimeout e refl in
+    fills_left f after l m o n isr
+    (record { open_at = a; enabled = told.0; readable = inr told.1; other = other; step = s }) t still room path
 interrupt_left interrupts.TransmitterHoldingRegisterEmpty f after l m o n isr a t still room e s path =
     let served = thr_served m o isr a e s in
     leaves-trans m o n 1 0 served.leaves (pump_left f after l o n t still served.leaves.open_at served.enabled path)
@@ -394,12 +380,13 @@ step_came (Read offset value) m n s = let g = gone m.ahead in
 step_came (Write offset value) m n s = let g = gone m.ahead in
     record { came = g.0; ahead = g.1 ∙ ap (λ es. g.0 ++ es) (sym (ap (λ (k : MachineState). k.ahead) s)) }
 
+came-trans : (m n o : MachineState) → Came m n → Came n o → Came m o
+came-trans m n o a b =
+    record { came = a.came ++ b.came; ahead = a.ahead ∙ (ap (λ es. a.came ++ es) b.ahead ∙ sym (append_assoc a.came b.came o.ahead)) }
+
 path_came : (l : List Access) (m n : MachineState) → Path MachineStep m l n → Came m n
 path_came [] m n p = record { came = []; ahead = sym (ap (λ (k : MachineState). k.ahead) p) }
-path_came (access ∷ l) m n p =
-    let a = step_came access m p.0 p.1 in
-    let b = path_came l p.0 n p.2 in
-    record { came = a.came ++ b.came; ahead = a.ahead ∙ (ap (λ es. a.came ++ es) b.ahead ∙ sym (append_assoc a.came b.came n.ahead)) }
+path_came (access ∷ l) m n p = came-trans m p.0 n (step_came access m p.0 p.1) (path_came l p.0 n p.2)
 
 -- what came up to a moment is among what came up to a later one
 news_within : (m o n : MachineState) (came : List Event) → m.ahead ≡ came ++ o.ahead → Came o n → news came ≤ news (between m n)
@@ -412,10 +399,6 @@ news_within m o n came is later =
     let whole : between m n ≡ came ++ later.came = rw (few, all) (take-append_seam (came ++ later.came) n.ahead) in
     let number : news (between m n) ≡ news (came ++ later.came) = ap news whole in
     omega (arith, number, news-append came later.came)
-
-came-trans : (m n o : MachineState) → Came m n → Came n o → Came m o
-came-trans m n o a b =
-    record { came = a.came ++ b.came; ahead = a.ahead ∙ (ap (λ es. a.came ++ es) b.ahead ∙ sym (append_assoc a.came b.came o.ahead)) }
 
 -- fields of which only the driver's changed
 still_before : (f g h : RingFields) → h ≡ with_driver h.driver g → Still f h → Still f g

@@ -2,7 +2,7 @@
 //!
 //! The contract of each function is a law that callers can cite.
 ghost use Rattle.std.specs.Prelude.{◌≡◌, ◌≤◌, ◌+◌, ℕ, suc, Bool, true, false, List, None};
-ghost use Rattle.std.specs.Prelude.{Result, Ok, Err, length, map};
+ghost use Rattle.std.specs.Prelude.{Result, Ok, Err, All, length, map};
 ghost use Rattle.uart_events.specs.declared.call.Call.{Call};
 ghost use Rattle.uart_16550.specs.Driver.{Did};
 ghost use Rattle.uart_16550.specs.Init.{Inits};
@@ -22,12 +22,17 @@ ghost use Rattle.uart_ring.specs.declared.ring.service.HandleEnd.TheVariants.{Id
 ghost use Rattle.uart_ring.specs.declared.ring.service.Handled.{Handled};
 ghost use Rattle.uart_ring.specs.declared.ring.storm.StuckError.{StuckError};
 ghost use Rattle.uart_ring_runs.specs.Healthy.{IsInRoom, most_without_news, news_between};
-ghost use Rattle.uart_ring_runs.specs.RingArmed.{IsRingArmed, LeavesThrEmpty};
+ghost use Rattle.uart_ring_runs.specs.RingArmed.{IsRingArmed, KeepsArmed, LeavesThrEmpty};
+ghost use Rattle.uart_ring_runs.specs.RingBytes.{AllTakeInTurn};
 ghost use Rattle.uart_ring_runs.specs.RingPlain.{AreUntold, ArePlain, ConservesPlainly};
-ghost use Rattle.uart_ring_runs.specs.RingRun.{DriverCalled, RingChain, RingLink, RingState};
+ghost use Rattle.uart_ring_runs.specs.RingRun.{DriverCalled, IsOfRings, RingChain, RingLink};
+ghost use Rattle.uart_ring_runs.specs.RingRun.{RingState, ring_machine, under};
+ghost use Rattle.uart_ring_runs.specs.RingSession.{AllWithinRingSession, RingConserves};
+ghost use Rattle.uart_ring_runs.specs.RingStatuses.{NeitherIs};
 ghost use Rattle.uart_ring_runs.specs.declared.call.RingAnswer.{RingAnswer};
-ghost use Rattle.uart_ring_runs.specs.RingRun.{ring_machine, under};
-ghost use Rattle.uart_ring_runs.specs.RingSession.{RingConserves};
+ghost use Rattle.uart_ring_runs.specs.declared.call.RingCall.{RingCall};
+ghost use Rattle.uart_ring_runs.specs.declared.call.RingCall.TheVariants.{Driver};
+ghost use Rattle.uart_run.specs.Chains.{NoneIs, calls_of};
 ghost use Rattle.uart_run.specs.Ready.{Ready};
 ghost use Rattle.uart_run.specs.Wired.{IsWired};
 ghost use Rattle.uart_spec.specs.declared.config.Config.{Config};
@@ -120,7 +125,8 @@ pub fn shared_lines_lose_no_edge()
 {}
 
 /// Rings are two queues as long as they are told nothing: no call holds them, overtakes, drops or
-/// counts rounds.
+/// counts rounds, and no call of the driver sends, receives or may take the THR_EMPTY interrupt
+/// away.
 ///
 /// In a session of such calls, from rings that were told nothing, what has been sent or is in the
 /// transmitter, and then the transmit ring, grows by exactly the bytes that were queued. The bytes
@@ -145,7 +151,8 @@ pub fn plain_sessions_conserve()
 /// `rounds` calls in which fewer than `limit - 5` come, the chip is never found stuck, whatever the
 /// schedule has between the calls, and however many come there.
 ///
-/// DLAB and loopback are off, as in each session, and the chip was not stuck before.
+/// DLAB and loopback are off, as in each session, and the chip was not stuck before. The receive
+/// ring holds no more bytes than it has room for.
 pub fn chips_that_work_are_not_stuck()
     ensures counted { (limit rounds : ℕ) (handled : Handled) (s t : RingState) → Ready (under s) →
         IsInRoom s → (ring_fields s).stuck ≡ None →
@@ -167,4 +174,20 @@ pub fn chips_that_work_are_not_stuck()
 pub fn calls_of_the_driver_leave_armed()
     ensures { (c : Call) (answer : RingAnswer) (s t : RingState) → Ready (under s) →
         LeavesThrEmpty c → DriverCalled MachineStep c answer s t → IsRingArmed s → IsRingArmed t }
+{}
+
+/// Calls of the rings themselves meet each condition that a session has because of calls of the
+/// driver.
+///
+/// From a wired machine they go on with a session. None receives past bytes in the receive ring,
+/// takes the THR_EMPTY interrupt away, or forgets what a `take_line` or a `take_modem` is to tell.
+/// So of a run of them alone a session conserves all that it does without these conditions.
+pub fn calls_of_the_rings_meet_conditions()
+    ensures within { (s : RingState) (links : List RingLink) → All IsOfRings (calls_of links) →
+        IsWired (under s) → AllWithinRingSession s links }
+    ensures in_turn { (links : List RingLink) → All IsOfRings (calls_of links) →
+        AllTakeInTurn links }
+    ensures armed { (call : RingCall) → IsOfRings call → KeepsArmed call }
+    ensures told { (call : RingCall) (other : Call) (links : List RingLink) →
+        All IsOfRings (calls_of links) → NoneIs call links → NeitherIs call (Driver other) links }
 {}

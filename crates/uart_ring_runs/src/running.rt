@@ -41,7 +41,8 @@ fn run_ring_call(ring: &mut Uart16550Ring<Device16550>, call: &RingCall) -> Ring
 ///   and those that arrived, in order, without those that the chip dropped. This holds if no
 ///   `Driver` receives while bytes are in the receive ring;
 /// - `TakeLine` reports drops and line errors, and `TakeModem` changes of the modem lines, also
-///   those that were read when interrupts were served;
+///   those that were read when interrupts were served. This holds if no `Driver` in between is an
+///   `lsr` or an `msr`, which tells the same;
 /// - if CTS is not checked, there are never bytes that may be sent with no interrupt to come,
 ///   unless there were at the start, or since a `Driver` that may take the interrupt away, and no
 ///   byte was queued and sending not resumed since. While the ring is held only an urgent byte may

@@ -1,8 +1,8 @@
 //! Callers of `run_ring` that begin a session.
 ghost use Rattle.std.specs.Prelude.{◌≡◌, List, [], All, IfOk, length};
-ghost use Rattle.uart_ring_runs.specs.RingBytes.{to_send, to_take};
+ghost use Rattle.uart_ring_runs.specs.RingBytes.{AllTakeInTurn, to_send, to_take};
 ghost use Rattle.uart_ring_runs.specs.RingRun.{IsOfRings, IsRingRunnable, RingLink, RingState, under};
-ghost use Rattle.uart_ring_runs.specs.RingSession.{RingConserves};
+ghost use Rattle.uart_ring_runs.specs.RingSession.{AllWithinRingSession, RingConserves};
 ghost use Rattle.uart_run.specs.Chains.{answers_of, calls_of};
 ghost use Rattle.uart_run.specs.Ready.{Ready};
 ghost use Rattle.uart_run.specs.Wired.{IsWired};
@@ -27,8 +27,8 @@ pub enum StartError {
     NoRings(RingError),
 }
 
-/// Initialises the driver, and puts it into rings. A session begins, with empty rings, in which any
-/// ring call may be made.
+/// Initialises the driver, and puts it into rings. A session begins, with empty rings, and each
+/// call of the rings themselves goes on with it.
 pub fn start_rings(
     alloc: Global,
     mut uart: Uart16550<Device16550>,
@@ -49,9 +49,11 @@ pub fn start_rings(
     }
 }
 
-/// Starts rings as `start_rings` does, and makes the calls, which are the rings' own: one of the
-/// driver could end the session. They are a session that begins with empty rings, so all that holds
-/// of a session holds of them.
+/// Starts rings as `start_rings` does, and makes the calls. If each of them goes on with a session,
+/// they are one that begins with empty rings, so all that holds of a session holds of them.
+///
+/// Calls of the rings themselves all go on with it, and take bytes in turn. One of the driver may
+/// end it, as an `init` does.
 pub fn run_from_init(
     alloc: Global,
     uart: Uart16550<Device16550>,
@@ -61,12 +63,12 @@ pub fn run_from_init(
 ) -> Result<Uart16550Ring<Device16550>, StartError>
     requires computable { IsComputable config }
     requires runnable { All IsRingRunnable calls.now }
-    requires of_rings { All IsOfRings calls.now }
     requires slots { length calls.now ≡ length answers.old }
     ensures { IfOk result (λ ring. (begins : RingState) × (links : List RingLink)
-        × (to_send begins ≡ []) × (to_take begins ≡ [])
+        × (to_send begins ≡ []) × (to_take begins ≡ []) × IsWired (under begins)
         × (calls_of links ≡ calls.now) × (answers_of links ≡ answers.new)
-        × RingConserves begins links ring) }
+        × (AllWithinRingSession begins links → RingConserves begins links ring)
+        × (All IsOfRings calls.now → AllWithinRingSession begins links × AllTakeInTurn links)) }
 {
     match start_rings(alloc, uart, config) {
         Ok(mut ring) => {
