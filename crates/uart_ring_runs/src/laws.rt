@@ -181,7 +181,7 @@ pub fn calls_of_the_driver_leave_armed()
 ///
 /// From a wired machine they go on with a session. None receives past bytes in the receive ring,
 /// takes the THR_EMPTY interrupt away, or forgets what a `take_line` or a `take_modem` is to tell.
-/// So of a run of them alone a session conserves all that it does without these conditions.
+/// So what is said of a session holds of them without these conditions.
 pub fn calls_of_the_rings_meet_conditions()
     ensures within { (s : RingState) (links : List RingLink) → All IsOfRings (calls_of links) →
         IsWired (under s) → AllWithinRingSession s links }
