@@ -272,7 +272,7 @@ impl<B: Backend> Uart16550Ring<B> {
     /// - `init`, `init_with`, `restore`, `quiesce` and `test_loopback`, which set the port up, test
     ///   it or leave it.
     ///
-    /// After every other call the interrupt is still to come.
+    /// After every other call the interrupt is still to come, if DLAB and loopback are off.
     ///
     /// # Examples
     ///
