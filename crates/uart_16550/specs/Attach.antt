@@ -1,7 +1,7 @@
 -- Taking a port as it was set up.
-use Rattle.std.specs.Prelude.{ℕ, Bool, true, false, Result, Ok, Err}
+use Rattle.std.specs.Prelude.{◌<◌, ℕ, ◌+◌, ◌*◌, Bool, true, false, Result, Ok, Err}
 use Rattle.uart_spec.specs.declared.errors.AttachError.{AttachError}
-use Rattle.uart_spec.specs.declared.errors.AttachError.TheVariants.{DivisorLatchOpen, Loopback}
+use Rattle.uart_spec.specs.declared.errors.AttachError.TheVariants.{DivisorLatchOpen, Loopback, NoDivisor}
 use Rattle.uart_spec.specs.declared.registers.offsets.TheConstants as offsets
 use Rattle.uart_spec.specs.declared.registers.interrupt_status.TheConstants.ISR
 use Rattle.uart_spec.specs.declared.registers.line_control.TheConstants.LCR
@@ -17,14 +17,19 @@ FindsLatch open_latch = Asks offsets.LCR LCR.DLAB.0 open_latch
 abbrev pub FindsLoopback : Bool → Language
 FindsLoopback looped = Then (FindsLatch false) (Asks offsets.MCR MCR.LOOP_BACK.0 looped)
 
--- DLAB and loopback are off; ISR shows whether the FIFOs are on, and the divisor latch is read
-abbrev pub FindsPort : (fifo : Bool) → (low high : ℕ) → Language
-FindsPort fifo low high =
-    Then (FindsLoopback false) (Then (Asks offsets.ISR ISR.FIFOS_ENABLED.0 fifo) (ReadsDivisor low high))
+-- DLAB and loopback are off, and the divisor latch is read
+abbrev pub FindsDivisor : (low high : ℕ) → Language
+FindsDivisor low high = Then (FindsLoopback false) (ReadsDivisor low high)
 
--- `attach`: the driver takes the FIFO to be as ISR shows; or the port was refused, and nothing changed
+-- DLAB and loopback are off, the divisor latch is read, and then ISR shows whether the FIFOs are on
+abbrev pub FindsPort : (fifo : Bool) → (low high : ℕ) → Language
+FindsPort fifo low high = Then (FindsDivisor low high) (Asks offsets.ISR ISR.FIFOS_ENABLED.0 fifo)
+
+-- `attach`: the divisor is not 0, and the driver takes the FIFO to be as ISR shows; or the port was refused before ISR
+-- was read, and nothing changed
 abbrev pub Attaches : Result (ℕ × ℕ) AttachError → Doing
-Attaches (Ok latch) f l after =
-    (fifo : Bool) × Next (Saving (FindsPort fifo latch.0 latch.1)) (Sets (with_fifo fifo)) f l after
+Attaches (Ok latch) f l after = (0 < 256 * latch.1 + latch.0)
+    × (fifo : Bool) × Next (Saving (FindsPort fifo latch.0 latch.1)) (Sets (with_fifo fifo)) f l after
 Attaches (Err DivisorLatchOpen) f l after = Saving (FindsLatch true) f l after
 Attaches (Err Loopback) f l after = Saving (FindsLoopback true) f l after
+Attaches (Err NoDivisor) f l after = Saving (FindsDivisor 0 0) f l after

@@ -589,10 +589,11 @@ enum uart_frame_error {
     UART_FRAME_STALLED = 2           /* of UART_SET_FRAME_WHEN_IDLE: the transmitter did not become empty within the limit */
 };
 
-/* Why a port cannot be taken as it is. Nothing was written. */
+/* Why a port cannot be taken as it is. ISR was not read; and nothing was written, except for a look at the divisor latch. */
 enum uart_attach_error {
     UART_ATTACH_DIVISOR_LATCH_OPEN = 0, /* UART_LCR_DLAB is set */
-    UART_ATTACH_LOOPBACK = 1         /* the chip is in loopback */
+    UART_ATTACH_LOOPBACK = 1,        /* the chip is in loopback */
+    UART_ATTACH_NO_DIVISOR = 2       /* the divisor latch reads as 0: no port is set up there, or there is none */
 };
 
 /* What does not show what was written. The first difference is told. */

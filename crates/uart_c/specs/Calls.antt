@@ -189,6 +189,7 @@ frame_when_idle_code idle_error.Stalled = code.UART_FRAME_STALLED
 abbrev pub attach_code : AttachError → ℕ
 attach_code attach_error.DivisorLatchOpen = code.UART_ATTACH_DIVISOR_LATCH_OPEN
 attach_code attach_error.Loopback = code.UART_ATTACH_LOOPBACK
+attach_code attach_error.NoDivisor = code.UART_ATTACH_NO_DIVISOR
 
 -- what does not show what was written; what was expected and what is shown, each with its low byte first
 abbrev pub different : (which expected shown : ℕ) → UartAnswer

@@ -206,6 +206,8 @@ pub const UART_ATTACH_DIVISOR_LATCH_OPEN: u8 = 0;
 
 pub const UART_ATTACH_LOOPBACK: u8 = 1;
 
+pub const UART_ATTACH_NO_DIVISOR: u8 = 2;
+
 // What does not show what was written: `enum uart_configuration_error`.
 
 pub const UART_CONFIGURATION_NO_DIVISOR: u8 = 0;

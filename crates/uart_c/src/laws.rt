@@ -57,8 +57,9 @@ pub fn codes_are_these()
     ensures frame { (code.UART_FRAME_NO_WHOLE_DIVISOR ∷ code.UART_FRAME_DIVISOR_OUT_OF_RANGE
         ∷ code.UART_FRAME_STALLED ∷ [])
         ≡ (0 ∷ 1 ∷ 2 ∷ []) }
-    ensures attach { (code.UART_ATTACH_DIVISOR_LATCH_OPEN ∷ code.UART_ATTACH_LOOPBACK ∷ [])
-        ≡ (0 ∷ 1 ∷ []) }
+    ensures attach { (code.UART_ATTACH_DIVISOR_LATCH_OPEN ∷ code.UART_ATTACH_LOOPBACK
+        ∷ code.UART_ATTACH_NO_DIVISOR ∷ [])
+        ≡ (0 ∷ 1 ∷ 2 ∷ []) }
     ensures configuration { (code.UART_CONFIGURATION_NO_DIVISOR
         ∷ code.UART_CONFIGURATION_LINE_CONTROL ∷ code.UART_CONFIGURATION_MODEM_CONTROL
         ∷ code.UART_CONFIGURATION_INTERRUPTS ∷ code.UART_CONFIGURATION_DIVISOR

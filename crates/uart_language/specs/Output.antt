@@ -81,6 +81,7 @@ frame_error_text frame.Stalled = codes "Stalled"
 abbrev pub attach_error_name : AttachError → List ℕ
 attach_error_name attach.DivisorLatchOpen = codes "DivisorLatchOpen"
 attach_error_name attach.Loopback = codes "Loopback"
+attach_error_name attach.NoDivisor = codes "NoDivisor"
 
 -- what was expected, and what a register shows
 abbrev pub difference_text : (expected shown : List ℕ) → List ℕ

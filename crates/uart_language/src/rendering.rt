@@ -110,6 +110,7 @@ fn attach_error_name(error: &AttachError) -> &'static [u8]
     match error {
         AttachError::DivisorLatchOpen => b"DivisorLatchOpen",
         AttachError::Loopback => b"Loopback",
+        AttachError::NoDivisor => b"NoDivisor",
     }
 }
 

@@ -51,7 +51,7 @@ succeeds s t (call.InitWith config setup) a w h timely =
 succeeds s t (call.SetFrameWhenIdle config) a w h timely =
     λ ready room divisor.
     frame_when_idle_succeeds s t config a h.did.list h.outcome w timely room divisor h.answered h.did.does h.did.path
-succeeds s t call.Attach a w h timely = λ ready. attach_finds s t a h ready
+succeeds s t call.Attach a w h timely = λ ready some. attach_finds s t a h ready some
 succeeds s t call.TestLoopback a w h timely = λ ready room. test_succeeds s t a w ready timely room h
 succeeds s t call.Flush a w h timely =
     λ ready room. flush_succeeds s t a h.did.list h.outcome w timely room h.answered h.did.does.0 h.did.path

@@ -1,7 +1,7 @@
 -- What a call does in a session that may change its modes: a `set_frame` writes LCR, a `set_modem_control` MCR.
 use Rattle.std.proofs.Common.{◌≡◌, ◌≢◌, ℕ, Bool, true, false, List, [], ◌∷◌, ◌++◌, ◌%◌, ◌/◌, map, refl, sym, ◌∙◌, ap, subst, bit_or, arith}
 use Rattle.std.proofs.Common.{append-nil}
-use Rattle.std.proofs.Common.{Result, Ok, Err, ◌+◌, ◌*◌, ◌||◌, bit_and}
+use Rattle.std.proofs.Common.{Result, Ok, Err, ◌<◌, ◌+◌, ◌*◌, ◌||◌, bit_and}
 use Rattle.std.proofs.lemmas.Bool.{false≢true}
 use Rattle.std.proofs.lemmas.Nat.{and_assoc}
 use Rattle.std.proofs.lemmas.List.{map-append}
@@ -21,17 +21,17 @@ use Rattle.uart_spec.specs.declared.setup.FifoAction.TheVariants.{Keep, Reset, D
 use Rattle.uart_events.specs.declared.call.Call.{Call}
 use Rattle.uart_events.specs.declared.call.Call.TheVariants as call
 use Rattle.uart_events.specs.declared.call.Answer.{Answer}
-use Rattle.uart_events.specs.declared.call.Answer.TheVariants.{Latch}
+use Rattle.uart_events.specs.declared.call.Answer.TheVariants.{Latch, AttachRefused}
 use Rattle.uart_16550.specs.Grammar.{Settings, Only, Then, Asks}
 use Rattle.uart_16550.specs.Driver.{Did, Fields, fields, settings_of, saving, Sets, Saving, Next, with_fifo}
 use Rattle.uart_16550.specs.Init.{DivisorOf, frame_bits}
 use Rattle.uart_16550.specs.Frame.{frame_writes, with_frame, SetsFrame, switched, unlooped, SetsBreak, SetsControl, SetsOutput}
 use Rattle.uart_16550.specs.Setup.{SetsFrameWhenIdle, Quiesces}
 use Rattle.uart_16550.specs.Transmit.{WaitsFor}
-use Rattle.uart_16550.specs.Attach.{FindsLatch, FindsLoopback, FindsPort, Attaches}
+use Rattle.uart_16550.specs.Attach.{FindsLatch, FindsLoopback, FindsDivisor, FindsPort, Attaches}
 use Rattle.uart_16550.specs.Status.{ReadsDivisor, divisor_accesses}
 use Rattle.uart_spec.specs.declared.errors.AttachError.{AttachError}
-use Rattle.uart_spec.specs.declared.errors.AttachError.TheVariants.{DivisorLatchOpen, Loopback}
+use Rattle.uart_spec.specs.declared.errors.AttachError.TheVariants.{DivisorLatchOpen, Loopback, NoDivisor}
 use Rattle.uart_spec.specs.declared.registers.interrupt_status.TheConstants.ISR
 use Rattle.uart_spec.specs.declared.registers.line_status.TheConstants.LSR
 use Rattle.uart_spec.specs.declared.registers.modem_control.TheConstants.MCR
@@ -48,7 +48,7 @@ use Rattle.uart_chip.proofs.conservation.Passed.{passed-refl, passed-trans}
 use Rattle.uart_chip.proofs.conservation.BlockLaws.{IsOpen, PassedBlocks, nothing_taken, passed_frame, relined, path_as, stands-after}
 use Rattle.uart_chip.proofs.conservation.BlockLaws.{passed_quiet}
 use Rattle.uart_run.specs.Run.{State, machine_of, Link, CallStep}
-use Rattle.uart_run.specs.Ready.{Ready, Frames, IsAttached, latches_of}
+use Rattle.uart_run.specs.Ready.{Ready, Frames, IsAttached, TakesPort, latches_of}
 use Rattle.uart_run.specs.Session.{IsWithinSession, reported_by, received_by}
 use Rattle.uart_run.specs.Uncut.{IsWithinUncut}
 use Rattle.uart_run.specs.Wired.{IsWired}
@@ -447,34 +447,50 @@ latch_told : (m n : MachineState) (l : List Access) (low high : ℕ) (v : Settin
     divisor m.chip.latches ≡ 256 * high + low
 latch_told m n l low high v (lcr, is) path = latch_read m n lcr low high (path_as m n l (divisor_accesses lcr low high) is path)
 
-attached : (s t : State) (on : Bool) (low high : ℕ) (l : List Access) →
+-- DLAB and loopback are off, and the latch was read: nothing changes
+record Looked (low high : ℕ) (m n : MachineState) : Type 0 where
+  pub still : kept_in n.chip ≡ kept_in m.chip
+  pub dlab : is_dlab_set m.chip.latches ≡ false
+  pub loopback : is_loopback m.chip.latches ≡ false
+  pub told : divisor m.chip.latches ≡ 256 * high + low
+
+looked : (v : Settings) (low high : ℕ) (l : List Access) (m n : MachineState) → FindsDivisor low high v l → Path MachineStep m l n →
+    Looked low high m n
+looked v low high l m n t path =
+    let a = then_parts (FindsLoopback false) (ReadsDivisor low high) v l m n t path in
+    let first = found v a.front m a.between a.first a.before in
+    record {
+      still = latch_kept a.between n a.back low high v a.second a.after ∙ first.still;
+      dlab = first.dlab;
+      loopback = first.loopback;
+      told = sym (ap (λ (k : Kept). divisor k.latches) first.still) ∙ latch_told a.between n a.back low high v a.second a.after;
+    }
+
+attached : (s t : State) (on : Bool) (low high : ℕ) (l : List Access) → 0 < 256 * high + low →
     Next (Saving (FindsPort on low high)) (Sets (with_fifo on)) (fields (inner_of s)) l (fields (inner_of t)) →
     Path MachineStep (machine_of s) l (machine_of t) → IsAttached low high s t
-attached s t on low high l d path =
+attached s t on low high l some d path =
     let f = fields (inner_of s) in
     let v = settings_of f in
     let a = next_stages (Saving (FindsPort on low high)) (Sets (with_fifo on)) f (fields (inner_of t)) l (machine_of s) (machine_of t)
     d path in
-    let b = then_parts (FindsLoopback false) (Then (Asks offsets.ISR ISR.FIFOS_ENABLED.0 on) (ReadsDivisor low high)) v a.parts.front
-    (machine_of s) a.parts.between a.parts.first.0 a.parts.before in
-    let c = then_parts (Asks offsets.ISR ISR.FIFOS_ENABLED.0 on) (ReadsDivisor low high) v b.back b.between a.parts.between
-    b.second b.after in
-    let first = found v b.front (machine_of s) b.between b.first b.before in
-    let asked = path_as b.between c.between c.front (Read offsets.ISR c.first.answer ∷ []) c.first.is c.before in
-    let is_on : on ≡ b.between.chip.fifo = sym c.first.shows ∙ fifo_shown b.between asked.0 c.first.answer asked.1 in
-    let second = kept_path (Read offsets.ISR c.first.answer ∷ []) b.between c.between asked in
-    let third = latch_kept c.between a.parts.between c.back low high v c.second c.after in
+    let b = then_parts (FindsDivisor low high) (Asks offsets.ISR ISR.FIFOS_ENABLED.0 on) v a.parts.front (machine_of s) a.parts.between
+    a.parts.first.0 a.parts.before in
+    let first = looked v low high b.front (machine_of s) b.between b.first b.before in
+    let asked = path_as b.between a.parts.between b.back (Read offsets.ISR b.second.answer ∷ []) b.second.is b.after in
+    let is_on : on ≡ b.between.chip.fifo = sym b.second.shows ∙ fifo_shown b.between asked.0 b.second.answer asked.1 in
+    let second = kept_path (Read offsets.ISR b.second.answer ∷ []) b.between a.parts.between asked in
     let last = kept_list a.parts.back [] a.parts.between (machine_of t) a.parts.second.0 a.parts.after in
-    let told = latch_told c.between a.parts.between c.back low high v c.second c.after in
-    let same : kept_in (machine_of t).chip ≡ kept_in (machine_of s).chip = last ∙ (third ∙ (second ∙ first.still)) in
+    let same : kept_in (machine_of t).chip ≡ kept_in (machine_of s).chip = last ∙ (second ∙ first.still) in
     record {
       ready = ready_by t (kept_in (machine_of s).chip) same first.dlab first.loopback
           (ap (λ (g : Fields). g.fifo) a.parts.second.1 ∙ (is_on ∙ ap (λ (k : Kept). k.fifo) first.still));
       latches = ap (λ (k : Kept). k.latches) same;
-      divisor_latch = ap (λ (k : Kept). divisor k.latches) (last ∙ third) ∙ told;
+      divisor_latch = ap (λ (k : Kept). divisor k.latches) same ∙ first.told;
+      is_set_up = some;
     }
 
--- a refusal has only read
+-- a refusal leaves the registers
 refused_ready : (s t : State) (l : List Access) → kept_in (machine_of t).chip ≡ kept_in (machine_of s).chip →
     fields (inner_of t) ≡ saving (fields (inner_of s)) l → Ready s → Ready t
 refused_ready s t l still saved ready =
@@ -482,7 +498,7 @@ refused_ready s t l still saved ready =
 
 attaches_ready : (s t : State) (result : Result (ℕ × ℕ) AttachError) (l : List Access) →
     Attaches result (fields (inner_of s)) l (fields (inner_of t)) → Path MachineStep (machine_of s) l (machine_of t) → Ready s → Ready t
-attaches_ready s t (Ok latch) l d path ready = (attached s t d.0 latch.0 latch.1 l d.1 path).ready
+attaches_ready s t (Ok latch) l d path ready = (attached s t d.1 latch.0 latch.1 l d.0 d.2 path).ready
 attaches_ready s t (Err DivisorLatchOpen) l d path ready =
     refused_ready s t l (kept_list l (Read offsets.LCR d.0.answer ∷ []) (machine_of s) (machine_of t) d.0.is path) d.1 ready
 attaches_ready s t (Err Loopback) l d path ready =
@@ -491,6 +507,8 @@ attaches_ready s t (Err Loopback) l d path ready =
     refused_ready s t l
     (kept_list a.back (Read offsets.MCR a.second.answer ∷ []) a.between (machine_of t) a.second.is a.after
     ∙ kept_list a.front (Read offsets.LCR a.first.answer ∷ []) (machine_of s) a.between a.first.is a.before) d.1 ready
+attaches_ready s t (Err NoDivisor) l d path ready =
+    refused_ready s t l (looked (settings_of (fields (inner_of s))) 0 0 l (machine_of s) (machine_of t) d.0 path).still d.1 ready
 
 pub attach_ready : (s t : State) (a : Answer) → CallStep s call.Attach a t → Ready s → Ready t
 attach_ready s t a h ready = attaches_ready s t h.outcome h.did.list h.did.does h.did.path ready
@@ -503,39 +521,82 @@ taken_ready s t a (Ok latch) l e d path low high is =
     let both : Latch latch.0 latch.1 ≡ Latch low high = sym e ∙ is in
     let low_same : latch.0 ≡ low = cc in
     let high_same : latch.1 ≡ high = cc in
-    let taken = attached s t d.0 latch.0 latch.1 l d.1 path in
+    let taken = attached s t d.1 latch.0 latch.1 l d.0 d.2 path in
+    let some = d.0 in
     record {
       ready = taken.ready;
       latches = taken.latches;
       divisor_latch = taken.divisor_latch ∙ omega (arith, low_same, high_same);
+      is_set_up = omega (arith, low_same, high_same, some);
     }
 taken_ready s t a (Err x) l e d path low high is = absurd (cc)
 
-pub attach_takes : (s t : State) (a : Answer) → CallStep s call.Attach a t →
-    (low high : ℕ) → a ≡ Latch low high → IsAttached low high s t
-attach_takes s t a h = taken_ready s t a h.outcome h.did.list h.answered h.did.does h.did.path
+-- one that finds no divisor leaves the latches, and they have none
+refused_bare : (s t : State) (a : Answer) (result : Result (ℕ × ℕ) AttachError) (l : List Access) → a ≡ attach_answer result →
+    Attaches result (fields (inner_of s)) l (fields (inner_of t)) → Path MachineStep (machine_of s) l (machine_of t) →
+    a ≡ AttachRefused NoDivisor → (divisor (latches_of s) ≡ 0) × (latches_of t ≡ latches_of s)
+refused_bare s t a (Ok latch) l e d path is = absurd (cc)
+refused_bare s t a (Err DivisorLatchOpen) l e d path is = absurd (cc)
+refused_bare s t a (Err Loopback) l e d path is = absurd (cc)
+refused_bare s t a (Err NoDivisor) l e d path is =
+    let look = looked (settings_of (fields (inner_of s))) 0 0 l (machine_of s) (machine_of t) d.0 path in
+    (look.told, ap (λ (k : Kept). k.latches) look.still)
 
 -- one in a ready state finds DLAB and loopback off
-finds_port : (s t : State) (a : Answer) (result : Result (ℕ × ℕ) AttachError) (l : List Access) → a ≡ attach_answer result →
-    Attaches result (fields (inner_of s)) l (fields (inner_of t)) → Path MachineStep (machine_of s) l (machine_of t) → Ready s →
-    (low high : ℕ) × (a ≡ Latch low high)
-finds_port s t a (Ok latch) l e d path ready = (latch.0, latch.1, e)
-finds_port s t a (Err DivisorLatchOpen) l e d path ready =
-    let shown = d.0.answer in
-    let p = path_as (machine_of s) (machine_of t) l (Read offsets.LCR shown ∷ []) d.0.is path in
-    absurd (false≢true (sym ready.dlab ∙ (sym (ap (λ (v : ℕ). has_any v LCR.DLAB.0) (lcr_read (machine_of s) p.0 shown p.1))
-    ∙ (sym (has_one 7 shown) ∙ d.0.shows))))
-finds_port s t a (Err Loopback) l e d path ready =
+shut : (s t : State) (l : List Access) → FindsLatch true (settings_of (fields (inner_of s))) l →
+    Path MachineStep (machine_of s) l (machine_of t) → Ready s → ⊥
+shut s t l d path ready =
+    let shown = d.answer in
+    let p = path_as (machine_of s) (machine_of t) l (Read offsets.LCR shown ∷ []) d.is path in
+    false≢true (sym ready.dlab ∙ (sym (ap (λ (v : ℕ). has_any v LCR.DLAB.0) (lcr_read (machine_of s) p.0 shown p.1))
+    ∙ (sym (has_one 7 shown) ∙ d.shows)))
+
+straight : (s t : State) (l : List Access) → FindsLoopback true (settings_of (fields (inner_of s))) l →
+    Path MachineStep (machine_of s) l (machine_of t) → Ready s → ⊥
+straight s t l d path ready =
     let b = then_parts (FindsLatch false) (Asks offsets.MCR MCR.LOOP_BACK.0 true) (settings_of (fields (inner_of s))) l (machine_of s)
-    (machine_of t) d.0 path in
+    (machine_of t) d path in
     let shown = b.second.answer in
     let p = path_as b.between (machine_of t) b.back (Read offsets.MCR shown ∷ []) b.second.is b.after in
     let first = kept_list b.front (Read offsets.LCR b.first.answer ∷ []) (machine_of s) b.between b.first.is b.before in
-    absurd (false≢true (sym (ap (λ (k : Kept). is_loopback k.latches) first ∙ ready.loopback)
-    ∙ (sym (ap (λ (v : ℕ). has_any v MCR.LOOP_BACK.0) (mcr_read b.between p.0 shown p.1)) ∙ (sym (has_one 4 shown) ∙ b.second.shows))))
+    false≢true (sym (ap (λ (k : Kept). is_loopback k.latches) first ∙ ready.loopback)
+    ∙ (sym (ap (λ (v : ℕ). has_any v MCR.LOOP_BACK.0) (mcr_read b.between p.0 shown p.1)) ∙ (sym (has_one 4 shown) ∙ b.second.shows)))
 
-pub attach_finds : (s t : State) (a : Answer) → CallStep s call.Attach a t → Ready s → (low high : ℕ) × (a ≡ Latch low high)
-attach_finds s t a h ready = finds_port s t a h.outcome h.did.list h.answered h.did.does h.did.path ready
+-- so it takes the port, if there is a divisor
+finds_port : (s t : State) (a : Answer) (result : Result (ℕ × ℕ) AttachError) (l : List Access) → a ≡ attach_answer result →
+    Attaches result (fields (inner_of s)) l (fields (inner_of t)) → Path MachineStep (machine_of s) l (machine_of t) → Ready s →
+    0 < divisor (latches_of s) → (low high : ℕ) × (a ≡ Latch low high)
+finds_port s t a (Ok latch) l e d path ready some = (latch.0, latch.1, e)
+finds_port s t a (Err DivisorLatchOpen) l e d path ready some = absurd (shut s t l d.0 path ready)
+finds_port s t a (Err Loopback) l e d path ready some = absurd (straight s t l d.0 path ready)
+finds_port s t a (Err NoDivisor) l e d path ready some =
+    let look = looked (settings_of (fields (inner_of s))) 0 0 l (machine_of s) (machine_of t) d.0 path in
+    let none : divisor (latches_of s) ≡ 0 = look.told in
+    absurd (omega (arith, some, none))
+
+pub attach_finds : (s t : State) (a : Answer) → CallStep s call.Attach a t → Ready s → 0 < divisor (latches_of s) →
+    (low high : ℕ) × (a ≡ Latch low high)
+attach_finds s t a h ready some = finds_port s t a h.outcome h.did.list h.answered h.did.does h.did.path ready some
+
+-- and otherwise it says that there is none
+finds_none : (s t : State) (a : Answer) (result : Result (ℕ × ℕ) AttachError) (l : List Access) → a ≡ attach_answer result →
+    Attaches result (fields (inner_of s)) l (fields (inner_of t)) → Path MachineStep (machine_of s) l (machine_of t) → Ready s →
+    divisor (latches_of s) ≡ 0 → a ≡ AttachRefused NoDivisor
+finds_none s t a (Ok latch) l e d path ready none =
+    let taken = attached s t d.1 latch.0 latch.1 l d.0 d.2 path in
+    let some = d.0 in
+    let told : 256 * latch.1 + latch.0 ≡ 0 = sym taken.divisor_latch ∙ (ap divisor taken.latches ∙ none) in
+    absurd (omega (arith, some, told))
+finds_none s t a (Err DivisorLatchOpen) l e d path ready none = absurd (shut s t l d.0 path ready)
+finds_none s t a (Err Loopback) l e d path ready none = absurd (straight s t l d.0 path ready)
+finds_none s t a (Err NoDivisor) l e d path ready none = e
+
+pub attach_takes : (s t : State) (a : Answer) → CallStep s call.Attach a t → TakesPort s a t
+attach_takes s t a h = record {
+  leaves = taken_ready s t a h.outcome h.did.list h.answered h.did.does h.did.path;
+  refused = refused_bare s t a h.outcome h.did.list h.answered h.did.does h.did.path;
+  refuses = finds_none s t a h.outcome h.did.list h.answered h.did.does h.did.path;
+}
 
 -- ---- an `attach` within a session: it reads, and opens and closes the divisor latch
 
@@ -547,25 +608,28 @@ finds_loopback_blocks v looped l t =
     makes_then v (FindsLatch false) (Asks offsets.MCR MCR.LOOP_BACK.0 looped) [] [] [] [] (finds_latch_blocks v false)
     (makes_quiet v offsets.MCR MCR.LOOP_BACK.0 looped refl) l t
 
+finds_divisor_blocks : (v : Settings) (low high : ℕ) → Makes v (FindsDivisor low high) [] []
+finds_divisor_blocks v low high l t =
+    makes_then v (FindsLoopback false) (ReadsDivisor low high) [] [] [] [] (finds_loopback_blocks v false)
+    (reads_divisor_blocks v low high) l t
+
 finds_port_blocks : (v : Settings) (on : Bool) (low high : ℕ) → Makes v (FindsPort on low high) [] []
 finds_port_blocks v on low high l t =
-    makes_then v (FindsLoopback false) (Then (Asks offsets.ISR ISR.FIFOS_ENABLED.0 on) (ReadsDivisor low high)) [] [] [] []
-    (finds_loopback_blocks v false)
-    (λ k u. makes_then v (Asks offsets.ISR ISR.FIFOS_ENABLED.0 on) (ReadsDivisor low high) [] [] [] []
-    (makes_quiet v offsets.ISR ISR.FIFOS_ENABLED.0 on refl) (reads_divisor_blocks v low high) k u) l t
+    makes_then v (FindsDivisor low high) (Asks offsets.ISR ISR.FIFOS_ENABLED.0 on) [] [] [] [] (finds_divisor_blocks v low high)
+    (makes_quiet v offsets.ISR ISR.FIFOS_ENABLED.0 on refl) l t
 
 -- the FIFO is taken to be as it was, since the machine's is as it was
 takes_port : (x : Modes) (N M : Type 0) (s t : State) (on : Bool) (low high : ℕ) (l : List Access) → InSession x s →
-    Next (Saving (FindsPort on low high)) (Sets (with_fifo on)) (fields (inner_of s)) l (fields (inner_of t)) →
+    0 < 256 * high + low → Next (Saving (FindsPort on low high)) (Sets (with_fifo on)) (fields (inner_of s)) l (fields (inner_of t)) →
     Path MachineStep (machine_of s) l (machine_of t) → Passes x N M s t [] []
-takes_port x N M s t on low high l w d path =
+takes_port x N M s t on low high l w some d path =
     let f = fields (inner_of s) in
     let is : l ≡ d.front = d.whole ∙ (ap (λ zs. d.front ++ zs) d.second.0 ∙ append-nil d.front) in
     let B : Bool → Type 0 = λ fifo. InBlocks fifo d.front [] [] in
     let passed = passed_in_blocks x (machine_of s) (machine_of t) d.front [] [] w.open_modes w.stands
     (subst B w.fifo (finds_port_blocks (settings_of f) on low high d.front d.first.0))
     (path_as (machine_of s) (machine_of t) l d.front is path) in
-    let taken = attached s t on low high l d path in
+    let taken = attached s t on low high l some d path in
     record {
       made = d.front;
       passed = passed;
@@ -576,7 +640,7 @@ takes_port x N M s t on low high l w d path =
 
 attaches : (x : Modes) (N M : Type 0) (s t : State) (result : Result (ℕ × ℕ) AttachError) → InSession x s →
     (did : Did MachineStep (Attaches result) (inner_of s) (inner_of t)) → Passes x N M s t [] []
-attaches x N M s t (Ok latch) w did = takes_port x N M s t did.does.0 latch.0 latch.1 did.list w did.does.1 did.path
+attaches x N M s t (Ok latch) w did = takes_port x N M s t did.does.1 latch.0 latch.1 did.list w did.does.0 did.does.2 did.path
 attaches x N M s t (Err DivisorLatchOpen) w did =
     let f = fields (inner_of s) in
     passes_did x N M (Saving (FindsLatch true)) [] [] s t w did
@@ -585,6 +649,10 @@ attaches x N M s t (Err Loopback) w did =
     let f = fields (inner_of s) in
     passes_did x N M (Saving (FindsLoopback true)) [] [] s t w did
     (saving_keeps (FindsLoopback true) f (fields (inner_of t)) did.list [] [] (finds_loopback_blocks (settings_of f) true) did.does)
+attaches x N M s t (Err NoDivisor) w did =
+    let f = fields (inner_of s) in
+    passes_did x N M (Saving (FindsDivisor 0 0)) [] [] s t w did
+    (saving_keeps (FindsDivisor 0 0) f (fields (inner_of t)) did.list [] [] (finds_divisor_blocks (settings_of f) 0 0) did.does)
 
 -- ---- a `quiesce` within a session, which keeps the FIFOs: it writes IER and MCR
 

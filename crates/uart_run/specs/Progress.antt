@@ -14,11 +14,12 @@ use Rattle.uart_events.specs.declared.event.Event.{Event}
 use Rattle.uart_events.specs.declared.event.Event.TheVariants.{Ticks, Access as Gate, Mark}
 use Rattle.uart_chip.specs.declared.transmitter.Shifting.{Shifting}
 use Rattle.uart_chip.specs.Transmitter.{TransmitterState}
+use Rattle.uart_chip.specs.Chip.{divisor}
 use Rattle.uart_chip.specs.Machine.{MachineState}
 use Rattle.uart_chip.specs.Conserved.{out}
 use Rattle.uart_run.specs.Run.{State, machine_of}
 use Rattle.uart_run.specs.Served.{transmitter_of}
-use Rattle.uart_run.specs.Ready.{Ready, is_narrow, test_answer}
+use Rattle.uart_run.specs.Ready.{Ready, is_narrow, latches_of, test_answer}
 
 -- each Access of these events has at least one tick after the Access or Mark before it, or after the beginning; since
 -- then n ticks have already passed
@@ -69,12 +70,13 @@ pub record HasDivisor (config : Config) : Type 0 where
 
 -- with room on the wire for what it sends, a call does not stall: an `init` and an `init_with` from any state; a
 -- `set_frame_when_idle`, a loopback test (with the answer of `test_answer`), a flush, an exact send, a `write` and a
--- text from a ready one, the last three if CTS is not checked; and an `attach` in a ready state takes the port
+-- text from a ready one, the last three if CTS is not checked; and an `attach` in a ready state takes the port if its
+-- divisor is not 0
 abbrev pub Succeeds : State → Call → Answer → Type 0
 Succeeds s (call.Init config) a = HasRoom 0 (machine_of s) → HasDivisor config → a ≡ Done
 Succeeds s (call.InitWith config setup) a = HasRoom 0 (machine_of s) → HasDivisor config → a ≡ Done
 Succeeds s (call.SetFrameWhenIdle config) a = Ready s → HasRoom 0 (machine_of s) → HasDivisor config → a ≡ Done
-Succeeds s call.Attach a = Ready s → (low high : ℕ) × (a ≡ Latch low high)
+Succeeds s call.Attach a = Ready s → 0 < divisor (latches_of s) → (low high : ℕ) × (a ≡ Latch low high)
 Succeeds s call.TestLoopback a = Ready s → HasRoom 0 (machine_of s) → a ≡ test_answer (is_narrow (machine_of s).chip)
 Succeeds s call.Flush a = Ready s → HasRoom 0 (machine_of s) → a ≡ Done
 Succeeds s (call.SendExact bytes) a = Ready s → IsUnchecked s → HasRoom (length bytes.items) (machine_of s) → a ≡ Done

@@ -1,5 +1,5 @@
 -- States in which a session may begin, and the outcomes of an `init` and a loopback test over the machine.
-use Rattle.std.specs.Prelude.{◌≡◌, ◌≢◌, ◌⊎◌, ◌↔◌, ◌+◌, ◌*◌, ℕ, Bool, true, false}
+use Rattle.std.specs.Prelude.{◌≡◌, ◌≢◌, ◌<◌, ◌⊎◌, ◌↔◌, ◌+◌, ◌*◌, ℕ, Bool, true, false}
 use Rattle.std.specs.Prelude.{◌&&◌, nat_lt, Option, Some, None, Ok, bit_and}
 use Rattle.bitflags.specs.Sets.{without}
 use Rattle.uart_spec.specs.Bits.{has, has_any}
@@ -7,6 +7,7 @@ use Rattle.uart_spec.specs.Config.{IsComputable}
 use Rattle.uart_spec.specs.Dump.{divisor_of}
 use Rattle.uart_spec.specs.declared.config.Config.{Config}
 use Rattle.uart_spec.specs.declared.dump.ConfigRegisterDump.{ConfigRegisterDump}
+use Rattle.uart_spec.specs.declared.errors.AttachError.TheVariants.{NoDivisor}
 use Rattle.uart_spec.specs.declared.errors.FrameError.TheVariants.{InvalidBaudRate}
 use Rattle.uart_spec.specs.declared.errors.InitError.TheVariants.{DeviceNotPresent}
 use Rattle.uart_spec.specs.declared.errors.InvalidDivisorError.{InvalidDivisorError}
@@ -28,7 +29,7 @@ use Rattle.uart_events.specs.declared.call.Call.{Call}
 use Rattle.uart_events.specs.declared.call.Call.TheVariants as call
 use Rattle.uart_events.specs.declared.call.Answer.{Answer}
 use Rattle.uart_events.specs.declared.call.Answer.TheVariants.{Done, Latch, InitRefused, FrameRefused, LoopbackRefused}
-use Rattle.uart_events.specs.declared.call.Answer.TheVariants.{FrameWhenIdleRefused, FifosOff}
+use Rattle.uart_events.specs.declared.call.Answer.TheVariants.{FrameWhenIdleRefused, AttachRefused, FifosOff}
 use Rattle.uart_events.specs.declared.event.Chip.{Chip}
 use Rattle.uart_events.specs.declared.event.Chip.TheVariants.{Uart16550A, Uart16450}
 use Rattle.uart_chip.specs.Masks.{ier_bits, mcr_bits}
@@ -170,11 +171,19 @@ pub record IsRestored (dump : ConfigRegisterDump) (t : State) : Type 0 where
 -- ---- after an `attach`
 
 -- the state after an `attach` that returned this divisor latch, whatever the machine was before: it is ready, all
--- latches are as before, and the divisor is the one that was returned
+-- latches are as before, and the divisor is the one that was returned, which is not 0
 pub record IsAttached (low high : ℕ) (s t : State) : Type 0 where
   pub ready : Ready t
   pub latches : latches_of t ≡ latches_of s
   pub divisor_latch : divisor (latches_of t) ≡ 256 * high + low
+  pub is_set_up : 0 < 256 * high + low
+
+-- an `attach` that succeeds takes the port; one that is refused for want of a divisor was made where the divisor is 0,
+-- and leaves all latches as before; and in a ready state it is refused so wherever the divisor is 0
+pub record TakesPort (s : State) (a : Answer) (t : State) : Type 0 where
+  pub leaves : (low high : ℕ) → a ≡ Latch low high → IsAttached low high s t
+  pub refused : a ≡ AttachRefused NoDivisor → (divisor (latches_of s) ≡ 0) × (latches_of t ≡ latches_of s)
+  pub refuses : Ready s → divisor (latches_of s) ≡ 0 → a ≡ AttachRefused NoDivisor
 
 -- ---- a `check_configured`
 
@@ -233,8 +242,8 @@ pub record IsTested (s : State) (a : Answer) (t : State) : Type 0 where
 
 -- the outcome of a call: an `init` initialises, and so does an `init_with`; a `set_frame` sets the frame, a
 -- `set_trigger_level` the level, a `set_modem_control`, a `set_rts` and a `set_dtr` the outputs; a `check_configured`
--- checks; a `restore`, and an `attach` that succeeds, leave a ready state, whatever it was before; and in a ready state
--- a `quiesce` leaves a quiet chip, and a loopback test tests
+-- checks; an `attach` takes a port that has a divisor; a `restore` leaves a ready state, whatever it was before; and in
+-- a ready state a `quiesce` leaves a quiet chip, and a loopback test tests
 abbrev pub ComesTo : State → Call → Answer → State → Type 0
 ComesTo s (call.Init config) a t = Initialises config a t
 ComesTo s (call.InitWith config setup) a t = Arranges setup config a t
@@ -247,6 +256,6 @@ ComesTo s (call.SetDtr on) a t = Switches MCR.DTR.0 on s t
 ComesTo s (call.CheckConfigured outputs) a t = Checks outputs.0 s a
 ComesTo s (call.Quiesce outputs fifos) a t = Ready s → IsQuiet outputs.0 fifos s t
 ComesTo s (call.Restore dump) a t = IsRestored dump t
-ComesTo s call.Attach a t = (low high : ℕ) → a ≡ Latch low high → IsAttached low high s t
+ComesTo s call.Attach a t = TakesPort s a t
 ComesTo s call.TestLoopback a t = Ready s → IsTested s a t
 ComesTo s other a t = Unit {0}

@@ -40,6 +40,9 @@ pub enum AttachError {
     /// The chip is in loopback.
     #[error("the chip was left in loopback")]
     Loopback,
+    /// The divisor latch reads as 0: no port is set up there, or there is none.
+    #[error("the port has no divisor")]
+    NoDivisor,
 }
 
 /// The FIFOs are off, so they have no trigger level.

@@ -5,6 +5,7 @@
 use uart_16550::AttachError;
 
 fn main() {
-    let name = |error| match error { AttachError::DivisorLatchOpen => 1, AttachError::Loopback => 2 }; // E0004
+    use AttachError as E;
+    let name = |error| match error { E::DivisorLatchOpen => 1, E::Loopback => 2, E::NoDivisor => 3 }; // E0004
     println!("{}", name(AttachError::Loopback));
 }

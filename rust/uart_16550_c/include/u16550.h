@@ -154,7 +154,8 @@ enum u16550_nearest_error {
 /* Why a port could not be taken as it is. */
 enum u16550_attach_error {
     U16550_ATTACH_DIVISOR_LATCH_OPEN = 120, /* DLAB is set */
-    U16550_ATTACH_LOOPBACK = 121
+    U16550_ATTACH_LOOPBACK = 121,
+    U16550_ATTACH_NO_DIVISOR = 122 /* the divisor latch reads as 0: no port is set up there, or there is none */
 };
 
 enum u16550_fifos_error { U16550_FIFOS_OFF = 130 }; /* the FIFOs are off, so they have no trigger level */
@@ -293,10 +294,13 @@ struct u16550_loopback_failure {
 /* What was expected of a register, and what it shows. For FIFOs 1 says that they are on. */
 struct u16550_difference { uint16_t expected, shown; };
 
-/* A received byte, and the line errors that LSR showed with it. */
+/*
+ * A received byte, and the line errors that LSR showed with it. Parity, framing and break are of this byte. An overrun tells that
+ * a character was lost: with the FIFO on right behind the 15th or the 16th character from this byte on, with the FIFO off before it.
+ */
 struct u16550_received {
     uint8_t byte;                       /* 0 for a break */
-    uint8_t errors;                     /* as in LSR: parity, framing and break are of this byte, an overrun may be behind it */
+    uint8_t errors;                     /* as in LSR */
 };
 
 /* Why a call of u16550_ring_handle ended. */
@@ -493,10 +497,11 @@ int U16550_CALL u16550_quiesce(struct u16550 *uart, uint8_t outputs, uint8_t fif
 int U16550_CALL u16550_restore(struct u16550 *uart, const struct u16550_dump *dump);
 
 /*
- * Takes a port as it was set up, for example by firmware: finds out whether the FIFO is on, and gives the divisor. It reads
- * LCR, MCR, ISR and the divisor latch, for which it sets DLAB and then writes LCR back; nothing else is written. The read of ISR
- * acknowledges a THR_EMPTY interrupt. The driver's configuration stays as it was, since nobody knows the chip's clock. Returns
- * an enum u16550_attach_error if the port is not one to be taken.
+ * Takes a port as it was set up, for example by firmware: finds out whether the FIFO is on, and gives the divisor, which is
+ * not 0. It reads LCR, MCR, the divisor latch, for which it sets DLAB and then writes LCR back, and ISR; nothing else is
+ * written. The read of ISR acknowledges a THR_EMPTY interrupt. The driver's configuration stays as it was, since nobody knows
+ * the chip's clock. Returns an enum u16550_attach_error if the port is not one to be taken. ISR was not read then, and the
+ * driver is as it was.
  */
 int U16550_CALL u16550_attach(struct u16550 *uart, uint8_t *dll, uint8_t *dlm);
 

@@ -57,6 +57,7 @@ pub enum Failure {
     NearestOutOfRange = 111,
     AttachDivisorLatchOpen = 120,
     AttachLoopback = 121,
+    AttachNoDivisor = 122,
     FifosOff = 130,
     ConfigurationNoDivisor = 140,
     ConfigurationLineControl = 141,
@@ -69,7 +70,7 @@ pub enum Failure {
 }
 
 impl Failure {
-    const ALL: [Self; 53] = [
+    const ALL: [Self; 54] = [
         Self::NullPointer,
         Self::Misaligned,
         Self::NotMade,
@@ -114,6 +115,7 @@ impl Failure {
         Self::NearestOutOfRange,
         Self::AttachDivisorLatchOpen,
         Self::AttachLoopback,
+        Self::AttachNoDivisor,
         Self::FifosOff,
         Self::ConfigurationNoDivisor,
         Self::ConfigurationLineControl,
@@ -171,6 +173,7 @@ impl Failure {
             Self::NearestOutOfRange => c"the nearest divisor does not fit",
             Self::AttachDivisorLatchOpen => c"attach: the divisor latch was left open",
             Self::AttachLoopback => c"attach: the chip was left in loopback",
+            Self::AttachNoDivisor => c"attach: the port has no divisor",
             Self::FifosOff => c"the FIFOs are off",
             Self::ConfigurationNoDivisor => c"configured: there is no divisor for the baud rate",
             Self::ConfigurationLineControl => c"configured: LCR does not show what was written",
@@ -320,6 +323,7 @@ impl From<AttachError> for Failure {
         match error {
             AttachError::DivisorLatchOpen => Self::AttachDivisorLatchOpen,
             AttachError::Loopback => Self::AttachLoopback,
+            AttachError::NoDivisor => Self::AttachNoDivisor,
         }
     }
 }

@@ -656,6 +656,10 @@ static void attach(void)
     dll = dlm = 7;
     d.registers[MCR] = U16550_MCR_LOOP_BACK;
     IS(u16550_attach(&uart, &dll, &dlm), U16550_ATTACH_LOOPBACK);
+    d.registers[MCR] = 0;
+    d.dll = d.dlm = 0;
+    IS(u16550_attach(&uart, &dll, &dlm), U16550_ATTACH_NO_DIVISOR);
+    IS(d.registers[LCR], 0x07);
     d.registers[LCR] = DLAB;
     IS(u16550_attach(&uart, &dll, &dlm), U16550_ATTACH_DIVISOR_LATCH_OPEN);
     IS(dll, 7);
@@ -1807,7 +1811,7 @@ static void texts(void)
 {
     static const int known[] = {
         0, -1, -2, -3, -4, -5, -6, -7, -8, -9, -10, -11, 10, 11, 12, 13, 14, 20, 21, 22, 23, 30, 31, 32, 33, 34, 40, 41, 42, 50, 51,
-        60, 70, 80, 90, 91, 92, 93, 100, 101, 102, 110, 111, 120, 121, 130, 140, 141, 142, 143, 144, 145, 150, 151,
+        60, 70, 80, 90, 91, 92, 93, 100, 101, 102, 110, 111, 120, 121, 122, 130, 140, 141, 142, 143, 144, 145, 150, 151,
     };
     size_t count = sizeof known / sizeof known[0], i, j;
     for (i = 0; i < count; i++)

@@ -13,8 +13,8 @@ ghost use Rattle.uart_calls.specs.Replays.{CallReplayed};
 
 use super::assert_equal;
 use crate::Answer::{
-    self, Bytes, BytesWithErrors, Count, Done, Flag, InitRefused, Latch, LoopbackRefused, NoData,
-    NotConfigured, NotConnected, ReceiveStalled, Register, Stalled,
+    self, AttachRefused, Bytes, BytesWithErrors, Count, Done, Flag, InitRefused, Latch,
+    LoopbackRefused, NoData, NotConfigured, NotConnected, ReceiveStalled, Register, Stalled,
 };
 use crate::Call::{
     self, CheckConnected, CheckPresent, Disable, DllDlm, Dump, Enable, Flush, Init, ReadReady,
@@ -29,6 +29,7 @@ use std::fmt;
 use std::num::NonZeroU64;
 use std::process::Abort;
 use uart_16550::{ConfigRegisterDump, Uart16550, Uart16550Tty};
+use uart_spec::AttachError::NoDivisor;
 use uart_spec::ConfigurationError::LineControl;
 use uart_spec::InitError::DeviceNotPresent;
 use uart_spec::RemoteReadyToReceiveError::RemoteNotClearToSend;
@@ -192,6 +193,15 @@ fn looks_and_registers_over_a_replay(rt: HostRuntime) {
     ] {
         shows(&rt, &mut terminal, call, answer, count);
     }
+}
+
+#[test]
+fn a_bus_of_zeros_is_not_attached(rt: HostRuntime) {
+    let mut terminal = replay(&[0x00; 5], 3);
+    let refused = AttachRefused(NoDivisor);
+    // LCR, MCR, and the divisor latch under DLAB: ISR is not read.
+    shows(&rt, &mut terminal, Call::Attach, refused, 7);
+    assert!(rt; terminal.inner().fifo_enabled());
 }
 
 #[test]

@@ -71,6 +71,8 @@ pub enum AttachError {
     DivisorLatchOpen,
     /// The chip is in loopback.
     Loopback,
+    /// The divisor latch reads as 0: no port is set up there, or there is none.
+    NoDivisor,
 }
 
 #[automatically_derived]
@@ -81,6 +83,7 @@ impl std::fmt::Display for AttachError {
                 ({ (f.write_fmt(format_args!("the divisor latch was left open"))) })
             }
             Self::Loopback => { ({ (f.write_fmt(format_args!("the chip was left in loopback"))) }) }
+            Self::NoDivisor => { ({ (f.write_fmt(format_args!("the port has no divisor"))) }) }
         }
     }
 }

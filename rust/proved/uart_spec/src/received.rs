@@ -9,6 +9,10 @@ pub struct Received {
     /// The byte, as the chip returned it. For a break it is 0.
     pub byte: u8,
     /// Of `PARITY_ERROR`, `FRAMING_ERROR` and `BREAK_INTERRUPT` those of this byte; and
-    /// `OVERRUN_ERROR` if the look before this byte reported that others were lost.
+    /// `OVERRUN_ERROR` if the look before this byte reported that a character was lost.
+    ///
+    /// With the FIFO on, all that waited then came before the lost one: it was lost right behind
+    /// the 15th or the 16th character from this byte on. With the FIFO off, it came before this
+    /// byte.
     pub errors: LSR,
 }

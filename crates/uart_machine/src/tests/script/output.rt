@@ -133,6 +133,10 @@ fn each_answer_has_its_line(rt: HostRuntime) -> Result<(), Fail> {
             "err DivisorLatchOpen",
         ),
         (
+            Answer::AttachRefused(AttachError::NoDivisor),
+            "err NoDivisor",
+        ),
+        (
             Answer::FrameWhenIdleRefused(FrameError::InvalidBaudRate(
                 InvalidDivisorError::OutOfRange { divisor: 0 },
             )),

@@ -195,22 +195,23 @@ impl<B: Backend> Uart16550<B> {
     }
 
     /// Takes a port as it was set up, for example by firmware, in place of `init`: finds out
-    /// whether the FIFOs are on, and returns the divisor latch, low byte first.
+    /// whether the FIFOs are on, and returns the divisor latch, low byte first. It is not 0.
     ///
-    /// Reads LCR, MCR and ISR, and then the divisor latch as `dll_dlm` does, which writes LCR and
-    /// restores it. Nothing else is written. The read of ISR acknowledges a `THR_EMPTY` interrupt.
-    /// Afterwards `fifo_enabled` is as ISR showed. `config` is not changed, since the clock of the
-    /// chip is not known: it does not say what the chip has.
+    /// Reads LCR and MCR, then the divisor latch as `dll_dlm` does, which writes LCR and restores
+    /// it, and then ISR. Nothing else is written. The read of ISR acknowledges a `THR_EMPTY`
+    /// interrupt. Afterwards `fifo_enabled` is as ISR showed. `config` is not changed, since the
+    /// clock of the chip is not known: it does not say what the chip has.
     ///
     /// # Errors
     ///
     /// - `DivisorLatchOpen` if DLAB is set.
     /// - `Loopback` if DLAB is clear, and the chip is in loopback.
+    /// - `NoDivisor` if neither is so, and the divisor latch reads as 0: no port is set up there,
+    ///   or there is none. So a bus where all registers read as 0 is refused.
     ///
-    /// Only registers whose read changes nothing were read then, and the driver is unchanged.
-    ///
-    /// A divisor of 0 means that no port is set up there, or that there is none: a bus where all
-    /// registers read as 0 is not refused.
+    /// ISR was not read then, so no interrupt was acknowledged, and the driver is unchanged. For
+    /// the first two only LCR and MCR were read, and nothing was written. For `NoDivisor` DLAB was
+    /// set for the look at the latch, and LCR written back.
     ///
     /// # Examples
     ///
@@ -225,17 +226,20 @@ impl<B: Backend> Uart16550<B> {
     /// ```
     pub fn attach(&mut self) -> Result<(DLL, DLM), AttachError> {
         // LCR comes first, since its DLAB says what other offsets are: on later chips some of its
-        // values show further registers in place of MCR and ISR. ISR comes last, since its read
-        // may acknowledge an interrupt, and a refusal is to change nothing.
+        // values show further registers in place of MCR and ISR. ISR comes last, after the latch
+        // too, since its read may acknowledge an interrupt, and a refusal is to change nothing.
         if self.lcr().contains(LCR::DLAB) {
             return Err(AttachError::DivisorLatchOpen);
         }
         if self.mcr().contains(MCR::LOOP_BACK) {
             return Err(AttachError::Loopback);
         }
-        let fifo = self.isr().fifo_enabled();
-        let latch = self.dll_dlm();
-        self.fifo_enabled = fifo;
-        Ok(latch)
+        let (dll, dlm) = self.dll_dlm();
+        // No port is set up so, and where nothing answers all registers may read as 0.
+        if dll == 0 && dlm == 0 {
+            return Err(AttachError::NoDivisor);
+        }
+        self.fifo_enabled = self.isr().fifo_enabled();
+        Ok((dll, dlm))
     }
 }

@@ -189,10 +189,17 @@ fn ports_that_are_attached() {
     let taken = list()
         .read(offsets::LCR, 0x03)
         .read(offsets::MCR, 0x0b)
-        .read(offsets::ISR, 0x01)
-        .latch(0x03, 0x83, 12, 0);
+        .latch(0x03, 0x83, 12, 0)
+        .read(offsets::ISR, 0x01);
     let terminal = row(New, Call::Attach, Latch(12, 0), &taken);
     assert!(!terminal.inner().fifo_enabled());
+    let bare = list()
+        .read(offsets::LCR, 0x03)
+        .read(offsets::MCR, 0x0b)
+        .latch(0x03, 0x83, 0, 0);
+    let refused = Answer::AttachRefused(AttachError::NoDivisor);
+    let terminal = row(New, Call::Attach, refused, &bare);
+    assert!(terminal.inner().fifo_enabled());
     let opened = Answer::AttachRefused(AttachError::DivisorLatchOpen);
     row(New, Call::Attach, opened, &list().read(offsets::LCR, 0x83));
     let looped = Answer::AttachRefused(AttachError::Loopback);

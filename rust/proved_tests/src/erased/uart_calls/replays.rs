@@ -8,8 +8,8 @@ use geesetrunk_kit::{CollectWith as _, String, ToStringWith as _, ToVecWith as _
 
 use super::assert_equal;
 use uart_calls::Answer::{
-    self, Bytes, BytesWithErrors, Count, Done, Flag, InitRefused, Latch, LoopbackRefused, NoData,
-    NotConfigured, NotConnected, ReceiveStalled, Register, Stalled,
+    self, AttachRefused, Bytes, BytesWithErrors, Count, Done, Flag, InitRefused, Latch,
+    LoopbackRefused, NoData, NotConfigured, NotConnected, ReceiveStalled, Register, Stalled,
 };
 use uart_calls::Call::{
     self, CheckConnected, CheckPresent, Disable, DllDlm, Dump, Enable, Flush, Init, ReadReady,
@@ -24,6 +24,7 @@ use std::fmt;
 use std::num::NonZeroU64;
 use crate::runtime::Abort;
 use uart_16550::{ConfigRegisterDump, Uart16550, Uart16550Tty};
+use uart_spec::AttachError::NoDivisor;
 use uart_spec::ConfigurationError::LineControl;
 use uart_spec::InitError::DeviceNotPresent;
 use uart_spec::RemoteReadyToReceiveError::RemoteNotClearToSend;
@@ -187,6 +188,16 @@ fn looks_and_registers_over_a_replay() {
     ] {
         shows(&rt, &mut terminal, call, answer, count);
     }
+}
+
+#[test]
+fn a_bus_of_zeros_is_not_attached() {
+    let rt = HostRuntime;
+    let mut terminal = replay(&[0x00; 5], 3);
+    let refused = AttachRefused(NoDivisor);
+    // LCR, MCR, and the divisor latch under DLAB: ISR is not read.
+    shows(&rt, &mut terminal, Call::Attach, refused, 7);
+    assert!(rt; terminal.inner().fifo_enabled());
 }
 
 #[test]

@@ -139,6 +139,10 @@ fn each_answer_has_its_line() -> Result<(), Fail> {
             "err DivisorLatchOpen",
         ),
         (
+            Answer::AttachRefused(AttachError::NoDivisor),
+            "err NoDivisor",
+        ),
+        (
             Answer::FrameWhenIdleRefused(FrameError::InvalidBaudRate(
                 InvalidDivisorError::OutOfRange { divisor: 0 },
             )),
