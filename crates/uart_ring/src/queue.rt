@@ -44,7 +44,8 @@ impl ByteQueue {
     /// Returns the number of bytes.
     #[inline]
     pub fn len(&self) -> usize
-        ensures { result ≡ length self.now.items }
+        ensures len { result ≡ length self.now.items }
+        ensures within { result ≤ self.now.capacity }
     {
         self.len
     }

@@ -1,5 +1,5 @@
 //! The rings over a driver: their fields, the constructor, and the calls that read their state.
-ghost use Rattle.std.specs.Prelude.{◌≡◌, ◌↔◌, length, IsTrue, IfOk, IsOkUnless};
+ghost use Rattle.std.specs.Prelude.{◌≡◌, ◌≤◌, ◌↔◌, length, IsTrue, IfOk, IsOkUnless};
 ghost use Rattle.std.specs.Borrow.{Lends, sem};
 ghost use Rattle.uart_16550.specs.contracts.driver.Uart16550.{the_row as driver_row};
 ghost use Rattle.uart_ring.specs.contracts.ring.Uart16550Ring.{the_row};
@@ -155,7 +155,8 @@ impl<B: Backend> Uart16550Ring<B> {
     /// assert_eq!(rt; ring.transmit_len(), 0);
     /// ```
     pub fn transmit_len(&self) -> usize
-        ensures { result ≡ length (ring_fields self.now).transmit.items }
+        ensures len { result ≡ length (ring_fields self.now).transmit.items }
+        ensures within { result ≤ (ring_fields self.now).transmit.capacity }
     {
         self.transmit.len()
     }
@@ -222,7 +223,8 @@ impl<B: Backend> Uart16550Ring<B> {
     /// assert_eq!(rt; ring.receive_len(), 2);
     /// ```
     pub fn receive_len(&self) -> usize
-        ensures { result ≡ length (ring_fields self.now).receive.items }
+        ensures len { result ≡ length (ring_fields self.now).receive.items }
+        ensures within { result ≤ (ring_fields self.now).receive.capacity }
     {
         self.receive.len()
     }

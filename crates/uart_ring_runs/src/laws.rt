@@ -152,7 +152,8 @@ pub fn plain_sessions_conserve()
 /// schedule has between the calls, and however many come there.
 ///
 /// DLAB and loopback are off, as in each session, and the chip was not stuck before. The receive
-/// ring holds no more bytes than it has room for.
+/// ring holds no more bytes than it has room for: `receive_len` promises this of all rings, in its
+/// clause `within`.
 pub fn chips_that_work_are_not_stuck()
     ensures counted { (limit rounds : ℕ) (handled : Handled) (s t : RingState) → Ready (under s) →
         IsInRoom s → (ring_fields s).stuck ≡ None →

@@ -36,14 +36,14 @@ pub returns-in-None : goal.returns-in-None
 returns-in-None g c =
     round_did c.args.limit c.args.rounds c.handle-handled.result None c.counted_as.result
     (moved_since (ring_fields c.args.self.now) (ring_fields c.handle-handled.new.self) c.len-transmit.result c.len-receive.result
-    c.is_some-is_urgent.result c.has_moved-has_moved.result c.handle-handled.result.end c.counted_as.result c.len-transmit.ensures
-    c.is_some-is_urgent.ensures c.len-receive.ensures c.has_moved-has_moved.ensures c.counted_as.ensures) c.handle-handled.ensures
+    c.is_some-is_urgent.result c.has_moved-has_moved.result c.handle-handled.result.end c.counted_as.result c.len-transmit.ensures.len
+    c.is_some-is_urgent.ensures c.len-receive.ensures.len c.has_moved-has_moved.ensures c.counted_as.ensures) c.handle-handled.ensures
     c.in-None.ensures
 
 pub returns-in-Some : goal.returns-in-Some
 returns-in-Some g c =
     round_did c.args.limit c.args.rounds c.handle-handled.result (Some c.in-Some.error) c.counted_as.result
     (moved_since (ring_fields c.args.self.now) (ring_fields c.handle-handled.new.self) c.len-transmit.result c.len-receive.result
-    c.is_some-is_urgent.result c.has_moved-has_moved.result c.handle-handled.result.end c.counted_as.result c.len-transmit.ensures
-    c.is_some-is_urgent.ensures c.len-receive.ensures c.has_moved-has_moved.ensures c.counted_as.ensures) c.handle-handled.ensures
+    c.is_some-is_urgent.result c.has_moved-has_moved.result c.handle-handled.result.end c.counted_as.result c.len-transmit.ensures.len
+    c.is_some-is_urgent.ensures c.len-receive.ensures.len c.has_moved-has_moved.ensures c.counted_as.ensures) c.handle-handled.ensures
     c.in-Some.ensures
