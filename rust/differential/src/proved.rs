@@ -168,7 +168,7 @@ impl Answer {
             12 => "err ByteReceiveError".into(),
             13 => refused(self.value, &["NoCapacity", "RemoteNotClearToSend"]),
             14 => refused(self.value, &FRAME_ERRORS),
-            15 => refused(self.value, &["DivisorLatchOpen", "Loopback"]),
+            15 => refused(self.value, &["DivisorLatchOpen", "Loopback", "NoDivisor"]),
             16 => with_errors(self.bytes.into_iter().zip(self.errors).take(self.count)),
             17 => refused(self.value, &FRAME_ERRORS),
             18 => "err FifosOffError".into(),
