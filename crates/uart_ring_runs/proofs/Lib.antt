@@ -2,6 +2,7 @@ pub mod RingWalk
 pub mod RingBlocks
 pub mod RingLasts
 pub mod RingOwn
+pub mod OwnSessions
 pub mod RingRts
 pub mod RingPasses
 pub mod RingGoes

@@ -3,6 +3,7 @@ pub mod RingBytes
 pub mod RingStatuses
 pub mod RingArmed
 pub mod RingSession
+pub mod OwnSession
 pub mod RingPlain
 pub mod Edges
 pub mod SharedLine

@@ -27,6 +27,7 @@ ghost use Rattle.uart_ring_runs.specs.RingBytes.{AllTakeInTurn};
 ghost use Rattle.uart_ring_runs.specs.RingPlain.{AreUntold, ArePlain, ConservesPlainly};
 ghost use Rattle.uart_ring_runs.specs.RingRun.{DriverCalled, IsOfRings, RingChain, RingLink};
 ghost use Rattle.uart_ring_runs.specs.RingRun.{RingState, ring_machine, under};
+ghost use Rattle.uart_ring_runs.specs.OwnSession.{OwnConserves};
 ghost use Rattle.uart_ring_runs.specs.RingSession.{AllWithinRingSession, RingConserves};
 ghost use Rattle.uart_ring_runs.specs.RingStatuses.{NeitherIs};
 ghost use Rattle.uart_ring_runs.specs.declared.call.RingAnswer.{RingAnswer};
@@ -191,4 +192,15 @@ pub fn calls_of_the_rings_meet_conditions()
     ensures armed { (call : RingCall) → IsOfRings call → KeepsArmed call }
     ensures told { (call : RingCall) (other : Call) (links : List RingLink) →
         All IsOfRings (calls_of links) → NoneIs call links → NeitherIs call (Driver other) links }
+{}
+
+/// In a session of which every call is one of the rings themselves, what [`run_ring`] promises holds
+/// without the conditions that calls of the driver bring.
+///
+/// So bytes taken, then the receive ring, then what waits in the chip, are those that were there and
+/// those that arrived; a `take_line` and a `take_modem` tell all since the last; and each call leaves
+/// an interrupt to come, if CTS is not checked.
+pub fn own_sessions_conserve()
+    ensures { (s t : RingState) (links : List RingLink) → All IsOfRings (calls_of links) →
+        RingConserves s links t → OwnConserves s links t }
 {}
