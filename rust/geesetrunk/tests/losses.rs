@@ -108,6 +108,34 @@ fn a_seventeenth_byte_can_still_fit() {
     assert!(finding.to_string().contains("this byte may be lost"));
 }
 
+// So a promise of these warnings has its 'may' too, wherever it is made.
+#[test]
+fn the_pages_leave_room_for_a_seventeenth_byte() {
+    let pages = [
+        include_str!("../../../README.md"),
+        include_str!("../../../docs/PROVED.md"),
+        include_str!("../../../docs/EVIDENCE.md"),
+    ];
+    let promises: Vec<&str> = pages
+        .into_iter()
+        .flat_map(|page| page.split("\n\n").flat_map(sentences_or_rows))
+        .filter(|text| text.contains("an access that loses"))
+        .collect();
+    assert!(!promises.is_empty());
+    for promise in promises {
+        assert!(promise.contains("'may'"), "{promise}");
+    }
+}
+
+// Returns the rows of a table one by one, and another paragraph whole: a sentence may go over lines.
+fn sentences_or_rows(paragraph: &str) -> Vec<&str> {
+    if paragraph.starts_with('|') {
+        paragraph.lines().collect()
+    } else {
+        vec![paragraph]
+    }
+}
+
 #[test]
 fn a_byte_for_the_divisor_is_not_held() {
     let mut slow = Slow::new();
