@@ -44,6 +44,7 @@ FIRST = [
     Command(".ci/documents", always=True),
     Command(".ci/houses", always=True),
     Command(".ci/constants", always=True),
+    Command(".ci/parts", always=True),
     Command(".ci/calling", always=True),
     Command(".ci/pictures --check", always=True),
     Command("tools/eraser/erase check", without=[*PAGES, *PROOFS]),

@@ -9,7 +9,7 @@
 
 #include "u16550.h"
 
-enum { CALLS = 40000, NESTED_IN = 16, ROOM = 64, LAST = 82 };
+enum { CALLS = 40000, NESTED_IN = 16, ROOM = 64, LAST = 93 };
 
 void u16550_panic(void)
 {
@@ -47,10 +47,12 @@ struct room {
     struct u16550_handled handled;
     struct u16550_difference difference;
     struct u16550_urgent urgent;
+    struct u16550_stuck stuck;
 };
 
 static struct u16550 uart;
 static struct u16550_io device;
+static struct u16550_design_ware chip;
 static uint8_t *rings;
 static size_t rings_size;
 
@@ -75,7 +77,7 @@ static void choose(struct u16550_config *config)
         config->data_bits = (uint8_t)below(256);
 }
 
-/* A driver over memory that keeps what is written, of a layout that stands for something, or seldom for nothing. */
+/* A driver over memory that keeps what is written, sometimes a DesignWare's, of a layout that stands for something, or seldom for none. */
 static int new_wide(struct u16550 *u)
 {
     static uint32_t words[8 * 128 / 4 + 1];
@@ -88,6 +90,8 @@ static int new_wide(struct u16550 *u)
     layout.stride = below(20) ? (uint8_t)(1u << below(8)) : (uint8_t)below(256);
     layout.width = widths[below(4)];
     layout.byte_order = (uint8_t)below(4);
+    if (below(4) == 0)
+        return u16550_new_mmio_design_ware(u, &chip, (uintptr_t)words, &layout, below(20));
     return u16550_new_mmio_wide(u, (uintptr_t)words + (below(2) ? 0 : below(4)), &layout);
 }
 
@@ -206,6 +210,17 @@ static int make(struct u16550 *u, unsigned which, struct room *r)
         return u16550_line_handle(&port, 1, below(10), below(4), &r->value);
     }
     case 81: return u16550_ring_config_register_dump(u, &r->dump);
+    case 82: return u16550_write_raw_text(u, (const char *)r->bytes, len, &r->count);
+    case 83: return u16550_ring_transmit_len(u, &r->count);
+    case 84: return u16550_ring_transmit_room(u, &r->count);
+    case 85: return u16550_ring_receive_len(u, &r->count);
+    case 86: return u16550_ring_is_held(u, &r->value);
+    case 87: return u16550_ring_is_paused(u, &r->value);
+    case 88: return u16550_ring_urgent(u, &r->urgent);
+    case 89: return u16550_ring_stuck(u, &r->stuck);
+    case 90: return u16550_emergency(u);
+    case 91: return u16550_new_design_ware(u, &chip, &device, below(20));
+    case 92: return u16550_design_ware_fault(u, &chip);
     default: return u16550_ring_take_modem(u, &r->value);
     }
 }

@@ -190,6 +190,8 @@ fn looks_and_registers_over_a_replay(rt: HostRuntime) {
             }),
             80,
         ),
+        (Call::SetFrame(Config::DEFAULT), Done, 84),
+        (Call::SetModemControl(MCR::READY), Done, 85),
     ] {
         shows(&rt, &mut terminal, call, answer, count);
     }

@@ -7,21 +7,28 @@ use crate::driving::{bytes, dump, init, over, row, text, then, with_errors, writ
 use crate::lists::{Accesses, list};
 use std::fmt;
 use uart_calls::Answer::{
-    self, Bytes, BytesWithErrors, Count, Done, Flag, InitRefused, Latch, LoopbackRefused, NoData,
-    NotConfigured, NotConnected, NotSent, ReceiveStalled, Register, Stalled,
+    self, AttachRefused, Bytes, BytesWithErrors, Count, Done, Flag, FrameWhenIdleRefused,
+    InitRefused, Latch, LoopbackRefused, NoData, NotConfigured, NotConnected, NotSent,
+    ReceiveStalled, Register, Stalled,
 };
 use uart_calls::Call::{
-    self, CheckConfigured, CheckConnected, CheckPresent, Disable, DllDlm, Dump, Enable, Flush, ReadReady,
-    ReadyToReceive, ReadyToSend, Receive, ReceiveExact, ReceiveWithErrors, RetriggerInterrupts,
-    Send, SendExact, TestLoopback, TryReceive, TrySend, Write, WriteReady,
+    self, Attach, CheckConfigured, CheckConnected, CheckPresent, Disable, DllDlm, Dump, Enable,
+    FifoEnabled, Flush, InitWith, IsIdle, PeekModem, Quiesce, ReadReady, ReadyToReceive,
+    ReadyToSend, Receive, ReceiveExact, ReceiveWithErrors, Restore, RetriggerInterrupts, Send,
+    SendExact, SetBreak, SetDtr, SetFrame, SetFrameWhenIdle, SetModemControl, SetRts,
+    SetTriggerLevel, TestLoopback, TryReceive, TrySend, Write, WriteReady,
 };
+use uart_spec::AttachError;
 use uart_spec::BaudRate::Baud9600;
 use uart_spec::ByteSendError::NoCapacity;
 use uart_spec::ConfigurationError::LineControl;
+use uart_spec::FifoAction::Keep;
+use uart_spec::FrameError;
 use uart_spec::InitError::DeviceNotPresent;
 use uart_spec::LoopbackError;
 use uart_spec::RemoteReadyToReceiveError::NoRemoteConnectedNoDSR;
 use uart_spec::registers::{FifoTriggerLevel, IER, LCR, MCR, offsets};
+use uart_spec::{Config, Setup, TransmitterWait};
 
 fn default_init() -> Call {
     init(Some(FifoTriggerLevel::Fourteen), Baud9600)
@@ -106,6 +113,135 @@ fn looks_at_ff_and_00() {
     looks_at(0x00, false, [0x02, 0x00], 0x80);
     registers_at(0xff);
     registers_at(0x00);
+}
+
+/// Makes the calls that change a port, leave it and put it back, over a device whose reads always
+/// return this byte. What is written to LCR and MCR are the byte's bits, with those of the call.
+fn changes_at(byte: u8, idle: bool, [broken, ended]: [u8; 2], [rts, dtr]: [u8; 2]) {
+    let shown = |offset| list().read(offset, byte);
+    let framed = || {
+        let set = list().write(offsets::LCR, 0x83).write(offsets::DLL, 0x0c);
+        set.write(offsets::DLM, 0x00).write(offsets::LCR, 0x03)
+    };
+    let kept = dump([0x05, 0xc1, 0x03, 0x0b, 0x60, 0xb0, 0xa5], 0x03, 0x01);
+    let put_back = list().line(0x03, 0x01, 0x03).fifo(0xc7, byte);
+    let put_back = put_back
+        .write(offsets::MCR, 0x0b)
+        .write(offsets::SPR, 0xa5)
+        .write(offsets::IER, 0x05);
+    for (call, answer, accesses) in [
+        (FifoEnabled, Flag(true), list()),
+        (PeekModem, Register(byte), shown(offsets::MSR)),
+        (IsIdle, Flag(idle), list().look(byte)),
+        (
+            SetBreak(true),
+            Done,
+            shown(offsets::LCR).write(offsets::LCR, broken),
+        ),
+        (
+            SetBreak(false),
+            Done,
+            shown(offsets::LCR).write(offsets::LCR, ended),
+        ),
+        // Loopback is left out of what is written.
+        (
+            SetModemControl(MCR::from_bits_retain(0x1b)),
+            Done,
+            list().write(offsets::MCR, 0x0b),
+        ),
+        (
+            SetRts(true),
+            Done,
+            shown(offsets::MCR).write(offsets::MCR, rts),
+        ),
+        (
+            SetDtr(false),
+            Done,
+            shown(offsets::MCR).write(offsets::MCR, dtr),
+        ),
+        (
+            SetTriggerLevel(FifoTriggerLevel::Eight),
+            Done,
+            list().write(offsets::FCR, 0x81),
+        ),
+        (
+            Quiesce(MCR::from_bits_retain(0x18), Keep),
+            Done,
+            list().write(offsets::IER, 0x00).write(offsets::MCR, 0x08),
+        ),
+        (Restore(kept), Done, put_back),
+        (SetFrame(Config::DEFAULT), Done, framed()),
+        (
+            InitWith(Config::DEFAULT, Setup::DEFAULT),
+            InitRefused(DeviceNotPresent),
+            list().absent(byte),
+        ),
+    ] {
+        over(Constant(byte), call, answer, accesses);
+    }
+}
+
+#[test]
+fn changes_over_ff_and_00() {
+    changes_at(0xff, true, [0xff, 0xbf], [0xef, 0xee]);
+    changes_at(0x00, false, [0x40, 0x00], [0x02, 0x00]);
+    // FF is a chip whose DLAB is on and whose transmitter is empty; 00 one that has no divisor, and
+    // whose transmitter never becomes empty.
+    let idle = list().look(0xff).write(offsets::LCR, 0x83);
+    let framed = idle.write(offsets::DLL, 0x0c).write(offsets::DLM, 0x00);
+    let framed = framed.write(offsets::LCR, 0x03);
+    over(
+        Constant(0xff),
+        SetFrameWhenIdle(Config::DEFAULT),
+        Done,
+        framed,
+    );
+    let refused = FrameWhenIdleRefused(FrameError::Stalled);
+    let waited = list().looks(3, 0x00);
+    over(
+        Constant(0x00),
+        SetFrameWhenIdle(Config::DEFAULT),
+        refused,
+        waited,
+    );
+    let opened = AttachRefused(AttachError::DivisorLatchOpen);
+    over(
+        Constant(0xff),
+        Attach,
+        opened,
+        list().read(offsets::LCR, 0xff),
+    );
+    let looked = list().read(offsets::LCR, 0x00).read(offsets::MCR, 0x00);
+    let looked = looked.latch(0x00, 0x80, 0x00, 0x00);
+    over(
+        Constant(0x00),
+        Attach,
+        AttachRefused(AttachError::NoDivisor),
+        looked,
+    );
+}
+
+#[test]
+fn initialisations_without_looks_over_ff_and_00() {
+    let unseen = || {
+        let setup = Setup {
+            checks_presence: false,
+            wait: TransmitterWait::Never,
+            outputs: MCR::READY,
+        };
+        InitWith(Config::DEFAULT, setup)
+    };
+    // The receiver of FF is never empty: as many bytes are discarded as it can hold.
+    let byte = list().look(0xff).read(offsets::DATA, 0xff);
+    let set = list().line(0x0c, 0x00, 0x03).fifo(0xc7, 0xff);
+    let drained = (0..17).fold(set, |list, _| list.then(&byte));
+    let all = drained
+        .write(offsets::MCR, 0x0b)
+        .end(0xff, 0xff, 0xff, 0x00);
+    over(Constant(0xff), unseen(), Done, all);
+    let set = list().line(0x0c, 0x00, 0x03).fifo(0xc7, 0x00).look(0x00);
+    let all = set.write(offsets::MCR, 0x0b).end(0x00, 0x00, 0x00, 0x00);
+    over(Constant(0x00), unseen(), Done, all);
 }
 
 #[test]
