@@ -194,12 +194,12 @@ pub fn calls_of_the_rings_meet_conditions()
         All IsOfRings (calls_of links) → NoneIs call links → NeitherIs call (Driver other) links }
 {}
 
-/// In a session of which every call is one of the rings themselves, what [`run_ring`] promises holds
+/// In a session of which every call is one of the rings themselves, what `run_ring` promises holds
 /// without the conditions that calls of the driver bring.
 ///
-/// So bytes taken, then the receive ring, then what waits in the chip, are those that were there and
-/// those that arrived; a `take_line` and a `take_modem` tell all since the last; and each call leaves
-/// an interrupt to come, if CTS is not checked.
+/// So bytes taken, then the receive ring, then what waits in the chip, are those that were there
+/// and those that arrived; a `take_line` and a `take_modem` tell all since the last; and each call
+/// leaves an interrupt to come, if CTS is not checked.
 pub fn own_sessions_conserve()
     ensures { (s t : RingState) (links : List RingLink) → All IsOfRings (calls_of links) →
         RingConserves s links t → OwnConserves s links t }
