@@ -25,11 +25,41 @@ impl<P: PortAccess> PioBackend<P> {
     }
 
     /// Returns the port of the first register.
+    ///
+    /// # Proved
+    ///
+    /// - *value*: returns `self.now.base`.
+    /// - *in_range*: [`IsPortBase`](crate::proved::pio#IsPortBase) `result`: the port of the last register is one of them.
+    ///
+    /// <details><summary>The clauses</summary>
+    ///
+    /// [How to read them](uart_spec::proved):
+    ///
+    /// ```text
+    /// ensures value { result ≡ self.now.base }
+    /// ensures in_range { IsPortBase result }
+    /// ```
+    ///
+    /// </details>
     pub const fn base(&self) -> u16 {
         self.base
     }
 
     /// Returns the access object, to read its state. Makes no access.
+    ///
+    /// # Proved
+    ///
+    /// - Returns `self.now.access`.
+    ///
+    /// <details><summary>The clauses</summary>
+    ///
+    /// [How to read them](uart_spec::proved):
+    ///
+    /// ```text
+    /// ensures { result.now ≡ self.now.access }
+    /// ```
+    ///
+    /// </details>
     pub fn access(&self) -> &P {
         &self.access
     }
