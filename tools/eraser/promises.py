@@ -377,8 +377,22 @@ def functions(file):
             continue
         first = file.code[form.first].start
         line = file.text.rfind("\n", 0, first) + 1
-        if file.text[:line].rsplit("\n", 2)[-2].strip().startswith("///"):
-            yield form, file.text[line:first], line
+        at = behind_documentation(file.text, line)
+        if at is not None:
+            yield form, file.text[line:first], at
+
+
+def behind_documentation(text, at):
+    """Where the documentation ends that is above a line, or above comments that are above it; nothing if there is none."""
+    while at > 0:
+        above = text.rfind("\n", 0, at - 1) + 1
+        line = text[above:at].strip()
+        if line.startswith("///"):
+            return at
+        if not line.startswith("//"):
+            return None
+        at = above
+    return None
 
 
 def section(form, clauses):

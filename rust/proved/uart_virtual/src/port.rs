@@ -87,6 +87,20 @@ pub struct Received {
 }
 
 /// Returns what the guest's read of this register is, as far as signals are concerned.
+///
+/// # Proved
+///
+/// - Returns what the clause beneath says.
+///
+/// <details><summary>The clauses</summary>
+///
+/// [How to read them](uart_spec::proved):
+///
+/// ```text
+/// ensures { result ≡ record { brings = false; looks = offset == offsets.ISR; moves_data = offset == offsets.DATA; may_make_room = false; } }
+/// ```
+///
+/// </details>
 // Only a read of ISR is a look. With LSR and MSR, a handler that reads LSR before each byte, as
 // most do, would be signalled for each byte, as long as more wait. A handler that never reads ISR
 // is signalled each time that the line falls and rises, so it cannot wait for ever.
@@ -221,6 +235,22 @@ fn room_after(kind: Kind, seen: Seen, told: Told) -> bool {
 /// whether the line was up all the time.
 ///
 /// A port over another chip, as the one for C, tells its monitor by this too.
+///
+/// # Proved
+///
+/// - *told*: `told` becomes [`told_after`](crate::proved::port#told_after) `kind was_up seen told.old`: what the monitor was told after a call of which this is seen, and of which it is known whether the line was up all the time.
+/// - *todo*: returns [`todo_after`](crate::proved::port#todo_after) `kind was_up seen told.old`: what the monitor has to do after it.
+///
+/// <details><summary>The clauses</summary>
+///
+/// [How to read them](uart_spec::proved):
+///
+/// ```text
+/// ensures told { told.new ≡ told_after kind was_up seen told.old }
+/// ensures todo { result ≡ todo_after kind was_up seen told.old }
+/// ```
+///
+/// </details>
 // Inlined in any case: of most calls the kind is known, and little of this is left.
 #[inline(always)]
 pub fn tell(seen: Seen, was_up: bool, told: &mut Told, kind: Kind) -> Todo {

@@ -56,6 +56,46 @@
 ///
 /// It uses [`receive_room`](uart_chip::proved::chip#receive_room); `ChipState` of `crates/uart_chip/specs/Chip.antt`.
 ///
+/// <span id="told_after"></span>
+///
+/// # `told_after`
+///
+/// What the monitor was told after a call of which this is seen, and of which it is known whether the line was up all the time.
+///
+/// ```text
+/// abbrev pub told_after : Kind → (was_up : Bool) → Seen → Told → Told
+/// told_after kind was_up seen told =
+///     let signal = is_signalled kind was_up seen told in
+///     record {
+///       line = seen.level;
+///       has_room = room_after kind seen told;
+///       has_looked = kind.looks || (told.has_looked && not signal);
+///       spare = spare_after kind signal seen.fifo told;
+///     }
+/// ```
+///
+/// It uses `is_signalled`, `has_room`, `room_after`, `spare_after` of this file.
+///
+/// <span id="todo_after"></span>
+///
+/// # `todo_after`
+///
+/// What the monitor has to do after it.
+///
+/// ```text
+/// abbrev pub todo_after : Kind → (was_up : Bool) → Seen → Told → Todo
+/// todo_after kind was_up seen told =
+///     record {
+///       signal = is_signalled kind was_up seen told;
+///       level = seen.level;
+///       has_moved = differ told.line seen.level;
+///       has_room = room_after kind seen told && not told.has_room;
+///       ready = seen.ready;
+///     }
+/// ```
+///
+/// It uses `is_signalled`, `differ`, `has_room`, `room_after` of this file.
+///
 /// <span id="todo_of"></span>
 ///
 /// # `todo_of`
@@ -67,7 +107,7 @@
 /// todo_of kind was_up ended told = todo_after kind was_up (seen_of ended) told
 /// ```
 ///
-/// It uses `ChipState` of `crates/uart_chip/specs/Chip.antt`; `todo_after`, `seen_of` of this file.
+/// It uses [`todo_after`](crate::proved::port#todo_after); `ChipState` of `crates/uart_chip/specs/Chip.antt`; `seen_of` of this file.
 ///
 /// <span id="renewed"></span>
 ///
@@ -264,5 +304,5 @@
 /// ```
 ///
 /// It uses [`IsLive`](uart_live::proved::live#IsLive), [`chip_of`](uart_chip::proved::snapshot#chip_of), [`IsStill`](crate::proved::port#IsStill).
-#[doc(alias("settle_ticks", "settle", "is_up", "accepted", "todo_of", "renewed", "untold", "begun", "fresh", "after", "todo", "IsTold", "IsStill", "nothing_new", "reads_polled", "receives_polled", "passes", "passing", "IsSaved"))]
+#[doc(alias("settle_ticks", "settle", "is_up", "accepted", "told_after", "todo_after", "todo_of", "renewed", "untold", "begun", "fresh", "after", "todo", "IsTold", "IsStill", "nothing_new", "reads_polled", "receives_polled", "passes", "passing", "IsSaved"))]
 pub mod port {}
