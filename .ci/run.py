@@ -2,9 +2,10 @@
 
 What documents say and quote, and how long lines are; whether what ships stands alone; whether pictures and the Rust packages are what the
 repository makes; then every proof, the wrong bodies in must-fail, every test and program of the proved crates, and beside them the tests
-of the eraser and of the Rust packages, and the commands of the READMEs, which need no proof; and then side by side what needs what was
-proved: refused memory, uart_port on an emulated PC, the programs, the emitted Rust compared with the proved MIR, a dozen of the wrong
-bodies that are tried by hand, the example monitor, the tty driver in Linux, the library for C, and the Rust packages compared with it.
+of the eraser and of the Rust packages, their documentation, and the commands of the READMEs, which need no proof; and then side by side
+what needs what was proved: refused memory, uart_port on an emulated PC, the programs, the emitted Rust compared with the proved MIR, a
+dozen of the wrong bodies that are tried by hand, the example monitor, the tty driver in Linux, the library for C, and the Rust packages
+compared with it.
 
 A command that passed on this machine with the same files, tools and kit is not run again: its line names it and says what it counted then.
 `rt ci` is always run, and decides by itself what it keeps. CI=full runs everything, as the nightly does; with WORDs only the commands
@@ -63,6 +64,7 @@ COMMANDS = [
     Command("tools/eraser/erase corpus", **BESIDE),
     Command("integration/readme", **BESIDE | {"without": OF_RUST, "but": READMES}),
     Command("integration/rust apart", **BESIDE),
+    Command("integration/doc", **BESIDE | {"without": OF_RUST, "but": READMES}),
     Command(".ci/refused-memory", **OVER | {"but": [".ci/refused-memory"]}),
     Command("integration/port", **OVER | {"without": OF_RUST}),
     Command("integration/programs", **OVER),

@@ -15,11 +15,12 @@ import examples
 import guards
 import names
 import packages
+import promises
 import table
 import widths
 import words
 from items import File
-from tokens import Refused, tokens
+from tokens import Refused, check_letters, tokens
 
 LIST_TEXT = """# What the eraser dropped: rule, item, what. Made by `tools/eraser/erase emit`.
 # Read each change of it in a review.
@@ -186,7 +187,7 @@ def apply(file):
             token = next(starts)
         while token and token.start < edit.end:
             token = next(starts)
-        expected += [one.text for one in tokens(edit.text, False)[0]]
+        expected += [one.text for one in tokens(edit.text, False, signs=edit.rule == "promise")[0]]
         out += [file.text[at : edit.start], edit.text]
         at = edit.end
     while token:
@@ -205,13 +206,14 @@ def tidy(text):
     return text.strip("\n") + "\n"
 
 
-def erase(file):
-    """The Rust text of a file."""
+def erase(file, told=None):
+    """The Rust text of a file, with the sections that `told` has for it."""
     try:
         file.edits += documentation.edits(file)
+        file.edits += told.edits(file) if told else []
         text, expected = apply(file)
         text = tidy(text)
-        found = [token.text for token in tokens(text, False)[0]]
+        found = [token.text for token in tokens(text, False, signs=True)[0]]
     except Refused as cause:
         raise Failed(refusal(file.name, file.text, cause)) from cause
     if found != expected:
@@ -232,14 +234,29 @@ def emitted(root, allow=table, expand=expanded, kit_of=kit):
         for name, data in found.items():
             text_of(name, data)
         crates = packages.Crates((root / "crates.txt").read_text(encoding="utf-8"))
-        files, dropped = files_of(texts, crates, allow)
-        listed = manifest(version.result(), found, files, allow)
+        told = promises.Promises(root, allow.SHIPS)
+        files, dropped = files_of(texts, crates, told, allow)
+        listed = manifest(version.result(), {**found, **told.definitions.files}, files, allow)
     files["DROPPED"] = dropped
     files["MANIFEST"] = listed + f"{hashlib.sha256(dropped.encode()).hexdigest()}  {allow.OUTPUT}/DROPPED\n"
     return {name: text.encode("utf-8") for name, text in files.items()}
 
 
-def files_of(texts, crates, allow=table):
+def pages(told, crates, allow):
+    """The pages of definitions by name, once all sections are there: a file `proved.rs` of each crate of which a section names one."""
+    causes = list(told.causes())
+    if causes:
+        raise Failed("\n".join(causes))
+    made = {f"{crate}/src/proved.rs": told.page(crate, crates.about[crate]) for crate in allow.SHIPS}
+    for name, text in made.items():
+        try:
+            check_letters(text)
+        except Refused as cause:
+            raise Failed(f"{name}: refused: {cause.cause}") from cause
+    return {name: text for name, text in made.items() if text}
+
+
+def files_of(texts, crates, told, allow=table):
     """The Rust files and the list of what was dropped, of sources by name."""
     causes, read_files = [], []
     for name, text in texts.items():
@@ -262,8 +279,11 @@ def files_of(texts, crates, allow=table):
             files[f"{name}/{examples.SHARED_NAME}"] = examples.shared(name)
     for file in read_files:
         dropped.update(one for one in file.dropped)
-        text, crate = erase(file), file.name.split("/")[0]
+        text, crate = erase(file, told), file.name.split("/")[0]
         files[target_of(file.name)] = packages.root(crate, crates, text) if file.name == f"{crate}/src/lib.rt" else text
+    for name, text in pages(told, crates, allow).items():
+        files[name] = text
+        files[name.replace("proved.rs", "lib.rs")] += "\npub mod proved;\n"
     lines = []
     for one, count in dropped.items():
         times = f" ({count} times)" if count > 1 else ""

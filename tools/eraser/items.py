@@ -40,7 +40,7 @@ class File:
         self.name, self.module, self.text, self.table = name, module, text, allow
         self.code, self.comments = tokens(text)
         self.edits, self.dropped, self.functions = [], [], []
-        self.places = []
+        self.places, self.forms = [], []
         self.modules, self.types, self.traits = [], [], []
         self.models, self.open_types = [], []
         self.ships = name.split("/")[0] in allow.SHIPS
@@ -429,6 +429,7 @@ class File:
         else:
             self.attribute(attributes, ("inline",))
             self.functions.append(Function(form.path, name, True, owner, form.requires, form.is_method))
+            self.forms.append(form)
             self.signature(form)
             self.contract(form)
             self.body(form)

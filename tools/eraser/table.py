@@ -27,9 +27,11 @@ RULES = [
     ("allocator", "`collect(alloc)`, `to_vec(alloc)`, `to_string(alloc)`", "`collect_with(alloc)`, and so on"),
     ("lists", "a file that names `Vec` or `String`, or has a method of the line above", "a `use` of what it names"),
     ("by hand", "a file in `BY_HAND`", "also `mod by_hand;`"),
+    ("pages", "definitions that such clauses name", "a file `proved.rs`, with an empty module for each file of definitions"),
     ("root", "the root of a crate", "also `#![no_std]`, `#![forbid(unsafe_code)]`, and `extern crate` for std and the libraries"),
     ("documentation", "`(rt; ..)` in an example, a fence without a word", "`(..)`, and the lines and the word of `EXAMPLES`"),
     ("panics", "the documentation of a function in `GUARDS`", "also a section Panics"),
+    ("promise", "the documentation of a public function with clauses, in what ships", "also a section with what its clauses say"),
 ]
 
 # The crates that become packages. What ships is part of a program of a user, on any target. The others are parts of this repository's

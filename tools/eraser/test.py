@@ -11,6 +11,8 @@ import crate
 import deceptions
 import guards
 import packages
+import promised
+import promises
 import table
 import words
 
@@ -421,6 +423,26 @@ class Tests:
         root = packages.root("uart_play", crates, "//! A text.\n\nmod a;\n")
         self.count(root.startswith("//! A text.\n#![no_std]\n#![forbid(unsafe_code)]\n") and root.endswith("\n\nmod a;\n"), root)
 
+    def promises(self):
+        """What the sections of calls say, and what is refused there."""
+        for clauses, expected in promised.SAID:
+            lines = promised.section(clauses)
+            found = promised.shown(lines)
+            self.count(found == expected, f"{clauses}: {found}, and not: {expected}")
+            self.count(lines[-len(clauses) - 3 : -3] == clauses, f"{clauses}: not word by word in {lines}")
+        lines = promised.section(["ensures { step self.old (Read place result) self.new }"], "trait Backend")
+        self.count("# Proved" not in lines and "- Makes this one access: `Read place result`." in lines, f"a trait: {lines}")
+        told = promises.Promises(ROOT, table.SHIPS)
+        for file in self.read.values():
+            told.edits(file)
+        self.count(not list(told.causes()), f"comments at calls: {list(told.causes())}")
+        place = next(iter(told.cites))
+        for words, shares in (("", False), ("some words", True)):
+            one = told.definitions.known[place]._replace(words=words, shares=shares)
+            with changed(told.definitions.known, place, one):
+                found = list(told.causes())
+                self.count(len(found) == 1 and found[0].endswith("has no comment of its own"), f"{place}: {words!r}, {shares}: {found}")
+
     def around(self, edits):
         for name, is_checked in (
             ("uart_ring/src/by_hand.rs", True),
@@ -503,6 +525,7 @@ def run():
     tests.files()
     tests.sources(CHIP_SOURCES)
     tests.manifests()
+    tests.promises()
     tests.around(AROUND)
     tests.tables()
     print(f"{tests.passed} passed, {tests.failed} failed")

@@ -115,10 +115,11 @@ def check_letters(text):
             raise Refused(f"the character {ascii(found[0])}", found.start())
 
 
-def tokens(text, clauses=True, strict=True):
+def tokens(text, clauses=True, strict=True, signs=False):
     """The tokens of a text, comments apart: (code, comments).
 
-    If not strict, a string may have several lines, and a clause anything: for the sources of tests.
+    If not strict, a string may have several lines, and a clause anything: for the sources of tests. With signs, documentation may have the
+    signs of clauses.
     """
     check_letters(text)
     code, comments, at = [], [], 0
@@ -129,7 +130,8 @@ def tokens(text, clauses=True, strict=True):
         if not found or text[at] in "brc" and RAW.match(text, at):
             raise Refused(f"no token: {ascii(text[at:at + 12])}", at)
         token = Token(found.lastgroup, found[0], at, found.end())
-        if not token.text.isascii():
+        is_told = signs and token.text.startswith("///")
+        if not all(letter.isascii() or is_told and letter in LETTERS for letter in token.text):
             raise Refused(f"not ASCII: {ascii(token.text[:40])}", at)
         if clauses and token.kind == "word" and token.text in ("requires", "ensures", "ghost"):
             token = clause(text, at, token.text, strict)

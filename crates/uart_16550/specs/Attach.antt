@@ -25,8 +25,9 @@ FindsDivisor low high = Then (FindsLoopback false) (ReadsDivisor low high)
 abbrev pub FindsPort : (fifo : Bool) → (low high : ℕ) → Language
 FindsPort fifo low high = Then (FindsDivisor low high) (Asks offsets.ISR ISR.FIFOS_ENABLED.0 fifo)
 
--- `attach`: the divisor is not 0, and the driver takes the FIFO to be as ISR shows; or the port was refused before ISR
--- was read, and nothing changed
+-- `attach`: LCR shows that DLAB is off, MCR that loopback is off, the divisor latch a divisor, and ISR whether the
+-- FIFOs are on, which the driver takes them to be; or these are read up to the one that the error is about, and the
+-- driver stays as it was
 abbrev pub Attaches : Result (ℕ × ℕ) AttachError → Doing
 Attaches (Ok latch) f l after = (0 < 256 * latch.1 + latch.0)
     × (fifo : Bool) × Next (Saving (FindsPort fifo latch.0 latch.1)) (Sets (with_fifo fifo)) f l after

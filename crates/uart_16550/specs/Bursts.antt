@@ -9,7 +9,8 @@ use Rattle.uart_16550.specs.Transmit.{Burst, SendMiss}
 abbrev pub room : (fifo : Bool) → FifoSize → ℕ
 room fifo size = if fifo then characters size else 1
 
--- `send_burst`: nothing if there are no bytes; else a check that fails, or one burst from the front
+-- `send_burst`: nothing if there are no bytes; else a send check and, if it succeeds, bytes from the front are written
+-- to DATA: as many as a FIFO of this size holds, or one if it is off. The result is how many
 abbrev pub SendsBurst : FifoSize → List ℕ → ℕ → Language
 SendsBurst size bytes k s l =
     ((length bytes ≡ 0) × (k ≡ 0) × (l ≡ []))

@@ -103,8 +103,8 @@ abbrev pub IsDivisorIfAny : Config → Option ℕ → Type 0
 IsDivisorIfAny config (Some divisor) = IsComputable config × DivisorOf config (Ok divisor)
 IsDivisorIfAny config None = IsComputable config → (cause : InvalidDivisorError) × DivisorOf config (Err cause)
 
--- `check_configured`: the registers show the configuration and these outputs, without loopback; or one does not; or the
--- configuration has no divisor, and no access was made
+-- `check_configured`: the registers show the configuration and these outputs, without loopback; or one does not, and
+-- the error has what was asked for and what it shows; or the configuration has no divisor, and no access was made
 abbrev pub ChecksConfigured : Config → (outputs : ℕ) → Verdict → Language
 ChecksConfigured config outputs (Ok x) s l = (divisor : ℕ) × IsDivisorIfAny config (Some divisor)
     × ShowsAll (frame_bits config) (unlooped outputs) config.interrupts.0 divisor (Ok x) s l

@@ -14,7 +14,7 @@ abbrev pub backend_of : {B : Type 0} → Uart16550 B → B
 backend_of d = d.backend
 
 -- a driver without its backend: its configuration, whether it takes the FIFO to be on, the saved bits of LSR and MSR,
--- the spin limit; these fields of a driver
+-- the spin limit
 pub record Fields : Type 0 where
   pub config : Config
   pub fifo : Bool
@@ -22,6 +22,7 @@ pub record Fields : Type 0 where
   pub msr : ℕ
   pub limit : ℕ
 
+-- what this driver holds beside its backend
 abbrev pub fields : {B : Type 0} → Uart16550 B → Fields
 fields d = record {
   config = d.config;
@@ -98,18 +99,22 @@ pub record Next {F : Type 0} (G H : F → List Access → F → Type 0) (f : F) 
   pub first : G f front mid
   pub second : H mid back after
 
--- the fields with this configuration, these interrupts in it, this FIFO, these saved bits, this limit
+-- the fields with this configuration
 abbrev pub with_config : Config → Fields → Fields
 with_config config f = record f { config = config }
 
+-- the fields with these interrupts in the configuration
 abbrev pub with_interrupts : ℕ → Fields → Fields
 with_interrupts bits f = with_config (record f.config { interrupts = record { 0 = bits } }) f
 
+-- the fields of a driver that takes the FIFO to be on, or off
 abbrev pub with_fifo : Bool → Fields → Fields
 with_fifo on f = record f { fifo = on }
 
+-- the fields with these saved bits of LSR and MSR
 abbrev pub with_saved : ℕ → ℕ → Fields → Fields
 with_saved lsr msr f = record f { lsr = lsr; msr = msr }
 
+-- the fields with this spin limit
 abbrev pub with_limit : ℕ → Fields → Fields
 with_limit limit f = record f { limit = limit }

@@ -47,7 +47,8 @@ abbrev pub SendsSingly : {T : Type 0} → List ℕ → Result T StalledError →
 SendsSingly bytes (Ok x) s l = SendsEach bytes s l
 SendsSingly bytes (Err e) s l = SendsBeginning bytes e.done s l
 
--- `write_text`: the whole expansion; or a beginning of it, as long as the error reports, at most 2 ^ 64 - 1
+-- `write_text`: the expansion of the text, byte by byte, each after its own wait; or a beginning of it, as long as the
+-- error reports, at most 2 ^ 64 - 1, and then a wait that reaches the limit
 abbrev pub SendsText : {T : Type 0} → List ℕ → Result T StalledError → Language
 SendsText text (Ok x) s l = SendsEach (expansion text) s l
 SendsText text (Err e) s l = (sent : ℕ) × (e.done ≡ min sent (2 ^ 64 - 1)) × SendsBeginning (expansion text) sent s l

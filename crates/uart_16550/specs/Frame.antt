@@ -39,8 +39,8 @@ framed given config =
 abbrev pub with_frame : Config → Fields → Fields
 with_frame given f = with_config (framed given f.config) f
 
--- `set_frame`: what is set is stored, and written to the divisor latch and to LCR; or there is no divisor, and nothing
--- was done
+-- `set_frame`: clock, baud rate and frame are stored, and written to the divisor latch and to LCR; or there is no
+-- divisor, and nothing is done
 abbrev pub SetsFrame : {T : Type 0} → Config → Result T InvalidDivisorError → Doing
 SetsFrame config (Ok x) f l after = (divisor : ℕ) × DivisorOf config (Ok divisor) ×
     Next (Sets (with_frame config)) (Saving (Only (frame_writes divisor (frame_bits config)))) f l after

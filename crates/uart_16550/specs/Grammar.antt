@@ -19,7 +19,7 @@ pub record Settings : Type 0 where
 abbrev pub Language : Type 1
 Language = Settings → List Access → Type 0
 
--- only this list
+-- these accesses in this order, and no other
 pub record Only (list : List Access) (s : Settings) (l : List Access) : Type 0 where
   pub is : l ≡ list
 

@@ -109,7 +109,9 @@ Ends config =
 abbrev pub DivisorOf : Config → Result ℕ InvalidDivisorError → Type 0
 DivisorOf config = IsDivisorAnswer config.frequency (to_integer config.baud_rate) config.prescaler_division_factor
 
--- `init`: the whole list, or the list up to the refusal, with the fields that each leaves
+-- `init`: the configuration is stored, the scratch register tested, divisor, frame and FIFO are set, the receiver is
+-- drained, and MCR is written; after a wait for an empty transmitter the statuses are read, and IER is written. Or
+-- nothing is done, if there is no divisor; or all up to the test that fails, or to the wait that reaches the limit
 abbrev pub Inits : {T : Type 0} → Config → Result T InitError → Doing
 Inits config (Ok x) f l after = (divisor : ℕ) × (fifo : Bool) × DivisorOf config (Ok divisor) ×
     Next (Begins config divisor fifo) (Next (Saving (WaitsFor LSR.TRANSMITTER_EMPTY.0 true)) (Ends config)) f l after

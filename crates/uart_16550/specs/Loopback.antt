@@ -151,7 +151,9 @@ abbrev pub IsStalled : {T : Type 0} → Result T LoopbackError → Type 0
 IsStalled (Ok x) = ⊥
 IsStalled (Err e) = e ≡ Stalled
 
--- `test_loopback`: a first wait that reaches the limit, and nothing written; or the test
+-- `test_loopback`: MCR and IER are read, and there is a wait for an empty transmitter. If it reaches the limit, nothing
+-- is written, and the result is a stall; else loopback is entered, bytes are exchanged up to the first error, and MCR
+-- and IER are restored
 abbrev pub TestsLoopback : {T : Type 0} → Result T LoopbackError → Doing
 TestsLoopback result f l after = (mcr : ℕ) × (ier : ℕ) ×
     ((IsStalled result × Saving (BeginsTest mcr ier false) f l after)

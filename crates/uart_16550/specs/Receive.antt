@@ -17,17 +17,17 @@ Hit byte = Then (Asks offsets.LSR LSR.DATA_READY.0 true) (Only (Read offsets.DAT
 abbrev pub Miss : Language
 Miss = Asks offsets.LSR LSR.DATA_READY.0 false
 
--- `ready_to_receive`: one look, with the result
+-- `ready_to_receive`: one read of LSR, which shows a received byte exactly if the result is `Ok`
 abbrev pub ReadyToReceive : {T E : Type 0} → Result T E → Language
 ReadyToReceive (Ok x) = Asks offsets.LSR LSR.DATA_READY.0 true
 ReadyToReceive (Err e) = Miss
 
--- `try_receive_byte`: a hit with the byte, or a miss
+-- `try_receive_byte`: LSR shows a received byte, which is read from DATA and returned; or LSR shows none
 abbrev pub TryReceive : {E : Type 0} → Result ℕ E → Language
 TryReceive (Ok byte) = Hit byte
 TryReceive (Err e) = Miss
 
--- `receive_bytes` into n slots: these bytes fill all slots, or a miss follows them
+-- `receive_bytes`: bytes are read from DATA, each after LSR shows it, until the slots are full, or LSR shows none
 abbrev pub Receives : ℕ → List ℕ → Language
 Receives n bytes s l =
     ((length bytes ≡ n) × InOrder Hit bytes s l) ⊎ ((length bytes < n) × Then (InOrder Hit bytes) Miss s l)
@@ -38,12 +38,14 @@ HitWithErrors received s l =
     (lsr : ℕ) × (has lsr LSR.DATA_READY.0 ≡ true) × (received.errors.0 ≡ bit_and lsr LSR.LINE_ERRORS.0)
     × (l ≡ Read offsets.LSR lsr ∷ Read offsets.DATA received.byte ∷ [])
 
--- `try_receive_with_errors`: a hit with the byte and its errors, or a miss
+-- `try_receive_with_errors`: LSR shows a received byte, which is read from DATA and returned with the errors that LSR
+-- shows; or LSR shows none
 abbrev pub TryReceiveWithErrors : {E : Type 0} → Result Received E → Language
 TryReceiveWithErrors (Ok received) = HitWithErrors received
 TryReceiveWithErrors (Err e) = Miss
 
--- `receive_with_errors` into n slots: these fill all slots, or a miss follows them
+-- `receive_with_errors`: bytes are read from DATA, each after LSR shows it and its errors, until the slots are full, or
+-- LSR shows none
 abbrev pub ReceivesWithErrors : ℕ → List Received → Language
 ReceivesWithErrors n items s l =
     ((length items ≡ n) × InOrder HitWithErrors items s l)
@@ -68,8 +70,8 @@ abbrev pub filled : {T : Type 0} → Result T StalledError → List ℕ → List
 filled (Ok x) slots = slots
 filled (Err e) slots = take e.done slots
 
--- `receive_bytes_exact` into n slots: all are filled, each after its own wait; or some, and then a wait reaches the
--- limit
+-- `receive_bytes_exact`: the slots are filled, each after its own wait; or those before the one whose wait reaches the
+-- limit, as many as the error reports
 abbrev pub ReceivesExact : {T : Type 0} → ℕ → List ℕ → Result T StalledError → Language
 ReceivesExact n bytes (Ok x) s l = (length bytes ≡ n) × InOrder Awaited bytes s l
 ReceivesExact n bytes (Err e) s l =

@@ -42,7 +42,8 @@ level_bits level = FCR.FIFO_ENABLE.0 + FCR.RX_FIFO_TRIGGER_LEVEL0.0 * trigger_co
 abbrev pub with_level : FifoTriggerLevel → Fields → Fields
 with_level level f = with_config (record f.config { fifo_trigger_level = Some level }) f
 
--- `set_trigger_level`: with the FIFOs on, the level is stored and written to FCR; with them off, nothing is done
+-- `set_trigger_level`: with the FIFOs on, the level is stored and written to FCR; with them off, nothing is done, and
+-- the result is the error
 abbrev pub SetsTrigger : {T : Type 0} → FifoTriggerLevel → Result T FifosOffError → Doing
 SetsTrigger level (Ok x) f l after = (f.fifo ≡ true) ×
     Next (Sets (with_level level)) (Saving (Only (Write offsets.FCR (level_bits level) ∷ []))) f l after
@@ -50,8 +51,8 @@ SetsTrigger level (Err e) f l after = (f.fifo ≡ false) × (l ≡ []) × (after
 
 -- ---- the frame, once the transmitter is empty
 
--- `set_frame_when_idle`: what was sent is on the line, and then all is as in `set_frame`; or there is no divisor, and
--- nothing was done; or the transmitter did not become empty, and nothing was written
+-- `set_frame_when_idle`: after a wait for an empty transmitter all is as in `set_frame`; or there is no divisor, and
+-- nothing is done; or the wait reaches the limit, and nothing is written
 abbrev pub SetsFrameWhenIdle : {T : Type 0} → Config → Result T FrameError → Doing
 SetsFrameWhenIdle config (Ok x) f l after = (divisor : ℕ) × DivisorOf config (Ok divisor) ×
     Next (Saving (WaitsFor LSR.TRANSMITTER_EMPTY.0 true))
@@ -97,7 +98,10 @@ SetsUp setup config divisor fifo =
     (Next (Plain DrainsReceiver)
     (Saving (Only (Write offsets.MCR (unlooped setup.outputs.0) ∷ [])))))
 
--- `init_with`: the configuration is stored, and the rest done in this order; or the list up to the refusal
+-- `init_with`: as `init`, with the test, the wait and the outputs of this setup. The configuration is stored; the test
+-- and the wait that is to be first are made; divisor, frame and FIFO are set, the receiver is drained, and MCR is
+-- written; the wait that is to be last is made; the statuses are read, and IER is written. Or nothing is done, if there
+-- is no divisor; or all up to the test that fails, or to the wait that reaches the limit
 abbrev pub InitsWith : {T : Type 0} → Setup → Config → Result T InitError → Doing
 InitsWith setup config (Ok x) f l after = (divisor : ℕ) × (fifo : Bool) × DivisorOf config (Ok divisor) ×
     Next (Sets (with_config config))
@@ -131,7 +135,8 @@ stays_on Keep on = on
 stays_on Reset on = on
 stays_on Disable on = false
 
--- `quiesce`: all interrupts are disabled, and the outputs and FCR written
+-- `quiesce`: all interrupts are disabled, the outputs are written to MCR, without loopback, and then FCR, if the FIFOs
+-- are to be reset or disabled
 abbrev pub Quiesces : (outputs : ℕ) → FifoAction → Doing
 Quiesces outputs action f =
     Next (Sets (with_interrupts 0))
@@ -148,7 +153,8 @@ abbrev pub last_writes : ConfigRegisterDump → List Access
 last_writes dump =
     Write offsets.MCR (unlooped dump.mcr.0) ∷ Write offsets.SPR dump.spr ∷ Write offsets.IER dump.ier.0 ∷ []
 
--- `restore`: divisor and frame, the FIFOs, and the rest are written as they were read; the FIFOs are on as ISR shows
+-- `restore`: divisor and frame, the FIFOs, and then MCR without loopback, SPR and IER are written as the dump has them.
+-- If it has the FIFOs on, ISR shows whether they are
 abbrev pub Restores : ConfigRegisterDump → Doing
 Restores dump f l after = (fifo : Bool) ×
     Next (Sets (with_interrupts dump.ier.0))

@@ -19,17 +19,18 @@ use Rattle.uart_16550.specs.declared.driver.status.TheConstants.{UNDRIVEN}
 use Rattle.uart_16550.specs.Driver.{Fields, Doing, saving, with_saved, with_interrupts}
 use Rattle.uart_spec.specs.declared.dump.ConfigRegisterDump.{ConfigRegisterDump}
 
--- `lsr`: one read. The result is joined with the saved bits, of which none are left
+-- `lsr`: one read of LSR, which is returned joined with the saved bits, of which none are left
 abbrev pub TakesLsr : ℕ → Doing
 TakesLsr result f l after =
     (status : ℕ) × (l ≡ Read offsets.LSR status ∷ []) × (result ≡ bit_or status f.lsr) × (after ≡ with_saved 0 f.msr f)
 
--- `msr`: one read. The result is joined with the saved bits, of which none are left
+-- `msr`: one read of MSR, which is returned joined with the saved bits, of which none are left
 abbrev pub TakesMsr : ℕ → Doing
 TakesMsr result f l after =
     (status : ℕ) × (l ≡ Read offsets.MSR status ∷ []) × (result ≡ bit_or status f.msr) × (after ≡ with_saved f.lsr 0 f)
 
--- `is_gone`: MCR shows what a bus shows that nobody drives, all bits set, or not
+-- `is_gone`: one read of MCR, which shows all bits set, as a bus does that nobody drives, exactly if the result is
+-- `true`
 abbrev pub ShowsGone : Bool → Language
 ShowsGone gone = Asks offsets.MCR UNDRIVEN gone
 
@@ -40,7 +41,7 @@ ShowsConnection (Err NoRemoteConnectedNoDSR) status = has status MSR.DSR.0 ≡ f
 ShowsConnection (Err NoRemoteConnectedNoCD) status = ⊥
 ShowsConnection (Err RemoteNotClearToSend) status = (has status MSR.DSR.0 ≡ true) × (has status MSR.CTS.0 ≡ false)
 
--- `check_connected`: one read of MSR, which shows the result
+-- `check_connected`: one read of MSR, which shows DSR and CTS; or which does not show the one that the error names
 abbrev pub Connects : {T : Type 0} → Result T RemoteReadyToReceiveError → Language
 Connects result s l = (status : ℕ) × ShowsConnection result status × (l ≡ Read offsets.MSR status ∷ [])
 
@@ -50,7 +51,7 @@ divisor_accesses lcr low high =
     Read offsets.LCR lcr ∷ Write offsets.LCR (bit_or lcr LCR.DLAB.0) ∷ Read offsets.DLL low ∷ Read offsets.DLM high ∷
     Write offsets.LCR lcr ∷ []
 
--- `dll_dlm`: the accesses to the divisor latch, whatever LCR showed
+-- `dll_dlm`: LCR is read, and written with DLAB; the divisor latch is read, its low byte first; and LCR is written back
 abbrev pub ReadsDivisor : (low high : ℕ) → Language
 ReadsDivisor low high s l = (lcr : ℕ) × (l ≡ divisor_accesses lcr low high)
 
@@ -58,20 +59,21 @@ ReadsDivisor low high s l = (lcr : ℕ) × (l ≡ divisor_accesses lcr low high)
 abbrev pub StoresInterrupts : ℕ → Doing
 StoresInterrupts bits f l after = (l ≡ Write offsets.IER bits ∷ []) × (after ≡ with_interrupts bits f)
 
--- `enable_interrupts`, `disable_interrupts`: IER is read; its new value, with these bits added or removed, is stored
--- and written
+-- `enable_interrupts`: IER is read; what it shows, with these bits added, is stored in the configuration and written
 abbrev pub Enables : ℕ → Doing
 Enables bits f l after = (ier : ℕ) × (l ≡ Read offsets.IER ier ∷ Write offsets.IER (bit_or ier bits) ∷ [])
     × (after ≡ with_interrupts (bit_or ier bits) f)
 
+-- `disable_interrupts`: IER is read; what it shows, without these bits, is stored in the configuration and written
 abbrev pub Disables : ℕ → Doing
 Disables bits f l after = (ier : ℕ) × (l ≡ Read offsets.IER ier ∷ Write offsets.IER (without 8 ier bits) ∷ [])
     × (after ≡ with_interrupts (without 8 ier bits) f)
 
--- `retrigger_interrupts`: IER is read, then 0 is written to it, and then what was read
+-- IER is read, and written with 0 and then with what was read
 abbrev pub retrigger_accesses : (ier : ℕ) → List Access
 retrigger_accesses ier = Read offsets.IER ier ∷ Write offsets.IER 0 ∷ Write offsets.IER ier ∷ []
 
+-- `retrigger_interrupts`: IER is read, then 0 is written to it, and then what was read
 abbrev pub Retriggers : Language
 Retriggers s l = (ier : ℕ) × (l ≡ retrigger_accesses ier)
 
@@ -82,7 +84,8 @@ dump_reads lsr msr dump =
     Read offsets.MCR dump.mcr.0 ∷
     Read offsets.LSR lsr ∷ Read offsets.MSR msr ∷ Read offsets.SPR dump.spr ∷ []
 
--- `config_register_dump`: what was read, LSR and MSR joined with the saved bits, which stay saved
+-- `config_register_dump`: the divisor latch and the seven other registers are read. LSR and MSR are returned joined
+-- with the saved bits, and all of these stay saved
 pub record Dumps (dump : ConfigRegisterDump) (f : Fields) (l : List Access) (after : Fields) : Type 0 where
   pub lcr : ℕ
   pub lsr : ℕ

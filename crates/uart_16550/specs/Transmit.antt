@@ -34,7 +34,8 @@ SendRefused RemoteNotClearToSend = IfChecks (Then (Asks offsets.LSR LSR.THR_EMPT
 abbrev pub SendMiss : Language
 SendMiss s l = (e : ByteSendError) × SendRefused e s l
 
--- `ready_to_send`: a send check, with the result
+-- `ready_to_send`: one send check: LSR shows THR_EMPTY and, if CTS is checked, the modem lines allow sending; or the
+-- error names which of these is not so
 abbrev pub ReadyToSend : {T : Type 0} → Result T ByteSendError → Language
 ReadyToSend (Ok x) = SendHit
 ReadyToSend (Err e) = SendRefused e
@@ -55,7 +56,8 @@ burst_limit fifo = if fifo then FIFO_SIZE else 1
 abbrev pub burst_size : Settings → List ℕ → ℕ
 burst_size s bytes = min (length bytes) (burst_limit s.fifo)
 
--- `send_bytes`: nothing if there are no bytes; else a check that fails, or one burst from the front
+-- `send_bytes`: nothing if there are no bytes; else a send check and, if it succeeds, bytes from the front are written
+-- to DATA: as many as the FIFO holds, or one if it is off. The result is how many
 abbrev pub Sends : List ℕ → ℕ → Language
 Sends bytes k s l =
     ((length bytes ≡ 0) × (k ≡ 0) × (l ≡ []))
@@ -87,7 +89,8 @@ IsCut s bytes (piece ∷ pieces) rest =
 abbrev pub SendsAll : List ℕ → Language
 SendsAll bytes s l = (pieces : List (List ℕ)) × IsCut s bytes pieces [] × InOrder Round pieces s l
 
--- `send_bytes_exact`: all bytes; or all before a rest, burst by burst, and then a wait that reaches the limit
+-- `send_bytes_exact`: all bytes, burst by burst, each burst after its own wait; or those before the burst whose wait
+-- reaches the limit, as many as the error reports
 abbrev pub SendsExact : {T : Type 0} → List ℕ → Result T StalledError → Language
 SendsExact bytes (Ok x) s l = SendsAll bytes s l
 SendsExact bytes (Err e) s l =
@@ -95,7 +98,8 @@ SendsExact bytes (Err e) s l =
     × (e.done + length rest ≡ length bytes)
     × Then (InOrder Round pieces) (AllMisses SendMiss) s l
 
--- `try_send_byte`: the `send_bytes` of one byte
+-- `try_send_byte`: the accesses of `send_bytes` for this one byte, which is sent exactly if the result is `Ok`; the
+-- only error is `NoCapacity`
 abbrev pub TrySends : {T : Type 0} → ℕ → Result T ByteSendError → Language
 TrySends byte (Ok x) = Sends (byte ∷ []) 1
 TrySends byte (Err NoCapacity) = Sends (byte ∷ []) 0

@@ -37,14 +37,16 @@ pub record IsStarted {B : Type 0} (step : B → Access → B → Type 0) (config
   pub does : Did step (Starts config result) driver last
   pub kept : IfOk result (λ terminal. inner_of terminal ≡ last)
 
--- a new driver over this backend was started
+-- a new driver over this backend was started: by `init` and then `test_loopback`, up to the first refusal. If there is
+-- none, the terminal has the driver
 pub record BuildsTerminal {B : Type 0} (step : B → Access → B → Type 0) (backend : B) (config : Config)
     (result : Result (Uart16550Tty B) Uart16550TtyError) : Type 0 where
   pub driver : Uart16550 B
   pub fresh : IsFresh driver backend DEFAULT
   pub started : IsStarted step config driver result
 
--- the address was refused; or a new driver was started over a backend at this address
+-- the address was refused; or a new driver over a backend at this address was started: by `init` and then
+-- `test_loopback`, up to the first refusal
 abbrev pub BuildsTerminalAt : {B : Type 0} → (B → Access → B → Type 0) → (B → Type 0) → (InvalidAddressError → Type 0) →
     Config → Result (Uart16550Tty B) Uart16550TtyError → Type 0
 BuildsTerminalAt step Lies Refuses config (Err (AddressError e)) = Refuses e

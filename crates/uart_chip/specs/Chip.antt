@@ -69,7 +69,7 @@ fresh model char_ticks capacity arrivals =
       cuts = false;
     }
 
--- offsets 0 and 1 are the divisor latch
+-- whether offsets 0 and 1 are the divisor latch
 abbrev pub is_dlab_set : LatchesState → Bool
 is_dlab_set l = has_any l.lcr LCR.DLAB.0
 
@@ -104,7 +104,7 @@ tick c =
       receiver = receiver.tick c.fifo (looped_byte (is_loopback c.latches) c.transmitter.shift_register) c.receiver;
     }
 
--- n ticks
+-- the chip after so many ticks
 abbrev pub ticks : ℕ → ChipState → ChipState
 ticks zero c = c
 ticks (suc n) c = tick (ticks n c)

@@ -5,7 +5,8 @@ use Rattle.uart_live.specs.declared.fixed.TheConstants.{WIRE_ROOM}
 use Rattle.uart_live.specs.declared.errors.ChipError.{ChipError}
 use Rattle.uart_live.specs.declared.errors.ChipError.TheVariants.{BadTicks, BadWire}
 
--- the first reason in this order: the ticks of a character are not in their range, or the wire has room for too much
+-- why no chip is made, if none is: the ticks of a character are not in their range, or else the wire has room for too
+-- much
 abbrev pub refusal : (char_ticks capacity : ℕ) → Option ChipError
 refusal char_ticks capacity =
     if not (nat_le 1 char_ticks && nat_le char_ticks MAX_CHAR_TICKS) then Some BadTicks

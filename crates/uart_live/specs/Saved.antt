@@ -41,17 +41,19 @@ is_ticking char_ticks (Some s) = nat_le 1 s.ticks_left && nat_le s.ticks_left ch
 abbrev pub is_char_time : ℕ → Bool
 is_char_time char_ticks = nat_le 1 char_ticks && nat_le char_ticks MAX_CHAR_TICKS
 
--- whether the transmitter, the modem lines and the latches are sound, as a test of their data
+-- whether the transmitter is sound, as a test of its data
 abbrev pub is_sound_transmitter : Bool → TransmitterData → List ℕ → Bool
 is_sound_transmitter fifo t wire =
     is_char_time t.char_ticks && (is_ticking t.char_ticks t.shift_register &&
     (nat_le (length t.queue.items) (room fifo) &&
     (nat_le (length wire) t.wire_capacity && nat_le t.wire_capacity MAX_WIRE_CAPACITY)))
 
+-- whether the modem lines and their changes are sound: none has a bit that is not its own
 abbrev pub is_sound_modem : ModemData → Bool
 is_sound_modem m =
     is_within m.inputs.0 MSR.LINES.0 && (is_within m.lines.0 MSR.LINES.0 && is_within m.deltas.0 MSR.CHANGES.0)
 
+-- whether the latches are sound: IER and MCR have no bit that the chip does not keep
 abbrev pub is_sound_latches : Latches → Bool
 is_sound_latches l = is_within l.ier.0 ier_bits && is_within l.mcr.0 mcr_bits
 

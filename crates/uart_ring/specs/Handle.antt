@@ -18,7 +18,7 @@ RetriggersUnlessIdle Idle = Stays
 RetriggersUnlessIdle Unknown = Retriggers
 RetriggersUnlessIdle Limit = Retriggers
 
--- `handle`: as many interrupts as are pending are served, but no more than the limit; those that may be left are
--- triggered again
+-- `handle`: as many interrupts as are pending are served, but no more than the limit. Then, unless ISR has shown that
+-- none is pending, IER is read, and written with 0 and with what was read: what is left is triggered again
 abbrev pub Handles : (limit : ℕ) → Handled → RingDoing
 Handles limit handled = RingNext (ServesUpTo limit handled) (RetriggersUnlessIdle handled.end)

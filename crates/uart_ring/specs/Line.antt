@@ -87,12 +87,13 @@ AtPort Goes Others (suc port) (x ∷ xs) (y ∷ ys) = Others x y × AtPort Goes 
 abbrev pub IsSame : {A : Type 0} → A → A → Type 0
 IsSame x y = y ≡ x
 
--- the line of a port is lowered, and what was done there is noted; and it is raised, with what was enabled
+-- the line of the port is lowered, and what was done there is noted; the result is whether an interrupt was served
 pub record LowersPort {B : Type 0} (step : B → Access → B → Type 0) (limit rounds : ℕ) (served : Bool)
     (old new : LinePort B) : Type 0 where
   pub did : RingDid step (LowersLine limit rounds new.lowered) old.ring new.ring
   pub tells : served ≡ has_served new.lowered.handled
 
+-- the line of the port is raised, with the interrupts that were enabled when it was lowered
 pub record RaisesPort {B : Type 0} (step : B → Access → B → Type 0) (old new : LinePort B) : Type 0 where
   pub did : RingDid step (RaisesLine old.lowered.enabled.0) old.ring new.ring
   pub keeps : new.lowered ≡ old.lowered
@@ -105,7 +106,8 @@ LowersAt step limit rounds port served = AtPort (LowersPort step limit rounds se
 abbrev pub RaisesAt : {B : Type 0} → (B → Access → B → Type 0) → (port : ℕ) → (old new : List (LinePort B)) → Type 0
 RaisesAt step = AtPort (RaisesPort step) IsSame
 
--- `handle_ports`: this of the ports of a slice
+-- `handle_ports`: first the line of each port of a slice is lowered, and from then on that of each is raised. In
+-- between is a moment at which all are low
 abbrev pub HandlesPorts : {B : Type 0} → (B → Access → B → Type 0) → (limit rounds number : ℕ) → Bool →
     (old new : List (LinePort B)) → Type 0
 HandlesPorts step limit rounds = HandlesLine (LowersAt step limit rounds) (RaisesAt step)

@@ -6,6 +6,7 @@ pub record Queue : Type 0 where
   pub items : List ℕ
   pub capacity : ℕ
 
+-- a queue of these bytes, in which there may be so many
 abbrev pub queue : List ℕ → ℕ → Queue
 queue items capacity = record { items = items; capacity = capacity }
 

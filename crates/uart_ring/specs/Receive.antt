@@ -34,13 +34,14 @@ abbrev pub EndsPause : RingDoing
 EndsPause f l after =
     MatchBool f.is_paused (OnDriver (Enables IER.DATA_READY.0) (with_paused false) f l after) (Stays f l after)
 
--- `take` into n slots returns these bytes: from the front of the receive ring, as many as there are slots; if there
--- are any, a pause ends
+-- `take`: the bytes are from the front of the receive ring, as many as there are slots and bytes; if there are any, a
+-- pause of receiving ends
 abbrev pub TakesBytes : ℕ → List ℕ → RingDoing
 TakesBytes slots bytes f l after =
     (bytes ≡ take slots f.receive.items) × IfAny (length bytes) EndsPause (without_taken (length bytes) f) l after
 
--- `clear_receive`: the receive ring is emptied of so many bytes; if there are any, a pause ends
+-- `clear_receive`: the receive ring is emptied, and the result is how many bytes it had; if it had any, a pause of
+-- receiving ends
 abbrev pub ClearsReceive : ℕ → RingDoing
 ClearsReceive count f l after =
     (count ≡ length f.receive.items) × IfAny count EndsPause (without_taken count f) l after
@@ -70,6 +71,7 @@ abbrev pub MakesRtsIfAny : Option Bool → RingDoing
 MakesRtsIfAny None = Stays
 MakesRtsIfAny (Some on) = OnDriver (Saving (MakesRts on)) unchanged
 
--- `adjust_rts`: RTS is made as the room in the receive ring says
+-- `adjust_rts`: RTS is off if the receive ring has room for fewer bytes than `hold`, on if it has room for `release` or
+-- more, and else stays. For this MCR is read, and written only if it shows RTS otherwise
 abbrev pub AdjustsRts : ReceiveMarks → RingDoing
 AdjustsRts marks f l after = MakesRtsIfAny (rts_at marks (free f.receive)) f l after

@@ -57,6 +57,7 @@ pub record RingFields : Type 0 where
   pub rounds : ℕ
   pub stuck : Option StuckError
 
+-- what these rings hold beside their backend
 abbrev pub ring_fields : {B : Type 0} → Uart16550Ring B → RingFields
 ring_fields r = record {
   driver = fields r.uart;

@@ -18,7 +18,7 @@ abbrev pub NotesModem : RingDoing
 NotesModem f l after =
     (status : ℕ) × OnDriver (TakesMsr status) (with_modem (bit_or f.modem (bit_and status MSR.CHANGES.0))) f l after
 
--- `take_line`: `lsr` joined with what was noted, which is then cleared
+-- `take_line`: `lsr`, joined with what was noted, after which nothing is noted
 abbrev pub TakesLine : ℕ → RingDoing
 TakesLine result f l after =
     (status : ℕ) × (result ≡ bit_or status f.line) × OnDriver (TakesLsr status) (with_line 0) f l after
@@ -28,6 +28,6 @@ abbrev pub TakesModem : ℕ → RingDoing
 TakesModem result f l after =
     (status : ℕ) × (result ≡ bit_or status f.modem) × OnDriver (TakesMsr status) (with_modem 0) f l after
 
--- `config_register_dump`: that of the driver, whose read of ISR may acknowledge THR_EMPTY; and then sending resumes
+-- `config_register_dump`: the dump of the driver, whose read of ISR may acknowledge THR_EMPTY; and then sending resumes
 abbrev pub DumpsRegisters : ConfigRegisterDump → RingDoing
 DumpsRegisters dump f l after = RingNext (OnDriver (Dumps dump) unchanged) ResumesTransmit f l after

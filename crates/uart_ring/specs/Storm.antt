@@ -99,16 +99,18 @@ HandlesRound limit rounds result f l after =
 abbrev pub StaysStuck : Result Handled StuckError → StuckError → RingDoing
 StaysStuck result error f l after = (result ≡ Err error) × OnDriver TurnsOff unchanged f l after
 
--- `try_handle`
+-- `try_handle`: a `handle`, whose round is counted, and after which the chip may be found stuck; or, if the chip is
+-- stuck already, all interrupts are disabled again. The error is why it is stuck
 abbrev pub TriesToHandle : (limit rounds : ℕ) → Result Handled StuckError → RingDoing
 TriesToHandle limit rounds result f l after =
     MatchOption f.stuck (HandlesRound limit rounds result f l after) (λ error. StaysStuck result error f l after)
 
--- `restart`: these interrupts are enabled, without DATA_READY while receiving is paused; the chip is not stuck any
--- more, and sending resumes
+-- these interrupts, without DATA_READY while receiving is paused
 abbrev pub not_paused : Bool → ℕ → ℕ
 not_paused paused bits = if paused then without 8 bits IER.DATA_READY.0 else bits
 
+-- `restart`: these interrupts are enabled, without DATA_READY while receiving is paused; the chip is not stuck any
+-- more, and sending resumes
 abbrev pub Restarts : ℕ → RingDoing
 Restarts bits f l after =
     RingNext (OnDriver (Enables (not_paused f.is_paused bits)) restarted) ResumesTransmit f l after

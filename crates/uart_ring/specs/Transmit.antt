@@ -23,12 +23,13 @@ Pumps f l after =
     (without_sent sent) f l after
 
 -- `queue`: bytes from the front of the input are added at the end of the transmit ring, as many as it has room for; if
--- there are any, a pump follows
+-- there are any, what the chip takes at once is sent
 abbrev pub Queues : List ℕ → ℕ → RingDoing
 Queues bytes count f l after =
     (count ≡ min (length bytes) (free f.transmit)) × IfAny count Pumps (with_queued (take count bytes) f) l after
 
--- `resume_transmit`: if bytes wait, a pump
+-- `resume_transmit`: if bytes wait, what the chip takes at once is sent, and THR_EMPTY is enabled if some are left,
+-- else disabled
 abbrev pub ResumesTransmit : RingDoing
 ResumesTransmit f l after = IfAny (length (waiting f)) Pumps f l after
 
@@ -40,15 +41,16 @@ Holds = RingSets (with_hold true)
 abbrev pub Releases : RingDoing
 Releases f l after = ResumesTransmit (with_hold false f) l after
 
--- `queue_urgent`: the byte is the urgent one, in place of one that waited, which is returned; and a pump
+-- `queue_urgent`: the byte is the urgent one, in place of one that waited, which is returned; and what the chip takes
+-- at once is sent
 abbrev pub QueuesUrgent : ℕ → Option ℕ → RingDoing
 QueuesUrgent byte replaced f l after = (replaced ≡ f.urgent) × Pumps (with_urgent (Some byte) f) l after
 
--- `clear_transmit`: the transmit ring is emptied of so many bytes
+-- `clear_transmit`: the transmit ring is emptied without an access, and the result is how many bytes it had
 abbrev pub ClearsTransmit : ℕ → RingDoing
 ClearsTransmit count f l after = (count ≡ length f.transmit.items) × RingSets cleared f l after
 
--- `set_low_mark`
+-- `set_low_mark`: the low mark is stored, and no access is made
 abbrev pub SetsLowMark : ℕ → RingDoing
 SetsLowMark mark = RingSets (with_low_mark mark)
 

@@ -12,15 +12,15 @@ prescaler factor = unwrap_or factor 0
 abbrev pub frequency_of : (baud_rate divisor : ℕ) → Option ℕ → ℕ
 frequency_of baud_rate divisor factor = 16 * (prescaler factor + 1) * baud_rate * divisor
 
--- the baud rate at which the clock has this frequency; or an error, if no whole one does
+-- the baud rate that this divisor gives exactly; or an error with the arguments, if it gives no whole one
 abbrev pub IsBaudRateAnswer : (frequency divisor : ℕ) → Option ℕ → Result ℕ NonIntegerBaudRateError → Type 0
 IsBaudRateAnswer frequency divisor factor (Ok baud_rate) = frequency_of baud_rate divisor factor ≡ frequency
 IsBaudRateAnswer frequency divisor factor (Err error) =
     ((baud_rate : ℕ) → frequency_of baud_rate divisor factor ≢ frequency)
     × (error ≡ record { frequency = frequency; divisor = divisor; prescaler_division_factor = factor })
 
--- the divisor at which the clock has this frequency, if it fits into the divisor latch; an error with the divisor if
--- it does not fit; an error with the arguments if no whole divisor does
+-- the divisor that gives exactly this baud rate, if it fits into the divisor latch; an error with the divisor if it
+-- does not fit; an error with the arguments if no whole divisor does
 abbrev pub IsDivisorAnswer : (frequency baud_rate : ℕ) → Option ℕ → Result ℕ InvalidDivisorError → Type 0
 IsDivisorAnswer frequency baud_rate factor (Ok divisor) =
     (frequency_of baud_rate divisor factor ≡ frequency) × (1 ≤ divisor) × (divisor ≤ 65535)

@@ -70,10 +70,11 @@ interrupt_row ModemStatus = (0, 4)
 interrupt_row DmaReceptionEndOfTransfer = (7, 5)
 interrupt_row DmaTransmissionEndOfTransfer = (5, 6)
 
--- the identification code of an interrupt; its priority
+-- the identification code of an interrupt, bits 1 to 3 of ISR
 abbrev pub interrupt_code : InterruptType → ℕ
 interrupt_code interrupt = (interrupt_row interrupt).0
 
+-- the priority of an interrupt; 1 is the highest
 abbrev pub priority : InterruptType → ℕ
 priority interrupt = (interrupt_row interrupt).1
 

@@ -189,10 +189,11 @@ todo_after kind was_up seen told =
       ready = seen.ready;
     }
 
--- the same, of the chip when the call ends
+-- what the monitor was told, with what is seen of the chip when the call ends
 abbrev pub tell : Kind → (was_up : Bool) → (ended : ChipState) → Told → Told
 tell kind was_up ended told = told_after kind was_up (seen_of ended) told
 
+-- what the monitor has to do, with what is seen of the chip when the call ends
 abbrev pub todo_of : Kind → (was_up : Bool) → (ended : ChipState) → Told → Todo
 todo_of kind was_up ended told = todo_after kind was_up (seen_of ended) told
 
@@ -216,13 +217,13 @@ begun c = record { chip = c; told = tell renewed true c untold }
 abbrev pub fresh : Chip → PortState
 fresh model = begun (settle (chip.fresh model 1 WIRE_ROOM 0))
 
--- the port after a call
+-- the port after this call: the access or what the host brings, and then the time that passes in each call
 abbrev pub after : PortCall → PortState → PortState
 after call p =
     let c = happen call p.chip in
     record { chip = settle c; told = tell (kind_of call p.chip) (stays_up call c) (settle c) p.told }
 
--- what the call returns to the monitor
+-- what the monitor has to do after this call: signal the interrupt, take output, bring input
 abbrev pub todo : PortCall → PortState → Todo
 todo call p =
     let c = happen call p.chip in todo_of (kind_of call p.chip) (stays_up call c) (settle c) p.told
@@ -294,7 +295,7 @@ receives_polled p = is_polled p && (p.told.has_room && has_room p.chip)
 abbrev pub passes : PortState → Bool
 passes p = ignores_falls p.told && ((length p.chip.transmitter.wire == 0) && sends_at_once p.chip)
 
--- this byte
+-- the byte, cut to the word length, if the host can take it before it is on the output
 abbrev pub passing : (value : ℕ) → PortState → Option ℕ
 passing value p = if passes p then Some (cut_of p.chip value) else None
 

@@ -28,3 +28,15 @@ use native::embedded_io;
 #[cfg(not(feature = "compat"))]
 #[doc(inline)]
 pub use native::*;
+
+/// The definitions that the sections "Proved" cite: what each name there means. No code is in it.
+///
+/// Start with [`spec`](proved::spec), which says how a section is read.
+pub mod proved {
+    #[doc(inline)]
+    pub use uart_driver::proved as driver;
+    #[doc(inline)]
+    pub use uart_ring::proved as rings;
+    #[doc(inline)]
+    pub use uart_spec::proved as spec;
+}

@@ -23,3 +23,15 @@ pub use uart_live::{
 pub use uart_spec::registers;
 #[doc(inline)]
 pub use uart_virtual::{Answer, Received, Restored, Todo, VirtualPort, settle};
+
+/// The definitions that the sections "Proved" cite: what each name there means. No code is in it.
+///
+/// Start with [`spec`](proved::spec), which says how a section is read.
+pub mod proved {
+    #[doc(inline)]
+    pub use uart_live::proved as live;
+    #[doc(inline)]
+    pub use uart_spec::proved as spec;
+    #[doc(inline)]
+    pub use uart_virtual::proved as port;
+}

@@ -1,5 +1,6 @@
-"""The emitted packages as one crate, a module for each, so that what is private in them can be compared too. Paths are the only text that
-changes: what is the head of a path in a package, its own or that of another one, is a module here."""
+"""The emitted packages as one crate, a module for each, so that what is private in them can be compared too. Paths are the only code that
+changes: what is the head of a path in a package, its own or that of another one, is a module here. Documentation is left out: it quotes
+contracts, whose signs are not ASCII."""
 import re
 
 # What emitted code names in place of a library, and the module that has it here; that of the rings has other queues.
@@ -15,7 +16,12 @@ def files(folder, target, heads):
         if path.name == "tests.rs":
             continue
         name = path.relative_to(folder)
-        yield target / ("mod.rs" if str(name) == "lib.rs" else name), rewritten(path.read_text(encoding="ascii"), heads)
+        yield target / ("mod.rs" if str(name) == "lib.rs" else name), rewritten(undocumented(path.read_text(encoding="utf-8")), heads)
+
+
+def undocumented(text):
+    """A text without the lines of its documentation."""
+    return re.sub(r"(?m)^ *//[/!].*\n", "", text)
 
 
 def rewritten(text, heads):

@@ -29,6 +29,25 @@ impl<P: PortAccess> Uart16550<PioBackend<P>> {
     /// uart.send_bytes_exact(b"hello")?;
     /// # Ok(()) }
     /// ```
+    ///
+    /// # Proved
+    ///
+    /// - *fresh*: if it returns `Ok driver`: [`IsFresh`](crate::proved::driver#IsFresh) `driver (backend_of driver) Config.DEFAULT`: a driver over this backend that has made no access: FIFO treated as on, nothing saved, limit 1,000,000.
+    ///   - [`backend_of`](crate::proved::driver#backend_of): the backend of a driver, which makes its accesses.
+    /// - *place*: if it returns `Ok driver`: [`IsAtPorts`](crate::proved::pio#IsAtPorts) `(backend_of driver) base_port access`: the registers are at the ports from this one on, and this object accesses them.
+    /// - *refused*: if it returns `Err`, for its value [`IsPortRefusal`](crate::proved::pio#IsPortRefusal) `base_port`: why no registers can be at the ports from this one on: the last of them would be beyond the last port.
+    ///
+    /// <details><summary>The clauses</summary>
+    ///
+    /// [How to read them](uart_spec::proved):
+    ///
+    /// ```text
+    /// ensures fresh { IfOk result (λ driver. IsFresh driver (backend_of driver) Config.DEFAULT) }
+    /// ensures place { IfOk result (λ driver. IsAtPorts (backend_of driver) base_port access) }
+    /// ensures refused { IfErr result (IsPortRefusal base_port) }
+    /// ```
+    ///
+    /// </details>
     pub fn new_port(base_port: u16, access: P) -> Result<Self, InvalidAddressError> {
         Ok(Uart16550::new_with_backend(PioBackend::new(base_port, access)?))
     }
@@ -64,6 +83,25 @@ impl<M: ByteAccess> Uart16550<MmioBackend<M>> {
     /// let mut uart = Uart16550::new_mmio(base, 4, Memory(cells))?;
     /// # Ok(()) }
     /// ```
+    ///
+    /// # Proved
+    ///
+    /// - *fresh*: if it returns `Ok driver`: [`IsFresh`](crate::proved::driver#IsFresh) `driver (backend_of driver) Config.DEFAULT`: a driver over this backend that has made no access: FIFO treated as on, nothing saved, limit 1,000,000.
+    ///   - [`backend_of`](crate::proved::driver#backend_of): the backend of a driver, which makes its accesses.
+    /// - *place*: if it returns `Ok driver`: [`IsInMemory`](crate::proved::mmio#IsInMemory) `(backend_of driver) base_address stride access`: the registers are in memory from this address on, with this distance, and this object accesses them.
+    /// - *refused*: if it returns `Err`, for its value [`IsMappingRefusal`](crate::proved::mmio#IsMappingRefusal) `(non_zero_usize_get base_address) stride`: why no registers can be in memory from this address on: the stride is checked first.
+    ///
+    /// <details><summary>The clauses</summary>
+    ///
+    /// [How to read them](uart_spec::proved):
+    ///
+    /// ```text
+    /// ensures fresh { IfOk result (λ driver. IsFresh driver (backend_of driver) Config.DEFAULT) }
+    /// ensures place { IfOk result (λ driver. IsInMemory (backend_of driver) base_address stride access) }
+    /// ensures refused { IfErr result (IsMappingRefusal (non_zero_usize_get base_address) stride) }
+    /// ```
+    ///
+    /// </details>
     pub fn new_mmio(
         base_address: NonZeroUsize,
         stride: u8,
@@ -93,6 +131,25 @@ impl<M: ByteAccess> Uart16550<MmioBackend<M>> {
     /// let mut uart = Uart16550::new_mmio_from_address(base, 4, Memory(cells))?;
     /// # Ok(()) }
     /// ```
+    ///
+    /// # Proved
+    ///
+    /// - *fresh*: if it returns `Ok driver`: [`IsFresh`](crate::proved::driver#IsFresh) `driver (backend_of driver) Config.DEFAULT`: a driver over this backend that has made no access: FIFO treated as on, nothing saved, limit 1,000,000.
+    ///   - [`backend_of`](crate::proved::driver#backend_of): the backend of a driver, which makes its accesses.
+    /// - *place*: if it returns `Ok driver`: [`IsInMemory`](crate::proved::mmio#IsInMemory) `(backend_of driver) base_address stride access`: the registers are in memory from this address on, with this distance, and this object accesses them.
+    /// - *refused*: if it returns `Err`, for its value [`IsMappingRefusal`](crate::proved::mmio#IsMappingRefusal) `(non_zero_usize_get base_address) stride`: why no registers can be in memory from this address on: the stride is checked first.
+    ///
+    /// <details><summary>The clauses</summary>
+    ///
+    /// [How to read them](uart_spec::proved):
+    ///
+    /// ```text
+    /// ensures fresh { IfOk result (λ driver. IsFresh driver (backend_of driver) Config.DEFAULT) }
+    /// ensures place { IfOk result (λ driver. IsInMemory (backend_of driver) base_address stride access) }
+    /// ensures refused { IfErr result (IsMappingRefusal (non_zero_usize_get base_address) stride) }
+    /// ```
+    ///
+    /// </details>
     pub fn new_mmio_from_address(
         base_address: NonZeroUsize,
         stride: u8,

@@ -11,9 +11,41 @@ pub use uart_spec::backend::Backend;
 /// register.
 pub trait PortAccess {
     /// Reads one byte from a port, and returns it.
+    ///
+    /// # To be kept by an implementation
+    ///
+    /// What the proofs take each implementation to do. Nothing checks it of one that is written in Rust.
+    ///
+    /// - Makes this one access: `Read port result`.
+    ///
+    /// <details><summary>The clauses</summary>
+    ///
+    /// [How to read them](uart_spec::proved):
+    ///
+    /// ```text
+    /// ensures { step self.old (Read port result) self.new }
+    /// ```
+    ///
+    /// </details>
     fn port_in(&mut self, port: u16) -> u8;
 
     /// Writes one byte to a port.
+    ///
+    /// # To be kept by an implementation
+    ///
+    /// What the proofs take each implementation to do. Nothing checks it of one that is written in Rust.
+    ///
+    /// - Makes this one access: `Write port value`.
+    ///
+    /// <details><summary>The clauses</summary>
+    ///
+    /// [How to read them](uart_spec::proved):
+    ///
+    /// ```text
+    /// ensures { step self.old (Write port value) self.new }
+    /// ```
+    ///
+    /// </details>
     fn port_out(&mut self, port: u16, value: u8);
 }
 
@@ -24,8 +56,40 @@ pub trait PortAccess {
 /// the offset of the register.
 pub trait ByteAccess {
     /// Loads the byte at an address, and returns it.
+    ///
+    /// # To be kept by an implementation
+    ///
+    /// What the proofs take each implementation to do. Nothing checks it of one that is written in Rust.
+    ///
+    /// - Makes this one access: `Read address result`.
+    ///
+    /// <details><summary>The clauses</summary>
+    ///
+    /// [How to read them](uart_spec::proved):
+    ///
+    /// ```text
+    /// ensures { step self.old (Read address result) self.new }
+    /// ```
+    ///
+    /// </details>
     fn load(&mut self, address: usize) -> u8;
 
     /// Stores a byte at an address.
+    ///
+    /// # To be kept by an implementation
+    ///
+    /// What the proofs take each implementation to do. Nothing checks it of one that is written in Rust.
+    ///
+    /// - Makes this one access: `Write address value`.
+    ///
+    /// <details><summary>The clauses</summary>
+    ///
+    /// [How to read them](uart_spec::proved):
+    ///
+    /// ```text
+    /// ensures { step self.old (Write address value) self.new }
+    /// ```
+    ///
+    /// </details>
     fn store(&mut self, address: usize, value: u8);
 }

@@ -87,6 +87,20 @@ impl<B: Backend> Uart16550<B> {
     /// });
     /// # Ok(()) }
     /// ```
+    ///
+    /// # Proved
+    ///
+    /// - [`IsFresh`](crate::proved::driver#IsFresh) `result backend Config.DEFAULT`: a driver over this backend that has made no access: FIFO treated as on, nothing saved, limit 1,000,000.
+    ///
+    /// <details><summary>The clauses</summary>
+    ///
+    /// [How to read them](uart_spec::proved):
+    ///
+    /// ```text
+    /// ensures { IsFresh result backend Config.DEFAULT }
+    /// ```
+    ///
+    /// </details>
     pub const fn new_with_backend(backend: B) -> Self {
         Uart16550 {
             backend,
@@ -109,6 +123,20 @@ impl<B: Backend> Uart16550<B> {
     /// assert_eq!(uart.backend().shown.as_slice(), b"hello".as_slice());
     /// # Ok(()) }
     /// ```
+    ///
+    /// # Proved
+    ///
+    /// - Returns [`backend_of`](crate::proved::driver#backend_of) `self.now`: the backend of a driver, which makes its accesses.
+    ///
+    /// <details><summary>The clauses</summary>
+    ///
+    /// [How to read them](uart_spec::proved):
+    ///
+    /// ```text
+    /// ensures { result.now ≡ backend_of self.now }
+    /// ```
+    ///
+    /// </details>
     pub const fn backend(&self) -> &B {
         &self.backend
     }
@@ -128,6 +156,22 @@ impl<B: Backend> Uart16550<B> {
     /// uart.backend_mut().write(offsets::SPR as u8, 0x5a);
     /// # Ok(()) }
     /// ```
+    ///
+    /// # Proved
+    ///
+    /// - *writes_back*: lends a part of it: what is changed there is changed here, and nothing else.
+    /// - *value*: returns [`backend_of`](crate::proved::driver#backend_of) `self.old`: the backend of a driver, which makes its accesses.
+    ///
+    /// <details><summary>The clauses</summary>
+    ///
+    /// [How to read them](uart_spec::proved):
+    ///
+    /// ```text
+    /// ensures* writes_back { sem 𝓛 (Lends (the_row B.row) B.row self.entry result (λ b. record self.old { backend = b })) }
+    /// ensures value { result.now ≡ backend_of self.old }
+    /// ```
+    ///
+    /// </details>
     pub const fn backend_mut(&mut self) -> &mut B {
         &mut self.backend
     }
@@ -152,6 +196,21 @@ impl<B: Backend> Uart16550<B> {
     /// );
     /// # Ok(()) }
     /// ```
+    ///
+    /// # Proved
+    ///
+    /// - Returns `(fields self.now).config`.
+    ///   - [`fields`](crate::proved::driver#fields): what this driver holds beside its backend.
+    ///
+    /// <details><summary>The clauses</summary>
+    ///
+    /// [How to read them](uart_spec::proved):
+    ///
+    /// ```text
+    /// ensures { result.now ≡ (fields self.now).config }
+    /// ```
+    ///
+    /// </details>
     pub const fn config(&self) -> &Config {
         &self.config
     }
@@ -172,6 +231,21 @@ impl<B: Backend> Uart16550<B> {
     /// assert_eq!(uart.fifo_enabled(), true);
     /// # Ok(()) }
     /// ```
+    ///
+    /// # Proved
+    ///
+    /// - Returns `(fields self.now).fifo`.
+    ///   - [`fields`](crate::proved::driver#fields): what this driver holds beside its backend.
+    ///
+    /// <details><summary>The clauses</summary>
+    ///
+    /// [How to read them](uart_spec::proved):
+    ///
+    /// ```text
+    /// ensures { result ≡ (fields self.now).fifo }
+    /// ```
+    ///
+    /// </details>
     pub const fn fifo_enabled(&self) -> bool {
         self.fifo_enabled
     }
@@ -189,6 +263,21 @@ impl<B: Backend> Uart16550<B> {
     /// uart.spin_limit().get() == 7
     /// # }) }
     /// ```
+    ///
+    /// # Proved
+    ///
+    /// - `non_zero_u64_get result ≡ (fields self.now).limit`.
+    ///   - [`fields`](crate::proved::driver#fields): what this driver holds beside its backend.
+    ///
+    /// <details><summary>The clauses</summary>
+    ///
+    /// [How to read them](uart_spec::proved):
+    ///
+    /// ```text
+    /// ensures { non_zero_u64_get result ≡ (fields self.now).limit }
+    /// ```
+    ///
+    /// </details>
     pub const fn spin_limit(&self) -> NonZeroU64 {
         self.spin_limit
     }
@@ -209,6 +298,21 @@ impl<B: Backend> Uart16550<B> {
     /// uart.set_spin_limit(NonZeroU64::new(200).unwrap());
     /// # Ok(()) }
     /// ```
+    ///
+    /// # Proved
+    ///
+    /// - [Does as](crate::proved::driver#Did) [`Sets`](crate::proved::driver#Sets) `(with_limit (non_zero_u64_get limit))`: no access, and this change to the fields.
+    ///   - [`with_limit`](crate::proved::driver#with_limit): the fields with this spin limit.
+    ///
+    /// <details><summary>The clauses</summary>
+    ///
+    /// [How to read them](uart_spec::proved):
+    ///
+    /// ```text
+    /// ensures { Did B.step (Sets (with_limit (non_zero_u64_get limit))) self.old self.new }
+    /// ```
+    ///
+    /// </details>
     pub const fn set_spin_limit(&mut self, limit: NonZeroU64) {
         self.spin_limit = limit;
     }

@@ -21,6 +21,31 @@ pub trait Read: ErrorType {
     /// read: 0 only if there are no slots.
     ///
     /// Slots beyond this number are unchanged. If the call fails, all slots are unchanged.
+    ///
+    /// # To be kept by an implementation
+    ///
+    /// What the proofs take each implementation to do. Nothing checks it of one that is written in Rust.
+    ///
+    /// - *reads*: `reads self.old (length buf.old) (got result buf.new) result self.new`.
+    ///   - [`got`](crate::proved::io#got): the bytes that a read put into its slots: as many as it returned, and none if it failed.
+    /// - *count*: if it returns `Ok count`: `count ≤ length buf.old`.
+    /// - *none*: if it returns `Ok count`: if `count ≡ 0`: `length buf.old ≡ 0`.
+    /// - *rest*: if it returns `Ok count`: `drop count buf.new ≡ drop count buf.old`.
+    /// - *err*: if it returns `Err`: `buf` stays as it was.
+    ///
+    /// <details><summary>The clauses</summary>
+    ///
+    /// [How to read them](uart_spec::proved):
+    ///
+    /// ```text
+    /// ensures reads { reads self.old (length buf.old) (got result buf.new) result self.new }
+    /// ensures count { IfOk result (λ count. count ≤ length buf.old) }
+    /// ensures none { IfOk result (λ count. count ≡ 0 → length buf.old ≡ 0) }
+    /// ensures rest { IfOk result (λ count. drop count buf.new ≡ drop count buf.old) }
+    /// ensures err { OnErr result (buf.new ≡ buf.old) }
+    /// ```
+    ///
+    /// </details>
     fn read(&mut self, buf: &mut [u8]) -> Result<usize, Self::Error>;
 }
 
@@ -28,21 +53,89 @@ pub trait Read: ErrorType {
 pub trait Write: ErrorType {
     /// Writes at least one byte from the front, waits for room if necessary, and returns how many
     /// were written: 0 only if there are no bytes.
+    ///
+    /// # To be kept by an implementation
+    ///
+    /// What the proofs take each implementation to do. Nothing checks it of one that is written in Rust.
+    ///
+    /// - *writes*: `writes self.old buf.now result self.new`.
+    /// - *count*: if it returns `Ok count`: `count ≤ length buf.now`.
+    /// - *none*: if it returns `Ok count`: if `count ≡ 0`: `length buf.now ≡ 0`.
+    ///
+    /// <details><summary>The clauses</summary>
+    ///
+    /// [How to read them](uart_spec::proved):
+    ///
+    /// ```text
+    /// ensures writes { writes self.old buf.now result self.new }
+    /// ensures count { IfOk result (λ count. count ≤ length buf.now) }
+    /// ensures none { IfOk result (λ count. count ≡ 0 → length buf.now ≡ 0) }
+    /// ```
+    ///
+    /// </details>
     fn write(&mut self, buf: &[u8]) -> Result<usize, Self::Error>;
 
     /// Waits until everything that was written has been sent.
+    ///
+    /// # To be kept by an implementation
+    ///
+    /// What the proofs take each implementation to do. Nothing checks it of one that is written in Rust.
+    ///
+    /// - `flushes self.old result self.new`.
+    ///
+    /// <details><summary>The clauses</summary>
+    ///
+    /// [How to read them](uart_spec::proved):
+    ///
+    /// ```text
+    /// ensures { flushes self.old result self.new }
+    /// ```
+    ///
+    /// </details>
     fn flush(&mut self) -> Result<(), Self::Error>;
 }
 
 /// A reader that can report whether a read would wait.
 pub trait ReadReady: ErrorType {
     /// Returns whether a read would find a byte without waiting.
+    ///
+    /// # To be kept by an implementation
+    ///
+    /// What the proofs take each implementation to do. Nothing checks it of one that is written in Rust.
+    ///
+    /// - `answers_read self.old result self.new`.
+    ///
+    /// <details><summary>The clauses</summary>
+    ///
+    /// [How to read them](uart_spec::proved):
+    ///
+    /// ```text
+    /// ensures { answers_read self.old result self.new }
+    /// ```
+    ///
+    /// </details>
     fn read_ready(&mut self) -> Result<bool, Self::Error>;
 }
 
 /// A writer that can report whether a write would wait.
 pub trait WriteReady: ErrorType {
     /// Returns whether a write would find room without waiting.
+    ///
+    /// # To be kept by an implementation
+    ///
+    /// What the proofs take each implementation to do. Nothing checks it of one that is written in Rust.
+    ///
+    /// - `answers_write self.old result self.new`.
+    ///
+    /// <details><summary>The clauses</summary>
+    ///
+    /// [How to read them](uart_spec::proved):
+    ///
+    /// ```text
+    /// ensures { answers_write self.old result self.new }
+    /// ```
+    ///
+    /// </details>
     fn write_ready(&mut self) -> Result<bool, Self::Error>;
 }
 

@@ -51,3 +51,5 @@ pub use uart_spec::{
 };
 
 mod by_hand;
+
+pub mod proved;

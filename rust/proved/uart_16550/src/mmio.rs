@@ -39,16 +39,62 @@ impl<M: ByteAccess> MmioBackend<M> {
     }
 
     /// Returns the address of the first register.
+    ///
+    /// # Proved
+    ///
+    /// - *value*: returns `self.now.base`.
+    /// - *in_range*: [`IsMapping`](crate::proved::mmio#IsMapping) `(non_zero_usize_get result) (non_zero_u8_get self.now.stride)`: the stride is a power of two, and the address of the last register is below 2^64.
+    ///
+    /// <details><summary>The clauses</summary>
+    ///
+    /// [How to read them](uart_spec::proved):
+    ///
+    /// ```text
+    /// ensures value { result ≡ self.now.base }
+    /// ensures in_range { IsMapping (non_zero_usize_get result) (non_zero_u8_get self.now.stride) }
+    /// ```
+    ///
+    /// </details>
     pub const fn base(&self) -> NonZeroUsize {
         self.base
     }
 
     /// Returns the distance between two registers in bytes: a power of two.
+    ///
+    /// # Proved
+    ///
+    /// - *value*: returns `self.now.stride`.
+    /// - *power*: `IsTrue (is_power_of_two (non_zero_u8_get result))`.
+    ///
+    /// <details><summary>The clauses</summary>
+    ///
+    /// [How to read them](uart_spec::proved):
+    ///
+    /// ```text
+    /// ensures value { result ≡ self.now.stride }
+    /// ensures power { IsTrue (is_power_of_two (non_zero_u8_get result)) }
+    /// ```
+    ///
+    /// </details>
     pub const fn stride(&self) -> NonZeroU8 {
         self.stride
     }
 
     /// Returns the access object, to read its state. Makes no access.
+    ///
+    /// # Proved
+    ///
+    /// - Returns `self.now.access`.
+    ///
+    /// <details><summary>The clauses</summary>
+    ///
+    /// [How to read them](uart_spec::proved):
+    ///
+    /// ```text
+    /// ensures { result.now ≡ self.now.access }
+    /// ```
+    ///
+    /// </details>
     pub fn access(&self) -> &M {
         &self.access
     }
@@ -58,6 +104,22 @@ impl<M: ByteAccess> MmioBackend<M> {
     ///
     /// Accesses by the caller bypass the driver: status bits that they clear are not saved, and the
     /// driver does not notice what they change.
+    ///
+    /// # Proved
+    ///
+    /// - *writes_back*: lends a part of it: what is changed there is changed here, and nothing else.
+    /// - *value*: returns `self.old.access`.
+    ///
+    /// <details><summary>The clauses</summary>
+    ///
+    /// [How to read them](uart_spec::proved):
+    ///
+    /// ```text
+    /// ensures* writes_back { sem 𝓛 (Lends (the_row M.row) M.row self.entry result (λ m. record self.old { access = m })) }
+    /// ensures value { result.now ≡ self.old.access }
+    /// ```
+    ///
+    /// </details>
     pub fn access_mut(&mut self) -> &mut M {
         &mut self.access
     }

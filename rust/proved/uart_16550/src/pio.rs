@@ -25,11 +25,41 @@ impl<P: PortAccess> PioBackend<P> {
     }
 
     /// Returns the port of the first register.
+    ///
+    /// # Proved
+    ///
+    /// - *value*: returns `self.now.base`.
+    /// - *in_range*: [`IsPortBase`](crate::proved::pio#IsPortBase) `result`: the port of the last register is one of them.
+    ///
+    /// <details><summary>The clauses</summary>
+    ///
+    /// [How to read them](uart_spec::proved):
+    ///
+    /// ```text
+    /// ensures value { result ≡ self.now.base }
+    /// ensures in_range { IsPortBase result }
+    /// ```
+    ///
+    /// </details>
     pub const fn base(&self) -> u16 {
         self.base
     }
 
     /// Returns the access object, to read its state. Makes no access.
+    ///
+    /// # Proved
+    ///
+    /// - Returns `self.now.access`.
+    ///
+    /// <details><summary>The clauses</summary>
+    ///
+    /// [How to read them](uart_spec::proved):
+    ///
+    /// ```text
+    /// ensures { result.now ≡ self.now.access }
+    /// ```
+    ///
+    /// </details>
     pub fn access(&self) -> &P {
         &self.access
     }
@@ -39,6 +69,22 @@ impl<P: PortAccess> PioBackend<P> {
     ///
     /// Accesses by the caller bypass the driver: status bits that they clear are not saved, and the
     /// driver does not notice what they change.
+    ///
+    /// # Proved
+    ///
+    /// - *writes_back*: lends a part of it: what is changed there is changed here, and nothing else.
+    /// - *value*: returns `self.old.access`.
+    ///
+    /// <details><summary>The clauses</summary>
+    ///
+    /// [How to read them](uart_spec::proved):
+    ///
+    /// ```text
+    /// ensures* writes_back { sem 𝓛 (Lends (the_row P.row) P.row self.entry result (λ p. record self.old { access = p })) }
+    /// ensures value { result.now ≡ self.old.access }
+    /// ```
+    ///
+    /// </details>
     // An object that counts accesses or remembers a fault is of use only if its owner can reach it.
     pub fn access_mut(&mut self) -> &mut P {
         &mut self.access

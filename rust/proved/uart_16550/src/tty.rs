@@ -81,6 +81,23 @@ impl<B: Backend> Uart16550Tty<B> {
     /// let tty = Uart16550Tty::new_with_backend(device(), Config::DEFAULT)?;
     /// # Ok(()) }
     /// ```
+    ///
+    /// # Proved
+    ///
+    /// If [`IsComputable`](uart_spec::proved::config#IsComputable) `config` (frequency and baud rate are not zero, and the prescaler division factor is absent or at most 15):
+    ///
+    /// - [`BuildsTerminal`](crate::proved::tty#BuildsTerminal) `B.step backend config result`: a new driver over this backend was started: by `init` and then `test_loopback`, up to the first refusal. If there is none, the terminal has the driver.
+    ///
+    /// <details><summary>The clauses</summary>
+    ///
+    /// [How to read them](uart_spec::proved):
+    ///
+    /// ```text
+    /// requires { IsComputable config }
+    /// ensures { BuildsTerminal B.step backend config result }
+    /// ```
+    ///
+    /// </details>
     pub fn new_with_backend(backend: B, config: Config) -> Result<Self, Uart16550TtyError> {
         Self::start(Uart16550::new_with_backend(backend), config)
     }
@@ -119,6 +136,26 @@ impl<P: PortAccess> Uart16550Tty<PioBackend<P>> {
     /// let tty = Uart16550Tty::new_port(0x3f8, device(), Config::DEFAULT)?;
     /// # Ok(()) }
     /// ```
+    ///
+    /// # Proved
+    ///
+    /// If [`IsComputable`](uart_spec::proved::config#IsComputable) `config` (frequency and baud rate are not zero, and the prescaler division factor is absent or at most 15):
+    ///
+    /// - [`BuildsTerminalAt`](crate::proved::tty#BuildsTerminalAt): the address was refused; or a new driver over a backend at this address was started: by `init` and then `test_loopback`, up to the first refusal.
+    ///   - [`PortStep`](crate::proved::pio#PortStep): the object makes the access at the port base + offset, and the base does not change.
+    ///   - [`IsAtPorts`](crate::proved::pio#IsAtPorts): the registers are at the ports from this one on, and this object accesses them.
+    ///   - [`IsPortRefusal`](crate::proved::pio#IsPortRefusal): why no registers can be at the ports from this one on: the last of them would be beyond the last port.
+    ///
+    /// <details><summary>The clauses</summary>
+    ///
+    /// [How to read them](uart_spec::proved):
+    ///
+    /// ```text
+    /// requires { IsComputable config }
+    /// ensures { BuildsTerminalAt (PortStep P.step) (λ ports. IsAtPorts ports base_port access) (IsPortRefusal base_port) config result }
+    /// ```
+    ///
+    /// </details>
     pub fn new_port(base_port: u16, access: P, config: Config) -> Result<Self, Uart16550TtyError> {
         match Uart16550::new_port(base_port, access) {
             Ok(driver) => Self::start(driver, config),
@@ -150,6 +187,26 @@ impl<M: ByteAccess> Uart16550Tty<MmioBackend<M>> {
     /// let tty = Uart16550Tty::new_mmio(base, 4, device(), Config::DEFAULT)?;
     /// # Ok(()) }
     /// ```
+    ///
+    /// # Proved
+    ///
+    /// If [`IsComputable`](uart_spec::proved::config#IsComputable) `config` (frequency and baud rate are not zero, and the prescaler division factor is absent or at most 15):
+    ///
+    /// - [`BuildsTerminalAt`](crate::proved::tty#BuildsTerminalAt): the address was refused; or a new driver over a backend at this address was started: by `init` and then `test_loopback`, up to the first refusal.
+    ///   - [`MemoryStep`](crate::proved::mmio#MemoryStep): the object makes the access at the address base + offset \* stride, and base and stride do not change.
+    ///   - [`IsInMemory`](crate::proved::mmio#IsInMemory): the registers are in memory from this address on, with this distance, and this object accesses them.
+    ///   - [`IsMappingRefusal`](crate::proved::mmio#IsMappingRefusal): why no registers can be in memory from this address on: the stride is checked first.
+    ///
+    /// <details><summary>The clauses</summary>
+    ///
+    /// [How to read them](uart_spec::proved):
+    ///
+    /// ```text
+    /// requires { IsComputable config }
+    /// ensures { BuildsTerminalAt (MemoryStep M.step) (λ mapped. IsInMemory mapped base_address stride access) (IsMappingRefusal (non_zero_usize_get base_address) stride) config result }
+    /// ```
+    ///
+    /// </details>
     pub fn new_mmio(
         base_address: NonZeroUsize,
         stride: u8,
@@ -182,6 +239,26 @@ impl<M: ByteAccess> Uart16550Tty<MmioBackend<M>> {
     /// let tty = Uart16550Tty::new_mmio_from_address(base, 4, device(), Config::DEFAULT)?;
     /// # Ok(()) }
     /// ```
+    ///
+    /// # Proved
+    ///
+    /// If [`IsComputable`](uart_spec::proved::config#IsComputable) `config` (frequency and baud rate are not zero, and the prescaler division factor is absent or at most 15):
+    ///
+    /// - [`BuildsTerminalAt`](crate::proved::tty#BuildsTerminalAt): the address was refused; or a new driver over a backend at this address was started: by `init` and then `test_loopback`, up to the first refusal.
+    ///   - [`MemoryStep`](crate::proved::mmio#MemoryStep): the object makes the access at the address base + offset \* stride, and base and stride do not change.
+    ///   - [`IsInMemory`](crate::proved::mmio#IsInMemory): the registers are in memory from this address on, with this distance, and this object accesses them.
+    ///   - [`IsMappingRefusal`](crate::proved::mmio#IsMappingRefusal): why no registers can be in memory from this address on: the stride is checked first.
+    ///
+    /// <details><summary>The clauses</summary>
+    ///
+    /// [How to read them](uart_spec::proved):
+    ///
+    /// ```text
+    /// requires { IsComputable config }
+    /// ensures { BuildsTerminalAt (MemoryStep M.step) (λ mapped. IsInMemory mapped base_address stride access) (IsMappingRefusal (non_zero_usize_get base_address) stride) config result }
+    /// ```
+    ///
+    /// </details>
     pub fn new_mmio_from_address(
         base_address: NonZeroUsize,
         stride: u8,
@@ -208,6 +285,21 @@ impl<B: Backend> Uart16550Tty<B> {
     /// assert!(writeln!(terminal, "hello").is_ok());
     /// # Ok(()) }
     /// ```
+    ///
+    /// # Proved
+    ///
+    /// - `inner_of result ≡ inner`.
+    ///   - [`inner_of`](crate::proved::tty#inner_of): the driver under a terminal.
+    ///
+    /// <details><summary>The clauses</summary>
+    ///
+    /// [How to read them](uart_spec::proved):
+    ///
+    /// ```text
+    /// ensures { inner_of result ≡ inner }
+    /// ```
+    ///
+    /// </details>
     pub const fn from_inner(inner: Uart16550<B>) -> Self {
         Uart16550Tty { inner }
     }
@@ -223,6 +315,20 @@ impl<B: Backend> Uart16550Tty<B> {
     /// assert_eq!(terminal.inner().fifo_enabled(), fifo_enabled);
     /// # Ok(()) }
     /// ```
+    ///
+    /// # Proved
+    ///
+    /// - Returns [`inner_of`](crate::proved::tty#inner_of) `self.now`: the driver under a terminal.
+    ///
+    /// <details><summary>The clauses</summary>
+    ///
+    /// [How to read them](uart_spec::proved):
+    ///
+    /// ```text
+    /// ensures { result.now ≡ inner_of self.now }
+    /// ```
+    ///
+    /// </details>
     pub const fn inner(&self) -> &Uart16550<B> {
         &self.inner
     }
@@ -240,6 +346,22 @@ impl<B: Backend> Uart16550Tty<B> {
     /// assert_eq!(uart.receive_bytes(&mut slots), 2);
     /// # Ok(()) }
     /// ```
+    ///
+    /// # Proved
+    ///
+    /// - *writes_back*: lends a part of it: what is changed there is changed here, and nothing else.
+    /// - *value*: returns [`inner_of`](crate::proved::tty#inner_of) `self.old`: the driver under a terminal.
+    ///
+    /// <details><summary>The clauses</summary>
+    ///
+    /// [How to read them](uart_spec::proved):
+    ///
+    /// ```text
+    /// ensures* writes_back { sem 𝓛 (Lends (the_row B.row) (driver_row B.row) self.entry result (λ d. record { inner = d })) }
+    /// ensures value { result.now ≡ inner_of self.old }
+    /// ```
+    ///
+    /// </details>
     pub const fn inner_mut(&mut self) -> &mut Uart16550<B> {
         &mut self.inner
     }
@@ -255,6 +377,20 @@ impl<B: Backend> Uart16550Tty<B> {
     /// let uart = terminal.into_inner();
     /// # Ok(()) }
     /// ```
+    ///
+    /// # Proved
+    ///
+    /// - Returns [`inner_of`](crate::proved::tty#inner_of) `self`: the driver under a terminal.
+    ///
+    /// <details><summary>The clauses</summary>
+    ///
+    /// [How to read them](uart_spec::proved):
+    ///
+    /// ```text
+    /// ensures { result ≡ inner_of self }
+    /// ```
+    ///
+    /// </details>
     pub fn into_inner(self) -> Uart16550<B> {
         let Uart16550Tty { inner: uart } = self;
         uart
@@ -295,6 +431,20 @@ impl<B: Backend> Uart16550Tty<B> {
     /// assert_eq!(terminal.write_text("\x7f"), Ok(()));
     /// # Ok(()) }
     /// ```
+    ///
+    /// # Proved
+    ///
+    /// - [Makes accesses as](crate::proved::tty#TerminalMade) [`SendsText`](crate::proved::expansion#SendsText) `text.now result`: the expansion of the text, byte by byte, each after its own wait; or a beginning of it, as long as the error reports, at most 2 ^ 64 - 1, and then a wait that reaches the limit.
+    ///
+    /// <details><summary>The clauses</summary>
+    ///
+    /// [How to read them](uart_spec::proved):
+    ///
+    /// ```text
+    /// ensures { TerminalMade B.step (SendsText text.now result) self.old self.new }
+    /// ```
+    ///
+    /// </details>
     pub fn write_text(&mut self, text: &str) -> Result<(), StalledError> {
         self.write_raw_text(text.as_bytes())
     }
@@ -317,6 +467,20 @@ impl<B: Backend> Uart16550Tty<B> {
     /// assert_eq!(terminal.write_raw_text(b"caf\xe9\n"), Ok(()));
     /// # Ok(()) }
     /// ```
+    ///
+    /// # Proved
+    ///
+    /// - [Makes accesses as](crate::proved::tty#TerminalMade) [`SendsText`](crate::proved::expansion#SendsText) `text.now result`: the expansion of the text, byte by byte, each after its own wait; or a beginning of it, as long as the error reports, at most 2 ^ 64 - 1, and then a wait that reaches the limit.
+    ///
+    /// <details><summary>The clauses</summary>
+    ///
+    /// [How to read them](uart_spec::proved):
+    ///
+    /// ```text
+    /// ensures { TerminalMade B.step (SendsText text.now result) self.old self.new }
+    /// ```
+    ///
+    /// </details>
     pub fn write_raw_text(&mut self, text: &[u8]) -> Result<(), StalledError> {
         // An expansion may be three times as long as its text. So its length need not fit into a
         // `usize`, and the count of a stall ends at the largest one.

@@ -53,3 +53,5 @@ pub use uart_spec::registers::flag;
 pub use wire::{HeapWire, Wire, send};
 
 mod by_hand;
+
+pub mod proved;

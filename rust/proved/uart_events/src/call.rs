@@ -116,6 +116,20 @@ pub enum Call {
 impl Call {
     /// Returns whether the call can be made: a count is at most [`CALL_BYTES`], and a configuration
     /// is computable.
+    ///
+    /// # Proved
+    ///
+    /// - It returns `true` exactly if [`IsRunnable`](crate::proved::calls#IsRunnable) `self.now`: a count is at most that of a call's bytes, and a configuration is computable.
+    ///
+    /// <details><summary>The clauses</summary>
+    ///
+    /// [How to read them](uart_spec::proved):
+    ///
+    /// ```text
+    /// ensures { IsTrue result ↔ IsRunnable self.now }
+    /// ```
+    ///
+    /// </details>
     pub fn is_runnable(&self) -> bool {
         match self {
             Call::Init(config)

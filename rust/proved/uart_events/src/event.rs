@@ -68,6 +68,21 @@ impl Event {
 }
 
 /// Returns the number of arrivals among these events.
+///
+/// # Proved
+///
+/// - Returns `count_by spec.is_arrival events.now`.
+///   - [`is_arrival`](crate::proved::build#is_arrival): the event is an arrival.
+///
+/// <details><summary>The clauses</summary>
+///
+/// [How to read them](uart_spec::proved):
+///
+/// ```text
+/// ensures { result ≡ count_by spec.is_arrival events.now }
+/// ```
+///
+/// </details>
 pub fn arrivals(events: &[Event]) -> usize {
     events.iter().filter(|event| event.is_arrival()).count()
 }
@@ -84,6 +99,20 @@ fn first_bad_lines(events: &[Event]) -> Option<usize> {
 
 /// Returns why no machine can be built, however much memory there is: the first reason in the order
 /// of [`BuildError`].
+///
+/// # Proved
+///
+/// - Returns [`refusal`](crate::proved::build#refusal) `char_ticks wire_capacity events.now`: why no machine is built, however much memory there is: the first reason in the order ticks, wire, errors, lines.
+///
+/// <details><summary>The clauses</summary>
+///
+/// [How to read them](uart_spec::proved):
+///
+/// ```text
+/// ensures { result ≡ spec.refusal char_ticks wire_capacity events.now }
+/// ```
+///
+/// </details>
 pub fn refusal(char_ticks: u16, wire_capacity: usize, events: &[Event]) -> Option<BuildError> {
     if char_ticks == 0 || char_ticks > MAX_CHAR_TICKS {
         Some(BuildError::BadTicks)

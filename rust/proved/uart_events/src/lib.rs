@@ -25,3 +25,5 @@ pub use call::{Answer, CALL_BYTES, Call};
 pub use event::{
     ArrivalMark, BuildError, Chip, Event, MAX_CHAR_TICKS, MAX_WIRE_CAPACITY, arrivals, refusal,
 };
+
+pub mod proved;

@@ -21,6 +21,20 @@ pub struct FixedFifo<T> {
 
 impl<T: Copy> FixedFifo<T> {
     /// Returns an empty queue, whose unused places hold `item`.
+    ///
+    /// # Proved
+    ///
+    /// - Returns `[]`.
+    ///
+    /// <details><summary>The clauses</summary>
+    ///
+    /// [How to read them](uart_spec::proved):
+    ///
+    /// ```text
+    /// ensures { result ≡ [] }
+    /// ```
+    ///
+    /// </details>
     pub fn new(item: T) -> Self {
         FixedFifo {
             slots: [item; FIFO_SIZE],
@@ -76,6 +90,25 @@ pub struct FixedWire {
 
 impl FixedWire {
     /// Returns an empty wire with room for `capacity` bytes.
+    ///
+    /// # Proved
+    ///
+    /// If `capacity ≤ WIRE_ROOM`:
+    ///
+    /// - *bytes*: `result.bytes` is `[]`.
+    /// - *capacity*: `result.capacity` is `capacity`.
+    ///
+    /// <details><summary>The clauses</summary>
+    ///
+    /// [How to read them](uart_spec::proved):
+    ///
+    /// ```text
+    /// requires { capacity ≤ WIRE_ROOM }
+    /// ensures bytes { result.bytes ≡ [] }
+    /// ensures capacity { result.capacity ≡ capacity }
+    /// ```
+    ///
+    /// </details>
     pub fn new(capacity: usize) -> Self {
         FixedWire {
             slots: [0; WIRE_PLACES],

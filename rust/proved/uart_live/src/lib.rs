@@ -26,3 +26,5 @@ pub use uart_chip::{
 };
 
 mod by_hand;
+
+pub mod proved;

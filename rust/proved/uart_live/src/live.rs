@@ -80,6 +80,25 @@ impl LiveChip {
     /// LiveChip::new(Chip::Uart16550A, 4, 64)
     /// # }
     /// ```
+    ///
+    /// # Proved
+    ///
+    /// - *built*: if it returns `Ok live`: `live` is [`fresh`](uart_chip::proved::chip#fresh) `chip char_ticks wire_capacity 0`: a chip after power-on, for a schedule with this number of arrivals.
+    /// - *refused*: for each `reason`: if `refusal char_ticks wire_capacity ≡ Some reason`: returns `Err reason`.
+    ///   - [`refusal`](crate::proved::refused#refusal): why no chip is made, if none is: the ticks of a character are not in their range, or else the wire has room for too much.
+    /// - *accepted*: if `refusal char_ticks wire_capacity ≡ None`: returns `Ok`.
+    ///
+    /// <details><summary>The clauses</summary>
+    ///
+    /// [How to read them](uart_spec::proved):
+    ///
+    /// ```text
+    /// ensures built { IfOk result (λ live. live ≡ spec.fresh chip char_ticks wire_capacity 0) }
+    /// ensures refused { (reason : ChipError) → refusal char_ticks wire_capacity ≡ Some reason → result ≡ Err reason }
+    /// ensures accepted { refusal char_ticks wire_capacity ≡ None → IsOk result }
+    /// ```
+    ///
+    /// </details>
     pub fn new(chip: Chip, char_ticks: u16, wire_capacity: usize) -> Result<Self, ChipError> {
         if let Some(reason) = refusal(char_ticks, wire_capacity) {
             return Err(reason);
@@ -116,6 +135,25 @@ impl LiveChip {
     /// let line = chip.is_interrupting();
     /// # Ok(()) }
     /// ```
+    ///
+    /// # Proved
+    ///
+    /// If `offset < NUM_REGISTERS`:
+    ///
+    /// - *answers*: returns [`answer`](uart_chip::proved::chip#answer) `offset self.old`: what a read of the register returns.
+    /// - *after*: `self` becomes [`after_read`](uart_chip::proved::chip#after_read) `offset self.old`: the chip after a read of the register.
+    ///
+    /// <details><summary>The clauses</summary>
+    ///
+    /// [How to read them](uart_spec::proved):
+    ///
+    /// ```text
+    /// requires { offset < NUM_REGISTERS }
+    /// ensures answers { result ≡ spec.answer offset self.old }
+    /// ensures after { self.new ≡ spec.after_read offset self.old }
+    /// ```
+    ///
+    /// </details>
     #[inline]
     pub fn read(&mut self, offset: u8) -> u8 {
         self.uart.read(offset)
@@ -140,6 +178,23 @@ impl LiveChip {
     /// chip.ticks(elapsed);
     /// # Ok(()) }
     /// ```
+    ///
+    /// # Proved
+    ///
+    /// If `offset < NUM_REGISTERS`:
+    ///
+    /// - `self` becomes [`after_write`](uart_chip::proved::chip#after_write) `offset value self.old`: the chip after a write of a register; a byte for the transmitter is cut to the word length before it is queued.
+    ///
+    /// <details><summary>The clauses</summary>
+    ///
+    /// [How to read them](uart_spec::proved):
+    ///
+    /// ```text
+    /// requires { offset < NUM_REGISTERS }
+    /// ensures { self.new ≡ spec.after_write offset value self.old }
+    /// ```
+    ///
+    /// </details>
     pub fn write(&mut self, offset: u8, value: u8) {
         self.uart.write(offset, value);
     }
@@ -161,6 +216,22 @@ impl LiveChip {
     /// }
     /// # Ok(()) }
     /// ```
+    ///
+    /// # Proved
+    ///
+    /// - *sends*: returns [`sends_at_once`](uart_chip::proved::sending#sends_at_once) `self.now`: a byte that is written to DATA would be on the wire at once: DLAB and loopback are off, the transmitter holds nothing, and the wire has room.
+    /// - *live*: [`IsLive`](crate::proved::live#IsLive) `self.now`: the chip is sound and has nothing of a schedule: no event is to come, no arrival has a mark, none can be lost unnoticed; the wire has room for at most as much as a wire may have.
+    ///
+    /// <details><summary>The clauses</summary>
+    ///
+    /// [How to read them](uart_spec::proved):
+    ///
+    /// ```text
+    /// ensures sends { result ≡ sending_spec.sends_at_once self.now }
+    /// ensures live { IsLive self.now }
+    /// ```
+    ///
+    /// </details>
     #[inline]
     pub fn sends_at_once(&self) -> bool {
         self.uart.sends_at_once()
@@ -189,6 +260,23 @@ impl LiveChip {
     /// }
     /// # Ok(()) }
     /// ```
+    ///
+    /// # Proved
+    ///
+    /// If `sending_spec.sends_at_once self.old ≡ true` (a byte that is written to DATA would be on the wire at once: DLAB and loopback are off, the transmitter holds nothing, and the wire has room):
+    ///
+    /// - `self` becomes [`send_at_once`](uart_chip::proved::sending#send_at_once) `value self.old`: the byte, cut to the word length, is on the wire, and THR became empty, which is an interrupt; no time passed.
+    ///
+    /// <details><summary>The clauses</summary>
+    ///
+    /// [How to read them](uart_spec::proved):
+    ///
+    /// ```text
+    /// requires { sending_spec.sends_at_once self.old ≡ true }
+    /// ensures { self.new ≡ sending_spec.send_at_once value self.old }
+    /// ```
+    ///
+    /// </details>
     #[inline]
     pub fn send_at_once(&mut self, value: u8) {
         self.uart.send_at_once(value);
@@ -200,6 +288,29 @@ impl LiveChip {
     ///
     /// If the wire is empty, this does the same as `send_at_once` and `take_wire(1)`, whatever the
     /// byte is.
+    ///
+    /// # Proved
+    ///
+    /// - *sends*: returns [`sends_at_once`](uart_chip::proved::sending#sends_at_once) `self.old`: a byte that is written to DATA would be on the wire at once: DLAB and loopback are off, the transmitter holds nothing, and the wire has room.
+    /// - *passed*: if it returns `true`: `self` becomes [`passed`](crate::proved::quick#passed) `self.old`: a byte that was written to DATA was taken past the wire: THR became empty, which is an interrupt, and nothing else is new.
+    /// - *after*: for each `value`: if it returns `true`, and `self.old.transmitter.wire ≡ []`: `self` becomes [`take_wire`](uart_chip::proved::chip#take_wire) `1 (sending_spec.send_at_once value self.old)`: a number of bytes are taken from the front of the wire.
+    ///   - [`send_at_once`](uart_chip::proved::sending#send_at_once): the byte, cut to the word length, is on the wire, and THR became empty, which is an interrupt; no time passed.
+    /// - *left*: if it returns `false`: nothing changes.
+    /// - *live*: [`IsLive`](crate::proved::live#IsLive) `self.old`: the chip is sound and has nothing of a schedule: no event is to come, no arrival has a mark, none can be lost unnoticed; the wire has room for at most as much as a wire may have.
+    ///
+    /// <details><summary>The clauses</summary>
+    ///
+    /// [How to read them](uart_spec::proved):
+    ///
+    /// ```text
+    /// ensures sends { result ≡ sending_spec.sends_at_once self.old }
+    /// ensures passed { result ≡ true → self.new ≡ passed self.old }
+    /// ensures after { (value : ℕ) → result ≡ true → self.old.transmitter.wire ≡ [] → self.new ≡ spec.take_wire 1 (sending_spec.send_at_once value self.old) }
+    /// ensures left { result ≡ false → self.new ≡ self.old }
+    /// ensures live { IsLive self.old }
+    /// ```
+    ///
+    /// </details>
     #[inline]
     pub fn pass_wire(&mut self) -> bool {
         let sends = self.uart.sends_at_once();
@@ -211,6 +322,20 @@ impl LiveChip {
 
     /// Returns the byte that is sent if the guest writes this value to DATA: cut to the word length
     /// if the chip cuts characters, else the value itself.
+    ///
+    /// # Proved
+    ///
+    /// - Returns [`cut_of`](uart_chip::proved::chip#cut_of) `self.now value`: a byte as the chip sends and receives it now: cut to its word length, if the chip has the option.
+    ///
+    /// <details><summary>The clauses</summary>
+    ///
+    /// [How to read them](uart_spec::proved):
+    ///
+    /// ```text
+    /// ensures { result ≡ spec.cut_of self.now value }
+    /// ```
+    ///
+    /// </details>
     #[inline]
     pub fn cut(&self, value: u8) -> u8 {
         cut(&self.uart, value)
@@ -220,6 +345,25 @@ impl LiveChip {
     /// nothing changes.
     ///
     /// The effect is that of [`LiveChip::arrive`]. Most input is of this kind.
+    ///
+    /// # Proved
+    ///
+    /// - *room*: returns `not (spec.receive_room self.old == 0)`.
+    ///   - [`receive_room`](uart_chip::proved::chip#receive_room): how many characters can arrive before one is lost; in loopback each one is lost.
+    /// - *arrived*: if it returns `true`: `self` becomes [`arrive_live`](uart_chip::proved::chip#arrive_live) `byte 0 self.old`: a character arrives without a schedule, cut to the word length.
+    /// - *left*: if it returns `false`: nothing changes.
+    ///
+    /// <details><summary>The clauses</summary>
+    ///
+    /// [How to read them](uart_spec::proved):
+    ///
+    /// ```text
+    /// ensures room { result ≡ not (spec.receive_room self.old == 0) }
+    /// ensures arrived { result ≡ true → self.new ≡ spec.arrive_live byte 0 self.old }
+    /// ensures left { result ≡ false → self.new ≡ self.old }
+    /// ```
+    ///
+    /// </details>
     #[inline]
     pub fn arrive_in_room(&mut self, byte: u8) -> bool {
         let room = room_of(self.uart.fifo());
@@ -240,12 +384,46 @@ impl LiveChip {
     }
 
     /// Returns whether the guest has an interrupt enabled. If not, the interrupt line is down.
+    ///
+    /// # Proved
+    ///
+    /// - *on*: returns `not (self.now.latches.ier == 0)`.
+    /// - *live*: [`IsLive`](crate::proved::live#IsLive) `self.now`: the chip is sound and has nothing of a schedule: no event is to come, no arrival has a mark, none can be lost unnoticed; the wire has room for at most as much as a wire may have.
+    ///
+    /// <details><summary>The clauses</summary>
+    ///
+    /// [How to read them](uart_spec::proved):
+    ///
+    /// ```text
+    /// ensures on { result ≡ not (self.now.latches.ier == 0) }
+    /// ensures live { IsLive self.now }
+    /// ```
+    ///
+    /// </details>
     #[inline]
     pub fn has_interrupts_on(&self) -> bool {
         !self.uart.ier().is_empty()
     }
 
     /// Reads DATA for the guest, as [`LiveChip::read`] does.
+    ///
+    /// # Proved
+    ///
+    /// - *answers*: returns [`answer`](uart_chip::proved::chip#answer) `offsets.DATA self.old`: what a read of the register returns.
+    /// - *after*: `self` becomes [`after_read`](uart_chip::proved::chip#after_read) `offsets.DATA self.old`: the chip after a read of the register.
+    /// - *live*: [`IsLive`](crate::proved::live#IsLive) `self.old`: the chip is sound and has nothing of a schedule: no event is to come, no arrival has a mark, none can be lost unnoticed; the wire has room for at most as much as a wire may have.
+    ///
+    /// <details><summary>The clauses</summary>
+    ///
+    /// [How to read them](uart_spec::proved):
+    ///
+    /// ```text
+    /// ensures answers { result ≡ spec.answer offsets.DATA self.old }
+    /// ensures after { self.new ≡ spec.after_read offsets.DATA self.old }
+    /// ensures live { IsLive self.old }
+    /// ```
+    ///
+    /// </details>
     #[inline]
     pub fn read_data(&mut self) -> u8 {
         if self.uart.is_dlab_set() {
@@ -259,6 +437,26 @@ impl LiveChip {
     ///
     /// The value and the effect are those of [`LiveChip::read`]. A guest that waits makes this read
     /// again and again.
+    ///
+    /// # Proved
+    ///
+    /// - *value*: returns [`clear_status`](crate::proved::quick#clear_status) `self.old`: what a read of LSR returns, if it shows no error and no character that waits has one.
+    /// - *read*: if it returns `Some`: `self` becomes [`after_read`](uart_chip::proved::chip#after_read) `offsets.LSR self.old`: the chip after a read of the register.
+    /// - *left*: if it returns `None`: nothing changes.
+    /// - *live*: [`IsLive`](crate::proved::live#IsLive) `self.old`: the chip is sound and has nothing of a schedule: no event is to come, no arrival has a mark, none can be lost unnoticed; the wire has room for at most as much as a wire may have.
+    ///
+    /// <details><summary>The clauses</summary>
+    ///
+    /// [How to read them](uart_spec::proved):
+    ///
+    /// ```text
+    /// ensures value { result ≡ clear_status self.old }
+    /// ensures read { is_some result ≡ true → self.new ≡ spec.after_read offsets.LSR self.old }
+    /// ensures left { is_some result ≡ false → self.new ≡ self.old }
+    /// ensures live { IsLive self.old }
+    /// ```
+    ///
+    /// </details>
     #[inline]
     pub fn read_clear_status(&mut self) -> Option<u8> {
         if self.uart.receiver().has_errors() {
@@ -294,6 +492,25 @@ impl LiveChip {
     /// chip.ticks(elapsed);
     /// # Ok(()) }
     /// ```
+    ///
+    /// # Proved
+    ///
+    /// - *after*: `self` becomes [`ticks`](uart_chip::proved::chip#ticks) `count self.old`: the chip after so many ticks.
+    /// - *jumps*: returns [`jumps_in`](uart_chip::proved::jumps#jumps_in) `count self.old`: how many jumps so many ticks are: each ends with a tick in which a character moves, and the last one with the last tick.
+    /// - *most*: `result ≤ most_jumps`.
+    ///   - [`most_jumps`](uart_chip::proved::jumps#most_jumps): the most jumps that any number of ticks takes: one for each of 16 characters in the queue, and for the one that enters or leaves the shift register, and one for what is left.
+    ///
+    /// <details><summary>The clauses</summary>
+    ///
+    /// [How to read them](uart_spec::proved):
+    ///
+    /// ```text
+    /// ensures after { self.new ≡ spec.ticks count self.old }
+    /// ensures jumps { result ≡ jumps_in count self.old }
+    /// ensures most { result ≤ most_jumps }
+    /// ```
+    ///
+    /// </details>
     pub fn ticks(&mut self, count: u16) -> usize {
         self.uart.ticks(count)
     }
@@ -321,6 +538,23 @@ impl LiveChip {
     /// }
     /// # Ok(()) }
     /// ```
+    ///
+    /// # Proved
+    ///
+    /// - *accepted*: if [`IsWithin`](uart_spec::proved::bits#IsWithin) `errors.0 LSR.CHARACTER_ERRORS.0`: returns `Ok`, and `self` becomes [`arrive_live`](uart_chip::proved::chip#arrive_live) `byte errors.0 self.old`: a character arrives without a schedule, cut to the word length.
+    ///   - [`IsWithin`](uart_spec::proved::bits#IsWithin): no bit outside of the mask is set.
+    /// - *refused*: if `bit_and errors.0 LSR.CHARACTER_ERRORS.0 ≢ errors.0`: returns `Err InputError.BadErrors`, and nothing changes.
+    ///
+    /// <details><summary>The clauses</summary>
+    ///
+    /// [How to read them](uart_spec::proved):
+    ///
+    /// ```text
+    /// ensures accepted { IsWithin errors.0 LSR.CHARACTER_ERRORS.0 → IsOk result × (self.new ≡ spec.arrive_live byte errors.0 self.old) }
+    /// ensures refused { bit_and errors.0 LSR.CHARACTER_ERRORS.0 ≢ errors.0 → (result ≡ Err InputError.BadErrors) × (self.new ≡ self.old) }
+    /// ```
+    ///
+    /// </details>
     #[inline]
     pub fn arrive(&mut self, byte: u8, errors: LSR) -> Result<(), InputError> {
         if errors.intersection(LSR::CHARACTER_ERRORS) != errors {
@@ -352,6 +586,23 @@ impl LiveChip {
     /// }
     /// # Ok(()) }
     /// ```
+    ///
+    /// # Proved
+    ///
+    /// - *accepted*: if [`IsWithin`](uart_spec::proved::bits#IsWithin) `errors.0 LSR.CHARACTER_ERRORS.0`: returns `Ok`, and `self` becomes [`arrive_holding`](crate::proved::held#arrive_holding) `byte errors.0 self.old`: a character arrives, and a timeout that is due stays due.
+    ///   - [`IsWithin`](uart_spec::proved::bits#IsWithin): no bit outside of the mask is set.
+    /// - *refused*: if `bit_and errors.0 LSR.CHARACTER_ERRORS.0 ≢ errors.0`: returns `Err InputError.BadErrors`, and nothing changes.
+    ///
+    /// <details><summary>The clauses</summary>
+    ///
+    /// [How to read them](uart_spec::proved):
+    ///
+    /// ```text
+    /// ensures accepted { IsWithin errors.0 LSR.CHARACTER_ERRORS.0 → IsOk result × (self.new ≡ arrive_holding byte errors.0 self.old) }
+    /// ensures refused { bit_and errors.0 LSR.CHARACTER_ERRORS.0 ≢ errors.0 → (result ≡ Err InputError.BadErrors) × (self.new ≡ self.old) }
+    /// ```
+    ///
+    /// </details>
     pub fn arrive_holding_timeout(&mut self, byte: u8, errors: LSR) -> Result<(), InputError> {
         // The receiver's count of ticks says whether a timeout is due. So no bit has to be kept and
         // saved for a held timeout, and every other contract is as it was.
@@ -379,6 +630,23 @@ impl LiveChip {
     /// chip.set_lines(MSR::CTS.union(MSR::DSR))?;
     /// # Ok(()) }
     /// ```
+    ///
+    /// # Proved
+    ///
+    /// - *accepted*: if [`IsWithin`](uart_spec::proved::bits#IsWithin) `inputs.0 MSR.LINES.0`: returns `Ok`, and `self` becomes [`change_lines`](uart_chip::proved::chip#change_lines) `inputs.0 self.old`: the modem's inputs change.
+    ///   - [`IsWithin`](uart_spec::proved::bits#IsWithin): no bit outside of the mask is set.
+    /// - *refused*: if `bit_and inputs.0 MSR.LINES.0 ≢ inputs.0`: returns `Err InputError.BadLines`, and nothing changes.
+    ///
+    /// <details><summary>The clauses</summary>
+    ///
+    /// [How to read them](uart_spec::proved):
+    ///
+    /// ```text
+    /// ensures accepted { IsWithin inputs.0 MSR.LINES.0 → IsOk result × (self.new ≡ spec.change_lines inputs.0 self.old) }
+    /// ensures refused { bit_and inputs.0 MSR.LINES.0 ≢ inputs.0 → (result ≡ Err InputError.BadLines) × (self.new ≡ self.old) }
+    /// ```
+    ///
+    /// </details>
     pub fn set_lines(&mut self, inputs: MSR) -> Result<(), InputError> {
         if inputs.intersection(MSR::LINES) != inputs {
             return Err(InputError::BadLines);
@@ -406,6 +674,27 @@ impl LiveChip {
     /// }
     /// # }
     /// ```
+    ///
+    /// # Proved
+    ///
+    /// - *pending*: returns `is_some (spec.interrupt self.now)`.
+    ///   - [`interrupt`](uart_chip::proved::chip#interrupt): the interrupt of the highest priority among those that are enabled and pending.
+    /// - *shown*: returns `not (has_any (spec.answer offsets.ISR self.now) ISR.INTERRUPT_STATUS.0)`.
+    ///   - [`has_any`](uart_spec::proved::bits#has_any): the value has at least one of these bits.
+    ///   - [`answer`](uart_chip::proved::chip#answer): what a read of the register returns.
+    /// - *live*: [`IsLive`](crate::proved::live#IsLive) `self.now`: the chip is sound and has nothing of a schedule: no event is to come, no arrival has a mark, none can be lost unnoticed; the wire has room for at most as much as a wire may have.
+    ///
+    /// <details><summary>The clauses</summary>
+    ///
+    /// [How to read them](uart_spec::proved):
+    ///
+    /// ```text
+    /// ensures pending { result ≡ is_some (spec.interrupt self.now) }
+    /// ensures shown { result ≡ not (has_any (spec.answer offsets.ISR self.now) ISR.INTERRUPT_STATUS.0) }
+    /// ensures live { IsLive self.now }
+    /// ```
+    ///
+    /// </details>
     #[inline]
     pub fn is_interrupting(&self) -> bool {
         self.uart.is_interrupting()
@@ -423,6 +712,20 @@ impl LiveChip {
     /// sink[..sent].copy_from_slice(&chip.wire()[..sent]);
     /// # Ok(()) }
     /// ```
+    ///
+    /// # Proved
+    ///
+    /// - Returns `self.now.transmitter.wire`.
+    ///
+    /// <details><summary>The clauses</summary>
+    ///
+    /// [How to read them](uart_spec::proved):
+    ///
+    /// ```text
+    /// ensures { result.now ≡ self.now.transmitter.wire }
+    /// ```
+    ///
+    /// </details>
     pub fn wire(&self) -> &[u8] {
         self.uart.transmitter().wire()
     }
@@ -439,23 +742,81 @@ impl LiveChip {
     /// chip.take_wire(sent);
     /// # Ok(()) }
     /// ```
+    ///
+    /// # Proved
+    ///
+    /// - `self` becomes [`take_wire`](uart_chip::proved::chip#take_wire) `count self.old`: a number of bytes are taken from the front of the wire.
+    ///
+    /// <details><summary>The clauses</summary>
+    ///
+    /// [How to read them](uart_spec::proved):
+    ///
+    /// ```text
+    /// ensures { self.new ≡ spec.take_wire count self.old }
+    /// ```
+    ///
+    /// </details>
     #[inline]
     pub fn take_wire(&mut self, count: usize) {
         self.uart.take_wire(count);
     }
 
     /// Returns how many more bytes the wire has room for.
+    ///
+    /// # Proved
+    ///
+    /// - *room*: returns `self.now.transmitter.capacity - length self.now.transmitter.wire`.
+    /// - *live*: [`IsLive`](crate::proved::live#IsLive) `self.now`: the chip is sound and has nothing of a schedule: no event is to come, no arrival has a mark, none can be lost unnoticed; the wire has room for at most as much as a wire may have.
+    ///
+    /// <details><summary>The clauses</summary>
+    ///
+    /// [How to read them](uart_spec::proved):
+    ///
+    /// ```text
+    /// ensures room { result ≡ self.now.transmitter.capacity - length self.now.transmitter.wire }
+    /// ensures live { IsLive self.now }
+    /// ```
+    ///
+    /// </details>
     #[inline]
     pub fn wire_room(&self) -> usize {
         self.uart.transmitter().wire_room()
     }
 
     /// Returns whether what the guest sends comes back to its receiver.
+    ///
+    /// # Proved
+    ///
+    /// - Returns [`is_loopback`](uart_chip::proved::chip#is_loopback) `self.now.latches`: whether what leaves the transmitter comes back to the receiver.
+    ///
+    /// <details><summary>The clauses</summary>
+    ///
+    /// [How to read them](uart_spec::proved):
+    ///
+    /// ```text
+    /// ensures { result ≡ spec.is_loopback self.now.latches }
+    /// ```
+    ///
+    /// </details>
     pub fn is_loopback(&self) -> bool {
         self.uart.is_loopback()
     }
 
     /// Returns whether the guest has DLAB set: then DATA and IER are the divisor latch.
+    ///
+    /// # Proved
+    ///
+    /// - Returns [`is_dlab_set`](uart_chip::proved::chip#is_dlab_set) `self.now.latches`: whether offsets 0 and 1 are the divisor latch.
+    ///
+    /// <details><summary>The clauses</summary>
+    ///
+    /// [How to read them](uart_spec::proved):
+    ///
+    /// ```text
+    /// ensures { result ≡ spec.is_dlab_set self.now.latches }
+    /// ```
+    ///
+    /// </details>
     pub fn is_dlab_set(&self) -> bool {
         self.uart.is_dlab_set()
     }
@@ -464,11 +825,39 @@ impl LiveChip {
     ///
     /// The chip has no line, so what the guest writes in a break is on the wire all the same. On a
     /// real line it would be lost.
+    ///
+    /// # Proved
+    ///
+    /// - Returns [`has_any`](uart_spec::proved::bits#has_any) `self.now.latches.lcr LCR.SET_BREAK.0`: the value has at least one of these bits.
+    ///
+    /// <details><summary>The clauses</summary>
+    ///
+    /// [How to read them](uart_spec::proved):
+    ///
+    /// ```text
+    /// ensures { result ≡ has_any self.now.latches.lcr LCR.SET_BREAK.0 }
+    /// ```
+    ///
+    /// </details>
     pub fn is_breaking(&self) -> bool {
         self.uart.lcr().intersects(LCR::SET_BREAK)
     }
 
     /// Returns whether the guest has the FIFOs on.
+    ///
+    /// # Proved
+    ///
+    /// - Returns `self.now.fifo`.
+    ///
+    /// <details><summary>The clauses</summary>
+    ///
+    /// [How to read them](uart_spec::proved):
+    ///
+    /// ```text
+    /// ensures { result ≡ self.now.fifo }
+    /// ```
+    ///
+    /// </details>
     pub fn has_fifo_on(&self) -> bool {
         self.uart.fifo()
     }
@@ -477,6 +866,20 @@ impl LiveChip {
     ///
     /// For an owner who lets no time pass between a character and its timeout. While nothing moves
     /// in the transmitter, this is what four character times do. Check `is_interrupting` after it.
+    ///
+    /// # Proved
+    ///
+    /// - `self` becomes [`expire`](crate::proved::held#expire) `self.old`: the ticks towards a reception timeout are at their limit.
+    ///
+    /// <details><summary>The clauses</summary>
+    ///
+    /// [How to read them](uart_spec::proved):
+    ///
+    /// ```text
+    /// ensures { self.new ≡ expire self.old }
+    /// ```
+    ///
+    /// </details>
     pub fn expire_timeout(&mut self) {
         self.uart.expire_timeout();
     }
@@ -494,26 +897,98 @@ impl LiveChip {
     /// }
     /// # Ok(()) }
     /// ```
+    ///
+    /// # Proved
+    ///
+    /// - Returns [`receive_room`](uart_chip::proved::chip#receive_room) `self.now`: how many characters can arrive before one is lost; in loopback each one is lost.
+    ///
+    /// <details><summary>The clauses</summary>
+    ///
+    /// [How to read them](uart_spec::proved):
+    ///
+    /// ```text
+    /// ensures { result ≡ spec.receive_room self.now }
+    /// ```
+    ///
+    /// </details>
     pub fn receive_room(&self) -> usize {
         self.uart.receive_room()
     }
 
     /// Returns the number of received characters that the guest has not read.
+    ///
+    /// # Proved
+    ///
+    /// - Returns `length (waiting self.now.receiver)`.
+    ///   - [`waiting`](uart_chip::proved::receiver#waiting): the received bytes that have not been read.
+    ///
+    /// <details><summary>The clauses</summary>
+    ///
+    /// [How to read them](uart_spec::proved):
+    ///
+    /// ```text
+    /// ensures { result ≡ length (waiting self.now.receiver) }
+    /// ```
+    ///
+    /// </details>
     pub fn waiting_len(&self) -> usize {
         self.uart.receiver().waiting_len()
     }
 
     /// Returns the number of bytes in the transmitter, which are still to be sent.
+    ///
+    /// # Proved
+    ///
+    /// - Returns `length (held self.now.transmitter)`.
+    ///   - [`held`](uart_chip::proved::transmitter#held): what is still to be sent, in order.
+    ///
+    /// <details><summary>The clauses</summary>
+    ///
+    /// [How to read them](uart_spec::proved):
+    ///
+    /// ```text
+    /// ensures { result ≡ length (held self.now.transmitter) }
+    /// ```
+    ///
+    /// </details>
     pub fn held_len(&self) -> usize {
         self.uart.transmitter().held_len()
     }
 
     /// Returns the divisor in the divisor latch, from which the baud rate follows.
+    ///
+    /// # Proved
+    ///
+    /// - Returns [`divisor`](uart_chip::proved::chip#divisor) `self.now.latches`: what the divisor latch holds.
+    ///
+    /// <details><summary>The clauses</summary>
+    ///
+    /// [How to read them](uart_spec::proved):
+    ///
+    /// ```text
+    /// ensures { result ≡ spec.divisor self.now.latches }
+    /// ```
+    ///
+    /// </details>
     pub fn divisor(&self) -> u16 {
         self.uart.divisor()
     }
 
     /// Returns how many writes of DATA found no room in the transmitter, up to `u64::MAX`.
+    ///
+    /// # Proved
+    ///
+    /// - Returns `self.now.transmitter.overflows`.
+    ///
+    /// <details><summary>The clauses</summary>
+    ///
+    /// [How to read them](uart_spec::proved):
+    ///
+    /// ```text
+    /// ensures { result ≡ self.now.transmitter.overflows }
+    /// ```
+    ///
+    /// </details>
     pub fn overflows(&self) -> u64 {
         self.uart.transmitter().overflows()
     }

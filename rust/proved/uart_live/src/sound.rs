@@ -18,6 +18,20 @@ pub const TIMEOUT_CHARACTERS: u16 = 4;
 
 /// Returns whether a character may wait in a live chip: it is no arrival of a schedule, and has
 /// only errors of a character.
+///
+/// # Proved
+///
+/// - Returns [`is_live_character`](crate::proved::saved#is_live_character) `character.now`: a character without a schedule, with only errors of a character.
+///
+/// <details><summary>The clauses</summary>
+///
+/// [How to read them](uart_spec::proved):
+///
+/// ```text
+/// ensures { result ≡ spec.is_live_character character.now }
+/// ```
+///
+/// </details>
 pub fn is_live_character(character: &Character) -> bool {
     let errors = LSR::from_bits_retain(character.errors);
     let is_unscheduled = match character.origin {
@@ -41,6 +55,20 @@ fn is_sound_receiver(saved: &ReceiverData, fifo: bool, char_ticks: u16) -> bool 
 
 /// Returns whether a character in the shift register has at least one tick left, and at most its
 /// whole time.
+///
+/// # Proved
+///
+/// - Returns [`is_ticking`](crate::proved::saved#is_ticking) `char_ticks shift_register`: a character in the shift register has at least one tick left, and at most its whole time.
+///
+/// <details><summary>The clauses</summary>
+///
+/// [How to read them](uart_spec::proved):
+///
+/// ```text
+/// ensures { result ≡ spec.is_ticking char_ticks shift_register }
+/// ```
+///
+/// </details>
 pub fn is_ticking(char_ticks: u16, shift_register: Option<Shifting>) -> bool {
     match shift_register {
         None => true,
@@ -49,6 +77,20 @@ pub fn is_ticking(char_ticks: u16, shift_register: Option<Shifting>) -> bool {
 }
 
 /// Returns whether a character may take so many ticks.
+///
+/// # Proved
+///
+/// - Returns [`is_char_time`](crate::proved::saved#is_char_time) `char_ticks`: the ticks of a character are in their range.
+///
+/// <details><summary>The clauses</summary>
+///
+/// [How to read them](uart_spec::proved):
+///
+/// ```text
+/// ensures { result ≡ spec.is_char_time char_ticks }
+/// ```
+///
+/// </details>
 pub fn is_char_time(char_ticks: u16) -> bool {
     1 <= char_ticks && char_ticks <= MAX_CHAR_TICKS
 }
@@ -62,6 +104,20 @@ fn is_sound_transmitter(saved: &TransmitterData, fifo: bool, wire: &[u8]) -> boo
 }
 
 /// Returns whether inputs and lines have bits of lines alone, and changes bits of changes.
+///
+/// # Proved
+///
+/// - Returns [`is_sound_modem`](crate::proved::saved#is_sound_modem) `saved`: whether the modem lines and their changes are sound: none has a bit that is not its own.
+///
+/// <details><summary>The clauses</summary>
+///
+/// [How to read them](uart_spec::proved):
+///
+/// ```text
+/// ensures { result ≡ spec.is_sound_modem saved }
+/// ```
+///
+/// </details>
 pub fn is_sound_modem(saved: ModemData) -> bool {
     saved.inputs.intersection(MSR::LINES) == saved.inputs
         && saved.lines.intersection(MSR::LINES) == saved.lines
@@ -69,12 +125,43 @@ pub fn is_sound_modem(saved: ModemData) -> bool {
 }
 
 /// Returns whether the two latches that keep only some bits have no others.
+///
+/// # Proved
+///
+/// - *value*: returns [`is_sound_latches`](crate::proved::saved#is_sound_latches) `latches`: whether the latches are sound: IER and MCR have no bit that the chip does not keep.
+/// - *bytes*: [`HoldBytes`](uart_chip::proved::sound#HoldBytes) `(latches_of latches)`: every latch holds a byte.
+///   - [`latches_of`](uart_chip::proved::snapshot#latches_of): the latches as bytes.
+///
+/// <details><summary>The clauses</summary>
+///
+/// [How to read them](uart_spec::proved):
+///
+/// ```text
+/// ensures value { result ≡ spec.is_sound_latches latches }
+/// ensures bytes { HoldBytes (latches_of latches) }
+/// ```
+///
+/// </details>
 pub fn is_sound_latches(latches: Latches) -> bool {
     kept_interrupts(latches.ier) == latches.ier && kept_modem_control(latches.mcr) == latches.mcr
 }
 
 /// Returns whether a chip of this model can have its FIFO as it is: only one that has a FIFO has it
 /// on.
+///
+/// # Proved
+///
+/// - Returns [`is_implemented`](crate::proved::saved#is_implemented) `model fifo`: only a chip that has a FIFO has it on.
+///
+/// <details><summary>The clauses</summary>
+///
+/// [How to read them](uart_spec::proved):
+///
+/// ```text
+/// ensures { result ≡ spec.is_implemented model fifo }
+/// ```
+///
+/// </details>
 pub fn is_implemented(model: Chip, fifo: bool) -> bool {
     match model {
         Chip::Uart16550A => true,
@@ -92,6 +179,23 @@ fn are_sound(saved: &ChipData, wire: &[u8]) -> bool {
 }
 
 /// Returns whether the data, and these bytes on the wire, are those of a live chip.
+///
+/// # Proved
+///
+/// - *sound*: if it returns `true`: [`IsLive`](crate::proved::live#IsLive) `(chip_of saved.now wire.now)`: the chip is sound and has nothing of a schedule: no event is to come, no arrival has a mark, none can be lost unnoticed; the wire has room for at most as much as a wire may have.
+///   - [`chip_of`](uart_chip::proved::snapshot#chip_of): the chip that these data describe, with these bytes on its wire and without a schedule.
+/// - *unsound*: if it returns `false`: it is not so that [`IsLive`](crate::proved::live#IsLive) `(chip_of saved.now wire.now)`.
+///
+/// <details><summary>The clauses</summary>
+///
+/// [How to read them](uart_spec::proved):
+///
+/// ```text
+/// ensures sound { result ≡ true → IsLive (chip_of saved.now wire.now) }
+/// ensures unsound { result ≡ false → IsLive (chip_of saved.now wire.now) → ⊥ }
+/// ```
+///
+/// </details>
 pub fn is_live(saved: &ChipData, wire: &[u8]) -> bool {
     are_sound(saved, wire)
 }

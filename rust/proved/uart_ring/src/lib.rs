@@ -23,3 +23,5 @@ pub use ring::{
 };
 
 mod by_hand;
+
+pub mod proved;

@@ -15,12 +15,70 @@ use uart_spec::registers::IER;
 /// behind pointers, or in places of which some are empty.
 pub trait LinePorts {
     /// Returns how many ports there are.
+    ///
+    /// # To be kept by an implementation
+    ///
+    /// What the proofs take each implementation to do. Nothing checks it of one that is written in Rust.
+    ///
+    /// - Returns `number self.now`.
+    ///
+    /// <details><summary>The clauses</summary>
+    ///
+    /// [How to read them](uart_spec::proved):
+    ///
+    /// ```text
+    /// ensures { result ≡ number self.now }
+    /// ```
+    ///
+    /// </details>
     fn number(&self) -> usize;
 
     /// Makes a `lower_line` at this port. Returns whether an interrupt was served.
+    ///
+    /// # To be kept by an implementation
+    ///
+    /// What the proofs take each implementation to do. Nothing checks it of one that is written in Rust.
+    ///
+    /// If `port < number self.old`:
+    ///
+    /// - *did*: `lowers limit rounds port result self.old self.new`.
+    /// - *number*: `number self.new ≡ number self.old`.
+    ///
+    /// <details><summary>The clauses</summary>
+    ///
+    /// [How to read them](uart_spec::proved):
+    ///
+    /// ```text
+    /// requires { port < number self.old }
+    /// ensures did { lowers limit rounds port result self.old self.new }
+    /// ensures number { number self.new ≡ number self.old }
+    /// ```
+    ///
+    /// </details>
     fn lower(&mut self, port: usize, limit: usize, rounds: u32) -> bool;
 
     /// Makes a `raise_line` at this port, as `lower` has left it.
+    ///
+    /// # To be kept by an implementation
+    ///
+    /// What the proofs take each implementation to do. Nothing checks it of one that is written in Rust.
+    ///
+    /// If `port < number self.old`:
+    ///
+    /// - *did*: `raises port self.old self.new`.
+    /// - *number*: `number self.new ≡ number self.old`.
+    ///
+    /// <details><summary>The clauses</summary>
+    ///
+    /// [How to read them](uart_spec::proved):
+    ///
+    /// ```text
+    /// requires { port < number self.old }
+    /// ensures did { raises port self.old self.new }
+    /// ensures number { number self.new ≡ number self.old }
+    /// ```
+    ///
+    /// </details>
     fn raise(&mut self, port: usize);
 }
 
@@ -50,6 +108,20 @@ pub trait LinePorts {
 /// let has_served = handle_line(&mut ports, 4 * MAX_INTERRUPTS, MAX_UNFINISHED_ROUNDS);
 /// # Ok(()) }
 /// ```
+///
+/// # Proved
+///
+/// - [`HandlesLine`](crate::proved::line#HandlesLine): first the line of each port is lowered, and from then on that of each is raised. In between is a moment at which all are low.
+///
+/// <details><summary>The clauses</summary>
+///
+/// [How to read them](uart_spec::proved):
+///
+/// ```text
+/// ensures { HandlesLine (P.lowers limit rounds) P.raises (P.number ports.old) result ports.old ports.new }
+/// ```
+///
+/// </details>
 pub fn handle_line<P: LinePorts>(ports: &mut P, limit: usize, rounds: u32) -> bool {
     let number = ports.number();
     let mut has_served = false;
@@ -85,6 +157,24 @@ impl<B: Backend> LinePort<B> {
     /// let mut ports = [LinePort::new(console), LinePort::new(modem)];
     /// # Ok(()) }
     /// ```
+    ///
+    /// # Proved
+    ///
+    /// - *ring*: `result.ring` is `ring`.
+    /// - *handled*: `result.lowered.handled` is `Ok (record { served = 0; end = HandleEnd.Idle })`.
+    /// - *enabled*: `result.lowered.enabled.0` is `0`.
+    ///
+    /// <details><summary>The clauses</summary>
+    ///
+    /// [How to read them](uart_spec::proved):
+    ///
+    /// ```text
+    /// ensures ring { result.ring ≡ ring }
+    /// ensures handled { result.lowered.handled ≡ Ok (record { served = 0; end = HandleEnd.Idle }) }
+    /// ensures enabled { result.lowered.enabled.0 ≡ 0 }
+    /// ```
+    ///
+    /// </details>
     pub fn new(ring: Uart16550Ring<B>) -> Self {
         let handled = Handled {
             served: 0,
@@ -113,6 +203,20 @@ impl<B: Backend> LinePort<B> {
     /// let handled = ports[0].handled()?;
     /// # Ok(()) }
     /// ```
+    ///
+    /// # Proved
+    ///
+    /// - Returns `self.now.lowered.handled`.
+    ///
+    /// <details><summary>The clauses</summary>
+    ///
+    /// [How to read them](uart_spec::proved):
+    ///
+    /// ```text
+    /// ensures { result ≡ self.now.lowered.handled }
+    /// ```
+    ///
+    /// </details>
     pub fn handled(&self) -> Result<Handled, StuckError> {
         self.lowered.handled
     }
@@ -131,6 +235,20 @@ impl<B: Backend> LinePort<B> {
     /// let has_served = port.lower(4 * MAX_INTERRUPTS, MAX_UNFINISHED_ROUNDS);
     /// # Ok(()) }
     /// ```
+    ///
+    /// # Proved
+    ///
+    /// - [`LowersPort`](crate::proved::line#LowersPort) `B.step limit rounds result self.old self.new`: the line of the port is lowered, and what was done there is noted; the result is whether an interrupt was served.
+    ///
+    /// <details><summary>The clauses</summary>
+    ///
+    /// [How to read them](uart_spec::proved):
+    ///
+    /// ```text
+    /// ensures { LowersPort B.step limit rounds result self.old self.new }
+    /// ```
+    ///
+    /// </details>
     pub fn lower(&mut self, limit: usize, rounds: u32) -> bool {
         self.lowered = self.ring.lower_line(limit, rounds);
         match self.lowered.handled {
@@ -152,6 +270,20 @@ impl<B: Backend> LinePort<B> {
     /// port.raise();
     /// # Ok(()) }
     /// ```
+    ///
+    /// # Proved
+    ///
+    /// - [`RaisesPort`](crate::proved::line#RaisesPort) `B.step self.old self.new`: the line of the port is raised, with the interrupts that were enabled when it was lowered.
+    ///
+    /// <details><summary>The clauses</summary>
+    ///
+    /// [How to read them](uart_spec::proved):
+    ///
+    /// ```text
+    /// ensures { RaisesPort B.step self.old self.new }
+    /// ```
+    ///
+    /// </details>
     pub fn raise(&mut self) {
         self.ring.raise_line(self.lowered.enabled);
     }
@@ -191,6 +323,20 @@ fn raise_each<B: Backend>(ports: &mut [LinePort<B>]) {
 /// let has_served = handle_ports(&mut ports, 4 * MAX_INTERRUPTS, MAX_UNFINISHED_ROUNDS);
 /// # Ok(()) }
 /// ```
+///
+/// # Proved
+///
+/// - [`HandlesPorts`](crate::proved::line#HandlesPorts) `B.step limit rounds (length ports.old) result ports.old ports.new`: first the line of each port of a slice is lowered, and from then on that of each is raised. In between is a moment at which all are low.
+///
+/// <details><summary>The clauses</summary>
+///
+/// [How to read them](uart_spec::proved):
+///
+/// ```text
+/// ensures { HandlesPorts B.step limit rounds (length ports.old) result ports.old ports.new }
+/// ```
+///
+/// </details>
 pub fn handle_ports<B: Backend>(ports: &mut [LinePort<B>], limit: usize, rounds: u32) -> bool {
     let has_served = lower_each(ports, limit, rounds);
     // All lines are low here, as in `handle_line`.

@@ -18,6 +18,20 @@ pub struct ByteQueue {
 // them: they are generic over the backend.
 impl ByteQueue {
     /// Returns an empty queue with room for this number of bytes.
+    ///
+    /// # Proved
+    ///
+    /// - If it returns `Ok made`: `made` is [`queue`](crate::proved::queue#queue) `[] capacity`: a queue of these bytes, in which there may be so many.
+    ///
+    /// <details><summary>The clauses</summary>
+    ///
+    /// [How to read them](uart_spec::proved):
+    ///
+    /// ```text
+    /// ensures { IfOk result (λ made. made ≡ queue [] capacity) }
+    /// ```
+    ///
+    /// </details>
     pub fn with_capacity(alloc: Global, capacity: usize) -> Result<Self, AllocError> {
         Ok(ByteQueue {
             cells: vec![in alloc; 0; capacity]?,
@@ -27,24 +41,84 @@ impl ByteQueue {
     }
 
     /// Returns the number of bytes.
+    ///
+    /// # Proved
+    ///
+    /// - *len*: returns `length self.now.items`.
+    /// - *within*: `result ≤ self.now.capacity`.
+    ///
+    /// <details><summary>The clauses</summary>
+    ///
+    /// [How to read them](uart_spec::proved):
+    ///
+    /// ```text
+    /// ensures len { result ≡ length self.now.items }
+    /// ensures within { result ≤ self.now.capacity }
+    /// ```
+    ///
+    /// </details>
     #[inline]
     pub fn len(&self) -> usize {
         self.len
     }
 
     /// Returns the largest number of bytes.
+    ///
+    /// # Proved
+    ///
+    /// - *capacity*: returns `self.now.capacity`.
+    /// - *within*: `length self.now.items ≤ result`.
+    ///
+    /// <details><summary>The clauses</summary>
+    ///
+    /// [How to read them](uart_spec::proved):
+    ///
+    /// ```text
+    /// ensures capacity { result ≡ self.now.capacity }
+    /// ensures within { length self.now.items ≤ result }
+    /// ```
+    ///
+    /// </details>
     #[inline]
     pub fn capacity(&self) -> usize {
         self.cells.as_slice().len()
     }
 
     /// Returns whether there is no byte.
+    ///
+    /// # Proved
+    ///
+    /// - Returns `(length self.now.items == 0)`.
+    ///
+    /// <details><summary>The clauses</summary>
+    ///
+    /// [How to read them](uart_spec::proved):
+    ///
+    /// ```text
+    /// ensures { result ≡ (length self.now.items == 0) }
+    /// ```
+    ///
+    /// </details>
     #[inline]
     pub fn is_empty(&self) -> bool {
         self.len() == 0
     }
 
     /// Returns whether there is no room for another byte.
+    ///
+    /// # Proved
+    ///
+    /// - Returns `(length self.now.items == self.now.capacity)`.
+    ///
+    /// <details><summary>The clauses</summary>
+    ///
+    /// [How to read them](uart_spec::proved):
+    ///
+    /// ```text
+    /// ensures { result ≡ (length self.now.items == self.now.capacity) }
+    /// ```
+    ///
+    /// </details>
     #[inline]
     pub fn is_full(&self) -> bool {
         self.len() == self.capacity()
@@ -61,6 +135,22 @@ impl ByteQueue {
 
     /// Appends bytes from the front of the slice, as many as there is room for, and returns how
     /// many.
+    ///
+    /// # Proved
+    ///
+    /// - *count*: returns `min (length bytes.now) (self.old.capacity - length self.old.items)`.
+    /// - *items*: `self` becomes [`queue`](crate::proved::queue#queue) `(self.old.items ++ take result bytes.now) self.old.capacity`: a queue of these bytes, in which there may be so many.
+    ///
+    /// <details><summary>The clauses</summary>
+    ///
+    /// [How to read them](uart_spec::proved):
+    ///
+    /// ```text
+    /// ensures count { result ≡ min (length bytes.now) (self.old.capacity - length self.old.items) }
+    /// ensures items { self.new ≡ queue (self.old.items ++ take result bytes.now) self.old.capacity }
+    /// ```
+    ///
+    /// </details>
     #[inline]
     pub fn fill_from_slice(&mut self, bytes: &[u8]) -> usize {
         let bytes = &bytes[..bytes.len().min(self.capacity() - self.len)];
@@ -74,6 +164,22 @@ impl ByteQueue {
 
     /// Copies bytes from the front, as many as there are slots, and returns how many. Leaves the
     /// other slots unchanged.
+    ///
+    /// # Proved
+    ///
+    /// - *count*: returns `min (length slots.old) (length self.now.items)`.
+    /// - *copied*: `slots` becomes `take result self.now.items ++ drop result slots.old`.
+    ///
+    /// <details><summary>The clauses</summary>
+    ///
+    /// [How to read them](uart_spec::proved):
+    ///
+    /// ```text
+    /// ensures count { result ≡ min (length slots.old) (length self.now.items) }
+    /// ensures copied { slots.new ≡ take result self.now.items ++ drop result slots.old }
+    /// ```
+    ///
+    /// </details>
     #[inline]
     pub fn copy_front(&self, slots: &mut [u8]) -> usize {
         let (first, second) = self.as_slices();
@@ -90,6 +196,24 @@ impl ByteQueue {
 
     /// Takes bytes from the front, as many as there are slots, and returns how many. Leaves the
     /// other slots unchanged.
+    ///
+    /// # Proved
+    ///
+    /// - *count*: returns `min (length slots.old) (length self.old.items)`.
+    /// - *read*: `slots` becomes `take result self.old.items ++ drop result slots.old`.
+    /// - *items*: `self` becomes [`queue`](crate::proved::queue#queue) `(drop result self.old.items) self.old.capacity`: a queue of these bytes, in which there may be so many.
+    ///
+    /// <details><summary>The clauses</summary>
+    ///
+    /// [How to read them](uart_spec::proved):
+    ///
+    /// ```text
+    /// ensures count { result ≡ min (length slots.old) (length self.old.items) }
+    /// ensures read { slots.new ≡ take result self.old.items ++ drop result slots.old }
+    /// ensures items { self.new ≡ queue (drop result self.old.items) self.old.capacity }
+    /// ```
+    ///
+    /// </details>
     #[inline]
     pub fn read_into(&mut self, slots: &mut [u8]) -> usize {
         let count = self.copy_front(slots);

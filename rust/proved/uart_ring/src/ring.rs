@@ -125,6 +125,25 @@ impl<B: Backend> Uart16550Ring<B> {
     /// };
     /// # Ok(()) }
     /// ```
+    ///
+    /// # Proved
+    ///
+    /// - *made*: if it returns `Ok ring`: [`AreEmpty`](crate::proved::ring#AreEmpty) `ring uart tx_capacity rx_capacity`: empty rings of these capacities over this driver, in which nothing is held, paused or stuck.
+    /// - *refused*: unless [`IsCapacity`](crate::proved::ring#IsCapacity) `tx_capacity` and [`IsCapacity`](crate::proved::ring#IsCapacity) `rx_capacity`: returns `Err (uart, RingError.BadCapacity)`.
+    ///   - [`IsCapacity`](crate::proved::ring#IsCapacity): how many bytes a ring can be made for: 1 to 4096.
+    /// - *accepted*: if [`IsCapacity`](crate::proved::ring#IsCapacity) `tx_capacity` and [`IsCapacity`](crate::proved::ring#IsCapacity) `rx_capacity`: returns `Ok`, or `Err` of `uart, RingError.OutOfMemory`.
+    ///
+    /// <details><summary>The clauses</summary>
+    ///
+    /// [How to read them](uart_spec::proved):
+    ///
+    /// ```text
+    /// ensures made { IfOk result (λ ring. AreEmpty ring uart tx_capacity rx_capacity) }
+    /// ensures refused { (IsCapacity tx_capacity × IsCapacity rx_capacity → ⊥) → result ≡ Err (uart, RingError.BadCapacity) }
+    /// ensures accepted { IsCapacity tx_capacity × IsCapacity rx_capacity → IsOkUnless result (uart, RingError.OutOfMemory) }
+    /// ```
+    ///
+    /// </details>
     pub fn new(
         alloc: Global,
         uart: Uart16550<B>,
@@ -170,6 +189,23 @@ impl<B: Backend> Uart16550Ring<B> {
     /// assert_eq!(ring.transmit_len(), 0);
     /// # Ok(()) }
     /// ```
+    ///
+    /// # Proved
+    ///
+    /// - *len*: returns `length (ring_fields self.now).transmit.items`.
+    ///   - [`ring_fields`](crate::proved::ring#ring_fields): what these rings hold beside their backend.
+    /// - *within*: `result ≤ (ring_fields self.now).transmit.capacity`.
+    ///
+    /// <details><summary>The clauses</summary>
+    ///
+    /// [How to read them](uart_spec::proved):
+    ///
+    /// ```text
+    /// ensures len { result ≡ length (ring_fields self.now).transmit.items }
+    /// ensures within { result ≤ (ring_fields self.now).transmit.capacity }
+    /// ```
+    ///
+    /// </details>
     pub fn transmit_len(&self) -> usize {
         self.transmit.len()
     }
@@ -186,6 +222,21 @@ impl<B: Backend> Uart16550Ring<B> {
     /// assert_eq!(ring.transmit_room(), 1024);
     /// # Ok(()) }
     /// ```
+    ///
+    /// # Proved
+    ///
+    /// - Returns [`free`](crate::proved::ring#free) `(ring_fields self.now).transmit`: how many more bytes a ring has room for.
+    ///   - [`ring_fields`](crate::proved::ring#ring_fields): what these rings hold beside their backend.
+    ///
+    /// <details><summary>The clauses</summary>
+    ///
+    /// [How to read them](uart_spec::proved):
+    ///
+    /// ```text
+    /// ensures { result ≡ free (ring_fields self.now).transmit }
+    /// ```
+    ///
+    /// </details>
     pub fn transmit_room(&self) -> usize {
         self.transmit.capacity() - self.transmit.len()
     }
@@ -202,6 +253,21 @@ impl<B: Backend> Uart16550Ring<B> {
     /// assert_eq!(ring.urgent(), None);
     /// # Ok(()) }
     /// ```
+    ///
+    /// # Proved
+    ///
+    /// - Returns `(ring_fields self.now).urgent`.
+    ///   - [`ring_fields`](crate::proved::ring#ring_fields): what these rings hold beside their backend.
+    ///
+    /// <details><summary>The clauses</summary>
+    ///
+    /// [How to read them](uart_spec::proved):
+    ///
+    /// ```text
+    /// ensures { result ≡ (ring_fields self.now).urgent }
+    /// ```
+    ///
+    /// </details>
     pub fn urgent(&self) -> Option<u8> {
         self.urgent
     }
@@ -218,6 +284,21 @@ impl<B: Backend> Uart16550Ring<B> {
     /// assert!(ring.is_held());
     /// # Ok(()) }
     /// ```
+    ///
+    /// # Proved
+    ///
+    /// - Returns `(ring_fields self.now).is_held`.
+    ///   - [`ring_fields`](crate::proved::ring#ring_fields): what these rings hold beside their backend.
+    ///
+    /// <details><summary>The clauses</summary>
+    ///
+    /// [How to read them](uart_spec::proved):
+    ///
+    /// ```text
+    /// ensures { result ≡ (ring_fields self.now).is_held }
+    /// ```
+    ///
+    /// </details>
     pub fn is_held(&self) -> bool {
         self.is_held
     }
@@ -235,6 +316,21 @@ impl<B: Backend> Uart16550Ring<B> {
     /// assert_eq!(ring.stuck(), None);
     /// # Ok(()) }
     /// ```
+    ///
+    /// # Proved
+    ///
+    /// - Returns `(ring_fields self.now).stuck`.
+    ///   - [`ring_fields`](crate::proved::ring#ring_fields): what these rings hold beside their backend.
+    ///
+    /// <details><summary>The clauses</summary>
+    ///
+    /// [How to read them](uart_spec::proved):
+    ///
+    /// ```text
+    /// ensures { result ≡ (ring_fields self.now).stuck }
+    /// ```
+    ///
+    /// </details>
     pub fn stuck(&self) -> Option<StuckError> {
         self.stuck
     }
@@ -252,6 +348,23 @@ impl<B: Backend> Uart16550Ring<B> {
     /// assert_eq!(ring.receive_len(), 2);
     /// # Ok(()) }
     /// ```
+    ///
+    /// # Proved
+    ///
+    /// - *len*: returns `length (ring_fields self.now).receive.items`.
+    ///   - [`ring_fields`](crate::proved::ring#ring_fields): what these rings hold beside their backend.
+    /// - *within*: `result ≤ (ring_fields self.now).receive.capacity`.
+    ///
+    /// <details><summary>The clauses</summary>
+    ///
+    /// [How to read them](uart_spec::proved):
+    ///
+    /// ```text
+    /// ensures len { result ≡ length (ring_fields self.now).receive.items }
+    /// ensures within { result ≤ (ring_fields self.now).receive.capacity }
+    /// ```
+    ///
+    /// </details>
     pub fn receive_len(&self) -> usize {
         self.receive.len()
     }
@@ -272,6 +385,21 @@ impl<B: Backend> Uart16550Ring<B> {
     /// assert!(ring.is_paused());
     /// # Ok(()) }
     /// ```
+    ///
+    /// # Proved
+    ///
+    /// - Returns `(ring_fields self.now).is_paused`.
+    ///   - [`ring_fields`](crate::proved::ring#ring_fields): what these rings hold beside their backend.
+    ///
+    /// <details><summary>The clauses</summary>
+    ///
+    /// [How to read them](uart_spec::proved):
+    ///
+    /// ```text
+    /// ensures { result ≡ (ring_fields self.now).is_paused }
+    /// ```
+    ///
+    /// </details>
     pub fn is_paused(&self) -> bool {
         self.is_paused
     }
@@ -290,6 +418,20 @@ impl<B: Backend> Uart16550Ring<B> {
     /// ring.inner().backend().mark(arrival)
     /// # }
     /// ```
+    ///
+    /// # Proved
+    ///
+    /// - Returns [`driver_of`](crate::proved::ring#driver_of) `self.now`: the driver under the rings.
+    ///
+    /// <details><summary>The clauses</summary>
+    ///
+    /// [How to read them](uart_spec::proved):
+    ///
+    /// ```text
+    /// ensures { result.now ≡ driver_of self.now }
+    /// ```
+    ///
+    /// </details>
     pub fn inner(&self) -> &Uart16550<B> {
         &self.uart
     }
@@ -330,6 +472,22 @@ impl<B: Backend> Uart16550Ring<B> {
     /// }
     /// # }
     /// ```
+    ///
+    /// # Proved
+    ///
+    /// - *writes_back*: lends a part of it: what is changed there is changed here, and nothing else.
+    /// - *value*: returns [`driver_of`](crate::proved::ring#driver_of) `self.old`: the driver under the rings.
+    ///
+    /// <details><summary>The clauses</summary>
+    ///
+    /// [How to read them](uart_spec::proved):
+    ///
+    /// ```text
+    /// ensures* writes_back { sem 𝓛 (Lends (the_row B.row) (driver_row B.row) self.entry result (λ uart. record self.old { uart = uart })) }
+    /// ensures value { result.now ≡ driver_of self.old }
+    /// ```
+    ///
+    /// </details>
     pub fn inner_mut(&mut self) -> &mut Uart16550<B> {
         &mut self.uart
     }
@@ -347,6 +505,20 @@ impl<B: Backend> Uart16550Ring<B> {
     /// let uart = ring.into_inner();
     /// # Ok(()) }
     /// ```
+    ///
+    /// # Proved
+    ///
+    /// - Returns [`driver_of`](crate::proved::ring#driver_of) `self`: the driver under the rings.
+    ///
+    /// <details><summary>The clauses</summary>
+    ///
+    /// [How to read them](uart_spec::proved):
+    ///
+    /// ```text
+    /// ensures { result ≡ driver_of self }
+    /// ```
+    ///
+    /// </details>
     pub fn into_inner(self) -> Uart16550<B> {
         self.uart
     }

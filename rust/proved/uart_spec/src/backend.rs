@@ -16,10 +16,48 @@ pub trait Backend {
     ///
     /// Called once for each read that the driver makes. A read may change the device: one of LSR
     /// clears its error bits.
+    ///
+    /// # To be kept by an implementation
+    ///
+    /// What the proofs take each implementation to do. Nothing checks it of one that is written in Rust.
+    ///
+    /// If `register_offset < NUM_REGISTERS`:
+    ///
+    /// - Makes this one access: `Read register_offset result`.
+    ///
+    /// <details><summary>The clauses</summary>
+    ///
+    /// [How to read them](crate::proved):
+    ///
+    /// ```text
+    /// requires { register_offset < NUM_REGISTERS }
+    /// ensures { step self.old (Read register_offset result) self.new }
+    /// ```
+    ///
+    /// </details>
     fn read(&mut self, register_offset: u8) -> u8;
 
     /// Writes a value to the register at an offset of 0 to 7.
     ///
     /// Called once for each write that the driver makes, in the driver's order.
+    ///
+    /// # To be kept by an implementation
+    ///
+    /// What the proofs take each implementation to do. Nothing checks it of one that is written in Rust.
+    ///
+    /// If `register_offset < NUM_REGISTERS`:
+    ///
+    /// - Makes this one access: `Write register_offset value`.
+    ///
+    /// <details><summary>The clauses</summary>
+    ///
+    /// [How to read them](crate::proved):
+    ///
+    /// ```text
+    /// requires { register_offset < NUM_REGISTERS }
+    /// ensures { step self.old (Write register_offset value) self.new }
+    /// ```
+    ///
+    /// </details>
     fn write(&mut self, register_offset: u8, value: u8);
 }

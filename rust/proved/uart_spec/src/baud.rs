@@ -28,6 +28,26 @@ pub const NUM_REGISTERS: usize = 8;
 /// # use uart_16550::native::{*, spec::*};
 /// assert_eq!(calc_frequency(9_600, 12, None), 1_843_200);
 /// ```
+///
+/// # Proved
+///
+/// If `0 < baud_rate`, and `0 < divisor`, and `prescaler prescaler_division_factor ≤ 15` (the prescaler division factor, 0 if there is none), and `frequency_of baud_rate divisor prescaler_division_factor < 2 ^ 32` (the clock frequency at which a divisor gives a baud rate: 16 times the prescaler plus 1, times rate, times divisor):
+///
+/// - Returns [`frequency_of`](crate::proved::baud#frequency_of) `baud_rate divisor prescaler_division_factor`.
+///
+/// <details><summary>The clauses</summary>
+///
+/// [How to read them](crate::proved):
+///
+/// ```text
+/// requires baud_rate { 0 < baud_rate }
+/// requires divisor { 0 < divisor }
+/// requires prescaler { prescaler prescaler_division_factor ≤ 15 }
+/// requires fits { frequency_of baud_rate divisor prescaler_division_factor < 2 ^ 32 }
+/// ensures { result ≡ frequency_of baud_rate divisor prescaler_division_factor }
+/// ```
+///
+/// </details>
 pub fn calc_frequency(baud_rate: u32, divisor: u32, prescaler_division_factor: Option<u32>) -> u32 {
     assert!(
         baud_rate != 0
@@ -57,6 +77,25 @@ pub fn calc_frequency(baud_rate: u32, divisor: u32, prescaler_division_factor: O
 /// # use uart_16550::native::{*, spec::*};
 /// assert_eq!(calc_baud_rate(1_843_200, 12, None), Ok(9_600));
 /// ```
+///
+/// # Proved
+///
+/// If `0 < frequency`, and `0 < divisor`, and `prescaler prescaler_division_factor ≤ 15` (the prescaler division factor, 0 if there is none):
+///
+/// - [Returns the one value for which](crate::proved::bits#IsOnly) [`IsBaudRateAnswer`](crate::proved::baud#IsBaudRateAnswer) `frequency divisor prescaler_division_factor`: the baud rate that this divisor gives exactly; or an error with the arguments, if it gives no whole one.
+///
+/// <details><summary>The clauses</summary>
+///
+/// [How to read them](crate::proved):
+///
+/// ```text
+/// requires frequency { 0 < frequency }
+/// requires divisor { 0 < divisor }
+/// requires prescaler { prescaler prescaler_division_factor ≤ 15 }
+/// ensures { IsOnly (IsBaudRateAnswer frequency divisor prescaler_division_factor) result }
+/// ```
+///
+/// </details>
 pub fn calc_baud_rate(
     frequency: u32,
     divisor: u32,
@@ -97,6 +136,25 @@ pub fn calc_baud_rate(
 /// # use uart_16550::native::{*, spec::*};
 /// assert_eq!(calc_divisor(1_843_200, 9_600, None), Ok(12));
 /// ```
+///
+/// # Proved
+///
+/// If `prescaler prescaler_division_factor ≤ 15` (the prescaler division factor, 0 if there is none), and `0 < frequency`, and `0 < baud_rate`:
+///
+/// - [Returns the one value for which](crate::proved::bits#IsOnly) [`IsDivisorAnswer`](crate::proved::baud#IsDivisorAnswer) `frequency baud_rate prescaler_division_factor`: the divisor that gives exactly this baud rate, if it fits into the divisor latch; an error with the divisor if it does not fit; an error with the arguments if no whole divisor does.
+///
+/// <details><summary>The clauses</summary>
+///
+/// [How to read them](crate::proved):
+///
+/// ```text
+/// requires prescaler { prescaler prescaler_division_factor ≤ 15 }
+/// requires frequency { 0 < frequency }
+/// requires baud_rate { 0 < baud_rate }
+/// ensures { IsOnly (IsDivisorAnswer frequency baud_rate prescaler_division_factor) result }
+/// ```
+///
+/// </details>
 pub fn calc_divisor(
     frequency: u32,
     baud_rate: u32,

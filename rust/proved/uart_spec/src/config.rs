@@ -62,6 +62,20 @@ impl BaudRate {
     /// calc_divisor(CLK_FREQUENCY_HZ, baud_rate.to_integer(), None)
     /// # }) }
     /// ```
+    ///
+    /// # Proved
+    ///
+    /// - Returns [`to_integer`](crate::proved::baud_rate#to_integer) `self`: the number of bits per second.
+    ///
+    /// <details><summary>The clauses</summary>
+    ///
+    /// [How to read them](crate::proved):
+    ///
+    /// ```text
+    /// ensures { result ≡ to_integer self }
+    /// ```
+    ///
+    /// </details>
     pub const fn to_integer(self) -> u32 {
         match self {
             BaudRate::Baud115200 => 115_200,
@@ -89,6 +103,24 @@ impl BaudRate {
     /// assert_eq!(BaudRate::from_integer(9600), BaudRate::Baud9600);
     /// assert_eq!(BaudRate::from_integer(9601).to_integer(), 9601);
     /// ```
+    ///
+    /// # Proved
+    ///
+    /// - *number*: `to_integer result ≡ value`.
+    ///   - [`to_integer`](crate::proved::baud_rate#to_integer): the number of bits per second.
+    /// - *named*: for each `rate`: if [`IsNamed`](crate::proved::baud_rate#IsNamed) `rate`, and `to_integer rate ≡ value`: returns `rate`.
+    ///   - [`IsNamed`](crate::proved::baud_rate#IsNamed): the case has a name: it is not `Custom`.
+    ///
+    /// <details><summary>The clauses</summary>
+    ///
+    /// [How to read them](crate::proved):
+    ///
+    /// ```text
+    /// ensures number { to_integer result ≡ value }
+    /// ensures named { (rate : BaudRate) → IsNamed rate → to_integer rate ≡ value → result ≡ rate }
+    /// ```
+    ///
+    /// </details>
     pub const fn from_integer(value: u32) -> Self {
         match value {
             115_200 => BaudRate::Baud115200,
@@ -207,6 +239,20 @@ impl Config {
     /// # let config = Config::DEFAULT;
     /// assert!(config.is_computable());
     /// ```
+    ///
+    /// # Proved
+    ///
+    /// - It returns `true` exactly if [`IsComputable`](crate::proved::config#IsComputable) `self.now`: frequency and baud rate are not zero, and the prescaler division factor is absent or at most 15.
+    ///
+    /// <details><summary>The clauses</summary>
+    ///
+    /// [How to read them](crate::proved):
+    ///
+    /// ```text
+    /// ensures { IsTrue result ↔ IsComputable self.now }
+    /// ```
+    ///
+    /// </details>
     pub fn is_computable(&self) -> bool {
         self.frequency != 0
             && self.baud_rate.to_integer() != 0
@@ -253,6 +299,25 @@ impl Config {
     /// uart.init(config.nearest(20)?)?;
     /// # Ok(()) }
     /// ```
+    ///
+    /// # Proved
+    ///
+    /// If [`IsComputable`](crate::proved::config#IsComputable) `self` (frequency and baud rate are not zero, and the prescaler division factor is absent or at most 15):
+    ///
+    /// - *answer*: [`IsNearestAnswer`](crate::proved::config#IsNearestAnswer) `self per_mille result`: the configuration with the frequency at which the nearest divisor is exact, so that it is the one that the exact arithmetic computes, and the rate is near enough; or the nearest divisor, which does not fit, or fits and is too far off, as each other divisor then is.
+    /// - *computable*: if it returns `Ok`, for its value [`IsComputable`](crate::proved::config#IsComputable).
+    ///
+    /// <details><summary>The clauses</summary>
+    ///
+    /// [How to read them](crate::proved):
+    ///
+    /// ```text
+    /// requires { IsComputable self }
+    /// ensures answer { IsNearestAnswer self per_mille result }
+    /// ensures computable { IfOk result IsComputable }
+    /// ```
+    ///
+    /// </details>
     pub fn nearest(self, per_mille: u32) -> Result<Config, NearestDivisorError> {
         assert!(self.is_computable(), "a configuration that is not computable");
         let frequency = self.frequency as u64;

@@ -43,6 +43,20 @@ impl ConfigRegisterDump {
     /// assert_eq!(shown.divisor(), 12);
     /// # Ok(()) }
     /// ```
+    ///
+    /// # Proved
+    ///
+    /// - Returns [`divisor_of`](crate::proved::dump#divisor_of) `self.now`: the divisor that a dump shows.
+    ///
+    /// <details><summary>The clauses</summary>
+    ///
+    /// [How to read them](crate::proved):
+    ///
+    /// ```text
+    /// ensures { result ≡ divisor_of self.now }
+    /// ```
+    ///
+    /// </details>
     pub const fn divisor(&self) -> u16 {
         256 * self.dlm as u16 + self.dll as u16
     }
@@ -71,6 +85,24 @@ impl ConfigRegisterDump {
     /// };
     /// assert_eq!(dump.baud_rate(&Config::DEFAULT), Ok(BaudRate::Baud9600));
     /// ```
+    ///
+    /// # Proved
+    ///
+    /// If `0 < config.now.frequency`, and `prescaler config.now.prescaler_division_factor ≤ 15` (the prescaler division factor, 0 if there is none):
+    ///
+    /// - [`IsDumpRate`](crate::proved::dump#IsDumpRate) `config.now self.now result`: the baud rate that a dump's divisor gives, with its name if it has one; or an error if it is not a whole number.
+    ///
+    /// <details><summary>The clauses</summary>
+    ///
+    /// [How to read them](crate::proved):
+    ///
+    /// ```text
+    /// requires frequency { 0 < config.now.frequency }
+    /// requires prescaler { prescaler config.now.prescaler_division_factor ≤ 15 }
+    /// ensures { IsDumpRate config.now self.now result }
+    /// ```
+    ///
+    /// </details>
     pub fn baud_rate(&self, config: &Config) -> Result<BaudRate, NonIntegerBaudRateError> {
         let frequency = config.frequency;
         let prescaler_division_factor = config.prescaler_division_factor;

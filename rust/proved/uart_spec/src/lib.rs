@@ -38,3 +38,5 @@ pub use received::Received;
 pub use setup::{FifoAction, FifoSize, Setup, TransmitterWait};
 
 pub mod by_hand;
+
+pub mod proved;

@@ -54,6 +54,21 @@ pub type DLL = u8;
 pub type DLM = u8;
 
 /// Returns these bits if the condition holds, else none.
+///
+/// # Proved
+///
+/// - If `F.exact`: `F.set_of result ≡ flag on (F.set_of bits)`.
+///   - [`flag`](crate::proved::bits#flag): these bits if the flag is set, else no bits.
+///
+/// <details><summary>The clauses</summary>
+///
+/// [How to read them](crate::proved):
+///
+/// ```text
+/// ensures { F.exact → F.set_of result ≡ flag on (F.set_of bits) }
+/// ```
+///
+/// </details>
 pub fn flag<F: Flags>(on: bool, bits: F) -> F {
     if on { bits } else { F::empty() }
 }

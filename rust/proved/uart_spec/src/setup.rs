@@ -90,6 +90,20 @@ pub enum FifoSize {
 
 impl FifoSize {
     /// Returns the number of characters.
+    ///
+    /// # Proved
+    ///
+    /// - Returns [`characters`](crate::proved::fifo_size#characters) `self`: the number of characters of a FIFO of this size.
+    ///
+    /// <details><summary>The clauses</summary>
+    ///
+    /// [How to read them](crate::proved):
+    ///
+    /// ```text
+    /// ensures { result ≡ characters self }
+    /// ```
+    ///
+    /// </details>
     pub fn characters(self) -> usize {
         match self {
             FifoSize::Sixteen => FIFO_SIZE,

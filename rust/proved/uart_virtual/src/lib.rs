@@ -23,3 +23,5 @@ pub use port::{
 pub use told::{Kind, Seen, Todo, Told};
 
 mod by_hand;
+
+pub mod proved;

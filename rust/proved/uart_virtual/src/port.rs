@@ -87,6 +87,20 @@ pub struct Received {
 }
 
 /// Returns what the guest's read of this register is, as far as signals are concerned.
+///
+/// # Proved
+///
+/// - Returns what the clause beneath says.
+///
+/// <details><summary>The clauses</summary>
+///
+/// [How to read them](uart_spec::proved):
+///
+/// ```text
+/// ensures { result ≡ record { brings = false; looks = offset == offsets.ISR; moves_data = offset == offsets.DATA; may_make_room = false; } }
+/// ```
+///
+/// </details>
 // Only a read of ISR is a look. With LSR and MSR, a handler that reads LSR before each byte, as
 // most do, would be signalled for each byte, as long as more wait. A handler that never reads ISR
 // is signalled each time that the line falls and rises, so it cannot wait for ever.
@@ -101,6 +115,20 @@ pub fn kind_of_read(offset: u8) -> Kind {
 }
 
 /// Returns what the guest's write of this register is, as far as signals are concerned.
+///
+/// # Proved
+///
+/// - Returns what the clause beneath says.
+///
+/// <details><summary>The clauses</summary>
+///
+/// [How to read them](uart_spec::proved):
+///
+/// ```text
+/// ensures { result ≡ record { brings = false; looks = false; moves_data = offset == offsets.DATA; may_make_room = (offset == offsets.FCR) || (offset == offsets.MCR); } }
+/// ```
+///
+/// </details>
 pub fn kind_of_write(offset: u8) -> Kind {
     let offset = offset as usize;
     Kind {
@@ -112,6 +140,20 @@ pub fn kind_of_write(offset: u8) -> Kind {
 }
 
 /// Returns the ticks that pass in each call.
+///
+/// # Proved
+///
+/// - Returns [`settle_ticks`](crate::proved::port#settle_ticks): the ticks that pass in each call: 17 for what the transmitter holds, 4 until a reception timeout is due, and one.
+///
+/// <details><summary>The clauses</summary>
+///
+/// [How to read them](uart_spec::proved):
+///
+/// ```text
+/// ensures { result ≡ settle_ticks }
+/// ```
+///
+/// </details>
 pub fn settle_ticks() -> u16 {
     SETTLE_TICKS
 }
@@ -121,6 +163,23 @@ pub fn settle_ticks() -> u16 {
 ///
 /// Each call of a [`VirtualPort`] does this once or not at all, and takes no other time. So what a
 /// guest can make its monitor do in a call has this bound.
+///
+/// # Proved
+///
+/// - *after*: `chip` becomes [`settle`](crate::proved::port#settle) `chip.old`: so much time passes that nothing is left to happen.
+/// - *most*: `result ≤ most_jumps`.
+///   - [`most_jumps`](uart_chip::proved::jumps#most_jumps): the most jumps that any number of ticks takes: one for each of 16 characters in the queue, and for the one that enters or leaves the shift register, and one for what is left.
+///
+/// <details><summary>The clauses</summary>
+///
+/// [How to read them](uart_spec::proved):
+///
+/// ```text
+/// ensures after { chip.new ≡ settle chip.old }
+/// ensures most { result ≤ most_jumps }
+/// ```
+///
+/// </details>
 pub fn settle(chip: &mut LiveChip) -> usize {
     chip.ticks(settle_ticks())
 }
@@ -176,6 +235,22 @@ fn room_after(kind: Kind, seen: Seen, told: Told) -> bool {
 /// whether the line was up all the time.
 ///
 /// A port over another chip, as the one for C, tells its monitor by this too.
+///
+/// # Proved
+///
+/// - *told*: `told` becomes [`told_after`](crate::proved::port#told_after) `kind was_up seen told.old`: what the monitor was told after a call of which this is seen, and of which it is known whether the line was up all the time.
+/// - *todo*: returns [`todo_after`](crate::proved::port#todo_after) `kind was_up seen told.old`: what the monitor has to do after it.
+///
+/// <details><summary>The clauses</summary>
+///
+/// [How to read them](uart_spec::proved):
+///
+/// ```text
+/// ensures told { told.new ≡ told_after kind was_up seen told.old }
+/// ensures todo { result ≡ todo_after kind was_up seen told.old }
+/// ```
+///
+/// </details>
 // Inlined in any case: of most calls the kind is known, and little of this is left.
 #[inline(always)]
 pub fn tell(seen: Seen, was_up: bool, told: &mut Told, kind: Kind) -> Todo {
@@ -347,6 +422,20 @@ impl VirtualPort {
     /// let mut port = VirtualPort::new(Chip::Uart16550A);
     /// # }
     /// ```
+    ///
+    /// # Proved
+    ///
+    /// - Returns [`fresh`](crate::proved::port#fresh) `chip`: a port after power-on: the time of a call passed.
+    ///
+    /// <details><summary>The clauses</summary>
+    ///
+    /// [How to read them](uart_spec::proved):
+    ///
+    /// ```text
+    /// ensures { result ≡ port.fresh chip }
+    /// ```
+    ///
+    /// </details>
     pub fn new(chip: Chip) -> Self {
         // A chip with this time and this wire is never refused: the contract of `LiveChip::new`
         // says so, and the check proves it here. A `Result` would give each caller an error that
@@ -379,6 +468,27 @@ impl VirtualPort {
     /// answer.value
     /// # }
     /// ```
+    ///
+    /// # Proved
+    ///
+    /// If `offset < NUM_REGISTERS`:
+    ///
+    /// - *value*: `result.value` is [`answer`](uart_chip::proved::chip#answer) `offset self.old.chip`: what a read of the register returns.
+    /// - *after*: `self` becomes [`after`](crate::proved::port#after) `(Read offset) self.old`: the port after this call: the access or what the host brings, and then the time that passes in each call.
+    /// - *todo*: `result.todo` is [`todo`](crate::proved::port#todo) `(Read offset) self.old`: what the monitor has to do after this call: signal the interrupt, take output, bring input.
+    ///
+    /// <details><summary>The clauses</summary>
+    ///
+    /// [How to read them](uart_spec::proved):
+    ///
+    /// ```text
+    /// requires { offset < NUM_REGISTERS }
+    /// ensures value { result.value ≡ spec.answer offset self.old.chip }
+    /// ensures after { self.new ≡ port.after (Read offset) self.old }
+    /// ensures todo { result.todo ≡ port.todo (Read offset) self.old }
+    /// ```
+    ///
+    /// </details>
     #[inline]
     pub fn read(&mut self, offset: u8) -> Answer {
         read(&mut self.chip, offset, &mut self.told)
@@ -389,6 +499,28 @@ impl VirtualPort {
     ///
     /// The value and the effect are those of [`VirtualPort::read`]. A guest that waits makes this
     /// read again and again.
+    ///
+    /// # Proved
+    ///
+    /// - *value*: returns [`clear_status`](uart_live::proved::quick#clear_status) `self.old.chip`: what a read of LSR returns, if it shows no error and no character that waits has one.
+    /// - *read*: if it returns `Some`: `self` becomes [`after`](crate::proved::port#after) `(Read offsets.LSR) self.old`: the port after this call: the access or what the host brings, and then the time that passes in each call.
+    /// - *todo*: if it returns `Some`: `port.todo (Read offsets.LSR) self.old ≡ port.nothing_new self.old`.
+    ///   - [`todo`](crate::proved::port#todo): what the monitor has to do after this call: signal the interrupt, take output, bring input.
+    ///   - [`nothing_new`](crate::proved::port#nothing_new): what the monitor has to do after a call that changes neither the line nor the room: nothing.
+    /// - *left*: if it returns `None`: nothing changes.
+    ///
+    /// <details><summary>The clauses</summary>
+    ///
+    /// [How to read them](uart_spec::proved):
+    ///
+    /// ```text
+    /// ensures value { result ≡ clear_status self.old.chip }
+    /// ensures read { is_some result ≡ true → self.new ≡ port.after (Read offsets.LSR) self.old }
+    /// ensures todo { is_some result ≡ true → port.todo (Read offsets.LSR) self.old ≡ port.nothing_new self.old }
+    /// ensures left { is_some result ≡ false → self.new ≡ self.old }
+    /// ```
+    ///
+    /// </details>
     #[inline]
     pub fn read_clear_status(&mut self) -> Option<u8> {
         self.chip.read_clear_status()
@@ -406,6 +538,30 @@ impl VirtualPort {
     /// and nothing changes.
     ///
     /// The value and the effect are those of [`VirtualPort::read`].
+    ///
+    /// # Proved
+    ///
+    /// - *polled*: returns `Some` exactly if [`reads_polled`](crate::proved::port#reads_polled) `self.old`: after a read of DATA the monitor has nothing to do: no interrupt is enabled, the monitor knows of room, and no signal covers others.
+    /// - *value*: for each `value`: if it returns `Some value`: `value` is [`answer`](uart_chip::proved::chip#answer) `offsets.DATA self.old.chip`: what a read of the register returns.
+    /// - *read*: if it returns `Some`: `self` becomes [`after`](crate::proved::port#after) `(Read offsets.DATA) self.old`: the port after this call: the access or what the host brings, and then the time that passes in each call.
+    /// - *todo*: if it returns `Some`: `port.todo (Read offsets.DATA) self.old ≡ port.nothing_new self.old`.
+    ///   - [`todo`](crate::proved::port#todo): what the monitor has to do after this call: signal the interrupt, take output, bring input.
+    ///   - [`nothing_new`](crate::proved::port#nothing_new): what the monitor has to do after a call that changes neither the line nor the room: nothing.
+    /// - *left*: if it returns `None`: nothing changes.
+    ///
+    /// <details><summary>The clauses</summary>
+    ///
+    /// [How to read them](uart_spec::proved):
+    ///
+    /// ```text
+    /// ensures polled { is_some result ≡ port.reads_polled self.old }
+    /// ensures value { (value : ℕ) → result ≡ Some value → value ≡ spec.answer offsets.DATA self.old.chip }
+    /// ensures read { is_some result ≡ true → self.new ≡ port.after (Read offsets.DATA) self.old }
+    /// ensures todo { is_some result ≡ true → port.todo (Read offsets.DATA) self.old ≡ port.nothing_new self.old }
+    /// ensures left { is_some result ≡ false → self.new ≡ self.old }
+    /// ```
+    ///
+    /// </details>
     #[inline]
     pub fn read_polled(&mut self) -> Option<u8> {
         if !self.reads_polled() {
@@ -428,6 +584,20 @@ impl VirtualPort {
     /// it before it is on the output: if nothing is before it there, and the transmitter is idle.
     ///
     /// If the host takes it, call `pass`; if not, `write`.
+    ///
+    /// # Proved
+    ///
+    /// - Returns [`passing`](crate::proved::port#passing) `value self.now`: the byte, cut to the word length, if the host can take it before it is on the output.
+    ///
+    /// <details><summary>The clauses</summary>
+    ///
+    /// [How to read them](uart_spec::proved):
+    ///
+    /// ```text
+    /// ensures { result ≡ port.passing value self.now }
+    /// ```
+    ///
+    /// </details>
     #[inline]
     pub fn passing(&self, value: u8) -> Option<u8> {
         if self.passes() {
@@ -442,6 +612,30 @@ impl VirtualPort {
     /// changes.
     ///
     /// The port is as after `write` and `take_output(1)`, and what has to be done is the same.
+    ///
+    /// # Proved
+    ///
+    /// - *passes*: returns `Some` exactly if [`passes`](crate::proved::port#passes) `self.old`: the host can take a byte that the guest writes to DATA before it is on the output: it would be alone there at once, and a fall of the line within the call makes no difference.
+    /// - *after*: for each `value`: if it returns `Some`: `self` becomes [`after`](crate::proved::port#after) `(TakeOutput 1) (port.after (Write offsets.DATA value) self.old)`: the port after this call: the access or what the host brings, and then the time that passes in each call.
+    /// - *todo*: for each `value` and `todo`: if it returns `Some todo`: `todo` is `record (port.todo (Write offsets.DATA value) self.old) { ready = 0 }`.
+    ///   - [`todo`](crate::proved::port#todo): what the monitor has to do after this call: signal the interrupt, take output, bring input.
+    /// - *taken*: for each `value`: if it returns `Some`: what the clause beneath says.
+    ///   - [`nothing_new`](crate::proved::port#nothing_new): what the monitor has to do after a call that changes neither the line nor the room: nothing.
+    /// - *left*: if it returns `None`: nothing changes.
+    ///
+    /// <details><summary>The clauses</summary>
+    ///
+    /// [How to read them](uart_spec::proved):
+    ///
+    /// ```text
+    /// ensures passes { is_some result ≡ port.passes self.old }
+    /// ensures after { (value : ℕ) → is_some result ≡ true → self.new ≡ port.after (TakeOutput 1) (port.after (Write offsets.DATA value) self.old) }
+    /// ensures todo { (value : ℕ) (todo : Todo) → result ≡ Some todo → todo ≡ record (port.todo (Write offsets.DATA value) self.old) { ready = 0 } }
+    /// ensures taken { (value : ℕ) → is_some result ≡ true → port.todo (TakeOutput 1) (port.after (Write offsets.DATA value) self.old) ≡ port.nothing_new (port.after (TakeOutput 1) (port.after (Write offsets.DATA value) self.old)) }
+    /// ensures left { is_some result ≡ false → self.new ≡ self.old }
+    /// ```
+    ///
+    /// </details>
     #[inline]
     pub fn pass(&mut self) -> Option<Todo> {
         if !self.passes() {
@@ -481,6 +675,25 @@ impl VirtualPort {
     /// obey_signals(host, port.write(offset, value));
     /// # }
     /// ```
+    ///
+    /// # Proved
+    ///
+    /// If `offset < NUM_REGISTERS`:
+    ///
+    /// - *after*: `self` becomes [`after`](crate::proved::port#after) `(Write offset value) self.old`: the port after this call: the access or what the host brings, and then the time that passes in each call.
+    /// - *todo*: returns [`todo`](crate::proved::port#todo) `(Write offset value) self.old`: what the monitor has to do after this call: signal the interrupt, take output, bring input.
+    ///
+    /// <details><summary>The clauses</summary>
+    ///
+    /// [How to read them](uart_spec::proved):
+    ///
+    /// ```text
+    /// requires { offset < NUM_REGISTERS }
+    /// ensures after { self.new ≡ port.after (Write offset value) self.old }
+    /// ensures todo { result ≡ port.todo (Write offset value) self.old }
+    /// ```
+    ///
+    /// </details>
     #[inline]
     pub fn write(&mut self, offset: u8, value: u8) -> Todo {
         write(&mut self.chip, offset, value, &mut self.told)
@@ -505,6 +718,24 @@ impl VirtualPort {
     /// &input[received.count..]
     /// # }
     /// ```
+    ///
+    /// # Proved
+    ///
+    /// - *count*: `result.count` is [`accepted`](crate::proved::port#accepted) `input.now self.old.chip`: how many of these characters there is room for.
+    /// - *after*: `self` becomes [`after`](crate::proved::port#after) `(Receive input.now) self.old`: the port after this call: the access or what the host brings, and then the time that passes in each call.
+    /// - *todo*: `result.todo` is [`todo`](crate::proved::port#todo) `(Receive input.now) self.old`: what the monitor has to do after this call: signal the interrupt, take output, bring input.
+    ///
+    /// <details><summary>The clauses</summary>
+    ///
+    /// [How to read them](uart_spec::proved):
+    ///
+    /// ```text
+    /// ensures count { result.count ≡ port.accepted input.now self.old.chip }
+    /// ensures after { self.new ≡ port.after (Receive input.now) self.old }
+    /// ensures todo { result.todo ≡ port.todo (Receive input.now) self.old }
+    /// ```
+    ///
+    /// </details>
     #[inline]
     pub fn receive(&mut self, input: &[u8]) -> Received {
         let room = self.chip.receive_room();
@@ -525,6 +756,28 @@ impl VirtualPort {
     /// changes.
     ///
     /// The effect is that of [`VirtualPort::receive`].
+    ///
+    /// # Proved
+    ///
+    /// - *polled*: returns [`receives_polled`](crate::proved::port#receives_polled) `self.old`: after a byte of input the monitor has nothing to do: no interrupt is enabled, and the monitor knows of room.
+    /// - *received*: if it returns `true`: `self` becomes [`after`](crate::proved::port#after) `(Receive (byte ∷ [])) self.old`: the port after this call: the access or what the host brings, and then the time that passes in each call.
+    /// - *todo*: if it returns `true`: `port.todo (Receive (byte ∷ [])) self.old ≡ port.nothing_new self.old`.
+    ///   - [`todo`](crate::proved::port#todo): what the monitor has to do after this call: signal the interrupt, take output, bring input.
+    ///   - [`nothing_new`](crate::proved::port#nothing_new): what the monitor has to do after a call that changes neither the line nor the room: nothing.
+    /// - *left*: if it returns `false`: nothing changes.
+    ///
+    /// <details><summary>The clauses</summary>
+    ///
+    /// [How to read them](uart_spec::proved):
+    ///
+    /// ```text
+    /// ensures polled { result ≡ port.receives_polled self.old }
+    /// ensures received { result ≡ true → self.new ≡ port.after (Receive (byte ∷ [])) self.old }
+    /// ensures todo { result ≡ true → port.todo (Receive (byte ∷ [])) self.old ≡ port.nothing_new self.old }
+    /// ensures left { result ≡ false → self.new ≡ self.old }
+    /// ```
+    ///
+    /// </details>
     #[inline]
     pub fn receive_polled(&mut self, byte: u8) -> bool {
         if self.chip.has_interrupts_on() || !self.told.has_room {
@@ -557,6 +810,26 @@ impl VirtualPort {
     /// let todo = port.receive_one(0, LSR::BREAK_INTERRUPT)?;
     /// # Ok(()) }
     /// ```
+    ///
+    /// # Proved
+    ///
+    /// - *accepted*: if [`IsWithin`](uart_spec::proved::bits#IsWithin) `errors.0 LSR.CHARACTER_ERRORS.0`: returns `Ok`, and `self` becomes [`after`](crate::proved::port#after) `(ReceiveOne byte errors.0) self.old`: the port after this call: the access or what the host brings, and then the time that passes in each call.
+    ///   - [`IsWithin`](uart_spec::proved::bits#IsWithin): no bit outside of the mask is set.
+    /// - *todo*: if [`IsWithin`](uart_spec::proved::bits#IsWithin) `errors.0 LSR.CHARACTER_ERRORS.0`: returns `Ok (port.todo (ReceiveOne byte errors.0) self.old)`.
+    ///   - [`todo`](crate::proved::port#todo): what the monitor has to do after this call: signal the interrupt, take output, bring input.
+    /// - *refused*: if `bit_and errors.0 LSR.CHARACTER_ERRORS.0 ≢ errors.0`: returns `Err InputError.BadErrors`, and nothing changes.
+    ///
+    /// <details><summary>The clauses</summary>
+    ///
+    /// [How to read them](uart_spec::proved):
+    ///
+    /// ```text
+    /// ensures accepted { IsWithin errors.0 LSR.CHARACTER_ERRORS.0 → IsOk result × (self.new ≡ port.after (ReceiveOne byte errors.0) self.old) }
+    /// ensures todo { IsWithin errors.0 LSR.CHARACTER_ERRORS.0 → result ≡ Ok (port.todo (ReceiveOne byte errors.0) self.old) }
+    /// ensures refused { bit_and errors.0 LSR.CHARACTER_ERRORS.0 ≢ errors.0 → (result ≡ Err InputError.BadErrors) × (self.new ≡ self.old) }
+    /// ```
+    ///
+    /// </details>
     pub fn receive_one(&mut self, byte: u8, errors: LSR) -> Result<Todo, InputError> {
         if errors.intersection(LSR::CHARACTER_ERRORS) != errors {
             return Err(InputError::BadErrors);
@@ -582,6 +855,26 @@ impl VirtualPort {
     /// let todo = port.set_lines(MSR::CTS.union(MSR::DSR))?;
     /// # Ok(()) }
     /// ```
+    ///
+    /// # Proved
+    ///
+    /// - *accepted*: if [`IsWithin`](uart_spec::proved::bits#IsWithin) `inputs.0 MSR.LINES.0`: returns `Ok`, and `self` becomes [`after`](crate::proved::port#after) `(SetLines inputs.0) self.old`: the port after this call: the access or what the host brings, and then the time that passes in each call.
+    ///   - [`IsWithin`](uart_spec::proved::bits#IsWithin): no bit outside of the mask is set.
+    /// - *todo*: if [`IsWithin`](uart_spec::proved::bits#IsWithin) `inputs.0 MSR.LINES.0`: returns `Ok (port.todo (SetLines inputs.0) self.old)`.
+    ///   - [`todo`](crate::proved::port#todo): what the monitor has to do after this call: signal the interrupt, take output, bring input.
+    /// - *refused*: if `bit_and inputs.0 MSR.LINES.0 ≢ inputs.0`: returns `Err InputError.BadLines`, and nothing changes.
+    ///
+    /// <details><summary>The clauses</summary>
+    ///
+    /// [How to read them](uart_spec::proved):
+    ///
+    /// ```text
+    /// ensures accepted { IsWithin inputs.0 MSR.LINES.0 → IsOk result × (self.new ≡ port.after (SetLines inputs.0) self.old) }
+    /// ensures todo { IsWithin inputs.0 MSR.LINES.0 → result ≡ Ok (port.todo (SetLines inputs.0) self.old) }
+    /// ensures refused { bit_and inputs.0 MSR.LINES.0 ≢ inputs.0 → (result ≡ Err InputError.BadLines) × (self.new ≡ self.old) }
+    /// ```
+    ///
+    /// </details>
     pub fn set_lines(&mut self, inputs: MSR) -> Result<Todo, InputError> {
         if inputs.intersection(MSR::LINES) != inputs {
             return Err(InputError::BadLines);
@@ -603,6 +896,20 @@ impl VirtualPort {
     /// let taken = host.take(port.output());
     /// # }
     /// ```
+    ///
+    /// # Proved
+    ///
+    /// - Returns `self.now.chip.transmitter.wire`.
+    ///
+    /// <details><summary>The clauses</summary>
+    ///
+    /// [How to read them](uart_spec::proved):
+    ///
+    /// ```text
+    /// ensures { result.now ≡ self.now.chip.transmitter.wire }
+    /// ```
+    ///
+    /// </details>
     #[inline]
     pub fn output(&self) -> &[u8] {
         self.chip.wire()
@@ -622,6 +929,22 @@ impl VirtualPort {
     /// obey_signals(host, port.take_output(taken));
     /// # }
     /// ```
+    ///
+    /// # Proved
+    ///
+    /// - *after*: `self` becomes [`after`](crate::proved::port#after) `(TakeOutput count) self.old`: the port after this call: the access or what the host brings, and then the time that passes in each call.
+    /// - *todo*: returns [`todo`](crate::proved::port#todo) `(TakeOutput count) self.old`: what the monitor has to do after this call: signal the interrupt, take output, bring input.
+    ///
+    /// <details><summary>The clauses</summary>
+    ///
+    /// [How to read them](uart_spec::proved):
+    ///
+    /// ```text
+    /// ensures after { self.new ≡ port.after (TakeOutput count) self.old }
+    /// ensures todo { result ≡ port.todo (TakeOutput count) self.old }
+    /// ```
+    ///
+    /// </details>
     #[inline]
     pub fn take_output(&mut self, count: usize) -> Todo {
         take(&mut self.chip, count, &mut self.told)
@@ -631,11 +954,41 @@ impl VirtualPort {
     ///
     /// If it is 0, the first call after which nothing waits says in `has_room` that there is room,
     /// or one by which the guest makes room otherwise than by reading DATA.
+    ///
+    /// # Proved
+    ///
+    /// - *room*: returns [`receive_room`](uart_chip::proved::chip#receive_room) `self.now.chip`: how many characters can arrive before one is lost; in loopback each one is lost.
+    /// - *told*: [`IsTold`](crate::proved::port#IsTold) `self.now`: what the monitor was told is true: the level of the line; if it may take it that there is room, there is, and if nothing waits and there is room, it may.
+    ///
+    /// <details><summary>The clauses</summary>
+    ///
+    /// [How to read them](uart_spec::proved):
+    ///
+    /// ```text
+    /// ensures room { result ≡ spec.receive_room self.now.chip }
+    /// ensures told { IsTold self.now }
+    /// ```
+    ///
+    /// </details>
     pub fn receive_room(&self) -> usize {
         self.chip.receive_room()
     }
 
     /// Returns the chip, for what can be seen of it.
+    ///
+    /// # Proved
+    ///
+    /// - Returns `self.now.chip`.
+    ///
+    /// <details><summary>The clauses</summary>
+    ///
+    /// [How to read them](uart_spec::proved):
+    ///
+    /// ```text
+    /// ensures { result.now ≡ self.now.chip }
+    /// ```
+    ///
+    /// </details>
     pub fn chip(&self) -> &LiveChip {
         &self.chip
     }
@@ -652,6 +1005,27 @@ impl VirtualPort {
     /// host.set_line(port.level());
     /// # }
     /// ```
+    ///
+    /// # Proved
+    ///
+    /// - *level*: returns [`is_up`](crate::proved::port#is_up) `self.now.chip`: the level of the interrupt line.
+    /// - *told*: [`IsTold`](crate::proved::port#IsTold) `self.now`: what the monitor was told is true: the level of the line; if it may take it that there is room, there is, and if nothing waits and there is room, it may.
+    /// - *still*: [`IsStill`](crate::proved::port#IsStill) `self.now.chip`: nothing is left to happen, however much time passes: no character can move, and a reception timeout is due if characters wait in the FIFO.
+    /// - *time*: for each `n`: `spec.ticks n self.now.chip ≡ self.now.chip`.
+    ///   - [`ticks`](uart_chip::proved::chip#ticks): the chip after so many ticks.
+    ///
+    /// <details><summary>The clauses</summary>
+    ///
+    /// [How to read them](uart_spec::proved):
+    ///
+    /// ```text
+    /// ensures level { result ≡ port.is_up self.now.chip }
+    /// ensures told { IsTold self.now }
+    /// ensures still { port.IsStill self.now.chip }
+    /// ensures time { (n : ℕ) → spec.ticks n self.now.chip ≡ self.now.chip }
+    /// ```
+    ///
+    /// </details>
     pub fn level(&self) -> bool {
         self.chip.is_interrupting()
     }

@@ -31,6 +31,22 @@ impl<B: Backend> Uart16550<B> {
     /// let rest = &bytes[sent..];
     /// # Ok(()) }
     /// ```
+    ///
+    /// # Proved
+    ///
+    /// - *made*: [makes accesses as](crate::proved::driver#Made) [`SendsBurst`](crate::proved::bursts#SendsBurst) `size buffer.now result`: nothing if there are no bytes; else a send check and, if it succeeds, bytes from the front are written to DATA: as many as a FIFO of this size holds, or one if it is off. The result is how many.
+    /// - *count*: `result ≤ length buffer.now`.
+    ///
+    /// <details><summary>The clauses</summary>
+    ///
+    /// [How to read them](uart_spec::proved):
+    ///
+    /// ```text
+    /// ensures made { Made B.step (SendsBurst size buffer.now result) self.old self.new }
+    /// ensures count { result ≤ length buffer.now }
+    /// ```
+    ///
+    /// </details>
     pub fn send_burst(&mut self, buffer: &[u8], size: FifoSize) -> usize {
         if buffer.is_empty() {
             return 0;

@@ -152,6 +152,21 @@ impl<B: Backend> Uart16550<B> {
     /// uart.check_configured(MCR::READY)?;
     /// # Ok(()) }
     /// ```
+    ///
+    /// # Proved
+    ///
+    /// - [Makes accesses as](crate::proved::driver#Made) [`ChecksConfigured`](crate::proved::configured#ChecksConfigured) `(fields self.old).config outputs.0 result`: the registers show the configuration and these outputs, without loopback; or one does not, and the error has what was asked for and what it shows; or the configuration has no divisor, and no access was made.
+    ///   - [`fields`](crate::proved::driver#fields): what this driver holds beside its backend.
+    ///
+    /// <details><summary>The clauses</summary>
+    ///
+    /// [How to read them](uart_spec::proved):
+    ///
+    /// ```text
+    /// ensures { Made B.step (ChecksConfigured (fields self.old).config outputs.0 result) self.old self.new }
+    /// ```
+    ///
+    /// </details>
     pub fn check_configured(&mut self, outputs: MCR) -> Result<(), ConfigurationError> {
         let Some(divisor) = self.configured_divisor() else {
             return Err(ConfigurationError::NoDivisor);

@@ -64,6 +64,23 @@ impl<B: Backend> Uart16550<B> {
     /// })?;
     /// # Ok(()) }
     /// ```
+    ///
+    /// # Proved
+    ///
+    /// If [`IsComputable`](uart_spec::proved::config#IsComputable) `config.now` (frequency and baud rate are not zero, and the prescaler division factor is absent or at most 15):
+    ///
+    /// - [Does as](crate::proved::driver#Did) [`SetsFrame`](crate::proved::frame#SetsFrame) `config.now result`: clock, baud rate and frame are stored, and written to the divisor latch and to LCR; or there is no divisor, and nothing is done.
+    ///
+    /// <details><summary>The clauses</summary>
+    ///
+    /// [How to read them](uart_spec::proved):
+    ///
+    /// ```text
+    /// requires { IsComputable config.now }
+    /// ensures { Did B.step (SetsFrame config.now result) self.old self.new }
+    /// ```
+    ///
+    /// </details>
     pub fn set_frame(&mut self, config: &Config) -> Result<(), InvalidDivisorError> {
         let baud_rate = config.baud_rate.to_integer();
         let prescaler = config.prescaler_division_factor;
@@ -111,6 +128,20 @@ impl<B: Backend> Uart16550<B> {
     /// assert!(uart.is_idle());
     /// # Ok(()) }
     /// ```
+    ///
+    /// # Proved
+    ///
+    /// - [Makes accesses as](crate::proved::driver#Made) [`ShowsIdle`](crate::proved::frame#ShowsIdle) `result`: one read of LSR, which shows whether the transmitter is empty.
+    ///
+    /// <details><summary>The clauses</summary>
+    ///
+    /// [How to read them](uart_spec::proved):
+    ///
+    /// ```text
+    /// ensures { Made B.step (ShowsIdle result) self.old self.new }
+    /// ```
+    ///
+    /// </details>
     pub fn is_idle(&mut self) -> bool {
         self.read_lsr().contains(LSR::TRANSMITTER_EMPTY)
     }
@@ -131,6 +162,20 @@ impl<B: Backend> Uart16550<B> {
     /// uart.set_break(true);
     /// # Ok(()) }
     /// ```
+    ///
+    /// # Proved
+    ///
+    /// - [Makes accesses as](crate::proved::driver#Made) [`SetsBreak`](crate::proved::frame#SetsBreak) `on`: LCR is read, and written with the break set or cleared.
+    ///
+    /// <details><summary>The clauses</summary>
+    ///
+    /// [How to read them](uart_spec::proved):
+    ///
+    /// ```text
+    /// ensures { Made B.step (SetsBreak on) self.old self.new }
+    /// ```
+    ///
+    /// </details>
     pub fn set_break(&mut self, on: bool) {
         let switched = break_of(self.lcr(), on);
         self.write_register(offsets::LCR, switched.bits());
@@ -150,6 +195,20 @@ impl<B: Backend> Uart16550<B> {
     /// uart.set_modem_control(MCR::DTR.union(MCR::OUT_2_INT_ENABLE));
     /// # Ok(()) }
     /// ```
+    ///
+    /// # Proved
+    ///
+    /// - [Makes accesses as](crate::proved::driver#Made) [`SetsControl`](crate::proved::frame#SetsControl) `outputs.0`: these bits are written to MCR, without loopback.
+    ///
+    /// <details><summary>The clauses</summary>
+    ///
+    /// [How to read them](uart_spec::proved):
+    ///
+    /// ```text
+    /// ensures { Made B.step (SetsControl outputs.0) self.old self.new }
+    /// ```
+    ///
+    /// </details>
     pub fn set_modem_control(&mut self, outputs: MCR) {
         // In loopback the outputs are inactive at the pins, whatever MCR has, so the remote would
         // not see what was asked for. The driver itself never leaves the chip in loopback.
@@ -168,6 +227,20 @@ impl<B: Backend> Uart16550<B> {
     /// uart.set_rts(false);
     /// # Ok(()) }
     /// ```
+    ///
+    /// # Proved
+    ///
+    /// - [Makes accesses as](crate::proved::driver#Made) [`SetsOutput`](crate::proved::frame#SetsOutput) `MCR.RTS.0 on`: MCR is read, and written with this bit set or cleared, without loopback.
+    ///
+    /// <details><summary>The clauses</summary>
+    ///
+    /// [How to read them](uart_spec::proved):
+    ///
+    /// ```text
+    /// ensures { Made B.step (SetsOutput MCR.RTS.0 on) self.old self.new }
+    /// ```
+    ///
+    /// </details>
     pub fn set_rts(&mut self, on: bool) {
         self.set_output(MCR::RTS, on);
     }
@@ -184,6 +257,20 @@ impl<B: Backend> Uart16550<B> {
     /// uart.set_dtr(false);
     /// # Ok(()) }
     /// ```
+    ///
+    /// # Proved
+    ///
+    /// - [Makes accesses as](crate::proved::driver#Made) [`SetsOutput`](crate::proved::frame#SetsOutput) `MCR.DTR.0 on`: MCR is read, and written with this bit set or cleared, without loopback.
+    ///
+    /// <details><summary>The clauses</summary>
+    ///
+    /// [How to read them](uart_spec::proved):
+    ///
+    /// ```text
+    /// ensures { Made B.step (SetsOutput MCR.DTR.0 on) self.old self.new }
+    /// ```
+    ///
+    /// </details>
     pub fn set_dtr(&mut self, on: bool) {
         self.set_output(MCR::DTR, on);
     }
@@ -224,6 +311,20 @@ impl<B: Backend> Uart16550<B> {
     /// uart.send_bytes_exact(b"hello")?;
     /// # Ok(()) }
     /// ```
+    ///
+    /// # Proved
+    ///
+    /// - [Does as](crate::proved::driver#Did) [`Attaches`](crate::proved::attach#Attaches) `result`: LCR shows that DLAB is off, MCR that loopback is off, the divisor latch a divisor, and ISR whether the FIFOs are on, which the driver takes them to be; or these are read up to the one that the error is about, and the driver stays as it was.
+    ///
+    /// <details><summary>The clauses</summary>
+    ///
+    /// [How to read them](uart_spec::proved):
+    ///
+    /// ```text
+    /// ensures { Did B.step (Attaches result) self.old self.new }
+    /// ```
+    ///
+    /// </details>
     pub fn attach(&mut self) -> Result<(DLL, DLM), AttachError> {
         // LCR comes first, since its DLAB says what other offsets are: on later chips some of its
         // values show further registers in place of MCR and ISR. ISR comes last, after the latch

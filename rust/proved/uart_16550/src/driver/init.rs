@@ -67,6 +67,20 @@ impl<B: Backend> Uart16550<B> {
     /// assert!(uart.check_present());
     /// # Ok(()) }
     /// ```
+    ///
+    /// # Proved
+    ///
+    /// - [Makes accesses as](crate::proved::driver#Made) [`ChecksPresence`](crate::proved::init#ChecksPresence) `result`: the scratch register is read, tested with the patterns, and restored.
+    ///
+    /// <details><summary>The clauses</summary>
+    ///
+    /// [How to read them](uart_spec::proved):
+    ///
+    /// ```text
+    /// ensures { Made B.step (ChecksPresence result) self.old self.new }
+    /// ```
+    ///
+    /// </details>
     pub fn check_present(&mut self) -> bool {
         let old = self.read_register(offsets::SPR);
         let present = self.keeps_patterns();
@@ -181,6 +195,23 @@ impl<B: Backend> Uart16550<B> {
     /// })?;
     /// # Ok(()) }
     /// ```
+    ///
+    /// # Proved
+    ///
+    /// If [`IsComputable`](uart_spec::proved::config#IsComputable) `config` (frequency and baud rate are not zero, and the prescaler division factor is absent or at most 15):
+    ///
+    /// - [Does as](crate::proved::driver#Did) [`Inits`](crate::proved::init#Inits) `config result`: the configuration is stored, the scratch register tested, divisor, frame and FIFO are set, the receiver is drained, and MCR is written; after a wait for an empty transmitter the statuses are read, and IER is written. Or nothing is done, if there is no divisor; or all up to the test that fails, or to the wait that reaches the limit.
+    ///
+    /// <details><summary>The clauses</summary>
+    ///
+    /// [How to read them](uart_spec::proved):
+    ///
+    /// ```text
+    /// requires { IsComputable config }
+    /// ensures { Did B.step (Inits config result) self.old self.new }
+    /// ```
+    ///
+    /// </details>
     pub fn init(&mut self, config: Config) -> Result<(), InitError> {
         // The divisor comes before the first access, so that a configuration which cannot be had
         // changes nothing.

@@ -170,6 +170,20 @@ impl<B: Backend> Uart16550<B> {
     /// uart.test_loopback()?;
     /// # Ok(()) }
     /// ```
+    ///
+    /// # Proved
+    ///
+    /// - [Does as](crate::proved::driver#Did) [`TestsLoopback`](crate::proved::loopback#TestsLoopback) `result`: MCR and IER are read, and there is a wait for an empty transmitter. If it reaches the limit, nothing is written, and the result is a stall; else loopback is entered, bytes are exchanged up to the first error, and MCR and IER are restored.
+    ///
+    /// <details><summary>The clauses</summary>
+    ///
+    /// [How to read them](uart_spec::proved):
+    ///
+    /// ```text
+    /// ensures { Did B.step (TestsLoopback result) self.old self.new }
+    /// ```
+    ///
+    /// </details>
     pub fn test_loopback(&mut self) -> Result<(), LoopbackError> {
         let mcr = self.mcr();
         let ier = self.ier();

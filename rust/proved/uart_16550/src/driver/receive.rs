@@ -24,6 +24,20 @@ impl<B: Backend> Uart16550<B> {
     /// assert!(uart.ready_to_receive().is_err());
     /// # Ok(()) }
     /// ```
+    ///
+    /// # Proved
+    ///
+    /// - [Makes accesses as](crate::proved::driver#Made) [`ReadyToReceive`](crate::proved::receive#ReadyToReceive) `result`: one read of LSR, which shows a received byte exactly if the result is `Ok`.
+    ///
+    /// <details><summary>The clauses</summary>
+    ///
+    /// [How to read them](uart_spec::proved):
+    ///
+    /// ```text
+    /// ensures { Made B.step (ReadyToReceive result) self.old self.new }
+    /// ```
+    ///
+    /// </details>
     pub fn ready_to_receive(&mut self) -> Result<(), ByteReceiveError> {
         if !self.read_lsr().contains(LSR::DATA_READY) {
             return Err(ByteReceiveError);
@@ -50,6 +64,20 @@ impl<B: Backend> Uart16550<B> {
     /// uart.try_receive_byte().ok()
     /// # }) }
     /// ```
+    ///
+    /// # Proved
+    ///
+    /// - [Makes accesses as](crate::proved::driver#Made) [`TryReceive`](crate::proved::receive#TryReceive) `result`: LSR shows a received byte, which is read from DATA and returned; or LSR shows none.
+    ///
+    /// <details><summary>The clauses</summary>
+    ///
+    /// [How to read them](uart_spec::proved):
+    ///
+    /// ```text
+    /// ensures { Made B.step (TryReceive result) self.old self.new }
+    /// ```
+    ///
+    /// </details>
     pub fn try_receive_byte(&mut self) -> Result<u8, ByteReceiveError> {
         self.ready_to_receive()?;
         Ok(self.read_register(offsets::DATA))
@@ -73,6 +101,24 @@ impl<B: Backend> Uart16550<B> {
     /// assert_eq!(slots, [0x41, 0x42, 0xee, 0xee]);
     /// # Ok(()) }
     /// ```
+    ///
+    /// # Proved
+    ///
+    /// - *made*: [makes accesses as](crate::proved::driver#Made) [`Receives`](crate::proved::receive#Receives) `(length buffer.old) (take result buffer.new)`: bytes are read from DATA, each after LSR shows it, until the slots are full, or LSR shows none.
+    /// - *count*: `result ≤ length buffer.old`.
+    /// - *rest*: `drop result buffer.new ≡ drop result buffer.old`.
+    ///
+    /// <details><summary>The clauses</summary>
+    ///
+    /// [How to read them](uart_spec::proved):
+    ///
+    /// ```text
+    /// ensures made { Made B.step (Receives (length buffer.old) (take result buffer.new)) self.old self.new }
+    /// ensures count { result ≤ length buffer.old }
+    /// ensures rest { drop result buffer.new ≡ drop result buffer.old }
+    /// ```
+    ///
+    /// </details>
     pub fn receive_bytes(&mut self, buffer: &mut [u8]) -> usize {
         for (count, slot) in buffer.iter_mut().enumerate() {
             match self.try_receive_byte() {
@@ -103,6 +149,20 @@ impl<B: Backend> Uart16550<B> {
     /// uart.try_receive_with_errors().ok()
     /// # }) }
     /// ```
+    ///
+    /// # Proved
+    ///
+    /// - [Makes accesses as](crate::proved::driver#Made) [`TryReceiveWithErrors`](crate::proved::receive#TryReceiveWithErrors) `result`: LSR shows a received byte, which is read from DATA and returned with the errors that LSR shows; or LSR shows none.
+    ///
+    /// <details><summary>The clauses</summary>
+    ///
+    /// [How to read them](uart_spec::proved):
+    ///
+    /// ```text
+    /// ensures { Made B.step (TryReceiveWithErrors result) self.old self.new }
+    /// ```
+    ///
+    /// </details>
     pub fn try_receive_with_errors(&mut self) -> Result<Received, ByteReceiveError> {
         // LSR shows the errors of the character that is the next to be read. So it is read first.
         let lsr = self.read_lsr();
@@ -140,6 +200,24 @@ impl<B: Backend> Uart16550<B> {
     /// let count = uart.receive_with_errors(&mut slots);
     /// # Ok(()) }
     /// ```
+    ///
+    /// # Proved
+    ///
+    /// - *made*: [makes accesses as](crate::proved::driver#Made) [`ReceivesWithErrors`](crate::proved::receive#ReceivesWithErrors) `(length slots.old) (take result slots.new)`: bytes are read from DATA, each after LSR shows it and its errors, until the slots are full, or LSR shows none.
+    /// - *count*: `result ≤ length slots.old`.
+    /// - *rest*: `drop result slots.new ≡ drop result slots.old`.
+    ///
+    /// <details><summary>The clauses</summary>
+    ///
+    /// [How to read them](uart_spec::proved):
+    ///
+    /// ```text
+    /// ensures made { Made B.step (ReceivesWithErrors (length slots.old) (take result slots.new)) self.old self.new }
+    /// ensures count { result ≤ length slots.old }
+    /// ensures rest { drop result slots.new ≡ drop result slots.old }
+    /// ```
+    ///
+    /// </details>
     pub fn receive_with_errors(&mut self, slots: &mut [Received]) -> usize {
         for (taken, slot) in slots.iter_mut().enumerate() {
             match self.try_receive_with_errors() {
@@ -201,6 +279,23 @@ impl<B: Backend> Uart16550<B> {
     /// }
     /// # Ok(()) }
     /// ```
+    ///
+    /// # Proved
+    ///
+    /// - *made*: [makes accesses as](crate::proved::driver#Made) [`ReceivesExact`](crate::proved::receive#ReceivesExact) `(length buffer.old) (filled result buffer.new) result`: the slots are filled, each after its own wait; or those before the one whose wait reaches the limit, as many as the error reports.
+    ///   - [`filled`](crate::proved::receive#filled): the bytes that an exact call put into its slots: all of them, or as many as the stall reports.
+    /// - *rest*: if it returns `Err e`: `drop e.done buffer.new ≡ drop e.done buffer.old`.
+    ///
+    /// <details><summary>The clauses</summary>
+    ///
+    /// [How to read them](uart_spec::proved):
+    ///
+    /// ```text
+    /// ensures made { Made B.step (ReceivesExact (length buffer.old) (filled result buffer.new) result) self.old self.new }
+    /// ensures rest { IfErr result (λ e. drop e.done buffer.new ≡ drop e.done buffer.old) }
+    /// ```
+    ///
+    /// </details>
     pub fn receive_bytes_exact(&mut self, buffer: &mut [u8]) -> Result<(), StalledError> {
         for (done, slot) in buffer.iter_mut().enumerate() {
             match self.receive_one() {

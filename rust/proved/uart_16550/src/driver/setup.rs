@@ -43,6 +43,20 @@ impl<B: Backend> Uart16550<B> {
     /// uart.set_trigger_level(FifoTriggerLevel::One)?;
     /// # Ok(()) }
     /// ```
+    ///
+    /// # Proved
+    ///
+    /// - [Does as](crate::proved::driver#Did) [`SetsTrigger`](crate::proved::setup#SetsTrigger) `level result`: with the FIFOs on, the level is stored and written to FCR; with them off, nothing is done, and the result is the error.
+    ///
+    /// <details><summary>The clauses</summary>
+    ///
+    /// [How to read them](uart_spec::proved):
+    ///
+    /// ```text
+    /// ensures { Did B.step (SetsTrigger level result) self.old self.new }
+    /// ```
+    ///
+    /// </details>
     pub fn set_trigger_level(&mut self, level: FifoTriggerLevel) -> Result<(), FifosOffError> {
         if !self.fifo_enabled {
             return Err(FifosOffError);
@@ -83,6 +97,23 @@ impl<B: Backend> Uart16550<B> {
     /// })?;
     /// # Ok(()) }
     /// ```
+    ///
+    /// # Proved
+    ///
+    /// If [`IsComputable`](uart_spec::proved::config#IsComputable) `config.now` (frequency and baud rate are not zero, and the prescaler division factor is absent or at most 15):
+    ///
+    /// - [Does as](crate::proved::driver#Did) [`SetsFrameWhenIdle`](crate::proved::setup#SetsFrameWhenIdle) `config.now result`: after a wait for an empty transmitter all is as in `set_frame`; or there is no divisor, and nothing is done; or the wait reaches the limit, and nothing is written.
+    ///
+    /// <details><summary>The clauses</summary>
+    ///
+    /// [How to read them](uart_spec::proved):
+    ///
+    /// ```text
+    /// requires { IsComputable config.now }
+    /// ensures { Did B.step (SetsFrameWhenIdle config.now result) self.old self.new }
+    /// ```
+    ///
+    /// </details>
     pub fn set_frame_when_idle(&mut self, config: &Config) -> Result<(), FrameError> {
         let baud_rate = config.baud_rate.to_integer();
         let prescaler = config.prescaler_division_factor;
@@ -144,6 +175,23 @@ impl<B: Backend> Uart16550<B> {
     /// uart.init_with(Config::DEFAULT, &setup)?;
     /// # Ok(()) }
     /// ```
+    ///
+    /// # Proved
+    ///
+    /// If [`IsComputable`](uart_spec::proved::config#IsComputable) `config` (frequency and baud rate are not zero, and the prescaler division factor is absent or at most 15):
+    ///
+    /// - [Does as](crate::proved::driver#Did) [`InitsWith`](crate::proved::setup#InitsWith) `setup.now config result`: as `init`, with the test, the wait and the outputs of this setup. The configuration is stored; the test and the wait that is to be first are made; divisor, frame and FIFO are set, the receiver is drained, and MCR is written; the wait that is to be last is made; the statuses are read, and IER is written. Or nothing is done, if there is no divisor; or all up to the test that fails, or to the wait that reaches the limit.
+    ///
+    /// <details><summary>The clauses</summary>
+    ///
+    /// [How to read them](uart_spec::proved):
+    ///
+    /// ```text
+    /// requires { IsComputable config }
+    /// ensures { Did B.step (InitsWith setup.now config result) self.old self.new }
+    /// ```
+    ///
+    /// </details>
     pub fn init_with(&mut self, config: Config, setup: &Setup) -> Result<(), InitError> {
         let baud_rate = config.baud_rate.to_integer();
         let prescaler = config.prescaler_division_factor;
@@ -228,6 +276,20 @@ impl<B: Backend> Uart16550<B> {
     /// uart.quiesce(MCR::from_bits_retain(0), FifoAction::Disable);
     /// # Ok(()) }
     /// ```
+    ///
+    /// # Proved
+    ///
+    /// - [Does as](crate::proved::driver#Did) [`Quiesces`](crate::proved::setup#Quiesces) `outputs.0 fifos`: all interrupts are disabled, the outputs are written to MCR, without loopback, and then FCR, if the FIFOs are to be reset or disabled.
+    ///
+    /// <details><summary>The clauses</summary>
+    ///
+    /// [How to read them](uart_spec::proved):
+    ///
+    /// ```text
+    /// ensures { Did B.step (Quiesces outputs.0 fifos) self.old self.new }
+    /// ```
+    ///
+    /// </details>
     pub fn quiesce(&mut self, outputs: MCR, fifos: FifoAction) {
         self.config.interrupts = IER::from_bits_retain(0);
         // The interrupts come first, so that none is raised by what the outputs change.
@@ -255,6 +317,20 @@ impl<B: Backend> Uart16550<B> {
     /// uart.restore(&before);
     /// # Ok(()) }
     /// ```
+    ///
+    /// # Proved
+    ///
+    /// - [Does as](crate::proved::driver#Did) [`Restores`](crate::proved::setup#Restores) `dump.now`: divisor and frame, the FIFOs, and then MCR without loopback, SPR and IER are written as the dump has them. If it has the FIFOs on, ISR shows whether they are.
+    ///
+    /// <details><summary>The clauses</summary>
+    ///
+    /// [How to read them](uart_spec::proved):
+    ///
+    /// ```text
+    /// ensures { Did B.step (Restores dump.now) self.old self.new }
+    /// ```
+    ///
+    /// </details>
     pub fn restore(&mut self, dump: &ConfigRegisterDump) {
         self.config.interrupts = dump.ier;
         self.set_line(dump.divisor(), dump.lcr.difference(LCR::DLAB));

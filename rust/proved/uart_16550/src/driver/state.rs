@@ -27,6 +27,22 @@ pub struct DriverState {
 
 impl DriverState {
     /// Returns the state of a driver that `new_with_backend` has just made.
+    ///
+    /// # Proved
+    ///
+    /// - `fields_of result ≡ fresh_fields`.
+    ///   - [`fields_of`](crate::proved::state#fields_of): the fields of a driver in this state.
+    ///   - [`fresh_fields`](crate::proved::state#fresh_fields): the fields of a new driver.
+    ///
+    /// <details><summary>The clauses</summary>
+    ///
+    /// [How to read them](uart_spec::proved):
+    ///
+    /// ```text
+    /// ensures { fields_of result ≡ fresh_fields }
+    /// ```
+    ///
+    /// </details>
     pub fn new() -> Self {
         DriverState {
             config: Config::DEFAULT,
@@ -52,6 +68,25 @@ impl<B: Backend> Uart16550<B> {
     /// let mut uart = Uart16550Tty::from_inner(Uart16550::from_state(Tape::new(accesses), state));
     /// # Ok(()) }
     /// ```
+    ///
+    /// # Proved
+    ///
+    /// - *backend*: `backend_of result ≡ backend`.
+    ///   - [`backend_of`](crate::proved::driver#backend_of): the backend of a driver, which makes its accesses.
+    /// - *fields*: `fields result ≡ fields_of state.now`.
+    ///   - [`fields`](crate::proved::driver#fields): what this driver holds beside its backend.
+    ///   - [`fields_of`](crate::proved::state#fields_of): the fields of a driver in this state.
+    ///
+    /// <details><summary>The clauses</summary>
+    ///
+    /// [How to read them](uart_spec::proved):
+    ///
+    /// ```text
+    /// ensures backend { backend_of result ≡ backend }
+    /// ensures fields { fields result ≡ fields_of state.now }
+    /// ```
+    ///
+    /// </details>
     pub fn from_state(backend: B, state: &DriverState) -> Self {
         Uart16550 {
             backend,
@@ -74,6 +109,22 @@ impl<B: Backend> Uart16550<B> {
     /// let state = uart.inner().state();
     /// # Ok(()) }
     /// ```
+    ///
+    /// # Proved
+    ///
+    /// - `fields_of result ≡ fields self.now`.
+    ///   - [`fields_of`](crate::proved::state#fields_of): the fields of a driver in this state.
+    ///   - [`fields`](crate::proved::driver#fields): what this driver holds beside its backend.
+    ///
+    /// <details><summary>The clauses</summary>
+    ///
+    /// [How to read them](uart_spec::proved):
+    ///
+    /// ```text
+    /// ensures { fields_of result ≡ fields self.now }
+    /// ```
+    ///
+    /// </details>
     pub fn state(&self) -> DriverState {
         DriverState {
             config: Config { ..self.config },

@@ -21,6 +21,20 @@ impl<B: Backend> Uart16550<B> {
     /// assert_eq!(uart.ier(), IER::THR_EMPTY);
     /// # Ok(()) }
     /// ```
+    ///
+    /// # Proved
+    ///
+    /// - [Makes accesses as](crate::proved::driver#Made) [`Only`](crate::proved::grammar#Only) `(Read offsets.IER result.0 ∷ [])`: these accesses in this order, and no other.
+    ///
+    /// <details><summary>The clauses</summary>
+    ///
+    /// [How to read them](uart_spec::proved):
+    ///
+    /// ```text
+    /// ensures { Made B.step (Only (Read offsets.IER result.0 ∷ [])) self.old self.new }
+    /// ```
+    ///
+    /// </details>
     pub fn ier(&mut self) -> IER {
         IER::from_bits_retain(self.read_register(offsets::IER))
     }
@@ -40,6 +54,20 @@ impl<B: Backend> Uart16550<B> {
     /// self.uart.isr().interrupt_type()
     /// # } }
     /// ```
+    ///
+    /// # Proved
+    ///
+    /// - [Makes accesses as](crate::proved::driver#Made) [`Only`](crate::proved::grammar#Only) `(Read offsets.ISR result.0 ∷ [])`: these accesses in this order, and no other.
+    ///
+    /// <details><summary>The clauses</summary>
+    ///
+    /// [How to read them](uart_spec::proved):
+    ///
+    /// ```text
+    /// ensures { Made B.step (Only (Read offsets.ISR result.0 ∷ [])) self.old self.new }
+    /// ```
+    ///
+    /// </details>
     pub fn isr(&mut self) -> ISR {
         ISR::from_bits_retain(self.read_register(offsets::ISR))
     }
@@ -55,6 +83,20 @@ impl<B: Backend> Uart16550<B> {
     /// assert_eq!(uart.lcr(), shown.lcr);
     /// # Ok(()) }
     /// ```
+    ///
+    /// # Proved
+    ///
+    /// - [Makes accesses as](crate::proved::driver#Made) [`Only`](crate::proved::grammar#Only) `(Read offsets.LCR result.0 ∷ [])`: these accesses in this order, and no other.
+    ///
+    /// <details><summary>The clauses</summary>
+    ///
+    /// [How to read them](uart_spec::proved):
+    ///
+    /// ```text
+    /// ensures { Made B.step (Only (Read offsets.LCR result.0 ∷ [])) self.old self.new }
+    /// ```
+    ///
+    /// </details>
     pub fn lcr(&mut self) -> LCR {
         LCR::from_bits_retain(self.read_register(offsets::LCR))
     }
@@ -70,6 +112,20 @@ impl<B: Backend> Uart16550<B> {
     /// assert_eq!(uart.mcr(), shown.mcr);
     /// # Ok(()) }
     /// ```
+    ///
+    /// # Proved
+    ///
+    /// - [Makes accesses as](crate::proved::driver#Made) [`Only`](crate::proved::grammar#Only) `(Read offsets.MCR result.0 ∷ [])`: these accesses in this order, and no other.
+    ///
+    /// <details><summary>The clauses</summary>
+    ///
+    /// [How to read them](uart_spec::proved):
+    ///
+    /// ```text
+    /// ensures { Made B.step (Only (Read offsets.MCR result.0 ∷ [])) self.old self.new }
+    /// ```
+    ///
+    /// </details>
     pub fn mcr(&mut self) -> MCR {
         MCR::from_bits_retain(self.read_register(offsets::MCR))
     }
@@ -95,6 +151,20 @@ impl<B: Backend> Uart16550<B> {
     /// assert!(!uart.is_gone());
     /// # Ok(()) }
     /// ```
+    ///
+    /// # Proved
+    ///
+    /// - [Makes accesses as](crate::proved::driver#Made) [`ShowsGone`](crate::proved::status#ShowsGone) `result`: one read of MCR, which shows all bits set, as a bus does that nobody drives, exactly if the result is `true`.
+    ///
+    /// <details><summary>The clauses</summary>
+    ///
+    /// [How to read them](uart_spec::proved):
+    ///
+    /// ```text
+    /// ensures { Made B.step (ShowsGone result) self.old self.new }
+    /// ```
+    ///
+    /// </details>
     pub fn is_gone(&mut self) -> bool {
         // MCR, and no other register: a read of DATA, LSR, MSR or ISR changes a chip that is there
         // after all, IER is the divisor latch under DLAB, and LCR and SPR may be FF.
@@ -118,6 +188,20 @@ impl<B: Backend> Uart16550<B> {
     /// assert_eq!(uart.lsr(), shown.lsr);
     /// # Ok(()) }
     /// ```
+    ///
+    /// # Proved
+    ///
+    /// - [Does as](crate::proved::driver#Did) [`TakesLsr`](crate::proved::status#TakesLsr) `result.0`: one read of LSR, which is returned joined with the saved bits, of which none are left.
+    ///
+    /// <details><summary>The clauses</summary>
+    ///
+    /// [How to read them](uart_spec::proved):
+    ///
+    /// ```text
+    /// ensures { Did B.step (TakesLsr result.0) self.old self.new }
+    /// ```
+    ///
+    /// </details>
     pub fn lsr(&mut self) -> LSR {
         let lsr = self.read_lsr().union(self.saved_lsr);
         self.saved_lsr = LSR::from_bits_retain(0);
@@ -138,6 +222,20 @@ impl<B: Backend> Uart16550<B> {
     /// assert_eq!(uart.msr(), shown.msr);
     /// # Ok(()) }
     /// ```
+    ///
+    /// # Proved
+    ///
+    /// - [Does as](crate::proved::driver#Did) [`TakesMsr`](crate::proved::status#TakesMsr) `result.0`: one read of MSR, which is returned joined with the saved bits, of which none are left.
+    ///
+    /// <details><summary>The clauses</summary>
+    ///
+    /// [How to read them](uart_spec::proved):
+    ///
+    /// ```text
+    /// ensures { Did B.step (TakesMsr result.0) self.old self.new }
+    /// ```
+    ///
+    /// </details>
     pub fn msr(&mut self) -> MSR {
         let msr = self.read_msr().union(self.saved_msr);
         self.saved_msr = MSR::from_bits_retain(0);
@@ -160,6 +258,20 @@ impl<B: Backend> Uart16550<B> {
     /// assert!(uart.peek_modem().contains(MSR::CTS));
     /// # Ok(()) }
     /// ```
+    ///
+    /// # Proved
+    ///
+    /// - [Makes accesses as](crate::proved::driver#Made) [`Only`](crate::proved::grammar#Only) `(Read offsets.MSR result.0 ∷ [])`: these accesses in this order, and no other.
+    ///
+    /// <details><summary>The clauses</summary>
+    ///
+    /// [How to read them](uart_spec::proved):
+    ///
+    /// ```text
+    /// ensures { Made B.step (Only (Read offsets.MSR result.0 ∷ [])) self.old self.new }
+    /// ```
+    ///
+    /// </details>
     pub fn peek_modem(&mut self) -> MSR {
         self.read_msr()
     }
@@ -175,6 +287,20 @@ impl<B: Backend> Uart16550<B> {
     /// assert_eq!(uart.spr(), shown.spr);
     /// # Ok(()) }
     /// ```
+    ///
+    /// # Proved
+    ///
+    /// - [Makes accesses as](crate::proved::driver#Made) [`Only`](crate::proved::grammar#Only) `(Read offsets.SPR result ∷ [])`: these accesses in this order, and no other.
+    ///
+    /// <details><summary>The clauses</summary>
+    ///
+    /// [How to read them](uart_spec::proved):
+    ///
+    /// ```text
+    /// ensures { Made B.step (Only (Read offsets.SPR result ∷ [])) self.old self.new }
+    /// ```
+    ///
+    /// </details>
     pub fn spr(&mut self) -> SPR {
         self.read_register(offsets::SPR)
     }
@@ -201,6 +327,20 @@ impl<B: Backend> Uart16550<B> {
     /// uart.check_connected()?;
     /// # Ok(()) }
     /// ```
+    ///
+    /// # Proved
+    ///
+    /// - [Makes accesses as](crate::proved::driver#Made) [`Connects`](crate::proved::status#Connects) `result`: one read of MSR, which shows DSR and CTS; or which does not show the one that the error names.
+    ///
+    /// <details><summary>The clauses</summary>
+    ///
+    /// [How to read them](uart_spec::proved):
+    ///
+    /// ```text
+    /// ensures { Made B.step (Connects result) self.old self.new }
+    /// ```
+    ///
+    /// </details>
     pub fn check_connected(&mut self) -> Result<(), RemoteReadyToReceiveError> {
         let msr = self.read_msr();
         if !msr.contains(MSR::DSR) {
@@ -228,6 +368,20 @@ impl<B: Backend> Uart16550<B> {
     /// uart.enable_interrupts(IER::THR_EMPTY);
     /// # Ok(()) }
     /// ```
+    ///
+    /// # Proved
+    ///
+    /// - [Does as](crate::proved::driver#Did) [`Enables`](crate::proved::status#Enables) `interrupts.0`: IER is read; what it shows, with these bits added, is stored in the configuration and written.
+    ///
+    /// <details><summary>The clauses</summary>
+    ///
+    /// [How to read them](uart_spec::proved):
+    ///
+    /// ```text
+    /// ensures { Did B.step (Enables interrupts.0) self.old self.new }
+    /// ```
+    ///
+    /// </details>
     pub fn enable_interrupts(&mut self, interrupts: IER) {
         let enabled = self.ier().union(interrupts);
         self.store_interrupts(enabled);
@@ -246,6 +400,20 @@ impl<B: Backend> Uart16550<B> {
     /// assert_eq!(uart.ier(), IER::THR_EMPTY);
     /// # Ok(()) }
     /// ```
+    ///
+    /// # Proved
+    ///
+    /// - [Does as](crate::proved::driver#Did) [`Disables`](crate::proved::status#Disables) `interrupts.0`: IER is read; what it shows, without these bits, is stored in the configuration and written.
+    ///
+    /// <details><summary>The clauses</summary>
+    ///
+    /// [How to read them](uart_spec::proved):
+    ///
+    /// ```text
+    /// ensures { Did B.step (Disables interrupts.0) self.old self.new }
+    /// ```
+    ///
+    /// </details>
     pub fn disable_interrupts(&mut self, interrupts: IER) {
         let enabled = self.ier().difference(interrupts);
         self.store_interrupts(enabled);
@@ -278,6 +446,20 @@ impl<B: Backend> Uart16550<B> {
     /// uart.retrigger_interrupts();
     /// # Ok(()) }
     /// ```
+    ///
+    /// # Proved
+    ///
+    /// - [Makes accesses as](crate::proved::driver#Made) [`Retriggers`](crate::proved::status#Retriggers): IER is read, then 0 is written to it, and then what was read.
+    ///
+    /// <details><summary>The clauses</summary>
+    ///
+    /// [How to read them](uart_spec::proved):
+    ///
+    /// ```text
+    /// ensures { Made B.step Retriggers self.old self.new }
+    /// ```
+    ///
+    /// </details>
     pub fn retrigger_interrupts(&mut self) {
         let enabled = self.read_register(offsets::IER);
         // With no interrupt enabled the output is low. What was pending stays so in the chip, and
@@ -300,6 +482,20 @@ impl<B: Backend> Uart16550<B> {
     /// assert_eq!(uart.dll_dlm(), (12, 0));
     /// # Ok(()) }
     /// ```
+    ///
+    /// # Proved
+    ///
+    /// - [Makes accesses as](crate::proved::driver#Made) [`ReadsDivisor`](crate::proved::status#ReadsDivisor) `result.0 result.1`: LCR is read, and written with DLAB; the divisor latch is read, its low byte first; and LCR is written back.
+    ///
+    /// <details><summary>The clauses</summary>
+    ///
+    /// [How to read them](uart_spec::proved):
+    ///
+    /// ```text
+    /// ensures { Made B.step (ReadsDivisor result.0 result.1) self.old self.new }
+    /// ```
+    ///
+    /// </details>
     pub fn dll_dlm(&mut self) -> (DLL, DLM) {
         let lcr = self.read_register(offsets::LCR);
         self.write_register(offsets::LCR, lcr | LCR::DLAB.bits());
@@ -325,6 +521,20 @@ impl<B: Backend> Uart16550<B> {
     /// assert_eq!(uart.config_register_dump().dll, 3);
     /// # Ok(()) }
     /// ```
+    ///
+    /// # Proved
+    ///
+    /// - [Does as](crate::proved::driver#Did) [`Dumps`](crate::proved::status#Dumps) `result`: the divisor latch and the seven other registers are read. LSR and MSR are returned joined with the saved bits, and all of these stay saved.
+    ///
+    /// <details><summary>The clauses</summary>
+    ///
+    /// [How to read them](uart_spec::proved):
+    ///
+    /// ```text
+    /// ensures { Did B.step (Dumps result) self.old self.new }
+    /// ```
+    ///
+    /// </details>
     pub fn config_register_dump(&mut self) -> ConfigRegisterDump {
         // The result is written field by field, so that no value waits in a register for the
         // others.

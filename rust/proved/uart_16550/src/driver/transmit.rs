@@ -37,6 +37,20 @@ impl<B: Backend> Uart16550<B> {
     /// assert_eq!(uart.ready_to_send(), Ok(()));
     /// # Ok(()) }
     /// ```
+    ///
+    /// # Proved
+    ///
+    /// - [Makes accesses as](crate::proved::driver#Made) [`ReadyToSend`](crate::proved::transmit#ReadyToSend) `result`: one send check: LSR shows THR\_EMPTY and, if CTS is checked, the modem lines allow sending; or the error names which of these is not so.
+    ///
+    /// <details><summary>The clauses</summary>
+    ///
+    /// [How to read them](uart_spec::proved):
+    ///
+    /// ```text
+    /// ensures { Made B.step (ReadyToSend result) self.old self.new }
+    /// ```
+    ///
+    /// </details>
     pub fn ready_to_send(&mut self) -> Result<(), ByteSendError> {
         if !self.read_lsr().contains(LSR::THR_EMPTY) {
             return Err(ByteSendError::NoCapacity);
@@ -103,6 +117,22 @@ impl<B: Backend> Uart16550<B> {
     /// let rest = &bytes[sent..];
     /// # Ok(()) }
     /// ```
+    ///
+    /// # Proved
+    ///
+    /// - *made*: [makes accesses as](crate::proved::driver#Made) [`Sends`](crate::proved::transmit#Sends) `buffer.now result`: nothing if there are no bytes; else a send check and, if it succeeds, bytes from the front are written to DATA: as many as the FIFO holds, or one if it is off. The result is how many.
+    /// - *count*: `result ≤ length buffer.now`.
+    ///
+    /// <details><summary>The clauses</summary>
+    ///
+    /// [How to read them](uart_spec::proved):
+    ///
+    /// ```text
+    /// ensures made { Made B.step (Sends buffer.now result) self.old self.new }
+    /// ensures count { result ≤ length buffer.now }
+    /// ```
+    ///
+    /// </details>
     pub fn send_bytes(&mut self, buffer: &[u8]) -> usize {
         if buffer.is_empty() {
             return 0;
@@ -131,6 +161,20 @@ impl<B: Backend> Uart16550<B> {
     /// assert_eq!(uart.try_send_byte(b'h'), Ok(()));
     /// # Ok(()) }
     /// ```
+    ///
+    /// # Proved
+    ///
+    /// - [Makes accesses as](crate::proved::driver#Made) [`TrySends`](crate::proved::transmit#TrySends) `byte result`: the accesses of `send_bytes` for this one byte, which is sent exactly if the result is `Ok`; the only error is `NoCapacity`.
+    ///
+    /// <details><summary>The clauses</summary>
+    ///
+    /// [How to read them](uart_spec::proved):
+    ///
+    /// ```text
+    /// ensures { Made B.step (TrySends byte result) self.old self.new }
+    /// ```
+    ///
+    /// </details>
     pub fn try_send_byte(&mut self, byte: u8) -> Result<(), ByteSendError> {
         if self.send_bytes(&[byte]) == 0 {
             return Err(ByteSendError::NoCapacity);
@@ -211,6 +255,22 @@ impl<B: Backend> Uart16550<B> {
     /// }
     /// # Ok(()) }
     /// ```
+    ///
+    /// # Proved
+    ///
+    /// - *made*: [makes accesses as](crate::proved::driver#Made) [`SendsExact`](crate::proved::transmit#SendsExact) `bytes.now result`: all bytes, burst by burst, each burst after its own wait; or those before the burst whose wait reaches the limit, as many as the error reports.
+    /// - *done*: if it returns `Err e`: `e.done < length bytes.now`.
+    ///
+    /// <details><summary>The clauses</summary>
+    ///
+    /// [How to read them](uart_spec::proved):
+    ///
+    /// ```text
+    /// ensures made { Made B.step (SendsExact bytes.now result) self.old self.new }
+    /// ensures done { IfErr result (λ e. e.done < length bytes.now) }
+    /// ```
+    ///
+    /// </details>
     pub fn send_bytes_exact(&mut self, bytes: &[u8]) -> Result<(), StalledError> {
         // Without FIFO each burst is one byte. The loop over bursts would serve too, but asks each
         // time how many bytes a burst has room for.

@@ -19,6 +19,23 @@ impl LiveChip {
     /// let restored = LiveChip::from_data(&saved, chip.wire())?;
     /// # Ok(()) }
     /// ```
+    ///
+    /// # Proved
+    ///
+    /// - *data*: `chip_of result self.now.transmitter.wire ≡ self.now`.
+    ///   - [`chip_of`](uart_chip::proved::snapshot#chip_of): the chip that these data describe, with these bytes on its wire and without a schedule.
+    /// - *live*: [`IsLive`](crate::proved::live#IsLive) `self.now`: the chip is sound and has nothing of a schedule: no event is to come, no arrival has a mark, none can be lost unnoticed; the wire has room for at most as much as a wire may have.
+    ///
+    /// <details><summary>The clauses</summary>
+    ///
+    /// [How to read them](uart_spec::proved):
+    ///
+    /// ```text
+    /// ensures data { chip_of result self.now.transmitter.wire ≡ self.now }
+    /// ensures live { IsLive self.now }
+    /// ```
+    ///
+    /// </details>
     pub fn data(&self) -> ChipData {
         self.uart.data()
     }
@@ -42,6 +59,27 @@ impl LiveChip {
     /// let restored = LiveChip::from_data(&saved, chip.wire())?;
     /// # Ok(()) }
     /// ```
+    ///
+    /// # Proved
+    ///
+    /// - *restored*: if it returns `Ok live`: `live` is [`chip_of`](uart_chip::proved::snapshot#chip_of) `saved.now wire.now`: the chip that these data describe, with these bytes on its wire and without a schedule.
+    /// - *refused*: unless [`IsLive`](crate::proved::live#IsLive) `(chip_of saved.now wire.now)`: returns `Err RestoreError.BadData`.
+    ///   - [`IsLive`](crate::proved::live#IsLive): the chip is sound and has nothing of a schedule: no event is to come, no arrival has a mark, none can be lost unnoticed; the wire has room for at most as much as a wire may have.
+    /// - *large*: if [`IsLive`](crate::proved::live#IsLive) `(chip_of saved.now wire.now)`, and `WIRE_ROOM < saved.now.transmitter.wire_capacity`: returns `Err RestoreError.BadWire`.
+    /// - *accepted*: if [`IsLive`](crate::proved::live#IsLive) `(chip_of saved.now wire.now)`, and `saved.now.transmitter.wire_capacity ≤ WIRE_ROOM`: returns `Ok`.
+    ///
+    /// <details><summary>The clauses</summary>
+    ///
+    /// [How to read them](uart_spec::proved):
+    ///
+    /// ```text
+    /// ensures restored { IfOk result (λ live. live ≡ chip_of saved.now wire.now) }
+    /// ensures refused { (IsLive (chip_of saved.now wire.now) → ⊥) → result ≡ Err RestoreError.BadData }
+    /// ensures large { IsLive (chip_of saved.now wire.now) → WIRE_ROOM < saved.now.transmitter.wire_capacity → result ≡ Err RestoreError.BadWire }
+    /// ensures accepted { IsLive (chip_of saved.now wire.now) → saved.now.transmitter.wire_capacity ≤ WIRE_ROOM → IsOk result }
+    /// ```
+    ///
+    /// </details>
     pub fn from_data(saved: &ChipData, wire: &[u8]) -> Result<Self, RestoreError> {
         if !is_live(saved, wire) {
             return Err(RestoreError::BadData);

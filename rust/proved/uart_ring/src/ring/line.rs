@@ -35,6 +35,20 @@ impl<B: Backend> Uart16550Ring<B> {
     /// let lowered = ring.lower_line(4 * MAX_INTERRUPTS, MAX_UNFINISHED_ROUNDS);
     /// # Ok(()) }
     /// ```
+    ///
+    /// # Proved
+    ///
+    /// - [Does as](crate::proved::ring#RingDid) [`LowersLine`](crate::proved::line#LowersLine) `limit rounds result`: a `try_handle`; then IER is read, and all interrupts are disabled.
+    ///
+    /// <details><summary>The clauses</summary>
+    ///
+    /// [How to read them](uart_spec::proved):
+    ///
+    /// ```text
+    /// ensures { RingDid B.step (LowersLine limit rounds result) self.old self.new }
+    /// ```
+    ///
+    /// </details>
     pub fn lower_line(&mut self, limit: usize, rounds: u32) -> Lowered {
         let handled = self.try_handle(limit, rounds);
         // IER is read after the interrupt was handled: what a pump or a pause has changed stays so.
@@ -61,6 +75,20 @@ impl<B: Backend> Uart16550Ring<B> {
     /// ring.raise_line(lowered.enabled);
     /// # Ok(()) }
     /// ```
+    ///
+    /// # Proved
+    ///
+    /// - [Does as](crate::proved::ring#RingDid) [`RaisesLine`](crate::proved::line#RaisesLine) `enabled.0`: these interrupts are enabled; of a chip that is stuck none.
+    ///
+    /// <details><summary>The clauses</summary>
+    ///
+    /// [How to read them](uart_spec::proved):
+    ///
+    /// ```text
+    /// ensures { RingDid B.step (RaisesLine enabled.0) self.old self.new }
+    /// ```
+    ///
+    /// </details>
     pub fn raise_line(&mut self, enabled: IER) {
         match self.stuck {
             None => self.uart.enable_interrupts(enabled),

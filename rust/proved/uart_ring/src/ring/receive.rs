@@ -71,6 +71,25 @@ impl<B: Backend> Uart16550Ring<B> {
     /// assert_eq!(ring.take(&mut slots), 2);
     /// # Ok(()) }
     /// ```
+    ///
+    /// # Proved
+    ///
+    /// - *did*: [does as](crate::proved::ring#RingDid) [`TakesBytes`](crate::proved::receive#TakesBytes) `(length slots.old) (take result slots.new)`: the bytes are from the front of the receive ring, as many as there are slots and bytes; if there are any, a pause of receiving ends.
+    /// - *count*: returns `min (length slots.old) (length (ring_fields self.old).receive.items)`.
+    ///   - [`ring_fields`](crate::proved::ring#ring_fields): what these rings hold beside their backend.
+    /// - *rest*: `drop result slots.new ≡ drop result slots.old`.
+    ///
+    /// <details><summary>The clauses</summary>
+    ///
+    /// [How to read them](uart_spec::proved):
+    ///
+    /// ```text
+    /// ensures did { RingDid B.step (TakesBytes (length slots.old) (take result slots.new)) self.old self.new }
+    /// ensures count { result ≡ min (length slots.old) (length (ring_fields self.old).receive.items) }
+    /// ensures rest { drop result slots.new ≡ drop result slots.old }
+    /// ```
+    ///
+    /// </details>
     pub fn take(&mut self, slots: &mut [u8]) -> usize {
         let count = self.receive.read_into(slots);
         self.end_pause(count);
@@ -92,6 +111,20 @@ impl<B: Backend> Uart16550Ring<B> {
     /// let dropped = ring.clear_receive();
     /// # Ok(()) }
     /// ```
+    ///
+    /// # Proved
+    ///
+    /// - [Does as](crate::proved::ring#RingDid) [`ClearsReceive`](crate::proved::receive#ClearsReceive) `result`: the receive ring is emptied, and the result is how many bytes it had; if it had any, a pause of receiving ends.
+    ///
+    /// <details><summary>The clauses</summary>
+    ///
+    /// [How to read them](uart_spec::proved):
+    ///
+    /// ```text
+    /// ensures { RingDid B.step (ClearsReceive result) self.old self.new }
+    /// ```
+    ///
+    /// </details>
     pub fn clear_receive(&mut self) -> usize {
         let count = self.receive.len();
         self.receive.drop_front(count);
@@ -135,6 +168,20 @@ impl<B: Backend> Uart16550Ring<B> {
     /// ring.adjust_rts(MARKS);
     /// # Ok(()) }
     /// ```
+    ///
+    /// # Proved
+    ///
+    /// - [Does as](crate::proved::ring#RingDid) [`AdjustsRts`](crate::proved::receive#AdjustsRts) `marks`: RTS is off if the receive ring has room for fewer bytes than `hold`, on if it has room for `release` or more, and else stays. For this MCR is read, and written only if it shows RTS otherwise.
+    ///
+    /// <details><summary>The clauses</summary>
+    ///
+    /// [How to read them](uart_spec::proved):
+    ///
+    /// ```text
+    /// ensures { RingDid B.step (AdjustsRts marks) self.old self.new }
+    /// ```
+    ///
+    /// </details>
     pub fn adjust_rts(&mut self, marks: ReceiveMarks) {
         let room = self.receive.capacity() - self.receive.len();
         // The first test comes first, so that marks the wrong way round do not let bytes come for

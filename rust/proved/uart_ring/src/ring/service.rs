@@ -100,6 +100,22 @@ impl<B: Backend> Uart16550Ring<B> {
     /// let served = ring.service();
     /// # Ok(()) }
     /// ```
+    ///
+    /// # Proved
+    ///
+    /// - *did*: [does as](crate::proved::ring#RingDid) [`Services`](crate::proved::service#Services) `result`: at most 8 interrupts are served. It tells how many, and not why it ended.
+    /// - *count*: `result ≤ MAX_INTERRUPTS`.
+    ///
+    /// <details><summary>The clauses</summary>
+    ///
+    /// [How to read them](uart_spec::proved):
+    ///
+    /// ```text
+    /// ensures did { RingDid B.step (Services result) self.old self.new }
+    /// ensures count { result ≤ MAX_INTERRUPTS }
+    /// ```
+    ///
+    /// </details>
     pub fn service(&mut self) -> usize {
         // The number does not tell whether an interrupt without a name is left, and if the line
         // stays high no edge comes. So this call is for programs that poll, and `handle` for
@@ -134,6 +150,20 @@ impl<B: Backend> Uart16550Ring<B> {
     /// ring.retrigger();
     /// # Ok(()) }
     /// ```
+    ///
+    /// # Proved
+    ///
+    /// - [Does as](crate::proved::ring#RingDid) [`Retriggers`](crate::proved::handle#Retriggers): IER is read, and written with 0 and then with what was read.
+    ///
+    /// <details><summary>The clauses</summary>
+    ///
+    /// [How to read them](uart_spec::proved):
+    ///
+    /// ```text
+    /// ensures { RingDid B.step Retriggers self.old self.new }
+    /// ```
+    ///
+    /// </details>
     pub fn retrigger(&mut self) {
         self.uart.retrigger_interrupts();
     }
@@ -167,6 +197,20 @@ impl<B: Backend> Uart16550Ring<B> {
     /// let handled = self.ring.handle(4 * MAX_INTERRUPTS);
     /// # } }
     /// ```
+    ///
+    /// # Proved
+    ///
+    /// - [Does as](crate::proved::ring#RingDid) [`Handles`](crate::proved::handle#Handles) `limit result`: as many interrupts as are pending are served, but no more than the limit. Then, unless ISR has shown that none is pending, IER is read, and written with 0 and with what was read: what is left is triggered again.
+    ///
+    /// <details><summary>The clauses</summary>
+    ///
+    /// [How to read them](uart_spec::proved):
+    ///
+    /// ```text
+    /// ensures { RingDid B.step (Handles limit result) self.old self.new }
+    /// ```
+    ///
+    /// </details>
     pub fn handle(&mut self, limit: usize) -> Handled {
         let handled = self.serve_up_to(limit);
         match handled.end {

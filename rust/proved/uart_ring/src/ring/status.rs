@@ -38,6 +38,20 @@ impl<B: Backend> Uart16550Ring<B> {
     /// }
     /// # } }
     /// ```
+    ///
+    /// # Proved
+    ///
+    /// - [Does as](crate::proved::ring#RingDid) [`TakesLine`](crate::proved::status#TakesLine) `result.0`: `lsr`, joined with what was noted, after which nothing is noted.
+    ///
+    /// <details><summary>The clauses</summary>
+    ///
+    /// [How to read them](uart_spec::proved):
+    ///
+    /// ```text
+    /// ensures { RingDid B.step (TakesLine result.0) self.old self.new }
+    /// ```
+    ///
+    /// </details>
     pub fn take_line(&mut self) -> LSR {
         let line = self.uart.lsr().union(self.line);
         self.line = LSR::from_bits_retain(0);
@@ -60,6 +74,20 @@ impl<B: Backend> Uart16550Ring<B> {
     /// let came_back = modem.contains(MSR::DELTA_CTS.union(MSR::CTS));
     /// # } }
     /// ```
+    ///
+    /// # Proved
+    ///
+    /// - [Does as](crate::proved::ring#RingDid) [`TakesModem`](crate::proved::status#TakesModem) `result.0`: `msr`, joined with what was noted, after which nothing is noted.
+    ///
+    /// <details><summary>The clauses</summary>
+    ///
+    /// [How to read them](uart_spec::proved):
+    ///
+    /// ```text
+    /// ensures { RingDid B.step (TakesModem result.0) self.old self.new }
+    /// ```
+    ///
+    /// </details>
     pub fn take_modem(&mut self) -> MSR {
         let modem = self.uart.msr().union(self.modem);
         self.modem = MSR::from_bits_retain(0);
@@ -90,6 +118,20 @@ impl<B: Backend> Uart16550Ring<B> {
     /// let dump = self.ring.config_register_dump();
     /// # } }
     /// ```
+    ///
+    /// # Proved
+    ///
+    /// - [Does as](crate::proved::ring#RingDid) [`DumpsRegisters`](crate::proved::status#DumpsRegisters) `result`: the dump of the driver, whose read of ISR may acknowledge THR\_EMPTY; and then sending resumes.
+    ///
+    /// <details><summary>The clauses</summary>
+    ///
+    /// [How to read them](uart_spec::proved):
+    ///
+    /// ```text
+    /// ensures { RingDid B.step (DumpsRegisters result) self.old self.new }
+    /// ```
+    ///
+    /// </details>
     pub fn config_register_dump(&mut self) -> ConfigRegisterDump {
         let dump = self.uart.config_register_dump();
         // Behind the dump, since what it acknowledges never comes again. A `retrigger` would raise

@@ -174,6 +174,20 @@ impl<B: Backend> Uart16550Ring<B> {
     /// }
     /// # } }
     /// ```
+    ///
+    /// # Proved
+    ///
+    /// - [Does as](crate::proved::ring#RingDid) [`TriesToHandle`](crate::proved::storm#TriesToHandle) `limit rounds result`: a `handle`, whose round is counted, and after which the chip may be found stuck; or, if the chip is stuck already, all interrupts are disabled again. The error is why it is stuck.
+    ///
+    /// <details><summary>The clauses</summary>
+    ///
+    /// [How to read them](uart_spec::proved):
+    ///
+    /// ```text
+    /// ensures { RingDid B.step (TriesToHandle limit rounds result) self.old self.new }
+    /// ```
+    ///
+    /// </details>
     pub fn try_handle(&mut self, limit: usize, rounds: u32) -> Result<Handled, StuckError> {
         match self.stuck {
             None => self.handle_round(limit, rounds),
@@ -214,6 +228,20 @@ impl<B: Backend> Uart16550Ring<B> {
     /// ring.restart(IER::DATA_READY.union(IER::RECEIVER_LINE_STATUS));
     /// # Ok(()) }
     /// ```
+    ///
+    /// # Proved
+    ///
+    /// - [Does as](crate::proved::ring#RingDid) [`Restarts`](crate::proved::storm#Restarts) `interrupts.0`: these interrupts are enabled, without DATA\_READY while receiving is paused; the chip is not stuck any more, and sending resumes.
+    ///
+    /// <details><summary>The clauses</summary>
+    ///
+    /// [How to read them](uart_spec::proved):
+    ///
+    /// ```text
+    /// ensures { RingDid B.step (Restarts interrupts.0) self.old self.new }
+    /// ```
+    ///
+    /// </details>
     pub fn restart(&mut self, interrupts: IER) {
         let enabled = self.not_paused(interrupts);
         self.uart.enable_interrupts(enabled);

@@ -107,6 +107,24 @@ impl<B: Backend> Uart16550Ring<B> {
     /// &message[count..]
     /// # }
     /// ```
+    ///
+    /// # Proved
+    ///
+    /// - *did*: [does as](crate::proved::ring#RingDid) [`Queues`](crate::proved::transmit#Queues) `bytes.now result`: bytes from the front of the input are added at the end of the transmit ring, as many as it has room for; if there are any, what the chip takes at once is sent.
+    /// - *count*: returns `min (length bytes.now) (free (ring_fields self.old).transmit)`.
+    ///   - [`free`](crate::proved::ring#free): how many more bytes a ring has room for.
+    ///   - [`ring_fields`](crate::proved::ring#ring_fields): what these rings hold beside their backend.
+    ///
+    /// <details><summary>The clauses</summary>
+    ///
+    /// [How to read them](uart_spec::proved):
+    ///
+    /// ```text
+    /// ensures did { RingDid B.step (Queues bytes.now result) self.old self.new }
+    /// ensures count { result ≡ min (length bytes.now) (free (ring_fields self.old).transmit) }
+    /// ```
+    ///
+    /// </details>
     pub fn queue(&mut self, bytes: &[u8]) -> usize {
         let count = self.transmit.fill_from_slice(bytes);
         if count > 0 {
@@ -143,6 +161,20 @@ impl<B: Backend> Uart16550Ring<B> {
     /// }
     /// # } }
     /// ```
+    ///
+    /// # Proved
+    ///
+    /// - [Does as](crate::proved::ring#RingDid) [`ResumesTransmit`](crate::proved::transmit#ResumesTransmit): if bytes wait, what the chip takes at once is sent, and THR\_EMPTY is enabled if some are left, else disabled.
+    ///
+    /// <details><summary>The clauses</summary>
+    ///
+    /// [How to read them](uart_spec::proved):
+    ///
+    /// ```text
+    /// ensures { RingDid B.step ResumesTransmit self.old self.new }
+    /// ```
+    ///
+    /// </details>
     pub fn resume_transmit(&mut self) {
         // A pump, and not THR_EMPTY switched off and on: some devices raise no interrupt for that.
         if self.urgent.is_some() || !self.transmit.is_empty() {
@@ -168,6 +200,20 @@ impl<B: Backend> Uart16550Ring<B> {
     /// ring.hold_transmit();
     /// # Ok(()) }
     /// ```
+    ///
+    /// # Proved
+    ///
+    /// - [Does as](crate::proved::ring#RingDid) [`Holds`](crate::proved::transmit#Holds): the ring is held, and no access is made.
+    ///
+    /// <details><summary>The clauses</summary>
+    ///
+    /// [How to read them](uart_spec::proved):
+    ///
+    /// ```text
+    /// ensures { RingDid B.step Holds self.old self.new }
+    /// ```
+    ///
+    /// </details>
     pub fn hold_transmit(&mut self) {
         self.is_held = true;
     }
@@ -187,6 +233,20 @@ impl<B: Backend> Uart16550Ring<B> {
     /// ring.release_transmit();
     /// # Ok(()) }
     /// ```
+    ///
+    /// # Proved
+    ///
+    /// - [Does as](crate::proved::ring#RingDid) [`Releases`](crate::proved::transmit#Releases): the ring is no longer held, and sending resumes.
+    ///
+    /// <details><summary>The clauses</summary>
+    ///
+    /// [How to read them](uart_spec::proved):
+    ///
+    /// ```text
+    /// ensures { RingDid B.step Releases self.old self.new }
+    /// ```
+    ///
+    /// </details>
     pub fn release_transmit(&mut self) {
         self.is_held = false;
         self.resume_transmit();
@@ -212,6 +272,20 @@ impl<B: Backend> Uart16550Ring<B> {
     /// assert_eq!(ring.queue_urgent(XOFF), None);
     /// # Ok(()) }
     /// ```
+    ///
+    /// # Proved
+    ///
+    /// - [Does as](crate::proved::ring#RingDid) [`QueuesUrgent`](crate::proved::transmit#QueuesUrgent) `byte result`: the byte is the urgent one, in place of one that waited, which is returned; and what the chip takes at once is sent.
+    ///
+    /// <details><summary>The clauses</summary>
+    ///
+    /// [How to read them](uart_spec::proved):
+    ///
+    /// ```text
+    /// ensures { RingDid B.step (QueuesUrgent byte result) self.old self.new }
+    /// ```
+    ///
+    /// </details>
     pub fn queue_urgent(&mut self, byte: u8) -> Option<u8> {
         let replaced = self.urgent.replace(byte);
         self.pump();
@@ -233,6 +307,20 @@ impl<B: Backend> Uart16550Ring<B> {
     /// let dropped = ring.clear_transmit();
     /// # Ok(()) }
     /// ```
+    ///
+    /// # Proved
+    ///
+    /// - [Does as](crate::proved::ring#RingDid) [`ClearsTransmit`](crate::proved::transmit#ClearsTransmit) `result`: the transmit ring is emptied without an access, and the result is how many bytes it had.
+    ///
+    /// <details><summary>The clauses</summary>
+    ///
+    /// [How to read them](uart_spec::proved):
+    ///
+    /// ```text
+    /// ensures { RingDid B.step (ClearsTransmit result) self.old self.new }
+    /// ```
+    ///
+    /// </details>
     pub fn clear_transmit(&mut self) -> usize {
         let count = self.transmit.len();
         self.drop_queued(count);
@@ -252,6 +340,20 @@ impl<B: Backend> Uart16550Ring<B> {
     /// ring.set_low_mark(256);
     /// # Ok(()) }
     /// ```
+    ///
+    /// # Proved
+    ///
+    /// - [Does as](crate::proved::ring#RingDid) [`SetsLowMark`](crate::proved::transmit#SetsLowMark) `mark`: the low mark is stored, and no access is made.
+    ///
+    /// <details><summary>The clauses</summary>
+    ///
+    /// [How to read them](uart_spec::proved):
+    ///
+    /// ```text
+    /// ensures { RingDid B.step (SetsLowMark mark) self.old self.new }
+    /// ```
+    ///
+    /// </details>
     pub fn set_low_mark(&mut self, mark: usize) {
         self.low_mark = mark;
     }
@@ -278,6 +380,20 @@ impl<B: Backend> Uart16550Ring<B> {
     /// }
     /// # Ok(()) }
     /// ```
+    ///
+    /// # Proved
+    ///
+    /// - [Does as](crate::proved::ring#RingDid) [`TakesLow`](crate::proved::transmit#TakesLow) `result`: whether a fall to the low mark was noted, which is then forgotten.
+    ///
+    /// <details><summary>The clauses</summary>
+    ///
+    /// [How to read them](uart_spec::proved):
+    ///
+    /// ```text
+    /// ensures { RingDid B.step (TakesLow result) self.old self.new }
+    /// ```
+    ///
+    /// </details>
     pub fn take_low(&mut self) -> bool {
         let low = self.is_low;
         self.is_low = false;

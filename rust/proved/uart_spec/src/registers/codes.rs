@@ -5,6 +5,20 @@ use crate::registers::{FifoTriggerLevel, Parity, WordLength};
 impl FifoTriggerLevel {
     /// Returns the trigger level with this code, which is in the low two bits. Higher bits are
     /// ignored.
+    ///
+    /// # Proved
+    ///
+    /// - [Returns the one value for which](crate::proved::bits#IsOnly) [`HasTrigger`](crate::proved::fields#HasTrigger) `0 bits`: the two bits from the lowest on are the code of this trigger level.
+    ///
+    /// <details><summary>The clauses</summary>
+    ///
+    /// [How to read them](crate::proved):
+    ///
+    /// ```text
+    /// ensures { IsOnly (HasTrigger 0 bits) result }
+    /// ```
+    ///
+    /// </details>
     pub const fn from_raw_bits(bits: u8) -> Self {
         match bits & 0b11 {
             0b00 => FifoTriggerLevel::One,
@@ -15,6 +29,22 @@ impl FifoTriggerLevel {
     }
 
     /// Returns the code of this trigger level, in the low two bits.
+    ///
+    /// # Proved
+    ///
+    /// - *code*: returns [`trigger_code`](crate::proved::fields#trigger_code) `self`: the two-bit code of a trigger level.
+    /// - *read_back*: [`HasTrigger`](crate::proved::fields#HasTrigger) `0 result self`: the two bits from the lowest on are the code of this trigger level.
+    ///
+    /// <details><summary>The clauses</summary>
+    ///
+    /// [How to read them](crate::proved):
+    ///
+    /// ```text
+    /// ensures code { result ≡ trigger_code self }
+    /// ensures read_back { HasTrigger 0 result self }
+    /// ```
+    ///
+    /// </details>
     pub const fn to_raw_bits(self) -> u8 {
         match self {
             FifoTriggerLevel::One => 0b00,
@@ -28,6 +58,20 @@ impl FifoTriggerLevel {
 impl WordLength {
     /// Returns the word length with this code, which is in the low two bits. Higher bits are
     /// ignored.
+    ///
+    /// # Proved
+    ///
+    /// - [Returns the one value for which](crate::proved::bits#IsOnly) [`HasWordLength`](crate::proved::fields#HasWordLength) `0 bits`: the two bits from the lowest on are the code of this word length.
+    ///
+    /// <details><summary>The clauses</summary>
+    ///
+    /// [How to read them](crate::proved):
+    ///
+    /// ```text
+    /// ensures { IsOnly (HasWordLength 0 bits) result }
+    /// ```
+    ///
+    /// </details>
     pub const fn from_raw_bits(bits: u8) -> Self {
         match bits & 0b11 {
             0b00 => WordLength::FiveBits,
@@ -38,6 +82,22 @@ impl WordLength {
     }
 
     /// Returns the code of this word length, in the low two bits.
+    ///
+    /// # Proved
+    ///
+    /// - *code*: returns [`word_length_code`](crate::proved::fields#word_length_code) `self`: the two-bit code of a word length.
+    /// - *read_back*: [`HasWordLength`](crate::proved::fields#HasWordLength) `0 result self`: the two bits from the lowest on are the code of this word length.
+    ///
+    /// <details><summary>The clauses</summary>
+    ///
+    /// [How to read them](crate::proved):
+    ///
+    /// ```text
+    /// ensures code { result ≡ word_length_code self }
+    /// ensures read_back { HasWordLength 0 result self }
+    /// ```
+    ///
+    /// </details>
     pub const fn to_raw_bits(self) -> u8 {
         match self {
             WordLength::FiveBits => 0b00,
@@ -51,6 +111,20 @@ impl WordLength {
 impl Parity {
     /// Returns the parity with this code, which is in the low three bits. Higher bits are ignored,
     /// and each code whose lowest bit is clear is `Disabled`.
+    ///
+    /// # Proved
+    ///
+    /// - [Returns the one value for which](crate::proved::bits#IsOnly) [`HasParity`](crate::proved::fields#HasParity) `0 bits`: the three bits from the lowest on are a code of this parity.
+    ///
+    /// <details><summary>The clauses</summary>
+    ///
+    /// [How to read them](crate::proved):
+    ///
+    /// ```text
+    /// ensures { IsOnly (HasParity 0 bits) result }
+    /// ```
+    ///
+    /// </details>
     pub const fn from_raw_bits(bits: u8) -> Self {
         match bits & 0b111 {
             0b001 => Parity::Odd,
@@ -62,6 +136,22 @@ impl Parity {
     }
 
     /// Returns the code of this parity, in the low three bits.
+    ///
+    /// # Proved
+    ///
+    /// - *code*: returns [`parity_code`](crate::proved::fields#parity_code) `self`: the three-bit code of a parity.
+    /// - *read_back*: [`HasParity`](crate::proved::fields#HasParity) `0 result self`: the three bits from the lowest on are a code of this parity.
+    ///
+    /// <details><summary>The clauses</summary>
+    ///
+    /// [How to read them](crate::proved):
+    ///
+    /// ```text
+    /// ensures code { result ≡ parity_code self }
+    /// ensures read_back { HasParity 0 result self }
+    /// ```
+    ///
+    /// </details>
     pub const fn to_raw_bits(self) -> u8 {
         match self {
             Parity::Disabled => 0b000,

@@ -187,6 +187,26 @@ pub enum Divisor {
 
 impl Divisor {
     /// Returns the divisor as a number, as it is written to the divisor latch.
+    ///
+    /// # Proved
+    ///
+    /// - *value*: returns [`number`](crate::proved::divisors#number) `self`: a case of `Divisor` as a number.
+    /// - *divides*: [`IsDivisor`](crate::proved::divisors#IsDivisor) `result`: the number divides 115,200, the baud rate of divisor 1, and fits into the divisor latch.
+    /// - *once*: for each `other`: if `number other ≡ result`: `other` is `self`.
+    /// - *every*: for each `n`: if [`IsDivisor`](crate::proved::divisors#IsDivisor) `n`: `(divisor : Divisor) × (number divisor ≡ n)`.
+    ///
+    /// <details><summary>The clauses</summary>
+    ///
+    /// [How to read them](crate::proved):
+    ///
+    /// ```text
+    /// ensures value { result ≡ number self }
+    /// ensures divides { IsDivisor result }
+    /// ensures once { (other : Divisor) → number other ≡ result → other ≡ self }
+    /// ensures every { (n : ℕ) → IsDivisor n → (divisor : Divisor) × (number divisor ≡ n) }
+    /// ```
+    ///
+    /// </details>
     pub fn number(self) -> u16 {
         self.discriminant()
     }

@@ -17,6 +17,23 @@ pub enum WordLength {
 impl WordLength {
     /// Returns the word length with this number of data bits. A number outside of 5 to 8 gives
     /// `EightBits`.
+    ///
+    /// # Proved
+    ///
+    /// - *known*: for each `length`: if `word_length_bits length ≡ bits`: returns `length`.
+    ///   - [`word_length_bits`](crate::proved::fields#word_length_bits): the number of data bits of a word length.
+    /// - *unknown*: if `bits < 5` or `8 < bits`: returns `EightBits`.
+    ///
+    /// <details><summary>The clauses</summary>
+    ///
+    /// [How to read them](crate::proved):
+    ///
+    /// ```text
+    /// ensures known { (length : WordLength) → word_length_bits length ≡ bits → result ≡ length }
+    /// ensures unknown { (bits < 5) ⊎ (8 < bits) → result ≡ EightBits }
+    /// ```
+    ///
+    /// </details>
     pub const fn from_integer(bits: u8) -> Self {
         match bits {
             5 => WordLength::FiveBits,
@@ -27,6 +44,20 @@ impl WordLength {
     }
 
     /// Returns the number of data bits.
+    ///
+    /// # Proved
+    ///
+    /// - Returns [`word_length_bits`](crate::proved::fields#word_length_bits) `self`: the number of data bits of a word length.
+    ///
+    /// <details><summary>The clauses</summary>
+    ///
+    /// [How to read them](crate::proved):
+    ///
+    /// ```text
+    /// ensures { result ≡ word_length_bits self }
+    /// ```
+    ///
+    /// </details>
     pub const fn to_integer(self) -> u32 {
         match self {
             WordLength::FiveBits => 5,

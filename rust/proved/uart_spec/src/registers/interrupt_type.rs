@@ -24,6 +24,20 @@ pub enum InterruptType {
 
 impl InterruptType {
     /// Returns the priority, from 1, the highest, to 6. Two cases share priority 2.
+    ///
+    /// # Proved
+    ///
+    /// - Returns [`priority`](crate::proved::fields#priority) `self`: the priority of an interrupt; 1 is the highest.
+    ///
+    /// <details><summary>The clauses</summary>
+    ///
+    /// [How to read them](crate::proved):
+    ///
+    /// ```text
+    /// ensures { result ≡ priority self }
+    /// ```
+    ///
+    /// </details>
     pub const fn priority(self) -> u8 {
         match self {
             InterruptType::ReceiverLineStatus => 1,
@@ -39,6 +53,20 @@ impl InterruptType {
     ///
     /// Returns `None` if bit 0 is set, since no interrupt is pending then, and also for the code
     /// 100 in bits 3 to 1, although an interrupt is pending then.
+    ///
+    /// # Proved
+    ///
+    /// - [Returns the one value, if there is one, for which](crate::proved::bits#IsOnlyIfAny) [`Identifies`](crate::proved::fields#Identifies) `isr_bits`: bit 0 is clear, so an interrupt is pending, and the code is that of this interrupt.
+    ///
+    /// <details><summary>The clauses</summary>
+    ///
+    /// [How to read them](crate::proved):
+    ///
+    /// ```text
+    /// ensures { IsOnlyIfAny (Identifies isr_bits) result }
+    /// ```
+    ///
+    /// </details>
     pub const fn from_bits(isr_bits: u8) -> Option<Self> {
         match isr_bits & 0b1111 {
             0b0110 => Some(InterruptType::ReceiverLineStatus),
@@ -53,6 +81,23 @@ impl InterruptType {
     }
 
     /// Returns the low nibble of an ISR value that identifies this interrupt.
+    ///
+    /// # Proved
+    ///
+    /// - *bits*: returns `2 * interrupt_code self`.
+    ///   - [`interrupt_code`](crate::proved::fields#interrupt_code): the identification code of an interrupt, bits 1 to 3 of ISR.
+    /// - *read_back*: [`Identifies`](crate::proved::fields#Identifies) `result self`: bit 0 is clear, so an interrupt is pending, and the code is that of this interrupt.
+    ///
+    /// <details><summary>The clauses</summary>
+    ///
+    /// [How to read them](crate::proved):
+    ///
+    /// ```text
+    /// ensures bits { result ≡ 2 * interrupt_code self }
+    /// ensures read_back { Identifies result self }
+    /// ```
+    ///
+    /// </details>
     pub const fn to_bits(self) -> u8 {
         match self {
             InterruptType::ReceiverLineStatus => 0b0110,

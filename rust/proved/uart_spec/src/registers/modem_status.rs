@@ -16,6 +16,20 @@ impl MSR {
 
     /// Returns the changes of the lines since an earlier reading, as their bits: of RI only its
     /// trailing edge, from set to clear.
+    ///
+    /// # Proved
+    ///
+    /// - Returns [`line_changes`](crate::proved::lines#line_changes) `before.0 self.0`: the changes of the lines between two readings, as their bits in MSR: of RI only its trailing edge.
+    ///
+    /// <details><summary>The clauses</summary>
+    ///
+    /// [How to read them](crate::proved):
+    ///
+    /// ```text
+    /// ensures { result.0 ≡ spec.line_changes before.0 self.0 }
+    /// ```
+    ///
+    /// </details>
     pub fn changes_since(self, before: MSR) -> MSR {
         let cts = flag(self.is_changed(before, MSR::CTS), MSR::DELTA_CTS);
         let dsr = flag(self.is_changed(before, MSR::DSR), MSR::DELTA_DSR);

@@ -52,6 +52,23 @@ impl VirtualPort {
     /// obey_signals(host, restored.todo);
     /// # Ok(()) }
     /// ```
+    ///
+    /// # Proved
+    ///
+    /// - *data*: `chip_of result self.now.chip.transmitter.wire ≡ self.now.chip`.
+    ///   - [`chip_of`](uart_chip::proved::snapshot#chip_of): the chip that these data describe, with these bytes on its wire and without a schedule.
+    /// - *saved*: [`IsSaved`](crate::proved::port#IsSaved) `result self.now.chip.transmitter.wire`: these data, and these bytes of output, are those of a port: the chip is live, and nothing is left to happen.
+    ///
+    /// <details><summary>The clauses</summary>
+    ///
+    /// [How to read them](uart_spec::proved):
+    ///
+    /// ```text
+    /// ensures data { chip_of result self.now.chip.transmitter.wire ≡ self.now.chip }
+    /// ensures saved { IsSaved result self.now.chip.transmitter.wire }
+    /// ```
+    ///
+    /// </details>
     pub fn data(&self) -> ChipData {
         self.chip.data()
     }
@@ -78,6 +95,32 @@ impl VirtualPort {
     /// obey_signals(host, restored.todo);
     /// # Ok(()) }
     /// ```
+    ///
+    /// # Proved
+    ///
+    /// - *port*: if it returns `Ok r`: `r.port ≡ begun (chip_of saved.now output.now)`.
+    ///   - [`begun`](crate::proved::port#begun): a port whose monitor was told of this chip, and of nothing before.
+    ///   - [`chip_of`](uart_chip::proved::snapshot#chip_of): the chip that these data describe, with these bytes on its wire and without a schedule.
+    /// - *todo*: if it returns `Ok r`: `r.todo ≡ todo_of renewed true (chip_of saved.now output.now) untold`.
+    ///   - [`todo_of`](crate::proved::port#todo_of): what the monitor has to do, with what is seen of the chip when the call ends.
+    ///   - [`renewed`](crate::proved::port#renewed): a port that is new, or restored.
+    ///   - [`untold`](crate::proved::port#untold): nothing was told yet.
+    /// - *accepted*: if [`IsSaved`](crate::proved::port#IsSaved) `saved.now output.now`: returns `Ok`.
+    ///   - [`IsSaved`](crate::proved::port#IsSaved): these data, and these bytes of output, are those of a port: the chip is live, and nothing is left to happen.
+    /// - *refused*: unless [`IsSaved`](crate::proved::port#IsSaved) `saved.now output.now`: returns `Err RestoreError.BadData`.
+    ///
+    /// <details><summary>The clauses</summary>
+    ///
+    /// [How to read them](uart_spec::proved):
+    ///
+    /// ```text
+    /// ensures port { IfOk result (λ r. r.port ≡ begun (chip_of saved.now output.now)) }
+    /// ensures todo { IfOk result (λ r. r.todo ≡ todo_of renewed true (chip_of saved.now output.now) untold) }
+    /// ensures accepted { IsSaved saved.now output.now → IsOk result }
+    /// ensures refused { (IsSaved saved.now output.now → ⊥) → result ≡ Err RestoreError.BadData }
+    /// ```
+    ///
+    /// </details>
     pub fn from_data(saved: &ChipData, output: &[u8]) -> Result<Restored, RestoreError> {
         if !is_settled(saved, output) {
             return Err(RestoreError::BadData);

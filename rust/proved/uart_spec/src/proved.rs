@@ -1,0 +1,602 @@
+//! Definitions of `uart_spec`: what needs no access to a chip: its registers, the arithmetic of baud rates, configurations, errors, the trait of a backend.
+//!
+//! Each is one that a section "Proved" of a call names. The text and the comments are those of `crates/*/specs`, where the contracts are.
+//!
+//! How is a section read? It has a line for each clause of the call's contract, which the prover has checked against the body of the call. What
+//! a section does not say is not promised. A name that is a link is a definition: its page has the definition itself, and the words behind it
+//! are the comment there. The clauses stand beneath, word by word.
+//!
+//! | in a clause | is |
+//! |---|---|
+//! | `result` | what the call returns |
+//! | `x.now` | the value behind a reference |
+//! | `x.old`, `x.new` | the values behind a mutable reference, or of `self`, before and after the call |
+//! | `≡`, `≢` | equal, not equal |
+//! | `×`, `⊎`, `→`, `↔`, `⊥` | and, or, if .. then, exactly if, never |
+//! | `λ x. P` | what `P` says of an `x` |
+//! | `(x : T) → P` | `P` for each `x` of this type |
+//! | `(x : T) × P` | `P` for some `x` of this type |
+//! | `IfOk result P`, `IfErr result P` | if the result is `Ok`, or `Err`, `P` of its value |
+//! | `[]`, `∷`, `++` | an empty list, an item in front of a list, two lists in a row |
+//! | `length`, `take n`, `drop n` | of a list: its length, its first `n` items, all but these |
+//!
+//! What is trusted beside the prover is on the page RUST of the repository.
+
+/// Registers as sets of bits, and fields of neighbouring bits.
+///
+/// From `crates/uart_spec/specs/Bits.antt`.
+///
+/// <span id="has"></span>
+///
+/// # `has`
+///
+/// Whether all of these bits are set in the value.
+///
+/// ```text
+/// abbrev pub has : ℕ → ℕ → Bool
+/// has value bits = bit_and value bits == bits
+/// ```
+///
+/// <span id="has_any"></span>
+///
+/// # `has_any`
+///
+/// The value has at least one of these bits.
+///
+/// ```text
+/// abbrev pub has_any : ℕ → ℕ → Bool
+/// has_any value bits = not (bit_and value bits == 0)
+/// ```
+///
+/// <span id="IsWithin"></span>
+///
+/// # `IsWithin`
+///
+/// No bit outside of the mask is set.
+///
+/// ```text
+/// abbrev pub IsWithin : ℕ → ℕ → Type 0
+/// IsWithin value mask = bit_and value mask ≡ value
+/// ```
+///
+/// <span id="flag"></span>
+///
+/// # `flag`
+///
+/// These bits if the flag is set, else no bits.
+///
+/// ```text
+/// abbrev pub flag : Bool → ℕ → ℕ
+/// flag on bits = if on then bits else 0
+/// ```
+///
+/// <span id="field"></span>
+///
+/// # `field`
+///
+/// The number in a field, which is given by its lowest bit and its width.
+///
+/// ```text
+/// abbrev pub field : (lowest width value : ℕ) → ℕ
+/// field lowest width value = value / 2 ^ lowest % 2 ^ width
+/// ```
+///
+/// <span id="SameOutside"></span>
+///
+/// # `SameOutside`
+///
+/// The eight bits are the same in both values, except those of a field.
+///
+/// ```text
+/// abbrev pub SameOutside : (lowest width old new : ℕ) → Type 0
+/// SameOutside lowest width old new =
+///     (place : ℕ) → place < 8 → (place < lowest) ⊎ (lowest + width ≤ place) → field place 1 new ≡ field place 1 old
+/// ```
+///
+/// It uses [`field`](crate::proved::bits#field).
+///
+/// <span id="IsOnly"></span>
+///
+/// # `IsOnly`
+///
+/// This value and no other has the property.
+///
+/// ```text
+/// abbrev pub IsOnly : {A : Type 0} → (A → Type 0) → A → Type 0
+/// IsOnly {A} P x = (y : A) → (x ≡ y) ↔ P y
+/// ```
+///
+/// <span id="IsOnlyIfAny"></span>
+///
+/// # `IsOnlyIfAny`
+///
+/// The one value that has the property, or none if no value has it.
+///
+/// ```text
+/// abbrev pub IsOnlyIfAny : {A : Type 0} → (A → Type 0) → Option A → Type 0
+/// IsOnlyIfAny {A} P o = (y : A) → (o ≡ Some y) ↔ P y
+/// ```
+#[doc(alias("has", "has_any", "IsWithin", "flag", "field", "SameOutside", "IsOnly", "IsOnlyIfAny"))]
+pub mod bits {}
+
+/// The codes of the fields of FCR, LCR and ISR.
+///
+/// From `crates/uart_spec/specs/Fields.antt`.
+///
+/// <span id="trigger_code"></span>
+///
+/// # `trigger_code`
+///
+/// The two-bit code of a trigger level.
+///
+/// ```text
+/// abbrev pub trigger_code : FifoTriggerLevel → ℕ
+/// trigger_code One = 0
+/// trigger_code Four = 1
+/// trigger_code Eight = 2
+/// trigger_code Fourteen = 3
+/// ```
+///
+/// <span id="word_length_code"></span>
+///
+/// # `word_length_code`
+///
+/// The two-bit code of a word length.
+///
+/// ```text
+/// abbrev pub word_length_code : WordLength → ℕ
+/// word_length_code FiveBits = 0
+/// word_length_code SixBits = 1
+/// word_length_code SevenBits = 2
+/// word_length_code EightBits = 3
+/// ```
+///
+/// <span id="word_length_bits"></span>
+///
+/// # `word_length_bits`
+///
+/// The number of data bits of a word length.
+///
+/// ```text
+/// abbrev pub word_length_bits : (length : WordLength) → ℕ
+/// word_length_bits length = 5 + word_length_code length
+/// ```
+///
+/// It uses [`word_length_code`](crate::proved::fields#word_length_code).
+///
+/// <span id="parity_code"></span>
+///
+/// # `parity_code`
+///
+/// The three-bit code of a parity.
+///
+/// ```text
+/// abbrev pub parity_code : (parity : Parity) → ℕ
+/// parity_code Disabled = 0
+/// parity_code Odd = 1
+/// parity_code Even = 3
+/// parity_code Forced1 = 5
+/// parity_code Forced0 = 7
+/// ```
+///
+/// <span id="HasTrigger"></span>
+///
+/// # `HasTrigger`
+///
+/// The two bits from the lowest on are the code of this trigger level.
+///
+/// ```text
+/// abbrev pub HasTrigger : (lowest value : ℕ) → FifoTriggerLevel → Type 0
+/// HasTrigger lowest value level = field lowest 2 value ≡ trigger_code level
+/// ```
+///
+/// It uses [`field`](crate::proved::bits#field), [`trigger_code`](crate::proved::fields#trigger_code).
+///
+/// <span id="HasWordLength"></span>
+///
+/// # `HasWordLength`
+///
+/// The two bits from the lowest on are the code of this word length.
+///
+/// ```text
+/// abbrev pub HasWordLength : (lowest value : ℕ) → WordLength → Type 0
+/// HasWordLength lowest value length = field lowest 2 value ≡ word_length_code length
+/// ```
+///
+/// It uses [`field`](crate::proved::bits#field), [`word_length_code`](crate::proved::fields#word_length_code).
+///
+/// <span id="HasParity"></span>
+///
+/// # `HasParity`
+///
+/// The three bits from the lowest on are a code of this parity.
+///
+/// ```text
+/// abbrev pub HasParity : (lowest value : ℕ) → Parity → Type 0
+/// HasParity lowest value parity = field lowest (parity_places parity) value ≡ parity_code parity
+/// ```
+///
+/// It uses [`field`](crate::proved::bits#field), [`parity_code`](crate::proved::fields#parity_code); `parity_places` of this file.
+///
+/// <span id="interrupt_code"></span>
+///
+/// # `interrupt_code`
+///
+/// The identification code of an interrupt, bits 1 to 3 of ISR.
+///
+/// ```text
+/// abbrev pub interrupt_code : InterruptType → ℕ
+/// interrupt_code interrupt = (interrupt_row interrupt).0
+/// ```
+///
+/// It uses `interrupt_row` of this file.
+///
+/// <span id="priority"></span>
+///
+/// # `priority`
+///
+/// The priority of an interrupt; 1 is the highest.
+///
+/// ```text
+/// abbrev pub priority : InterruptType → ℕ
+/// priority interrupt = (interrupt_row interrupt).1
+/// ```
+///
+/// It uses `interrupt_row` of this file.
+///
+/// <span id="Identifies"></span>
+///
+/// # `Identifies`
+///
+/// Bit 0 is clear, so an interrupt is pending, and the code is that of this interrupt.
+///
+/// ```text
+/// abbrev pub Identifies : ℕ → InterruptType → Type 0
+/// Identifies isr interrupt = (field 0 1 isr ≡ 0) × (field 1 3 isr ≡ interrupt_code interrupt)
+/// ```
+///
+/// It uses [`field`](crate::proved::bits#field), [`interrupt_code`](crate::proved::fields#interrupt_code).
+#[doc(alias("trigger_code", "word_length_code", "word_length_bits", "parity_code", "HasTrigger", "HasWordLength", "HasParity", "interrupt_code", "priority", "Identifies"))]
+pub mod fields {}
+
+/// The modem lines that MSR shows, and which of them changed.
+///
+/// From `crates/uart_spec/specs/Lines.antt`.
+///
+/// <span id="line_changes"></span>
+///
+/// # `line_changes`
+///
+/// The changes of the lines between two readings, as their bits in MSR: of RI only its trailing edge.
+///
+/// ```text
+/// abbrev pub line_changes : (before now : ℕ) → ℕ
+/// line_changes before now =
+///     let cts = flag (is_changed before now MSR.CTS.0) MSR.DELTA_CTS.0 in
+///     let dsr = flag (is_changed before now MSR.DSR.0) MSR.DELTA_DSR.0 in
+///     let ri = flag (has_any before MSR.RI.0 && not (has_any now MSR.RI.0)) MSR.TRAILING_EDGE_RI.0 in
+///     let cd = flag (is_changed before now MSR.CD.0) MSR.DELTA_CD.0 in
+///     bit_or (bit_or cts dsr) (bit_or ri cd)
+/// ```
+///
+/// It uses [`flag`](crate::proved::bits#flag), [`has_any`](crate::proved::bits#has_any); `is_changed` of this file.
+#[doc(alias("line_changes"))]
+pub mod lines {}
+
+/// The arithmetic of the baud rate generator.
+///
+/// From `crates/uart_spec/specs/Baud.antt`.
+///
+/// <span id="prescaler"></span>
+///
+/// # `prescaler`
+///
+/// The prescaler division factor, 0 if there is none.
+///
+/// ```text
+/// abbrev pub prescaler : Option ℕ → ℕ
+/// prescaler factor = unwrap_or factor 0
+/// ```
+///
+/// <span id="frequency_of"></span>
+///
+/// # `frequency_of`
+///
+/// The clock frequency at which a divisor gives a baud rate: 16 times the prescaler plus 1, times rate, times divisor.
+///
+/// ```text
+/// abbrev pub frequency_of : (baud_rate divisor : ℕ) → Option ℕ → ℕ
+/// frequency_of baud_rate divisor factor = 16 * (prescaler factor + 1) * baud_rate * divisor
+/// ```
+///
+/// It uses [`prescaler`](crate::proved::baud#prescaler).
+///
+/// <span id="IsBaudRateAnswer"></span>
+///
+/// # `IsBaudRateAnswer`
+///
+/// The baud rate that this divisor gives exactly; or an error with the arguments, if it gives no whole one.
+///
+/// ```text
+/// abbrev pub IsBaudRateAnswer : (frequency divisor : ℕ) → Option ℕ → Result ℕ NonIntegerBaudRateError → Type 0
+/// IsBaudRateAnswer frequency divisor factor (Ok baud_rate) = frequency_of baud_rate divisor factor ≡ frequency
+/// IsBaudRateAnswer frequency divisor factor (Err error) =
+///     ((baud_rate : ℕ) → frequency_of baud_rate divisor factor ≢ frequency)
+///     × (error ≡ record { frequency = frequency; divisor = divisor; prescaler_division_factor = factor })
+/// ```
+///
+/// It uses [`frequency_of`](crate::proved::baud#frequency_of).
+///
+/// <span id="IsDivisorAnswer"></span>
+///
+/// # `IsDivisorAnswer`
+///
+/// The divisor that gives exactly this baud rate, if it fits into the divisor latch; an error with the divisor if it does not fit; an error with the arguments if no whole divisor does.
+///
+/// ```text
+/// abbrev pub IsDivisorAnswer : (frequency baud_rate : ℕ) → Option ℕ → Result ℕ InvalidDivisorError → Type 0
+/// IsDivisorAnswer frequency baud_rate factor (Ok divisor) =
+///     (frequency_of baud_rate divisor factor ≡ frequency) × (1 ≤ divisor) × (divisor ≤ 65535)
+/// IsDivisorAnswer frequency baud_rate factor (Err (OutOfRange divisor)) =
+///     (frequency_of baud_rate divisor factor ≡ frequency) × (65535 < divisor)
+/// IsDivisorAnswer frequency baud_rate factor (Err (NonInteger error)) =
+///     ((divisor : ℕ) → frequency_of baud_rate divisor factor ≢ frequency)
+///     × (error ≡ record { frequency = frequency; baud_rate = baud_rate; prescaler_division_factor = factor })
+/// ```
+///
+/// It uses [`frequency_of`](crate::proved::baud#frequency_of).
+#[doc(alias("prescaler", "frequency_of", "IsBaudRateAnswer", "IsDivisorAnswer"))]
+pub mod baud {}
+
+/// The divisors of the usual clock that give a whole baud rate.
+///
+/// From `crates/uart_spec/specs/Divisors.antt`.
+///
+/// <span id="number"></span>
+///
+/// # `number`
+///
+/// A case of `Divisor` as a number.
+///
+/// ```text
+/// abbrev pub number : Divisor → ℕ
+/// number Divisor1 = 1
+/// number Divisor2 = 2
+/// number Divisor3 = 3
+/// number Divisor4 = 4
+/// number Divisor5 = 5
+/// number Divisor6 = 6
+/// number Divisor8 = 8
+/// number Divisor9 = 9
+/// number Divisor10 = 10
+/// number Divisor12 = 12
+/// number Divisor15 = 15
+/// number Divisor16 = 16
+/// number Divisor18 = 18
+/// number Divisor20 = 20
+/// number Divisor24 = 24
+/// number Divisor25 = 25
+/// number Divisor30 = 30
+/// number Divisor32 = 32
+/// number Divisor36 = 36
+/// number Divisor40 = 40
+/// number Divisor45 = 45
+/// number Divisor48 = 48
+/// number Divisor50 = 50
+/// number Divisor60 = 60
+/// number Divisor64 = 64
+/// number Divisor72 = 72
+/// number Divisor75 = 75
+/// number Divisor80 = 80
+/// number Divisor90 = 90
+/// number Divisor96 = 96
+/// number Divisor100 = 100
+/// number Divisor120 = 120
+/// number Divisor128 = 128
+/// number Divisor144 = 144
+/// number Divisor150 = 150
+/// number Divisor160 = 160
+/// number Divisor180 = 180
+/// number Divisor192 = 192
+/// number Divisor200 = 200
+/// number Divisor225 = 225
+/// number Divisor240 = 240
+/// number Divisor256 = 256
+/// number Divisor288 = 288
+/// number Divisor300 = 300
+/// number Divisor320 = 320
+/// number Divisor360 = 360
+/// number Divisor384 = 384
+/// number Divisor400 = 400
+/// number Divisor450 = 450
+/// number Divisor480 = 480
+/// number Divisor512 = 512
+/// number Divisor576 = 576
+/// number Divisor600 = 600
+/// number Divisor640 = 640
+/// number Divisor720 = 720
+/// number Divisor768 = 768
+/// number Divisor800 = 800
+/// number Divisor900 = 900
+/// number Divisor960 = 960
+/// number Divisor1152 = 1152
+/// number Divisor1200 = 1200
+/// number Divisor1280 = 1280
+/// number Divisor1440 = 1440
+/// number Divisor1536 = 1536
+/// number Divisor1600 = 1600
+/// number Divisor1800 = 1800
+/// number Divisor1920 = 1920
+/// number Divisor2304 = 2304
+/// number Divisor2400 = 2400
+/// number Divisor2560 = 2560
+/// number Divisor2880 = 2880
+/// number Divisor3200 = 3200
+/// number Divisor3600 = 3600
+/// number Divisor3840 = 3840
+/// number Divisor4608 = 4608
+/// number Divisor4800 = 4800
+/// number Divisor5760 = 5760
+/// number Divisor6400 = 6400
+/// number Divisor7200 = 7200
+/// number Divisor7680 = 7680
+/// number Divisor9600 = 9600
+/// number Divisor11520 = 11520
+/// number Divisor12800 = 12800
+/// number Divisor14400 = 14400
+/// number Divisor19200 = 19200
+/// number Divisor23040 = 23040
+/// number Divisor28800 = 28800
+/// number Divisor38400 = 38400
+/// number Divisor57600 = 57600
+/// ```
+///
+/// <span id="IsDivisor"></span>
+///
+/// # `IsDivisor`
+///
+/// The number divides 115,200, the baud rate of divisor 1, and fits into the divisor latch.
+///
+/// ```text
+/// abbrev pub IsDivisor : ℕ → Type 0
+/// IsDivisor n = (n ≤ 65535) × ((rate : ℕ) × (n * rate ≡ 115200))
+/// ```
+#[doc(alias("number", "IsDivisor"))]
+pub mod divisors {}
+
+/// Baud rates as numbers, and their order.
+///
+/// From `crates/uart_spec/specs/BaudRate.antt`.
+///
+/// <span id="to_integer"></span>
+///
+/// # `to_integer`
+///
+/// The number of bits per second.
+///
+/// ```text
+/// abbrev pub to_integer : BaudRate → ℕ
+/// to_integer (Custom rate) = rate
+/// to_integer Baud115200 = 115200
+/// to_integer Baud57600 = 57600
+/// to_integer Baud38400 = 38400
+/// to_integer Baud9600 = 9600
+/// to_integer Baud4800 = 4800
+/// to_integer Baud2400 = 2400
+/// to_integer Baud1200 = 1200
+/// to_integer Baud600 = 600
+/// to_integer Baud300 = 300
+/// to_integer Baud150 = 150
+/// to_integer Baud110 = 110
+/// ```
+///
+/// <span id="IsNamed"></span>
+///
+/// # `IsNamed`
+///
+/// The case has a name: it is not `Custom`.
+///
+/// ```text
+/// abbrev pub IsNamed : BaudRate → Type 0
+/// IsNamed rate = rank rate ≡ 0
+/// ```
+///
+/// It uses `rank` of this file.
+#[doc(alias("to_integer", "IsNamed"))]
+pub mod baud_rate {}
+
+/// The configurations for which a divisor can be computed.
+///
+/// From `crates/uart_spec/specs/Config.antt`.
+///
+/// <span id="IsComputable"></span>
+///
+/// # `IsComputable`
+///
+/// Frequency and baud rate are not zero, and the prescaler division factor is absent or at most 15.
+///
+/// ```text
+/// pub record IsComputable (config : Config) : Type 0 where
+///   pub frequency : 0 < config.frequency
+///   pub baud_rate : 0 < to_integer config.baud_rate
+///   pub prescaler_division_factor : prescaler config.prescaler_division_factor ≤ 15
+/// ```
+///
+/// It uses [`to_integer`](crate::proved::baud_rate#to_integer), [`prescaler`](crate::proved::baud#prescaler).
+///
+/// <span id="IsNearestAnswer"></span>
+///
+/// # `IsNearestAnswer`
+///
+/// The configuration with the frequency at which the nearest divisor is exact, so that it is the one that the exact arithmetic computes, and the rate is near enough; or the nearest divisor, which does not fit, or fits and is too far off, as each other divisor then is.
+///
+/// ```text
+/// abbrev pub IsNearestAnswer : Config → (per_mille : ℕ) → Result Config NearestDivisorError → Type 0
+/// IsNearestAnswer config per_mille (Ok near) = (divisor : ℕ) × IsNearestFor config divisor
+///     × (near ≡ record config { frequency = exact_frequency config divisor })
+///     × IsDivisorAnswer near.frequency (to_integer near.baud_rate) near.prescaler_division_factor (Ok divisor)
+///     × IsNear config.frequency near.frequency per_mille
+/// IsNearestAnswer config per_mille (Err (TooFar divisor)) = IsNearestFor config divisor × Fits config divisor
+///     × NoneIsNear config per_mille
+/// IsNearestAnswer config per_mille (Err (OutOfRange divisor)) = IsNearestFor config divisor
+///     × ((65535 < divisor) ⊎ (2 ^ 32 ≤ exact_frequency config divisor))
+/// ```
+///
+/// It uses [`IsDivisorAnswer`](crate::proved::baud#IsDivisorAnswer), [`to_integer`](crate::proved::baud_rate#to_integer); `IsNearestFor`, `exact_frequency`, `Fits`, `NoneIsNear` of this file; `IsNear` of `crates/uart_spec/specs/Baud.antt`.
+#[doc(alias("IsComputable", "IsNearestAnswer"))]
+pub mod config {}
+
+/// The divisor and the baud rate of a register dump.
+///
+/// From `crates/uart_spec/specs/Dump.antt`.
+///
+/// <span id="divisor_of"></span>
+///
+/// # `divisor_of`
+///
+/// The divisor that a dump shows.
+///
+/// ```text
+/// abbrev pub divisor_of : ConfigRegisterDump → ℕ
+/// divisor_of dump = 256 * dump.dlm + dump.dll
+/// ```
+///
+/// <span id="IsDumpRate"></span>
+///
+/// # `IsDumpRate`
+///
+/// The baud rate that a dump's divisor gives, with its name if it has one; or an error if it is not a whole number.
+///
+/// ```text
+/// abbrev pub IsDumpRate : Config → ConfigRegisterDump → Result BaudRate NonIntegerBaudRateError → Type 0
+/// IsDumpRate config dump (Ok rate) =
+///     IsBaudRateAnswer config.frequency (divisor_of dump) config.prescaler_division_factor (Ok (to_integer rate))
+///     × ((named : BaudRate) → IsNamed named → to_integer named ≡ to_integer rate → rate ≡ named)
+/// IsDumpRate config dump (Err e) =
+///     IsBaudRateAnswer config.frequency (divisor_of dump) config.prescaler_division_factor (Err e)
+/// ```
+///
+/// It uses [`IsBaudRateAnswer`](crate::proved::baud#IsBaudRateAnswer), [`divisor_of`](crate::proved::dump#divisor_of), [`to_integer`](crate::proved::baud_rate#to_integer), [`IsNamed`](crate::proved::baud_rate#IsNamed).
+#[doc(alias("divisor_of", "IsDumpRate"))]
+pub mod dump {}
+
+/// The sizes of transmitter FIFOs.
+///
+/// From `crates/uart_spec/specs/FifoSize.antt`.
+///
+/// <span id="characters"></span>
+///
+/// # `characters`
+///
+/// The number of characters of a FIFO of this size.
+///
+/// ```text
+/// abbrev pub characters : FifoSize → ℕ
+/// characters Sixteen = 16
+/// characters ThirtyTwo = 32
+/// characters SixtyFour = 64
+/// characters OneHundredTwentyEight = 128
+/// characters TwoHundredFiftySix = 256
+/// ```
+#[doc(alias("characters"))]
+pub mod fifo_size {}

@@ -1,0 +1,308 @@
+//! Definitions of `uart_virtual`: a serial port of a virtual machine, which is a live chip that lets time pass by itself.
+//!
+//! Each is one that a section "Proved" of a call names. How a section is read is said [here](uart_spec::proved).
+
+/// The port: a live chip, what its monitor was told last, and what each call makes of both.
+///
+/// From `crates/uart_virtual/specs/Port.antt`.
+///
+/// <span id="settle_ticks"></span>
+///
+/// # `settle_ticks`
+///
+/// The ticks that pass in each call: 17 for what the transmitter holds, 4 until a reception timeout is due, and one.
+///
+/// ```text
+/// unfoldable pub settle_ticks : ℕ
+/// settle_ticks = 22
+/// ```
+///
+/// <span id="settle"></span>
+///
+/// # `settle`
+///
+/// So much time passes that nothing is left to happen.
+///
+/// ```text
+/// abbrev pub settle : ChipState → ChipState
+/// settle c = ticks settle_ticks c
+/// ```
+///
+/// It uses [`ticks`](uart_chip::proved::chip#ticks), [`settle_ticks`](crate::proved::port#settle_ticks); `ChipState` of `crates/uart_chip/specs/Chip.antt`.
+///
+/// <span id="is_up"></span>
+///
+/// # `is_up`
+///
+/// The level of the interrupt line.
+///
+/// ```text
+/// abbrev pub is_up : ChipState → Bool
+/// is_up c = is_some (interrupt c)
+/// ```
+///
+/// It uses [`interrupt`](uart_chip::proved::chip#interrupt); `ChipState` of `crates/uart_chip/specs/Chip.antt`.
+///
+/// <span id="accepted"></span>
+///
+/// # `accepted`
+///
+/// How many of these characters there is room for.
+///
+/// ```text
+/// abbrev pub accepted : List ℕ → ChipState → ℕ
+/// accepted bytes c = min (length bytes) (receive_room c)
+/// ```
+///
+/// It uses [`receive_room`](uart_chip::proved::chip#receive_room); `ChipState` of `crates/uart_chip/specs/Chip.antt`.
+///
+/// <span id="told_after"></span>
+///
+/// # `told_after`
+///
+/// What the monitor was told after a call of which this is seen, and of which it is known whether the line was up all the time.
+///
+/// ```text
+/// abbrev pub told_after : Kind → (was_up : Bool) → Seen → Told → Told
+/// told_after kind was_up seen told =
+///     let signal = is_signalled kind was_up seen told in
+///     record {
+///       line = seen.level;
+///       has_room = room_after kind seen told;
+///       has_looked = kind.looks || (told.has_looked && not signal);
+///       spare = spare_after kind signal seen.fifo told;
+///     }
+/// ```
+///
+/// It uses `is_signalled`, `has_room`, `room_after`, `spare_after` of this file.
+///
+/// <span id="todo_after"></span>
+///
+/// # `todo_after`
+///
+/// What the monitor has to do after it.
+///
+/// ```text
+/// abbrev pub todo_after : Kind → (was_up : Bool) → Seen → Told → Todo
+/// todo_after kind was_up seen told =
+///     record {
+///       signal = is_signalled kind was_up seen told;
+///       level = seen.level;
+///       has_moved = differ told.line seen.level;
+///       has_room = room_after kind seen told && not told.has_room;
+///       ready = seen.ready;
+///     }
+/// ```
+///
+/// It uses `is_signalled`, `differ`, `has_room`, `room_after` of this file.
+///
+/// <span id="todo_of"></span>
+///
+/// # `todo_of`
+///
+/// What the monitor has to do, with what is seen of the chip when the call ends.
+///
+/// ```text
+/// abbrev pub todo_of : Kind → (was_up : Bool) → (ended : ChipState) → Told → Todo
+/// todo_of kind was_up ended told = todo_after kind was_up (seen_of ended) told
+/// ```
+///
+/// It uses [`todo_after`](crate::proved::port#todo_after); `ChipState` of `crates/uart_chip/specs/Chip.antt`; `seen_of` of this file.
+///
+/// <span id="renewed"></span>
+///
+/// # `renewed`
+///
+/// A port that is new, or restored.
+///
+/// ```text
+/// abbrev pub renewed : Kind
+/// renewed = record { brings = false; looks = false; moves_data = false; may_make_room = true }
+/// ```
+///
+/// It uses `brings`, `looks`, `moves_data`, `may_make_room` of this file.
+///
+/// <span id="untold"></span>
+///
+/// # `untold`
+///
+/// Nothing was told yet.
+///
+/// ```text
+/// abbrev pub untold : Told
+/// untold = record { line = false; has_room = false; has_looked = false; spare = 0 }
+/// ```
+///
+/// It uses `has_room` of this file.
+///
+/// <span id="begun"></span>
+///
+/// # `begun`
+///
+/// A port whose monitor was told of this chip, and of nothing before.
+///
+/// ```text
+/// abbrev pub begun : ChipState → PortState
+/// begun c = record { chip = c; told = tell renewed true c untold }
+/// ```
+///
+/// It uses [`renewed`](crate::proved::port#renewed), [`untold`](crate::proved::port#untold); `ChipState` of `crates/uart_chip/specs/Chip.antt`; `PortState`, `tell` of this file.
+///
+/// <span id="fresh"></span>
+///
+/// # `fresh`
+///
+/// A port after power-on: the time of a call passed.
+///
+/// ```text
+/// abbrev pub fresh : Chip → PortState
+/// fresh model = begun (settle (chip.fresh model 1 WIRE_ROOM 0))
+/// ```
+///
+/// It uses [`begun`](crate::proved::port#begun), [`settle`](crate::proved::port#settle), [`fresh`](uart_chip::proved::chip#fresh); `PortState` of this file.
+///
+/// <span id="after"></span>
+///
+/// # `after`
+///
+/// The port after this call: the access or what the host brings, and then the time that passes in each call.
+///
+/// ```text
+/// abbrev pub after : PortCall → PortState → PortState
+/// after call p =
+///     let c = happen call p.chip in
+///     record { chip = settle c; told = tell (kind_of call p.chip) (stays_up call c) (settle c) p.told }
+/// ```
+///
+/// It uses [`settle`](crate::proved::port#settle); `PortCall`, `PortState`, `happen`, `tell`, `kind_of`, `stays_up` of this file.
+///
+/// <span id="todo"></span>
+///
+/// # `todo`
+///
+/// What the monitor has to do after this call: signal the interrupt, take output, bring input.
+///
+/// ```text
+/// abbrev pub todo : PortCall → PortState → Todo
+/// todo call p =
+///     let c = happen call p.chip in todo_of (kind_of call p.chip) (stays_up call c) (settle c) p.told
+/// ```
+///
+/// It uses [`todo_of`](crate::proved::port#todo_of), [`settle`](crate::proved::port#settle); `PortCall`, `PortState`, `happen`, `kind_of`, `stays_up` of this file.
+///
+/// <span id="IsTold"></span>
+///
+/// # `IsTold`
+///
+/// What the monitor was told is true: the level of the line; if it may take it that there is room, there is, and if nothing waits and there is room, it may.
+///
+/// ```text
+/// pub record IsTold (p : PortState) : Type 0 where
+///   pub line : p.told.line ≡ is_up p.chip
+///   pub room : p.told.has_room ≡ (has_room p.chip && (p.told.has_room || is_empty p.chip))
+/// ```
+///
+/// It uses [`is_up`](crate::proved::port#is_up); `PortState`, `has_room`, `is_empty` of this file.
+///
+/// <span id="IsStill"></span>
+///
+/// # `IsStill`
+///
+/// Nothing is left to happen, however much time passes: no character can move, and a reception timeout is due if characters wait in the FIFO.
+///
+/// ```text
+/// pub record IsStill (c : ChipState) : Type 0 where
+///   pub paced : IsPaced c
+///   pub unmoved : IsUnmoved c
+///   pub due : c.receiver.timeout_ticks ≡ c.receiver.timeout_limit
+/// ```
+///
+/// It uses `ChipState` of `crates/uart_chip/specs/Chip.antt`; `IsPaced`, `IsUnmoved` of this file.
+///
+/// <span id="nothing_new"></span>
+///
+/// # `nothing_new`
+///
+/// What the monitor has to do after a call that changes neither the line nor the room: nothing.
+///
+/// ```text
+/// abbrev pub nothing_new : PortState → Todo
+/// nothing_new p =
+///     record {
+///       signal = false;
+///       level = p.told.line;
+///       has_moved = false;
+///       has_room = false;
+///       ready = length p.chip.transmitter.wire;
+///     }
+/// ```
+///
+/// It uses `PortState`, `has_room` of this file.
+///
+/// <span id="reads_polled"></span>
+///
+/// # `reads_polled`
+///
+/// After a read of DATA the monitor has nothing to do: no interrupt is enabled, the monitor knows of room, and no signal covers others.
+///
+/// ```text
+/// abbrev pub reads_polled : PortState → Bool
+/// reads_polled p = is_polled p && (p.told.has_room && (p.told.spare == 0))
+/// ```
+///
+/// It uses `PortState`, `is_polled` of this file.
+///
+/// <span id="receives_polled"></span>
+///
+/// # `receives_polled`
+///
+/// After a byte of input the monitor has nothing to do: no interrupt is enabled, and the monitor knows of room.
+///
+/// ```text
+/// abbrev pub receives_polled : PortState → Bool
+/// receives_polled p = is_polled p && (p.told.has_room && has_room p.chip)
+/// ```
+///
+/// It uses `PortState`, `is_polled`, `has_room` of this file.
+///
+/// <span id="passes"></span>
+///
+/// # `passes`
+///
+/// The host can take a byte that the guest writes to DATA before it is on the output: it would be alone there at once, and a fall of the line within the call makes no difference.
+///
+/// ```text
+/// abbrev pub passes : PortState → Bool
+/// passes p = ignores_falls p.told && ((length p.chip.transmitter.wire == 0) && sends_at_once p.chip)
+/// ```
+///
+/// It uses [`sends_at_once`](uart_chip::proved::sending#sends_at_once); `PortState`, `ignores_falls` of this file.
+///
+/// <span id="passing"></span>
+///
+/// # `passing`
+///
+/// The byte, cut to the word length, if the host can take it before it is on the output.
+///
+/// ```text
+/// abbrev pub passing : (value : ℕ) → PortState → Option ℕ
+/// passing value p = if passes p then Some (cut_of p.chip value) else None
+/// ```
+///
+/// It uses [`passes`](crate::proved::port#passes), [`cut_of`](uart_chip::proved::chip#cut_of); `PortState` of this file.
+///
+/// <span id="IsSaved"></span>
+///
+/// # `IsSaved`
+///
+/// These data, and these bytes of output, are those of a port: the chip is live, and nothing is left to happen.
+///
+/// ```text
+/// pub record IsSaved (saved : ChipData) (output : List ℕ) : Type 0 where
+///   pub live : IsLive (chip_of saved output)
+///   pub still : IsStill (chip_of saved output)
+/// ```
+///
+/// It uses [`IsLive`](uart_live::proved::live#IsLive), [`chip_of`](uart_chip::proved::snapshot#chip_of), [`IsStill`](crate::proved::port#IsStill).
+#[doc(alias("settle_ticks", "settle", "is_up", "accepted", "told_after", "todo_after", "todo_of", "renewed", "untold", "begun", "fresh", "after", "todo", "IsTold", "IsStill", "nothing_new", "reads_polled", "receives_polled", "passes", "passing", "IsSaved"))]
+pub mod port {}
