@@ -4,7 +4,7 @@
 //! driver is in use for ever, and the chip may have DLAB set, be in loopback, or have half of a divisor. An [`EmergencyConsole`] is a
 //! new driver over the same registers. It trusts no state, and each of its waits ends.
 //!
-//! [HANDLERS](crate::ring#when-the-program-panics) has a table of the accesses that it makes.
+//! [The guide of interrupts](crate::ring#when-the-program-panics) has a table of the accesses that it makes.
 //!
 //! FIFOs are not reset, and nothing received is read: what was on its way goes out first. Without `set_frame`, LCR keeps its frame, and
 //! the divisor latch its divisor.
