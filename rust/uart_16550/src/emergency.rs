@@ -238,7 +238,7 @@ fn close_latch<B: Backend>(
     Ok(())
 }
 
-// Takes the chip out of loopback, and lets the remote send and receive.
+// Takes the chip out of loopback, and lets the other end send and receive.
 fn leave_loopback<B: Backend>(uart: &mut Uart16550<B>) -> Result<(), AttachError> {
     let kept = uart.mcr().intersection(GENERAL_OUTPUTS);
     uart.set_modem_control(kept.union(MCR::DTR).union(MCR::RTS));
