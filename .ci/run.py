@@ -34,7 +34,7 @@ PAGES = ["CHANGELOG.md", "CONTRIBUTING.md", "SECURITY.md", "docs/*.md", ".ci/*",
 # Definitions are none of them: the eraser holds what it writes beside some of these.
 PROOFS = ["crates/*/proofs/*", "crates/*/must-fail/*"]
 # The pages that commands compare with code, and what is in .ci and is such a command.
-C_PAGES = ["docs/C.md", "docs/HARDWARE.md", "docs/INTERRUPTS.md", "docs/MANUAL.md", "docs/AUDIT.md"]
+C_PAGES = ["docs/C.md", "docs/HARDWARE.md", "docs/MANUAL.md", "docs/AUDIT.md"]
 
 CI, C = "rt ci", "./prove --after-ci uart_c"
 USES = dict(re.findall(r"^(\w+)[^:#\n]*:(.*)$", (gate.TOP / "crates.txt").read_text(encoding="utf-8"), re.M))

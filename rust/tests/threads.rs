@@ -6,7 +6,7 @@
 //! either: `one-device`, two objects for one device; `no-lock`, the rings without their lock; `outside`, a device that is larger
 //! than its memory.
 //!
-//! The lock is the one of HANDLERS.md, and not that of `std`, whose code is not built for such a tool and so would hide from it
+//! The lock is the one of INTERRUPTS.md, and not that of `std`, whose code is not built for such a tool and so would hide from it
 //! which access comes first.
 
 use std::cell::UnsafeCell;

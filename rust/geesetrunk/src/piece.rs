@@ -45,7 +45,7 @@ impl Error for TwoProcesses {}
 
 /// Reads a piece of a recording, for who takes it for a whole one.
 ///
-/// First lines that repeat a read are read as remarks: what was read is not in the piece, so nothing is said about it, and the numbers of
+/// First lines that repeat a read are read as comments: what was read is not in the piece, so nothing is said about it, and the numbers of
 /// lines stay.
 ///
 /// It is an error, with [`TwoProcesses`] as its source, if a second process makes an access: two chips would be judged as one.
@@ -84,7 +84,7 @@ impl<R: Read> Piece<R> {
         }
         let line = self.first.strip_suffix(b"\n").unwrap_or(&self.first);
         match line_in(1, line) {
-            Ok(RecordingLine::Again(_)) => self.first = as_remark(&self.first),
+            Ok(RecordingLine::Again(_)) => self.first = as_comment(&self.first),
             Ok(RecordingLine::Blank) if !self.first.is_empty() && !self.first.is_full() => {}
             _ => {
                 self.is_at_first = false;
@@ -96,12 +96,12 @@ impl<R: Read> Piece<R> {
     }
 }
 
-// Returns a line as a remark of the same length.
-fn as_remark(line: &[u8]) -> ArrayVec<u8, LONGEST> {
-    let mut remark = ArrayVec::new();
-    remark.push(b'#');
-    line.iter().skip(1).for_each(|byte| remark.push(*byte));
-    remark
+// Returns a line as a comment of the same length.
+fn as_comment(line: &[u8]) -> ArrayVec<u8, LONGEST> {
+    let mut comment = ArrayVec::new();
+    comment.push(b'#');
+    line.iter().skip(1).for_each(|byte| comment.push(*byte));
+    comment
 }
 
 impl<R: Read> Read for Piece<R> {
@@ -252,7 +252,7 @@ mod tests {
     }
 
     #[test]
-    fn first_repeats_are_remarks_and_nothing_else_changes() {
+    fn first_repeats_are_comments_and_nothing_else_changes() {
         for (piece, read) in [
             ("x 3\nr 5 60\nx 2\n", "# 3\nr 5 60\nx 2\n"),
             ("# a\n\nx 3\nX 1\nr 5 60\n", "# a\n\n# 3\n# 1\nr 5 60\n"),

@@ -1,6 +1,6 @@
 //! The trace of a run: each call as its line, its accesses and its answer.
 //!
-//! The lines of the calls come from the proved crates. Here are their remarks: which register an
+//! The lines of the calls come from the proved crates. Here are their comments: which register an
 //! access reaches, when, and what else happened then.
 
 use crate::heap;
@@ -97,7 +97,7 @@ impl Remarks for Observed<'_> {
 }
 
 /// Writes the trace of a script with this text, for which this was printed, and behind it the last
-/// state of the machine as remarks.
+/// state of the machine as comments.
 ///
 /// # Errors
 ///
@@ -114,7 +114,7 @@ pub fn write_trace(
         before: String::new(),
         beside: String::new(),
     };
-    let remarks = Observed(Observer::new(script, happenings)?);
-    trace(heap(), text, output, remarks, out)?;
+    let comments = Observed(Observer::new(script, happenings)?);
+    trace(heap(), text, output, comments, out)?;
     Ok(())
 }

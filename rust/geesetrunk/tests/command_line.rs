@@ -380,7 +380,7 @@ fn a_recording_without_an_access_is_not_judged() {
     for recording in [
         "",
         "\n",
-        "# a remark\n",
+        "# a comment\n",
         "kvm_pio_write at 0x3f8\n",
         "x 3\n",
         "a 00 41\nm 30\n",

@@ -104,7 +104,7 @@ fn pictures_of_documents() {
 
 // The chip in software, as the chips were with which traces were recorded. These send at once, so
 // time enough passes before each access for all that is held to go out. They hold CTS, DSR and CD.
-// What came in is a remark of the trace, and a character comes in as soon as there is room for it.
+// What came in is a comment of the trace, and a character comes in as soon as there is room for it.
 struct Machine<I: Iterator<Item = (usize, u8)>> {
     chip: LiveChip,
     coming: Peekable<I>,

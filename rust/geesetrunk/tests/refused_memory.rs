@@ -98,7 +98,7 @@ impl Listener for Counter {
     fn end(&mut self) {}
 }
 
-// A trace without remarks.
+// A trace without comments.
 struct Silent;
 
 impl Remarks for Silent {

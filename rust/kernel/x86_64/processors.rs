@@ -38,7 +38,7 @@ const MOST_LOOKS: u32 = 100_000_000;
 // How long a processor that found nothing leaves the lock to others.
 const PAUSE: u32 = 1000;
 
-/// The lock of this kernel, which knows its owner: that of HANDLERS.md.
+/// The lock of this kernel, which knows its owner: that of INTERRUPTS.md.
 struct ProcessorLock {
     // The number of the owner, and one more. 0 if it is free.
     owner: AtomicUsize,

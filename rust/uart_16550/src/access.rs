@@ -1,4 +1,4 @@
-//! The accesses to a device: ports of x86 by `in` and `out`, and memory by volatile loads and stores,
+//! The accesses to a device: I/O ports of x86 by `in` and `out`, and memory by volatile loads and stores,
 //! with barriers where the architecture needs them.
 //!
 //! Of this crate, this and `shared/exclusive.rs` are the files that do something `unsafe`, and no proof covers them; `emergency.rs` has a

@@ -4,7 +4,7 @@
 //! driver is in use for ever, and the chip may have DLAB set, be in loopback, or have half of a divisor. An [`EmergencyConsole`] is a
 //! new driver over the same registers. It trusts no state, and each of its waits ends.
 //!
-//! [HANDLERS](crate::ring#when-the-program-panics) has a table of the accesses that it makes.
+//! [The guide of interrupts](crate::ring#when-the-program-panics) has a table of the accesses that it makes.
 //!
 //! FIFOs are not reset, and nothing received is read: what was on its way goes out first. Without `set_frame`, LCR keeps its frame, and
 //! the divisor latch its divisor.
@@ -238,7 +238,7 @@ fn close_latch<B: Backend>(
     Ok(())
 }
 
-// Takes the chip out of loopback, and lets the remote send and receive.
+// Takes the chip out of loopback, and lets the other end send and receive.
 fn leave_loopback<B: Backend>(uart: &mut Uart16550<B>) -> Result<(), AttachError> {
     let kept = uart.mcr().intersection(GENERAL_OUTPUTS);
     uart.set_modem_control(kept.union(MCR::DTR).union(MCR::RTS));

@@ -43,7 +43,7 @@
 //! # Ok::<(), Box<dyn std::error::Error>>(())
 //! ```
 //!
-#![doc = include_str!("../HANDLERS.md")]
+#![doc = include_str!("../INTERRUPTS.md")]
 
 pub use geesetrunk_kit_of_rings::alloc::{Global, Memory};
 pub use uart_ring::{

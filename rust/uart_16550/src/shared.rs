@@ -7,7 +7,7 @@
 //! | has tasks of an executor | [`Shared::read`], [`Shared::write`] and [`Shared::flush`] |
 //! | has several ports on one interrupt line | [`SharedLine`] |
 //!
-//! [HANDLERS](crate::ring#a-handler-of-interrupts) has each as a whole. A [`Shared`] is there on each target with an atomic swap
+//! [The guide of interrupts](crate::ring#interrupts) has each as a whole. A [`Shared`] is there on each target with an atomic swap
 //! of a byte.
 
 mod asynchronous;

@@ -732,8 +732,8 @@ int U16550_CALL u16550_ring_take(struct u16550 *uart, uint8_t *buffer, size_t le
  * Holds the other end back by RTS, or lets it go on: RTS goes off if there is room for fewer received bytes than hold, and on if there
  * is room for at least release. Between the two it stays as it is. The other end has to check CTS. Call it at the end of the handler,
  * and after each u16550_ring_take and u16550_ring_clear_receive: while the other end is held back no byte arrives, so nothing calls
- * the handler. docs/INTERRUPTS.md says which marks to choose; release is to be at most the capacity, or RTS never goes on again. MCR is
- * read, and written if RTS is not so yet: the other outputs as they were, and loopback off.
+ * the handler. rust/uart_16550/INTERRUPTS.md says which marks to choose; release is to be at most the capacity, or RTS never goes on
+ * again. MCR is read, and written if RTS is not so yet: the other outputs as they were, and loopback off.
  */
 int U16550_CALL u16550_ring_adjust_rts(struct u16550 *uart, size_t hold, size_t release);
 
@@ -759,7 +759,7 @@ int U16550_CALL u16550_ring_handle(struct u16550 *uart, size_t limit, struct u16
  * than U16550_HANDLE_IDLE, and moved no byte between the rings and the chip, it reads ISR once more. If that still shows an
  * interrupt, the chip is stuck: the call writes 0 to IER, and returns an enum u16550_stuck_error. While the chip is stuck, each
  * further call writes 0 to IER again and returns the same, and the rings hand no byte to the chip. A limit of at least 6 keeps a
- * chip that works from it: see docs/INTERRUPTS.md. 100 rounds are 3,200 interrupts without a pause, if the limit is 32.
+ * chip that works from it: see rust/uart_16550/INTERRUPTS.md. 100 rounds are 3,200 interrupts without a pause, if the limit is 32.
  */
 int U16550_CALL u16550_ring_try_handle(struct u16550 *uart, size_t limit, uint32_t rounds, struct u16550_handled *handled);
 

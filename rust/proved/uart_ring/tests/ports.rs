@@ -16,7 +16,7 @@ use uart_16550::backend::Backend;
 use uart_spec::registers::{IER, LSR, MSR};
 use uart_spec::{Config, InitError};
 
-include!("documented/port.rs");
+include!("served/port.rs");
 
 const PORTS: usize = 4;
 const STEPS: usize = 2_000;

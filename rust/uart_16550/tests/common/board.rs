@@ -1,4 +1,4 @@
-// A board for the examples of HANDLERS.md: a chip in software, a mask of interrupts, and a controller that
+// A board for the examples of INTERRUPTS.md: a chip in software, a mask of interrupts, and a controller that
 // calls the handler while the chip's line is high. Included by each example, whose functions it calls.
 mod board {
     use std::collections::VecDeque;

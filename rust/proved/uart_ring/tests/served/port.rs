@@ -1,4 +1,5 @@
-// The port of docs/INTERRUPTS.md, word for word. It is included by the tests that drive it.
+// A port that is served by interrupts: that of crates/uart_uses/src/tests/rings/handler.rt, without its contracts. The tests that drive
+// several ports on one line include it.
 
 /// Why a port was not started.
 #[derive(Debug)]
