@@ -62,6 +62,8 @@ COMMANDS = [
     Command("tools/eraser/erase test", **BESIDE),
     Command("tools/eraser/erase corpus", **BESIDE),
     Command("integration/readme", **BESIDE | {"without": OF_RUST, "but": READMES}),
+    Command("integration/packages", **BESIDE | {"without": OF_RUST, "but": READMES}),
+    Command("rust/tests/interface", **BESIDE | {"without": OF_RUST, "but": READMES}),
     Command("integration/rust apart", **BESIDE),
     Command(".ci/refused-memory", **OVER | {"but": [".ci/refused-memory"]}),
     Command("integration/port", **OVER | {"without": OF_RUST}),
