@@ -15,6 +15,7 @@ FOLDERS = {KIT: "../../kit", KIT_OF_RINGS: "../../kit_of_rings"}
 KEYWORDS = '["uart", "serial", "16550", "no_std", "verified"]'
 CATEGORIES = '["embedded", "hardware-support", "no-std"]'
 ALLOWED = "unused_imports, unused_labels, unused_parens, unused_braces, dead_code, clippy::all, clippy::pedantic"
+WHY = "the text is that of the proved source, in the forms that Rattle has"
 
 
 class Crates:
@@ -108,7 +109,7 @@ def for_tests(crate):
 def root(crate, crates, text):
     """The root of a crate, of which the eraser left this: attributes and libraries stand behind its documentation."""
     found = re.match(r"(?://![^\n]*\n)*", text)
-    lines = ["#![no_std]", "#![forbid(unsafe_code)]", f"#![allow({ALLOWED})]", "#![allow(rustdoc::broken_intra_doc_links)]", ""]
+    lines = ["#![no_std]", "#![forbid(unsafe_code)]", f'#![allow({ALLOWED}, reason = "{WHY}")]', "#![allow(rustdoc::broken_intra_doc_links)]", ""]
     if crate not in table.SHIPS:
         lines += ['const _: () = assert!(usize::BITS == 64, "what is not for users is for targets of 64 bits");', ""]
     for name, of in libraries(crate, crates.uses[crate]):

@@ -164,6 +164,10 @@ impl<const N: usize> ArrayString<N> {
 
     /// Returns the text.
     #[must_use]
+    #[allow(
+        clippy::missing_panics_doc,
+        reason = "what was appended is whole texts, so this does not panic"
+    )]
     pub fn as_str(&self) -> &str {
         core::str::from_utf8(self.0.as_slice()).expect("only whole texts are appended")
     }

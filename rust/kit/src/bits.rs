@@ -101,6 +101,7 @@ pub trait Flags: Sized + 'static {
     }
 
     /// Returns the bit of this name, or `None` if none has it.
+    #[must_use]
     fn from_name(name: &str) -> Option<Self> {
         let flag = Self::flags().iter().find(|flag| flag.name == name)?;
         Some(Self::from_bits_retain(flag.value.bits()))
@@ -166,26 +167,31 @@ pub trait Flags: Sized + 'static {
     }
 
     /// Returns the bits that are set in both.
+    #[must_use]
     fn intersection(self, other: Self) -> Self {
         Self::from_bits_retain(self.bits() & other.bits())
     }
 
     /// Returns the bits that are set in one of the two or in both.
+    #[must_use]
     fn union(self, other: Self) -> Self {
         Self::from_bits_retain(self.bits() | other.bits())
     }
 
     /// Returns the bits that are set here and not in `other`.
+    #[must_use]
     fn difference(self, other: Self) -> Self {
         Self::from_bits_retain(self.bits() & !other.bits())
     }
 
     /// Returns the bits that are set in one of the two and not in both.
+    #[must_use]
     fn symmetric_difference(self, other: Self) -> Self {
         Self::from_bits_retain(self.bits() ^ other.bits())
     }
 
     /// Returns the bits that have a name and are not set.
+    #[must_use]
     fn complement(self) -> Self {
         Self::from_bits_truncate(!self.bits())
     }

@@ -462,6 +462,14 @@ impl DesignWareRegisters for DesignWareMemory {
 /// The address must be a multiple of the width, and as many bytes from it on must be valid for a volatile
 /// load of that width. Nothing else may access them at the same time.
 #[inline]
+#[allow(
+    clippy::must_use_candidate,
+    reason = "a load may be made for what it does to the device"
+)]
+#[allow(
+    clippy::cast_possible_truncation,
+    reason = "the lowest byte is what is asked for"
+)]
 pub unsafe fn load_register(address: *const u8, width: RegisterWidth, byte_order: ByteOrder) -> u8 {
     // SAFETY: by the promise of the caller.
     unsafe {
@@ -509,10 +517,19 @@ pub unsafe fn store_register(
     }
 }
 
+// The offset of a register as a backend takes it. All are below 8.
+#[allow(
+    clippy::cast_possible_truncation,
+    reason = "no offset of a register has more than three bits"
+)]
+pub(crate) const fn offset_of(register: usize) -> u8 {
+    register as u8
+}
+
 // Checks that eight ports from this one on exist.
 #[cfg(any(target_arch = "x86", target_arch = "x86_64"))]
 const fn check_ports(base: u16) -> Result<(), InvalidAddressError> {
-    match base.checked_add(offsets::SPR as u16) {
+    match base.checked_add(offset_of(offsets::SPR) as u16) {
         Some(_) => Ok(()),
         None => Err(InvalidAddressError::InvalidBaseAddress(base as usize)),
     }

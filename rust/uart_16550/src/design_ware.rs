@@ -2,6 +2,7 @@
 //!
 //! The driver above it is the proved one, unchanged. This file is by hand, and only tested.
 
+use crate::access::offset_of;
 use core::error::Error;
 use core::fmt;
 use core::num::NonZeroU64;
@@ -193,11 +194,11 @@ impl<R: DesignWareRegisters> DesignWare<R> {
     }
 
     fn load(&mut self, offset: usize) -> u8 {
-        self.registers.read(offset as u8)
+        self.registers.read(offset_of(offset))
     }
 
     fn store(&mut self, offset: usize, value: u8) {
-        self.registers.write(offset as u8, value);
+        self.registers.write(offset_of(offset), value);
     }
 
     // Reads LSR, and saves the errors that this clears.

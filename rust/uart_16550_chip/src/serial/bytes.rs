@@ -32,6 +32,10 @@ impl Writer {
     }
 
     /// A list, with its length in front, in the room that it may take.
+    #[allow(
+        clippy::cast_possible_truncation,
+        reason = "no list of a state has more bytes than the wire has room for, which are 64"
+    )]
     fn put_list(&mut self, bytes: &[u8], room: usize) {
         self.put(&[bytes.len() as u8]);
         self.put(bytes);
@@ -98,8 +102,10 @@ impl SerialState {
             received.is_overrun.into(),
             received.is_front_reported.into(),
         ]);
-        let level = LEVELS.iter().position(|level| *level == received.trigger);
-        to.put(&[received.last_byte, level.unwrap_or(0) as u8]);
+        let level = (0..)
+            .zip(LEVELS)
+            .find(|(_, level)| *level == received.trigger);
+        to.put(&[received.last_byte, level.map_or(0, |(place, _)| place)]);
         let (mut bytes, mut errors) = ([0; FIFO_SIZE], [0; FIFO_SIZE]);
         let mut looped = 0_u16;
         for (place, character) in received.queue.iter().enumerate().take(FIFO_SIZE) {
