@@ -82,6 +82,16 @@ impl SerialState {
     /// Returns the state as bytes. It is to be the state of a device.
     ///
     /// The first four are the version, the lowest first.
+    ///
+    /// # Examples
+    ///
+    /// ```
+    /// # include!(concat!(env!("CARGO_MANIFEST_DIR"), "/tests/examples/device.rs"));
+    /// # fn main() {
+    /// let bytes = device().state().to_bytes();
+    /// assert_eq!(bytes.len(), SerialState::LEN);
+    /// # }
+    /// ```
     #[must_use]
     pub fn to_bytes(&self) -> [u8; Self::LEN] {
         let chip = &self.chip;
@@ -128,6 +138,18 @@ impl SerialState {
     /// # Errors
     ///
     /// `Version` if they have a version that this release does not know, and `Bytes` if they are not those of a state.
+    ///
+    /// # Examples
+    ///
+    /// ```
+    /// # include!(concat!(env!("CARGO_MANIFEST_DIR"), "/tests/examples/device.rs"));
+    /// # fn main() -> Result<(), Box<dyn std::error::Error>> {
+    /// let state = device().state();
+    /// assert_eq!(SerialState::from_bytes(&state.to_bytes())?, state);
+    /// assert!(SerialState::from_bytes(b"no state").is_err());
+    /// # Ok(())
+    /// # }
+    /// ```
     pub fn from_bytes(bytes: &[u8]) -> Result<Self, BadState> {
         let mut from = Reader(bytes);
         let version = from.take().map(u32::from_le_bytes);
