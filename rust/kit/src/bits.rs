@@ -14,18 +14,41 @@ pub struct Flag<F> {
 
 impl<F> Flag<F> {
     /// Returns a flag of this name and value.
+    ///
+    /// # Examples
+    ///
+    /// ```
+    /// use uart_16550::Flag;
+    ///
+    /// const READY: Flag<u8> = Flag::new("READY", 0x01);
+    /// assert_eq!(READY.name, "READY");
+    /// ```
     #[must_use]
     pub const fn new(name: &'static str, value: F) -> Self {
         Flag { name, value }
     }
 
     /// Returns the name.
+    ///
+    /// # Examples
+    ///
+    /// ```
+    /// # use uart_16550::Flag;
+    /// assert_eq!(Flag::new("READY", 0x01).name(), "READY");
+    /// ```
     #[must_use]
     pub const fn name(&self) -> &'static str {
         self.name
     }
 
     /// Returns the value.
+    ///
+    /// # Examples
+    ///
+    /// ```
+    /// # use uart_16550::Flag;
+    /// assert_eq!(Flag::new("READY", 0x01).value(), &0x01);
+    /// ```
     #[must_use]
     pub const fn value(&self) -> &F {
         &self.value
