@@ -63,6 +63,8 @@ COMMANDS = [
     Command("tools/eraser/erase test", **BESIDE),
     Command("tools/eraser/erase corpus", **BESIDE),
     Command("integration/readme", **BESIDE | {"without": OF_RUST, "but": READMES}),
+    Command("integration/packages", **BESIDE | {"without": OF_RUST, "but": READMES}),
+    Command("rust/tests/interface", **BESIDE | {"without": OF_RUST, "but": READMES}),
     Command("integration/rust apart", **BESIDE),
     Command("integration/doc", **BESIDE | {"without": OF_RUST, "but": READMES}),
     Command(".ci/refused-memory", **OVER | {"but": [".ci/refused-memory"]}),

@@ -56,7 +56,7 @@ NAMED = [
     ('bytes behind a list are ignored', BYTES, '                .filter(|state| state.to_bytes() == bytes)\n', '', 'tests'),
     ('a break is left set', EMERGENCY, '    if uart.lcr().intersects(NO_TEXT) {', '    if uart.lcr().intersects(LCR::DLAB) {', 'tests'),
     ('a general output is cleared', EMERGENCY, 'MCR::OUT_1.union(MCR::OUT_2_INT_ENABLE)', 'MCR::OUT_2_INT_ENABLE', 'tests'),
-    ('interrupts are left enabled', EMERGENCY, '        uart.backend_mut().write(offsets::IER as u8, 0);\n', '', 'tests'),
+    ('interrupts are left enabled', EMERGENCY, '        uart.backend_mut().write(offset_of(offsets::IER), 0);\n', '', 'tests'),
     ('a stuck chip is waited for again and again', EMERGENCY, '            NonZeroU64::MIN\n', '            self.patience\n', 'tests'),
     ('a timeout with a break is taken for one without data', DESIGN_WARE, 'let shown = LSR::DATA_READY | LSR::BREAK_INTERRUPT;', 'let shown = LSR::DATA_READY;', 'tests'),
     ('an interrupt that comes again is given up earlier', DESIGN_WARE, 'const ROUNDS: usize = 4;', 'const ROUNDS: usize = 3;', 'tests'),

@@ -3,6 +3,7 @@ import re
 import tomllib
 
 import names
+import packages
 import table
 
 # Packages by hand that an emitted one is compiled with or under.
@@ -14,9 +15,11 @@ CONDITION = re.compile(r"#!?\[\s*(cfg|cfg_attr|allow|expect)\b\s*(\([^\n]*\))")
 CONDITIONS = ['(feature = "embedded-io")']
 # What Cargo.toml may have: nothing that changes how the library is compiled.
 PACKAGE = """
-name version edition rust-version description keywords categories license readme include repository documentation authors publish
-metadata
+name version edition rust-version description keywords categories license readme include repository homepage documentation authors
+publish metadata
 """.split()
+# What it says as the emitted ones do.
+COMMON = {"version": packages.VERSION, "repository": packages.REPOSITORY, "homepage": packages.HOMEPAGE}
 SECTIONS = ["package", "lib", "features", "dependencies", "dev-dependencies"]
 # The workspace: stand-ins for three libraries, and profiles that change how fast a program is, and not what it does.
 WORKSPACE = ["workspace", "patch", "profile"]
@@ -127,6 +130,7 @@ def cargo(name, text):
     if package.get("edition") != "2024":
         found.append(f'{name}: not `edition = "2024"`')
     found += [f"{name}: `{one}` of the package" for one in package if one not in PACKAGE]
+    found += [f'{name}: not `{one} = "{value}"`' for one, value in COMMON.items() if package.get(one) != value]
     found += [f"{name}: `{one}` of the library" for one in library if one != "name"]
     found += [f"{name}: the section [{one}]" for one in entries if one not in SECTIONS]
     for one, wanted in entries.get("dependencies", {}).items():

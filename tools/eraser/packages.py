@@ -5,11 +5,17 @@ import examples
 import table
 
 VERSION = "0.9.0"
+# Where the repository is, and its pages: the one place to set it, beside the manifests by hand, which `erase check` compares with it. Nobody
+# can have this address, and `rust/for_release.py` makes no release with it.
+REPOSITORY = HOMEPAGE = "https://geesetrunk.invalid"
 # What shipped code needs of Rust, and what the programs do.
 RUST = {True: "1.85", False: "1.87"}
-KIT, KIT_OF_RINGS = "geesetrunk-kit", "geesetrunk-kit-of-rings"
+KIT, KIT_OF_RINGS = "geesetrunk-kit", "geesetrunk-kit_of_rings"
 FOLDERS = {KIT: "../../kit", KIT_OF_RINGS: "../../kit_of_rings"}
+KEYWORDS = '["uart", "serial", "16550", "no_std", "verified"]'
+CATEGORIES = '["embedded", "hardware-support", "no-std"]'
 ALLOWED = "unused_imports, unused_labels, unused_parens, unused_braces, dead_code, clippy::all, clippy::pedantic"
+WHY = "the text is that of the proved source, in the forms that Rattle has"
 
 
 class Crates:
@@ -51,7 +57,7 @@ def manifest(crate, crates):
     text = "# Made by `tools/eraser/erase emit` from crates.txt. Do not edit.\n\n[package]\n"
     text += f'name = "{package(crate)}"\nversion = "{VERSION}"\nedition = "2024"\nrust-version = "{RUST[ships]}"\n'
     text += f'description = "Part of geesetrunk, and no interface: {crates.about[crate]}"\nlicense = "MIT OR Apache-2.0"\n'
-    text += "" if ships else "publish = false\n"
+    text += for_registries(crate) if ships else "publish = false\n"
     text += f'\n[lib]\nname = "proved_{crate}"\n'
     text += features(crate, uses)
     text += "\n[dependencies]\n"
@@ -65,6 +71,14 @@ def manifest(crate, crates):
     if has_io:
         text += dependency("embedded-io", version=quoted("0.7"), optional="true")
     return text + for_tests(crate)
+
+
+def for_registries(crate):
+    """What the pages of registries show of a package that is published, and what is in it. Its tests are not: what they are compiled with is
+    left out of what is published."""
+    text = f'repository = "{REPOSITORY}"\nhomepage = "{HOMEPAGE}"\ndocumentation = "https://docs.rs/{package(crate)}"\n'
+    text += f'keywords = {KEYWORDS}\ncategories = {CATEGORIES}\nreadme = "../../PART.md"\n'
+    return text + f'include = ["/src", {quoted("/" + examples.SHARED_NAME) + ", " if crate in examples.SHARED else ""}"/LICENSE-*"]\n'
 
 
 def features(crate, uses):
@@ -95,7 +109,7 @@ def for_tests(crate):
 def root(crate, crates, text):
     """The root of a crate, of which the eraser left this: attributes and libraries stand behind its documentation."""
     found = re.match(r"(?://![^\n]*\n)*", text)
-    lines = ["#![no_std]", "#![forbid(unsafe_code)]", f"#![allow({ALLOWED})]", "#![allow(rustdoc::broken_intra_doc_links)]", ""]
+    lines = ["#![no_std]", "#![forbid(unsafe_code)]", f'#![allow({ALLOWED}, reason = "{WHY}")]', "#![allow(rustdoc::broken_intra_doc_links)]", ""]
     if crate not in table.SHIPS:
         lines += ['const _: () = assert!(usize::BITS == 64, "what is not for users is for targets of 64 bits");', ""]
     for name, of in libraries(crate, crates.uses[crate]):

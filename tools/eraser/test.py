@@ -285,6 +285,9 @@ AROUND = [
     (".cargo/config.toml", "", "[net]\nretry = 0\n", "more than that cargo asks no index"),
     ("rust/kit/.cargo/config.toml", "", "[build]\nrustflags = []\n", "more than that cargo asks no index"),
     ("rust/kit/Cargo.toml", 'edition = "2024"', 'edition = "2021"', 'not `edition = "2024"`'),
+    ("rust/kit/Cargo.toml", f'version = "{packages.VERSION}"', 'version = "0.0.1"', "not `version = "),
+    ("rust/kit/Cargo.toml", 'repository = "https://', 'repository = "http://', "not `repository = "),
+    ("rust/uart_16550/Cargo.toml", "homepage = ", "authors = ", "not `homepage = "),
     ("rust/kit/Cargo.toml", "[features]\n", '[lib]\npath = "src/other.rs"\n[features]\n', "`path` of the library"),
     ("rust/kit/Cargo.toml", "[package]\n", '[package]\nbuild = "src/x.rs"\n', "`build` of the package"),
     ("rust/uart_16550/Cargo.toml", "[dependencies]\n", '[dependencies]\nbitflags = "2"\n', "the dependency bitflags"),
@@ -414,6 +417,9 @@ class Tests:
             (shipped, f'geesetrunk-kit = {{ path = "../../kit", version = "={packages.VERSION}" }}'),
             (ours, 'features = ["std"]'),
             (ours, "publish = false"),
+            (shipped, f'repository = "{packages.REPOSITORY}"\n'),
+            (shipped, 'documentation = "https://docs.rs/geesetrunk-proved-uart_live"\n'),
+            (shipped, 'include = ["/src", "/examples.rs", "/LICENSE-*"]\n'),
         ):
             self.count(part in text, f"{part}: not in {text}")
         self.count("publish" not in shipped and "thiserror" not in shipped, f"more in {shipped}")

@@ -20,6 +20,10 @@ pub struct Global {
 }
 
 #[cfg(feature = "alloc")]
+#[allow(
+    clippy::unused_self,
+    reason = "whoever has a handle may make what is empty"
+)]
 impl Global {
     /// Returns a handle to the program's allocator.
     #[must_use]

@@ -34,6 +34,15 @@ pub struct ArrayVec<T, const N: usize> {
 
 impl<T: Copy + Default, const N: usize> ArrayVec<T, N> {
     /// Returns an empty list.
+    ///
+    /// # Examples
+    ///
+    /// ```
+    /// use uart_16550_chip::ArrayVec;
+    ///
+    /// let list: ArrayVec<u8, 16> = ArrayVec::new();
+    /// assert!(list.is_empty());
+    /// ```
     #[must_use]
     pub fn new() -> Self {
         Self {
@@ -55,6 +64,15 @@ impl<T, const N: usize> ArrayVec<T, N> {
     /// # Panics
     ///
     /// If there are `N` items.
+    ///
+    /// # Examples
+    ///
+    /// ```
+    /// # use uart_16550_chip::ArrayVec;
+    /// let mut list: ArrayVec<u8, 2> = ArrayVec::new();
+    /// list.push(1);
+    /// assert_eq!(list.as_slice(), [1]);
+    /// ```
     pub fn push(&mut self, item: T) {
         assert!(self.len < N, "the list is full");
         self.items[self.len] = item;
@@ -66,6 +84,16 @@ impl<T, const N: usize> ArrayVec<T, N> {
     /// # Errors
     ///
     /// `CapacityError` if there are `N` items. Nothing changed then.
+    ///
+    /// # Examples
+    ///
+    /// ```
+    /// # use uart_16550_chip::ArrayVec;
+    /// let mut list: ArrayVec<u8, 2> = ArrayVec::new();
+    /// list.push(1);
+    /// list.push(2);
+    /// assert!(list.try_push(3).is_err());
+    /// ```
     pub fn try_push(&mut self, item: T) -> Result<(), CapacityError> {
         *self.items.get_mut(self.len).ok_or(CapacityError)? = item;
         self.len += 1;
@@ -73,12 +101,30 @@ impl<T, const N: usize> ArrayVec<T, N> {
     }
 
     /// Returns whether there is no room for another item.
+    ///
+    /// # Examples
+    ///
+    /// ```
+    /// # use uart_16550_chip::ArrayVec;
+    /// let mut list: ArrayVec<u8, 2> = ArrayVec::new();
+    /// list.push(1);
+    /// assert!(!list.is_full());
+    /// ```
     #[must_use]
     pub const fn is_full(&self) -> bool {
         self.len == N
     }
 
     /// Returns the items.
+    ///
+    /// # Examples
+    ///
+    /// ```
+    /// # use uart_16550_chip::ArrayVec;
+    /// let mut list: ArrayVec<u8, 2> = ArrayVec::new();
+    /// list.push(1);
+    /// assert_eq!(list.as_slice(), [1]);
+    /// ```
     #[must_use]
     pub fn as_slice(&self) -> &[T] {
         self.items.get(..self.len).unwrap_or(&self.items)
@@ -105,6 +151,16 @@ impl<T: Copy, const N: usize> ArrayVec<T, N> {
     /// # Errors
     ///
     /// `CapacityError` if there is not. Nothing changed then.
+    ///
+    /// # Examples
+    ///
+    /// ```
+    /// # use uart_16550_chip::ArrayVec;
+    /// let mut list: ArrayVec<u8, 2> = ArrayVec::new();
+    /// assert!(list.try_extend_from_slice(&[1, 2, 3]).is_err());
+    /// assert!(list.try_extend_from_slice(&[1, 2]).is_ok());
+    /// assert_eq!(list.as_slice(), [1, 2]);
+    /// ```
     pub fn try_extend_from_slice(&mut self, items: &[T]) -> Result<(), CapacityError> {
         let room = self.items.get_mut(self.len..).unwrap_or_default();
         room.get_mut(..items.len())
@@ -164,6 +220,10 @@ impl<const N: usize> ArrayString<N> {
 
     /// Returns the text.
     #[must_use]
+    #[allow(
+        clippy::missing_panics_doc,
+        reason = "what was appended is whole texts, so this does not panic"
+    )]
     pub fn as_str(&self) -> &str {
         core::str::from_utf8(self.0.as_slice()).expect("only whole texts are appended")
     }

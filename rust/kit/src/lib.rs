@@ -13,7 +13,9 @@
 
 // The proofs take a number of 32 bits for one that fits into `usize`.
 #[cfg(not(any(target_pointer_width = "32", target_pointer_width = "64")))]
-compile_error!("the driver is for targets whose addresses have 32 or 64 bits: on others an index may not fit into `usize`");
+compile_error!(
+    "the driver is for targets whose addresses have 32 or 64 bits: on others an index may not fit into `usize`"
+);
 
 #[cfg(feature = "alloc")]
 extern crate alloc as heap;
@@ -27,10 +29,22 @@ mod array;
 mod bits;
 #[cfg(feature = "std")]
 pub mod io;
+#[allow(
+    clippy::missing_errors_doc,
+    reason = "each error of these is that there is no memory"
+)]
 mod list;
 #[cfg(feature = "std")]
 pub mod path;
+#[allow(
+    clippy::missing_errors_doc,
+    reason = "each error of these is that there is no memory"
+)]
 mod queue;
+#[allow(
+    clippy::missing_errors_doc,
+    reason = "each error of these is that there is no memory"
+)]
 mod text;
 
 pub use array::{ArrayString, ArrayVec, CapacityError};

@@ -70,6 +70,11 @@ impl<T> HeapCircularBuffer<T> {
     }
 
     /// Returns the values, from the front.
+    #[allow(
+        clippy::iter_without_into_iter,
+        clippy::must_use_candidate,
+        reason = "the library that this stands for has this alone, and without an allocator what it returns says this by itself"
+    )]
     pub fn iter(&self) -> Iter<'_, T> {
         self.values.iter()
     }

@@ -66,6 +66,16 @@ impl X86Ports {
     ///   interrupts. If several of them need the device, they share this object by a lock, and
     ///   a handler must not wait for a lock that it has interrupted.
     /// - Do not name the object by a `const`: each use of the name makes another object.
+    ///
+    /// # Examples
+    ///
+    /// ```no_run
+    /// use uart_16550::native::backend::X86Ports;
+    ///
+    /// // SAFETY: this program may access the ports of COM1, and nothing else does.
+    /// let ports = unsafe { X86Ports::new(0x3f8) }?;
+    /// # Ok::<(), Box<dyn std::error::Error>>(())
+    /// ```
     pub const unsafe fn new(base_port: u16) -> Result<Self, InvalidAddressError> {
         match check_ports(base_port) {
             Ok(()) => Ok(X86Ports {
@@ -77,6 +87,16 @@ impl X86Ports {
     }
 
     /// Returns the port of the first register.
+    ///
+    /// # Examples
+    ///
+    /// ```
+    /// # use uart_16550::native::backend::X86Ports;
+    /// // SAFETY: no access is made.
+    /// let ports = unsafe { X86Ports::new(0x3f8) }?;
+    /// assert_eq!(ports.base(), 0x3f8);
+    /// # Ok::<(), Box<dyn std::error::Error>>(())
+    /// ```
     #[must_use]
     pub const fn base(&self) -> u16 {
         self.base
@@ -160,6 +180,21 @@ impl VolatileMemory {
     /// - Nothing else may access these bytes: no reference, no other object, no other thread, no
     ///   handler of interrupts. If several of them need the device, they share this object by a
     ///   lock, and a handler must not wait for a lock that it has interrupted.
+    ///
+    /// # Examples
+    ///
+    /// ```
+    /// use core::ptr::NonNull;
+    /// use uart_16550::native::backend::{Backend, VolatileMemory};
+    ///
+    /// // Memory in place of a device, as in a test.
+    /// let mut cells = [0_u8; 8];
+    /// // SAFETY: nothing else accesses these bytes while the object lives.
+    /// let mut memory = unsafe { VolatileMemory::new(NonNull::from(&mut cells).cast(), 1) }?;
+    /// memory.write(7, 0x5a);
+    /// assert_eq!(cells[7], 0x5a);
+    /// # Ok::<(), Box<dyn std::error::Error>>(())
+    /// ```
     pub unsafe fn new(base: NonNull<u8>, stride: u8) -> Result<Self, InvalidAddressError> {
         let stride = check_memory(base.addr().get(), stride)?;
         Ok(VolatileMemory { base, stride })
@@ -177,6 +212,18 @@ impl VolatileMemory {
     /// That of [`new`](Self::new). If the bytes are in an allocation of Rust, a pointer to it must
     /// have been exposed (see [`core::ptr::with_exposed_provenance_mut`]). Do not name the object by
     /// a `const`: each use of the name makes another object.
+    ///
+    /// # Examples
+    ///
+    /// ```no_run
+    /// use core::num::NonZeroUsize;
+    /// use uart_16550::native::backend::VolatileMemory;
+    ///
+    /// let base = NonZeroUsize::new(0x1000_0000).unwrap();
+    /// // SAFETY: a 16550 is there, its registers four bytes apart, and nothing else accesses it.
+    /// let registers = unsafe { VolatileMemory::from_address(base, 4) }?;
+    /// # Ok::<(), Box<dyn std::error::Error>>(())
+    /// ```
     pub const unsafe fn from_address(
         base: NonZeroUsize,
         stride: u8,
@@ -191,12 +238,37 @@ impl VolatileMemory {
     }
 
     /// Returns the address of the first register.
+    ///
+    /// # Examples
+    ///
+    /// ```
+    /// # use core::ptr::NonNull;
+    /// # use uart_16550::native::backend::VolatileMemory;
+    /// let mut cells = [0_u8; 8];
+    /// let base = NonNull::from(&mut cells).cast();
+    /// // SAFETY: nothing else accesses these bytes while the object lives.
+    /// let memory = unsafe { VolatileMemory::new(base, 1) }?;
+    /// assert_eq!(memory.base(), base);
+    /// # Ok::<(), Box<dyn std::error::Error>>(())
+    /// ```
     #[must_use]
     pub const fn base(&self) -> NonNull<u8> {
         self.base
     }
 
     /// Returns the distance between two registers in bytes.
+    ///
+    /// # Examples
+    ///
+    /// ```
+    /// # use core::ptr::NonNull;
+    /// # use uart_16550::native::backend::VolatileMemory;
+    /// let mut cells = [0_u8; 32];
+    /// // SAFETY: nothing else accesses these bytes while the object lives.
+    /// let memory = unsafe { VolatileMemory::new(NonNull::from(&mut cells).cast(), 4) }?;
+    /// assert_eq!(memory.stride().get(), 4);
+    /// # Ok::<(), Box<dyn std::error::Error>>(())
+    /// ```
     #[must_use]
     pub const fn stride(&self) -> NonZeroU8 {
         self.stride
@@ -283,6 +355,21 @@ impl WideMemory {
     ///
     /// That of [`VolatileMemory::new`], where each of the eight registers has as many bytes as the width
     /// says, and they must be valid for volatile loads and stores of that width.
+    ///
+    /// # Examples
+    ///
+    /// ```
+    /// use core::ptr::NonNull;
+    /// use uart_16550::native::backend::{Backend, RegisterLayout, WideMemory};
+    ///
+    /// // Memory in place of a device, as in a test.
+    /// let mut cells = [0_u32; 8];
+    /// // SAFETY: nothing else accesses these bytes while the object lives.
+    /// let mut memory = unsafe { WideMemory::new(NonNull::from(&mut cells).cast(), RegisterLayout::WORDS) }?;
+    /// memory.write(7, 0x5a);
+    /// assert_eq!(cells[7], 0x5a);
+    /// # Ok::<(), Box<dyn std::error::Error>>(())
+    /// ```
     pub unsafe fn new(
         base: NonNull<u8>,
         layout: RegisterLayout,
@@ -303,6 +390,18 @@ impl WideMemory {
     /// That of [`new`](Self::new). If the bytes are in an allocation of Rust, a pointer to it must
     /// have been exposed (see [`core::ptr::with_exposed_provenance_mut`]). Do not name the object by
     /// a `const`: each use of the name makes another object.
+    ///
+    /// # Examples
+    ///
+    /// ```no_run
+    /// use core::num::NonZeroUsize;
+    /// use uart_16550::native::backend::{RegisterLayout, WideMemory};
+    ///
+    /// let base = NonZeroUsize::new(0xff1a_0000).unwrap();
+    /// // SAFETY: a 16550 is there, with registers of 32 bits, and nothing else accesses it.
+    /// let registers = unsafe { WideMemory::from_address(base, RegisterLayout::WORDS) }?;
+    /// # Ok::<(), Box<dyn std::error::Error>>(())
+    /// ```
     pub const unsafe fn from_address(
         base: NonZeroUsize,
         layout: RegisterLayout,
@@ -324,12 +423,37 @@ impl WideMemory {
     }
 
     /// Returns the address of the first register.
+    ///
+    /// # Examples
+    ///
+    /// ```
+    /// # use core::ptr::NonNull;
+    /// # use uart_16550::native::backend::{RegisterLayout, WideMemory};
+    /// let mut cells = [0_u32; 8];
+    /// let base = NonNull::from(&mut cells).cast();
+    /// // SAFETY: nothing else accesses these bytes while the object lives.
+    /// let memory = unsafe { WideMemory::new(base, RegisterLayout::WORDS) }?;
+    /// assert_eq!(memory.base(), base);
+    /// # Ok::<(), Box<dyn std::error::Error>>(())
+    /// ```
     #[must_use]
     pub const fn base(&self) -> NonNull<u8> {
         self.base
     }
 
     /// Returns how the registers lie in memory.
+    ///
+    /// # Examples
+    ///
+    /// ```
+    /// # use core::ptr::NonNull;
+    /// # use uart_16550::native::backend::{RegisterLayout, WideMemory};
+    /// let mut cells = [0_u32; 8];
+    /// // SAFETY: nothing else accesses these bytes while the object lives.
+    /// let memory = unsafe { WideMemory::new(NonNull::from(&mut cells).cast(), RegisterLayout::WORDS) }?;
+    /// assert_eq!(memory.layout(), RegisterLayout::WORDS);
+    /// # Ok::<(), Box<dyn std::error::Error>>(())
+    /// ```
     #[must_use]
     pub const fn layout(&self) -> RegisterLayout {
         RegisterLayout {
@@ -388,6 +512,22 @@ impl DesignWareMemory {
     ///
     /// That of [`WideMemory::new`], for USR too: it is at `base + 31 * stride`. A DesignWare UART must be
     /// there, or anything that does no harm if it is accessed as one.
+    ///
+    /// # Examples
+    ///
+    /// ```
+    /// use core::ptr::NonNull;
+    /// use uart_16550::native::backend::{DesignWareMemory, DesignWareRegisters, RegisterLayout};
+    ///
+    /// // Memory in place of a device, as in a test. USR is the 32nd register.
+    /// let mut cells = [0_u32; 32];
+    /// cells[31] = 1;
+    /// let base = NonNull::from(&mut cells).cast();
+    /// // SAFETY: nothing else accesses these bytes while the object lives.
+    /// let mut registers = unsafe { DesignWareMemory::new(base, RegisterLayout::WORDS) }?;
+    /// assert_eq!(registers.read_usr(), 1);
+    /// # Ok::<(), Box<dyn std::error::Error>>(())
+    /// ```
     pub unsafe fn new(
         base: NonNull<u8>,
         layout: RegisterLayout,
@@ -408,6 +548,18 @@ impl DesignWareMemory {
     /// # Safety
     ///
     /// That of [`new`](Self::new), and of [`WideMemory::from_address`].
+    ///
+    /// # Examples
+    ///
+    /// ```no_run
+    /// use core::num::NonZeroUsize;
+    /// use uart_16550::native::backend::{DesignWareMemory, RegisterLayout};
+    ///
+    /// let base = NonZeroUsize::new(0xff1a_0000).unwrap();
+    /// // SAFETY: a DesignWare UART is there, and nothing else accesses it.
+    /// let registers = unsafe { DesignWareMemory::from_address(base, RegisterLayout::WORDS) }?;
+    /// # Ok::<(), Box<dyn std::error::Error>>(())
+    /// ```
     pub const unsafe fn from_address(
         base: NonZeroUsize,
         layout: RegisterLayout,
@@ -461,7 +613,26 @@ impl DesignWareRegisters for DesignWareMemory {
 ///
 /// The address must be a multiple of the width, and as many bytes from it on must be valid for a volatile
 /// load of that width. Nothing else may access them at the same time.
+///
+/// # Examples
+///
+/// ```
+/// use uart_16550::native::backend::{ByteOrder, RegisterWidth, load_register};
+///
+/// let cell = 0x5a_u16.to_be();
+/// // SAFETY: these are two bytes that are valid, and aligned for a load of two.
+/// let byte = unsafe { load_register((&raw const cell).cast(), RegisterWidth::Bits16, ByteOrder::Big) };
+/// assert_eq!(byte, 0x5a);
+/// ```
 #[inline]
+#[allow(
+    clippy::must_use_candidate,
+    reason = "a load may be made for what it does to the device"
+)]
+#[allow(
+    clippy::cast_possible_truncation,
+    reason = "the lowest byte is what is asked for"
+)]
 pub unsafe fn load_register(address: *const u8, width: RegisterWidth, byte_order: ByteOrder) -> u8 {
     // SAFETY: by the promise of the caller.
     unsafe {
@@ -482,6 +653,17 @@ pub unsafe fn load_register(address: *const u8, width: RegisterWidth, byte_order
 ///
 /// The address must be a multiple of the width, and as many bytes from it on must be valid for a volatile
 /// store of that width. Nothing else may access them at the same time.
+///
+/// # Examples
+///
+/// ```
+/// use uart_16550::native::backend::{ByteOrder, RegisterWidth, store_register};
+///
+/// let mut cell = 0_u16;
+/// // SAFETY: these are two bytes that are valid, and aligned for a store of two.
+/// unsafe { store_register((&raw mut cell).cast(), RegisterWidth::Bits16, ByteOrder::Big, 0x5a) };
+/// assert_eq!(cell, 0x5a_u16.to_be());
+/// ```
 #[inline]
 pub unsafe fn store_register(
     address: *mut u8,
@@ -509,10 +691,19 @@ pub unsafe fn store_register(
     }
 }
 
+// The offset of a register as a backend takes it. All are below 8.
+#[allow(
+    clippy::cast_possible_truncation,
+    reason = "no offset of a register has more than three bits"
+)]
+pub(crate) const fn offset_of(register: usize) -> u8 {
+    register as u8
+}
+
 // Checks that eight ports from this one on exist.
 #[cfg(any(target_arch = "x86", target_arch = "x86_64"))]
 const fn check_ports(base: u16) -> Result<(), InvalidAddressError> {
-    match base.checked_add(offsets::SPR as u16) {
+    match base.checked_add(offset_of(offsets::SPR) as u16) {
         Some(_) => Ok(()),
         None => Err(InvalidAddressError::InvalidBaseAddress(base as usize)),
     }

@@ -2,6 +2,7 @@
 //!
 //! The driver above it is the proved one, unchanged. This file is by hand, and only tested.
 
+use crate::access::offset_of;
 use core::error::Error;
 use core::fmt;
 use core::num::NonZeroU64;
@@ -28,6 +29,31 @@ const KEPT: usize = 64;
 /// The eight registers of a DesignWare UART, and USR, which is beyond them.
 ///
 /// [`DesignWareMemory`](crate::native::backend::DesignWareMemory) is one for registers in memory.
+///
+/// # Examples
+///
+/// ```
+/// use uart_16550::native::backend::{Backend, DesignWareRegisters};
+///
+/// /// A model of such a chip, which is never busy.
+/// struct Model([u8; 8]);
+///
+/// impl Backend for Model {
+///     fn read(&mut self, register_offset: u8) -> u8 {
+///         self.0[usize::from(register_offset)]
+///     }
+///
+///     fn write(&mut self, register_offset: u8, value: u8) {
+///         self.0[usize::from(register_offset)] = value;
+///     }
+/// }
+///
+/// impl DesignWareRegisters for Model {
+///     fn read_usr(&mut self) -> u8 {
+///         0
+///     }
+/// }
+/// ```
 pub trait DesignWareRegisters: Backend {
     /// Reads USR, and returns its lowest byte. In it bit 0 says that the chip is busy. The read ends a
     /// busy-detect interrupt.
@@ -168,6 +194,22 @@ impl<R: DesignWareRegisters> DesignWare<R> {
     /// is busy before a write of LCR has failed. Makes no access.
     ///
     /// A full FIFO and a character take about 17.7 ms at 9,600 baud.
+    ///
+    /// # Examples
+    ///
+    /// ```
+    /// # use core::num::NonZeroU64;
+    /// # use core::ptr::NonNull;
+    /// # use uart_16550::native::backend::{Backend, DesignWare, DesignWareMemory, RegisterLayout};
+    /// # use uart_16550::spec::registers::offsets;
+    /// # let mut cells = [0_u32; 32];
+    /// # // SAFETY: nothing else accesses these bytes while the object lives.
+    /// # let registers = unsafe { DesignWareMemory::new(NonNull::from(&mut cells).cast(), RegisterLayout::WORDS) }?;
+    /// let patience = NonZeroU64::new(100_000).unwrap();
+    /// let mut uart = DesignWare::new(registers, patience);
+    /// assert_eq!(uart.read(5), 0);
+    /// # Ok::<(), Box<dyn std::error::Error>>(())
+    /// ```
     pub const fn new(registers: R, patience: NonZeroU64) -> Self {
         DesignWare {
             registers,
@@ -182,22 +224,57 @@ impl<R: DesignWareRegisters> DesignWare<R> {
     }
 
     /// Returns what went wrong, if anything did since the last write of LCR that the chip took.
+    ///
+    /// # Examples
+    ///
+    /// ```
+    /// # use core::num::NonZeroU64;
+    /// # use core::ptr::NonNull;
+    /// # use uart_16550::native::backend::{Backend, DesignWare, DesignWareMemory, RegisterLayout};
+    /// # use uart_16550::spec::registers::offsets;
+    /// # let mut cells = [0_u32; 32];
+    /// # // SAFETY: nothing else accesses these bytes while the object lives.
+    /// # let registers = unsafe { DesignWareMemory::new(NonNull::from(&mut cells).cast(), RegisterLayout::WORDS) }?;
+    /// let patience = NonZeroU64::new(100_000).unwrap();
+    /// let mut uart = DesignWare::new(registers, patience);
+    /// // Memory takes each write of LCR.
+    /// uart.write(3, 0x03);
+    /// assert_eq!(uart.fault(), None);
+    /// # Ok::<(), Box<dyn std::error::Error>>(())
+    /// ```
     #[must_use]
     pub const fn fault(&self) -> Option<DesignWareFault> {
         self.fault
     }
 
     /// Returns the registers, for accesses by the caller. What such accesses change is not noticed.
+    ///
+    /// # Examples
+    ///
+    /// ```
+    /// # use core::num::NonZeroU64;
+    /// # use core::ptr::NonNull;
+    /// # use uart_16550::native::backend::{Backend, DesignWare, DesignWareMemory, RegisterLayout};
+    /// # use uart_16550::spec::registers::offsets;
+    /// # let mut cells = [0_u32; 32];
+    /// # // SAFETY: nothing else accesses these bytes while the object lives.
+    /// # let registers = unsafe { DesignWareMemory::new(NonNull::from(&mut cells).cast(), RegisterLayout::WORDS) }?;
+    /// let patience = NonZeroU64::new(100_000).unwrap();
+    /// let mut uart = DesignWare::new(registers, patience);
+    /// uart.registers_mut().write(7, 0x5a);
+    /// assert_eq!(uart.read(7), 0x5a);
+    /// # Ok::<(), Box<dyn std::error::Error>>(())
+    /// ```
     pub const fn registers_mut(&mut self) -> &mut R {
         &mut self.registers
     }
 
     fn load(&mut self, offset: usize) -> u8 {
-        self.registers.read(offset as u8)
+        self.registers.read(offset_of(offset))
     }
 
     fn store(&mut self, offset: usize, value: u8) {
-        self.registers.write(offset as u8, value);
+        self.registers.write(offset_of(offset), value);
     }
 
     // Reads LSR, and saves the errors that this clears.

@@ -12,6 +12,7 @@
 //! Its calls are those of the proved driver, but for the writes of `take_over`. What they come to together is tested: with a driver
 //! that stops at each access of each of its calls.
 
+use crate::access::offset_of;
 use crate::native::backend::Backend;
 use crate::native::embedded_io::Write as _;
 use crate::native::spec::registers::{LCR, MCR, offsets};
@@ -96,7 +97,7 @@ impl<B: Backend> EmergencyConsole<B> {
         let mut uart = Uart16550::new_with_backend(backend);
         uart.set_spin_limit(patience);
         close_latch(&mut uart, patience)?;
-        uart.backend_mut().write(offsets::IER as u8, 0);
+        uart.backend_mut().write(offset_of(offsets::IER), 0);
         leave_loopback(&mut uart)?;
         Ok(Self {
             terminal: Uart16550Tty::from_inner(uart),
@@ -229,7 +230,7 @@ fn close_latch<B: Backend>(
             return Ok(());
         }
         uart.backend_mut()
-            .write(offsets::LCR as u8, lcr.difference(NO_TEXT).bits());
+            .write(offset_of(offsets::LCR), lcr.difference(NO_TEXT).bits());
     }
     // The last write may have done it.
     if uart.lcr().intersects(NO_TEXT) {

@@ -18,6 +18,14 @@ pub enum RegisterWidth {
 
 impl RegisterWidth {
     /// Returns how many bytes an access has.
+    ///
+    /// # Examples
+    ///
+    /// ```
+    /// use uart_16550::native::backend::RegisterWidth;
+    ///
+    /// assert_eq!(RegisterWidth::Bits16.bytes(), 2);
+    /// ```
     #[must_use]
     pub const fn bytes(self) -> u8 {
         match self {

@@ -46,7 +46,8 @@ fn memory_is_handed_out_once() {
 fn all_of_it_is_handed_out() {
     for count in 1..=100 {
         let memory = leaked(100);
-        let pieces: Vec<_> = core::iter::from_fn(|| filled(memory.global(), 0, count).ok()).collect();
+        let pieces: Vec<_> =
+            core::iter::from_fn(|| filled(memory.global(), 0, count).ok()).collect();
         assert_eq!(pieces.len(), 100 / count);
         assert!(pieces.iter().all(|piece| piece.as_slice().len() == count));
         assert!(filled(memory.global(), 0, 100 % count).is_ok());

@@ -7,7 +7,7 @@
 //! this, and no script language: so it is a crate of its own.
 #![no_std]
 #![forbid(unsafe_code)]
-#![allow(unused_imports, unused_labels, unused_parens, unused_braces, dead_code, clippy::all, clippy::pedantic)]
+#![allow(unused_imports, unused_labels, unused_parens, unused_braces, dead_code, clippy::all, clippy::pedantic, reason = "the text is that of the proved source, in the forms that Rattle has")]
 #![allow(rustdoc::broken_intra_doc_links)]
 
 const _: () = assert!(usize::BITS == 64, "what is not for users is for targets of 64 bits");

@@ -5,7 +5,7 @@
 //! level of the interrupt line. Each call does what the definitions of the chip say.
 #![no_std]
 #![forbid(unsafe_code)]
-#![allow(unused_imports, unused_labels, unused_parens, unused_braces, dead_code, clippy::all, clippy::pedantic)]
+#![allow(unused_imports, unused_labels, unused_parens, unused_braces, dead_code, clippy::all, clippy::pedantic, reason = "the text is that of the proved source, in the forms that Rattle has")]
 #![allow(rustdoc::broken_intra_doc_links)]
 
 #[macro_use]

@@ -5,7 +5,7 @@
 //! waits, and only [`Uart16550Ring::new`] allocates memory.
 #![no_std]
 #![forbid(unsafe_code)]
-#![allow(unused_imports, unused_labels, unused_parens, unused_braces, dead_code, clippy::all, clippy::pedantic)]
+#![allow(unused_imports, unused_labels, unused_parens, unused_braces, dead_code, clippy::all, clippy::pedantic, reason = "the text is that of the proved source, in the forms that Rattle has")]
 #![allow(rustdoc::broken_intra_doc_links)]
 
 #[macro_use]

@@ -32,6 +32,10 @@ impl Writer {
     }
 
     /// A list, with its length in front, in the room that it may take.
+    #[allow(
+        clippy::cast_possible_truncation,
+        reason = "no list of a state has more bytes than the wire has room for, which are 64"
+    )]
     fn put_list(&mut self, bytes: &[u8], room: usize) {
         self.put(&[bytes.len() as u8]);
         self.put(bytes);
@@ -78,6 +82,16 @@ impl SerialState {
     /// Returns the state as bytes. It is to be the state of a device.
     ///
     /// The first four are the version, the lowest first.
+    ///
+    /// # Examples
+    ///
+    /// ```
+    /// # include!(concat!(env!("CARGO_MANIFEST_DIR"), "/tests/examples/device.rs"));
+    /// # fn main() {
+    /// let bytes = device().state().to_bytes();
+    /// assert_eq!(bytes.len(), SerialState::LEN);
+    /// # }
+    /// ```
     #[must_use]
     pub fn to_bytes(&self) -> [u8; Self::LEN] {
         let chip = &self.chip;
@@ -98,8 +112,10 @@ impl SerialState {
             received.is_overrun.into(),
             received.is_front_reported.into(),
         ]);
-        let level = LEVELS.iter().position(|level| *level == received.trigger);
-        to.put(&[received.last_byte, level.unwrap_or(0) as u8]);
+        let level = (0..)
+            .zip(LEVELS)
+            .find(|(_, level)| *level == received.trigger);
+        to.put(&[received.last_byte, level.map_or(0, |(place, _)| place)]);
         let (mut bytes, mut errors) = ([0; FIFO_SIZE], [0; FIFO_SIZE]);
         let mut looped = 0_u16;
         for (place, character) in received.queue.iter().enumerate().take(FIFO_SIZE) {
@@ -122,6 +138,18 @@ impl SerialState {
     /// # Errors
     ///
     /// `Version` if they have a version that this release does not know, and `Bytes` if they are not those of a state.
+    ///
+    /// # Examples
+    ///
+    /// ```
+    /// # include!(concat!(env!("CARGO_MANIFEST_DIR"), "/tests/examples/device.rs"));
+    /// # fn main() -> Result<(), Box<dyn std::error::Error>> {
+    /// let state = device().state();
+    /// assert_eq!(SerialState::from_bytes(&state.to_bytes())?, state);
+    /// assert!(SerialState::from_bytes(b"no state").is_err());
+    /// # Ok(())
+    /// # }
+    /// ```
     pub fn from_bytes(bytes: &[u8]) -> Result<Self, BadState> {
         let mut from = Reader(bytes);
         let version = from.take().map(u32::from_le_bytes);

@@ -57,6 +57,22 @@ impl<B: Backend> Uart16550<B> {
     /// Those of `init_with`. The cause of a refused baud rate is that of
     /// [`checked_divisor`](uart_spec::by_hand::checked::checked_divisor). No access was made then, and
     /// nothing changed.
+    ///
+    /// # Examples
+    ///
+    /// ```
+    /// # use uart_16550::native::backend::Backend;
+    /// # use uart_16550::native::*;
+    /// # struct Nothing;
+    /// # impl Backend for Nothing {
+    /// #     fn read(&mut self, _: u8) -> u8 { 0xff }
+    /// #     fn write(&mut self, _: u8, _: u8) {}
+    /// # }
+    /// # let mut uart = Uart16550::new_with_backend(Nothing);
+    /// // A clock of 0 is not computable.
+    /// let config = Config { frequency: 0, ..Config::DEFAULT };
+    /// assert!(matches!(uart.checked_init_with(config, &Setup::DEFAULT), Err(InitError::InvalidBaudRate(_))));
+    /// ```
     pub fn checked_init_with(&mut self, config: Config, setup: &Setup) -> Result<(), InitError> {
         let divisor = divisor_of(&config)?;
         self.set_up_with(config, setup, divisor)
@@ -69,6 +85,22 @@ impl<B: Backend> Uart16550<B> {
     ///
     /// Those of [`checked_divisor`](uart_spec::by_hand::checked::checked_divisor). No access was made then,
     /// and nothing changed.
+    ///
+    /// # Examples
+    ///
+    /// ```
+    /// # use uart_16550::native::backend::Backend;
+    /// # use uart_16550::native::*;
+    /// # struct Nothing;
+    /// # impl Backend for Nothing {
+    /// #     fn read(&mut self, _: u8) -> u8 { 0xff }
+    /// #     fn write(&mut self, _: u8, _: u8) {}
+    /// # }
+    /// # let mut uart = Uart16550::new_with_backend(Nothing);
+    /// // A clock of 0 is not computable.
+    /// let config = Config { frequency: 0, ..Config::DEFAULT };
+    /// assert!(uart.checked_set_frame(&config).is_err());
+    /// ```
     pub fn checked_set_frame(&mut self, config: &Config) -> Result<(), InvalidDivisorError> {
         let rate = config.baud_rate.to_integer();
         computable(config.frequency, rate, config.prescaler_division_factor)?;
@@ -83,6 +115,22 @@ impl<B: Backend> Uart16550<B> {
     /// Those of `set_frame_when_idle`. The cause of a refused baud rate is that of
     /// [`checked_divisor`](uart_spec::by_hand::checked::checked_divisor). No access was made then, and
     /// nothing changed.
+    ///
+    /// # Examples
+    ///
+    /// ```
+    /// # use uart_16550::native::backend::Backend;
+    /// # use uart_16550::native::*;
+    /// # struct Nothing;
+    /// # impl Backend for Nothing {
+    /// #     fn read(&mut self, _: u8) -> u8 { 0xff }
+    /// #     fn write(&mut self, _: u8, _: u8) {}
+    /// # }
+    /// # let mut uart = Uart16550::new_with_backend(Nothing);
+    /// // A clock of 0 is not computable.
+    /// let config = Config { frequency: 0, ..Config::DEFAULT };
+    /// assert!(matches!(uart.checked_set_frame_when_idle(&config), Err(FrameError::InvalidBaudRate(_))));
+    /// ```
     pub fn checked_set_frame_when_idle(&mut self, config: &Config) -> Result<(), FrameError> {
         let rate = config.baud_rate.to_integer();
         match computable(config.frequency, rate, config.prescaler_division_factor) {

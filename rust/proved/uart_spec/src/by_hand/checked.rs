@@ -181,6 +181,16 @@ impl ConfigRegisterDump {
     /// # Errors
     ///
     /// `NonIntegerBaudRateError`, with the frequency, the divisor and the factor.
+    ///
+    /// # Examples
+    ///
+    /// ```
+    /// use uart_16550::native::*;
+    ///
+    /// // As a port shows itself that is not set up.
+    /// let shown = ConfigRegisterDump::default();
+    /// assert!(shown.checked_baud_rate(&Config::DEFAULT).is_err());
+    /// ```
     pub fn checked_baud_rate(&self, config: &Config) -> Result<BaudRate, NonIntegerBaudRateError> {
         let divisor = u32::from(self.divisor());
         checked_baud_rate(config.frequency, divisor, config.prescaler_division_factor)
@@ -191,6 +201,15 @@ impl ConfigRegisterDump {
 impl PSD {
     /// Does the same as [`set_pdf`](Self::set_pdf), but returns `None` if that would panic: if the
     /// factor is above 15.
+    ///
+    /// # Examples
+    ///
+    /// ```
+    /// use uart_16550::spec::registers::PSD;
+    ///
+    /// assert_eq!(PSD::empty().checked_set_pdf(3).map(|psd| psd.pdf()), Some(3));
+    /// assert_eq!(PSD::empty().checked_set_pdf(16), None);
+    /// ```
     #[must_use]
     pub const fn checked_set_pdf(self, pdf: u8) -> Option<Self> {
         if pdf as u32 > MAX_FACTOR {
