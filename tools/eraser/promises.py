@@ -73,8 +73,9 @@ def is_in_brackets(code):
 
 
 def inside(code):
-    """A code without the brackets around it."""
-    return inside(code[1:-1].strip()) if is_in_brackets(code) else code
+    """A code without the brackets around it, if they are not those of a tuple."""
+    is_grouped = is_in_brackets(code) and len(parts(code[1:-1], ",")) == 1
+    return inside(code[1:-1].strip()) if is_grouped else code
 
 
 def closing(code, at):
@@ -277,6 +278,8 @@ class Clauses:
     def term(self, code):
         """A value or a fact: a definition and what it is applied to, or else the code."""
         found = applied(code)
+        if found and len(found) == 2 and found[0] in ("Ok", "Err", "Some") and self.applies(inside(found[1])):
+            return f"{shown(found[0])} of {self.term(inside(found[1]))}"
         place = found and next(iter(self.cited(found[0])), None)
         if not place or found[0].count(".") > 1 or not found[0].endswith(place[2]):
             return self.code(code)
@@ -286,6 +289,11 @@ class Clauses:
         text += f" {shown(arguments)}" if arguments and len(arguments) <= LONG_ARGUMENTS else ""
         self.ends[place] = text
         return text
+
+    def applies(self, code):
+        """Whether a code is a definition that is applied to something."""
+        found = applied(code)
+        return found and len(found) > 1 and bool(self.cited(found[0]))
 
     def code(self, code):
         """A code, or where it is if it is long."""
@@ -437,5 +445,5 @@ are the comment there. The clauses stand beneath, word by word.
 | `[]`, `∷`, `++` | an empty list, an item in front of a list, two lists in a row |
 | `length`, `take n`, `drop n` | of a list: its length, its first `n` items, all but these |
 
-What is trusted beside the prover is on the page RUST of the repository."""
+What is trusted beside the prover is said by `docs/RUST.md` of the repository."""
 OTHER_GUIDE = """Each is one that a section "Proved" of a call names. How a section is read is said [here](uart_spec::proved)."""

@@ -14,19 +14,23 @@ use Rattle.uart_spec.specs.declared.registers.fifo_trigger_level.FifoTriggerLeve
 use Rattle.uart_spec.specs.declared.registers.fifo_trigger_level.FifoTriggerLevel.TheVariants.{Fourteen}
 use Rattle.uart_spec.specs.declared.registers.line_status.TheConstants.LSR
 
--- the queue of characters, overrun, whether the errors of the front were reported, the last byte taken, the ticks
--- towards a reception timeout and their limit, the trigger, how many of the schedule have arrived, the mark of each of
--- these, and whether an unscheduled character was lost since the last one came
+-- a receiver, and what it knows of a schedule
 pub record ReceiverState : Type 0 where
+  -- the characters that wait, the first one first
   pub queue : List Character
   pub is_overrun : Bool
+  -- whether a read of LSR has shown the errors of the first character
   pub is_front_reported : Bool
+  -- the byte that was taken last
   pub last_byte : ℕ
+  -- the ticks towards a reception timeout, and at how many it is due
   pub timeout_ticks : ℕ
   pub timeout_limit : ℕ
   pub trigger : FifoTriggerLevel
+  -- how many characters of the schedule have arrived, and what became of each
   pub arrived : ℕ
   pub marks : List ArrivalMark
+  -- whether an unscheduled character was lost since the last one came
   pub is_unscheduled_lost : Bool
 
 -- That a looped character was lost is noted until the next unscheduled one is received, even if that one is lost in a

@@ -40,20 +40,23 @@ driver_of r = r.uart
 abbrev pub ring_backend_of : {B : Type 0} → Uart16550Ring B → B
 ring_backend_of r = backend_of r.uart
 
--- the rings without their backend: the driver's fields, the two rings, the bits that were noted of LSR and MSR,
--- whether receiving is paused; the urgent byte that waits, and whether the transmit ring is held; the low mark, and
--- whether the transmit ring fell to it; how many rounds in a row were left unfinished, and why the chip is stuck
+-- rings without their backend
 pub record RingFields : Type 0 where
   pub driver : Fields
   pub transmit : Queue
   pub receive : Queue
+  -- the bits that were noted of LSR, and of MSR
   pub line : ℕ
   pub modem : ℕ
+  -- whether receiving is paused
   pub is_paused : Bool
+  -- the urgent byte that waits, and whether the transmit ring is held
   pub urgent : Option ℕ
   pub is_held : Bool
+  -- the low mark, and whether the transmit ring fell to it
   pub low_mark : ℕ
   pub is_low : Bool
+  -- how many rounds in a row were left unfinished, and why the chip is stuck
   pub rounds : ℕ
   pub stuck : Option StuckError
 

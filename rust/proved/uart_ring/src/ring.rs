@@ -131,7 +131,7 @@ impl<B: Backend> Uart16550Ring<B> {
     /// - *made*: if it returns `Ok ring`: [`AreEmpty`](crate::proved::ring#AreEmpty) `ring uart tx_capacity rx_capacity`: empty rings of these capacities over this driver, in which nothing is held, paused or stuck.
     /// - *refused*: unless [`IsCapacity`](crate::proved::ring#IsCapacity) `tx_capacity` and [`IsCapacity`](crate::proved::ring#IsCapacity) `rx_capacity`: returns `Err (uart, RingError.BadCapacity)`.
     ///   - [`IsCapacity`](crate::proved::ring#IsCapacity): how many bytes a ring can be made for: 1 to 4096.
-    /// - *accepted*: if [`IsCapacity`](crate::proved::ring#IsCapacity) `tx_capacity` and [`IsCapacity`](crate::proved::ring#IsCapacity) `rx_capacity`: returns `Ok`, or `Err` of `uart, RingError.OutOfMemory`.
+    /// - *accepted*: if [`IsCapacity`](crate::proved::ring#IsCapacity) `tx_capacity` and [`IsCapacity`](crate::proved::ring#IsCapacity) `rx_capacity`: returns `Ok`, or `Err` of `(uart, RingError.OutOfMemory)`.
     ///
     /// <details><summary>The clauses</summary>
     ///

@@ -20,7 +20,7 @@
 //! | `[]`, `∷`, `++` | an empty list, an item in front of a list, two lists in a row |
 //! | `length`, `take n`, `drop n` | of a list: its length, its first `n` items, all but these |
 //!
-//! What is trusted beside the prover is on the page RUST of the repository.
+//! What is trusted beside the prover is said by `docs/RUST.md` of the repository.
 
 /// Registers as sets of bits, and fields of neighbouring bits.
 ///

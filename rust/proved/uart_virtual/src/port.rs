@@ -815,8 +815,7 @@ impl VirtualPort {
     ///
     /// - *accepted*: if [`IsWithin`](uart_spec::proved::bits#IsWithin) `errors.0 LSR.CHARACTER_ERRORS.0`: returns `Ok`, and `self` becomes [`after`](crate::proved::port#after) `(ReceiveOne byte errors.0) self.old`: the port after this call: the access or what the host brings, and then the time that passes in each call.
     ///   - [`IsWithin`](uart_spec::proved::bits#IsWithin): no bit outside of the mask is set.
-    /// - *todo*: if [`IsWithin`](uart_spec::proved::bits#IsWithin) `errors.0 LSR.CHARACTER_ERRORS.0`: returns `Ok (port.todo (ReceiveOne byte errors.0) self.old)`.
-    ///   - [`todo`](crate::proved::port#todo): what the monitor has to do after this call: signal the interrupt, take output, bring input.
+    /// - *todo*: if [`IsWithin`](uart_spec::proved::bits#IsWithin) `errors.0 LSR.CHARACTER_ERRORS.0`: returns `Ok` of [`todo`](crate::proved::port#todo) `(ReceiveOne byte errors.0) self.old`: what the monitor has to do after this call: signal the interrupt, take output, bring input.
     /// - *refused*: if `bit_and errors.0 LSR.CHARACTER_ERRORS.0 ≢ errors.0`: returns `Err InputError.BadErrors`, and nothing changes.
     ///
     /// <details><summary>The clauses</summary>
@@ -860,8 +859,7 @@ impl VirtualPort {
     ///
     /// - *accepted*: if [`IsWithin`](uart_spec::proved::bits#IsWithin) `inputs.0 MSR.LINES.0`: returns `Ok`, and `self` becomes [`after`](crate::proved::port#after) `(SetLines inputs.0) self.old`: the port after this call: the access or what the host brings, and then the time that passes in each call.
     ///   - [`IsWithin`](uart_spec::proved::bits#IsWithin): no bit outside of the mask is set.
-    /// - *todo*: if [`IsWithin`](uart_spec::proved::bits#IsWithin) `inputs.0 MSR.LINES.0`: returns `Ok (port.todo (SetLines inputs.0) self.old)`.
-    ///   - [`todo`](crate::proved::port#todo): what the monitor has to do after this call: signal the interrupt, take output, bring input.
+    /// - *todo*: if [`IsWithin`](uart_spec::proved::bits#IsWithin) `inputs.0 MSR.LINES.0`: returns `Ok` of [`todo`](crate::proved::port#todo) `(SetLines inputs.0) self.old`: what the monitor has to do after this call: signal the interrupt, take output, bring input.
     /// - *refused*: if `bit_and inputs.0 MSR.LINES.0 ≢ inputs.0`: returns `Err InputError.BadLines`, and nothing changes.
     ///
     /// <details><summary>The clauses</summary>
