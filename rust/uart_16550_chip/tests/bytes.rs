@@ -342,6 +342,7 @@ fn no_bytes_panic() {
 mod with_serde {
     use super::*;
     use serde::de::{Error, Expected, SeqAccess, Visitor};
+    use serde::ser::SerializeStruct;
     use serde::{Deserialize, Deserializer, Serialize, Serializer};
     use std::fmt;
 
@@ -367,9 +368,35 @@ mod with_serde {
     impl Serializer for ToVec {
         type Ok = Vec<u8>;
         type Error = Bad;
+        type SerializeStruct = Self;
 
         fn serialize_bytes(self, bytes: &[u8]) -> Result<Vec<u8>, Bad> {
             Ok(bytes.to_vec())
+        }
+
+        fn serialize_u64(self, _number: u64) -> Result<Vec<u8>, Bad> {
+            unreachable!("a state is bytes")
+        }
+
+        fn serialize_struct(self, _: &'static str, _: usize) -> Result<Self, Bad> {
+            unreachable!("a state is bytes")
+        }
+    }
+
+    impl SerializeStruct for ToVec {
+        type Ok = Vec<u8>;
+        type Error = Bad;
+
+        fn serialize_field<T: Serialize + ?Sized>(
+            &mut self,
+            _name: &'static str,
+            _field: &T,
+        ) -> Result<(), Bad> {
+            unreachable!("a state is bytes")
+        }
+
+        fn end(self) -> Result<Vec<u8>, Bad> {
+            unreachable!("a state is bytes")
         }
     }
 
