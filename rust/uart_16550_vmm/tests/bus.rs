@@ -83,6 +83,7 @@ fn between_two_registers_nothing_happens() {
 }
 
 /// A host that is gone.
+#[derive(Debug)]
 struct Gone;
 
 impl Output for Gone {
@@ -117,6 +118,27 @@ fn failures_are_kept_for_the_monitor() {
     is_broken.set(false);
     com1.serial_mut().set_lines(MSR::CTS).unwrap();
     assert!(com1.take_failure().is_none());
+}
+
+#[derive(Debug)]
+struct Line;
+
+impl Trigger for Line {
+    type E = Infallible;
+
+    fn trigger(&self) -> Result<(), Infallible> {
+        Ok(())
+    }
+}
+
+#[test]
+fn what_is_shown_says_whether_a_write_failed() {
+    let mut com1 = BusSerial::at_ports(Serial::new(Line, Gone));
+    let shown = format!("{com1:?}");
+    assert!(shown.contains("place: Ports, has_failed: false"), "{shown}");
+    com1.write(DATA, b"x");
+    let shown = format!("{com1:?}");
+    assert!(shown.contains("place: Ports, has_failed: true"), "{shown}");
 }
 
 #[cfg(feature = "vm-device")]
