@@ -120,7 +120,9 @@ fn other_bytes_are_refused() {
     newer[6..8].copy_from_slice(&[0x03, 0x01]);
     assert_eq!(refusal(&newer), BadState::Version(0x103));
     for (offset, value) in [
+        (13, 0),
         (13, 2),
+        (103, 0),
         (22, 2),
         (34, 17),
         (54, 4),

@@ -1,9 +1,12 @@
 //! Events of Linux, and a wait for several.
 #![cfg(target_os = "linux")]
 
+use std::ffi::c_int;
 use std::io::{Read, Write};
 use std::os::fd::{AsFd, AsRawFd};
 use std::os::unix::net::UnixStream;
+use std::os::unix::thread::{JoinHandleExt, RawPthread};
+use std::thread;
 use std::time::Duration;
 use uart_16550_chip::{Serial, SerialEvents, Trigger};
 use uart_16550_vmm::{Epoll, EventFd, Room};
@@ -63,6 +66,28 @@ fn a_wait_ends_with_a_change() {
     event.signal().unwrap();
     assert!(epoll.wait(SOON).unwrap());
     assert!(epoll.add(&event).is_err());
+}
+
+unsafe extern "C" {
+    fn signal(number: c_int, handler: extern "C" fn(c_int)) -> usize;
+    fn pthread_kill(thread: RawPthread, number: c_int) -> c_int;
+}
+
+extern "C" fn do_nothing(_: c_int) {}
+
+/// A signal is no error: who waits looks, and waits again.
+#[test]
+fn a_signal_ends_a_wait() {
+    const USER_SIGNAL: c_int = 10;
+    // SAFETY: the handler does nothing, so it may run at any moment.
+    unsafe { signal(USER_SIGNAL, do_nothing) };
+    let waiter = thread::spawn(|| Epoll::new()?.wait(SOON));
+    while !waiter.is_finished() {
+        // SAFETY: the thread was not joined, since there is its handle.
+        unsafe { pthread_kill(waiter.as_pthread_t(), USER_SIGNAL) };
+        thread::sleep(Duration::from_millis(1));
+    }
+    assert!(waiter.join().unwrap().unwrap());
 }
 
 /// A terminal that takes nothing more holds the guest back; when it can be written again, that is an event.

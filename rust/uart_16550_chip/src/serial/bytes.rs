@@ -248,6 +248,14 @@ impl<'a> Reader<'a> {
         Ok(list)
     }
 
+    /// A list of bytes that has room for `N`.
+    fn bytes<const N: usize>(&mut self) -> Result<ArrayVec<u8, N>, BadState> {
+        let list = ArrayVec::try_from(self.list(N)?);
+        // It has at most so many.
+        debug_assert!(list.is_ok());
+        Ok(list.unwrap_or_default())
+    }
+
     /// The next part, or `None` at the end.
     fn part(&mut self) -> Result<Option<Part<'a>>, BadState> {
         let offset = self.offset;
@@ -307,9 +315,7 @@ impl<'a> Reader<'a> {
             self.nothing(1)?;
             None
         };
-        let offset = self.offset;
-        transmitter.queue =
-            ArrayVec::try_from(self.list(FIFO_SIZE)?).map_err(|_| BadState::Value { offset })?;
+        transmitter.queue = self.bytes()?;
         Ok(())
     }
 
@@ -318,7 +324,6 @@ impl<'a> Reader<'a> {
         receiver.is_front_reported = self.flag()?;
         receiver.last_byte = self.byte()?;
         receiver.trigger = self.one_of(&LEVELS)?;
-        let offset = self.offset;
         let bytes = self.list(FIFO_SIZE)?;
         let errors = self.slice(bytes.len())?;
         self.nothing(FIFO_SIZE.saturating_sub(bytes.len()))?;
@@ -341,8 +346,9 @@ impl<'a> Reader<'a> {
                     Origin::Live
                 },
             };
-            let room = receiver.queue.try_push(character);
-            room.map_err(|_| BadState::Value { offset })?;
+            // A list has at most as many items as there is room for.
+            let pushed = receiver.queue.try_push(character);
+            debug_assert!(pushed.is_ok());
         }
         Ok(())
     }
@@ -367,12 +373,6 @@ impl<'a> Reader<'a> {
         Ok(chip)
     }
 
-    fn output(&mut self) -> Result<ArrayVec<u8, WIRE_ROOM>, BadState> {
-        let offset = self.offset;
-        let output = self.list(WIRE_ROOM)?;
-        ArrayVec::try_from(output).map_err(|_| BadState::Value { offset })
-    }
-
     /// The state whose parts these are. What is behind the known fields of a part is of a later release, and is skipped.
     fn parts(&mut self) -> Result<SerialState, BadState> {
         let (mut chip, mut output) = (None, None);
@@ -387,7 +387,7 @@ impl<'a> Reader<'a> {
             last = part.kind;
             match (part.kind, part.is_needed) {
                 (CHIP, true) => chip = Some(part.body.chip()?),
-                (OUTPUT, true) => output = Some(part.body.output()?),
+                (OUTPUT, true) => output = Some(part.body.bytes()?),
                 (CHIP | OUTPUT, false) => {
                     return Err(BadState::Value {
                         offset: part.offset + 1,
@@ -411,7 +411,7 @@ impl<'a> Reader<'a> {
         self.offset = VERSION_1.len();
         Ok(SerialState {
             chip: self.registers()?,
-            output: self.output()?,
+            output: self.bytes()?,
         })
     }
 }
