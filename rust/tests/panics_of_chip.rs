@@ -120,6 +120,8 @@ calls! {
     serial_from_state(state: &SerialState) -> Result<Console, FromStateError<Device, NoEvents, Device>> { Serial::from_state(state, Device, NoEvents, Device) }
     serial_state(serial: &Console) -> SerialState { serial.state() }
     serial_default_state() -> SerialState { SerialState::default() }
+    state_of_port(port: &VirtualPort) -> SerialState { SerialState::of_port(port) }
+    state_of_chip(chip: &LiveChip) -> SerialState { SerialState::of_chip(chip) }
     state_to_bytes(state: &SerialState) -> [u8; SerialState::LEN] { state.to_bytes() }
     state_from_bytes(bytes: &[u8]) -> Result<SerialState, BadState> { SerialState::from_bytes(bytes) }
     serial_into_parts(serial: Console) -> (Device, NoEvents, Device) { serial.into_parts() }

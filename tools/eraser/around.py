@@ -21,11 +21,13 @@ publish metadata
 # What it says as the emitted ones do.
 COMMON = {"version": packages.VERSION, "repository": packages.REPOSITORY, "homepage": packages.HOMEPAGE}
 SECTIONS = ["package", "lib", "features", "dependencies", "dev-dependencies"]
-# The workspace: stand-ins for three libraries, and profiles that change how fast a program is, and not what it does.
+# The workspace: stand-ins for five libraries, and profiles that change how fast a program is, and not what it does.
 WORKSPACE = ["workspace", "patch", "profile"]
 PROFILE = ["codegen-units", "debug", "incremental", "lto", "opt-level", "panic", "strip"]
 STAND_INS = {name: {"path": f"rust/uart_16550/tests/{name}"} for name in ("embedded-io", "embedded-io-async")}
 STAND_INS["serde"] = {"path": "rust/uart_16550_chip/tests/serde"}
+# Of a package beside these, which no emitted one is compiled with.
+STAND_INS |= {name: {"path": f"rust/uart_16550_vmm/tests/{name}"} for name in ("vm-superio", "vm-device")}
 # In .cargo/config.toml: that cargo asks no index.
 OFFLINE = {"net": {"offline": True}}
 

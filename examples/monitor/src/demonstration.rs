@@ -5,16 +5,16 @@ use std::io;
 use std::io::{Read, Write};
 use std::os::unix::net::UnixStream;
 use std::sync::Arc;
-use std::sync::atomic::Ordering;
 use std::thread;
 use std::thread::JoinHandle;
 use std::time::Duration;
+
+use uart_16550_vmm::Counters;
 
 use crate::guest;
 use crate::guest::Mode;
 use crate::linux::catch_interrupts;
 use crate::monitor::{Host, Outcome, timed_out};
-use crate::port::Counters;
 
 /// How many characters are typed before the guest has booted.
 const TYPED: u32 = 51;
@@ -184,7 +184,7 @@ fn wait_for_prompt(stream: &mut UnixStream) -> io::Result<()> {
 fn wait_until_held(counters: &Counters) -> io::Result<()> {
     let step = Duration::from_millis(1);
     for _ in 0..PATIENCE.as_millis() {
-        if counters.held.load(Ordering::Relaxed) != 0 {
+        if counters.counts().held != 0 {
             return Ok(());
         }
         thread::sleep(step);
@@ -216,16 +216,16 @@ fn compare(input: &[u8], output: &[u8]) -> io::Result<()> {
 
 /// Returns what was counted. A lost byte is an error.
 fn report(counters: &Counters) -> io::Result<String> {
-    let lost = counters.lost.load(Ordering::Relaxed);
+    let counts = counters.counts();
+    let lost = counts.lost_bytes + counts.overflows;
     if lost != 0 {
         return Err(io::Error::other(format!(
             "{lost} bytes of output were lost"
         )));
     }
-    let triggers = counters.triggers.load(Ordering::Relaxed);
-    let held = counters.held.load(Ordering::Relaxed);
     Ok(format!(
-        "{triggers} interrupts, output held back {held} times"
+        "{} interrupts, output held back {} times",
+        counts.triggers, counts.held
     ))
 }
 

@@ -6,6 +6,8 @@ use std::os::fd::AsRawFd;
 use std::sync::Arc;
 use std::sync::atomic::Ordering;
 
+use uart_16550_vmm::EventFd;
+
 use crate::linux::Mapping;
 
 mod request;
@@ -186,8 +188,13 @@ impl Machine {
 
     /// Lets each signal of this event be an edge of an interrupt line. With a second event it takes the line up instead. Then the line
     /// falls when the guest ends the interrupt, and that signals the second event.
-    pub fn connect(&self, line: u32, event: &File, resample: Option<&File>) -> io::Result<()> {
-        let number = |file: &File| file.as_raw_fd().unsigned_abs();
+    pub fn connect(
+        &self,
+        line: u32,
+        event: &EventFd,
+        resample: Option<&EventFd>,
+    ) -> io::Result<()> {
+        let number = |event: &EventFd| event.as_raw_fd().unsigned_abs();
         let mut interrupt = InterruptEvent {
             event: number(event),
             line,

@@ -1,8 +1,7 @@
 //! The monitor: a thread for the processor, and one that waits for the terminal, for room and for the guest's end.
 
-use std::fs::File;
+use std::fmt::Display;
 use std::io;
-use std::io::Read;
 use std::os::unix::net::UnixStream;
 use std::sync::{Arc, Mutex, MutexGuard};
 use std::thread;
@@ -11,12 +10,13 @@ use std::time::Duration;
 
 use uart_16550_chip::SerialState;
 use uart_16550_chip::serial::Error;
+use uart_16550_vmm::{Both, Counters, Epoll, EventFd, Input, Room};
 
 use crate::guest;
 use crate::guest::Mode;
 use crate::kvm::{Exit, Machine, Processor, Saved, Stop};
-use crate::linux::{Epoll, event, interrupt, signal_event, take_event};
-use crate::port::{BASE, Counters, Events, Interrupt, SerialPort};
+use crate::linux::interrupt;
+use crate::port::{BASE, Events, Interrupt, SerialPort};
 
 /// How much memory a machine has.
 const MEMORY: usize = 0x2_0000;
@@ -26,7 +26,8 @@ const PATIENCE: Duration = Duration::from_secs(60);
 /// A machine that does not run.
 pub struct Snapshot {
     machine: Saved,
-    port: SerialState,
+    /// The port's state, as it travels.
+    port: [u8; SerialState::LEN],
 }
 
 /// What a run came to.
@@ -41,10 +42,10 @@ pub enum Outcome {
 pub struct Host {
     /// Where the guest's output goes, and where input comes from. It does not block.
     terminal: UnixStream,
+    /// Input from there, and what was read of it that the port has not received.
+    input: Input<UnixStream>,
     /// How the guest does its input and output.
     mode: Mode,
-    /// Input that was read, and that the port has not received.
-    waiting: Vec<u8>,
     pub counters: Arc<Counters>,
 }
 
@@ -52,9 +53,9 @@ impl Host {
     pub fn new(terminal: UnixStream, mode: Mode) -> io::Result<Self> {
         terminal.set_nonblocking(true)?;
         Ok(Host {
+            input: Input::new(terminal.try_clone()?),
             terminal,
             mode,
-            waiting: Vec::new(),
             counters: Arc::default(),
         })
     }
@@ -62,7 +63,7 @@ impl Host {
     /// Returns what a port is made of.
     fn parts(&self) -> io::Result<(Interrupt, Events, UnixStream)> {
         let trigger = Interrupt::new(self.mode == Mode::Levels)?;
-        let events = Events::new(Arc::clone(&self.counters))?;
+        let events = Both(Arc::clone(&self.counters), Room(EventFd::new()?));
         Ok((trigger, events, self.terminal.try_clone()?))
     }
 
@@ -74,7 +75,7 @@ impl Host {
             Machine::new(&guest::memory(MEMORY, self.mode, count), guest::LOAD)?;
         port.interrupt_evt().connect(&machine)?;
         // The host may type before the guest has looked at its port.
-        let received = self.offer(&mut port)?;
+        let received = self.input.offer(&mut port)?;
         self.run(machine, processor, port, received, limit)
     }
 
@@ -84,10 +85,8 @@ impl Host {
         let (machine, processor) = Machine::restore(snapshot.machine)?;
         // First the line and then the port: the old machine may have lost an edge on its way, so the port signals one if its line is up.
         trigger.connect(&machine)?;
-        let port =
-            SerialPort::from_state(&snapshot.port, trigger, events, output).map_err(|refused| {
-                io::Error::other(format!("the port's state is refused: {refused}"))
-            })?;
+        let state = SerialState::from_bytes(&snapshot.port).map_err(refused)?;
+        let port = SerialPort::from_state(&state, trigger, events, output).map_err(refused)?;
         self.run(machine, processor, port, 0, limit)
     }
 
@@ -99,13 +98,13 @@ impl Host {
         mut received: usize,
         limit: Option<usize>,
     ) -> io::Result<Outcome> {
-        let room = Arc::clone(&port.events().room);
+        let room = port.events().1.0.try_clone()?;
         let resample = port.interrupt_evt().resample.clone();
         let port = Arc::new(Mutex::new(port));
         let running = Running::start(processor, Arc::clone(&port))?;
         let epoll = Epoll::new()?;
         epoll.add(&self.terminal)?;
-        epoll.add(&*room)?;
+        epoll.add(&room)?;
         epoll.add(&*running.ended)?;
         if let Some(resample) = &resample {
             epoll.add(&**resample)?;
@@ -113,28 +112,28 @@ impl Host {
         // Each round follows an event, and looks at everything. So nothing that happened before the first round is overlooked.
         loop {
             let mut port = lock(&port);
-            if resample.as_deref().map_or(Ok(false), take_event)? {
+            if resample.as_deref().map_or(Ok(false), EventFd::take)? {
                 port.resample().map_err(failed)?;
             }
             port.write_output().map_err(failed)?;
-            received += self.offer(&mut port)?;
+            received += self.input.offer(&mut port)?;
             drop(port);
-            if limit.is_some_and(|limit| received >= limit) || take_event(&running.ended)? {
+            if limit.is_some_and(|limit| received >= limit) || running.ended.take()? {
                 break;
             }
             if !epoll.wait(PATIENCE)? {
                 running.stop()?;
                 return Err(timed_out("the guest waits, and so does the host"));
             }
-            take_event(&room)?;
+            room.take()?;
         }
         let (processor, end) = running.stop()?;
         let mut port = lock(&port);
         if end == End::Stopped {
             let machine = machine.save(&processor)?;
             // Input may come between the two. Its interrupt is lost with this machine, and signalled again in the next one.
-            self.offer(&mut port)?;
-            let port = port.state();
+            self.input.offer(&mut port)?;
+            let port = port.state().to_bytes();
             return Ok(Outcome::Stopped(Box::new(Snapshot { machine, port })));
         }
         // The guest has ended, and what it sent last may still be in the port.
@@ -146,31 +145,6 @@ impl Host {
             port.write_output().map_err(failed)?;
         }
         Ok(Outcome::Ended)
-    }
-
-    /// Offers the port all input, as far as there is room. Returns how many bytes it received.
-    fn offer(&mut self, port: &mut SerialPort) -> io::Result<usize> {
-        let mut received = 0;
-        // The port is locked, so the guest reads nothing, and each round takes at least one of 16 places.
-        while port.fifo_capacity() != 0 && self.has_input()? {
-            let count = port.enqueue_raw_bytes(&self.waiting).map_err(failed)?;
-            self.waiting.drain(..count);
-            received += count;
-        }
-        Ok(received)
-    }
-
-    /// Returns whether input waits, and reads some if none does.
-    fn has_input(&mut self) -> io::Result<bool> {
-        if self.waiting.is_empty() {
-            let mut bytes = [0; 256];
-            match self.terminal.read(&mut bytes) {
-                Ok(count) => self.waiting.extend_from_slice(&bytes[..count]),
-                Err(cause) if cause.kind() == io::ErrorKind::WouldBlock => {}
-                Err(cause) => return Err(cause),
-            }
-        }
-        Ok(!self.waiting.is_empty())
     }
 }
 
@@ -188,17 +162,17 @@ struct Running {
     thread: JoinHandle<io::Result<(Processor, End)>>,
     stop: Stop,
     /// Is signalled when the thread makes no more accesses.
-    ended: Arc<File>,
+    ended: Arc<EventFd>,
 }
 
 impl Running {
     fn start(processor: Processor, port: Arc<Mutex<SerialPort>>) -> io::Result<Self> {
         let stop = processor.stop();
-        let ended = Arc::new(event()?);
+        let ended = Arc::new(EventFd::new()?);
         let signal = Arc::clone(&ended);
         let thread = thread::spawn(move || {
             let result = execute(processor, &port);
-            signal_event(&signal)?;
+            signal.signal()?;
             result
         });
         Ok(Running {
@@ -258,6 +232,10 @@ fn lock(port: &Mutex<SerialPort>) -> MutexGuard<'_, SerialPort> {
 
 pub fn timed_out(text: &str) -> io::Error {
     io::Error::new(io::ErrorKind::TimedOut, text)
+}
+
+fn refused(reason: impl Display) -> io::Error {
+    io::Error::other(format!("the port's state is refused: {reason}"))
 }
 
 fn failed(cause: Error<io::Error>) -> io::Error {

@@ -1,9 +1,11 @@
 //! The state of a device as bytes.
 
 use std::convert::Infallible;
+use uart_16550_chip::registers::LSR;
 use uart_16550_chip::serial::BadState;
-use uart_16550_chip::{NoEvents, Output, Serial, SerialState, Trigger};
+use uart_16550_chip::{Chip, LiveChip, NoEvents, Output, Serial, SerialState, Trigger};
 
+#[derive(Debug)]
 struct Line;
 
 impl Trigger for Line {
@@ -15,6 +17,7 @@ impl Trigger for Line {
 }
 
 /// A host that takes nothing.
+#[derive(Debug)]
 struct Nobody;
 
 impl Output for Nobody {
@@ -73,26 +76,138 @@ fn a_state_comes_back_from_its_bytes() {
     }
 }
 
+/// What was stored in each version, by the state that `busy` makes. `travel.rs` has these too.
+const STORED_1: &[u8] = include_bytes!("states/version-1.bin");
+const STORED_2: &[u8] = include_bytes!("states/version-2.bin");
+
+/// Where the parts are, and the length of each.
+const CHIP_PART: usize = 12;
+const OUTPUT_PART: usize = 102;
+
+fn refusal(bytes: &[u8]) -> BadState {
+    SerialState::from_bytes(bytes).unwrap_err()
+}
+
+/// The bytes with others in them, and with the length that they then have.
+fn with(bytes: &[u8], place: std::ops::Range<usize>, others: &[u8]) -> Vec<u8> {
+    let mut with = bytes.to_vec();
+    with.splice(place, others.iter().copied());
+    let len = with.len() as u32;
+    with[8..12].copy_from_slice(&len.to_le_bytes());
+    with
+}
+
 #[test]
 fn other_bytes_are_refused() {
     let bytes = SerialState::default().to_bytes();
-    assert_eq!(&bytes[..4], [1, 0, 0, 0]);
-    for length in 0..bytes.len() {
-        assert_eq!(
-            SerialState::from_bytes(&bytes[..length]),
-            Err(BadState::Bytes)
-        );
+    assert_eq!(refusal(b""), BadState::NoState);
+    assert_eq!(refusal(b"u1655"), BadState::NoState);
+    assert_eq!(refusal(&[0; SerialState::LEN]), BadState::NoState);
+    assert_eq!(refusal(&[2, 0, 0, 0]), BadState::NoState);
+    assert_eq!(refusal(&bytes[..6]), BadState::Length { offset: 6 });
+    assert_eq!(refusal(&bytes[..11]), BadState::Length { offset: 8 });
+    for length in 12..bytes.len() {
+        assert_eq!(refusal(&bytes[..length]), BadState::Length { offset: 8 });
     }
-    assert_eq!(
-        SerialState::from_bytes(&[&bytes[..], &[0]].concat()),
-        Err(BadState::Bytes)
-    );
+    let longer = [&bytes[..], &[0]].concat();
+    assert_eq!(refusal(&longer), BadState::Length { offset: 8 });
+    for length in [4, 145, 147] {
+        let mut first = vec![0; length];
+        first[0] = 1;
+        assert_eq!(refusal(&first), BadState::Length { offset: 0 });
+    }
     let mut newer = bytes;
-    newer[0] = 2;
-    assert_eq!(SerialState::from_bytes(&newer), Err(BadState::Version(2)));
-    let mut no_flag = bytes;
-    no_flag[10] = 2;
-    assert_eq!(SerialState::from_bytes(&no_flag), Err(BadState::Bytes));
+    newer[6..8].copy_from_slice(&[0x03, 0x01]);
+    assert_eq!(refusal(&newer), BadState::Version(0x103));
+    for (offset, value) in [
+        (13, 0),
+        (13, 2),
+        (103, 0),
+        (22, 2),
+        (34, 17),
+        (54, 4),
+        (88, 1),
+        (93, 2),
+        (101, 65),
+        (106, 65),
+    ] {
+        let mut other = bytes;
+        other[offset] = value;
+        assert_eq!(refusal(&other), BadState::Value { offset }, "{offset}");
+    }
+}
+
+#[test]
+fn parts_are_refused_that_are_cut_short_or_unknown_or_not_there() {
+    let bytes = SerialState::default().to_bytes();
+    let (chip, output) = (&bytes[CHIP_PART..OUTPUT_PART], &bytes[OUTPUT_PART..]);
+    let of = |parts: &[&[u8]]| with(&bytes, CHIP_PART..bytes.len(), &parts.concat());
+    let refused = |parts: &[&[u8]]| refusal(&of(parts));
+    assert_eq!(of(&[chip, output]), bytes);
+    assert_eq!(refused(&[]), BadState::MissingPart { kind: 1 });
+    assert_eq!(refused(&[chip]), BadState::MissingPart { kind: 2 });
+    assert_eq!(refused(&[output]), BadState::MissingPart { kind: 1 });
+    // Each at most once, and in the order of their kinds.
+    let twice = BadState::Value {
+        offset: OUTPUT_PART,
+    };
+    assert_eq!(refused(&[chip, chip, output]), twice);
+    assert_eq!(
+        refused(&[output, chip]),
+        BadState::Value { offset: 12 + 69 }
+    );
+    assert_eq!(
+        refused(&[&[0, 0, 0, 0], chip, output]),
+        BadState::Value { offset: 12 }
+    );
+    let needed = [&[3, 1, 1, 0], &[7][..]].concat();
+    assert_eq!(
+        refused(&[chip, output, &needed]),
+        BadState::UnknownPart { kind: 3 }
+    );
+    // A part that goes beyond the end, one without its length, and one that is shorter than its fields.
+    let end = BadState::Length { offset: 173 };
+    assert_eq!(refused(&[chip, output, &[3, 0, 1, 0]]), end);
+    assert_eq!(refused(&[chip, output, &[3, 0]]), end);
+    let mut short = chip[..89].to_vec();
+    short[2] = 85;
+    assert_eq!(refused(&[&short, output]), BadState::Length { offset: 101 });
+}
+
+/// What a later release may add, and an older one skips: a part that is not needed, and fields at the end of a part.
+#[test]
+fn what_may_be_skipped_is_skipped() {
+    let stored = SerialState::from_bytes(STORED_2).unwrap();
+    let end = STORED_2.len();
+    let more = with(STORED_2, end..end, &[9, 0, 3, 0, 1, 2, 3]);
+    assert_eq!(SerialState::from_bytes(&more), Ok(stored));
+    let mut longer = with(STORED_2, OUTPUT_PART..OUTPUT_PART, &[1, 2, 3, 4, 5]);
+    longer[CHIP_PART + 2] += 5;
+    assert_eq!(SerialState::from_bytes(&longer), Ok(stored));
+    assert_eq!(stored.to_bytes(), STORED_2);
+}
+
+/// The example on the page is what is stored, and the offsets and lengths there are those of the example.
+#[test]
+fn the_page_has_the_layout() {
+    let mut bytes = Vec::new();
+    for row in include_str!("../STATE.md").lines() {
+        let cells: Vec<&str> = row.split('|').map(str::trim).collect();
+        let [_, offset, len, _, _, example, _] = cells[..] else {
+            continue;
+        };
+        let Ok(offset) = offset.parse::<usize>() else {
+            continue;
+        };
+        let of_field = example
+            .split(' ')
+            .map(|byte| u8::from_str_radix(byte, 16).unwrap());
+        assert_eq!(bytes.len(), offset, "{row}");
+        bytes.extend(of_field);
+        assert_eq!(bytes.len() - offset, len.parse().unwrap(), "{row}");
+    }
+    assert_eq!(bytes, STORED_2);
+    assert_eq!(bytes.len(), SerialState::LEN);
 }
 
 /// A state has one form. So nothing is in bytes that are read, but the state: not behind a list, nor beside what is not there.
@@ -101,7 +216,7 @@ fn no_other_bytes_are_those_of_a_state() {
     let mut random = Random(9);
     for state in states() {
         let mut bytes = state.to_bytes();
-        for place in 4..bytes.len() {
+        for place in 0..bytes.len() {
             let was = bytes[place];
             for value in [0, 1, 2, 0x10, 0x80, 0xff, random.byte()] {
                 bytes[place] = value;
@@ -114,9 +229,8 @@ fn no_other_bytes_are_those_of_a_state() {
     }
 }
 
-/// The form of a state in which everything is set, byte by byte. A state that was stored is read by what comes later.
-#[test]
-fn the_form_of_a_state_stays() {
+/// A device that has something in each field.
+fn busy() -> Serial<Line, NoEvents, Nobody> {
     let mut serial = Serial::new(Line, Nobody);
     serial.write(2, 0x81).unwrap();
     serial.write(3, 0x83).unwrap();
@@ -136,29 +250,78 @@ fn the_form_of_a_state_stays() {
     for byte in 0..66 + 17 {
         serial.write(0, byte).unwrap();
     }
-    let state = serial.state();
-    let bytes = state.to_bytes();
-    let fifo = |items: &[u8]| [items, &vec![0; 16 - items.len()]].concat();
-    let form = [
-        vec![1, 0, 0, 0],
-        // IER, LCR, MCR, SPR, the divisor, the FIFO's switch, and the due interrupt of the transmitter
-        vec![0x05, 0x1b, 0x0b, 0x5a, 0x0c, 0x0d, 1, 0],
-        // overflows, the shift register, and the queue behind it
-        vec![2, 0, 0, 0, 0, 0, 0, 0, 1, 64, 16],
-        (65..81).collect(),
-        // overrun, whether the front's errors were reported, the last byte, and the trigger level
-        vec![0, 0, 0, 2, 3],
-        fifo(&[0xaa, 0x61, 0x62]),
-        fifo(&[0, 0, 0x04]),
-        // which of the characters came by loopback
-        vec![0x01, 0x00],
-        // the inputs, what MSR shows of them, and their changes
-        vec![0x50, 0x50, 0x0a],
-        vec![64],
-        (0..64).collect(),
-    ];
-    assert_eq!(bytes.to_vec(), form.concat());
-    assert_eq!(SerialState::from_bytes(&bytes), Ok(state));
+    serial
+}
+
+/// A state that was stored is read by what comes later: each file is of a release that had this version.
+#[test]
+fn stored_states_are_read() {
+    let state = busy().state();
+    assert_eq!(state.to_bytes(), STORED_2);
+    for stored in [STORED_1, STORED_2] {
+        assert_eq!(SerialState::from_bytes(stored), Ok(state));
+    }
+}
+
+#[test]
+fn what_no_device_has_is_refused_when_it_is_restored() {
+    // A bit of IER that is not kept, a 16450, and a character that takes two ticks.
+    for (offset, value) in [(16, 0x10), (93, 0), (95, 2), (101, 63)] {
+        let mut bytes = SerialState::default().to_bytes();
+        bytes[offset] = value;
+        let state = SerialState::from_bytes(&bytes).unwrap();
+        assert_eq!(state.to_bytes(), bytes);
+        let refused = Serial::from_state(&state, Line, NoEvents, Nobody).unwrap_err();
+        assert!(matches!(refused.reason, BadState::Chip(_)), "{offset}");
+    }
+}
+
+/// Chips of both models in the course of time: their states are those of no device, and have the same form.
+#[test]
+fn a_live_chip_comes_back_from_its_bytes() {
+    for (model, ticks, room) in [(Chip::Uart16450, 1, 0), (Chip::Uart16550A, 1000, 7)] {
+        let mut chip = LiveChip::new(model, ticks, room).unwrap();
+        let mut random = Random(u64::from(ticks));
+        for _call in 0..200 {
+            match random.byte() % 4 {
+                0 => chip.write(random.byte() % 8, random.byte()),
+                1 => _ = chip.read(random.byte() % 8),
+                2 => _ = chip.ticks(random.byte().into()),
+                _ => chip.arrive(random.byte(), LSR::empty()).unwrap(),
+            }
+            let bytes = SerialState::of_chip(&chip).to_bytes();
+            let state = SerialState::from_bytes(&bytes).unwrap();
+            let again = LiveChip::from_data(&state.chip, &state.output).unwrap();
+            assert_eq!((again.data(), again.wire()), (chip.data(), chip.wire()));
+        }
+    }
+}
+
+/// What is known of a reason is said.
+#[test]
+fn reasons_have_texts() {
+    for (reason, text) in [
+        (BadState::NoState, "the bytes are those of no state"),
+        (BadState::Version(3), "states of version 3 are not known"),
+        (
+            BadState::Length { offset: 8 },
+            "at offset 8 the state has too few bytes, or too many",
+        ),
+        (
+            BadState::UnknownPart { kind: 3 },
+            "the state has a part of the kind 3, which is not known",
+        ),
+        (
+            BadState::MissingPart { kind: 2 },
+            "the state has no part of the kind 2",
+        ),
+        (
+            BadState::Value { offset: 22 },
+            "at offset 22 the state has a byte that cannot be there",
+        ),
+    ] {
+        assert_eq!(reason.to_string(), text);
+    }
 }
 
 #[test]
@@ -166,7 +329,7 @@ fn no_bytes_panic() {
     let mut random = Random(7);
     for state in states() {
         let mut bytes = state.to_bytes();
-        for place in 4..bytes.len() {
+        for place in 0..bytes.len() {
             let was = bytes[place];
             bytes[place] = random.byte();
             if let Ok(state) = SerialState::from_bytes(&bytes) {
@@ -181,6 +344,7 @@ fn no_bytes_panic() {
 mod with_serde {
     use super::*;
     use serde::de::{Error, Expected, SeqAccess, Visitor};
+    use serde::ser::SerializeStruct;
     use serde::{Deserialize, Deserializer, Serialize, Serializer};
     use std::fmt;
 
@@ -206,9 +370,35 @@ mod with_serde {
     impl Serializer for ToVec {
         type Ok = Vec<u8>;
         type Error = Bad;
+        type SerializeStruct = Self;
 
         fn serialize_bytes(self, bytes: &[u8]) -> Result<Vec<u8>, Bad> {
             Ok(bytes.to_vec())
+        }
+
+        fn serialize_u64(self, _number: u64) -> Result<Vec<u8>, Bad> {
+            unreachable!("a state is bytes")
+        }
+
+        fn serialize_struct(self, _: &'static str, _: usize) -> Result<Self, Bad> {
+            unreachable!("a state is bytes")
+        }
+    }
+
+    impl SerializeStruct for ToVec {
+        type Ok = Vec<u8>;
+        type Error = Bad;
+
+        fn serialize_field<T: Serialize + ?Sized>(
+            &mut self,
+            _name: &'static str,
+            _field: &T,
+        ) -> Result<(), Bad> {
+            unreachable!("a state is bytes")
+        }
+
+        fn end(self) -> Result<Vec<u8>, Bad> {
+            unreachable!("a state is bytes")
         }
     }
 
@@ -250,10 +440,10 @@ mod with_serde {
                 assert_eq!(again.unwrap(), state);
             }
         }
-        let many = [0; SerialState::LEN + 1];
+        let many = [0; 1025];
         let refused = SerialState::deserialize(Numbers(&many, true));
-        assert_eq!(refused, Err(Bad("147 bytes".into())));
-        let refused = SerialState::deserialize(Numbers(&[1, 0, 0, 0], true));
+        assert_eq!(refused, Err(Bad("1025 bytes".into())));
+        let refused = SerialState::deserialize(Numbers(&[2, 0, 0, 0], true));
         assert_eq!(refused, Err(Bad("the bytes are those of no state".into())));
     }
 }

@@ -20,11 +20,14 @@ impl<'de> Deserialize<'de> for SerialState {
 /// Takes the bytes of a state, as bytes or as a sequence of numbers: formats as JSON have no bytes.
 struct Bytes;
 
+/// How many numbers of a sequence are taken. A later release may have added parts that are skipped.
+const ROOM: usize = 1024;
+
 impl<'de> Visitor<'de> for Bytes {
     type Value = SerialState;
 
     fn expecting(&self, f: &mut fmt::Formatter<'_>) -> fmt::Result {
-        write!(f, "the {} bytes of a serial device", SerialState::LEN)
+        f.write_str("the bytes of a serial device")
     }
 
     fn visit_bytes<E: Error>(self, bytes: &[u8]) -> Result<SerialState, E> {
@@ -32,7 +35,7 @@ impl<'de> Visitor<'de> for Bytes {
     }
 
     fn visit_seq<A: SeqAccess<'de>>(self, mut sequence: A) -> Result<SerialState, A::Error> {
-        let mut bytes = [0; SerialState::LEN];
+        let mut bytes = [0; ROOM];
         let mut count = 0;
         while let Some(byte) = sequence.next_element()? {
             let place = bytes.get_mut(count);

@@ -1,4 +1,4 @@
-//! A stand-in for the crate `serde`: as much of its traits as the state of a device needs.
+//! A stand-in for the crate `serde`: as much of its traits as the state of a device and counters need.
 #![no_std]
 
 pub use de::{Deserialize, Deserializer};
@@ -12,6 +12,12 @@ pub mod ser {
         fn serialize<S: Serializer>(&self, serializer: S) -> Result<S::Ok, S::Error>;
     }
 
+    impl Serialize for u64 {
+        fn serialize<S: Serializer>(&self, serializer: S) -> Result<S::Ok, S::Error> {
+            serializer.serialize_u64(*self)
+        }
+    }
+
     /// A format that can be written.
     pub trait Serializer: Sized {
         /// What writing returns.
@@ -19,8 +25,39 @@ pub mod ser {
         /// Why it fails.
         type Error;
 
+        /// What writes the fields of a struct.
+        type SerializeStruct: SerializeStruct<Ok = Self::Ok, Error = Self::Error>;
+
         /// Writes bytes.
         fn serialize_bytes(self, bytes: &[u8]) -> Result<Self::Ok, Self::Error>;
+
+        /// Writes a number.
+        fn serialize_u64(self, number: u64) -> Result<Self::Ok, Self::Error>;
+
+        /// Writes a struct of this name, with so many fields.
+        fn serialize_struct(
+            self,
+            name: &'static str,
+            len: usize,
+        ) -> Result<Self::SerializeStruct, Self::Error>;
+    }
+
+    /// The fields of a struct that is written.
+    pub trait SerializeStruct {
+        /// What writing returns.
+        type Ok;
+        /// Why it fails.
+        type Error;
+
+        /// Writes a field.
+        fn serialize_field<T: Serialize + ?Sized>(
+            &mut self,
+            name: &'static str,
+            field: &T,
+        ) -> Result<(), Self::Error>;
+
+        /// Ends the struct.
+        fn end(self) -> Result<Self::Ok, Self::Error>;
     }
 }
 

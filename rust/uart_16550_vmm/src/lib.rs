@@ -1,0 +1,24 @@
+#![doc = include_str!("../README.md")]
+#![deny(unsafe_code)]
+#![deny(missing_docs)]
+
+mod bus;
+mod counters;
+mod events;
+mod input;
+#[cfg(target_os = "linux")]
+mod linux;
+mod lossy;
+mod trigger;
+
+pub use bus::BusSerial;
+pub use counters::{Counters, Counts};
+pub use events::Both;
+pub use input::Input;
+#[cfg(target_os = "linux")]
+pub use linux::{Epoll, EventFd, Room};
+pub use lossy::Lossy;
+#[cfg(feature = "vm-superio")]
+pub use trigger::FromSuperio;
+pub use trigger::TriggerBy;
+pub use uart_16550_chip;

@@ -1,0 +1,104 @@
+//! Input that waits for room.
+
+use std::collections::VecDeque;
+use std::convert::Infallible;
+use std::io;
+use std::io::{ErrorKind, Read};
+use uart_16550_chip::{NoEvents, Serial, Trigger};
+use uart_16550_vmm::{Input, TriggerBy};
+
+type Device<T> = Serial<T, NoEvents, Vec<u8>>;
+
+fn device() -> Device<impl Trigger<E = Infallible>> {
+    Serial::new(TriggerBy(|| Ok(())), Vec::new())
+}
+
+/// A source that answers each read as it is told, and then would block.
+#[derive(Default)]
+struct Source(VecDeque<Result<Vec<u8>, ErrorKind>>);
+
+impl Read for Source {
+    fn read(&mut self, room: &mut [u8]) -> io::Result<usize> {
+        let bytes = self.0.pop_front().unwrap_or(Err(ErrorKind::WouldBlock))?;
+        room[..bytes.len()].copy_from_slice(&bytes);
+        Ok(bytes.len())
+    }
+}
+
+#[test]
+fn input_goes_on_as_there_is_room() {
+    let mut serial = device();
+    serial.write(2, 0x01).unwrap();
+    let typed: Vec<u8> = (0..=255).chain(0..100).collect();
+    let mut input = Input::new(&typed[..]);
+    let mut read = Vec::new();
+    assert_eq!(input.offer(&mut serial).unwrap(), 16);
+    assert_eq!(input.waiting_len(), 240);
+    assert_eq!(input.offer(&mut serial).unwrap(), 0);
+    while serial.read(5) & 0x01 != 0 {
+        read.push(serial.read(0));
+        input.offer(&mut serial).unwrap();
+    }
+    assert_eq!(read, typed);
+    assert!(input.is_at_end());
+    assert_eq!(input.waiting_len(), 0);
+}
+
+#[test]
+fn in_loopback_nothing_is_read_from_the_host() {
+    let mut serial = device();
+    serial.write(4, 0x10).unwrap();
+    let mut input = Input::new(&b"abc"[..]);
+    assert_eq!(input.offer(&mut serial).unwrap(), 0);
+    assert_eq!(input.waiting_len(), 0);
+    serial.write(4, 0).unwrap();
+    assert_eq!(input.offer(&mut serial).unwrap(), 1);
+    assert!(!input.is_at_end());
+}
+
+#[test]
+fn a_source_may_have_nothing_be_interrupted_fail_and_end() {
+    let mut serial = device();
+    serial.write(2, 0x01).unwrap();
+    let mut input = Input::new(Source(
+        [
+            Err(ErrorKind::WouldBlock),
+            Err(ErrorKind::Interrupted),
+            Ok(vec![1, 2]),
+            Err(ErrorKind::WouldBlock),
+            Err(ErrorKind::BrokenPipe),
+            Ok(vec![3]),
+            Ok(vec![]),
+        ]
+        .into(),
+    ));
+    assert_eq!(input.offer(&mut serial).unwrap(), 0);
+    assert_eq!(input.offer(&mut serial).unwrap(), 2);
+    let failed = input.offer(&mut serial).unwrap_err();
+    assert_eq!(failed.kind(), ErrorKind::BrokenPipe);
+    assert!(!input.is_at_end());
+    assert_eq!(input.offer(&mut serial).unwrap(), 1);
+    assert!(input.is_at_end());
+    assert_eq!([0; 4].map(|_: i32| serial.read(0)), [1, 2, 3, 3]);
+}
+
+#[test]
+fn a_source_that_is_always_interrupted_is_given_up() {
+    let mut serial = device();
+    let interrupted = || Err(ErrorKind::Interrupted);
+    let mut input = Input::new(Source((0..17).map(|_| interrupted()).collect()));
+    let failed = input.offer(&mut serial).unwrap_err();
+    assert_eq!(failed.kind(), ErrorKind::Interrupted);
+    assert_eq!(input.offer(&mut serial).unwrap(), 0);
+}
+
+/// What was received although the interrupt failed is not offered again.
+#[test]
+fn an_interrupt_that_fails_loses_no_input() {
+    let mut serial: Device<_> = Serial::new(TriggerBy(|| Err::<(), ()>(())), Vec::new());
+    serial.write(2, 0x01).unwrap();
+    serial.write(1, 0x01).unwrap();
+    let mut input = Input::new(&b"abc"[..]);
+    assert_eq!(input.offer(&mut serial).unwrap(), 3);
+    assert_eq!([0; 3].map(|_: i32| serial.read(0)), *b"abc");
+}
