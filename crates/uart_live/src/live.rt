@@ -233,6 +233,27 @@ impl LiveChip {
         sends
     }
 
+    /// Makes a THR-empty interrupt pending, as when the last byte leaves the transmitter's queue.
+    ///
+    /// For an owner who finds that a write of FCR emptied the queue: a switch of the FIFOs does so
+    /// without the interrupt. Check `is_interrupting` after it.
+    ///
+    /// # Examples
+    ///
+    /// ```
+    /// let held = chip.held_len();
+    /// chip.write(offsets::FCR as u8, value);
+    /// if chip.held_len() < held {
+    ///     chip.raise_thr_empty();
+    /// }
+    /// ```
+    pub fn raise_thr_empty(&mut self)
+        ensures { self.new ≡ spec.with_thr_pending true self.old }
+    {
+        let transmitter = self.uart.transmitter_mut();
+        transmitter.set_thr_pending(true);
+    }
+
     /// Returns the byte that is sent if the guest writes this value to DATA: cut to the word length
     /// if the chip cuts characters, else the value itself.
     #[inline]

@@ -4,6 +4,7 @@ pub mod Sends
 pub mod Waits
 pub mod Stays
 mod Rooms
+mod Empties
 mod Quiet
 mod Passes
 mod Polls

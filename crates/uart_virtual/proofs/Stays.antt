@@ -18,7 +18,7 @@ use Rattle.std.specs.List.{list_any}
 use Rattle.uart_chip.specs.declared.receiver.Character.{Character}
 use Rattle.uart_chip.specs.Receiver.{ReceiverState, is_data_pending, is_timed_out, front_errors, unreported, has_errors, report}
 use Rattle.uart_chip.specs.Chip.{ChipState, tick, ticks, is_loopback, line_status, is_transmitter_empty}
-use Rattle.uart_chip.specs.Chip.{after_read, after_write, arrive_live, change_lines, take_wire}
+use Rattle.uart_chip.specs.Chip.{after_read, arrive_live, change_lines, take_wire}
 use Rattle.uart_chip.specs.Jumps.{timeout_after, count_down}
 use Rattle.uart_chip.proofs.Jumps.{StillFor, ticks_skip}
 use Rattle.uart_chip.proofs.Bits.{and_or}
@@ -26,6 +26,7 @@ use Rattle.uart_chip.proofs.soundness.Sounds.{latches-ticks}
 use Rattle.uart_chip.proofs.AccessMoves.{both_if}
 use Rattle.uart_live.proofs.Sends.{each, unset}
 use Rattle.uart_virtual.specs.Port.{PortCall, Read, Write, Receive, ReceiveOne, SetLines, TakeOutput}
+use Rattle.uart_virtual.specs.Port.{written}
 use Rattle.uart_virtual.specs.Port.{is_up, stays_up, happen, settle, kind_of, seen_of, is_news, accepted, arrive_all, IsStill, IsUnmoved}
 use Rattle.uart_virtual.specs.Laws.{LineStays, EachDipIsSignalled}
 use Rattle.uart_virtual.proofs.Times.{unmoved-read, unmoved-all}
@@ -193,7 +194,7 @@ either_place d n inside up = go (is_loopback d.latches) refl
 pub stays-up : (call : PortCall) (c : ChipState) (n : ℕ) → IsStill c → stays_up call (happen call c) ≡ true →
     is_up (ticks n (happen call c)) ≡ true
 stays-up (Write offset value) c n s e =
-    let d : ChipState = after_write offset value c in
+    let d : ChipState = written offset value c in
     let both = each (is_up d) (not (is_loopback d.latches)) e in
     line_stays n d (unset (is_loopback d.latches) both.1) both.0
 stays-up (Read offset) c n s e = either_place (after_read offset c) n (λ l. unmoved-read offset c s.unmoved) e

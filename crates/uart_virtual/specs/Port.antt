@@ -5,6 +5,7 @@ use Rattle.uart_chip.specs.declared.chip.ChipData.{ChipData}
 use Rattle.uart_chip.specs.Chip as chip
 use Rattle.uart_chip.specs.Chip.{ChipState, interrupt, ticks, arrive_live, take_wire}
 use Rattle.uart_chip.specs.Chip.{change_lines, after_read, after_write, is_loopback, receive_room, cut_of}
+use Rattle.uart_chip.specs.Chip.{with_thr_pending}
 use Rattle.uart_chip.specs.Jumps.{next_move}
 use Rattle.uart_chip.specs.Receiver.{waiting}
 use Rattle.uart_chip.specs.Sending.{sends_at_once}
@@ -73,10 +74,21 @@ arrive_all (byte ∷ bytes) c = arrive_all bytes (arrive_live byte 0 c)
 abbrev pub accepted : List ℕ → ChipState → ℕ
 accepted bytes c = min (length bytes) (receive_room c)
 
+-- the transmitter holds fewer bytes than before
+abbrev pub holds_less : (before after : ChipState) → Bool
+holds_less before after = nat_lt (length (held after.transmitter)) (length (held before.transmitter))
+
+-- a write of a register. If it is one of FCR that discards bytes which the transmitter held, its queue is empty, and a
+-- THR-empty interrupt is pending, as when the last byte leaves the queue
+abbrev pub written : (offset value : ℕ) → ChipState → ChipState
+written offset value c =
+    let d = after_write offset value c in
+    if (offset == offsets.FCR) && holds_less c d then with_thr_pending true d else d
+
 -- the chip right after what happens in a call, before time passes
 abbrev pub happen : PortCall → ChipState → ChipState
 happen (Read offset) c = after_read offset c
-happen (Write offset value) c = after_write offset value c
+happen (Write offset value) c = written offset value c
 happen (Receive bytes) c = arrive_all (take (accepted bytes c) bytes) c
 happen (ReceiveOne byte errors) c = arrive_live byte errors c
 happen (SetLines inputs) c = change_lines inputs c

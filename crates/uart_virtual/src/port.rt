@@ -404,13 +404,13 @@ fn send(chip: &mut LiveChip, value: u8, told: &mut Told) -> Todo
     requires still { IsStill chip.old }
     requires sends { sends_at_once chip.old ≡ true }
     requires settled { port.ignores_falls told.old ≡ true }
-    ensures after { chip.new ≡ settle (spec.after_write offsets.DATA value chip.old) }
+    ensures after { chip.new ≡ settle (port.written offsets.DATA value chip.old) }
     ensures still { IsStill chip.new }
     ensures holds { IsTold (record { chip = chip.new; told = told.new }) }
-    ensures told { let c = spec.after_write offsets.DATA value chip.old in
+    ensures told { let c = port.written offsets.DATA value chip.old in
         let call = Write offsets.DATA value in
         told.new ≡ tell (kind_of call chip.old) (stays_up call c) (settle c) told.old }
-    ensures todo { let c = spec.after_write offsets.DATA value chip.old in
+    ensures todo { let c = port.written offsets.DATA value chip.old in
         let call = Write offsets.DATA value in
         result ≡ todo_of (kind_of call chip.old) (stays_up call c) (settle c) told.old }
 {
@@ -419,22 +419,38 @@ fn send(chip: &mut LiveChip, value: u8, told: &mut Told) -> Todo
     decide(chip, false, told, kind)
 }
 
+// Writes a register, and raises a THR-empty interrupt if this is a write of FCR that discards bytes
+// which the transmitter held.
+//
+// A switch of the FIFOs empties the queue too, and the chip leaves the interrupt as it was then. A
+// guest that prints by interrupts would wait for ever.
+fn write_and_raise(chip: &mut LiveChip, offset: u8, value: u8)
+    requires { offset < NUM_REGISTERS }
+    ensures { chip.new ≡ port.written offset value chip.old }
+{
+    let held = chip.held_len();
+    chip.write(offset, value);
+    if offset as usize == offsets::FCR && chip.held_len() < held {
+        chip.raise_thr_empty();
+    }
+}
+
 // Writes a register and lets the time of a call pass.
 #[inline(never)]
 fn write_slowly(chip: &mut LiveChip, offset: u8, value: u8, told: &mut Told) -> Todo
     requires offset { offset < NUM_REGISTERS }
     requires still { IsStill chip.old }
-    ensures after { chip.new ≡ settle (spec.after_write offset value chip.old) }
+    ensures after { chip.new ≡ settle (port.written offset value chip.old) }
     ensures still { IsStill chip.new }
     ensures holds { IsTold (record { chip = chip.new; told = told.new }) }
-    ensures told { let c = spec.after_write offset value chip.old in
+    ensures told { let c = port.written offset value chip.old in
         let call = Write offset value in
         told.new ≡ tell (kind_of call chip.old) (stays_up call c) (settle c) told.old }
-    ensures todo { let c = spec.after_write offset value chip.old in
+    ensures todo { let c = port.written offset value chip.old in
         let call = Write offset value in
         result ≡ todo_of (kind_of call chip.old) (stays_up call c) (settle c) told.old }
 {
-    chip.write(offset, value);
+    write_and_raise(chip, offset, value);
     // What comes back in loopback takes the line down for four ticks if a timeout was due, and up
     // again. So there a line that is up before and after counts as one that fell.
     let was_up = chip.is_interrupting() && !chip.is_loopback();
@@ -446,13 +462,13 @@ fn write_slowly(chip: &mut LiveChip, offset: u8, value: u8, told: &mut Told) -> 
 fn write(chip: &mut LiveChip, offset: u8, value: u8, told: &mut Told) -> Todo
     requires offset { offset < NUM_REGISTERS }
     requires still { IsStill chip.old }
-    ensures after { chip.new ≡ settle (spec.after_write offset value chip.old) }
+    ensures after { chip.new ≡ settle (port.written offset value chip.old) }
     ensures still { IsStill chip.new }
     ensures holds { IsTold (record { chip = chip.new; told = told.new }) }
-    ensures told { let c = spec.after_write offset value chip.old in
+    ensures told { let c = port.written offset value chip.old in
         let call = Write offset value in
         told.new ≡ tell (kind_of call chip.old) (stays_up call c) (settle c) told.old }
-    ensures todo { let c = spec.after_write offset value chip.old in
+    ensures todo { let c = port.written offset value chip.old in
         let call = Write offset value in
         result ≡ todo_of (kind_of call chip.old) (stays_up call c) (settle c) told.old }
 {

@@ -292,10 +292,23 @@ fn send(chip: &mut LiveChip, value: u8, told: &mut Told) -> Todo {
     decide(chip, false, told, kind)
 }
 
+// Writes a register, and raises a THR-empty interrupt if this is a write of FCR that discards bytes
+// which the transmitter held.
+//
+// A switch of the FIFOs empties the queue too, and the chip leaves the interrupt as it was then. A
+// guest that prints by interrupts would wait for ever.
+fn write_and_raise(chip: &mut LiveChip, offset: u8, value: u8) {
+    let held = chip.held_len();
+    chip.write(offset, value);
+    if offset as usize == offsets::FCR && chip.held_len() < held {
+        chip.raise_thr_empty();
+    }
+}
+
 // Writes a register and lets the time of a call pass.
 #[inline(never)]
 fn write_slowly(chip: &mut LiveChip, offset: u8, value: u8, told: &mut Told) -> Todo {
-    chip.write(offset, value);
+    write_and_raise(chip, offset, value);
     // What comes back in loopback takes the line down for four ticks if a timeout was due, and up
     // again. So there a line that is up before and after counts as one that fell.
     let was_up = chip.is_interrupting() && !chip.is_loopback();
