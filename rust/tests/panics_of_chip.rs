@@ -71,6 +71,7 @@ calls! {
     chip_read_clear_status(chip: &mut LiveChip) -> Option<u8> { chip.read_clear_status() }
     chip_arrive_in_room(chip: &mut LiveChip, byte: u8) -> bool { chip.arrive_in_room(byte) }
     chip_has_interrupts_on(chip: &LiveChip) -> bool { chip.has_interrupts_on() }
+    chip_has_input_interrupt_on(chip: &LiveChip) -> bool { chip.has_input_interrupt_on() }
     chip_ticks(chip: &mut LiveChip, count: u16) -> usize { chip.ticks(count) }
     chip_arrive(chip: &mut LiveChip, byte: u8, errors: LSR) -> Result<(), InputError> { chip.arrive(byte, errors) }
     chip_arrive_holding_timeout(chip: &mut LiveChip, byte: u8, errors: LSR) -> Result<(), InputError> { chip.arrive_holding_timeout(byte, errors) }
@@ -105,6 +106,8 @@ calls! {
     port_passing(port: &VirtualPort, value: u8) -> Option<u8> { port.passing(value) }
     port_pass(port: &mut VirtualPort) -> Option<Todo> { port.pass() }
     port_receive_polled(port: &mut VirtualPort, byte: u8) -> bool { port.receive_polled(byte) }
+    port_receive_first(port: &mut VirtualPort, byte: u8) -> Option<Todo> { port.receive_first(byte) }
+    port_read_last(port: &mut VirtualPort) -> Option<Answer> { port.read_last() }
     port_receive(port: &mut VirtualPort, input: &[u8]) -> Received { port.receive(input) }
     port_receive_one(port: &mut VirtualPort, byte: u8, errors: LSR) -> Result<Todo, InputError> { port.receive_one(byte, errors) }
     port_set_lines(port: &mut VirtualPort, inputs: MSR) -> Result<Todo, InputError> { port.set_lines(inputs) }

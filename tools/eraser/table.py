@@ -399,6 +399,9 @@ GUARDS["uart_live::live::LiveChip::send_at_once"] = Guard(
     reason="it does nothing else",
 )
 # Of a port, whose chip is always still.
+GUARDS["uart_virtual::port::decide_at"] = Guard(
+    ["requires paced { IsPaced chip.now }", "requires level { is_high ≡ is_up chip.now }"], reason=IN_FILE
+)
 GUARDS["uart_virtual::port::decide"] = Guard(["requires { IsPaced chip.now }"], reason=IN_FILE)
 GUARDS["uart_virtual::port::finish"] = Guard(
     ["requires live { IsLive chip.old }", "requires paced { IsPaced chip.old }"], reason=IN_FILE

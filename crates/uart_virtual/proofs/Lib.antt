@@ -5,6 +5,7 @@ pub mod Waits
 pub mod Stays
 mod Rooms
 mod Empties
+mod Inputs
 mod Quiet
 mod Passes
 mod Polls

@@ -55,7 +55,7 @@ pends-tick t h =
 
 -- ---- the errors of the line stay
 
-unseen : (a e g : ℕ) (d f : Bool) →
+pub unseen : (a e g : ℕ) (d f : Bool) →
     bit_and (bit_or (bit_or a (bit_or e (flag d LSR.THR_EMPTY.0))) (bit_or (flag f LSR.TRANSMITTER_EMPTY.0) g)) LSR.LINE_ERRORS.0 ≡
     bit_or (bit_or (bit_and a LSR.LINE_ERRORS.0) (bit_or (bit_and e LSR.LINE_ERRORS.0) 0)) (bit_or 0 (bit_and g LSR.LINE_ERRORS.0))
 unseen a e g true true = simp and_or refl
@@ -107,22 +107,22 @@ and-grows false q r f h = h
 at_limit : (i limit : ℕ) → (i == limit) ≡ true → (min (i + 1) limit == limit) ≡ true
 at_limit i limit h = grind (arith, common_steps)
 
-abbrev errors : ChipState → Bool
+abbrev pub errors : ChipState → Bool
 errors c = has_any c.latches.ier IER.RECEIVER_LINE_STATUS.0 && has_any (line_status c) LSR.LINE_ERRORS.0
 
-abbrev ready : ChipState → Bool
+abbrev pub ready : ChipState → Bool
 ready c = has_any c.latches.ier IER.DATA_READY.0 && is_data_pending c.fifo c.receiver
 
-abbrev timeout : ChipState → Bool
+abbrev pub timeout : ChipState → Bool
 timeout c = has_any c.latches.ier IER.DATA_READY.0 && is_timed_out c.fifo c.receiver
 
-abbrev empty : ChipState → Bool
+abbrev pub empty : ChipState → Bool
 empty c = has_any c.latches.ier IER.THR_EMPTY.0 && c.transmitter.is_thr_pending
 
-abbrev lines : ChipState → Bool
+abbrev pub lines : ChipState → Bool
 lines c = has_any c.latches.ier IER.MODEM_STATUS.0 && not (c.modem.deltas == 0)
 
-causes : (c : ChipState) → is_up c ≡ (errors c || (ready c || (timeout c || (empty c || lines c))))
+pub causes : (c : ChipState) → is_up c ≡ (errors c || (ready c || (timeout c || (empty c || lines c))))
 causes c =
     up_is (errors c) (ready c) (timeout c) (empty c) (lines c) ReceiverLineStatus ReceivedDataReady ReceptionTimeout
     TransmitterHoldingRegisterEmpty ModemStatus

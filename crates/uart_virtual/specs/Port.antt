@@ -5,7 +5,7 @@ use Rattle.uart_chip.specs.declared.chip.ChipData.{ChipData}
 use Rattle.uart_chip.specs.Chip as chip
 use Rattle.uart_chip.specs.Chip.{ChipState, interrupt, ticks, arrive_live, take_wire}
 use Rattle.uart_chip.specs.Chip.{change_lines, after_read, after_write, is_loopback, receive_room, cut_of}
-use Rattle.uart_chip.specs.Chip.{with_thr_pending}
+use Rattle.uart_chip.specs.Chip.{with_thr_pending, is_dlab_set}
 use Rattle.uart_chip.specs.Jumps.{next_move}
 use Rattle.uart_chip.specs.Receiver.{waiting}
 use Rattle.uart_chip.specs.Sending.{sends_at_once}
@@ -16,6 +16,7 @@ use Rattle.uart_events.specs.declared.event.Chip.{Chip}
 use Rattle.uart_live.specs.Live.{IsLive}
 use Rattle.uart_live.specs.declared.fixed.TheConstants.{WIRE_ROOM}
 use Rattle.uart_spec.specs.Bits.{has_any}
+use Rattle.uart_spec.specs.declared.registers.interrupt_enable.TheConstants.IER
 use Rattle.uart_spec.specs.declared.registers.line_status.TheConstants.LSR
 use Rattle.uart_spec.specs.declared.registers.offsets.TheConstants as offsets
 use Rattle.uart_virtual.specs.declared.told.Kind.{Kind}
@@ -300,6 +301,16 @@ reads_polled p = is_polled p && (p.told.has_room && (p.told.spare == 0))
 -- after a byte of input the monitor has nothing to do: no interrupt is enabled, and the monitor knows of room
 abbrev pub receives_polled : PortState → Bool
 receives_polled p = is_polled p && (p.told.has_room && has_room p.chip)
+
+-- a byte of input comes while none waits: there is room for it, of which the monitor knows, and the guest has the
+-- interrupt of received characters enabled
+abbrev pub receives_first : PortState → Bool
+receives_first p =
+    is_empty p.chip && (p.told.has_room && (has_any p.chip.latches.ier IER.DATA_READY.0 && has_room p.chip))
+
+-- a read of DATA takes the last character that waits
+abbrev pub reads_last : PortState → Bool
+reads_last p = (length (waiting p.chip.receiver) == 1) && not (is_dlab_set p.chip.latches)
 
 -- the host can take a byte that the guest writes to DATA before it is on the output: it would be alone there at once,
 -- and a fall of the line within the call makes no difference

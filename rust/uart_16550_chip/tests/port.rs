@@ -428,7 +428,7 @@ fn is_nothing(todo: Todo) -> bool {
 /// Makes one of the short calls of the port, and then what it stands for. One that refuses changes nothing, as later calls show.
 fn compare_short_call(random: &mut Random, port: &mut VirtualPort, plain: &mut Plain) {
     let byte = random.byte();
-    match random.below(4) {
+    match random.below(6) {
         0 => {
             if let Some(value) = port.read_clear_status() {
                 let answer = plain.read(LSR_OFFSET);
@@ -445,6 +445,16 @@ fn compare_short_call(random: &mut Random, port: &mut VirtualPort, plain: &mut P
             if port.receive_polled(byte) {
                 let received = plain.receive(&[byte]);
                 assert!(received.count == 1 && is_nothing(received.todo));
+            }
+        }
+        3 => {
+            if let Some(answer) = port.read_last() {
+                assert_eq!(answer, plain.read(DATA));
+            }
+        }
+        4 => {
+            if let Some(todo) = port.receive_first(byte) {
+                assert_eq!(Received { count: 1, todo }, plain.receive(&[byte]));
             }
         }
         _ => match port.passing(byte) {

@@ -10,7 +10,7 @@ use uart_chip::receiving::{ReceiverParts, take_front};
 use uart_chip::transmitting::TransmitterParts;
 use uart_chip::{Character, Origin, Uart, room_of};
 use uart_events::{Chip, MAX_CHAR_TICKS};
-use uart_spec::registers::{LCR, LSR, MSR, offsets};
+use uart_spec::registers::{IER, LCR, LSR, MSR, offsets};
 
 // A chip all of whose memory is in arrays, without a schedule. So no call can be refused memory.
 // The wire has room for 64 bytes, as in the library for C: its owner takes them after each `ticks`.
@@ -266,6 +266,12 @@ impl LiveChip {
     #[inline]
     pub fn has_interrupts_on(&self) -> bool {
         !self.uart.ier().is_empty()
+    }
+
+    /// Returns whether the guest has the interrupt of received characters enabled.
+    #[inline]
+    pub fn has_input_interrupt_on(&self) -> bool {
+        self.uart.ier().intersects(IER::DATA_READY)
     }
 
     /// Reads DATA for the guest, as [`LiveChip::read`] does.

@@ -198,18 +198,26 @@ pub fn tell(seen: Seen, was_up: bool, told: &mut Told, kind: Kind) -> Todo {
     todo
 }
 
-// Returns what is to be told after a call, and notes that it was told.
+// Returns what is to be told after a call that leaves the line at this level, and notes that it
+// was told.
 #[inline(always)]
-fn decide(chip: &LiveChip, was_up: bool, told: &mut Told, kind: Kind) -> Todo {
+fn decide_at(chip: &LiveChip, is_high: bool, was_up: bool, told: &mut Told, kind: Kind) -> Todo {
     let has_room = chip.receive_room() != 0;
     let seen = Seen {
-        level: chip.is_interrupting(),
+        level: is_high,
         has_room,
         is_empty: chip.waiting_len() == 0,
         fifo: chip.has_fifo_on(),
         ready: WIRE_ROOM - chip.wire_room(),
     };
     tell(seen, was_up, told, kind)
+}
+
+// Returns what is to be told after a call, and notes that it was told.
+#[inline(always)]
+fn decide(chip: &LiveChip, was_up: bool, told: &mut Told, kind: Kind) -> Todo {
+    let level = chip.is_interrupting();
+    decide_at(chip, level, was_up, told, kind)
 }
 
 // Returns what is to be told after a call that leaves the line and the room as they were.
@@ -429,6 +437,30 @@ impl VirtualPort {
         Some(value)
     }
 
+    // Returns whether a read of DATA takes the last character that waits.
+    #[inline]
+    fn reads_last(&self) -> bool {
+        self.chip.waiting_len() == 1 && !self.chip.is_dlab_set()
+    }
+
+    /// Reads DATA for the guest, if one character waits. Returns its value, and what the monitor
+    /// has to do. Otherwise returns `None`, and nothing changes.
+    ///
+    /// The value, the effect and what has to be done are those of [`VirtualPort::read`].
+    // No reception timeout is to come when no character waits. So the line is asked for once.
+    #[inline]
+    pub fn read_last(&mut self) -> Option<Answer> {
+        if !self.reads_last() {
+            return None;
+        }
+        let value = self.chip.read_data();
+        let level = self.chip.is_interrupting();
+        LiveChip::expire_timeout(&mut self.chip);
+        let kind = kind_of_read(offsets::DATA as u8);
+        let todo = decide_at(&self.chip, level, level, &mut self.told, kind);
+        Some(Answer { value, todo })
+    }
+
     // Returns whether a byte that the guest writes to DATA would be alone on the output at once,
     // and a fall of the line makes no difference.
     #[inline]
@@ -549,6 +581,33 @@ impl VirtualPort {
         LiveChip::expire_timeout(&mut self.chip);
         self.told.has_room = self.chip.receive_room() != 0;
         true
+    }
+
+    // Returns whether a byte of input comes while none waits, there is room for it, of which the
+    // monitor knows, and the guest has the interrupt of received characters enabled.
+    #[inline]
+    fn receives_first(&self) -> bool {
+        let is_on = self.chip.has_input_interrupt_on();
+        let has_room = self.chip.receive_room() != 0;
+        self.chip.waiting_len() == 0 && (self.told.has_room && (is_on && has_room))
+    }
+
+    /// Receives a byte while none waits, for a guest that has the interrupt of received characters
+    /// enabled: if the monitor knows of room. Returns what the monitor has to do. Otherwise returns
+    /// `None`, and nothing changes.
+    ///
+    /// The effect and what has to be done are those of [`VirtualPort::receive`].
+    // A character that waits takes the line up when the call ends, and one that comes while none
+    // waits takes no line down. So the chip is not asked for the line.
+    #[inline]
+    pub fn receive_first(&mut self, byte: u8) -> Option<Todo> {
+        if !self.receives_first() {
+            return None;
+        }
+        let _arrived = self.chip.arrive_in_room(byte);
+        LiveChip::expire_timeout(&mut self.chip);
+        let todo = decide_at(&self.chip, true, true, &mut self.told, INPUT);
+        Some(todo)
     }
 
     /// Receives a character with these errors: parity, framing and break, as bits of LSR. Returns
