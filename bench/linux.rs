@@ -55,6 +55,8 @@ pub trait Device {
     fn room(&self) -> usize;
     /// Receives characters, for which there is room.
     fn receive(&mut self, bytes: &[u8]);
+    /// The time of a reception timeout passed. Unless it is written, the device has no clock.
+    fn pass_time(&mut self) {}
 }
 
 /// A guest with Linux's driver.
@@ -182,6 +184,8 @@ fn measure<D: Device>(name: &str, work: &Work, device: D, edges: &Edges) {
             linux.start_to_send(chunk);
             left_out -= chunk;
         }
+        linux.handle_interrupts();
+        linux.device.pass_time();
         linux.handle_interrupts();
         assert_eq!(linux.to_send, 0, "the guest waits for ever");
         assert_eq!(

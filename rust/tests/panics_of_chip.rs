@@ -65,11 +65,13 @@ calls! {
     chip_sends_at_once(chip: &LiveChip) -> bool { chip.sends_at_once() }
     chip_send_at_once(chip: &mut LiveChip, value: u8) { chip.send_at_once(value) }
     chip_pass_wire(chip: &mut LiveChip) -> bool { chip.pass_wire() }
+    chip_raise_thr_empty(chip: &mut LiveChip) { chip.raise_thr_empty() }
     chip_cut(chip: &LiveChip, value: u8) -> u8 { chip.cut(value) }
     chip_read_data(chip: &mut LiveChip) -> u8 { chip.read_data() }
     chip_read_clear_status(chip: &mut LiveChip) -> Option<u8> { chip.read_clear_status() }
     chip_arrive_in_room(chip: &mut LiveChip, byte: u8) -> bool { chip.arrive_in_room(byte) }
     chip_has_interrupts_on(chip: &LiveChip) -> bool { chip.has_interrupts_on() }
+    chip_has_input_interrupt_on(chip: &LiveChip) -> bool { chip.has_input_interrupt_on() }
     chip_ticks(chip: &mut LiveChip, count: u16) -> usize { chip.ticks(count) }
     chip_arrive(chip: &mut LiveChip, byte: u8, errors: LSR) -> Result<(), InputError> { chip.arrive(byte, errors) }
     chip_arrive_holding_timeout(chip: &mut LiveChip, byte: u8, errors: LSR) -> Result<(), InputError> { chip.arrive_holding_timeout(byte, errors) }
@@ -104,6 +106,8 @@ calls! {
     port_passing(port: &VirtualPort, value: u8) -> Option<u8> { port.passing(value) }
     port_pass(port: &mut VirtualPort) -> Option<Todo> { port.pass() }
     port_receive_polled(port: &mut VirtualPort, byte: u8) -> bool { port.receive_polled(byte) }
+    port_receive_first(port: &mut VirtualPort, byte: u8) -> Option<Todo> { port.receive_first(byte) }
+    port_read_last(port: &mut VirtualPort) -> Option<Answer> { port.read_last() }
     port_receive(port: &mut VirtualPort, input: &[u8]) -> Received { port.receive(input) }
     port_receive_one(port: &mut VirtualPort, byte: u8, errors: LSR) -> Result<Todo, InputError> { port.receive_one(byte, errors) }
     port_set_lines(port: &mut VirtualPort, inputs: MSR) -> Result<Todo, InputError> { port.set_lines(inputs) }
@@ -138,6 +142,10 @@ calls! {
     serial_writer_mut(serial: &mut Console) -> &mut Device { serial.writer_mut() }
     serial_read(serial: &mut Console, offset: u8) -> u8 { serial.read(offset) }
     serial_write(serial: &mut Console, offset: u8, value: u8) -> Result<(), Failed> { serial.write(offset, value) }
+    serial_write_bytes(serial: &mut Console, offset: u8, values: &[u8]) -> Result<(), Failed> { serial.write_bytes(offset, values) }
+    serial_set_clock(serial: &mut Console, has_clock: bool) { serial.set_clock(has_clock) }
+    serial_is_timeout_to_come(serial: &Console) -> bool { serial.is_timeout_to_come() }
+    serial_timeout_passed(serial: &mut Console) -> Result<(), Failed> { serial.timeout_passed() }
     serial_fifo_capacity(serial: &Console) -> usize { serial.fifo_capacity() }
     serial_enqueue(serial: &mut Console, input: &[u8]) -> Result<usize, Failed> { serial.enqueue_raw_bytes(input) }
     serial_set_lines(serial: &mut Console, inputs: MSR) -> Result<(), Failed> { serial.set_lines(inputs) }

@@ -356,6 +356,7 @@ EXAMPLES |= {
     "uart_live::live::LiveChip::write": compiles(f"{CHIP}, offset: u8, value: u8, elapsed: u16"),
     "uart_live::live::LiveChip::sends_at_once": compiles(f"{CHIP}, value: u8"),
     "uart_live::live::LiveChip::send_at_once": compiles(f"{CHIP}, value: u8"),
+    "uart_live::live::LiveChip::raise_thr_empty": compiles(f"{CHIP}, value: u8"),
     "uart_live::live::LiveChip::ticks": compiles(f"{CHIP}, elapsed: u16"),
     "uart_live::live::LiveChip::arrive": compiles(f"{CHIP}, byte: u8"),
     "uart_live::live::LiveChip::arrive_holding_timeout": compiles(f"{CHIP}, byte: u8"),

@@ -401,6 +401,9 @@ GUARDS["uart_live::live::LiveChip::send_at_once"] = Guard(
     reason="it does nothing else",
 )
 # Of a port, whose chip is always still.
+GUARDS["uart_virtual::port::decide_at"] = Guard(
+    ["requires paced { IsPaced chip.now }", "requires level { is_high ≡ is_up chip.now }"], reason=IN_FILE
+)
 GUARDS["uart_virtual::port::decide"] = Guard(["requires { IsPaced chip.now }"], reason=IN_FILE)
 GUARDS["uart_virtual::port::finish"] = Guard(
     ["requires live { IsLive chip.old }", "requires paced { IsPaced chip.old }"], reason=IN_FILE
@@ -438,10 +441,11 @@ for access, first in (("read", "LSR"), ("write", "DATA")):
     GUARDS[f"uart_live::live::LiveChip::{access}"] = Guard(
         OFFSET, tested_by=access, panics="If the offset is 8 or more.", reason="it does nothing else"
     )
+GUARDS["uart_virtual::port::write_and_raise"] = Guard(OFFSET, tested_by="write", reason="before it changes anything")
 # Each write that is no byte for an idle transmitter is slow.
 GUARDS["uart_virtual::port::write_slowly"] = Guard(
     ["requires offset { offset < NUM_REGISTERS }", STILL],
-    tested_by="write",
+    tested_by="write_and_raise",
     reason="of the offset; the chip of a port is always still",
 )
 GUARDS["uart_virtual::port::write"] = Guard(
@@ -498,7 +502,7 @@ CASTS = {
     "uart_16550::mmio::MmioBackend::address": ["register_offset", "self . stride . get ( )"],
     **{f"uart_chip::controlling::{name}": ["offset"] for name in ("read_register", "write_register")},
     "uart_chip::receiving::is_data_pending": ["characters_of ( parts . trigger ( ) )"],
-    **{f"uart_virtual::port::{name}": ["offset"] for name in ("kind_of_read", "kind_of_write", "is_quiet", "is_fast")},
+    **{f"uart_virtual::port::{name}": ["offset"] for name in ("kind_of_read", "kind_of_write", "is_quiet", "is_fast", "write_and_raise")},
 }
 # Numbers above 65,535 that are no constants of `u32` or `u64`: the file, and the numbers. They are baud rates, and the largest wire.
 LARGE = {"uart_spec/src/config.rt": ["115_200"], "uart_events/src/event.rt": ["65_536"]}

@@ -5,9 +5,8 @@
 
 use std::arch::asm;
 use std::convert::Infallible;
-use std::io::{Sink, sink};
 use uart_16550_chip::registers::LSR;
-use uart_16550_chip::{Chip, LiveChip, NoEvents, Serial, Trigger};
+use uart_16550_chip::{Chip, LiveChip, NoEvents, Output, Serial, Trigger};
 
 pub const DATA_OFFSET: u8 = 0;
 pub const LSR_OFFSET: u8 = 5;
@@ -34,8 +33,19 @@ impl Trigger for Line {
     }
 }
 
+/// An output that takes everything and cannot fail. If it could, what drops the error would be counted with each write.
+pub struct Nowhere;
+
+impl Output for Nowhere {
+    type Error = Infallible;
+
+    fn write_bytes(&mut self, bytes: &[u8]) -> Result<usize, Infallible> {
+        Ok(bytes.len())
+    }
+}
+
 /// The device; what it sends goes nowhere.
-pub type Device = Serial<Line, NoEvents, Sink>;
+pub type Device = Serial<Line, NoEvents, Nowhere>;
 
 /// A chip, a device, and what was read, so that no call can be left out. What was read is also what is written.
 pub struct Bench {
@@ -97,7 +107,7 @@ fn rounds(bodies: &[Body]) -> Option<u8> {
     let (_, setting, round) = bodies.iter().find(|body| body.0 == name)?;
     let mut bench = Bench {
         chip: LiveChip::new(Chip::Uart16550A, 1, WIRE_ROOM).ok()?,
-        device: Serial::new(Line, sink()),
+        device: Serial::new(Line, Nowhere),
         digest: 0,
     };
     for (offset, value) in [(FCR_OFFSET, FIFO_ON), (IER_OFFSET, setting.interrupts)] {

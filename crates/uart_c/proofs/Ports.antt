@@ -1,15 +1,19 @@
 -- A port that is made or restored is sound, and stays so.
-use Rattle.std.proofs.Common.{◌≡◌, ℕ, ◌≤◌, Bool, true, false, List, [], ◌∷◌, take, refl, ap, sym, ◌∙◌, subst}
+use Rattle.std.proofs.Common.{◌≡◌, ℕ, ◌≤◌, Bool, true, false, ◌&&◌, ◌==◌, List, [], ◌∷◌, take, refl, ap, sym, ◌∙◌, subst}
 use Rattle.uart_c.specs.Port.{IsSoundPort, IsAcceptedCall, MadePortsAreSound, RestoredPortsAreSound, SoundPortsStaySound}
-use Rattle.uart_chip.specs.Chip.{ChipState, arrive_live}
+use Rattle.uart_chip.proofs.AccessMoves.{both_if}
+use Rattle.uart_chip.specs.Chip.{ChipState, after_write, arrive_live}
 use Rattle.uart_chip.specs.Chip as chip
 use Rattle.uart_events.specs.declared.event.Chip.{Chip}
 use Rattle.uart_live.proofs.Lives.{live-arrival, live-fresh, live-lines, live-read, live-take, live-ticks, live-write}
+use Rattle.uart_live.proofs.Quick.{live-pass}
 use Rattle.uart_live.specs.Live.{IsLive}
 use Rattle.uart_live.specs.declared.fixed.TheConstants.{WIRE_ROOM}
+use Rattle.uart_spec.specs.declared.registers.offsets.TheConstants as offsets
 use Rattle.uart_virtual.proofs.Tells.{told_holds}
 use Rattle.uart_virtual.proofs.Times.{paced-happen, still_settle}
 use Rattle.uart_virtual.specs.Port.{PortCall, Read, Write, Receive, ReceiveOne, SetLines, TakeOutput, PortState, IsPaced, IsStill, IsPort}
+use Rattle.uart_virtual.specs.Port.{holds_less}
 use Rattle.uart_virtual.specs.Port.{happen, settle, settle_ticks, accepted, arrive_all, kind_of, stays_up, renewed, untold, begun, fresh}
 
 -- ---- what happens in a call leaves a live chip
@@ -20,7 +24,10 @@ live-all (byte ∷ bytes) c w = live-all bytes (arrive_live byte 0 c) (live-arri
 
 live-happen : (call : PortCall) (c : ChipState) → IsAcceptedCall call → IsLive c → IsLive (happen call c)
 live-happen (Read offset) c a w = live-read offset c w
-live-happen (Write offset value) c a w = live-write offset value c a w
+live-happen (Write offset value) c a w =
+    let d : ChipState = after_write offset value c in
+    let live : IsLive d = live-write offset value c a w in
+    both_if IsLive _ _ ((offset == offsets.FCR) && holds_less c d) (live-pass d live) live
 live-happen (Receive bytes) c a w = live-all (take (accepted bytes c) bytes) c w
 live-happen (ReceiveOne byte errors) c a w = live-arrival byte errors c a w
 live-happen (SetLines inputs) c a w = live-lines inputs c a w

@@ -30,9 +30,9 @@ use uart_chip::controlling::{
     receive_room, write,
 };
 use uart_chip::receiving::ReceiverParts;
-use uart_chip::transmitting::{held_len, next_move};
+use uart_chip::transmitting::{TransmitterParts, held_len, next_move};
 use uart_spec::NUM_REGISTERS;
-use uart_spec::registers::{LSR, MSR};
+use uart_spec::registers::{LSR, MSR, offsets};
 use uart_virtual::{Kind, Seen, Todo, Told, kind_of_read, kind_of_write, settle_ticks, tell};
 
 // The ticks that a character of a port takes.
@@ -204,6 +204,20 @@ pub extern "C" fn uart_port_read(port: &mut UartPort, offset: u8, todo: &mut Uar
     value
 }
 
+// Writes a register, and raises a THR-empty interrupt if this is a write of FCR that discards bytes
+// which the transmitter held: its queue is empty then.
+fn write_and_raise(chip: &mut UartChip, offset: u8, value: u8)
+    requires { offset < NUM_REGISTERS }
+    ensures after { chip_of chip.new ≡ spec.written offset value (chip_of chip.old) }
+    ensures canonical { IsCanonical chip.old → IsCanonical chip.new }
+{
+    let held = held_len(&chip.transmitter);
+    write(chip, offset, value);
+    if offset as usize == offsets::FCR && held_len(&chip.transmitter) < held {
+        chip.transmitter.set_thr_pending(true);
+    }
+}
+
 /// The guest writes a register.
 #[unsafe(no_mangle)]
 pub extern "C" fn uart_port_write(port: &mut UartPort, offset: u8, value: u8, todo: &mut UartTodo)
@@ -214,7 +228,7 @@ pub extern "C" fn uart_port_write(port: &mut UartPort, offset: u8, value: u8, to
     ensures canonical { IsCanonicalPort port.old → IsCanonicalPort port.new }
 {
     let offset = offset % NUM_REGISTERS as u8;
-    write(&mut port.chip, offset, value);
+    write_and_raise(&mut port.chip, offset, value);
     // What comes back in loopback can take the line down for a moment, while time passes.
     let was_up = is_interrupting(&port.chip) && !is_loopback(&port.chip);
     finish(port, was_up, kind_of_write(offset), todo);

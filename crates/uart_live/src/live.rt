@@ -14,6 +14,7 @@ ghost use Rattle.uart_live.specs.Held.{arrive_holding, expire};
 ghost use Rattle.uart_live.specs.Quick.{clear_status, passed};
 ghost use Rattle.uart_live.specs.Refused.{refusal};
 ghost use Rattle.uart_spec.specs.declared.baud.TheConstants.{NUM_REGISTERS};
+ghost use Rattle.uart_spec.specs.declared.registers.interrupt_enable.TheConstants.IER;
 ghost use Rattle.uart_spec.specs.declared.registers.interrupt_status.TheConstants.ISR;
 ghost use Rattle.uart_spec.specs.declared.registers.line_control.TheConstants.LCR;
 ghost use Rattle.uart_spec.specs.declared.registers.line_status.TheConstants.LSR;
@@ -31,7 +32,7 @@ use uart_chip::receiving::{ReceiverParts, take_front};
 use uart_chip::transmitting::TransmitterParts;
 use uart_chip::{Character, Origin, Uart, room_of};
 use uart_events::{Chip, MAX_CHAR_TICKS};
-use uart_spec::registers::{LCR, LSR, MSR, offsets};
+use uart_spec::registers::{IER, LCR, LSR, MSR, offsets};
 
 // A chip all of whose memory is in arrays, without a schedule. So no call can be refused memory.
 // The wire has room for 64 bytes, as in the library for C: its owner takes them after each `ticks`.
@@ -233,6 +234,27 @@ impl LiveChip {
         sends
     }
 
+    /// Makes a THR-empty interrupt pending, as when the last byte leaves the transmitter's queue.
+    ///
+    /// For an owner who finds that a write of FCR emptied the queue: a switch of the FIFOs does so
+    /// without the interrupt. Check `is_interrupting` after it.
+    ///
+    /// # Examples
+    ///
+    /// ```
+    /// let held = chip.held_len();
+    /// chip.write(offsets::FCR as u8, value);
+    /// if chip.held_len() < held {
+    ///     chip.raise_thr_empty();
+    /// }
+    /// ```
+    pub fn raise_thr_empty(&mut self)
+        ensures { self.new ≡ spec.with_thr_pending true self.old }
+    {
+        let transmitter = self.uart.transmitter_mut();
+        transmitter.set_thr_pending(true);
+    }
+
     /// Returns the byte that is sent if the guest writes this value to DATA: cut to the word length
     /// if the chip cuts characters, else the value itself.
     #[inline]
@@ -276,6 +298,15 @@ impl LiveChip {
         ensures live { IsLive self.now }
     {
         !self.uart.ier().is_empty()
+    }
+
+    /// Returns whether the guest has the interrupt of received characters enabled.
+    #[inline]
+    pub fn has_input_interrupt_on(&self) -> bool
+        ensures on { result ≡ has_any self.now.latches.ier IER.DATA_READY.0 }
+        ensures live { IsLive self.now }
+    {
+        self.uart.ier().intersects(IER::DATA_READY)
     }
 
     /// Reads DATA for the guest, as [`LiveChip::read`] does.

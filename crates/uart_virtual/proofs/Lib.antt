@@ -4,6 +4,8 @@ pub mod Sends
 pub mod Waits
 pub mod Stays
 mod Rooms
+mod Empties
+mod Inputs
 mod Quiet
 mod Passes
 mod Polls

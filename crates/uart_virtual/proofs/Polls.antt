@@ -129,7 +129,7 @@ off_down c off =
     let none : c.latches.ier ≡ 0 = grind (arith, common_steps, off) in
     rw none refl
 
-still_all : (bytes : List ℕ) (c : ChipState) → IsLive (expire (arrive_all bytes c)) → IsStill c →
+pub still_all : (bytes : List ℕ) (c : ChipState) → IsLive (expire (arrive_all bytes c)) → IsStill c →
     settle (arrive_all bytes c) ≡ expire (arrive_all bytes c)
 still_all bytes c w s =
     settle-unmoved (arrive_all bytes c) w.whole.sound.chip (paced-all bytes c s.paced) (unmoved-all bytes c s.unmoved)
@@ -182,7 +182,7 @@ read_wire c =
     both_if (λ (d : ChipState). d.transmitter.wire ≡ c.transmitter.wire) c
     (record c { receiver = take_front c.receiver.queue c.receiver }) (is_dlab_set c.latches) refl refl
 
-read_settled : (c : ChipState) → IsLive (expire (after_read offsets.DATA c)) → IsStill c →
+pub read_settled : (c : ChipState) → IsLive (expire (after_read offsets.DATA c)) → IsStill c →
     settle (after_read offsets.DATA c) ≡ expire (after_read offsets.DATA c)
 read_settled c w s =
     settle-unmoved (after_read offsets.DATA c) w.whole.sound.chip (paced-happen (Read offsets.DATA) c s.paced)

@@ -10,11 +10,12 @@ use Rattle.uart_chip.specs.declared.receiver.Character.{Character}
 use Rattle.uart_chip.specs.declared.receiver.Origin.TheVariants.{Live}
 use Rattle.uart_chip.specs.Receiver.{ReceiverState, enter, replace, set_mark, is_unscheduled}
 use Rattle.uart_chip.specs.Chip.{ChipState, tick, ticks, is_loopback, is_dlab_set, receive_room, arrive_live, cut_of}
-use Rattle.uart_chip.specs.Chip.{interrupt, is_thr_empty}
+use Rattle.uart_chip.specs.Chip.{interrupt, is_thr_empty, after_write}
 use Rattle.uart_chip.specs.Transmitter.{room}
 use Rattle.uart_chip.proofs.AccessMoves.{both_if}
 use Rattle.uart_virtual.specs.declared.told.Todo.{Todo}
 use Rattle.uart_virtual.specs.Port.{PortState, PortCall, Read, Write, Receive, ReceiveOne, SetLines, TakeOutput, after, todo}
+use Rattle.uart_virtual.specs.Port.{holds_less}
 use Rattle.uart_virtual.specs.Port.{happen, may_make_room, kind_of, settle, settle_ticks, is_up, has_room, is_empty, seen_of, room_after}
 use Rattle.uart_virtual.specs.Port.{arrive_all, accepted}
 use Rattle.uart_virtual.specs.Laws.{after_all, some_told, reads_data, RoomIsTold, RoomIsToldAtOnce, RoomIsToldOnce}
@@ -117,9 +118,12 @@ none_made (Read offset) c r u e =
     (both_if NoRoom _ _ (offset == offsets.LSR) e (both_if NoRoom _ _ (offset == offsets.MSR) e e)))
 none_made (Write offset value) c r u e =
     let a = neither (offset == offsets.FCR) (offset == offsets.MCR) u in
+    let d : ChipState = after_write offset value c in
+    let after : NoRoom d =
     both_if NoRoom _ _ (offset == offsets.DATA) (both_if NoRoom _ _ (is_dlab_set c.latches) e e)
     (both_if NoRoom _ _ (offset == offsets.IER) (both_if NoRoom _ _ (is_dlab_set c.latches) e e)
-    (rw (a.0, a.1) (both_if NoRoom _ _ (offset == offsets.LCR) e (both_if NoRoom _ _ (offset == offsets.SPR) e e))))
+    (rw (a.0, a.1) (both_if NoRoom _ _ (offset == offsets.LCR) e (both_if NoRoom _ _ (offset == offsets.SPR) e e)))) in
+    both_if NoRoom _ _ ((offset == offsets.FCR) && holds_less c d) after after
   where
     neither : (x y : Bool) → (x || y) ≡ false → (x ≡ false) × (y ≡ false)
     neither true y e = absurd (cc)

@@ -18,7 +18,7 @@ use Rattle.std.specs.List.{list_any}
 use Rattle.uart_chip.specs.declared.receiver.Character.{Character}
 use Rattle.uart_chip.specs.Receiver.{ReceiverState, is_data_pending, is_timed_out, front_errors, unreported, has_errors, report}
 use Rattle.uart_chip.specs.Chip.{ChipState, tick, ticks, is_loopback, line_status, is_transmitter_empty}
-use Rattle.uart_chip.specs.Chip.{after_read, after_write, arrive_live, change_lines, take_wire}
+use Rattle.uart_chip.specs.Chip.{after_read, arrive_live, change_lines, take_wire}
 use Rattle.uart_chip.specs.Jumps.{timeout_after, count_down}
 use Rattle.uart_chip.proofs.Jumps.{StillFor, ticks_skip}
 use Rattle.uart_chip.proofs.Bits.{and_or}
@@ -26,6 +26,7 @@ use Rattle.uart_chip.proofs.soundness.Sounds.{latches-ticks}
 use Rattle.uart_chip.proofs.AccessMoves.{both_if}
 use Rattle.uart_live.proofs.Sends.{each, unset}
 use Rattle.uart_virtual.specs.Port.{PortCall, Read, Write, Receive, ReceiveOne, SetLines, TakeOutput}
+use Rattle.uart_virtual.specs.Port.{written}
 use Rattle.uart_virtual.specs.Port.{is_up, stays_up, happen, settle, kind_of, seen_of, is_news, accepted, arrive_all, IsStill, IsUnmoved}
 use Rattle.uart_virtual.specs.Laws.{LineStays, EachDipIsSignalled}
 use Rattle.uart_virtual.proofs.Times.{unmoved-read, unmoved-all}
@@ -54,7 +55,7 @@ pends-tick t h =
 
 -- ---- the errors of the line stay
 
-unseen : (a e g : ℕ) (d f : Bool) →
+pub unseen : (a e g : ℕ) (d f : Bool) →
     bit_and (bit_or (bit_or a (bit_or e (flag d LSR.THR_EMPTY.0))) (bit_or (flag f LSR.TRANSMITTER_EMPTY.0) g)) LSR.LINE_ERRORS.0 ≡
     bit_or (bit_or (bit_and a LSR.LINE_ERRORS.0) (bit_or (bit_and e LSR.LINE_ERRORS.0) 0)) (bit_or 0 (bit_and g LSR.LINE_ERRORS.0))
 unseen a e g true true = simp and_or refl
@@ -106,22 +107,22 @@ and-grows false q r f h = h
 at_limit : (i limit : ℕ) → (i == limit) ≡ true → (min (i + 1) limit == limit) ≡ true
 at_limit i limit h = grind (arith, common_steps)
 
-abbrev errors : ChipState → Bool
+abbrev pub errors : ChipState → Bool
 errors c = has_any c.latches.ier IER.RECEIVER_LINE_STATUS.0 && has_any (line_status c) LSR.LINE_ERRORS.0
 
-abbrev ready : ChipState → Bool
+abbrev pub ready : ChipState → Bool
 ready c = has_any c.latches.ier IER.DATA_READY.0 && is_data_pending c.fifo c.receiver
 
-abbrev timeout : ChipState → Bool
+abbrev pub timeout : ChipState → Bool
 timeout c = has_any c.latches.ier IER.DATA_READY.0 && is_timed_out c.fifo c.receiver
 
-abbrev empty : ChipState → Bool
+abbrev pub empty : ChipState → Bool
 empty c = has_any c.latches.ier IER.THR_EMPTY.0 && c.transmitter.is_thr_pending
 
-abbrev lines : ChipState → Bool
+abbrev pub lines : ChipState → Bool
 lines c = has_any c.latches.ier IER.MODEM_STATUS.0 && not (c.modem.deltas == 0)
 
-causes : (c : ChipState) → is_up c ≡ (errors c || (ready c || (timeout c || (empty c || lines c))))
+pub causes : (c : ChipState) → is_up c ≡ (errors c || (ready c || (timeout c || (empty c || lines c))))
 causes c =
     up_is (errors c) (ready c) (timeout c) (empty c) (lines c) ReceiverLineStatus ReceivedDataReady ReceptionTimeout
     TransmitterHoldingRegisterEmpty ModemStatus
@@ -193,7 +194,7 @@ either_place d n inside up = go (is_loopback d.latches) refl
 pub stays-up : (call : PortCall) (c : ChipState) (n : ℕ) → IsStill c → stays_up call (happen call c) ≡ true →
     is_up (ticks n (happen call c)) ≡ true
 stays-up (Write offset value) c n s e =
-    let d : ChipState = after_write offset value c in
+    let d : ChipState = written offset value c in
     let both = each (is_up d) (not (is_loopback d.latches)) e in
     line_stays n d (unset (is_loopback d.latches) both.1) both.0
 stays-up (Read offset) c n s e = either_place (after_read offset c) n (λ l. unmoved-read offset c s.unmoved) e

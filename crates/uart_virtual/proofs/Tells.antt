@@ -1,8 +1,8 @@
 -- Lemmas of ports.
 use Rattle.std.proofs.Common.{◌≡◌, ◌≢◌, ℕ, ◌-◌, ◌==◌, Bool, true, false, not, ◌&&◌, ◌||◌, ◌⊎◌, inl}
 use Rattle.std.proofs.Common.{inr, List, [], ◌∷◌, ◌++◌, map, take, length, if◌then◌else◌}
-use Rattle.std.proofs.Common.{refl, ap, sym, ◌∙◌, arith}
-use Rattle.std.proofs.lemmas.Bool.{or_left, or_right}
+use Rattle.std.proofs.Common.{refl, ap, sym, ◌∙◌, subst, arith}
+use Rattle.std.proofs.lemmas.Bool.{eqb-true, or_left, or_right}
 use Rattle.uart_spec.specs.declared.registers.offsets.TheConstants as offsets
 use Rattle.uart_chip.specs.Chip.{ChipState}
 use Rattle.uart_chip.specs.Transmitter.{TransmitterState, out, shift_bytes, room}
@@ -23,6 +23,7 @@ use Rattle.uart_virtual.specs.Port.{differ, arrive_all, accepted}
 use Rattle.uart_virtual.specs.Laws.{after_all, some_told, ToldStays, SignalsAreUp, EachRiseIsSignalled, ASignalCovers}
 use Rattle.uart_virtual.specs.Laws.{none_looks, NoLookCoversNothing, AFullFifoIsSignalled, NoOtherSignals}
 use Rattle.uart_virtual.specs.Laws.{acts_of, acts_of_all, BytesGoOut, FcrKeepsTheOutput}
+use Rattle.uart_virtual.specs.Laws.{can_wait, reads_data, some_at_once, EachRiseIsSignalledAtOnce, WhatCanWaitIsATimeout}
 
 -- what a call leaves was told
 pub told_holds : (kind : Kind) (was_up : Bool) (ended : ChipState) (told : Told) →
@@ -47,6 +48,20 @@ pub told_stays : ToldStays
 told_stays [] p h = h
 told_stays (call ∷ calls) p h =
     told_stays calls (after call p) (told_after call p)
+
+-- a port and what is to be told, of the chip right after what happens in a call
+pub did_call : (call : PortCall) (p : PortState) (c x : ChipState) (t : Told) → c ≡ happen call p.chip → x ≡ settle c →
+    t ≡ tell (kind_of call p.chip) (stays_up call c) (settle c) p.told → record { chip = x; told = t } ≡ after call p
+did_call call p c x t e settled told =
+    let kind : Kind = kind_of call p.chip in
+    ap (λ (u : Told). record { chip = x; told = u }) told ∙
+    (ap (λ (y : ChipState). record { chip = y; told = tell kind (stays_up call c) (settle c) p.told }) settled ∙
+    ap (λ (d : ChipState). record { chip = settle d; told = tell kind (stays_up call d) (settle d) p.told }) e)
+
+pub did_tell : (call : PortCall) (p : PortState) (c : ChipState) (it : Todo) → c ≡ happen call p.chip →
+    it ≡ todo_of (kind_of call p.chip) (stays_up call c) (settle c) p.told → it ≡ todo call p
+did_tell call p c it e told =
+    told ∙ ap (λ (d : ChipState). todo_of (kind_of call p.chip) (stays_up call d) (settle d) p.told) e
 
 -- ---- the line
 
@@ -150,6 +165,50 @@ no_other_signals call p h s =
     go (inl e) = inl (sym h.line ∙ e)
     go (inr e) = inr e
 
+-- ---- a monitor with a clock
+
+at_once : (signal reads line : Bool) → signal ≡ true → line ≡ false → (signal && not (reads && line)) ≡ true
+at_once true true false s l = refl
+at_once true false false s l = refl
+at_once true reads true s l = absurd (cc)
+at_once false reads line s l = absurd (cc)
+
+told-at-once : (calls : List PortCall) (p : PortState) → p.told.line ≡ false → (after_all calls p).told.line ≡ true →
+    some_at_once calls p ≡ true
+told-at-once [] p down up = absurd (cc)
+told-at-once (call ∷ calls) p down up =
+    go (is_up (settle (happen call p.chip))) refl (λ e. told-at-once calls (after call p) e up)
+  where
+    go : (level : Bool) → is_up (settle (happen call p.chip)) ≡ level →
+        ((after call p).told.line ≡ false → some_at_once calls (after call p) ≡ true) →
+        some_at_once (call ∷ calls) p ≡ true
+    go true e later =
+        or_left ((todo call p).signal && not (can_wait call p)) _
+        (at_once (todo call p).signal (reads_data call) p.told.line
+        (rises_from_down (is_up (settle (happen call p.chip))) p.told.line _ down e) down)
+    go false e later = or_right ((todo call p).signal && not (can_wait call p)) _ (later e)
+
+pub rise_at_once : EachRiseIsSignalledAtOnce
+rise_at_once calls p h down up = told-at-once calls p (h.line ∙ down) ((told_stays calls p h).line ∙ up)
+
+pub what_can_wait : WhatCanWaitIsATimeout
+what_can_wait (Read offset) p h s w = (down (no_other_signals (Read offset) p h s), signals_up (Read offset) p s)
+  where
+    line : p.told.line ≡ true
+    line = (each (reads_data (Read offset)) p.told.line w).1
+
+    down : (is_up p.chip ≡ false) ⊎ ((stays_up (Read offset) (happen (Read offset) p.chip) ≡ false) ⊎
+        ((brings (Read offset) p.chip ≡ true) × (has_room (after (Read offset) p).chip ≡ false))) →
+        is_up (happen (Read offset) p.chip) ≡ false
+    down (inl e) = let no : true ≡ false = sym line ∙ (h.line ∙ e) in absurd (cc)
+    down (inr (inl e)) = e
+    down (inr (inr (b, r))) = absurd (cc)
+what_can_wait (Write offset value) p h s w = absurd (cc)
+what_can_wait (Receive bytes) p h s w = absurd (cc)
+what_can_wait (ReceiveOne byte errors) p h s w = absurd (cc)
+what_can_wait (SetLines inputs) p h s w = absurd (cc)
+what_can_wait (TakeOutput count) p h s w = absurd (cc)
+
 -- ---- output
 
 acts-append : (xs ys : List Act) (c : ChipState) → live.after_all (xs ++ ys) c ≡ live.after_all ys (live.after_all xs c)
@@ -160,27 +219,49 @@ acts-arrive : (bytes : List ℕ) (c : ChipState) → live.after_all (map (λ (by
 acts-arrive [] c = refl
 acts-arrive (byte ∷ bytes) c = acts-arrive bytes (live.after (Arrive byte 0) c)
 
-acts-call : (call : PortCall) (p : PortState) → live.after_all (acts_of call p.chip) p.chip ≡ (after call p).chip
-acts-call (Receive bytes) p =
+-- the acts of a careful call leave the chip of the port: FCR is not written
+acts-call : (call : PortCall) (p : PortState) → AllInTurn IsCareful (acts_of call p.chip) p.chip →
+    live.after_all (acts_of call p.chip) p.chip ≡ (after call p).chip
+acts-call (Receive bytes) p h =
     let xs : List ℕ = take (accepted bytes p.chip) bytes in
     acts-append (map (λ (byte : ℕ). Arrive byte 0) xs) (Ticks settle_ticks ∷ []) p.chip ∙
     ap settle (acts-arrive xs p.chip)
-acts-call (Read offset) p = refl
-acts-call (Write offset value) p = refl
-acts-call (ReceiveOne byte errors) p = refl
-acts-call (SetLines inputs) p = refl
-acts-call (TakeOutput count) p = refl
+acts-call (Read offset) p h = refl
+acts-call (Write offset value) p h = go (offset == offsets.FCR) refl
+  where
+    go : (b : Bool) → (offset == offsets.FCR) ≡ b →
+        live.after_all (acts_of (Write offset value) p.chip) p.chip ≡ (after (Write offset value) p).chip
+    go true e = absurd (h.0.0 (eqb-true offset offsets.FCR e))
+    go false e = rw e refl
+acts-call (ReceiveOne byte errors) p h = refl
+acts-call (SetLines inputs) p h = refl
+acts-call (TakeOutput count) p h = refl
 
-acts-all : (calls : List PortCall) (p : PortState) → live.after_all (acts_of_all calls p) p.chip ≡ (after_all calls p).chip
-acts-all [] p = refl
-acts-all (call ∷ calls) p =
-    acts-append (acts_of call p.chip) (acts_of_all calls (after call p)) p.chip ∙
-    (ap (λ (c : ChipState). live.after_all (acts_of_all calls (after call p)) c) (acts-call call p) ∙ acts-all calls (after call p))
+-- acts in turn that are careful are so in two parts
+careful-first : (xs ys : List Act) (c : ChipState) → AllInTurn IsCareful (xs ++ ys) c → AllInTurn IsCareful xs c
+careful-first [] ys c h = tt
+careful-first (x ∷ xs) ys c h = (h.0, careful-first xs ys (live.after x c) h.1)
+
+careful-rest : (xs ys : List Act) (c : ChipState) → AllInTurn IsCareful (xs ++ ys) c →
+    AllInTurn IsCareful ys (live.after_all xs c)
+careful-rest [] ys c h = h
+careful-rest (x ∷ xs) ys c h = careful-rest xs ys (live.after x c) h.1
+
+acts-all : (calls : List PortCall) (p : PortState) → AllInTurn IsCareful (acts_of_all calls p) p.chip →
+    live.after_all (acts_of_all calls p) p.chip ≡ (after_all calls p).chip
+acts-all [] p h = refl
+acts-all (call ∷ calls) p h =
+    let first : List Act = acts_of call p.chip in
+    let rest : List Act = acts_of_all calls (after call p) in
+    let same = acts-call call p (careful-first first rest p.chip h) in
+    acts-append first rest p.chip ∙
+    (ap (λ (c : ChipState). live.after_all rest c) same ∙
+    acts-all calls (after call p) (subst (λ (c : ChipState). AllInTurn IsCareful rest c) same (careful-rest first rest p.chip h)))
 
 pub bytes_go : BytesGoOut
 bytes_go calls p h =
     let acts : List Act = acts_of_all calls p in
-    ap (λ (c : ChipState). in_turn taken acts p.chip ++ out c.transmitter) (sym (acts-all calls p)) ∙ bytes_leave acts p.chip h
+    ap (λ (c : ChipState). in_turn taken acts p.chip ++ out c.transmitter) (sym (acts-all calls p h)) ∙ bytes_leave acts p.chip h
 
 -- a write of FCR finds nothing to discard
 abbrev Keeps : List ℕ → TransmitterState → Type 0

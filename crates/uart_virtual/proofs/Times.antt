@@ -1,5 +1,5 @@
 -- After the time of a call nothing is left to happen.
-use Rattle.std.proofs.Common.{◌≡◌, ℕ, zero, suc, ◌+◌, ◌*◌, ◌≤◌, Bool, true, false, ◌==◌, ◌⊎◌, inl, inr, min, nat_lt}
+use Rattle.std.proofs.Common.{◌≡◌, ℕ, zero, suc, ◌+◌, ◌*◌, ◌≤◌, Bool, true, false, ◌&&◌, ◌==◌, ◌⊎◌, inl, inr, min, nat_lt}
 use Rattle.std.proofs.Common.{List, [], ◌∷◌, ◌++◌, length, take, drop, Option, Some, None, refl, ap, sym, ◌∙◌, subst, arith, if◌then◌else◌}
 use Rattle.std.proofs.lemmas.Bool.{cases_lt}
 use Rattle.std.proofs.lemmas.Grind.{common_steps}
@@ -20,7 +20,7 @@ use Rattle.uart_chip.proofs.soundness.Sounds.{char_ticks-tick, steady_ticks}
 use Rattle.uart_live.specs.Held.{expire}
 use Rattle.uart_live.specs.declared.fixed.TheConstants.{WIRE_ROOM}
 use Rattle.uart_chip.proofs.AccessMoves.{both_if}
-use Rattle.uart_virtual.specs.Port.{PortCall, Read, Write, Receive, happen, settle, settle_ticks}
+use Rattle.uart_virtual.specs.Port.{PortCall, Read, Write, Receive, happen, holds_less, settle, settle_ticks}
 use Rattle.uart_virtual.specs.Port.{accepted, arrive_all, IsStill, IsPaced, IsUnmoved}
 
 -- ---- the ticks of a character stay the same, and the room of the wire
@@ -81,7 +81,10 @@ pace-all (byte ∷ bytes) c h = pace-all bytes _ h
 
 pace-happen : (call : PortCall) (c : ChipState) → Pace c.transmitter → Pace (happen call c).transmitter
 pace-happen (Read offset) c h = lasts-read Pace pace_lasts offset c h
-pace-happen (Write offset value) c h = pace-write offset value c h
+pace-happen (Write offset value) c h =
+    let d : ChipState = after_write offset value c in
+    let w = pace-write offset value c h in
+    both_if (λ (x : ChipState). Pace x.transmitter) _ _ ((offset == offsets.FCR) && holds_less c d) w w
 pace-happen (Receive bytes) c h = pace-all (take (accepted bytes c) bytes) c h
 pace-happen _ c h = h
 

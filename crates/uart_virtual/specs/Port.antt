@@ -5,6 +5,7 @@ use Rattle.uart_chip.specs.declared.chip.ChipData.{ChipData}
 use Rattle.uart_chip.specs.Chip as chip
 use Rattle.uart_chip.specs.Chip.{ChipState, interrupt, ticks, arrive_live, take_wire}
 use Rattle.uart_chip.specs.Chip.{change_lines, after_read, after_write, is_loopback, receive_room, cut_of}
+use Rattle.uart_chip.specs.Chip.{with_thr_pending, is_dlab_set}
 use Rattle.uart_chip.specs.Jumps.{next_move}
 use Rattle.uart_chip.specs.Receiver.{waiting}
 use Rattle.uart_chip.specs.Sending.{sends_at_once}
@@ -15,6 +16,7 @@ use Rattle.uart_events.specs.declared.event.Chip.{Chip}
 use Rattle.uart_live.specs.Live.{IsLive}
 use Rattle.uart_live.specs.declared.fixed.TheConstants.{WIRE_ROOM}
 use Rattle.uart_spec.specs.Bits.{has_any}
+use Rattle.uart_spec.specs.declared.registers.interrupt_enable.TheConstants.IER
 use Rattle.uart_spec.specs.declared.registers.line_status.TheConstants.LSR
 use Rattle.uart_spec.specs.declared.registers.offsets.TheConstants as offsets
 use Rattle.uart_virtual.specs.declared.told.Kind.{Kind}
@@ -73,10 +75,21 @@ arrive_all (byte ∷ bytes) c = arrive_all bytes (arrive_live byte 0 c)
 abbrev pub accepted : List ℕ → ChipState → ℕ
 accepted bytes c = min (length bytes) (receive_room c)
 
+-- the transmitter holds fewer bytes than before
+abbrev pub holds_less : (before after : ChipState) → Bool
+holds_less before after = nat_lt (length (held after.transmitter)) (length (held before.transmitter))
+
+-- a write of a register. If it is one of FCR that discards bytes which the transmitter held, its queue is empty, and a
+-- THR-empty interrupt is pending, as when the last byte leaves the queue
+abbrev pub written : (offset value : ℕ) → ChipState → ChipState
+written offset value c =
+    let d = after_write offset value c in
+    if (offset == offsets.FCR) && holds_less c d then with_thr_pending true d else d
+
 -- the chip right after what happens in a call, before time passes
 abbrev pub happen : PortCall → ChipState → ChipState
 happen (Read offset) c = after_read offset c
-happen (Write offset value) c = after_write offset value c
+happen (Write offset value) c = written offset value c
 happen (Receive bytes) c = arrive_all (take (accepted bytes c) bytes) c
 happen (ReceiveOne byte errors) c = arrive_live byte errors c
 happen (SetLines inputs) c = change_lines inputs c
@@ -289,6 +302,16 @@ reads_polled p = is_polled p && (p.told.has_room && (p.told.spare == 0))
 -- after a byte of input the monitor has nothing to do: no interrupt is enabled, and the monitor knows of room
 abbrev pub receives_polled : PortState → Bool
 receives_polled p = is_polled p && (p.told.has_room && has_room p.chip)
+
+-- a byte of input comes while none waits: there is room for it, of which the monitor knows, and the guest has the
+-- interrupt of received characters enabled
+abbrev pub receives_first : PortState → Bool
+receives_first p =
+    is_empty p.chip && (p.told.has_room && (has_any p.chip.latches.ier IER.DATA_READY.0 && has_room p.chip))
+
+-- a read of DATA takes the last character that waits
+abbrev pub reads_last : PortState → Bool
+reads_last p = (length (waiting p.chip.receiver) == 1) && not (is_dlab_set p.chip.latches)
 
 -- the host can take a byte that the guest writes to DATA before it is on the output: it would be alone there at once,
 -- and a fall of the line within the call makes no difference

@@ -4,10 +4,12 @@
 ghost use Rattle.uart_virtual.specs.Laws.{LevelIsTold, ToldStays, SignalsAreUp, LineStays};
 ghost use Rattle.uart_virtual.specs.Laws.{EachRiseIsSignalled, EachDipIsSignalled};
 ghost use Rattle.uart_virtual.specs.Laws.{AFullFifoIsSignalled, NoOtherSignals};
+ghost use Rattle.uart_virtual.specs.Laws.{EachRiseIsSignalledAtOnce, WhatCanWaitIsATimeout};
 ghost use Rattle.uart_virtual.specs.Laws.{ASignalCovers, NoLookCoversNothing};
 ghost use Rattle.uart_virtual.specs.Laws.{RoomIsTold, RoomIsToldAtOnce, RoomIsToldOnce};
 ghost use Rattle.uart_virtual.specs.Laws.{RefusalLeavesNoRoom, RestoredIsTold};
 ghost use Rattle.uart_virtual.specs.Laws.{BytesGoOut, EmptyThrTakesAByte, FcrKeepsTheOutput};
+ghost use Rattle.uart_virtual.specs.Laws.{AnEmptiedQueueInterrupts};
 ghost use Rattle.uart_virtual.specs.Laws.{ASlowHostShows, HeldOnlyIfFull, WaitingInterrupts};
 
 /// The level that each call tells is that of the line, and what a port keeps of what it told stays
@@ -35,6 +37,15 @@ pub fn rises_are_signalled()
     ensures stays { LineStays }
 {}
 
+/// A monitor with a clock may put off a signal that a read of DATA asks for while the line was up,
+/// until the time of a reception timeout has passed, and drop it if the line falls before: such a
+/// signal is for a reception timeout, and each rise from call to call is signalled by a call whose
+/// signal is not of this kind.
+pub fn timeouts_can_wait()
+    ensures rise { EachRiseIsSignalledAtOnce }
+    ensures waits { WhatCanWaitIsATimeout }
+{}
+
 /// The monitor is told of room for input after there was none: by the call after which nothing
 /// waits, and at once if another call than a read of DATA makes room. A restored port tells too. A
 /// call that refuses input leaves no room.
@@ -48,11 +59,13 @@ pub fn room_is_told()
 
 /// No byte that the guest writes is lost, and the order is kept, if the guest writes only to an
 /// empty transmitter, outside of loopback, and does not write FCR. A write of FCR discards nothing
-/// as long as the transmitter's queue is empty. A host that takes nothing shows in LSR.
+/// as long as the transmitter's queue is empty. A queue that is emptied interrupts a guest that has
+/// this enabled, whether its bytes leave or are discarded. A host that takes nothing shows in LSR.
 pub fn bytes_go_out()
     ensures out { BytesGoOut }
     ensures taken { EmptyThrTakesAByte }
     ensures fcr { FcrKeepsTheOutput }
+    ensures emptied { AnEmptiedQueueInterrupts }
     ensures slow { ASlowHostShows }
 {}
 

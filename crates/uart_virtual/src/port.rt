@@ -253,6 +253,27 @@ pub fn tell(seen: Seen, was_up: bool, told: &mut Told, kind: Kind) -> Todo
     todo
 }
 
+// Returns what is to be told after a call that leaves the line at this level, and notes that it
+// was told.
+#[inline(always)]
+fn decide_at(chip: &LiveChip, is_high: bool, was_up: bool, told: &mut Told, kind: Kind) -> Todo
+    requires paced { IsPaced chip.now }
+    requires level { is_high ≡ is_up chip.now }
+    ensures holds { IsTold (record { chip = chip.now; told = told.new }) }
+    ensures told { told.new ≡ tell kind was_up chip.now told.old }
+    ensures todo { result ≡ todo_of kind was_up chip.now told.old }
+{
+    let has_room = chip.receive_room() != 0;
+    let seen = Seen {
+        level: is_high,
+        has_room,
+        is_empty: chip.waiting_len() == 0,
+        fifo: chip.has_fifo_on(),
+        ready: WIRE_ROOM - chip.wire_room(),
+    };
+    tell(seen, was_up, told, kind)
+}
+
 // Returns what is to be told after a call, and notes that it was told.
 #[inline(always)]
 fn decide(chip: &LiveChip, was_up: bool, told: &mut Told, kind: Kind) -> Todo
@@ -262,15 +283,8 @@ fn decide(chip: &LiveChip, was_up: bool, told: &mut Told, kind: Kind) -> Todo
     ensures told { told.new ≡ tell kind was_up chip.now told.old }
     ensures todo { result ≡ todo_of kind was_up chip.now told.old }
 {
-    let has_room = chip.receive_room() != 0;
-    let seen = Seen {
-        level: chip.is_interrupting(),
-        has_room,
-        is_empty: chip.waiting_len() == 0,
-        fifo: chip.has_fifo_on(),
-        ready: WIRE_ROOM - chip.wire_room(),
-    };
-    tell(seen, was_up, told, kind)
+    let level = chip.is_interrupting();
+    decide_at(chip, level, was_up, told, kind)
 }
 
 // Returns what is to be told after a call that leaves the line and the room as they were.
@@ -404,13 +418,13 @@ fn send(chip: &mut LiveChip, value: u8, told: &mut Told) -> Todo
     requires still { IsStill chip.old }
     requires sends { sends_at_once chip.old ≡ true }
     requires settled { port.ignores_falls told.old ≡ true }
-    ensures after { chip.new ≡ settle (spec.after_write offsets.DATA value chip.old) }
+    ensures after { chip.new ≡ settle (port.written offsets.DATA value chip.old) }
     ensures still { IsStill chip.new }
     ensures holds { IsTold (record { chip = chip.new; told = told.new }) }
-    ensures told { let c = spec.after_write offsets.DATA value chip.old in
+    ensures told { let c = port.written offsets.DATA value chip.old in
         let call = Write offsets.DATA value in
         told.new ≡ tell (kind_of call chip.old) (stays_up call c) (settle c) told.old }
-    ensures todo { let c = spec.after_write offsets.DATA value chip.old in
+    ensures todo { let c = port.written offsets.DATA value chip.old in
         let call = Write offsets.DATA value in
         result ≡ todo_of (kind_of call chip.old) (stays_up call c) (settle c) told.old }
 {
@@ -419,22 +433,38 @@ fn send(chip: &mut LiveChip, value: u8, told: &mut Told) -> Todo
     decide(chip, false, told, kind)
 }
 
+// Writes a register, and raises a THR-empty interrupt if this is a write of FCR that discards bytes
+// which the transmitter held.
+//
+// A switch of the FIFOs empties the queue too, and the chip leaves the interrupt as it was then. A
+// guest that prints by interrupts would wait for ever.
+fn write_and_raise(chip: &mut LiveChip, offset: u8, value: u8)
+    requires { offset < NUM_REGISTERS }
+    ensures { chip.new ≡ port.written offset value chip.old }
+{
+    let held = chip.held_len();
+    chip.write(offset, value);
+    if offset as usize == offsets::FCR && chip.held_len() < held {
+        chip.raise_thr_empty();
+    }
+}
+
 // Writes a register and lets the time of a call pass.
 #[inline(never)]
 fn write_slowly(chip: &mut LiveChip, offset: u8, value: u8, told: &mut Told) -> Todo
     requires offset { offset < NUM_REGISTERS }
     requires still { IsStill chip.old }
-    ensures after { chip.new ≡ settle (spec.after_write offset value chip.old) }
+    ensures after { chip.new ≡ settle (port.written offset value chip.old) }
     ensures still { IsStill chip.new }
     ensures holds { IsTold (record { chip = chip.new; told = told.new }) }
-    ensures told { let c = spec.after_write offset value chip.old in
+    ensures told { let c = port.written offset value chip.old in
         let call = Write offset value in
         told.new ≡ tell (kind_of call chip.old) (stays_up call c) (settle c) told.old }
-    ensures todo { let c = spec.after_write offset value chip.old in
+    ensures todo { let c = port.written offset value chip.old in
         let call = Write offset value in
         result ≡ todo_of (kind_of call chip.old) (stays_up call c) (settle c) told.old }
 {
-    chip.write(offset, value);
+    write_and_raise(chip, offset, value);
     // What comes back in loopback takes the line down for four ticks if a timeout was due, and up
     // again. So there a line that is up before and after counts as one that fell.
     let was_up = chip.is_interrupting() && !chip.is_loopback();
@@ -446,13 +476,13 @@ fn write_slowly(chip: &mut LiveChip, offset: u8, value: u8, told: &mut Told) -> 
 fn write(chip: &mut LiveChip, offset: u8, value: u8, told: &mut Told) -> Todo
     requires offset { offset < NUM_REGISTERS }
     requires still { IsStill chip.old }
-    ensures after { chip.new ≡ settle (spec.after_write offset value chip.old) }
+    ensures after { chip.new ≡ settle (port.written offset value chip.old) }
     ensures still { IsStill chip.new }
     ensures holds { IsTold (record { chip = chip.new; told = told.new }) }
-    ensures told { let c = spec.after_write offset value chip.old in
+    ensures told { let c = port.written offset value chip.old in
         let call = Write offset value in
         told.new ≡ tell (kind_of call chip.old) (stays_up call c) (settle c) told.old }
-    ensures todo { let c = spec.after_write offset value chip.old in
+    ensures todo { let c = port.written offset value chip.old in
         let call = Write offset value in
         result ≡ todo_of (kind_of call chip.old) (stays_up call c) (settle c) told.old }
 {
@@ -592,6 +622,40 @@ impl VirtualPort {
         Some(value)
     }
 
+    // Returns whether a read of DATA takes the last character that waits.
+    #[inline]
+    fn reads_last(&self) -> bool
+        ensures { result ≡ port.reads_last self.now }
+    {
+        self.chip.waiting_len() == 1 && !self.chip.is_dlab_set()
+    }
+
+    /// Reads DATA for the guest, if one character waits. Returns its value, and what the monitor
+    /// has to do. Otherwise returns `None`, and nothing changes.
+    ///
+    /// The value, the effect and what has to be done are those of [`VirtualPort::read`].
+    // No reception timeout is to come when no character waits. So the line is asked for once.
+    #[inline]
+    pub fn read_last(&mut self) -> Option<Answer>
+        ensures last { is_some result ≡ port.reads_last self.old }
+        ensures value { (answer : Answer) → result ≡ Some answer →
+            answer.value ≡ spec.answer offsets.DATA self.old.chip }
+        ensures read { is_some result ≡ true → self.new ≡ port.after (Read offsets.DATA) self.old }
+        ensures todo { (answer : Answer) → result ≡ Some answer →
+            answer.todo ≡ port.todo (Read offsets.DATA) self.old }
+        ensures left { is_some result ≡ false → self.new ≡ self.old }
+    {
+        if !self.reads_last() {
+            return None;
+        }
+        let value = self.chip.read_data();
+        let level = self.chip.is_interrupting();
+        LiveChip::expire_timeout(&mut self.chip);
+        let kind = kind_of_read(offsets::DATA as u8);
+        let todo = decide_at(&self.chip, level, level, &mut self.told, kind);
+        Some(Answer { value, todo })
+    }
+
     // Returns whether a byte that the guest writes to DATA would be alone on the output at once,
     // and a fall of the line makes no difference.
     #[inline]
@@ -729,6 +793,43 @@ impl VirtualPort {
         LiveChip::expire_timeout(&mut self.chip);
         self.told.has_room = self.chip.receive_room() != 0;
         true
+    }
+
+    // Returns whether a byte of input comes while none waits, there is room for it, of which the
+    // monitor knows, and the guest has the interrupt of received characters enabled.
+    #[inline]
+    fn receives_first(&self) -> bool
+        ensures first { result ≡ port.receives_first self.now }
+        ensures live { IsLive self.now.chip }
+    {
+        let is_on = self.chip.has_input_interrupt_on();
+        let has_room = self.chip.receive_room() != 0;
+        self.chip.waiting_len() == 0 && (self.told.has_room && (is_on && has_room))
+    }
+
+    /// Receives a byte while none waits, for a guest that has the interrupt of received characters
+    /// enabled: if the monitor knows of room. Returns what the monitor has to do. Otherwise returns
+    /// `None`, and nothing changes.
+    ///
+    /// The effect and what has to be done are those of [`VirtualPort::receive`].
+    // A character that waits takes the line up when the call ends, and one that comes while none
+    // waits takes no line down. So the chip is not asked for the line.
+    #[inline]
+    pub fn receive_first(&mut self, byte: u8) -> Option<Todo>
+        ensures first { is_some result ≡ port.receives_first self.old }
+        ensures received { is_some result ≡ true →
+            self.new ≡ port.after (Receive (byte ∷ [])) self.old }
+        ensures todo { (todo : Todo) → result ≡ Some todo →
+            todo ≡ port.todo (Receive (byte ∷ [])) self.old }
+        ensures left { is_some result ≡ false → self.new ≡ self.old }
+    {
+        if !self.receives_first() {
+            return None;
+        }
+        let _arrived = self.chip.arrive_in_room(byte);
+        LiveChip::expire_timeout(&mut self.chip);
+        let todo = decide_at(&self.chip, true, true, &mut self.told, INPUT);
+        Some(todo)
     }
 
     /// Receives a character with these errors: parity, framing and break, as bits of LSR. Returns

@@ -324,6 +324,121 @@ fn a_full_fifo_is_signalled() {
     assert!(guest.edges.is_latched.get());
 }
 
+/// A guest whose monitor has a clock. Time passes while the guest is in none of its handlers.
+fn clocked(fcr: u8, ier: u8, to_send: &[u8]) -> Guest {
+    let mut guest = Guest::new(fcr, ier, to_send);
+    guest.serial.set_clock(true);
+    guest
+}
+
+impl Guest {
+    /// Runs a handler as long as an edge is latched, or one is put off. Returns how often time had to pass.
+    fn interrupts_and_time(&mut self, handler: fn(&mut Self)) -> u32 {
+        for times in 0..100_000 {
+            self.interrupts(handler);
+            if !self.serial.is_timeout_to_come() {
+                return times;
+            }
+            self.serial.timeout_passed().unwrap();
+            assert!(!self.serial.is_timeout_to_come());
+        }
+        panic!("time without end");
+    }
+}
+
+/// What a guest reads that is called for each piece, and whose monitor has a clock: everything.
+fn all_is_read_with_a_clock(handler: fn(&mut Guest), fcr: u8, longest: usize) {
+    let mut guest = clocked(fcr, 0x01, &[]);
+    let mut typed = Vec::new();
+    for length in (1..=longest).chain((1..=longest).rev()) {
+        let piece = vec![length as u8; length];
+        assert_eq!(guest.serial.enqueue_raw_bytes(&piece).unwrap(), length);
+        typed.extend(piece);
+        guest.interrupts_and_time(handler);
+        assert_eq!(guest.received, typed, "FCR {fcr:#04x}");
+    }
+}
+
+#[test]
+fn with_a_clock_each_handler_reads_all_that_is_typed() {
+    for fcr in LEVELS {
+        all_is_read_with_a_clock(linux, fcr, 16);
+        all_is_read_with_a_clock(xv6, fcr, 16);
+    }
+    all_is_read_with_a_clock(trigger_level, 0x87, 15);
+    all_is_read_with_a_clock(trigger_level_by_lsr, 0x87, 15);
+    for handler in [one_by_lsr, one_by_isr, blind_reader] {
+        all_is_read_with_a_clock(handler, 0xc7, 13);
+    }
+}
+
+#[test]
+fn with_a_clock_each_handler_sends_its_text() {
+    for handler in [
+        linux,
+        xv6,
+        one_by_lsr,
+        one_by_isr,
+        trigger_level,
+        blind_sender,
+    ] {
+        let mut guest = clocked(0x87, 0x02, TEXT);
+        assert_eq!(guest.interrupts_and_time(handler), 0);
+        assert_eq!(guest.serial.writer(), TEXT);
+    }
+}
+
+/// One signal for each piece, and no interrupt for nothing: the handler has read the rest before the time has passed.
+#[test]
+fn with_a_clock_linux_is_signalled_once_for_16_characters() {
+    let mut guest = clocked(0x81, 0x01, &[]);
+    for _ in 0..100 {
+        guest.serial.enqueue_raw_bytes(&[0; 16]).unwrap();
+        assert_eq!(guest.interrupts_and_time(linux), 0);
+    }
+    assert_eq!((guest.received.len(), guest.edges.count.get()), (1600, 100));
+}
+
+/// What is put off is told, comes when the time has passed, and falls away with the line. A clock that is late loses nothing.
+#[test]
+fn what_is_put_off_comes_unless_the_line_falls() {
+    let mut guest = clocked(0x81, 0x01, &[]);
+    for handler in [trigger_level_by_lsr, linux] {
+        guest.serial.enqueue_raw_bytes(&[0; 12]).unwrap();
+        assert!(guest.edges.is_latched.take());
+        trigger_level_by_lsr(&mut guest);
+        assert!(guest.serial.is_timeout_to_come() && guest.serial.level());
+        assert!(!guest.edges.is_latched.get());
+        // More input that does not fill the FIFO is no signal, and what is put off stays so.
+        guest.serial.enqueue_raw_bytes(b"x").unwrap();
+        assert!(guest.serial.is_timeout_to_come() && !guest.edges.is_latched.get());
+        guest.serial.timeout_passed().unwrap();
+        assert!(guest.edges.is_latched.get());
+        guest.interrupts_and_time(handler);
+        assert_eq!(guest.read(LSR) & RECEIVED, 0);
+    }
+    let before = guest.edges.count.get();
+    guest.serial.enqueue_raw_bytes(&[0; 12]).unwrap();
+    guest.edges.is_latched.take();
+    (0..12).for_each(|_| guest.receive());
+    assert!(!guest.serial.level() && !guest.serial.is_timeout_to_come());
+    guest.serial.timeout_passed().unwrap();
+    assert_eq!(guest.edges.count.get(), before + 1);
+}
+
+/// Input that fills the FIFO is signalled at once, and nothing is put off any more.
+#[test]
+fn a_full_fifo_is_signalled_though_a_timeout_is_to_come() {
+    let mut guest = clocked(0x81, 0x01, &[]);
+    guest.serial.enqueue_raw_bytes(&[0; 16]).unwrap();
+    guest.edges.is_latched.take();
+    trigger_level_by_lsr(&mut guest);
+    guest.receive();
+    assert!(guest.serial.is_timeout_to_come());
+    assert_eq!(guest.serial.enqueue_raw_bytes(&[0; 16]).unwrap(), 9);
+    assert!(guest.edges.is_latched.get() && !guest.serial.is_timeout_to_come());
+}
+
 /// A pin that detects edges, and is driven by levels, as a PC's is by `KVM_IRQ_LINE`.
 #[derive(Clone, Default)]
 struct Pin {

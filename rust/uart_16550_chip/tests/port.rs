@@ -131,6 +131,49 @@ fn a_full_output_holds_the_guest_back() {
     assert_eq!(sent, written);
 }
 
+/// A guest with these FIFOs whose output is full: 64 bytes, one in the shift register and one in the queue.
+fn held_port(fifos: u8) -> VirtualPort {
+    let mut port = port();
+    port.write(FCR_OFFSET, fifos);
+    port.write(IER_OFFSET, IER::THR_EMPTY.bits());
+    for byte in 0..66 {
+        port.write(DATA, byte);
+    }
+    assert!(!port.level());
+    assert_eq!(port.read(LSR_OFFSET).value, 0x00);
+    port
+}
+
+#[test]
+fn a_queue_that_fcr_empties_interrupts_the_guest() {
+    for (before, written) in [(1, 0x00), (0, 0x01), (1, 0x05), (1, 0x07)] {
+        let mut port = held_port(before);
+        let todo = Todo {
+            signal: true,
+            level: true,
+            has_moved: true,
+            ready: 64,
+            ..NOTHING
+        };
+        assert_eq!(port.write(FCR_OFFSET, written), todo, "{written:02x}");
+        assert_eq!(port.read(LSR_OFFSET).value, 0x20);
+        assert_eq!(port.read(ISR_OFFSET).value & 0x0f, 0x02);
+        assert!(!port.level());
+    }
+}
+
+#[test]
+fn fcr_that_discards_nothing_does_not_interrupt() {
+    // The queue keeps its byte, or holds none.
+    let mut port = held_port(1);
+    assert!(!port.write(FCR_OFFSET, 0xc1).signal);
+    port.take_output(64);
+    assert_eq!(port.read(ISR_OFFSET).value & 0x0f, 0x02);
+    for written in [0x00, 0x01, 0x03] {
+        assert!(!port.write(FCR_OFFSET, written).signal, "{written:02x}");
+    }
+}
+
 #[test]
 fn breaks_and_modem_lines() {
     let mut port = port();
@@ -291,7 +334,11 @@ impl Plain {
     }
 
     fn write(&mut self, offset: u8, value: u8) -> Todo {
+        let held = self.chip.held_len();
         self.chip.write(offset, value);
+        if self.chip.held_len() < held {
+            self.chip.raise_thr_empty();
+        }
         let may_dip = self.is_loopback();
         self.end_call(Kind {
             moves_data: offset == DATA,
@@ -344,7 +391,7 @@ fn compare_call(random: &mut Random, port: &mut VirtualPort, plain: &mut Plain) 
         6 => {
             let offset = random.below(8) as u8;
             let value = match offset {
-                FCR_OFFSET => 0xc1 | random.byte() & 0x06,
+                FCR_OFFSET => [0xc1, 0xc0][random.below(8) / 7] | random.byte() & 0x06,
                 // DLAB and loopback now and then
                 3 | 4 => random.byte() & [0x0f, 0x0f, 0xff][random.below(3)],
                 _ => random.byte(),
@@ -381,7 +428,7 @@ fn is_nothing(todo: Todo) -> bool {
 /// Makes one of the short calls of the port, and then what it stands for. One that refuses changes nothing, as later calls show.
 fn compare_short_call(random: &mut Random, port: &mut VirtualPort, plain: &mut Plain) {
     let byte = random.byte();
-    match random.below(4) {
+    match random.below(6) {
         0 => {
             if let Some(value) = port.read_clear_status() {
                 let answer = plain.read(LSR_OFFSET);
@@ -398,6 +445,16 @@ fn compare_short_call(random: &mut Random, port: &mut VirtualPort, plain: &mut P
             if port.receive_polled(byte) {
                 let received = plain.receive(&[byte]);
                 assert!(received.count == 1 && is_nothing(received.todo));
+            }
+        }
+        3 => {
+            if let Some(answer) = port.read_last() {
+                assert_eq!(answer, plain.read(DATA));
+            }
+        }
+        4 => {
+            if let Some(todo) = port.receive_first(byte) {
+                assert_eq!(Received { count: 1, todo }, plain.receive(&[byte]));
             }
         }
         _ => match port.passing(byte) {

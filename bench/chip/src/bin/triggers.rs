@@ -38,8 +38,19 @@ impl Device for Port {
         let count = self.0.enqueue_raw_bytes(bytes).expect("it is received");
         assert_eq!(count, bytes.len());
     }
+
+    fn pass_time(&mut self) {
+        self.0.timeout_passed().expect("it is triggered");
+    }
+}
+
+fn port(edges: Edges, has_clock: bool) -> Port {
+    let mut serial = Serial::new(Line(edges), sink());
+    serial.set_clock(has_clock);
+    Port(serial)
 }
 
 fn main() {
-    linux::run("Serial", |edges| Port(Serial::new(Line(edges), sink())));
+    linux::run("Serial", |edges| port(edges, false));
+    linux::run("with clock", |edges| port(edges, true));
 }

@@ -207,6 +207,19 @@ pub mod receiver {}
 ///
 /// It uses [`has_any`](uart_spec::proved::bits#has_any); `ChipState`, `line_status` of this file; `is_data_pending`, `is_timed_out` of `crates/uart_chip/specs/Receiver.antt`.
 ///
+/// <span id="with_thr_pending"></span>
+///
+/// # `with_thr_pending`
+///
+/// Whether a THR-empty interrupt is pending.
+///
+/// ```text
+/// abbrev pub with_thr_pending : Bool → ChipState → ChipState
+/// with_thr_pending pending c = record c { transmitter = record c.transmitter { is_thr_pending = pending } }
+/// ```
+///
+/// It uses `ChipState` of this file.
+///
 /// <span id="answer"></span>
 ///
 /// # `answer`
@@ -246,7 +259,7 @@ pub mod receiver {}
 ///     else c
 /// ```
 ///
-/// It uses [`is_dlab_set`](crate::proved::chip#is_dlab_set), [`interrupt`](crate::proved::chip#interrupt); `ChipState`, `is_thr_empty`, `with_thr_pending` of this file; `take_front`, `report` of `crates/uart_chip/specs/Receiver.antt`.
+/// It uses [`is_dlab_set`](crate::proved::chip#is_dlab_set), [`interrupt`](crate::proved::chip#interrupt), [`with_thr_pending`](crate::proved::chip#with_thr_pending); `ChipState`, `is_thr_empty` of this file; `take_front`, `report` of `crates/uart_chip/specs/Receiver.antt`.
 ///
 /// <span id="after_write"></span>
 ///
@@ -268,7 +281,7 @@ pub mod receiver {}
 /// ```
 ///
 /// It uses [`is_dlab_set`](crate::proved::chip#is_dlab_set); `ChipState`, `write_data`, `with_latches`, `enable`, `control`, `control_modem` of this file; `mcr_bits` of `crates/uart_chip/specs/Masks.antt`.
-#[doc(alias("fresh", "is_dlab_set", "is_loopback", "divisor", "cut_of", "ticks", "arrive_live", "receive_room", "take_wire", "change_lines", "interrupt", "answer", "after_read", "after_write"))]
+#[doc(alias("fresh", "is_dlab_set", "is_loopback", "divisor", "cut_of", "ticks", "arrive_live", "receive_room", "take_wire", "change_lines", "interrupt", "with_thr_pending", "answer", "after_read", "after_write"))]
 pub mod chip {}
 
 /// Ticks in jumps: when a character moves next, what happens until then, and how many jumps there are at most. No theorem rests on these definitions but that of `idle`, whose contract gives the effect of the ticks by those of `Chip`.

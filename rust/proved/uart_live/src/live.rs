@@ -10,7 +10,7 @@ use uart_chip::receiving::{ReceiverParts, take_front};
 use uart_chip::transmitting::TransmitterParts;
 use uart_chip::{Character, Origin, Uart, room_of};
 use uart_events::{Chip, MAX_CHAR_TICKS};
-use uart_spec::registers::{LCR, LSR, MSR, offsets};
+use uart_spec::registers::{IER, LCR, LSR, MSR, offsets};
 
 // A chip all of whose memory is in arrays, without a schedule. So no call can be refused memory.
 // The wire has room for 64 bytes, as in the library for C: its owner takes them after each `ticks`.
@@ -320,6 +320,43 @@ impl LiveChip {
         sends
     }
 
+    /// Makes a THR-empty interrupt pending, as when the last byte leaves the transmitter's queue.
+    ///
+    /// For an owner who finds that a write of FCR emptied the queue: a switch of the FIFOs does so
+    /// without the interrupt. Check `is_interrupting` after it.
+    ///
+    /// # Examples
+    ///
+    /// ```
+    /// # include!(concat!(env!("CARGO_MANIFEST_DIR"), "/examples.rs"));
+    /// # fn main() {}
+    /// # fn example(chip: &mut LiveChip, value: u8) -> Outcome<()> {
+    /// let held = chip.held_len();
+    /// chip.write(offsets::FCR as u8, value);
+    /// if chip.held_len() < held {
+    ///     chip.raise_thr_empty();
+    /// }
+    /// # Ok(()) }
+    /// ```
+    ///
+    /// # Proved
+    ///
+    /// - `self` becomes [`with_thr_pending`](uart_chip::proved::chip#with_thr_pending) `true self.old`: whether a THR-empty interrupt is pending.
+    ///
+    /// <details><summary>The clauses</summary>
+    ///
+    /// [How to read them](uart_spec::proved):
+    ///
+    /// ```text
+    /// ensures { self.new ≡ spec.with_thr_pending true self.old }
+    /// ```
+    ///
+    /// </details>
+    pub fn raise_thr_empty(&mut self) {
+        let transmitter = self.uart.transmitter_mut();
+        transmitter.set_thr_pending(true);
+    }
+
     /// Returns the byte that is sent if the guest writes this value to DATA: cut to the word length
     /// if the chip cuts characters, else the value itself.
     ///
@@ -403,6 +440,28 @@ impl LiveChip {
     #[inline]
     pub fn has_interrupts_on(&self) -> bool {
         !self.uart.ier().is_empty()
+    }
+
+    /// Returns whether the guest has the interrupt of received characters enabled.
+    ///
+    /// # Proved
+    ///
+    /// - *on*: returns [`has_any`](uart_spec::proved::bits#has_any) `self.now.latches.ier IER.DATA_READY.0`: the value has at least one of these bits.
+    /// - *live*: [`IsLive`](crate::proved::live#IsLive) `self.now`: the chip is sound and has nothing of a schedule: no event is to come, no arrival has a mark, none can be lost unnoticed; the wire has room for at most as much as a wire may have.
+    ///
+    /// <details><summary>The clauses</summary>
+    ///
+    /// [How to read them](uart_spec::proved):
+    ///
+    /// ```text
+    /// ensures on { result ≡ has_any self.now.latches.ier IER.DATA_READY.0 }
+    /// ensures live { IsLive self.now }
+    /// ```
+    ///
+    /// </details>
+    #[inline]
+    pub fn has_input_interrupt_on(&self) -> bool {
+        self.uart.ier().intersects(IER::DATA_READY)
     }
 
     /// Reads DATA for the guest, as [`LiveChip::read`] does.

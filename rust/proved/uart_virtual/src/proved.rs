@@ -265,6 +265,33 @@
 ///
 /// It uses `PortState`, `is_polled`, `has_room` of this file.
 ///
+/// <span id="receives_first"></span>
+///
+/// # `receives_first`
+///
+/// A byte of input comes while none waits: there is room for it, of which the monitor knows, and the guest has the interrupt of received characters enabled.
+///
+/// ```text
+/// abbrev pub receives_first : PortState → Bool
+/// receives_first p =
+///     is_empty p.chip && (p.told.has_room && (has_any p.chip.latches.ier IER.DATA_READY.0 && has_room p.chip))
+/// ```
+///
+/// It uses [`has_any`](uart_spec::proved::bits#has_any); `PortState`, `is_empty`, `has_room` of this file.
+///
+/// <span id="reads_last"></span>
+///
+/// # `reads_last`
+///
+/// A read of DATA takes the last character that waits.
+///
+/// ```text
+/// abbrev pub reads_last : PortState → Bool
+/// reads_last p = (length (waiting p.chip.receiver) == 1) && not (is_dlab_set p.chip.latches)
+/// ```
+///
+/// It uses [`waiting`](uart_chip::proved::receiver#waiting), [`is_dlab_set`](uart_chip::proved::chip#is_dlab_set); `PortState` of this file.
+///
 /// <span id="passes"></span>
 ///
 /// # `passes`
@@ -304,5 +331,5 @@
 /// ```
 ///
 /// It uses [`IsLive`](uart_live::proved::live#IsLive), [`chip_of`](uart_chip::proved::snapshot#chip_of), [`IsStill`](crate::proved::port#IsStill).
-#[doc(alias("settle_ticks", "settle", "is_up", "accepted", "told_after", "todo_after", "todo_of", "renewed", "untold", "begun", "fresh", "after", "todo", "IsTold", "IsStill", "nothing_new", "reads_polled", "receives_polled", "passes", "passing", "IsSaved"))]
+#[doc(alias("settle_ticks", "settle", "is_up", "accepted", "told_after", "todo_after", "todo_of", "renewed", "untold", "begun", "fresh", "after", "todo", "IsTold", "IsStill", "nothing_new", "reads_polled", "receives_polled", "receives_first", "reads_last", "passes", "passing", "IsSaved"))]
 pub mod port {}

@@ -7,4 +7,4 @@ finish-requires-clause-live c = c.is_interrupting.ensures.live
 
 pub finish-requires-clause-paced : goal.finish-requires-clause-paced
 finish-requires-clause-paced c =
-    rw c.write.ensures (paced-happen (Write c.args.offset c.args.value) c.args.chip.now c.requires.still.paced)
+    rw c.write_and_raise.ensures (paced-happen (Write c.args.offset c.args.value) c.args.chip.now c.requires.still.paced)

@@ -130,6 +130,25 @@ fn a_full_output_holds_the_guest_back() -> Result<(), Fail> {
     Ok(())
 }
 
+// A switch of the FIFOs empties the queue that a full output holds back, and the guest is told.
+#[test]
+fn a_queue_that_fcr_empties_interrupts() -> Result<(), Fail> {
+    let rt = HostRuntime;
+    for (before, fcr) in [(0x01, 0x00), (0x00, 0x01), (0x01, 0x05), (0x01, 0x07)] {
+        let mut port = VirtualPort::new(Chip::Uart16550A);
+        port.write(FCR, before);
+        port.write(IER, 0x02);
+        for byte in 0..66 {
+            port.write(DATA, byte);
+        }
+        assert!(rt; port.read(LINE).value == 0x00 && !port.level());
+        let todo = port.write(FCR, fcr);
+        assert!(rt; todo.signal && todo.level && todo.ready == 64);
+        assert!(rt; port.read(LINE).value == 0x20);
+    }
+    Ok(())
+}
+
 // A break is received as such, and the character after it overruns.
 #[test]
 fn breaks_and_overruns() -> Result<(), Fail> {

@@ -1,0 +1,167 @@
+//! A device whose monitor has a clock, beside one whose monitor has none: each signal of the second is given by the first too, or put off
+//! until time passes, or the line has fallen since.
+
+#![cfg(feature = "std")]
+
+use std::cell::Cell;
+use std::io::{Sink, sink};
+use uart_16550_chip::registers::{LSR, MSR};
+use uart_16550_chip::{Serial, SerialEvents, Trigger};
+
+const DATA: u8 = 0;
+const IER: u8 = 1;
+const FCR: u8 = 2;
+const MCR: u8 = 4;
+
+/// A line, which can be broken, and how often it was triggered.
+#[derive(Default)]
+struct Line {
+    count: Cell<u32>,
+    is_broken: Cell<bool>,
+}
+
+impl Trigger for &Line {
+    type E = ();
+
+    fn trigger(&self) -> Result<(), ()> {
+        if self.is_broken.get() {
+            return Err(());
+        }
+        self.count.set(self.count.get() + 1);
+        Ok(())
+    }
+}
+
+/// How often an interrupt was put off.
+#[derive(Default)]
+struct PutOff(Cell<u32>);
+
+impl SerialEvents for &PutOff {
+    fn buffer_read(&self) {}
+    fn out_byte(&self) {}
+    fn tx_lost_byte(&self) {}
+    fn in_buffer_empty(&self) {}
+    fn timeout_to_come(&self) {
+        self.0.set(self.0.get() + 1);
+    }
+}
+
+type Device<'a> = Serial<&'a Line, &'a PutOff, Sink>;
+
+/// Pseudorandom numbers: xorshift.
+struct Random(u64);
+
+impl Random {
+    fn below(&mut self, end: usize) -> usize {
+        self.0 ^= self.0 << 13;
+        self.0 ^= self.0 >> 7;
+        self.0 ^= self.0 << 17;
+        (self.0 % end as u64) as usize
+    }
+
+    fn byte(&mut self) -> u8 {
+        self.below(256) as u8
+    }
+}
+
+/// Makes the same random call of both. Most are those of a guest that receives.
+fn any_call(devices: &mut [Device; 2], random: &mut Random) {
+    let (kind, byte, length) = (random.below(20), random.byte(), random.below(20));
+    let offset = random.below(8) as u8;
+    let mut values = Vec::new();
+    for serial in devices {
+        match kind {
+            0..8 => values.push(serial.read(DATA)),
+            8..11 => values.push(serial.read(offset)),
+            11..15 => _ = serial.enqueue_raw_bytes(&vec![byte; length]),
+            15 => _ = serial.write(FCR, [0x81, 0xc1, 0x01 | byte & 0xc6][length % 3]),
+            16 => _ = serial.write(IER, [0x01, 0x05, byte & 0x0f][length % 3]),
+            // Loopback now and then
+            17 => _ = serial.write(MCR, byte & [0x0f, 0x1f][usize::from(length == 0)]),
+            18 => _ = serial.write(DATA, byte),
+            _ => {
+                let errors = LSR::from_bits_retain(byte) & LSR::CHARACTER_ERRORS;
+                _ = serial.enqueue_with_errors(byte, errors);
+                _ = serial.set_lines(MSR::from_bits_retain(byte));
+            }
+        }
+    }
+    assert!(values.len() < 2 || values[0] == values[1]);
+}
+
+#[test]
+fn each_signal_is_given_or_put_off() {
+    let put_off = PutOff::default();
+    let mut passed = 0;
+    for seed in 1..=50 {
+        let lines = [Line::default(), Line::default()];
+        let mut random = Random(seed);
+        let mut devices =
+            [&lines[0], &lines[1]].map(|line| Serial::with_events(line, &put_off, sink()));
+        for serial in &mut devices {
+            serial.write(FCR, 0x81).unwrap();
+            serial.write(IER, 0x01).unwrap();
+        }
+        devices[1].set_clock(true);
+        let mut counts = [0, 0];
+        // A signal that the device with a clock did not give, though the line is up since.
+        let mut is_owed = false;
+        for _call in 0..2000 {
+            any_call(&mut devices, &mut random);
+            let gave = [0, 1].map(|at| lines[at].count.get() != counts[at]);
+            is_owed = (is_owed || gave[0]) && !gave[1] && devices[1].level();
+            assert_eq!(devices[0].level(), devices[1].level());
+            assert!(!gave[1] || gave[0]);
+            assert!(!devices[0].is_timeout_to_come());
+            assert_eq!(devices[1].is_timeout_to_come(), is_owed);
+            if random.below(10) == 0 {
+                let count = lines[1].count.get();
+                devices[1].timeout_passed().unwrap();
+                assert_eq!(lines[1].count.get(), count + u32::from(is_owed));
+                passed += u32::from(is_owed);
+                is_owed = false;
+            }
+            counts = [0, 1].map(|at| lines[at].count.get());
+        }
+    }
+    let count = put_off.0.get();
+    assert!(count > 1000 && passed > 100, "{count} {passed}");
+}
+
+#[test]
+fn a_timeout_that_cannot_be_triggered_is_tried_again() {
+    let (line, put_off) = (Line::default(), PutOff::default());
+    let mut serial: Device = Serial::with_events(&line, &put_off, sink());
+    serial.set_clock(true);
+    serial.write(FCR, 0x81).unwrap();
+    serial.write(IER, 0x01).unwrap();
+    serial.enqueue_raw_bytes(&[0; 12]).unwrap();
+    (0..5).for_each(|_| _ = serial.read(DATA));
+    assert_eq!((line.count.get(), put_off.0.get()), (1, 1));
+    line.is_broken.set(true);
+    serial.timeout_passed().unwrap_err();
+    line.is_broken.set(false);
+    serial.timeout_passed().unwrap();
+    serial.timeout_passed().unwrap();
+    assert_eq!(line.count.get(), 2);
+}
+
+/// A state has nothing that is put off. A device that continues from it interrupts the guest if its line is up.
+#[test]
+fn what_is_put_off_is_not_lost_with_a_state() {
+    let (line, put_off) = (Line::default(), PutOff::default());
+    let mut serial: Device = Serial::with_events(&line, &put_off, sink());
+    serial.set_clock(true);
+    serial.write(FCR, 0x81).unwrap();
+    serial.write(IER, 0x01).unwrap();
+    serial.enqueue_raw_bytes(&[0; 12]).unwrap();
+    (0..5).for_each(|_| _ = serial.read(DATA));
+    assert!(serial.is_timeout_to_come());
+    let state = serial.state();
+    let restored = Line::default();
+    let Ok(serial) = Serial::from_state(&state, &restored, &put_off, sink()) else {
+        panic!("a state of a device");
+    };
+    assert_eq!(restored.count.get(), 1);
+    assert!(!serial.is_timeout_to_come());
+}
