@@ -28,6 +28,8 @@ SAID = [
     (["ensures { result ≡ (fields self.now).limit }"], ["- Returns `(fields self.now).limit`.", "  - [`fields`]: all fields."]),
     (["ensures { result ≡ size self.now + 1 }"], ["- Returns `size self.now + 1`.", "  - [`size`]: its size in \\[bytes\\]."]),
     (["ensures { result ≡ fields.limit }"], ["- Returns `fields.limit`."]),
+    # a part of the result is not the result
+    (["ensures { result.0 ≡ size self.now }"], ["- `result.0` is [`size`] `self.now`: its size in \\[bytes\\]."]),
     (["ensures { result ≡ Ok (size self.now) }"], ["- Returns `Ok` of [`size`] `self.now`: its size in \\[bytes\\]."]),
     (["ensures { result ≡ Ok (1 + size self.now) }"], ["- Returns `Ok (1 + size self.now)`.", "  - [`size`]: its size in \\[bytes\\]."]),
     (["ensures { IsOkUnless result (x, E.Bad) }"], ["- Returns `Ok`, or `Err` of `(x, E.Bad)`."]),

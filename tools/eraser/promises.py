@@ -35,7 +35,7 @@ RETURNED = {
 }
 OF_TRAIT = "What the proofs take each implementation to do. Nothing checks it of one that is written in Rust."
 LENDS = "lends a part of it: what is changed there is changed here, and nothing else"
-RESULT = ("result", "result.now", "result.0")
+RESULT = ("result", "result.now")
 
 # What binds names in a clause, which hide definitions of the same name.
 BINDER = re.compile(r"\(([\w' ]+) : |λ ([\w' ]+)\.")

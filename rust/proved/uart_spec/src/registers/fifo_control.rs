@@ -13,7 +13,7 @@ impl FCR {
     ///
     /// - *own*: [`HasTrigger`](crate::proved::fields#HasTrigger) `6 result.0 level`: the two bits from the lowest on are the code of this trigger level.
     /// - *others*: [`SameOutside`](crate::proved::bits#SameOutside) `6 2 self.0 result.0`: the eight bits are the same in both values, except those of a field.
-    /// - *bits*: returns `bit_or (bit_and self.0 0x3F) (64 * trigger_code level)`.
+    /// - *bits*: `result.0` is `bit_or (bit_and self.0 0x3F) (64 * trigger_code level)`.
     ///   - [`trigger_code`](crate::proved::fields#trigger_code): the two-bit code of a trigger level.
     ///
     /// <details><summary>The clauses</summary>

@@ -33,7 +33,7 @@ impl LCR {
     ///
     /// - *own*: [`HasWordLength`](crate::proved::fields#HasWordLength) `0 result.0 length`: the two bits from the lowest on are the code of this word length.
     /// - *others*: [`SameOutside`](crate::proved::bits#SameOutside) `0 2 self.0 result.0`: the eight bits are the same in both values, except those of a field.
-    /// - *bits*: returns `bit_or (bit_and self.0 0xFC) (word_length_code length)`.
+    /// - *bits*: `result.0` is `bit_or (bit_and self.0 0xFC) (word_length_code length)`.
     ///   - [`word_length_code`](crate::proved::fields#word_length_code): the two-bit code of a word length.
     ///
     /// <details><summary>The clauses</summary>
@@ -76,7 +76,7 @@ impl LCR {
     ///
     /// - *own*: [`HasParity`](crate::proved::fields#HasParity) `3 result.0 parity`: the three bits from the lowest on are a code of this parity.
     /// - *others*: [`SameOutside`](crate::proved::bits#SameOutside) `3 3 self.0 result.0`: the eight bits are the same in both values, except those of a field.
-    /// - *bits*: returns `bit_or (bit_and self.0 0xC7) (8 * parity_code parity)`.
+    /// - *bits*: `result.0` is `bit_or (bit_and self.0 0xC7) (8 * parity_code parity)`.
     ///   - [`parity_code`](crate::proved::fields#parity_code): the three-bit code of a parity.
     ///
     /// <details><summary>The clauses</summary>

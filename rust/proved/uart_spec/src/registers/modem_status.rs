@@ -19,7 +19,7 @@ impl MSR {
     ///
     /// # Proved
     ///
-    /// - Returns [`line_changes`](crate::proved::lines#line_changes) `before.0 self.0`: the changes of the lines between two readings, as their bits in MSR: of RI only its trailing edge.
+    /// - `result.0` is [`line_changes`](crate::proved::lines#line_changes) `before.0 self.0`: the changes of the lines between two readings, as their bits in MSR: of RI only its trailing edge.
     ///
     /// <details><summary>The clauses</summary>
     ///

@@ -37,7 +37,7 @@ impl PSD {
     /// - *own*: `field 0 4 result.0 ≡ pdf`.
     ///   - [`field`](crate::proved::bits#field): the number in a field, which is given by its lowest bit and its width.
     /// - *others*: [`SameOutside`](crate::proved::bits#SameOutside) `0 4 self.0 result.0`: the eight bits are the same in both values, except those of a field.
-    /// - *bits*: returns `bit_or (bit_and self.0 0xF0) pdf`.
+    /// - *bits*: `result.0` is `bit_or (bit_and self.0 0xF0) pdf`.
     ///
     /// <details><summary>The clauses</summary>
     ///
