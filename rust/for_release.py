@@ -31,6 +31,7 @@ BESIDE = re.compile(r"With a checkout of the repository beside (your program|it)
 README, PAGE = "README.md", "REGISTRY.md"
 RUST = ["", "rust", "no_run", "should_panic", "rust,no_run", "rust,should_panic"]
 HIDDEN = re.compile(r"# .*|#")
+SECTION = re.compile(r"^## (.*)$", re.M)
 BRACKETS = re.compile(r"\[`([^`\]]+)`\](?![(:\[])")
 
 
@@ -97,8 +98,9 @@ def causes(found, is_release):
             yield f"{at}: the name is not {name_of(folder)}"
         yield from (f"{at}: there is no `{key}`" for key in KEYS if not package.about.get(key))
         changes = TOP / folder / "CHANGELOG.md"
-        if is_release and changes.exists() and "## Unreleased" in changes.read_text(encoding="utf-8"):
-            yield f"{folder}/CHANGELOG.md: a section has no version yet"
+        newest = SECTION.search(changes.read_text(encoding="utf-8")) if is_release and changes.exists() else None
+        if newest and not re.fullmatch(rf"{re.escape(package.version)}, \d{{4}}-\d\d-\d\d", newest[1]):
+            yield f"{folder}/CHANGELOG.md: the newest section is '{newest[1]}', and not {package.version} with a date"
 
 
 def replaced(name, pattern, new, text):
