@@ -103,6 +103,9 @@ KNOWN = [
     (DESIGN_WARE, 'line: LCR::from_bits_retain(0),', '1', 'before LCR is written, DLAB alone counts of it'),
     (AROUND, 'const CLOSE_ON_EXEC: c_int = if IS_SPARC', '4194305', 'no test runs on SPARC'),
     (AROUND, '    0x4000', '16385', 'no test runs on SPARC'),
+    (AROUND, 'const IS_SPARC', None, 'no test runs on SPARC'),
+    (AROUND, 'const IS_MIPS', None, 'no test runs on MIPS'),
+    (AROUND, '        }; 8];', None, 'it is no matter how many events are told at a time'),
     (AROUND, 'const WRITABLE: u32 = 4;', '5', 'whoever asks for this asks for 1 too'),
     (SERDE, 'let mut bytes = [0; ROOM];', '1', 'bytes are written before they are read'),
 ]

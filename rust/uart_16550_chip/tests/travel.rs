@@ -1,4 +1,5 @@
-//! States that go from Rust to C and back: to chips and ports of the library for C, which are restored, saved and written again.
+//! States that go from Rust to C and back: to chips and ports of the library for C, which are restored, saved and written again, and at
+//! which a guest looks.
 //!
 //! `integration/library` builds `states/travel.c`, and runs this test with the path of that program in `UART_TRAVEL`. Without it nothing
 //! is tested here.
@@ -18,8 +19,12 @@ const STORED: [&[u8]; 2] = [
     include_bytes!("states/version-2.bin"),
 ];
 
-/// How many bytes the program answers for each state: four numbers, and the states of a chip and of a port.
-const ANSWER: usize = 4 + 2 * SerialState::LEN;
+/// How often the guest looks for causes of interrupts and for characters, and how much it reads in all.
+const LOOKS: u8 = 20;
+const READS: usize = 6 + 3 * LOOKS as usize;
+/// How many bytes the program answers for each state: four numbers, and the state of a chip and of a port, each with what a guest finds.
+const OF_ONE: usize = SerialState::LEN + 2 * READS;
+const ANSWER: usize = 4 + 2 * OF_ONE;
 /// What `uart_chip_load` and `uart_port_load` return for what they refuse.
 const BAD_CHIP: u8 = 5;
 const BAD_PORT: u8 = 6;
@@ -196,27 +201,76 @@ fn refusal_in_c(reason: BadState) -> (u8, usize) {
     }
 }
 
+/// What the guest accesses. After each read it looks at the interrupt line.
+trait Device {
+    fn guest_writes(&mut self, offset: u8, value: u8);
+    fn guest_reads(&mut self, offset: u8) -> [u8; 2];
+}
+
+/// A tick passes after each access.
+impl Device for LiveChip {
+    fn guest_writes(&mut self, offset: u8, value: u8) {
+        self.write(offset, value);
+        self.ticks(1);
+    }
+
+    fn guest_reads(&mut self, offset: u8) -> [u8; 2] {
+        let value = self.read(offset);
+        self.ticks(1);
+        [value, self.is_interrupting().into()]
+    }
+}
+
+impl Device for VirtualPort {
+    fn guest_writes(&mut self, offset: u8, value: u8) {
+        self.write(offset, value);
+    }
+
+    fn guest_reads(&mut self, offset: u8) -> [u8; 2] {
+        let value = self.read(offset).value;
+        [value, self.level().into()]
+    }
+}
+
+/// What a guest finds that looks at the registers, and then for causes of interrupts and for characters.
+fn guest_looks(device: &mut impl Device) -> Vec<u8> {
+    let mut found: Vec<[u8; 2]> = [3, 4, 7].map(|offset| device.guest_reads(offset)).into();
+    device.guest_writes(3, 0x80);
+    found.extend([0, 1].map(|offset| device.guest_reads(offset)));
+    device.guest_writes(3, 0x03);
+    found.push(device.guest_reads(1));
+    device.guest_writes(1, 0x05);
+    for look in 0..LOOKS {
+        let status = if look % 2 == 0 { 5 } else { 6 };
+        found.extend([2, status, 0].map(|offset| device.guest_reads(offset)));
+    }
+    found.concat()
+}
+
 /// What the program for C answers for these bytes if it does as Rust does.
 fn answer_of_rust(bytes: &[u8]) -> Vec<u8> {
-    let nothing = [0; SerialState::LEN];
+    let nothing = vec![0; OF_ONE];
     let (head, chip, port) = match SerialState::from_bytes(bytes) {
         Err(reason) => {
             let (status, detail) = refusal_in_c(reason);
-            ([status, detail as u8, 0, 0], nothing, nothing)
+            ([status, detail as u8, 0, 0], Err(()), Err(()))
         }
         Ok(state) => {
-            let chip = LiveChip::from_data(&state.chip, &state.output);
-            let port = VirtualPort::from_data(&state.chip, &state.output);
-            let of_chip = chip
-                .map(|chip| SerialState::of_chip(&chip).to_bytes())
-                .map_err(|_| BAD_CHIP);
-            let of_port = port
-                .map(|restored| SerialState::of_port(&restored.port).to_bytes())
-                .map_err(|_| BAD_PORT);
-            let head = [0, 0, of_chip.err().unwrap_or(0), of_port.err().unwrap_or(0)];
-            (head, of_chip.unwrap_or(nothing), of_port.unwrap_or(nothing))
+            let chip = LiveChip::from_data(&state.chip, &state.output).map(|mut chip| {
+                let bytes = SerialState::of_chip(&chip).to_bytes();
+                [&bytes[..], &guest_looks(&mut chip)].concat()
+            });
+            let port = VirtualPort::from_data(&state.chip, &state.output).map(|mut restored| {
+                let bytes = SerialState::of_port(&restored.port).to_bytes();
+                [&bytes[..], &guest_looks(&mut restored.port)].concat()
+            });
+            let refused = |is_err: bool, number| if is_err { number } else { 0 };
+            let (no_chip, no_port) = (chip.is_err(), port.is_err());
+            let head = [0, 0, refused(no_chip, BAD_CHIP), refused(no_port, BAD_PORT)];
+            (head, chip.map_err(drop), port.map_err(drop))
         }
     };
+    let (chip, port) = (chip.unwrap_or(nothing.clone()), port.unwrap_or(nothing));
     [&head[..], &chip, &port].concat()
 }
 

@@ -31,6 +31,7 @@ fn input_goes_on_as_there_is_room() {
     serial.write(2, 0x01).unwrap();
     let typed: Vec<u8> = (0..=255).chain(0..100).collect();
     let mut input = Input::new(&typed[..]);
+    assert!(!input.is_at_end());
     let mut read = Vec::new();
     assert_eq!(input.offer(&mut serial).unwrap(), 16);
     assert_eq!(input.waiting_len(), 240);
