@@ -9,6 +9,9 @@ VERSION = "0.9.0"
 RUST = {True: "1.85", False: "1.87"}
 KIT, KIT_OF_RINGS = "geesetrunk-kit", "geesetrunk-kit-of-rings"
 FOLDERS = {KIT: "../../kit", KIT_OF_RINGS: "../../kit_of_rings"}
+# The macros of std that are not those of Rust. A package takes these from the kit by name, so that no other macro of it has the place of
+# one of Rust's, as of `assert`.
+MACROS = {KIT: "format, format_fields, vec", KIT_OF_RINGS: "format_fields, vec"}
 ALLOWED = "unused_imports, unused_labels, unused_parens, unused_braces, dead_code, clippy::all, clippy::pedantic"
 
 
@@ -99,5 +102,5 @@ def root(crate, crates, text):
     if crate not in table.SHIPS:
         lines += ['const _: () = assert!(usize::BITS == 64, "what is not for users is for targets of 64 bits");', ""]
     for name, of in libraries(crate, crates.uses[crate]):
-        lines += ["#[macro_use]"] * (name == "std") + [f"extern crate {of.replace('-', '_')} as {name};"]
+        lines += [f"#[macro_use({MACROS[of]})]"] * (name == "std") + [f"extern crate {of.replace('-', '_')} as {name};"]
     return found[0] + "\n".join(lines) + "\n\n" + text[found.end() :].lstrip("\n")
