@@ -2,13 +2,22 @@
 import re
 import tomllib
 
+import below
 import names
 import packages
 import table
 
-# Packages by hand that an emitted one is compiled with or under.
-UNDER = ["rust/kit", "rust/kit_of_rings"]
+# Packages by hand that an emitted one is compiled with or under, each with the packages of this repository that it uses, by the names that
+# it gives them.
+UNDER = below.KITS
 OVER = ["rust/uart_16550", "rust/uart_16550_chip"]
+OF_KIT = {packages.KIT: packages.KIT, packages.KIT_OF_RINGS: packages.KIT_OF_RINGS}
+USES = {
+    "rust/kit": {},
+    "rust/kit_of_rings": {packages.KIT: packages.KIT},
+    "rust/uart_16550": {**OF_KIT, "uart_spec": "uart_spec", "uart_driver": "uart_16550", "uart_ring": "uart_ring"},
+    "rust/uart_16550_chip": {packages.KIT: packages.KIT, **{name: name for name in ("uart_spec", "uart_live", "uart_virtual")}},
+}
 ODD = re.compile(r"\b(macro_use|no_implicit_prelude|register_tool|no_core|extern\s+crate)\b|#!?\[\s*(path)\b|\b(feature)\s*\(")
 # Attributes that disable code by hand on some target, or let it be what Rust refuses.
 CONDITION = re.compile(r"#!?\[\s*(cfg|cfg_attr|allow|expect)\b\s*(\([^\n]*\))")
@@ -69,9 +78,9 @@ def causes(files):
             found.append(f"{name}: more than that cargo asks no index")
         if name.endswith(".rs"):
             found += code(name, text)
-    found += by_hand(files)
+    found += by_hand(files) + below.causes(files)
     for folder in UNDER + OVER:
-        found += cargo(f"{folder}/Cargo.toml", files[f"{folder}/Cargo.toml"])
+        found += cargo(f"{folder}/Cargo.toml", files[f"{folder}/Cargo.toml"], USES[folder])
     return found + workspace(files["Cargo.toml"])
 
 
@@ -122,8 +131,15 @@ def is_optional(wanted):
     return set(wanted) - {"default-features"} == {"version", "optional"} and wanted["optional"] is True
 
 
-def cargo(name, text):
-    """What is wrong with Cargo.toml of a package by hand."""
+def package_of(name):
+    """What Cargo.toml says of a package of this repository: its name, if that is not the one of the dependency, and where it is."""
+    if name in packages.FOLDERS:
+        return {"path": f"../{packages.FOLDERS[name].rpartition('/')[2]}"}
+    return {"package": packages.package(name), "path": f"../proved/{name}"}
+
+
+def cargo(name, text, uses):
+    """What is wrong with Cargo.toml of a package by hand, which uses these packages of this repository."""
     entries = read(text)
     if entries is None:
         return [f"{name}: cannot be read"]
@@ -139,8 +155,11 @@ def cargo(name, text):
         if isinstance(wanted, dict) and "path" in wanted:
             if wanted.get("version") != f"={package.get('version')}":
                 found.append(f"{name}: the dependency {one} is of any version")
+            elif one not in uses or {key: wanted[key] for key in wanted if key != "version"} != package_of(uses[one]):
+                found.append(f"{name}: the dependency {one} is another package, or one that this package does not use")
         elif one not in STAND_INS or not is_optional(wanted):
             found.append(f"{name}: the dependency {one}")
+    found += [f"{name}: no dependency {one}" for one in uses if one not in entries.get("dependencies", {})]
     return found
 
 

@@ -7,9 +7,9 @@ ROOT = pathlib.Path(__file__).resolve().parent.parent.parent
 
 def causes(files, allow):
     """What is wrong with the names of these files."""
-    found = []
+    found, types, traits = [], {name for file in files for name in file.types}, {name for file in files for name in file.traits}
     for file in files:
-        found += heads(file, allow)
+        found += heads(file, allow) + for_others(file, types, traits)
     by_hand = methods_by_hand(allow, {name for file in files for name in file.types})
     for name in sorted(({name for file in files for name in of_traits(file)} & by_hand.keys()) - allow.IN_BOTH.keys()):
         found.append(f"{by_hand[name]}: `{name}`, by hand in a type and of a trait of the emitted crates: Rust calls the first")
@@ -31,6 +31,25 @@ def heads(file, allow):
         is_head = before not in ("::", ".") and (after == "::" or before == "use")
         if before in ("struct", "enum", "type", "trait", "mod", "union", "as") or not is_head and before != "::":
             found.append(f"crates/{file.name}: refused: `{token.text}`, the name of a crate, for something else")
+    return found
+
+
+def for_others(file, types, traits):
+    """Each own trait that is implemented for a type that is no own one. Rust takes a method of such a type before the one of a trait."""
+    found = []
+    for at, token in enumerate(file.code):
+        if token.text != "impl" or token.kind != "word":
+            continue
+        opened = next(one for one in range(at, len(file.code)) if file.word(one) in ("{", ";"))
+        words = [file.word(one) for one in range(file.behind_generics(at + 1), opened)]
+        if "for" not in words:
+            continue
+        split = words.index("for")
+        trait = words[: words.index("<") if "<" in words[:split] else split][-1]
+        of = words[split + 1 :]
+        head = of[: of.index("<") if "<" in of else of.index("where") if "where" in of else len(of)]
+        if trait in traits and (not head or head[-1] not in types):
+            found.append(f"crates/{file.name}: refused: `{trait}`, a trait of ours for a type of Rust's: {' '.join(of)}")
     return found
 
 

@@ -14,6 +14,9 @@ KIT, KIT_OF_RINGS = "geesetrunk-kit", "geesetrunk-kit_of_rings"
 FOLDERS = {KIT: "../../kit", KIT_OF_RINGS: "../../kit_of_rings"}
 KEYWORDS = '["uart", "serial", "16550", "no_std", "verified"]'
 CATEGORIES = '["embedded", "hardware-support", "no-std"]'
+# The macros of std that are not those of Rust. A package takes these from the kit by name, so that no other macro of it has the place of
+# one of Rust's, as of `assert`.
+MACROS = {KIT: "format, format_fields, vec", KIT_OF_RINGS: "format_fields, vec"}
 ALLOWED = "unused_imports, unused_labels, unused_parens, unused_braces, dead_code, clippy::all, clippy::pedantic"
 WHY = "the text is that of the proved source, in the forms that Rattle has"
 
@@ -113,5 +116,5 @@ def root(crate, crates, text):
     if crate not in table.SHIPS:
         lines += ['const _: () = assert!(usize::BITS == 64, "what is not for users is for targets of 64 bits");', ""]
     for name, of in libraries(crate, crates.uses[crate]):
-        lines += ["#[macro_use]"] * (name == "std") + [f"extern crate {of.replace('-', '_')} as {name};"]
+        lines += [f"#[macro_use({MACROS[of]})]"] * (name == "std") + [f"extern crate {of.replace('-', '_')} as {name};"]
     return found[0] + "\n".join(lines) + "\n\n" + text[found.end() :].lstrip("\n")

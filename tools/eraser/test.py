@@ -4,6 +4,7 @@ What it refuses, with the cause that it prints, and what its check finds.
 """
 import contextlib
 import pathlib
+import sys
 import tempfile
 
 import around
@@ -17,6 +18,9 @@ import table
 import words
 
 ROOT = pathlib.Path(__file__).resolve().parent.parent.parent
+sys.path.append(str(ROOT / "tools" / "eraser" / "mir"))
+
+import interface  # noqa: E402
 
 # Forms behind the code of uart_spec/src/backend.rt that are accepted, so that the refusals below have their own causes.
 ACCEPTED = [
@@ -266,6 +270,8 @@ BYTES = [
 CHECKED = "rust/proved/uart_spec/src/by_hand/checked.rs"
 ERRORS = "rust/proved/uart_spec/src/by_hand/errors.rs"
 SERIAL = "rust/uart_16550_chip/src/serial.rs"
+REGISTERS = "rust/proved/uart_spec/src/registers/by_hand.rs"
+KIT_ROOT = "rust/kit/src/lib.rs"
 AROUND = [
     (CHECKED, "impl PSD {", "macro_rules! f { () => {} }\n#[macro_use]\nmod more {}\nimpl PSD {", "`macro_use`"),
     (CHECKED, "impl PSD {", "extern crate std as core;\nimpl PSD {", "`extern crate`"),
@@ -301,8 +307,92 @@ AROUND = [
     ),
     ("rust/uart_16550/Cargo.toml", "[package]\n", 'cargo-features = ["x"]\n[package]\n', "the section [cargo-features]"),
     ("rust/uart_16550/Cargo.toml", "[lib]\n", "[lib\n", "cannot be read"),
+    # what the emitted code is compiled with: another macro, method, module, file, package, or something that is kept between calls
+    (KIT_ROOT, "/// `format_args!`, as", "/// A.\n#[macro_export]\nmacro_rules! assert {\n    ($($t:tt)*) => {};\n}\n\n/// `format_args!`, as", "a macro `assert`"),
+    (KIT_ROOT, "/// `format_args!`, as", "/// A.\n#[macro_export]\nmacro_rules! other {\n    () => {};\n}\n\n/// `format_args!`, as", "exports other macros"),
+    (KIT_ROOT, "#[cfg(not(feature = \"alloc\"))]\nmod absent;", "macro_rules! matches { ($($t:tt)*) => { true }; }\nmod absent;", "a macro `matches`"),
+    (KIT_ROOT, "pub use core::{cmp, convert, error, fmt, mem, num};", "mod fmt;\npub use core::{cmp, convert, error, mem, num};", "`mod fmt`, which it does not have"),
+    (KIT_ROOT, "#![forbid(unsafe_code)]\n", "", "other attributes of the file"),
+    (KIT_ROOT, "extern crate alloc as heap;", "extern crate other as heap;", "`extern crate other as heap`, which it does not have"),
+    (KIT_ROOT, "mod bits;", "#[path = \"other.rs\"]\nmod bits;", "the attribute `path"),
+    (KIT_ROOT, "mod bits;", "include!(\"other.rs\");\nmod bits;", "the word `include`"),
+    ("rust/kit/src/bits.rs", "self.bits() == Self::Bits::EMPTY", "cfg!(unix) || self.bits() == Self::Bits::EMPTY", "the macro `cfg`"),
+    ("rust/kit/src/bits.rs", "    /// Clears all bits.\n", "    #[cfg(unix)]\n    /// Clears all bits.\n", "the condition `unix`"),
+    ("rust/kit/src/bits.rs", "    fn clear(&mut self)", "    fn eq(&self, _: &Self) -> bool {\n        true\n    }\n\n    fn clear(&mut self)", "`eq` of the trait `Flags`"),
+    ("rust/kit/src/bits.rs", "pub trait Bits:", "pub trait More {}\n\npub trait Bits:", "a trait `More`"),
+    ("rust/kit/src/array.rs", "        self.len += 1;", "        static COUNT: u8 = 1;\n        self.len += 1;", "the word `static`"),
+    ("rust/kit/src/array.rs", "use core::ops::Deref;", "use core::ops::*;", "all names of a module"),
+    ("rust/kit/src/array.rs", "    pub const fn is_full", "    pub fn eq(&self, _: &Self) -> bool {\n        true\n    }\n\n    pub const fn is_full", "`eq` of a type"),
+    ("rust/kit_of_rings/src/memory.rs", "#[cfg(test)]\nmod tests;", "mod tests;", "tests that are compiled for users"),
+    ("rust/kit_of_rings/src/memory.rs", "use core::fmt;", "use core::fmt;\nuse core::sync::atomic::AtomicU8;", "the word `AtomicU8`"),
+    ("rust/kit_of_rings/src/lib.rs", "pub use memory::{Vec, filled};", "pub use memory::{Vec, filled};\npub use other::fmt;", "`pub use other :: fmt`"),
+    (REGISTERS, "            /// Returns the byte.\n", "            pub const fn eq(&self, _: &Self) -> bool { true }\n            /// Returns the byte.\n", "`eq` of a type"),
+    (REGISTERS, "            /// Returns the byte.\n", "            pub const fn clone(&self) -> Self { Self(0) }\n            /// Returns the byte.\n", "`clone` of a type"),
+    (REGISTERS, "register!(PSD);", "register!(PSD);\nimpl Drop for PSD {\n    fn drop(&mut self) {}\n}", "the trait `Drop`"),
+    (REGISTERS, "register!(PSD);", "register!(PSD);\nimpl core::ops::Deref for PSD {\n}", "the trait `Deref`"),
+    (REGISTERS, "self.0 & other.0 == other.0", "cfg!(unix) || self.0 & other.0 == other.0", "the macro `cfg`"),
+    (REGISTERS, "register!(PSD);", "register!(PSD);\ninclude!(\"more.rs\");", "the word `include`"),
+    (CHECKED, "impl PSD {", "pub trait More {}\nimpl PSD {", "a trait `More`"),
+    ("rust/uart_16550/Cargo.toml", 'package = "geesetrunk-proved-uart_spec", path', 'package = "other", path', "the dependency uart_spec is another package"),
+    ("rust/uart_16550/Cargo.toml", '"../proved/uart_ring", version', '"../other", version', "the dependency uart_ring is another package"),
+    ("rust/uart_16550/Cargo.toml", "[dependencies]\n", '[dependencies]\nx = { path = "../x", version = "=0.9.0" }\n', "the dependency x is another package"),
+    ("rust/kit/Cargo.toml", "[features]\n", '[dependencies]\nx = { path = "../x", version = "=0.9.0" }\n[features]\n', "the dependency x is another package"),
     ("Cargo.toml", "[profile.release]\n", "[profile.release]\noverflow-checks = true\n", "`overflow-checks` of the profile release"),
     ("Cargo.toml", "[patch.crates-io]\n", '[patch.crates-io]\nx = { path = "x" }\n', "more than the stand-in"),
+]
+
+# A crate as it is emitted and as the kit leaves it, what the first may export otherwise, and edits of it with the cause.
+EMITTED_CRATE = """//! A crate.
+pub mod by_hand;
+mod inner;
+pub use inner::{Kept, Other};
+#[derive(Clone, PartialEq)]
+pub struct Kept<B> {
+    pub count: u8,
+    items: [u8; MOST],
+    backend: B,
+}
+
+impl<B: Backend> Kept<B> {
+    /// A text.
+    pub fn take(&mut self, mut count: usize) -> u8 {
+        self.hidden(count)
+    }
+
+    fn hidden(&self, count: usize) -> u8 {
+        self.items[count]
+    }
+}
+"""
+PROVED_CRATE = """mod inner ;
+pub use inner :: Kept ;
+pub use inner :: Other ;
+# [ derive ( Clone , PartialEq , Drop ) ] pub struct Kept < B > { pub count : u8 , items : [ u8 ; 16 ] , backend : B , ghost a : { b ≤ c } , }
+impl < B : Backend + Drop > Kept < B > {
+pub fn take ( & mut self , count : usize ) -> u8
+        requires { count < length self.old.items }
+        ensures kept { IfOk result (record x { a = b }) } ;
+}
+impl < B : Backend > Model for Kept < B > {
+    ghost view = { x' };
+}
+pub fn a_law ( )
+    ensures { x } ;
+"""
+EXPORTED = [
+    ("    items: [", "    pub items: [", "crate::Kept: exported as `derive(Clone, PartialEq) struct Kept < B > { pub count : u8 , pub items"),
+    ("    pub count: u8", "    count: u8", "crate::Kept: exported as"),
+    ("pub count: u8", "pub count: u16", "crate::Kept: exported as"),
+    ("    fn hidden", "    pub fn hidden", "crate::Kept < B >::hidden: exported, and not by the proved library"),
+    ("    pub fn take", "    fn take", "crate::Kept < B >::take: exported by the proved library alone"),
+    ("    pub fn take", "    pub const fn take", "crate::Kept < B >::take: exported as `const fn take"),
+    ("mut count: usize", "mut count: u64", "crate::Kept < B >::take: exported as"),
+    ("Clone, PartialEq", "Clone, Copy, PartialEq", "crate::Kept: exported as `derive(Clone, Copy, PartialEq)"),
+    ("mod inner;", "pub mod inner;", "crate::inner: exported, and not by the proved library"),
+    ("{Kept, Other}", "{Kept, Other, Third}", "crate::use inner :: Third: exported, and not"),
+    ("mod inner;", "mod inner;\nstatic COUNT: u8 = 1;", "crate: the word `static`"),
+    ("        self.items[count]", "        static COUNT: u8 = 1;\n        self.items[count]", "crate: the word `static`"),
+    ("mod inner;", "mod inner;\nimpl<B> Drop for Kept<B> {\n    fn drop(&mut self) {}\n}", "Drop for Kept < B >: exported, and not"),
 ]
 
 # Edits of the sources of the chip, and the cause.
@@ -465,6 +555,19 @@ class Tests:
             found = around.causes({**by_hand, name: text.replace(old, new, 1) if old else new})
             self.count(old in text and any(cause in one for one in found), f"{name}: {old!r} to {new!r}: {found}")
 
+    def exported(self):
+        """What a crate exports beside its library: nothing more, and nothing less."""
+        with tempfile.TemporaryDirectory() as folder:
+            emitted, library = (pathlib.Path(folder) / name for name in ("emitted", "library"))
+            emitted.mkdir()
+            library.mkdir()
+            (library / "lib.rt").write_text(PROVED_CRATE, encoding="utf-8")
+            for old, new, cause in [("", "", ""), *EXPORTED]:
+                (emitted / "lib.rs").write_text(EMITTED_CRATE.replace(old, new, 1) if old else EMITTED_CRATE, encoding="utf-8")
+                found, _ = interface.differences(emitted, library, interface.Rules(table, "one"))
+                holds = any(cause in one for one in found) if cause else not found
+                self.count(old in EMITTED_CRATE and holds, f"exported: {old!r} to {new!r}: {found}, and not: {cause}")
+
     def tables(self):
         """Entries of the table that nothing in the sources has, or that say too little."""
         guard = table.GUARDS["uart_spec::backend::Backend::read"]
@@ -533,6 +636,7 @@ def run():
     tests.manifests()
     tests.promises()
     tests.around(AROUND)
+    tests.exported()
     tests.tables()
     print(f"{tests.passed} passed, {tests.failed} failed")
     return tests.failed == 0

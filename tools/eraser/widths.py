@@ -50,6 +50,11 @@ LISTED = {
     "uart_virtual/src/port.rt": {"spare . saturating_sub": "of u8"},
 }
 CALLS = re.compile(r"(checked|saturating|wrapping|overflowing)_\w+|pow|abs_diff|isqrt|next_multiple_of|div_ceil|midpoint|rotate_\w+")
+# Calls whose result depends on how many bits a number has, or whose type is that of what it is given to.
+OF_WIDTH = re.compile(
+    r"(count|leading|trailing)_(zeros|ones)|(swap|reverse)_(bytes|bits)|(to|from)_(le|be|ne)(_bytes)?|try_from|try_into|parse|sum|product"
+    r"|ilog(2|10)?|next_power_of_two|unbounded_sh[lr]|cast_signed|carrying_\w+|borrowing_\w+|strict_\w+"
+)
 # Functions of slices, queues and iterators that give a `usize`.
 COUNTS = ["len", "count", "capacity", "position"]
 
@@ -66,6 +71,12 @@ def check(file, counts):
             file.refuse("another name for `usize`", at)
         if before == "::" and word in ("MAX", "MIN", "BITS") and file.word(at - 2) == ">":
             file.refuse("a limit of a type in brackets", at)
+        if word == "as" and after == "Self":
+            file.refuse("`as Self`, which may be `usize`", at)
+        if word == "NonZeroUsize" and after == "::" and file.word(at + 2) != "new":
+            file.refuse("a limit of `NonZeroUsize`", at)
+        if before in (".", "::") and after in ("(", "::") and token.kind == "word" and OF_WIDTH.fullmatch(word):
+            file.refuse(f"`{word}`, which may be of a `usize`", at)
         if word == "!" and not is_value(file, at - 1) and is_count(file, at + 1, counts):
             file.refuse("`!` of a `usize`", at)
         site = operation(file, at)

@@ -2,6 +2,7 @@
 
 What this reads wrongly does not compile, or has no partner in the MIR.
 """
+import collections
 import dataclasses
 import pathlib
 import re
@@ -60,8 +61,8 @@ class Emitted:
 
     def __init__(self, folder):
         self.modules, self.types, self.functions, self.constants, self.numbers = {}, [], [], [], set()
-        # How many functions, types and constants the text begins, whatever is read of them.
-        self.begun = 0
+        # How many functions, types and constants each file begins, whatever is read of them; and what is read and left out.
+        self.begun, self.read_constants, self.left = {}, collections.Counter(), collections.Counter()
         for file in sorted(folder.rglob("*.rs")):
             parts = [one for one in file.relative_to(folder).with_suffix("").parts if one != "mod"]
             if parts and "by_hand" not in parts:
@@ -75,17 +76,17 @@ class Emitted:
 
         for name in ("types", "functions"):
             declared = getattr(self, name)
-            left = [one for one in declared if is_left(one)]
-            self.begun -= len(declared) - len(left)
-            setattr(self, name, left)
+            self.left.update(one.file for one in declared if not is_left(one))
+            setattr(self, name, [one for one in declared if is_left(one)])
 
     def missing(self):
-        """How many functions, types and constants were not read."""
-        return self.begun - len(self.functions) - len(self.types) - len(self.constants)
+        """What was not read: of each file that begins more functions, types and constants than were read, how many more."""
+        read = collections.Counter(one.file for one in [*self.functions, *self.types]) + self.read_constants + self.left
+        return [f"{count - read[file]} items of {self.modules[file]}" for file, count in self.begun.items() if count != read[file]]
 
     def read(self, file, module):
         text = blank(file.read_text(encoding="ascii"))
-        self.begun += len(BEGINS.findall(text))
+        self.begun[file] = len(BEGINS.findall(text))
         self.numbers |= {int(found[1].replace("_", ""), 0) for found in NUMBER.finditer(text)}
         for found in TYPE.finditer(text):
             self.types.append(read_type(found, text, file, module))
@@ -95,6 +96,7 @@ class Emitted:
             self.functions.append(read_function(found, text, file, module, owner))
         for found in CONSTANT.finditer(text):
             owner = next((one for start, end, one in owners if start <= found.start() < end), None)
+            self.read_constants[file] += 1
             self.constants.append((module, owner[2].strip() if owner else "", found[3], found[4], found[2].strip()))
 
 

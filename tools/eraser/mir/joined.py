@@ -25,7 +25,7 @@ def undocumented(text):
 
 
 def rewritten(text, heads):
-    text = re.sub(r"(?m)^(#!\[.*\]|#\[macro_use\]|extern crate .*;|#\[cfg\(.*\)\]\nextern crate .*;|#\[cfg\(test\)\]\nmod tests;)\n", "", text)
+    text = re.sub(r"(?m)^(#!\[.*\]|#\[macro_use\(.*\)\]|extern crate .*;|#\[cfg\(.*\)\]\nextern crate .*;|#\[cfg\(test\)\]\nmod tests;)\n", "", text)
     # The macros of the kit are those of std here, but for two.
     text = re.sub(r"(?ms)^(?:///[^\n]*\n)*#\[macro_export\]\n.*?^\}\n", "", text)
     text = text.replace("format_fields!", "::core::format_args!").replace("format_fields, ", "")

@@ -110,6 +110,15 @@ CONTRACTS = {
     "uart_virtual::port::write_slowly": "a1 >= 8",
 }
 
+# What a function adds or multiplies of type `usize`, as Rust code of type `u128` over its arguments: a pattern of the name, the code, and why
+# it says nothing if no `usize` of the target has it.
+LAST_ADDRESS = "u128::from({}.get() as u64) + 7 * u128::from({})"
+REFUSED = "the address of the last register: `new` refuses it if no `usize` of the target has it"
+MOST = {
+    r"mmio::MmioBackend::new$|MmioBackend\+M::new_mmio(_from_address)?$": (LAST_ADDRESS.format("a0", "a1"), REFUSED),
+    r"mmio::MmioBackendBackend::(read|write)$|mmio::MmioBackend::address$": (LAST_ADDRESS.format("a0.base", "a0.stride.get()"), REFUSED),
+}
+
 # Constructors of the types whose calls are also compared in sequence. Beside the public methods, a sequence has these steps, in Rust and in
 # the MIR, where a name in braces is that of the translated function.
 SEQUENCES = {

@@ -168,13 +168,14 @@ class Pairs:
         mine, theirs = (" ".join(getattr(one, side) for one in listing) for side in ("rust", "mir"))
         changed = " ".join(f"Value::show(&a{order}, &mut out);" for order, one in enumerate(listing) if one.is_changed)
         called = call([one.rust_passed for one in listing])
-        broken = f"|choices| {{ {mine} {breaks} }}" if breaks else "|_| false"
+        most = next((text for pattern, (text, _) in listed.MOST.items() if re.search(pattern, name)), None)
+        of_case = f"|choices| {{ {mine} crate::run::Of::new({breaks or 'false'}, {most or '0'}) }}"
         passed = ", ".join(one.mir_passed for one in listing)
         order = len(self.compared)
         self.put(
             file,
             f"#[allow(warnings)] pub fn compare_{order}(run: &mut crate::run::Run) {{ use crate::run::Value; "
-            f"run.compare({json.dumps(title)}, crate::run::With::{'Device' if DEVICE in ' '.join(texts) else 'Nothing'}, {broken}, "
+            f"run.compare({json.dumps(title)}, crate::run::With::{'Device' if DEVICE in ' '.join(texts) else 'Nothing'}, {of_case}, "
             f"|choices| {{ {mine} let result = {called}; let mut out = {WORDS}; Value::show(&result, &mut out); {changed} out }}, "
             f"|choices| unsafe {{ {theirs} let result = crate::mir::{function}({passed}); let mut out = {WORDS}; "
             f"{self.shown(result, name)} {changed} out }}); }}",
@@ -260,7 +261,8 @@ class Pairs:
         self.put(
             one.file,
             f"#[allow(warnings)] pub fn compare_{order}(run: &mut crate::run::Run) {{ use crate::run::Value; "
-            f"run.compare({json.dumps(title)}, crate::run::With::Writer, |_| false, "
+            f"run.compare({json.dumps(title)}, crate::run::With::Writer, "
+            f"|choices| {{ let value: {one.name} = Value::make(choices); crate::run::Of::Contract }}, "
             f"|choices| {{ let value: {one.name} = Value::make(choices); let mut writer = crate::run::Writer::make(choices); "
             f'let is_whole = ::core::fmt::Write::write_fmt(&mut writer, format_args!("{form}", value)).is_ok(); '
             f"let mut out = {WORDS}; is_whole.show(&mut out); writer.written().show(&mut out); out }}, "
@@ -278,7 +280,7 @@ class Pairs:
         function, _, _ = self.instance(f"{witness.NAME}::{name}")
         title = f"the constant {inside}"
         self.calls.append(
-            f"run.compare({json.dumps(title)}, crate::run::With::Nothing, |_| false, "
+            f"run.compare({json.dumps(title)}, crate::run::With::Nothing, |_| crate::run::Of::Contract, "
             f"|_| {{ let mut out = {WORDS}; crate::run::Value::show(&crate::proved::{path}, &mut out); out }}, "
             f"|_| {{ let mut out = {WORDS}; crate::run::Value::show(&unsafe {{ crate::mir::{function}() }}, &mut out); out }});"
         )

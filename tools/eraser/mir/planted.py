@@ -4,8 +4,40 @@ Each is a mistake that an eraser could make or a deception that one fell for: `c
 passes if each is found.
 """
 
+# Of what is exported: a field, a function, a derive and a `const` that the library does not have, and something that is kept between calls.
+OF_INTERFACES = [
+    ("uart_ring/ring.rs", "    urgent: Option<u8>,", "    pub urgent: Option<u8>,", [r"Uart16550Ring: exported as .* pub urgent : "]),
+    ("uart_spec/baud.rs", "\nfn other_factor(", "\npub fn other_factor(", [r"baud::other_factor: exported, and not by the proved library"]),
+    (
+        "uart_16550/driver.rs",
+        "    pub(crate) fn read_plain(",
+        "    pub fn read_plain(",
+        [r"read_plain: exported, and not by the proved library"],
+    ),
+    (
+        "uart_spec/dump.rs",
+        "        256 * self.dlm as u16",
+        "        static COUNT: u16 = 256;\n        COUNT * self.dlm as u16",
+        [r"crate::dump: the word `static`, which no library has"],
+    ),
+    ("uart_spec/dump.rs", "    pub fn baud_rate(", "    pub const fn baud_rate(", [r"ConfigRegisterDump::baud_rate: exported as `const fn"]),
+]
+
 PLANTED = {
     "uart_16550": [
+        # what only a program without tests of overflow does, and what only one for 32 bits
+        (
+            "uart_spec/dump.rs",
+            "        256 * self.dlm as u16 + self.dll as u16",
+            "        256 * self.dlm as u16 + self.dll as u16 + (!cfg!(debug_assertions) && self.dll == 7) as u16",
+            [r"^release: .*ConfigRegisterDump::divisor: \d+ of \d+ cases differ", r"^release32: .*ConfigRegisterDump::divisor: "],
+        ),
+        (
+            "uart_spec/setup.rs",
+            "            FifoSize::ThirtyTwo => 32,",
+            "            FifoSize::ThirtyTwo => 32 + (core::num::NonZeroUsize::MAX.get() as u64).count_zeros() as usize,",
+            [r"^debug32: .*FifoSize::characters: 1 of 5 cases differ", r"^release32: .*FifoSize::characters: 1 of 5 cases differ"],
+        ),
         # a byte that matters only in one value of 256, and a function of another name beside it
         (
             "uart_spec/registers/line_status.rs",

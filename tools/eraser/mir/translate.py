@@ -69,7 +69,7 @@ class Translation:
         self.program, self.natives, self.own = program, natives, own
         self.instances, self.waiting, self.texts = {}, [], []
         self.names_of_types, self.shapes = {}, {}
-        self.statics, self.places = {}, {}
+        self.statics, self.places, self.types_of_statics = {}, {}, {}
         self.unknown = []
 
     # Types.
@@ -158,6 +158,51 @@ class Translation:
             parts = [[self.type(one, of[2]) for one in part] for part in ([value] if kind == "fields" else value)]
         self.shapes[name] = (of, (kind, [[(one, self.rust(one)) for one in part] for part in parts]))
         return name
+
+    def layout(self, of):
+        """The bytes of a type and what they are aligned to, as the kit lays it out: an address has eight, whatever target is compiled for."""
+        if of in ("Unit", "Never"):
+            return 0, 1
+        if of == "Bool":
+            return 1, 1
+        if of == "Ptr" or of[0] == "Ref":
+            return 8, 8
+        if of[0] == "Int":
+            return of[1] // 8, of[1] // 8
+        if of[0] in ("Array", "Vector"):
+            size, align = self.layout(of[1])
+            return size * of[2], align
+        kind, parts = self.parts(of)
+        if kind != "fields":
+            raise Unknown("the bytes of an enum in a static")
+        end = self.places_of_fields([one for one, _ in parts[0]])[-1:]
+        align = max((self.layout(one)[1] for one, _ in parts[0]), default=1)
+        return (-(-sum(end[0]) // align) * align if end else 0), align
+
+    def places_of_fields(self, fields):
+        """Where each field begins, and how many bytes it has."""
+        places, at = [], 0
+        for one in fields:
+            size, align = self.layout(one)
+            at = -(-at // align) * align
+            places.append((at, size))
+            at += size
+        return places
+
+    def at_byte(self, of, offset):
+        """The text behind a value of this type that names the part which begins at this byte."""
+        if offset == 0:
+            return ""
+        if of[0] == "Array":
+            size, _ = self.layout(of[1])
+            return f"[{offset // size}]{self.at_byte(of[1], offset % size)}"
+        if of[0] not in ("Struct", "Named"):
+            raise Unknown(f"a byte inside of {of}")
+        fields = [one for one, _ in self.parts(of)[1][0]]
+        for order, (start, size) in enumerate(self.places_of_fields(fields)):
+            if start <= offset < start + size:
+                return f".f{order}{self.at_byte(fields[order], offset - start)}"
+        raise Unknown(f"a byte behind {of}")
 
     def parts(self, of):
         """What a struct or an enum has: `fields` or `variants`, and of each variant the types and their names."""
@@ -327,7 +372,7 @@ class Body:
 
     def write_lendstatic(self, value, labels):
         of, name = self.of.type(value[1], self.types), f"C{len(self.of.statics)}"
-        self.of.statics[name] = None
+        self.of.statics[name], self.of.types_of_statics[name] = None, of
         self.of.statics[name] = (self.of.rust(of), self.constant(value[2], of, name))
         self.lines.append(f"{self.place(value[0])[0]} = &raw const {name} as P;")
 
@@ -423,7 +468,7 @@ class Body:
         if kind == "Repeat":
             return f"[{self.constant(value[0], of[1] if of[0] == 'Array' else None, static)}; {value[1]}]"
         if kind == "Here":
-            return f"(&raw const {static} as P).wrapping_add({value})"
+            return f"&raw const {static}.0{self.of.at_byte(self.of.types_of_statics[static], value)} as P"
         if kind == "Parts":
             return self.aggregate(of, value, lambda one, part: self.constant(one, part, static))
         raise Unknown(f"a constant {kind}")

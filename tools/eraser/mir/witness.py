@@ -81,10 +81,11 @@ def text_of(listed):
 
 def prove(kit, rlibs, listed, out):
     """Proves the crate, unless the same text was proved over the same libraries. Returns the file with its MIR, or what went wrong."""
-    text, mir, kept = text_of(listed), out / f"{NAME}.json", out / f"{NAME}.sum"
+    text = text_of(listed)
     inputs = [text.encode(), *((path / "toolchain" / "mir.json").read_bytes() for path in rlibs.values())]
-    found = hashlib.sha256(b"\0".join(inputs)).hexdigest()
-    if mir.exists() and kept.exists() and kept.read_text(encoding="ascii") == found:
+    key = hashlib.sha256(b"\0".join(inputs)).hexdigest()
+    mir = out / f"{NAME}-{key}.json"
+    if mir.exists():
         return mir, None
     # `rt ci` takes no source that is in the repository and in no crate.
     with tempfile.TemporaryDirectory() as folder:
@@ -102,6 +103,7 @@ def prove(kit, rlibs, listed, out):
         if done.returncode:
             return None, f"status {done.returncode}: {(done.stdout + done.stderr)[-2000:]}"
         out.mkdir(parents=True, exist_ok=True)
-        shutil.copyfile(folder / f"{NAME}.rlib" / "toolchain" / "mir.json", mir)
-    kept.write_text(found, encoding="ascii")
+        made = mir.with_suffix(".new")
+        shutil.copyfile(folder / f"{NAME}.rlib" / "toolchain" / "mir.json", made)
+        made.replace(mir)
     return mir, None

@@ -13,7 +13,7 @@
 #![allow(unused_imports, unused_labels, unused_parens, unused_braces, dead_code, clippy::all, clippy::pedantic, reason = "the text is that of the proved source, in the forms that Rattle has")]
 #![allow(rustdoc::broken_intra_doc_links)]
 
-#[macro_use]
+#[macro_use(format, format_fields, vec)]
 extern crate geesetrunk_kit as std;
 extern crate geesetrunk_kit as bitflags;
 extern crate geesetrunk_kit as arrayvec;

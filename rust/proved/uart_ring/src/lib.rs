@@ -8,7 +8,7 @@
 #![allow(unused_imports, unused_labels, unused_parens, unused_braces, dead_code, clippy::all, clippy::pedantic, reason = "the text is that of the proved source, in the forms that Rattle has")]
 #![allow(rustdoc::broken_intra_doc_links)]
 
-#[macro_use]
+#[macro_use(format_fields, vec)]
 extern crate geesetrunk_kit_of_rings as std;
 extern crate geesetrunk_kit as bitflags;
 

@@ -6,7 +6,7 @@
 
 const _: () = assert!(usize::BITS == 64, "what is not for users is for targets of 64 bits");
 
-#[macro_use]
+#[macro_use(format, format_fields, vec)]
 extern crate geesetrunk_kit as std;
 extern crate geesetrunk_kit as bitflags;
 

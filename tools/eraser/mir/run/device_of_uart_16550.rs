@@ -1,13 +1,4 @@
 
-impl crate::proved::uart_spec::backend::Backend for Device {
-    fn read(&mut self, offset: u8) -> u8 {
-        read(u64::from(offset), REGISTERS)
-    }
-    fn write(&mut self, offset: u8, value: u8) {
-        write(u64::from(offset), value, REGISTERS);
-    }
-}
-
 impl crate::proved::uart_16550::backend::PortAccess for Device {
     fn port_in(&mut self, port: u16) -> u8 {
         read(u64::from(port), PORTS)

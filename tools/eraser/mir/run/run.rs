@@ -28,6 +28,8 @@ pub struct Choices {
     mode: Mode,
     answers: usize,
     is_text: bool,
+    // Where in the path a `usize` begins. The MIR has a number of 64 bits there, of which it is to take as many bits as a `usize` has.
+    words: Vec<usize>,
 }
 
 /// Answers of a device that mean something to the driver, or are the bits of a register.
@@ -37,7 +39,7 @@ const RATES: [u64; 6] = [50, 300, 9600, 115_200, 1, 2];
 
 impl Choices {
     fn new(mode: Mode, seed: u64) -> Self {
-        Self { path: Vec::new(), at: 0, random: seed | 1, rate: 0, mode, answers: 0, is_text: false }
+        Self { path: Vec::new(), at: 0, random: seed | 1, rate: 0, mode, answers: 0, is_text: false, words: Vec::new() }
     }
 
     fn next_random(&mut self) -> u64 {
@@ -79,6 +81,7 @@ impl Choices {
     /// Returns a number of so many bits: all of 16 bits, if all choices are made; else one that the text has or that is next to it, a small
     /// one, any one, or a rate or clock that may divide by the last rate, or nearly.
     pub fn number(&mut self, bits: u32) -> u64 {
+        let bits = if self.words.contains(&self.at) { usize::BITS } else { bits };
         let most = u64::MAX >> (64 - bits);
         if self.mode == Mode::All {
             return if bits <= 16 { self.pick(1 << bits) } else { self.one_of(&NUMBERS) & most };
@@ -92,6 +95,14 @@ impl Choices {
             2 => self.pick(300) & most,
             _ => (self.pick(1 << 32) | self.pick(1 << 32) << 32) & most,
         }
+    }
+
+    /// Returns a `usize`.
+    pub fn word(&mut self) -> u64 {
+        if usize::BITS < 64 && !self.words.contains(&self.at) {
+            self.words.push(self.at);
+        }
+        self.number(64)
     }
 
     fn of_rate(&mut self) -> u64 {
@@ -197,7 +208,16 @@ macro_rules! numbers {
         })*
     };
 }
-numbers!(u16: 16, u32: 32, u64: 64, usize: 64);
+numbers!(u16: 16, u32: 32, u64: 64);
+
+impl Value for usize {
+    fn show(&self, out: &mut Vec<u64>) {
+        out.push(*self as u64);
+    }
+    fn make(choices: &mut Choices) -> Self {
+        choices.word() as Self
+    }
+}
 
 impl Value for u8 {
     fn show(&self, out: &mut Vec<u64>) {
@@ -573,6 +593,13 @@ enum Outcome {
 /// What both sides are: a function of the choices, whose words are its result and what it changed.
 type Side<'a> = &'a mut dyn FnMut(&mut Choices) -> Vec<u64>;
 
+/// Makes the arguments of a case, and says what they are.
+fn prepared(choices: &mut Choices, of_case: &mut dyn FnMut(&mut Choices) -> Of) -> Of {
+    choices.start();
+    USED.store(0, Ordering::Relaxed);
+    of_case(choices)
+}
+
 fn once(choices: &mut Choices, side: Side) -> (Outcome, Vec<u64>) {
     choices.start();
     USED.store(0, Ordering::Relaxed);
@@ -616,21 +643,48 @@ struct Counts {
 
 impl Counts {
     // A case that breaks the contract has to panic in Rust, if the function has a guard. One that makes the MIR overflow, or leave what it
-    // is proved for, says nothing: what is private has no guard, and what is made may break an invariant.
-    fn case(&mut self, choices: &mut Choices, breaks: &mut dyn FnMut(&mut Choices) -> bool, rust: Side, mir: Side) {
+    // is proved for, says nothing: what is private has no guard, and what is made may break an invariant. Neither does one whose numbers
+    // have a sum that no `usize` of the target has.
+    //
+    // The MIR says first whether a call keeps its contract: without tests of overflow, what Rust does outside of one may never end. A
+    // sequence has no such call, and its arguments are made on the way, so Rust says there which of them are a `usize`.
+    fn case(&mut self, choices: &mut Choices, of_case: Option<&mut dyn FnMut(&mut Choices) -> Of>, rust: Side, mir: Side) {
         self.cases += 1;
-        choices.start();
-        let is_broken = breaks(choices);
-        let (emitted, accesses) = once(choices, rust);
-        if is_broken {
-            self.refused += 1;
-            if emitted != Outcome::Panic {
-                self.note("a broken contract is not refused", choices, &emitted, &Outcome::Panic);
+        choices.words.clear();
+        let is_sequence = of_case.is_none();
+        match of_case.map_or(Of::Contract, |of_case| prepared(choices, of_case)) {
+            Of::NoWord => self.outside += 1,
+            Of::BrokenContract => self.broken(choices, rust),
+            Of::Contract if is_sequence => {
+                let emitted = once(choices, rust);
+                let made = choices.path.len();
+                let proved = once(choices, mir);
+                self.both(choices, emitted, proved, made);
             }
-            return;
+            Of::Contract => {
+                let proved = once(choices, mir);
+                if proved.0 == Outcome::Panic {
+                    self.outside += 1;
+                    return;
+                }
+                let made = choices.path.len();
+                let emitted = once(choices, rust);
+                self.both(choices, emitted, proved, made);
+            }
         }
-        let made = choices.path.len();
-        let (proved, accesses_of_mir) = once(choices, mir);
+    }
+
+    fn broken(&mut self, choices: &mut Choices, rust: Side) {
+        self.refused += 1;
+        let (emitted, _) = once(choices, rust);
+        if emitted != Outcome::Panic {
+            self.note("a broken contract is not refused", choices, &emitted, &Outcome::Panic);
+        }
+    }
+
+    // Both sides have run, and each has an outcome and accesses. The first one made so many choices.
+    fn both(&mut self, choices: &Choices, emitted: (Outcome, Vec<u64>), proved: (Outcome, Vec<u64>), made: usize) {
+        let ((emitted, accesses), (proved, accesses_of_mir)) = (emitted, proved);
         if proved == Outcome::Panic {
             self.outside += 1;
             return;
@@ -656,6 +710,28 @@ impl Counts {
     }
 }
 
+/// What the arguments of a case are.
+#[derive(Clone, Copy, PartialEq)]
+pub enum Of {
+    /// They keep the contract.
+    Contract,
+    /// They break what a guard is for.
+    BrokenContract,
+    /// They have a sum or a product that no `usize` of this target has, and the function says what it does then, or no caller has them.
+    NoWord,
+}
+
+impl Of {
+    /// Returns what arguments are that break the contract if the first is true, and whose sum or product is the second.
+    pub fn new(is_broken: bool, most: u128) -> Self {
+        match () {
+            () if usize::BITS < 64 && most > usize::MAX as u128 => Self::NoWord,
+            () if is_broken => Self::BrokenContract,
+            () => Self::Contract,
+        }
+    }
+}
+
 /// What else than its arguments a function depends on.
 #[derive(Clone, Copy, PartialEq)]
 pub enum With {
@@ -665,12 +741,12 @@ pub enum With {
 }
 
 impl Run {
-    /// Compares a function. `breaks` tells whether the choices break its contract.
+    /// Compares a function. `of_case` tells what the arguments of a case are.
     pub fn compare(
         &mut self,
         name: &str,
         with: With,
-        mut breaks: impl FnMut(&mut Choices) -> bool,
+        mut of_case: impl FnMut(&mut Choices) -> Of,
         mut rust: impl FnMut(&mut Choices) -> Vec<u64>,
         mut mir: impl FnMut(&mut Choices) -> Vec<u64>,
     ) {
@@ -683,7 +759,7 @@ impl Run {
         let mut most = if has_device { MOST_OF_ANSWERS } else { MOST_OF_ALL };
         let mut random = self.random;
         while counts.cases < most {
-            counts.case(&mut choices, &mut breaks, &mut rust, &mut mir);
+            counts.case(&mut choices, Some(&mut of_case), &mut rust, &mut mir);
             if !has_device && choices.combinations() > u128::from(MOST_OF_ALL) {
                 (most, random) = (0, self.random * 10);
             }
@@ -693,7 +769,7 @@ impl Run {
             }
         }
         if !is_whole || with == With::Writer {
-            self.at_random(random, &mut counts, &mut breaks, &mut rust, &mut mir);
+            self.at_random(random, &mut counts, Some(&mut of_case), &mut rust, &mut mir);
         }
         self.report(name, is_whole, &counts);
     }
@@ -709,15 +785,15 @@ impl Run {
             return;
         }
         let mut counts = Counts::default();
-        self.at_random(self.sequences, &mut counts, &mut |_| false, &mut rust, &mut mir);
+        self.at_random(self.sequences, &mut counts, None, &mut rust, &mut mir);
         self.report(name, false, &counts);
     }
 
-    fn at_random(&self, count: u64, counts: &mut Counts, breaks: &mut dyn FnMut(&mut Choices) -> bool, rust: Side, mir: Side) {
+    fn at_random(&self, count: u64, counts: &mut Counts, mut of_case: Option<&mut dyn FnMut(&mut Choices) -> Of>, rust: Side, mir: Side) {
         let mut choices = Choices::new(Mode::Random, self.seed ^ 0xD1B5_4A32_D192_ED03);
         for turn in 0..count {
             choices.answers = 3 + if turn % 8 == 0 { 700 } else { turn as usize % 90 };
-            counts.case(&mut choices, breaks, rust, mir);
+            counts.case(&mut choices, of_case.as_mut().map(|of_case| &mut **of_case as _), rust, mir);
             choices.advance();
         }
     }
