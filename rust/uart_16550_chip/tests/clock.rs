@@ -146,6 +146,22 @@ fn a_timeout_that_cannot_be_triggered_is_tried_again() {
     assert_eq!(line.count.get(), 2);
 }
 
+/// A read of DATA that brings a character with an error to the front raises the line. That is no timeout, and not put off.
+#[test]
+fn a_rise_in_a_read_of_data_is_signalled_at_once() {
+    let (line, put_off) = (Line::default(), PutOff::default());
+    let mut serial: Device = Serial::with_events(&line, &put_off, sink());
+    serial.set_clock(true);
+    serial.write(FCR, 0x81).unwrap();
+    serial.write(IER, 0x04).unwrap();
+    serial.enqueue_raw_bytes(b"a").unwrap();
+    serial.enqueue_with_errors(b'b', LSR::PARITY_ERROR).unwrap();
+    assert_eq!((line.count.get(), serial.level()), (0, false));
+    assert_eq!(serial.read(DATA), b'a');
+    assert_eq!((line.count.get(), serial.level()), (1, true));
+    assert!(!serial.is_timeout_to_come());
+}
+
 /// A state has nothing that is put off. A device that continues from it interrupts the guest if its line is up.
 #[test]
 fn what_is_put_off_is_not_lost_with_a_state() {
