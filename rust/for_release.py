@@ -24,6 +24,7 @@ KEYS = "name version edition rust-version description license readme repository 
 # The host of an address that nobody has. No other name ends so: https://www.rfc-editor.org/rfc/rfc2606
 NOBODY = ".invalid"
 STAND_INS = re.compile(r"\n(?:#.*\n)*\[patch\.crates-io\]\n(?:.+\n)*")
+# Members of the workspace that are not below rust, of which any number may be there.
 OUTSIDE = re.compile(r', "examples/[^"]*"')
 CHECKOUT = re.compile(r'path = "\.\./geesetrunk/rust/[^"]*"')
 BESIDE = re.compile(r"With a checkout of the repository beside (your program|it):")
@@ -140,7 +141,7 @@ def make(found, target):
             shutil.copy2(TOP / name, target / name)
     manifest = target / "Cargo.toml"
     text = replaced("Cargo.toml", STAND_INS, "", manifest.read_text(encoding="utf-8"))
-    manifest.write_text(replaced("Cargo.toml", OUTSIDE, "", text), encoding="utf-8")
+    manifest.write_text(OUTSIDE.sub("", text), encoding="utf-8")
     for folder, package in found.items():
         for licence in LICENCES:
             shutil.copy2(TOP / licence, target / folder / licence)
