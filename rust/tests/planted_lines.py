@@ -11,6 +11,7 @@ SERIAL = 'rust/uart_16550_chip/src/serial.rs'
 BYTES = 'rust/uart_16550_chip/src/serial/bytes.rs'
 SERDE = 'rust/uart_16550_chip/src/serial/serde.rs'
 AROUND = 'rust/uart_16550_vmm/src/linux.rs'
+INPUT = 'rust/uart_16550_vmm/src/input.rs'
 
 LOAD = '''    barrier();
     // SAFETY: by the promise of the caller.
@@ -103,6 +104,7 @@ KNOWN = [
     (DESIGN_WARE, 'line: LCR::from_bits_retain(0),', '1', 'before LCR is written, DLAB alone counts of it'),
     (AROUND, 'const CLOSE_ON_EXEC: c_int = if IS_SPARC', '4194305', 'no test runs on SPARC'),
     (AROUND, '    0x4000', '16385', 'no test runs on SPARC'),
+    (INPUT, 'bytes: [0; CHUNK],', '1', 'bytes are written before they are read'),
     (AROUND, 'const IS_SPARC', None, 'no test runs on SPARC'),
     (AROUND, 'const IS_MIPS', None, 'no test runs on MIPS'),
     (AROUND, '        }; 8];', None, 'it is no matter how many events are told at a time'),

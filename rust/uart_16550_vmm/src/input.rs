@@ -72,7 +72,8 @@ impl<R: Read> Input<R> {
             let count = match serial.enqueue_raw_bytes(waiting) {
                 Ok(count) => count,
                 Err(Refused::Trigger(failed)) => failed.taken,
-                Err(_) => 0,
+                // There is room, so this does not come.
+                Err(_) => break,
             };
             if count == 0 {
                 break;

@@ -86,11 +86,17 @@ fn a_source_may_have_nothing_be_interrupted_fail_and_end() {
 #[test]
 fn a_source_that_is_always_interrupted_is_given_up() {
     let mut serial = device();
-    let interrupted = || Err(ErrorKind::Interrupted);
-    let mut input = Input::new(Source((0..17).map(|_| interrupted()).collect()));
+    let interrupted = |times| {
+        let interruptions = (0..times).map(|_| Err(ErrorKind::Interrupted));
+        Source(interruptions.chain([Ok(vec![1])]).collect())
+    };
+    let mut input = Input::new(interrupted(15));
+    assert_eq!(input.offer(&mut serial).unwrap(), 1);
+    serial.read(0);
+    let mut input = Input::new(interrupted(16));
     let failed = input.offer(&mut serial).unwrap_err();
     assert_eq!(failed.kind(), ErrorKind::Interrupted);
-    assert_eq!(input.offer(&mut serial).unwrap(), 0);
+    assert_eq!(input.offer(&mut serial).unwrap(), 1);
 }
 
 /// What was received although the interrupt failed is not offered again.
