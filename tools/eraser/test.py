@@ -390,8 +390,10 @@ EXPORTED = [
     ("Clone, PartialEq", "Clone, Copy, PartialEq", "crate::Kept: exported as `derive(Clone, Copy, PartialEq)"),
     ("mod inner;", "pub mod inner;", "crate::inner: exported, and not by the proved library"),
     ("{Kept, Other}", "{Kept, Other, Third}", "crate::use inner :: Third: exported, and not"),
-    ("mod inner;", "mod inner;\nstatic COUNT: u8 = 1;", "crate: the word `static`"),
-    ("        self.items[count]", "        static COUNT: u8 = 1;\n        self.items[count]", "crate: the word `static`"),
+    ("mod inner;", "mod inner;\nstatic COUNT: u8 = 1;", "crate: `static`, which no library has"),
+    ("        self.items[count]", "        static COUNT: u8 = 1;\n        self.items[count]", "crate: `static`, which no library has"),
+    ("        self.items[count]", "        self as *const Self as u8", "crate: `* const`, which no library has"),
+    ("        self.items[count]", "        cfg!(unix) as u8", "crate: `cfg`, which no library has"),
     ("mod inner;", "mod inner;\nimpl<B> Drop for Kept<B> {\n    fn drop(&mut self) {}\n}", "Drop for Kept < B >: exported, and not"),
 ]
 

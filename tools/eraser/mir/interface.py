@@ -10,8 +10,9 @@ import re
 TOKEN = re.compile(r"'\w+(?!')|\w+|b?\"(?:\\.|[^\"\\])*\"|b?'(?:\\.|[^'\\])+'|::|->|=>|[^\s\w]")
 COMMENT = re.compile(r"//[^\n]*")
 WORDS_OF_ITEMS = ("fn", "struct", "enum", "union", "trait", "mod", "use", "const", "static", "type", "impl", "macro_rules")
-# What no library has: what is kept between calls, and code that is made.
-FORBIDDEN = ("static", "macro_rules", "unsafe")
+# What no library has: what is kept between calls, what depends on how or where code is compiled, and code that is made.
+FORBIDDEN = ("static", "macro_rules", "unsafe", "cfg", "env", "option_env", "include", "thread_local", "as_ptr", "addr_of", "size_of", "align_of")
+RAW = ("* const", "* mut", "& raw")
 # Attributes that say how something is compiled, and not what it is.
 PLAIN = re.compile(r"(inline|automatically_derived|default|read_as|allow|must_use)\b|cfg_attr \( not \( feature = \"exhaustive\"")
 
@@ -33,7 +34,8 @@ class Reader:
         self.items = []
         self.words = self.without_clauses()
         # inside of functions too
-        self.items += [Item(module, "", f"{word} ..") for word in FORBIDDEN if word in self.words]
+        text = f" {' '.join(self.words)} "
+        self.items += [Item(module, "", f"{words} ..") for words in FORBIDDEN + RAW if f" {words} " in text]
         self.read(0, len(self.words), module, "")
 
     def without_clauses(self):
@@ -218,8 +220,8 @@ def differences(emitted, library, rules):
     """What an emitted crate exports otherwise than the library: texts, and how many items were compared."""
     found, ours, proved = [], {}, {}
     for one in items(emitted, ".rs"):
-        if one.text.split(" ")[0] in FORBIDDEN and one.visibility == "":
-            found.append(f"{one.name}: the word `{one.text.split(' ')[0]}`, which no library has")
+        if one.visibility == "" and one.text.endswith(" .."):
+            found.append(f"{one.name}: `{one.text.removesuffix(' ..')}`, which no library has")
         elif one.visibility == "pub" and not rules.is_by_hand(one.name):
             ours[one.name] = one.text
     for one in items(library, ".rt"):
