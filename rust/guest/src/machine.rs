@@ -2,6 +2,7 @@
 
 use std::env;
 use std::fs;
+use std::mem;
 use std::path::PathBuf;
 use std::task::{Context, Poll, Waker};
 
@@ -55,6 +56,8 @@ pub trait Device: Send + Sized + 'static {
 
     /// Writes what it holds to the host.
     fn write_output(&mut self) {}
+    /// The time of four characters has passed, since it put an interrupt off.
+    fn pass_time(&mut self) {}
     /// Receives a break.
     fn receive_break(&mut self) {
         unimplemented!("this device receives no break");
@@ -109,6 +112,8 @@ impl Plan {
 /// The host comes after so many nanoseconds of the guest if that makes no more accesses.
 const LATENCY: i64 = 20_000;
 const MILLISECOND: i64 = 1_000_000;
+/// Four characters at 115,200 baud.
+const FOUR_CHARACTERS: i64 = 350_000;
 /// After so many milliseconds of the guest in which nothing moved, nothing ever will.
 const PATIENCE: u64 = 120_000;
 /// How many milliseconds before a machine is saved the host hands over nothing more. So the guest waits for an interrupt when it is saved.
@@ -132,6 +137,8 @@ struct Whole<D> {
     session: Session,
     /// The host was called, and comes after so many accesses.
     comes_in: Option<u32>,
+    /// When the device is told that time has passed.
+    time_passes: Option<i64>,
     /// Whether the last read of ISR showed no cause.
     has_ended: bool,
     /// How many bytes had moved when one moved for the last time, and when that was.
@@ -178,6 +185,7 @@ impl<D: Device> Whole<D> {
             device: None,
             session,
             comes_in: None,
+            time_passes: None,
             has_ended: true,
             moved: None,
             saving: Saving::No,
@@ -237,8 +245,14 @@ impl<D: Device> Whole<D> {
         self.be_called();
     }
 
-    /// Notes that the host was called, unless that is known.
+    /// Notes that the host was called, unless that is known, and that the device waits for time to pass.
     fn be_called(&mut self) {
+        if mem::take(&mut self.wire.lock().awaits_time) {
+            self.time_passes = Some(Clock::Guest.now() + FOUR_CHARACTERS);
+            if self.comes_in.is_none() {
+                self.qemu.wake_in(Clock::Guest, FOUR_CHARACTERS);
+            }
+        }
         if self.comes_in.is_none() && self.wire.lock().is_called {
             self.comes_in = Some(self.plan.delay);
             self.qemu.wake_in(Clock::Guest, LATENCY);
@@ -321,7 +335,12 @@ impl<D: Device> Whole<D> {
             Some((before, _)) if before == moved => {}
             _ => self.moved = Some((moved, time)),
         }
-        self.qemu.wake_in(Clock::Guest, MILLISECOND);
+        let now = Clock::Guest.now();
+        if self.time_passes.take_if(|end| *end <= now).is_some() {
+            self.device().pass_time();
+        }
+        let next = self.time_passes.map_or(MILLISECOND, |end| end - now);
+        self.qemu.wake_in(Clock::Guest, next.min(MILLISECOND));
         // Who was not called does not come: else nobody would see that the device told nothing.
         if self.comes_in.take().is_some() || self.wire.lock().is_called {
             self.come();

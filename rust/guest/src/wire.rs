@@ -90,6 +90,8 @@ pub struct State {
     pub pace: Option<usize>,
     /// The host has something to do: the device told of room for input, something was typed, or output is taken again.
     pub is_called: bool,
+    /// The device is to be told when the time of four characters has passed.
+    pub awaits_time: bool,
     pub requests: VecDeque<Request>,
     pub counts: Counts,
     /// What was counted when that began which may be saved.
@@ -113,6 +115,7 @@ impl Default for Wire {
             budget: usize::MAX,
             pace: None,
             is_called: false,
+            awaits_time: false,
             requests: VecDeque::new(),
             counts: Counts::default(),
             mark: Counts::default(),
@@ -146,6 +149,11 @@ impl Wire {
     /// The device holds output. The host comes when it takes some again.
     pub fn is_held(&self) {
         self.lock().counts.held += 1;
+    }
+
+    /// The device put an interrupt off.
+    pub fn awaits_time(&self) {
+        self.lock().awaits_time = true;
     }
 
     /// The device lost a byte of output.

@@ -3,6 +3,7 @@
 #![cfg(all(target_os = "linux", target_arch = "x86_64"))]
 
 use std::convert::Infallible;
+use std::env;
 
 use guest::wire::{Settings, Wire};
 use guest::{Device, Interrupt};
@@ -48,6 +49,10 @@ impl SerialEvents for Events {
         self.0.lost();
     }
 
+    fn timeout_to_come(&self) {
+        self.0.awaits_time();
+    }
+
     fn out_break(&self, begins: bool) {
         if begins {
             self.0.breaks();
@@ -67,10 +72,16 @@ fn lines(is_ready: bool) -> MSR {
     }
 }
 
+/// Whether the monitor has a clock: `GUEST_CLOCK`.
+fn has_clock() -> bool {
+    env::var_os("GUEST_CLOCK").is_some()
+}
+
 impl Device for Port {
     fn new(interrupt: Interrupt, wire: Wire) -> Self {
         let mut serial = Serial::with_events(Line(interrupt), Events(wire.clone()), wire);
         serial.set_lines(lines(true)).expect("nothing fails here");
+        serial.set_clock(has_clock());
         Port(serial)
     }
 
@@ -93,6 +104,10 @@ impl Device for Port {
 
     fn write_output(&mut self) {
         self.0.write_output().expect("nothing fails here");
+    }
+
+    fn pass_time(&mut self) {
+        self.0.timeout_passed().expect("nothing fails here");
     }
 
     fn receive_break(&mut self) {
@@ -121,7 +136,10 @@ impl Device for Port {
     fn restore(state: &[u8], interrupt: Interrupt, wire: Wire) -> Result<Self, String> {
         let state = SerialState::from_bytes(state).map_err(|refused| refused.to_string())?;
         Serial::from_state(&state, Line(interrupt), Events(wire.clone()), wire)
-            .map(Port)
+            .map(|mut serial| {
+                serial.set_clock(has_clock());
+                Port(serial)
+            })
             .map_err(|refused| refused.to_string())
     }
 }
