@@ -4,8 +4,8 @@ What documents say and quote, and how long lines are; whether what ships stands 
 repository makes; then every proof, the wrong bodies in must-fail, every test and program of the proved crates, and beside them the tests
 of the eraser and of the Rust packages, their documentation, and the commands of the READMEs, which need no proof; and then side by side
 what needs what was proved: refused memory, uart_port on an emulated PC, the programs, the emitted Rust compared with the proved MIR, a
-dozen of the wrong bodies that are tried by hand, the example monitor, the tty driver in Linux, the library for C, and the Rust packages
-compared with it.
+dozen of the wrong bodies that are tried by hand, the example monitor, the tty driver in Linux, Linux on the device for monitors, the
+library for C, and the Rust packages compared with it.
 
 A command that passed on this machine with the same files, tools and kit is not run again: its line names it and says what it counted then.
 `rt ci` is always run, and decides by itself what it keeps. CI=full runs everything, as the nightly does; with WORDs only the commands
@@ -79,9 +79,12 @@ COMMANDS = [
     # These wait for other machines as a person would. Each takes less than a core, so they run side by side, and nothing else beside them.
     Command("integration/monitor", **OVER | {"without": OF_RUST}),
     Command("integration/linux", **OVER | {"without": OF_RUST}),
+    # This one waits for nothing, and takes a core.
+    Command("integration/guest", **OVER | {"without": OF_RUST}),
 ]
-for alone in COMMANDS[-2:]:
-    alone.after = [one.words for one in COMMANDS[:-2]]
+ALONE = 3
+for alone in COMMANDS[-ALONE:]:
+    alone.after = [one.words for one in COMMANDS[:-ALONE]]
 
 PRINTING = threading.Lock()
 # What `rt ci` has settled so far, as the names that others wait for.

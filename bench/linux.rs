@@ -2,6 +2,10 @@
 //!
 //! The accesses are those of `drivers/tty/serial/8250/8250_port.c` of Linux 6.1: `serial8250_interrupt`, `serial8250_handle_irq`,
 //! `serial8250_rx_chars`, `serial8250_tx_chars` and `serial8250_start_tx`. Its interrupt controller keeps one edge.
+//!
+//! The host comes when the device says that there is room for input, some accesses of the guest later: so input comes while the handler
+//! runs, as in a machine whose monitor has a thread for it. If the guest makes no access the host comes at once.
+//! `integration/guest measure` counts the same with Linux itself.
 
 use std::cell::Cell;
 use std::rc::Rc;
@@ -27,23 +31,41 @@ const FIFO_AT_8: u8 = 0x81;
 /// How many bytes Linux writes at one interrupt, and reads at most.
 const BURST: usize = 16;
 const MOST_READ: usize = 256;
+/// How often the handler looks for a cause at most.
+const MOST_PASSES: usize = 512;
 /// How many bytes its transmit ring has room for.
 const RING: usize = 4096;
 /// How many bytes go each way.
 const MEGABYTE: usize = 1 << 20;
 
-/// The edges of the interrupt line.
+/// What a device tells: the edges of the interrupt line, and that there is room for input.
 #[derive(Clone, Default)]
-pub struct Edges {
+pub struct Signals {
     is_latched: Rc<Cell<bool>>,
-    count: Rc<Cell<u64>>,
+    triggers: Rc<Cell<u64>>,
+    has_room: Rc<Cell<bool>>,
+    rooms: Rc<Cell<u64>>,
 }
 
-impl Edges {
+impl Signals {
     /// The device triggers.
     pub fn trigger(&self) {
         self.is_latched.set(true);
-        self.count.set(self.count.get() + 1);
+        self.triggers.set(self.triggers.get() + 1);
+    }
+
+    /// The device has room for input.
+    pub fn tell_room(&self) {
+        self.has_room.set(true);
+        self.rooms.set(self.rooms.get() + 1);
+    }
+
+    /// Begins to count.
+    fn clear(&self) {
+        self.triggers.set(0);
+        self.rooms.set(0);
+        // Nothing waits, so the host may begin.
+        self.has_room.set(true);
     }
 }
 
@@ -59,53 +81,108 @@ pub trait Device {
     fn pass_time(&mut self) {}
 }
 
-/// A guest with Linux's driver.
+/// A host that has input.
+struct Host {
+    left: usize,
+    /// How many characters it has at a time.
+    piece: usize,
+    /// After how many accesses of the guest it comes, when the device has told of room.
+    delay: u32,
+    /// It is on its way.
+    comes_in: Option<u32>,
+    reads: u64,
+}
+
+/// A guest with Linux's driver, and its host.
 struct Linux<D> {
     device: D,
-    edges: Edges,
+    signals: Signals,
+    host: Host,
     ier: u8,
     /// A write to IER does not trigger: Linux finds this out at startup, and writes the first bytes itself.
     has_txen_bug: bool,
     to_send: usize,
     received: usize,
     runs: u64,
+    vain: u64,
 }
 
 impl<D: Device> Linux<D> {
-    fn new(device: D, edges: Edges) -> Self {
+    fn new(device: D, signals: Signals, host: Host) -> Self {
         let mut linux = Linux {
             device,
-            edges,
+            signals,
+            host,
             ier: 0,
             has_txen_bug: false,
             to_send: 0,
             received: 0,
             runs: 0,
+            vain: 0,
         };
         linux.device.write(FCR, FIFO_AT_8);
-        linux.enable(THRI);
+        linux.ier = THRI;
+        linux.device.write(IER, THRI);
         let status = linux.device.read(LSR);
         let identification = linux.device.read(IIR);
         linux.has_txen_bug = status & TRANSMITTER_EMPTY != 0 && identification & NO_INTERRUPT != 0;
-        linux.enable(RLSI | RDI);
+        linux.ier = RLSI | RDI;
+        linux.device.write(IER, RLSI | RDI);
+        linux.signals.has_room.set(false);
         linux.handle_interrupts();
-        linux.edges.count.set(0);
+        linux.signals.clear();
+        linux.runs = 0;
+        linux.vain = 0;
         linux
+    }
+
+    fn read(&mut self, offset: u8) -> u8 {
+        let value = self.device.read(offset);
+        self.after_access();
+        value
+    }
+
+    fn write(&mut self, offset: u8, value: u8) {
+        self.device.write(offset, value);
+        self.after_access();
+    }
+
+    /// The host comes, if it was called so many accesses ago.
+    fn after_access(&mut self) {
+        if self.host.comes_in.is_none() && self.signals.has_room.take() {
+            self.host.comes_in = Some(self.host.delay);
+        }
+        match self.host.comes_in {
+            Some(0) => self.offer(),
+            Some(left) => self.host.comes_in = Some(left - 1),
+            None => {}
+        }
+    }
+
+    /// The host hands over what it has, as much as there is room for.
+    fn offer(&mut self) {
+        self.host.comes_in = None;
+        let count = self.host.piece.min(self.device.room()).min(self.host.left);
+        if count > 0 {
+            self.host.left -= count;
+            self.host.reads += 1;
+            self.device.receive(&[b'y'; MOST_READ][..count]);
+        }
     }
 
     fn enable(&mut self, interrupts: u8) {
         self.ier = interrupts;
-        self.device.write(IER, interrupts);
+        self.write(IER, interrupts);
     }
 
     /// `serial8250_rx_chars`. Returns LSR as it was read last.
     fn receive(&mut self, mut status: u8) -> u8 {
         for _ in 0..MOST_READ {
             if status & DATA_READY != 0 {
-                self.device.read(DATA);
+                self.read(DATA);
                 self.received += 1;
             }
-            status = self.device.read(LSR);
+            status = self.read(LSR);
             if status & (DATA_READY | BREAK) == 0 {
                 break;
             }
@@ -116,7 +193,7 @@ impl<D: Device> Linux<D> {
     /// `serial8250_tx_chars`.
     fn send(&mut self) {
         for _ in 0..BURST.min(self.to_send) {
-            self.device.write(DATA, b'x');
+            self.write(DATA, b'x');
             self.to_send -= 1;
         }
         if self.to_send == 0 {
@@ -129,7 +206,7 @@ impl<D: Device> Linux<D> {
         self.to_send = count;
         if self.ier & THRI == 0 {
             self.enable(self.ier | THRI);
-            if self.has_txen_bug && self.device.read(LSR) & THR_EMPTY != 0 {
+            if self.has_txen_bug && self.read(LSR) & THR_EMPTY != 0 {
                 self.send();
             }
         }
@@ -137,14 +214,18 @@ impl<D: Device> Linux<D> {
 
     /// `serial8250_interrupt`, as often as an edge is latched.
     fn handle_interrupts(&mut self) {
-        while self.edges.is_latched.take() {
+        while self.signals.is_latched.take() {
             self.runs += 1;
-            while self.device.read(IIR) & NO_INTERRUPT == 0 {
-                let mut status = self.device.read(LSR);
+            for pass in 0..MOST_PASSES {
+                if self.read(IIR) & NO_INTERRUPT != 0 {
+                    self.vain += u64::from(pass == 0);
+                    break;
+                }
+                let mut status = self.read(LSR);
                 if status & (DATA_READY | BREAK) != 0 {
                     status = self.receive(status);
                 }
-                self.device.read(MSR);
+                self.read(MSR);
                 if status & THR_EMPTY != 0 && self.ier & THRI != 0 {
                     self.send();
                 }
@@ -153,32 +234,30 @@ impl<D: Device> Linux<D> {
     }
 }
 
-/// What is sent and received: how many bytes, and in pieces of how many the input comes, if there is room for so many.
+/// What is sent and received: how many bytes, in pieces of how many the host has its input, and when it comes.
 struct Work {
     what: &'static str,
     out: usize,
     input: usize,
     piece: usize,
+    delay: u32,
 }
 
-/// Prints how often the device triggers.
-fn measure<D: Device>(name: &str, work: &Work, device: D, edges: &Edges) {
-    let Work {
-        what,
-        out,
-        input,
-        piece,
-    } = *work;
-    let mut linux = Linux::new(device, edges.clone());
-    let (mut left_out, mut left_in) = (out, input);
-    let bytes = [b'y'; MOST_READ];
-    linux.runs = 0;
-    while left_out > 0 || left_in > 0 {
-        let count = piece.min(linux.device.room()).min(left_in);
-        if count > 0 {
-            linux.device.receive(&bytes[..count]);
-            left_in -= count;
-        }
+/// Prints what the device told meanwhile.
+fn measure<D: Device>(name: &str, work: &Work, device: D, signals: &Signals) {
+    let host = Host {
+        left: work.input,
+        piece: work.piece,
+        delay: work.delay,
+        comes_in: None,
+        reads: 0,
+    };
+    let mut linux = Linux::new(device, signals.clone(), host);
+    let mut left_out = work.out;
+    while left_out > 0 || linux.received < work.input {
+        // The guest makes no access, so the host comes. It has input again.
+        linux.signals.has_room.set(false);
+        linux.offer();
         let chunk = RING.min(left_out);
         if chunk > 0 {
             linux.start_to_send(chunk);
@@ -190,35 +269,64 @@ fn measure<D: Device>(name: &str, work: &Work, device: D, edges: &Edges) {
         assert_eq!(linux.to_send, 0, "the guest waits for ever");
         assert_eq!(
             linux.received,
-            input - left_in,
+            work.input - linux.host.left,
             "the guest has not read all"
         );
     }
     println!(
-        "{name:<10} {what:<34} {:>9} triggers {:>9} runs of the handler",
-        edges.count.get(),
-        linux.runs
+        "{name:<10} {:<46} {:>9} triggers {:>9} runs of the handler {:>9} for nothing {:>9} host reads {:>9} times room",
+        work.what,
+        signals.triggers.get(),
+        linux.runs,
+        linux.vain,
+        linux.host.reads,
+        signals.rooms.get()
     );
 }
 
-/// Counts over a device, which `make` makes with this line.
-pub fn run<D: Device>(name: &str, make: impl Fn(Edges) -> D) {
-    for (what, out, input, piece) in [
-        ("1 MB out", MEGABYTE, 0, 0),
-        ("1 MB in, byte by byte", 0, MEGABYTE, 1),
-        ("1 MB in, in pieces of 7", 0, MEGABYTE, 7),
-        ("1 MB in, in pieces of 16", 0, MEGABYTE, 16),
-        ("1 MB in, as much as there is room", 0, MEGABYTE, MOST_READ),
-        ("1 MB each way, byte by byte", MEGABYTE, MEGABYTE, 1),
-        ("1 MB each way, in pieces of 16", MEGABYTE, MEGABYTE, 16),
+/// Later than any access of a run of the handler.
+const NEVER: u32 = u32::MAX;
+
+/// Counts over a device, which `make` makes with these signals.
+pub fn run<D: Device>(name: &str, make: impl Fn(Signals) -> D) {
+    for (what, out, input, piece, delay) in [
+        ("1 MB out", MEGABYTE, 0, 0, NEVER),
+        ("1 MB in, typed byte by byte", 0, MEGABYTE, 1, NEVER),
+        ("1 MB in, in pieces of 7", 0, MEGABYTE, 7, NEVER),
+        ("1 MB in, the host comes at once", 0, MEGABYTE, MOST_READ, 0),
+        ("1 MB in, after 2 accesses", 0, MEGABYTE, MOST_READ, 2),
+        ("1 MB in, after 8 accesses", 0, MEGABYTE, MOST_READ, 8),
+        ("1 MB in, after 64 accesses", 0, MEGABYTE, MOST_READ, 64),
+        (
+            "1 MB each way, the host comes at once",
+            MEGABYTE,
+            MEGABYTE,
+            MOST_READ,
+            0,
+        ),
+        (
+            "1 MB each way, after 8 accesses",
+            MEGABYTE,
+            MEGABYTE,
+            MOST_READ,
+            8,
+        ),
+        (
+            "1 MB each way, after 64 accesses",
+            MEGABYTE,
+            MEGABYTE,
+            MOST_READ,
+            64,
+        ),
     ] {
-        let edges = Edges::default();
+        let signals = Signals::default();
         let work = Work {
             what,
             out,
             input,
             piece,
+            delay,
         };
-        measure(name, &work, make(edges.clone()), &edges);
+        measure(name, &work, make(signals.clone()), &signals);
     }
 }

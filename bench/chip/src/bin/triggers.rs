@@ -3,12 +3,12 @@
 #[path = "../../../linux.rs"]
 mod linux;
 
-use linux::{Device, Edges};
+use linux::{Device, Signals};
 use std::convert::Infallible;
 use std::io::{Sink, sink};
-use uart_16550_chip::{NoEvents, Serial, Trigger};
+use uart_16550_chip::{Serial, SerialEvents, Trigger};
 
-struct Line(Edges);
+struct Line(Signals);
 
 impl Trigger for Line {
     type E = Infallible;
@@ -19,7 +19,21 @@ impl Trigger for Line {
     }
 }
 
-struct Port(Serial<Line, NoEvents, Sink>);
+struct Events(Signals);
+
+impl SerialEvents for Events {
+    fn buffer_read(&self) {}
+
+    fn out_byte(&self) {}
+
+    fn tx_lost_byte(&self) {}
+
+    fn in_buffer_empty(&self) {
+        self.0.tell_room();
+    }
+}
+
+struct Port(Serial<Line, Events, Sink>);
 
 impl Device for Port {
     fn read(&mut self, offset: u8) -> u8 {
@@ -44,13 +58,13 @@ impl Device for Port {
     }
 }
 
-fn port(edges: Edges, has_clock: bool) -> Port {
-    let mut serial = Serial::new(Line(edges), sink());
+fn port(signals: Signals, has_clock: bool) -> Port {
+    let mut serial = Serial::with_events(Line(signals.clone()), Events(signals), sink());
     serial.set_clock(has_clock);
     Port(serial)
 }
 
 fn main() {
-    linux::run("Serial", |edges| port(edges, false));
-    linux::run("with clock", |edges| port(edges, true));
+    linux::run("Serial", |signals| port(signals, false));
+    linux::run("with clock", |signals| port(signals, true));
 }

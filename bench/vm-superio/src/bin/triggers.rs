@@ -3,13 +3,13 @@
 #[path = "../../../linux.rs"]
 mod linux;
 
-use linux::{Device, Edges};
+use linux::{Device, Signals};
 use std::convert::Infallible;
 use std::io::{sink, Sink};
-use vm_superio::serial::NoEvents;
+use vm_superio::serial::SerialEvents;
 use vm_superio::{Serial, Trigger};
 
-struct Line(Edges);
+struct Line(Signals);
 
 impl Trigger for Line {
     type E = Infallible;
@@ -20,7 +20,21 @@ impl Trigger for Line {
     }
 }
 
-struct Port(Serial<Line, NoEvents, Sink>);
+struct Events(Signals);
+
+impl SerialEvents for Events {
+    fn buffer_read(&self) {}
+
+    fn out_byte(&self) {}
+
+    fn tx_lost_byte(&self) {}
+
+    fn in_buffer_empty(&self) {
+        self.0.tell_room();
+    }
+}
+
+struct Port(Serial<Line, Events, Sink>);
 
 impl Device for Port {
     fn read(&mut self, offset: u8) -> u8 {
@@ -42,5 +56,11 @@ impl Device for Port {
 }
 
 fn main() {
-    linux::run("vm-superio", |edges| Port(Serial::new(Line(edges), sink())));
+    linux::run("vm-superio", |signals| {
+        Port(Serial::with_events(
+            Line(signals.clone()),
+            Events(signals),
+            sink(),
+        ))
+    });
 }
