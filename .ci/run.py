@@ -3,9 +3,9 @@
 What documents say and quote, and how long lines are; whether what ships stands alone; whether pictures and the Rust packages are what the
 repository makes; then every proof, the wrong bodies in must-fail, every test and program of the proved crates, and beside them the tests
 of the eraser and of the Rust packages, their documentation, and the commands of the READMEs, which need no proof; and then side by side
-what needs what was proved: refused memory, uart_port on an emulated PC, the programs, the emitted Rust compared with the proved MIR, a
-dozen of the wrong bodies that are tried by hand, the example monitor, the tty driver in Linux, Linux on the device for monitors, the
-library for C, and the Rust packages compared with it.
+what needs what was proved: refused memory, uart_port on an emulated PC, the programs, the emitted Rust compared with the proved MIR, the
+C made of it, a dozen of the wrong bodies that are tried by hand, the example monitor, the tty driver in Linux, Linux on the device for
+monitors, the library for C, and the Rust packages compared with it.
 
 A command that passed on this machine with the same files, tools and kit is not run again: its line names it and says what it counted then.
 `rt ci` is always run, and decides by itself what it keeps. CI=full runs everything, as the nightly does; with WORDs only the commands
@@ -55,6 +55,8 @@ BESIDE = {"nice": 19, "without": [*PAGES, *PROOFS], "but": C_PAGES}
 # What cargo alone builds is made of the erased crates, and of no source in Rattle. The READMEs of those are read.
 OF_RUST = [*PAGES, "crates/*", "bench/*", "tools/*"]
 READMES = [*C_PAGES, "README.md", "*/README.md", "*/COMPAT.md"]
+# The two files of C, the program over them and over the library of Rust, and what that is made of.
+OF_C_FILES = [*PAGES, "crates/*", "bench/*", "tools/eraser/*", "integration/*", "examples/*"]
 # What is built by `rt ci` and read by these depends on the sources of the crates, which the sums have.
 OVER = {"after": [CI], "without": [*PAGES, "crates/*/must-fail/*"], "but": C_PAGES}
 COMMANDS = [
@@ -71,6 +73,8 @@ COMMANDS = [
     Command("integration/port", **OVER | {"without": OF_RUST}),
     Command("integration/programs", **OVER),
     Command("tools/eraser/mir/compare", **OVER),
+    Command("tools/c/emit --check", **OVER),
+    Command("tools/c/compare", **BESIDE | {"without": OF_C_FILES}),
     Command(".ci/edits-by-hand/try --after-ci --some 12", after=[CI], always=True),
     # It waits for the libraries below alone, and so runs beside what `rt ci` does last: that proves this crate too, and does not build it.
     Command(C, after=OF_C, always=True),

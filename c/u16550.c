@@ -1,0 +1,6638 @@
+/*
+ * u16550.c - a driver for serial chips of the 16550 family, with rings for interrupts. u16550.h says how it is used.
+ *
+ * Made by tools/c/emit from the code that is proved. Do not edit. Names and comments are those of its source, and what is computed
+ * is taken from what the proofs are about.
+ *
+ * The functions uart_* are the code that is proved. They check nothing that is proved never to happen, if their caller keeps what
+ * they ask for. The functions u16550_* at the end are that caller: they check what the program gives, and refuse what must not be.
+ */
+#include "u16550.h"
+
+/* Where the registers are. */
+enum {
+    UART_DATA = 0,
+    UART_IER = 1,
+    UART_FCR = 2,
+    UART_ISR = 2,
+    UART_LCR = 3,
+    UART_MCR = 4,
+    UART_LSR = 5,
+    UART_MSR = 6,
+    UART_SPR = 7
+};
+
+/* Bits that are in no interface. */
+enum {
+    U16550_FCR_FIFO_ENABLE = 0x01,
+    U16550_FCR_RX_FIFO_RESET = 0x02,
+    U16550_FCR_TX_FIFO_RESET = 0x04,
+    U16550_ISR_FIFOS_ENABLED0 = 0x40,
+    U16550_ISR_FIFOS_ENABLED1 = 0x80,
+    U16550_ISR_INTERRUPT_STATUS = 0x01,
+    U16550_LCR_DLAB = 0x80,
+    U16550_LCR_MORE_STOP_BITS = 0x04,
+    U16550_LCR_SET_BREAK = 0x40
+};
+
+/* Why a port cannot be taken as it is. */
+enum uart_attach_error {
+    UART_ATTACH_ERROR_NONE = 0,
+    UART_ATTACH_ERROR_DIVISOR_LATCH_OPEN = 1,
+    UART_ATTACH_ERROR_LOOPBACK = 2,
+    UART_ATTACH_ERROR_NO_DIVISOR = 3
+};
+
+struct uart_pair_of_u8 {
+    uint8_t first;
+    uint8_t second;
+};
+
+struct uart_pair_of_u8_or_attach_error {
+    enum uart_attach_error error;
+    struct uart_pair_of_u8 value;
+};
+
+enum uart_configuration_error_kind {
+    UART_CONFIGURATION_ERROR_NONE = 0,
+    UART_CONFIGURATION_ERROR_NO_DIVISOR = 1,
+    UART_CONFIGURATION_ERROR_LINE_CONTROL = 2,
+    UART_CONFIGURATION_ERROR_MODEM_CONTROL = 3,
+    UART_CONFIGURATION_ERROR_INTERRUPTS = 4,
+    UART_CONFIGURATION_ERROR_DIVISOR = 5,
+    UART_CONFIGURATION_ERROR_FIFOS = 6
+};
+
+/*
+ * What a chip shows in place of what was written to it. The first difference is told, in the order
+ * of the cases.
+ */
+struct uart_configuration_error {
+    enum uart_configuration_error_kind kind;
+    uint8_t line_control_expected;
+    uint8_t line_control_shown;
+    uint8_t modem_control_expected;
+    uint8_t modem_control_shown;
+    uint8_t interrupts_expected;
+    uint8_t interrupts_shown;
+    uint16_t divisor_expected;
+    uint16_t divisor_shown;
+    bool fifos_expected;
+    bool fifos_shown;
+};
+
+struct uart_maybe_u16 {
+    bool is_some;
+    uint16_t value;
+};
+
+enum uart_invalid_divisor_error_kind {
+    UART_INVALID_DIVISOR_ERROR_NONE = 0,
+    UART_INVALID_DIVISOR_ERROR_NON_INTEGER = 1,
+    UART_INVALID_DIVISOR_ERROR_OUT_OF_RANGE = 2
+};
+
+struct uart_non_integer_divisor_error {
+    uint32_t frequency;
+    uint32_t baud_rate;
+    struct u16550_core_maybe_u32 prescaler_division_factor;
+};
+
+/* Why there is no divisor for a baud rate. */
+struct uart_invalid_divisor_error {
+    enum uart_invalid_divisor_error_kind kind;
+    struct uart_non_integer_divisor_error non_integer;
+    uint32_t out_of_range;
+};
+
+struct uart_u16_or_invalid_divisor_error {
+    struct uart_invalid_divisor_error error;
+    uint16_t value;
+};
+
+/*
+ * Why the remote seems not to be connected, or not to be ready.
+ *
+ * Many cables never assert DSR, CD or CTS, so sending may still work. Check again after a modem
+ * status interrupt.
+ */
+enum uart_remote_ready_to_receive_error {
+    UART_REMOTE_READY_TO_RECEIVE_ERROR_NONE = 0,
+    UART_REMOTE_READY_TO_RECEIVE_ERROR_NO_REMOTE_CONNECTED_NO_DSR = 1,
+    UART_REMOTE_READY_TO_RECEIVE_ERROR_NO_REMOTE_CONNECTED_NO_CD = 2,
+    UART_REMOTE_READY_TO_RECEIVE_ERROR_REMOTE_NOT_CLEAR_TO_SEND = 3
+};
+
+/*
+ * The state of a driver without its backend: everything that a driver over another backend needs
+ * to continue.
+ */
+struct uart_driver_state {
+    struct u16550_core_config config;
+    bool fifo_enabled;
+    uint8_t saved_lsr;
+    uint8_t saved_msr;
+    uint64_t spin_limit;
+};
+
+enum uart_init_error_kind {
+    UART_INIT_ERROR_NONE = 0,
+    UART_INIT_ERROR_DEVICE_NOT_PRESENT = 1,
+    UART_INIT_ERROR_INVALID_BAUD_RATE = 2,
+    UART_INIT_ERROR_STALLED = 3
+};
+
+/* Why an initialisation failed. */
+struct uart_init_error {
+    enum uart_init_error_kind kind;
+    struct uart_invalid_divisor_error invalid_baud_rate;
+};
+
+/* When an initialisation waits until the transmitter is empty. */
+enum uart_transmitter_wait {
+    UART_TRANSMITTER_WAIT_FIRST = 0,
+    UART_TRANSMITTER_WAIT_LAST = 1,
+    UART_TRANSMITTER_WAIT_NEVER = 2
+};
+
+/* What an initialisation does beside writing the configuration, for Uart16550_init_with. */
+struct uart_setup {
+    bool checks_presence;
+    enum uart_transmitter_wait wait;
+    uint8_t outputs;
+};
+
+struct uart_maybe_non_zero_u64 {
+    bool is_some;
+    uint64_t value;
+};
+
+/* What becomes of the FIFOs when a port is left, for Uart16550_quiesce. */
+enum uart_fifo_action {
+    UART_FIFO_ACTION_KEEP = 0,
+    UART_FIFO_ACTION_RESET = 1,
+    UART_FIFO_ACTION_DISABLE = 2
+};
+
+/* Why no byte can be sent at the moment. */
+enum uart_byte_send_error {
+    UART_BYTE_SEND_ERROR_NONE = 0,
+    UART_BYTE_SEND_ERROR_NO_CAPACITY = 1,
+    UART_BYTE_SEND_ERROR_REMOTE_NOT_CLEAR_TO_SEND = 2
+};
+
+struct uart_maybe_stalled_error {
+    bool is_error;
+    size_t error;
+};
+
+struct uart_maybe_received {
+    bool is_some;
+    struct u16550_received value;
+};
+
+/*
+ * How many characters the transmitter FIFO of a chip holds, for Uart16550_send_burst.
+ *
+ * A 16550 has 16. No register that all chips have shows the size, so it is taken from the
+ * datasheet. If a size is given that is larger than the chip's, bytes are lost.
+ */
+enum uart_fifo_size {
+    UART_FIFO_SIZE_SIXTEEN = 0,
+    UART_FIFO_SIZE_THIRTY_TWO = 1,
+    UART_FIFO_SIZE_SIXTY_FOUR = 2,
+    UART_FIFO_SIZE_ONE_HUNDRED_TWENTY_EIGHT = 3,
+    UART_FIFO_SIZE_TWO_HUNDRED_FIFTY_SIX = 4
+};
+
+struct uart_maybe_u64 {
+    bool is_some;
+    uint64_t value;
+};
+
+enum uart_frame_error_kind {
+    UART_FRAME_ERROR_NONE = 0,
+    UART_FRAME_ERROR_INVALID_BAUD_RATE = 1,
+    UART_FRAME_ERROR_STALLED = 2
+};
+
+/* Why a change of the frame that waits for an empty transmitter failed. */
+struct uart_frame_error {
+    enum uart_frame_error_kind kind;
+    struct uart_invalid_divisor_error invalid_baud_rate;
+};
+
+enum uart_loopback_error_kind {
+    UART_LOOPBACK_ERROR_NONE = 0,
+    UART_LOOPBACK_ERROR_SEND_ERROR = 1,
+    UART_LOOPBACK_ERROR_UNEXPECTED_LOOPBACK_BYTE = 2,
+    UART_LOOPBACK_ERROR_UNEXPECTED_LOOPBACK_MSG = 3,
+    UART_LOOPBACK_ERROR_STALLED = 4
+};
+
+struct uart_bytes16 {
+    uint8_t bytes[16];
+};
+
+/* Why a loopback test failed. */
+struct uart_loopback_error {
+    enum uart_loopback_error_kind kind;
+    enum uart_byte_send_error send_error;
+    uint8_t unexpected_loopback_byte_expected;
+    uint8_t unexpected_loopback_byte_actual;
+    struct uart_bytes16 unexpected_loopback_msg_expected;
+    struct uart_bytes16 unexpected_loopback_msg_actual;
+};
+
+struct uart_bytes1 {
+    uint8_t bytes[1];
+};
+
+struct uart_maybe_bytes16 {
+    bool is_some;
+    struct uart_bytes16 value;
+};
+
+struct uart_u64_or_stalled_error {
+    bool is_error;
+    size_t error;
+    uint64_t value;
+};
+
+struct uart_bool_or_stalled_error {
+    bool is_error;
+    size_t error;
+    bool value;
+};
+
+/*
+ * A driver that sends text as terminals expect it.
+ *
+ * Backspace and delete are sent as backspace, space, backspace, and a line feed as carriage
+ * return, line feed. All other bytes are sent unchanged, also a carriage return. Bytes are
+ * expanded, not characters.
+ */
+struct uart_tty {
+    struct u16550_core_driver inner;
+};
+
+struct uart_bytes3 {
+    uint8_t bytes[3];
+};
+
+/* The bytes of one expansion, at most three. */
+struct uart_expansion {
+    struct uart_bytes3 first;
+    size_t second;
+};
+
+/*
+ * How much room in the receive ring turns RTS off, and how much turns it on again.
+ *
+ * Between the two RTS stays as it is, so it does not change with each byte. If release is less
+ * than hold, RTS is off below hold and on from there.
+ */
+struct uart_receive_marks {
+    size_t hold;
+    size_t release;
+};
+
+struct uart_slice {
+    const uint8_t *data;
+    size_t len;
+};
+
+struct uart_pair_of_slice {
+    struct uart_slice first;
+    struct uart_slice second;
+};
+
+/* Why a call of handle ended. */
+enum uart_handle_end {
+    UART_HANDLE_END_IDLE = 0,
+    UART_HANDLE_END_UNKNOWN = 1,
+    UART_HANDLE_END_LIMIT = 2
+};
+
+/* What a call of handle did. */
+struct uart_handled {
+    size_t served;
+    enum uart_handle_end end;
+};
+
+struct uart_maybe_interrupt_type {
+    bool is_some;
+    enum u16550_core_interrupt_type value;
+};
+
+struct uart_handled_or_stuck_error {
+    struct u16550_core_stuck_error error;
+    struct uart_handled value;
+};
+
+/* What lower_line did at a port. */
+struct uart_lowered {
+    struct uart_handled_or_stuck_error handled;
+    uint8_t enabled;
+};
+
+/* Why no rings were made: the first reason in this order. */
+enum uart_ring_error {
+    UART_RING_ERROR_NONE = 0,
+    UART_RING_ERROR_BAD_CAPACITY = 1,
+    UART_RING_ERROR_OUT_OF_MEMORY = 2
+};
+
+struct uart_pair_of_driver_ring_error {
+    struct u16550_core_driver first;
+    enum uart_ring_error second;
+};
+
+struct uart_ring_or_pair_of_driver_ring_error {
+    bool is_error;
+    struct uart_pair_of_driver_ring_error error;
+    struct u16550_core_ring value;
+};
+
+struct uart_maybe_byte_queue {
+    bool is_some;
+    struct u16550_core_byte_queue value;
+};
+
+struct uart_maybe_vec_u8 {
+    bool is_some;
+    struct u16550_core_vec_u8 value;
+};
+
+enum uart_nearest_divisor_error_kind {
+    UART_NEAREST_DIVISOR_ERROR_NONE = 0,
+    UART_NEAREST_DIVISOR_ERROR_TOO_FAR = 1,
+    UART_NEAREST_DIVISOR_ERROR_OUT_OF_RANGE = 2
+};
+
+/* Why the nearest divisor for a baud rate cannot be used. OutOfRange comes first. */
+struct uart_nearest_divisor_error {
+    enum uart_nearest_divisor_error_kind kind;
+    uint64_t too_far;
+    uint64_t out_of_range;
+};
+
+struct uart_config_or_nearest_divisor_error {
+    struct uart_nearest_divisor_error error;
+    struct u16550_core_config value;
+};
+
+struct uart_non_integer_baud_rate_error {
+    uint32_t frequency;
+    uint32_t divisor;
+    struct u16550_core_maybe_u32 prescaler_division_factor;
+};
+
+struct uart_baud_rate_or_non_integer_baud_rate_error {
+    bool is_error;
+    struct uart_non_integer_baud_rate_error error;
+    struct u16550_core_baud_rate value;
+};
+
+struct uart_u32_or_non_integer_baud_rate_error {
+    bool is_error;
+    struct uart_non_integer_baud_rate_error error;
+    uint32_t value;
+};
+
+/* --------------------------------------------------------------- the device */
+
+static inline uint8_t uart_device_read(struct u16550_device *device, uint8_t offset)
+{
+    uintptr_t address = (uintptr_t)(device->base + (uintptr_t)((uintptr_t)offset * device->stride));
+    return device->io.read(device->io.context, address);
+}
+
+static inline void uart_device_write(struct u16550_device *device, uint8_t offset, uint8_t value)
+{
+    uintptr_t address = (uintptr_t)(device->base + (uintptr_t)((uintptr_t)offset * device->stride));
+    device->io.write(device->io.context, address, value);
+}
+
+/* Memory of the caller, of which the rings take cells from the front. */
+struct uart_memory {
+    uint8_t *data;
+    size_t len;
+};
+
+/* The ports of a line: see u16550_line_handle. */
+struct uart_line_ports {
+    struct u16550_line_port *ports;
+    size_t count;
+};
+
+static struct uart_maybe_vec_u8
+uart_cells_in_memory(struct uart_memory *memory, uint8_t value, size_t count);
+static inline size_t uart_line_ports_number(const struct uart_line_ports *ports);
+static bool
+uart_line_ports_lower(struct uart_line_ports *ports, size_t port, size_t limit, uint32_t rounds);
+static void uart_line_ports_raise(struct uart_line_ports *ports, size_t port);
+
+/* Copies so many bytes between two places that do not overlap. */
+static inline void uart_copy_bytes(uint8_t *to, const uint8_t *from, size_t count)
+{
+    for (size_t i = 0; i < count; i++)
+        to[i] = from[i];
+}
+
+/* Sets so many bytes to one value. */
+static inline void uart_fill_bytes(uint8_t *to, uint8_t value, size_t count)
+{
+    for (size_t i = 0; i < count; i++)
+        to[i] = value;
+}
+
+/* Returns whether so many bytes are the same. */
+static inline bool uart_same_bytes(const uint8_t *one, const uint8_t *other, size_t count)
+{
+    for (size_t i = 0; i < count; i++) {
+        if (one[i] != other[i])
+            return false;
+    }
+    return true;
+}
+
+static const uint8_t uart_echo_whole_bytes[16] =
+    { 104, 101, 108, 108, 111, 32, 119, 111, 114, 108, 100, 33, 49, 51, 51, 55 };
+
+static const uint8_t uart_expansion_of_bytes[3] = { 8, 32, 8 };
+
+static const uint8_t uart_expansion_of_bytes2[3] = { 13, 10, 0 };
+
+static inline struct uart_pair_of_u8_or_attach_error
+uart_bad_pair_of_u8_or_attach_error(enum uart_attach_error error)
+{
+    struct uart_pair_of_u8_or_attach_error made = { error, { 0, 0 } };
+    return made;
+}
+
+static inline struct uart_pair_of_u8 uart_make_pair_of_u8(uint8_t first, uint8_t second)
+{
+    struct uart_pair_of_u8 made = { first, second };
+    return made;
+}
+
+static inline struct uart_pair_of_u8_or_attach_error
+uart_good_pair_of_u8_or_attach_error(struct uart_pair_of_u8 value)
+{
+    struct uart_pair_of_u8_or_attach_error made = { UART_ATTACH_ERROR_NONE, value };
+    return made;
+}
+
+static inline struct uart_maybe_u16 uart_no_u16(void)
+{
+    struct uart_maybe_u16 made = { false, 0 };
+    return made;
+}
+
+static inline struct u16550_core_maybe_u32 uart_some_u32(uint32_t value)
+{
+    struct u16550_core_maybe_u32 made = { true, value };
+    return made;
+}
+
+static inline struct u16550_core_maybe_u32 uart_no_u32(void)
+{
+    struct u16550_core_maybe_u32 made = { false, 0 };
+    return made;
+}
+
+static inline struct uart_u16_or_invalid_divisor_error
+uart_good_u16_or_invalid_divisor_error(uint16_t value)
+{
+    struct uart_u16_or_invalid_divisor_error made =
+        { { UART_INVALID_DIVISOR_ERROR_NONE, { 0, 0, { false, 0 } }, 0 }, value };
+    return made;
+}
+
+static inline struct uart_invalid_divisor_error
+uart_invalid_divisor_error_out_of_range(uint32_t out_of_range)
+{
+    struct uart_invalid_divisor_error made =
+        { UART_INVALID_DIVISOR_ERROR_OUT_OF_RANGE, { 0, 0, { false, 0 } }, out_of_range };
+    return made;
+}
+
+static inline struct uart_u16_or_invalid_divisor_error
+uart_bad_u16_or_invalid_divisor_error(struct uart_invalid_divisor_error error)
+{
+    struct uart_u16_or_invalid_divisor_error made = { error, 0 };
+    return made;
+}
+
+static inline struct uart_non_integer_divisor_error
+uart_make_non_integer_divisor_error(uint32_t frequency, uint32_t baud_rate,
+    struct u16550_core_maybe_u32 prescaler_division_factor)
+{
+    struct uart_non_integer_divisor_error made =
+        { frequency, baud_rate, prescaler_division_factor };
+    return made;
+}
+
+static inline struct uart_invalid_divisor_error
+uart_invalid_divisor_error_non_integer(struct uart_non_integer_divisor_error non_integer)
+{
+    struct uart_invalid_divisor_error made =
+        { UART_INVALID_DIVISOR_ERROR_NON_INTEGER, non_integer, 0 };
+    return made;
+}
+
+static inline struct uart_maybe_u16 uart_some_u16(uint16_t value)
+{
+    struct uart_maybe_u16 made = { true, value };
+    return made;
+}
+
+static inline struct uart_configuration_error uart_configuration_error_no_divisor(void)
+{
+    struct uart_configuration_error made =
+        { UART_CONFIGURATION_ERROR_NO_DIVISOR, 0, 0, 0, 0, 0, 0, 0, 0, false, false };
+    return made;
+}
+
+static inline struct uart_configuration_error
+uart_configuration_error_line_control(uint8_t line_control_expected, uint8_t line_control_shown)
+{
+    struct uart_configuration_error made =
+        { UART_CONFIGURATION_ERROR_LINE_CONTROL, line_control_expected, line_control_shown, 0, 0,
+        0, 0, 0, 0, false, false };
+    return made;
+}
+
+static inline struct uart_configuration_error uart_configuration_error_none(void)
+{
+    struct uart_configuration_error made =
+        { UART_CONFIGURATION_ERROR_NONE, 0, 0, 0, 0, 0, 0, 0, 0, false, false };
+    return made;
+}
+
+static inline struct uart_configuration_error
+uart_configuration_error_modem_control(uint8_t modem_control_expected, uint8_t modem_control_shown)
+{
+    struct uart_configuration_error made =
+        { UART_CONFIGURATION_ERROR_MODEM_CONTROL, 0, 0, modem_control_expected,
+        modem_control_shown, 0, 0, 0, 0, false, false };
+    return made;
+}
+
+static inline struct uart_configuration_error
+uart_configuration_error_interrupts(uint8_t interrupts_expected, uint8_t interrupts_shown)
+{
+    struct uart_configuration_error made =
+        { UART_CONFIGURATION_ERROR_INTERRUPTS, 0, 0, 0, 0, interrupts_expected, interrupts_shown,
+        0, 0, false, false };
+    return made;
+}
+
+static inline struct uart_configuration_error
+uart_configuration_error_divisor(uint16_t divisor_expected, uint16_t divisor_shown)
+{
+    struct uart_configuration_error made =
+        { UART_CONFIGURATION_ERROR_DIVISOR, 0, 0, 0, 0, 0, 0, divisor_expected, divisor_shown,
+        false, false };
+    return made;
+}
+
+static inline struct uart_configuration_error
+uart_configuration_error_fifos(bool fifos_expected, bool fifos_shown)
+{
+    struct uart_configuration_error made =
+        { UART_CONFIGURATION_ERROR_FIFOS, 0, 0, 0, 0, 0, 0, 0, 0, fifos_expected, fifos_shown };
+    return made;
+}
+
+static inline struct uart_init_error
+uart_init_error_invalid_baud_rate(struct uart_invalid_divisor_error invalid_baud_rate)
+{
+    struct uart_init_error made = { UART_INIT_ERROR_INVALID_BAUD_RATE, invalid_baud_rate };
+    return made;
+}
+
+static inline struct uart_init_error uart_init_error_device_not_present(void)
+{
+    struct uart_init_error made =
+        { UART_INIT_ERROR_DEVICE_NOT_PRESENT,
+        { UART_INVALID_DIVISOR_ERROR_NONE, { 0, 0, { false, 0 } }, 0 } };
+    return made;
+}
+
+static inline struct uart_init_error uart_init_error_stalled(void)
+{
+    struct uart_init_error made =
+        { UART_INIT_ERROR_STALLED, { UART_INVALID_DIVISOR_ERROR_NONE, { 0, 0, { false, 0 } }, 0 } };
+    return made;
+}
+
+static inline struct uart_init_error uart_init_error_none(void)
+{
+    struct uart_init_error made =
+        { UART_INIT_ERROR_NONE, { UART_INVALID_DIVISOR_ERROR_NONE, { 0, 0, { false, 0 } }, 0 } };
+    return made;
+}
+
+static inline struct u16550_core_maybe_fifo_trigger_level
+uart_some_fifo_trigger_level(enum u16550_core_fifo_trigger_level value)
+{
+    struct u16550_core_maybe_fifo_trigger_level made = { true, value };
+    return made;
+}
+
+static inline struct u16550_core_baud_rate uart_baud_rate_baud9600(void)
+{
+    struct u16550_core_baud_rate made = { U16550_CORE_BAUD_RATE_BAUD9600, 0 };
+    return made;
+}
+
+static inline struct u16550_core_maybe_fifo_trigger_level uart_no_fifo_trigger_level(void)
+{
+    struct u16550_core_maybe_fifo_trigger_level made =
+        { false, U16550_CORE_FIFO_TRIGGER_LEVEL_ONE };
+    return made;
+}
+
+static inline struct u16550_core_maybe_u8 uart_no_u8(void)
+{
+    struct u16550_core_maybe_u8 made = { false, 0 };
+    return made;
+}
+
+static inline struct u16550_core_maybe_u8 uart_some_u8(uint8_t value)
+{
+    struct u16550_core_maybe_u8 made = { true, value };
+    return made;
+}
+
+static inline struct uart_maybe_stalled_error uart_failed_stalled_error(size_t error)
+{
+    struct uart_maybe_stalled_error made = { true, error };
+    return made;
+}
+
+static inline struct uart_maybe_stalled_error uart_no_stalled_error(void)
+{
+    struct uart_maybe_stalled_error made = { false, 0 };
+    return made;
+}
+
+static inline struct uart_maybe_received uart_no_received(void)
+{
+    struct uart_maybe_received made = { false, { 0, 0 } };
+    return made;
+}
+
+static inline struct u16550_received uart_make_received(uint8_t byte, uint8_t errors)
+{
+    struct u16550_received made = { byte, errors };
+    return made;
+}
+
+static inline struct uart_maybe_received uart_some_received(struct u16550_received value)
+{
+    struct uart_maybe_received made = { true, value };
+    return made;
+}
+
+static inline struct uart_maybe_u64 uart_no_u64(void)
+{
+    struct uart_maybe_u64 made = { false, 0 };
+    return made;
+}
+
+static inline struct uart_maybe_u64 uart_some_u64(uint64_t value)
+{
+    struct uart_maybe_u64 made = { true, value };
+    return made;
+}
+
+static inline struct uart_invalid_divisor_error uart_invalid_divisor_error_none(void)
+{
+    struct uart_invalid_divisor_error made =
+        { UART_INVALID_DIVISOR_ERROR_NONE, { 0, 0, { false, 0 } }, 0 };
+    return made;
+}
+
+static inline struct uart_frame_error
+uart_frame_error_invalid_baud_rate(struct uart_invalid_divisor_error invalid_baud_rate)
+{
+    struct uart_frame_error made = { UART_FRAME_ERROR_INVALID_BAUD_RATE, invalid_baud_rate };
+    return made;
+}
+
+static inline struct uart_frame_error uart_frame_error_stalled(void)
+{
+    struct uart_frame_error made =
+        { UART_FRAME_ERROR_STALLED,
+        { UART_INVALID_DIVISOR_ERROR_NONE, { 0, 0, { false, 0 } }, 0 } };
+    return made;
+}
+
+static inline struct uart_frame_error uart_frame_error_none(void)
+{
+    struct uart_frame_error made =
+        { UART_FRAME_ERROR_NONE, { UART_INVALID_DIVISOR_ERROR_NONE, { 0, 0, { false, 0 } }, 0 } };
+    return made;
+}
+
+static inline struct uart_loopback_error uart_loopback_error_stalled(void)
+{
+    struct uart_loopback_error made =
+        { UART_LOOPBACK_ERROR_STALLED, UART_BYTE_SEND_ERROR_NONE, 0, 0, { { 0 } }, { { 0 } } };
+    return made;
+}
+
+static inline struct uart_loopback_error
+uart_loopback_error_send_error(enum uart_byte_send_error send_error)
+{
+    struct uart_loopback_error made =
+        { UART_LOOPBACK_ERROR_SEND_ERROR, send_error, 0, 0, { { 0 } }, { { 0 } } };
+    return made;
+}
+
+static inline struct uart_loopback_error uart_loopback_error_none(void)
+{
+    struct uart_loopback_error made =
+        { UART_LOOPBACK_ERROR_NONE, UART_BYTE_SEND_ERROR_NONE, 0, 0, { { 0 } }, { { 0 } } };
+    return made;
+}
+
+static inline struct uart_loopback_error
+uart_loopback_error_unexpected_loopback_byte(uint8_t unexpected_loopback_byte_expected,
+    uint8_t unexpected_loopback_byte_actual)
+{
+    struct uart_loopback_error made =
+        { UART_LOOPBACK_ERROR_UNEXPECTED_LOOPBACK_BYTE, UART_BYTE_SEND_ERROR_NONE,
+        unexpected_loopback_byte_expected, unexpected_loopback_byte_actual, { { 0 } }, { { 0 } } };
+    return made;
+}
+
+static inline struct uart_maybe_bytes16 uart_no_bytes16(void)
+{
+    struct uart_maybe_bytes16 made = { false, { { 0 } } };
+    return made;
+}
+
+static inline struct uart_maybe_bytes16 uart_some_bytes16(struct uart_bytes16 value)
+{
+    struct uart_maybe_bytes16 made = { true, value };
+    return made;
+}
+
+static inline struct uart_loopback_error
+uart_loopback_error_unexpected_loopback_msg(struct uart_bytes16 unexpected_loopback_msg_expected,
+    struct uart_bytes16 unexpected_loopback_msg_actual)
+{
+    struct uart_loopback_error made =
+        { UART_LOOPBACK_ERROR_UNEXPECTED_LOOPBACK_MSG, UART_BYTE_SEND_ERROR_NONE, 0, 0,
+        unexpected_loopback_msg_expected, unexpected_loopback_msg_actual };
+    return made;
+}
+
+static inline struct uart_u64_or_stalled_error uart_good_u64_or_stalled_error(uint64_t value)
+{
+    struct uart_u64_or_stalled_error made = { false, 0, value };
+    return made;
+}
+
+static inline struct uart_u64_or_stalled_error uart_bad_u64_or_stalled_error(size_t error)
+{
+    struct uart_u64_or_stalled_error made = { true, error, 0 };
+    return made;
+}
+
+static inline struct uart_bool_or_stalled_error uart_good_bool_or_stalled_error(bool value)
+{
+    struct uart_bool_or_stalled_error made = { false, 0, value };
+    return made;
+}
+
+static inline struct uart_expansion uart_make_expansion(struct uart_bytes3 first, size_t second)
+{
+    struct uart_expansion made = { first, second };
+    return made;
+}
+
+static inline struct uart_slice uart_make_slice(const uint8_t *data, size_t len)
+{
+    struct uart_slice made = { data, len };
+    return made;
+}
+
+static inline struct uart_pair_of_slice
+uart_make_pair_of_slice(struct uart_slice first, struct uart_slice second)
+{
+    struct uart_pair_of_slice made = { first, second };
+    return made;
+}
+
+static inline struct uart_maybe_interrupt_type
+uart_some_interrupt_type(enum u16550_core_interrupt_type value)
+{
+    struct uart_maybe_interrupt_type made = { true, value };
+    return made;
+}
+
+static inline struct uart_maybe_interrupt_type uart_no_interrupt_type(void)
+{
+    struct uart_maybe_interrupt_type made =
+        { false, U16550_CORE_INTERRUPT_TYPE_RECEIVER_LINE_STATUS };
+    return made;
+}
+
+static inline struct uart_handled uart_make_handled(size_t served, enum uart_handle_end end)
+{
+    struct uart_handled made = { served, end };
+    return made;
+}
+
+static inline struct uart_handled_or_stuck_error
+uart_bad_handled_or_stuck_error(struct u16550_core_stuck_error error)
+{
+    struct uart_handled_or_stuck_error made = { error, { 0, UART_HANDLE_END_IDLE } };
+    return made;
+}
+
+static inline struct u16550_core_maybe_stuck_error uart_no_stuck_error(void)
+{
+    struct u16550_core_maybe_stuck_error made =
+        { false,
+        { U16550_CORE_STUCK_ERROR_NONE, 0, U16550_CORE_INTERRUPT_TYPE_RECEIVER_LINE_STATUS } };
+    return made;
+}
+
+static inline struct u16550_core_stuck_error
+uart_stuck_error_pending(enum u16550_core_interrupt_type pending)
+{
+    struct u16550_core_stuck_error made = { U16550_CORE_STUCK_ERROR_PENDING, 0, pending };
+    return made;
+}
+
+static inline struct u16550_core_maybe_stuck_error
+uart_some_stuck_error(struct u16550_core_stuck_error value)
+{
+    struct u16550_core_maybe_stuck_error made = { true, value };
+    return made;
+}
+
+static inline struct u16550_core_stuck_error uart_stuck_error_unknown(uint8_t unknown)
+{
+    struct u16550_core_stuck_error made =
+        { U16550_CORE_STUCK_ERROR_UNKNOWN, unknown,
+        U16550_CORE_INTERRUPT_TYPE_RECEIVER_LINE_STATUS };
+    return made;
+}
+
+static inline struct uart_handled_or_stuck_error
+uart_good_handled_or_stuck_error(struct uart_handled value)
+{
+    struct uart_handled_or_stuck_error made =
+        { { U16550_CORE_STUCK_ERROR_NONE, 0, U16550_CORE_INTERRUPT_TYPE_RECEIVER_LINE_STATUS },
+        value };
+    return made;
+}
+
+static inline struct uart_lowered
+uart_make_lowered(struct uart_handled_or_stuck_error handled, uint8_t enabled)
+{
+    struct uart_lowered made = { handled, enabled };
+    return made;
+}
+
+static inline struct uart_pair_of_driver_ring_error
+uart_make_pair_of_driver_ring_error(struct u16550_core_driver first, enum uart_ring_error second)
+{
+    struct uart_pair_of_driver_ring_error made = { first, second };
+    return made;
+}
+
+static inline struct uart_ring_or_pair_of_driver_ring_error
+uart_bad_ring_or_pair_of_driver_ring_error(struct uart_pair_of_driver_ring_error error)
+{
+    struct uart_ring_or_pair_of_driver_ring_error made =
+        { true, error,
+        { { { { NULL, NULL, NULL }, 0, 0 },
+        { 0, 0, { false, 0 }, { false, U16550_CORE_FIFO_TRIGGER_LEVEL_ONE },
+        { U16550_CORE_BAUD_RATE_BAUD115200, 0 }, U16550_CORE_WORD_LENGTH_FIVE_BITS, false,
+        U16550_CORE_PARITY_DISABLED, false }, false, 0, 0, 0 }, { { NULL, 0, 0 }, 0, 0 },
+        { { NULL, 0, 0 }, 0, 0 }, 0, 0, false, { false, 0 }, false, 0, false, 0,
+        { false,
+        { U16550_CORE_STUCK_ERROR_NONE, 0, U16550_CORE_INTERRUPT_TYPE_RECEIVER_LINE_STATUS } } } };
+    return made;
+}
+
+static inline struct uart_maybe_byte_queue uart_no_byte_queue(void)
+{
+    struct uart_maybe_byte_queue made = { false, { { NULL, 0, 0 }, 0, 0 } };
+    return made;
+}
+
+static inline struct u16550_core_byte_queue
+uart_make_byte_queue(struct u16550_core_vec_u8 cells, size_t front, size_t len)
+{
+    struct u16550_core_byte_queue made = { cells, front, len };
+    return made;
+}
+
+static inline struct uart_maybe_byte_queue uart_some_byte_queue(struct u16550_core_byte_queue value)
+{
+    struct uart_maybe_byte_queue made = { true, value };
+    return made;
+}
+
+static inline struct uart_ring_or_pair_of_driver_ring_error
+uart_good_ring_or_pair_of_driver_ring_error(struct u16550_core_ring value)
+{
+    struct uart_ring_or_pair_of_driver_ring_error made =
+        { false,
+        { { { { NULL, NULL, NULL }, 0, 0 },
+        { 0, 0, { false, 0 }, { false, U16550_CORE_FIFO_TRIGGER_LEVEL_ONE },
+        { U16550_CORE_BAUD_RATE_BAUD115200, 0 }, U16550_CORE_WORD_LENGTH_FIVE_BITS, false,
+        U16550_CORE_PARITY_DISABLED, false }, false, 0, 0, 0 }, UART_RING_ERROR_NONE }, value };
+    return made;
+}
+
+static inline struct u16550_core_baud_rate uart_baud_rate_baud115200(void)
+{
+    struct u16550_core_baud_rate made = { U16550_CORE_BAUD_RATE_BAUD115200, 0 };
+    return made;
+}
+
+static inline struct u16550_core_baud_rate uart_baud_rate_baud57600(void)
+{
+    struct u16550_core_baud_rate made = { U16550_CORE_BAUD_RATE_BAUD57600, 0 };
+    return made;
+}
+
+static inline struct u16550_core_baud_rate uart_baud_rate_baud38400(void)
+{
+    struct u16550_core_baud_rate made = { U16550_CORE_BAUD_RATE_BAUD38400, 0 };
+    return made;
+}
+
+static inline struct u16550_core_baud_rate uart_baud_rate_baud4800(void)
+{
+    struct u16550_core_baud_rate made = { U16550_CORE_BAUD_RATE_BAUD4800, 0 };
+    return made;
+}
+
+static inline struct u16550_core_baud_rate uart_baud_rate_baud2400(void)
+{
+    struct u16550_core_baud_rate made = { U16550_CORE_BAUD_RATE_BAUD2400, 0 };
+    return made;
+}
+
+static inline struct u16550_core_baud_rate uart_baud_rate_baud1200(void)
+{
+    struct u16550_core_baud_rate made = { U16550_CORE_BAUD_RATE_BAUD1200, 0 };
+    return made;
+}
+
+static inline struct u16550_core_baud_rate uart_baud_rate_baud600(void)
+{
+    struct u16550_core_baud_rate made = { U16550_CORE_BAUD_RATE_BAUD600, 0 };
+    return made;
+}
+
+static inline struct u16550_core_baud_rate uart_baud_rate_baud300(void)
+{
+    struct u16550_core_baud_rate made = { U16550_CORE_BAUD_RATE_BAUD300, 0 };
+    return made;
+}
+
+static inline struct u16550_core_baud_rate uart_baud_rate_baud150(void)
+{
+    struct u16550_core_baud_rate made = { U16550_CORE_BAUD_RATE_BAUD150, 0 };
+    return made;
+}
+
+static inline struct u16550_core_baud_rate uart_baud_rate_baud110(void)
+{
+    struct u16550_core_baud_rate made = { U16550_CORE_BAUD_RATE_BAUD110, 0 };
+    return made;
+}
+
+static inline struct u16550_core_baud_rate uart_baud_rate_custom(uint32_t custom)
+{
+    struct u16550_core_baud_rate made = { U16550_CORE_BAUD_RATE_CUSTOM, custom };
+    return made;
+}
+
+static inline struct uart_nearest_divisor_error
+uart_nearest_divisor_error_out_of_range(uint64_t out_of_range)
+{
+    struct uart_nearest_divisor_error made =
+        { UART_NEAREST_DIVISOR_ERROR_OUT_OF_RANGE, 0, out_of_range };
+    return made;
+}
+
+static inline struct uart_config_or_nearest_divisor_error
+uart_bad_config_or_nearest_divisor_error(struct uart_nearest_divisor_error error)
+{
+    struct uart_config_or_nearest_divisor_error made =
+        { error,
+        { 0, 0, { false, 0 }, { false, U16550_CORE_FIFO_TRIGGER_LEVEL_ONE },
+        { U16550_CORE_BAUD_RATE_BAUD115200, 0 }, U16550_CORE_WORD_LENGTH_FIVE_BITS, false,
+        U16550_CORE_PARITY_DISABLED, false } };
+    return made;
+}
+
+static inline struct uart_nearest_divisor_error uart_nearest_divisor_error_too_far(uint64_t too_far)
+{
+    struct uart_nearest_divisor_error made = { UART_NEAREST_DIVISOR_ERROR_TOO_FAR, too_far, 0 };
+    return made;
+}
+
+static inline struct uart_config_or_nearest_divisor_error
+uart_good_config_or_nearest_divisor_error(struct u16550_core_config value)
+{
+    struct uart_config_or_nearest_divisor_error made =
+        { { UART_NEAREST_DIVISOR_ERROR_NONE, 0, 0 }, value };
+    return made;
+}
+
+static inline struct uart_non_integer_baud_rate_error
+uart_make_non_integer_baud_rate_error(uint32_t frequency, uint32_t divisor,
+    struct u16550_core_maybe_u32 prescaler_division_factor)
+{
+    struct uart_non_integer_baud_rate_error made =
+        { frequency, divisor, prescaler_division_factor };
+    return made;
+}
+
+static inline struct uart_baud_rate_or_non_integer_baud_rate_error
+uart_bad_baud_rate_or_non_integer_baud_rate_error(struct uart_non_integer_baud_rate_error error)
+{
+    struct uart_baud_rate_or_non_integer_baud_rate_error made =
+        { true, error, { U16550_CORE_BAUD_RATE_BAUD115200, 0 } };
+    return made;
+}
+
+static inline struct uart_u32_or_non_integer_baud_rate_error
+uart_good_u32_or_non_integer_baud_rate_error(uint32_t value)
+{
+    struct uart_u32_or_non_integer_baud_rate_error made = { false, { 0, 0, { false, 0 } }, value };
+    return made;
+}
+
+static inline struct uart_u32_or_non_integer_baud_rate_error
+uart_bad_u32_or_non_integer_baud_rate_error(struct uart_non_integer_baud_rate_error error)
+{
+    struct uart_u32_or_non_integer_baud_rate_error made = { true, error, 0 };
+    return made;
+}
+
+static inline struct uart_baud_rate_or_non_integer_baud_rate_error
+uart_good_baud_rate_or_non_integer_baud_rate_error(struct u16550_core_baud_rate value)
+{
+    struct uart_baud_rate_or_non_integer_baud_rate_error made =
+        { false, { 0, 0, { false, 0 } }, value };
+    return made;
+}
+
+/* Reads a register of which no bits are saved. */
+static uint8_t uart_read_register(struct u16550_core_driver *uart, size_t offset)
+{
+    return uart_device_read(&uart->backend, (uint8_t)offset);
+}
+
+/* Reads and returns the line control register (LCR). Reading it changes nothing. */
+static uint8_t uart_lcr(struct u16550_core_driver *uart)
+{
+    return uart_read_register(uart, UART_LCR);
+}
+
+/* Reads and returns the modem control register (MCR). Reading it changes nothing. */
+static uint8_t uart_mcr(struct u16550_core_driver *uart)
+{
+    return uart_read_register(uart, UART_MCR);
+}
+
+/* Writes a register. */
+static void uart_write_register(struct u16550_core_driver *uart, size_t offset, uint8_t value)
+{
+    uart_device_write(&uart->backend, (uint8_t)offset, value);
+}
+
+/*
+ * Reads and returns the divisor latch, low byte first.
+ *
+ * Sets DLAB in LCR for the two reads, and then writes LCR back. In between offsets 0 and 1 are
+ * the latch, so nothing else may access the chip: neither data nor IER can be reached.
+ *
+ * Proved: the accesses to the divisor latch, whatever LCR showed.
+ */
+static struct uart_pair_of_u8 uart_dll_dlm(struct u16550_core_driver *uart)
+{
+    uint8_t lcr = uart_read_register(uart, UART_LCR);
+    uart_write_register(uart, UART_LCR, lcr | U16550_LCR_DLAB);
+    uint8_t dll = uart_read_register(uart, UART_DATA);
+    uint8_t dlm = uart_read_register(uart, UART_IER);
+    uart_write_register(uart, UART_LCR, lcr);
+    return uart_make_pair_of_u8(dll, dlm);
+}
+
+/*
+ * Reads and returns the interrupt status register (ISR), which the datasheet also calls IIR.
+ *
+ * A read that shows a THR_EMPTY interrupt acknowledges it.
+ */
+static uint8_t uart_isr(struct u16550_core_driver *uart)
+{
+    return uart_read_register(uart, UART_ISR);
+}
+
+/* Returns whether the FIFOs are on and work: bits 6 and 7 are both set then. */
+static bool uart_isr_fifo_enabled(uint8_t isr)
+{
+    return (isr & (U16550_ISR_FIFOS_ENABLED0 | U16550_ISR_FIFOS_ENABLED1)) ==
+        (U16550_ISR_FIFOS_ENABLED0 | U16550_ISR_FIFOS_ENABLED1);
+}
+
+/*
+ * Takes a port as it was set up, for example by firmware, in place of init: finds out
+ * whether the FIFOs are on, and returns the divisor latch, low byte first. It is not 0.
+ *
+ * Reads LCR and MCR, then the divisor latch as dll_dlm does, which writes LCR and restores
+ * it, and then ISR. Nothing else is written. The read of ISR acknowledges a THR_EMPTY
+ * interrupt. Afterwards fifo_enabled is as ISR showed. config is not changed, since the
+ * clock of the chip is not known: it does not say what the chip has.
+ *
+ * Errors
+ *
+ * - DivisorLatchOpen if DLAB is set.
+ * - Loopback if DLAB is clear, and the chip is in loopback.
+ * - NoDivisor if neither is so, and the divisor latch reads as 0: no port is set up there,
+ *   or there is none. So a bus where all registers read as 0 is refused.
+ *
+ * ISR was not read then, so no interrupt was acknowledged, and the driver is unchanged. For
+ * the first two only LCR and MCR were read, and nothing was written. For NoDivisor DLAB was
+ * set for the look at the latch, and LCR written back.
+ *
+ * Proved: the divisor is not 0, and the driver takes the FIFO to be as ISR shows; or the
+ * port was refused before ISR was read, and nothing changed.
+ */
+static struct uart_pair_of_u8_or_attach_error uart_attach(struct u16550_core_driver *uart)
+{
+    if ((uart_lcr(uart) & U16550_LCR_DLAB) != 0)
+        return uart_bad_pair_of_u8_or_attach_error(UART_ATTACH_ERROR_DIVISOR_LATCH_OPEN);
+    if ((uart_mcr(uart) & U16550_MCR_LOOP_BACK) != 0)
+        return uart_bad_pair_of_u8_or_attach_error(UART_ATTACH_ERROR_LOOPBACK);
+    struct uart_pair_of_u8 pair = uart_dll_dlm(uart);
+    if (pair.first == 0 && pair.second == 0)
+        return uart_bad_pair_of_u8_or_attach_error(UART_ATTACH_ERROR_NO_DIVISOR);
+    uart->fifo_enabled = uart_isr_fifo_enabled(uart_isr(uart));
+    return uart_good_pair_of_u8_or_attach_error(uart_make_pair_of_u8(pair.first, pair.second));
+}
+
+/* Returns the backend, to read its state. Makes no access. */
+static const struct u16550_device *uart_backend(const struct u16550_core_driver *uart)
+{
+    return &uart->backend;
+}
+
+/*
+ * Returns the backend, for raw accesses by the caller. Makes no access itself.
+ *
+ * Raw accesses bypass the driver: status bits that they clear are not saved, and the driver
+ * does not notice what they change. After raw accesses that changed the setup of the chip,
+ * call init again with a configuration that matches.
+ */
+static struct u16550_device *uart_backend_mut(struct u16550_core_driver *uart)
+{
+    return &uart->backend;
+}
+
+/* Returns the number of bits per second. */
+static uint32_t uart_baud_rate_to_integer(struct u16550_core_baud_rate baud_rate)
+{
+    switch (baud_rate.kind) {
+    case U16550_CORE_BAUD_RATE_BAUD115200:
+        return UINT32_C(115200);
+    case U16550_CORE_BAUD_RATE_BAUD57600:
+        return UINT32_C(57600);
+    case U16550_CORE_BAUD_RATE_BAUD38400:
+        return UINT32_C(38400);
+    case U16550_CORE_BAUD_RATE_BAUD9600:
+        return 9600;
+    case U16550_CORE_BAUD_RATE_BAUD4800:
+        return 4800;
+    case U16550_CORE_BAUD_RATE_BAUD2400:
+        return 2400;
+    case U16550_CORE_BAUD_RATE_BAUD1200:
+        return 1200;
+    case U16550_CORE_BAUD_RATE_BAUD600:
+        return 600;
+    case U16550_CORE_BAUD_RATE_BAUD300:
+        return 300;
+    case U16550_CORE_BAUD_RATE_BAUD150:
+        return 150;
+    case U16550_CORE_BAUD_RATE_BAUD110:
+        return 110;
+    case U16550_CORE_BAUD_RATE_CUSTOM:
+    default:
+        return baud_rate.custom;
+    }
+}
+
+static bool uart_option_is_none_or_u32_is_none_or_self(struct u16550_core_maybe_u32 part1)
+{
+    return !part1.is_some || (part1.value <= 15);
+}
+
+/*
+ * Returns whether the arithmetic of the baud rate accepts this configuration, as
+ * Uart16550_init requires: the frequency and the baud rate are not zero, and the prescaler
+ * division factor is None or at most 15.
+ *
+ * init may still refuse the baud rate, if its divisor is not a whole number or does not fit
+ * into the divisor latch.
+ */
+static bool uart_config_is_computable(const struct u16550_core_config *config)
+{
+    bool is_so = config->frequency != 0 && uart_baud_rate_to_integer(config->baud_rate) != 0;
+    return is_so && uart_option_is_none_or_u32_is_none_or_self(config->prescaler_division_factor);
+}
+
+/*
+ * Returns the quotient if there is no remainder.
+ *
+ * Proved: the one value that has the property, or none if no value has it.
+ */
+static struct u16550_core_maybe_u32 uart_whole_quotient(uint32_t dividend, uint64_t divisor)
+{
+    uint64_t dividend2 = (uint64_t)dividend;
+    if (dividend2 % divisor == 0)
+        return uart_some_u32((uint32_t)(dividend2 / divisor));
+    return uart_no_u32();
+}
+
+/*
+ * Returns the divisor for a baud rate, or the baud rate for a divisor: the two are factors of one
+ * product. So both errors have one relation, 'this result and no other', over one equation that is
+ * a product, while the code divides.
+ *
+ * The ticks are computed in 64 bits: they reach 16 * 16 * (2^32 - 1).
+ *
+ * Proved: the one value that has the property, or none if no value has it.
+ */
+static struct u16550_core_maybe_u32
+uart_other_factor(uint32_t frequency, uint32_t factor,
+    struct u16550_core_maybe_u32 prescaler_division_factor)
+{
+    return uart_whole_quotient(frequency,
+        16 * ((uint64_t)(prescaler_division_factor.is_some ? prescaler_division_factor.value
+        : 0) + 1) * (uint64_t)factor);
+}
+
+/*
+ * Returns the divisor that gives a baud rate at a clock frequency in hertz. Nothing is rounded.
+ *
+ * Errors
+ *
+ * - NonInteger, with the arguments, if no whole divisor gives exactly this baud rate. At the
+ *   usual clock that is the case for 110 baud.
+ * - OutOfRange, with the divisor, if one does, but it does not fit into the divisor latch of 16
+ *   bits.
+ *
+ * Proved: this value and no other has the property.
+ * Proved: the divisor at which the clock has this frequency, if it fits into the divisor
+ * latch; an error with the divisor if it does not fit; an error with the arguments if no
+ * whole divisor does.
+ */
+static struct uart_u16_or_invalid_divisor_error
+uart_calc_divisor(uint32_t frequency, uint32_t baud_rate,
+    struct u16550_core_maybe_u32 prescaler_division_factor)
+{
+    struct u16550_core_maybe_u32 found =
+        uart_other_factor(frequency, baud_rate, prescaler_division_factor);
+    if (found.is_some) {
+        if (found.value <= UINT32_C(65535))
+            return uart_good_u16_or_invalid_divisor_error((uint16_t)found.value);
+        return uart_bad_u16_or_invalid_divisor_error(
+            uart_invalid_divisor_error_out_of_range(found.value));
+    }
+    return uart_bad_u16_or_invalid_divisor_error(
+        uart_invalid_divisor_error_non_integer(uart_make_non_integer_divisor_error(frequency,
+        baud_rate, prescaler_division_factor)));
+}
+
+/*
+ * Returns the divisor of the configuration, if it has one.
+ *
+ * Proved: the divisor of a configuration, or none if there is none or none can be computed.
+ */
+static struct uart_maybe_u16 uart_configured_divisor(const struct u16550_core_driver *uart)
+{
+    if (!uart_config_is_computable(&uart->config))
+        return uart_no_u16();
+    uint32_t baud_rate = uart_baud_rate_to_integer(uart->config.baud_rate);
+    struct uart_u16_or_invalid_divisor_error outcome =
+        uart_calc_divisor(uart->config.frequency, baud_rate,
+        uart->config.prescaler_division_factor);
+    if (outcome.error.kind != UART_INVALID_DIVISOR_ERROR_NONE)
+        return uart_no_u16();
+    return uart_some_u16(outcome.value);
+}
+
+/*
+ * Returns the code of this word length, in the low two bits.
+ *
+ * Proved: the two bits from the lowest on are the code of this word length.
+ */
+static uint8_t uart_word_length_to_raw_bits(enum u16550_core_word_length word_length)
+{
+    switch (word_length) {
+    case U16550_CORE_WORD_LENGTH_FIVE_BITS:
+        return 0;
+    case U16550_CORE_WORD_LENGTH_SIX_BITS:
+        return 1;
+    case U16550_CORE_WORD_LENGTH_SEVEN_BITS:
+        return 2;
+    case U16550_CORE_WORD_LENGTH_EIGHT_BITS:
+    default:
+        return 3;
+    }
+}
+
+/*
+ * Returns the register with this word length. No other bit changes.
+ *
+ * Proved: the two bits from the lowest on are the code of this word length.
+ * Proved: the eight bits are the same in both values, except those of a field.
+ */
+static uint8_t uart_lcr_set_word_length(uint8_t lcr, enum u16550_core_word_length length)
+{
+    return (lcr & 252) | uart_word_length_to_raw_bits(length);
+}
+
+/*
+ * Returns the code of this parity, in the low three bits.
+ *
+ * Proved: the three bits from the lowest on are a code of this parity.
+ */
+static uint8_t uart_parity_to_raw_bits(enum u16550_core_parity parity)
+{
+    switch (parity) {
+    case U16550_CORE_PARITY_DISABLED:
+        return 0;
+    case U16550_CORE_PARITY_ODD:
+        return 1;
+    case U16550_CORE_PARITY_EVEN:
+        return 3;
+    case U16550_CORE_PARITY_FORCED1:
+        return 5;
+    case U16550_CORE_PARITY_FORCED0:
+    default:
+        return 7;
+    }
+}
+
+/*
+ * Returns the register with this parity. No other bit changes.
+ *
+ * Proved: the three bits from the lowest on are a code of this parity.
+ * Proved: the eight bits are the same in both values, except those of a field.
+ */
+static uint8_t uart_lcr_set_parity(uint8_t lcr, enum u16550_core_parity parity)
+{
+    return (lcr & 199) | (uint8_t)(uart_parity_to_raw_bits(parity) << 3);
+}
+
+/* Returns LCR for a configuration. */
+static uint8_t uart_frame_of(const struct u16550_core_config *config)
+{
+    uint8_t lcr_set_word_length = uart_lcr_set_word_length(0, config->data_bits);
+    uint8_t frame = uart_lcr_set_parity(lcr_set_word_length, config->parity);
+    if (config->extra_stop_bits)
+        frame |= U16550_LCR_MORE_STOP_BITS;
+    return frame;
+}
+
+/*
+ * Checks the frame. A break is no part of it: set_break does not store one.
+ *
+ * Proved: LCR shows this frame, with or without a break.
+ */
+static struct uart_configuration_error
+uart_check_frame(struct u16550_core_driver *uart, uint8_t expected)
+{
+    uint8_t lcr = uart_lcr(uart);
+    if ((lcr & (uint8_t)~U16550_LCR_SET_BREAK) != expected)
+        return uart_configuration_error_line_control(expected, lcr);
+    return uart_configuration_error_none();
+}
+
+/*
+ * Checks the outputs to the modem.
+ *
+ * Proved: MCR shows these outputs.
+ */
+static struct uart_configuration_error
+uart_check_outputs(struct u16550_core_driver *uart, uint8_t expected)
+{
+    uint8_t mcr = uart_mcr(uart);
+    if (mcr != expected)
+        return uart_configuration_error_modem_control(expected, mcr);
+    return uart_configuration_error_none();
+}
+
+/* Reads and returns the interrupt enable register (IER). Reading it changes nothing. */
+static uint8_t uart_ier(struct u16550_core_driver *uart)
+{
+    return uart_read_register(uart, UART_IER);
+}
+
+/*
+ * Checks the interrupts that are enabled.
+ *
+ * Proved: IER shows these interrupts.
+ */
+static struct uart_configuration_error
+uart_check_interrupts(struct u16550_core_driver *uart, uint8_t expected)
+{
+    uint8_t ier = uart_ier(uart);
+    if (ier != expected)
+        return uart_configuration_error_interrupts(expected, ier);
+    return uart_configuration_error_none();
+}
+
+/*
+ * Writes LCR, and checks that the chip took it.
+ *
+ * Proved: LCR is written with this value, and shows it.
+ */
+static struct uart_configuration_error
+uart_keep_line(struct u16550_core_driver *uart, uint8_t expected)
+{
+    uart_write_register(uart, UART_LCR, expected);
+    uint8_t lcr = uart_lcr(uart);
+    if (lcr != expected)
+        return uart_configuration_error_line_control(expected, lcr);
+    return uart_configuration_error_none();
+}
+
+/*
+ * Checks the divisor latch, and leaves it closed.
+ *
+ * Proved: LCR is read, and then the latch opened and read. If it was not opened, it is not
+ * read.
+ */
+static struct uart_configuration_error
+uart_check_divisor(struct u16550_core_driver *uart, uint16_t expected)
+{
+    uint8_t lcr = uart_lcr(uart);
+    struct uart_configuration_error error = uart_keep_line(uart, lcr | U16550_LCR_DLAB);
+    if (error.kind != UART_CONFIGURATION_ERROR_NONE) {
+        uart_write_register(uart, UART_LCR, lcr);
+        return error;
+    }
+    uint8_t dll = uart_read_register(uart, UART_DATA);
+    uint8_t dlm = uart_read_register(uart, UART_IER);
+    struct uart_configuration_error error2 = uart_keep_line(uart, lcr);
+    if (error2.kind != UART_CONFIGURATION_ERROR_NONE)
+        return error2;
+    uint16_t shown = (uint16_t)((uint16_t)(256 * (uint16_t)dlm) + (uint16_t)dll);
+    if (shown != expected)
+        return uart_configuration_error_divisor(expected, shown);
+    return uart_configuration_error_none();
+}
+
+/*
+ * Checks whether the FIFOs are on.
+ *
+ * Proved: ISR shows that the FIFOs are on exactly if the driver takes them to be on.
+ */
+static struct uart_configuration_error
+uart_check_fifos(struct u16550_core_driver *uart, uint8_t interrupts)
+{
+    bool shown = uart->fifo_enabled;
+    uart_write_register(uart, UART_IER, 0);
+    bool is_so = uart_isr_fifo_enabled(uart_isr(uart));
+    uart_write_register(uart, UART_IER, interrupts);
+    if (is_so != shown)
+        return uart_configuration_error_fifos(shown, is_so);
+    return uart_configuration_error_none();
+}
+
+/*
+ * Checks the registers in turn.
+ *
+ * Proved: the registers in turn. What is only read comes first, so that a fault there is
+ * found before anything is written.
+ */
+static struct uart_configuration_error
+uart_check_registers(struct u16550_core_driver *uart, uint8_t frame, uint8_t outputs,
+    uint8_t interrupts, uint16_t divisor)
+{
+    struct uart_configuration_error error = uart_check_frame(uart, frame);
+    if (error.kind != UART_CONFIGURATION_ERROR_NONE)
+        return error;
+    struct uart_configuration_error error2 = uart_check_outputs(uart, outputs);
+    if (error2.kind != UART_CONFIGURATION_ERROR_NONE)
+        return error2;
+    struct uart_configuration_error error3 = uart_check_interrupts(uart, interrupts);
+    if (error3.kind != UART_CONFIGURATION_ERROR_NONE)
+        return error3;
+    struct uart_configuration_error error4 = uart_check_divisor(uart, divisor);
+    if (error4.kind != UART_CONFIGURATION_ERROR_NONE)
+        return error4;
+    return uart_check_fifos(uart, interrupts);
+}
+
+/*
+ * Checks, register by register, whether the chip shows what was written to it: the frame, the
+ * outputs to the modem and the interrupts, the divisor, and whether the FIFOs are on.
+ *
+ * What is expected is the configuration of the driver (config), these outputs, which after
+ * init are MCR_READY, and the FIFOs as fifo_enabled says. LOOP_BACK is left out of
+ * the outputs. A break may be on.
+ *
+ * Call it after init, init_with, set_frame or set_frame_when_idle on a chip that may
+ * ignore a write: these calls do not read back what they wrote. A DesignWare UART ignores LCR
+ * while it sends, receives, or has received data. After attach and restore the driver does
+ * not know the divisor, so a difference does not tell much.
+ *
+ * Does not wait: makes at most 13 accesses. To read the divisor it sets DLAB, as dll_dlm
+ * does, but reads offset 0 only if LCR shows that DLAB is set. To read ISR it writes 0 to IER,
+ * and writes the interrupts back: so no interrupt is acknowledged, and the interrupt output
+ * falls and rises as in retrigger_interrupts. No received byte is read, and nothing that is
+ * saved for lsr or msr changes.
+ *
+ * Errors
+ *
+ * The first difference, in this order:
+ *
+ * - NoDivisor if the configuration has no divisor, or is not computable
+ *   (Config_is_computable). No access was made.
+ * - LineControl if LCR shows another frame, or DLAB. LCR alone was read.
+ * - ModemControl if MCR shows other outputs, or loopback. Nothing was written.
+ * - Interrupts if IER shows other interrupts. Nothing was written.
+ * - LineControl if LCR does not show DLAB after that was set, and then LCR was written as it
+ *   was before; or if LCR does not show that DLAB was cleared again.
+ * - Divisor if the divisor latch shows another divisor. DLAB is clear again.
+ * - Fifos if ISR shows FIFOs that are on where the driver takes them to be off, or the other
+ *   way round.
+ *
+ * Proved: the registers show the configuration and these outputs, without loopback; or one
+ * does not; or the configuration has no divisor, and no access was made.
+ */
+static struct uart_configuration_error
+uart_check_configured(struct u16550_core_driver *uart, uint8_t outputs)
+{
+    struct uart_maybe_u16 found = uart_configured_divisor(uart);
+    if (!found.is_some)
+        return uart_configuration_error_no_divisor();
+    uint8_t frame = uart_frame_of(&uart->config);
+    return uart_check_registers(uart, frame, outputs & (uint8_t)~U16550_MCR_LOOP_BACK,
+        uart->config.interrupts, found.value);
+}
+
+/* Reads MSR, and saves the changes that the read clears in the chip. */
+static uint8_t uart_read_msr(struct u16550_core_driver *uart)
+{
+    uint8_t msr = uart_device_read(&uart->backend, UART_MSR);
+    uart->saved_msr |= msr & (U16550_MSR_DELTA_CTS | U16550_MSR_DELTA_DSR |
+        U16550_MSR_TRAILING_EDGE_RI | U16550_MSR_DELTA_CD);
+    return msr;
+}
+
+/*
+ * Checks whether a remote is present and ready to receive: whether MSR shows DSR and CTS.
+ *
+ * Does not wait: reads MSR once. The changes that this clears are saved for the next msr.
+ * Many cables never assert DSR or CTS, so sending may work even if this call fails. Call it
+ * again after a modem status interrupt.
+ *
+ * Errors
+ *
+ * - NoRemoteConnectedNoDSR if DSR is clear.
+ * - RemoteNotClearToSend if DSR is set and CTS is clear.
+ *
+ * NoRemoteConnectedNoCD is never returned.
+ *
+ * Proved: one read of MSR, which shows the result.
+ */
+static enum uart_remote_ready_to_receive_error uart_check_connected(struct u16550_core_driver *uart)
+{
+    uint8_t msr = uart_read_msr(uart);
+    if ((msr & U16550_MSR_DSR) == 0)
+        return UART_REMOTE_READY_TO_RECEIVE_ERROR_NO_REMOTE_CONNECTED_NO_DSR;
+    if ((msr & U16550_MSR_CTS) == 0)
+        return UART_REMOTE_READY_TO_RECEIVE_ERROR_REMOTE_NOT_CLEAR_TO_SEND;
+    return UART_REMOTE_READY_TO_RECEIVE_ERROR_NONE;
+}
+
+/*
+ * Writes a pattern to the scratch register, and returns whether it reads back.
+ *
+ * Proved: the scratch register is written with a pattern and keeps it, or not.
+ */
+static bool uart_keeps(struct u16550_core_driver *uart, uint8_t pattern)
+{
+    uart_write_register(uart, UART_SPR, pattern);
+    return uart_read_register(uart, UART_SPR) == pattern;
+}
+
+/*
+ * Proved: the scratch register keeps both patterns; or it does not keep the first; or it
+ * keeps the first and not the second.
+ */
+static bool uart_keeps_patterns(struct u16550_core_driver *uart)
+{
+    if (!uart_keeps(uart, 66))
+        return false;
+    return uart_keeps(uart, 115);
+}
+
+/*
+ * Returns whether a device is present: whether its scratch register (SPR) keeps what is
+ * written to it.
+ *
+ * Reads SPR, writes a pattern and reads it back, tries a second pattern if the first was kept,
+ * and restores SPR. Nothing else changes in the chip. Does not wait: makes 4 or 6 accesses.
+ * init makes the same check.
+ *
+ * Proved: the scratch register is read, tested with the patterns, and restored.
+ */
+static bool uart_check_present(struct u16550_core_driver *uart)
+{
+    uint8_t old = uart_read_register(uart, UART_SPR);
+    bool present = uart_keeps_patterns(uart);
+    uart_write_register(uart, UART_SPR, old);
+    return present;
+}
+
+/*
+ * Returns the configuration of the last init, with the interrupts as they were enabled and
+ * disabled since, and with the clock, the baud rate and the frame of the last set_frame
+ * since. Makes no access.
+ *
+ * If that init failed with InvalidBaudRate, it is the configuration before it. If it
+ * failed with DeviceNotPresent or Stalled, it is the new one.
+ */
+static const struct u16550_core_config *uart_config(const struct u16550_core_driver *uart)
+{
+    return &uart->config;
+}
+
+/* Reads LSR, and saves the errors that the read clears in the chip. */
+static uint8_t uart_read_lsr(struct u16550_core_driver *uart)
+{
+    uint8_t lsr = uart_device_read(&uart->backend, UART_LSR);
+    uart->saved_lsr |= lsr & (U16550_LSR_OVERRUN_ERROR | U16550_LSR_PARITY_ERROR |
+        U16550_LSR_FRAMING_ERROR | U16550_LSR_BREAK_INTERRUPT);
+    return lsr;
+}
+
+/* Reads and returns the scratch register (SPR), which the chip does not use. */
+static uint8_t uart_spr(struct u16550_core_driver *uart)
+{
+    return uart_read_register(uart, UART_SPR);
+}
+
+/*
+ * Reads the divisor latch and then IER, ISR, LCR, MCR, LSR, MSR and SPR, and returns them. It
+ * is meant for debugging.
+ *
+ * LSR and MSR are returned joined with the saved bits, which stay saved. The read of ISR
+ * acknowledges a THR_EMPTY interrupt, and DLAB is set for a moment, as by dll_dlm. Does
+ * not wait: makes 12 accesses.
+ */
+static struct u16550_dump uart_config_register_dump(struct u16550_core_driver *uart)
+{
+    struct u16550_dump config_register_dump;
+    config_register_dump.ier = 0;
+    config_register_dump.isr = 0;
+    config_register_dump.lcr = 0;
+    config_register_dump.mcr = 0;
+    config_register_dump.lsr = 0;
+    config_register_dump.msr = 0;
+    config_register_dump.spr = 0;
+    config_register_dump.dll = 0;
+    config_register_dump.dlm = 0;
+    struct u16550_dump dump = config_register_dump;
+    struct uart_pair_of_u8 pair = uart_dll_dlm(uart);
+    dump.dll = pair.first;
+    dump.dlm = pair.second;
+    dump.ier = uart_ier(uart);
+    dump.isr = uart_isr(uart);
+    dump.lcr = uart_lcr(uart);
+    dump.mcr = uart_mcr(uart);
+    uint8_t lsr = uart_read_lsr(uart);
+    dump.lsr = lsr | uart->saved_lsr;
+    uint8_t msr = uart_read_msr(uart);
+    dump.msr = msr | uart->saved_msr;
+    dump.spr = uart_spr(uart);
+    return dump;
+}
+
+/*
+ * Stores the interrupts in the configuration, and writes them.
+ *
+ * Proved: the interrupts are stored in the configuration and written to IER.
+ */
+static void uart_store_interrupts(struct u16550_core_driver *uart, uint8_t enabled)
+{
+    uart->config.interrupts = enabled;
+    uart_write_register(uart, UART_IER, enabled);
+}
+
+/*
+ * Disables these interrupts and leaves the others: reads IER, removes them, stores the result
+ * in the configuration, and writes it.
+ */
+static void uart_disable_interrupts(struct u16550_core_driver *uart, uint8_t interrupts)
+{
+    uart_store_interrupts(uart, uart_ier(uart) & (uint8_t)~interrupts);
+}
+
+/*
+ * Enables these interrupts in addition to those that are enabled: reads IER, adds them, stores
+ * the result in the configuration, and writes it.
+ *
+ * Bits that the chip does not keep read as clear, so they vanish from config().interrupts at
+ * the next such call. Not every device raises an interrupt if THR_EMPTY is enabled while the
+ * transmitter is already empty: send the first bytes directly, and the rest on interrupts.
+ *
+ * Proved: enable_interrupts, disable_interrupts: IER is read; its new value, with these bits
+ * added or removed, is stored and written.
+ */
+static void uart_enable_interrupts(struct u16550_core_driver *uart, uint8_t interrupts)
+{
+    uart_store_interrupts(uart, uart_ier(uart) | interrupts);
+}
+
+/*
+ * Returns whether the chip has a FIFO that is on, as the last call that sets the FIFO up read
+ * it from ISR: init, init_with, attach, test_loopback or restore. After a quiesce
+ * that disables the FIFOs it is off. Makes no access.
+ *
+ * A driver that was never initialised takes the FIFO to be on. If it is on, a send check is
+ * followed by up to 16 bytes, else by one.
+ */
+static bool uart_fifo_enabled(const struct u16550_core_driver *uart)
+{
+    return uart->fifo_enabled;
+}
+
+/* Returns a driver over this backend that continues from this state. Makes no access. */
+static struct u16550_core_driver
+uart_from_state(struct u16550_device backend, const struct uart_driver_state *state)
+{
+    struct u16550_core_config config;
+    config.interrupts = state->config.interrupts;
+    config.frequency = state->config.frequency;
+    config.prescaler_division_factor = state->config.prescaler_division_factor;
+    config.fifo_trigger_level = state->config.fifo_trigger_level;
+    config.baud_rate = state->config.baud_rate;
+    config.data_bits = state->config.data_bits;
+    config.extra_stop_bits = state->config.extra_stop_bits;
+    config.parity = state->config.parity;
+    config.check_cts_before_sending = state->config.check_cts_before_sending;
+    struct u16550_core_driver uart;
+    uart.backend = backend;
+    uart.config = config;
+    uart.fifo_enabled = state->fifo_enabled;
+    uart.saved_lsr = state->saved_lsr;
+    uart.saved_msr = state->saved_msr;
+    uart.spin_limit = state->spin_limit;
+    return uart;
+}
+
+/*
+ * Turns interrupts off, and sets the divisor and the frame. A character that is going out has
+ * the new ones from then on, so the remote gets it corrupted. No wait of init prevents that:
+ * call flush before, if it matters.
+ */
+static void uart_set_line(struct u16550_core_driver *uart, uint16_t divisor, uint8_t frame)
+{
+    uart_write_register(uart, UART_LCR, 0);
+    uart_write_register(uart, UART_IER, 0);
+    uart_write_register(uart, UART_LCR, U16550_LCR_DLAB);
+    uart_write_register(uart, UART_DATA, (uint8_t)(uint16_t)(divisor % 256));
+    uart_write_register(uart, UART_IER, (uint8_t)(uint16_t)(divisor / 256));
+    uart_write_register(uart, UART_LCR, 0);
+    uart_write_register(uart, UART_LCR, frame);
+}
+
+/*
+ * Returns the code of this trigger level, in the low two bits.
+ *
+ * Proved: the two bits from the lowest on are the code of this trigger level.
+ */
+static uint8_t
+uart_fifo_trigger_level_to_raw_bits(enum u16550_core_fifo_trigger_level fifo_trigger_level)
+{
+    switch (fifo_trigger_level) {
+    case U16550_CORE_FIFO_TRIGGER_LEVEL_ONE:
+        return 0;
+    case U16550_CORE_FIFO_TRIGGER_LEVEL_FOUR:
+        return 1;
+    case U16550_CORE_FIFO_TRIGGER_LEVEL_EIGHT:
+        return 2;
+    case U16550_CORE_FIFO_TRIGGER_LEVEL_FOURTEEN:
+    default:
+        return 3;
+    }
+}
+
+/*
+ * Returns the register with this trigger level. No other bit changes.
+ *
+ * Proved: the two bits from the lowest on are the code of this trigger level.
+ * Proved: the eight bits are the same in both values, except those of a field.
+ */
+static uint8_t
+uart_fcr_set_fifo_trigger_level(uint8_t fcr, enum u16550_core_fifo_trigger_level level)
+{
+    return (fcr & 63) | (uint8_t)(uart_fifo_trigger_level_to_raw_bits(level) << 6);
+}
+
+/* Returns FCR for a trigger level. */
+static uint8_t uart_fifo_control_of(struct u16550_core_maybe_fifo_trigger_level level)
+{
+    uint8_t resets = U16550_FCR_RX_FIFO_RESET | U16550_FCR_TX_FIFO_RESET;
+    if (level.is_some)
+        return uart_fcr_set_fifo_trigger_level(resets | U16550_FCR_FIFO_ENABLE, level.value);
+    return resets;
+}
+
+/*
+ * Resets the FIFOs, enables them if there is a level, and returns whether they are on then.
+ *
+ * Proved: the FIFO step: FCR is written and, if a level is configured, ISR shows whether the
+ * FIFO is on.
+ */
+static bool
+uart_set_fifo(struct u16550_core_driver *uart, struct u16550_core_maybe_fifo_trigger_level level)
+{
+    uart_write_register(uart, UART_FCR, uart_fifo_control_of(level));
+    return level.is_some && uart_isr_fifo_enabled(uart_isr(uart));
+}
+
+/*
+ * Reads a register, and saves none of its bits.
+ *
+ * Proved: a list of the language whose reads are not saved.
+ */
+static uint8_t uart_read_plain(struct u16550_core_driver *uart, size_t offset)
+{
+    return uart_device_read(&uart->backend, (uint8_t)offset);
+}
+
+/*
+ * Discards received bytes until none is available, or as many as the receiver can hold. More
+ * are not discarded: a remote that never stops sending must not hold init for ever. What the
+ * reads clear is not saved, since those errors are of bytes that nobody gets.
+ *
+ * Proved: a list of the language whose reads are not saved.
+ * Proved: received bytes are discarded until none is available, or as many as the receiver
+ * can hold.
+ */
+static void uart_drain(struct u16550_core_driver *uart)
+{
+    for (uint64_t turn = 0; turn < 17; turn++) {
+        if ((uart_read_plain(uart, 5) & U16550_LSR_DATA_READY) == 0)
+            return;
+        uart_read_plain(uart, 0);
+    }
+}
+
+/*
+ * Polls LSR until it shows these bits, or until the limit. Each wait has a loop of its own over
+ * the limit, so the polls that count are those in a row: progress begins a new count.
+ *
+ * Proved: a wait for these bits of LSR: fewer reads without them than the limit and then one
+ * with them; or as many without them.
+ */
+static bool uart_wait_for(struct u16550_core_driver *uart, uint8_t bits)
+{
+    uint64_t number = uart->spin_limit;
+    for (uint64_t turn = 0; turn < number; turn++) {
+        if ((uart_read_lsr(uart) & bits) == bits)
+            return true;
+    }
+    return false;
+}
+
+/*
+ * Reads the statuses without saving them, and enables the configured interrupts.
+ *
+ * Proved: the statuses are read without being saved, and the interrupts enabled.
+ */
+static void uart_finish_init(struct u16550_core_driver *uart)
+{
+    uart_read_plain(uart, 5);
+    uart_read_plain(uart, 2);
+    uart_read_plain(uart, 6);
+    uart->saved_lsr = 0;
+    uart->saved_msr = 0;
+    uart_write_register(uart, UART_IER, uart->config.interrupts);
+}
+
+/*
+ * Initialises the device with this configuration, whose divisor this is. This is a function of
+ * its own for callers that have tested the configuration already, and so have its divisor.
+ *
+ * Proved: the whole list, or the list up to the refusal, with the fields that each leaves.
+ */
+static struct uart_init_error
+uart_set_up(struct u16550_core_driver *uart, struct u16550_core_config config, uint16_t divisor)
+{
+    uart->config = config;
+    uint8_t frame = uart_frame_of(&uart->config);
+    struct u16550_core_maybe_fifo_trigger_level level = uart->config.fifo_trigger_level;
+    if (!uart_check_present(uart))
+        return uart_init_error_device_not_present();
+    uart_set_line(uart, divisor, frame);
+    uart->fifo_enabled = uart_set_fifo(uart, level);
+    uart_drain(uart);
+    uart_write_register(uart, UART_MCR,
+        U16550_MCR_DTR | U16550_MCR_RTS | U16550_MCR_OUT_2_INT_ENABLE);
+    if (!uart_wait_for(uart, U16550_LSR_TRANSMITTER_EMPTY))
+        return uart_init_error_stalled();
+    uart_finish_init(uart);
+    return uart_init_error_none();
+}
+
+/*
+ * Initialises the device with this configuration, which must be computable
+ * (Config_is_computable).
+ *
+ * Call it before any other call, again after raw accesses that changed the setup of the chip,
+ * and to change the configuration. Call it with the processor's interrupts masked: an
+ * interrupt may be pending before it returns.
+ *
+ * In this order it
+ *
+ * - computes the divisor, and checks that a device is present as check_present does;
+ * - disables all interrupts, writes the divisor to DLL and DLM, and the frame to LCR;
+ * - resets both FIFOs by FCR and, if a trigger level is configured, turns them on and reads
+ *   from ISR whether they are. ISR with bit 7 alone, as one known broken chip returns it,
+ *   counts as no FIFO;
+ * - discards received bytes, at most 17;
+ * - sets DTR, RTS and OUT2 in MCR, and clears loopback;
+ * - waits until LSR shows TRANSMITTER_EMPTY, at most spin_limit polls;
+ * - reads LSR, ISR and MSR to clear them, and writes the configured interrupts to IER.
+ *
+ * Afterwards no status bits are saved, config returns the new configuration, and
+ * fifo_enabled whether the FIFOs are on. SPR is unchanged. Bytes that were in the
+ * transmitter FIFO may be lost by the reset.
+ *
+ * Without a trigger level the FIFOs are off, and bytes are sent one at a time. Some versions
+ * of QEMU were reported to stall in this mode.
+ *
+ * Errors
+ *
+ * - InvalidBaudRate if the divisor is not a whole number, or does not fit into the divisor
+ *   latch. No access was made, and nothing changed.
+ * - DeviceNotPresent if SPR does not keep a pattern. SPR was written back, and the driver
+ *   has the new configuration. Saved bits and fifo_enabled are unchanged.
+ * - Stalled if the transmitter was not empty after spin_limit polls. The interrupts of the
+ *   device are disabled, the driver has the new configuration, and the status bits that the
+ *   polls cleared are saved.
+ *
+ * Proved: the whole list, or the list up to the refusal, with the fields that each leaves.
+ */
+static struct uart_init_error
+uart_init(struct u16550_core_driver *uart, struct u16550_core_config config)
+{
+    struct uart_u16_or_invalid_divisor_error outcome =
+        uart_calc_divisor(config.frequency, uart_baud_rate_to_integer(config.baud_rate),
+        config.prescaler_division_factor);
+    if (outcome.error.kind != UART_INVALID_DIVISOR_ERROR_NONE)
+        return uart_init_error_invalid_baud_rate(outcome.error);
+    return uart_set_up(uart, config, outcome.value);
+}
+
+/*
+ * Checks that a device is present, if that is asked for.
+ *
+ * Proved: the presence check, if it is asked for; without it a device is taken to be
+ * present.
+ */
+static bool uart_is_present(struct u16550_core_driver *uart, bool asked)
+{
+    return !asked || uart_check_present(uart);
+}
+
+static bool uart_is_first(enum uart_transmitter_wait wait)
+{
+    return wait == UART_TRANSMITTER_WAIT_FIRST;
+}
+
+/*
+ * Waits until the transmitter is empty, if that is asked for.
+ *
+ * Proved: the wait for an empty transmitter, if it is asked for; without it the transmitter
+ * is taken to be empty.
+ */
+static bool uart_is_emptied(struct u16550_core_driver *uart, bool asked)
+{
+    return !asked || uart_wait_for(uart, U16550_LSR_TRANSMITTER_EMPTY);
+}
+
+/*
+ * Writes MCR: the outputs to the modem are as these bits say, and loopback is off.
+ *
+ * OUT_2_INT_ENABLE gates the interrupt line on a PC, and init sets it. So leave it in the
+ * bits if interrupts are used.
+ *
+ * Proved: these bits are written to MCR, without loopback.
+ */
+static void uart_set_modem_control(struct u16550_core_driver *uart, uint8_t outputs)
+{
+    uart_write_register(uart, UART_MCR, outputs & (uint8_t)~U16550_MCR_LOOP_BACK);
+}
+
+static bool uart_is_last(enum uart_transmitter_wait wait)
+{
+    return wait == UART_TRANSMITTER_WAIT_LAST;
+}
+
+/*
+ * Initialises the device with this configuration, whose divisor this is, as setup asks.
+ *
+ * Proved: the configuration is stored, and the rest done in this order; or the list up to
+ * the refusal.
+ */
+static struct uart_init_error
+uart_set_up_with(struct u16550_core_driver *uart, struct u16550_core_config config,
+    const struct uart_setup *setup, uint16_t divisor)
+{
+    uart->config = config;
+    uint8_t frame = uart_frame_of(&uart->config);
+    struct u16550_core_maybe_fifo_trigger_level level = uart->config.fifo_trigger_level;
+    if (!uart_is_present(uart, setup->checks_presence))
+        return uart_init_error_device_not_present();
+    if (!uart_is_emptied(uart, uart_is_first(setup->wait)))
+        return uart_init_error_stalled();
+    uart_set_line(uart, divisor, frame);
+    uart->fifo_enabled = uart_set_fifo(uart, level);
+    uart_drain(uart);
+    uart_set_modem_control(uart, setup->outputs);
+    if (!uart_is_emptied(uart, uart_is_last(setup->wait)))
+        return uart_init_error_stalled();
+    uart_finish_init(uart);
+    return uart_init_error_none();
+}
+
+/*
+ * Initialises the device with this configuration, which must be computable
+ * (Config_is_computable), otherwise than init does: without the check of the scratch
+ * register, with the wait for the transmitter first or not at all, or with other outputs.
+ *
+ * What it does is in the order of init, except for the wait if it comes first: it comes then
+ * between the check and the first write. With Setup_DEFAULT it makes the accesses of
+ * init.
+ *
+ * Errors
+ *
+ * - InvalidBaudRate as for init. No access was made, and nothing changed.
+ * - DeviceNotPresent as for init, if the check is asked for.
+ * - Stalled if the transmitter was not empty after spin_limit polls, if a wait is asked
+ *   for. The driver has the new configuration, and the status bits that the polls cleared are
+ *   saved. If the wait came first, nothing was written except the scratch register, and the
+ *   interrupts of the device are as they were; else they are disabled.
+ *
+ * Proved: the configuration is stored, and the rest done in this order; or the list up to
+ * the refusal.
+ */
+static struct uart_init_error
+uart_init_with(struct u16550_core_driver *uart, struct u16550_core_config config,
+    const struct uart_setup *setup)
+{
+    struct uart_u16_or_invalid_divisor_error outcome =
+        uart_calc_divisor(config.frequency, uart_baud_rate_to_integer(config.baud_rate),
+        config.prescaler_division_factor);
+    if (outcome.error.kind != UART_INVALID_DIVISOR_ERROR_NONE)
+        return uart_init_error_invalid_baud_rate(outcome.error);
+    return uart_set_up_with(uart, config, setup, outcome.value);
+}
+
+/*
+ * Returns whether the chip is gone, as one that was unplugged: whether MCR shows FF, which is
+ * what most buses show where nobody answers.
+ *
+ * Then LSR shows FF too: a byte waits, and the transmitter is empty. So each call that
+ * receives finds bytes, all of them FF, and each call that sends succeeds. Call this after
+ * bytes of FF, or now and then.
+ *
+ * Does not wait: reads MCR once, which changes nothing. A chip that is there does not show FF:
+ * a 16550 has no bits 5 to 7 in MCR, and on later chips all bits would be set only together
+ * with LOOP_BACK, which the driver leaves off. A bus that shows something else where nobody
+ * answers, as 0, is not told from a chip.
+ *
+ * Proved: MCR shows what a bus shows that nobody drives, all bits set, or not.
+ */
+static bool uart_is_gone(struct u16550_core_driver *uart)
+{
+    return uart_mcr(uart) == 255;
+}
+
+/*
+ * Returns whether the transmitter is empty, both its FIFO and its shift register: whether all
+ * that was sent is on the line. flush waits for that.
+ *
+ * Does not wait: reads LSR once. This clears the error bits in the chip; they are saved for
+ * the next lsr.
+ *
+ * Proved: one read of LSR, which shows whether the transmitter is empty.
+ */
+static bool uart_is_idle(struct u16550_core_driver *uart)
+{
+    return (uart_read_lsr(uart) & U16550_LSR_TRANSMITTER_EMPTY) != 0;
+}
+
+/*
+ * Reads the line status register (LSR). Returns it joined with the error bits that earlier
+ * reads by this driver cleared in the chip, and that are saved. Afterwards no error bits of
+ * LSR are saved.
+ *
+ * Call it to find out whether received bytes had errors or were lost. Does not wait.
+ * has_error of the result also counts bit 7, an error somewhere in the FIFO, which is not
+ * saved.
+ *
+ * Proved: one read. The result is joined with the saved bits, of which none are left.
+ */
+static uint8_t uart_lsr(struct u16550_core_driver *uart)
+{
+    uint8_t lsr = uart_read_lsr(uart);
+    uint8_t lsr2 = uart->saved_lsr;
+    uart->saved_lsr = 0;
+    return lsr | lsr2;
+}
+
+/*
+ * Reads the modem status register (MSR). Returns it joined with the changes that earlier reads
+ * by this driver cleared in the chip, and that are saved. Afterwards no changes are saved.
+ *
+ * Call it to find out which modem lines changed. Does not wait.
+ *
+ * Proved: one read. The result is joined with the saved bits, of which none are left.
+ */
+static uint8_t uart_msr(struct u16550_core_driver *uart)
+{
+    uint8_t msr = uart_read_msr(uart);
+    uint8_t msr2 = uart->saved_msr;
+    uart->saved_msr = 0;
+    return msr | msr2;
+}
+
+/*
+ * Returns a driver over this backend.
+ *
+ * Makes no access: call init before any other call, or attach. Until then the
+ * configuration is Config_DEFAULT, no status bits are saved, and the FIFO is taken to be
+ * on. So a send before may write 16 bytes into a chip without a FIFO, which keeps one of them.
+ */
+static struct u16550_core_driver uart_new_with_backend(struct u16550_device backend)
+{
+    struct u16550_core_config config;
+    config.interrupts = 0;
+    config.frequency = UINT32_C(1843200);
+    config.prescaler_division_factor = uart_no_u32();
+    config.fifo_trigger_level =
+        uart_some_fifo_trigger_level(U16550_CORE_FIFO_TRIGGER_LEVEL_FOURTEEN);
+    config.baud_rate = uart_baud_rate_baud9600();
+    config.data_bits = U16550_CORE_WORD_LENGTH_EIGHT_BITS;
+    config.extra_stop_bits = false;
+    config.parity = U16550_CORE_PARITY_DISABLED;
+    config.check_cts_before_sending = false;
+    struct u16550_core_driver uart;
+    uart.backend = backend;
+    uart.config = config;
+    uart.fifo_enabled = true;
+    uart.saved_lsr = 0;
+    uart.saved_msr = 0;
+    uart.spin_limit = UINT32_C(1000000);
+    return uart;
+}
+
+/*
+ * Reads and returns the modem status register (MSR) as it is now. The changes that this clears
+ * in the chip are saved for the next msr.
+ *
+ * Call it to find out how the modem lines are. Does not wait. Like each read of MSR it clears
+ * a modem status interrupt that is pending, so no handler is called for it any more: call
+ * msr afterwards, which tells the change.
+ */
+static uint8_t uart_peek_modem(struct u16550_core_driver *uart)
+{
+    return uart_read_msr(uart);
+}
+
+/*
+ * Returns the trigger level for FIFOs that are on: the configured one, or one byte if none is
+ * configured, as on a port that was taken by attach.
+ */
+static struct u16550_core_maybe_fifo_trigger_level
+uart_level_of(const struct u16550_core_driver *uart, bool on)
+{
+    if (on) {
+        struct u16550_core_maybe_fifo_trigger_level found = uart->config.fifo_trigger_level;
+        return uart_some_fifo_trigger_level(found.is_some ? found.value
+            : U16550_CORE_FIFO_TRIGGER_LEVEL_ONE);
+    }
+    return uart_no_fifo_trigger_level();
+}
+
+/* Writes FCR as is asked for, and returns whether the FIFOs are on then. */
+static bool uart_change_fifos(struct u16550_core_driver *uart, enum uart_fifo_action action)
+{
+    bool on = uart->fifo_enabled;
+    switch (action) {
+    case UART_FIFO_ACTION_KEEP:
+        return on;
+    case UART_FIFO_ACTION_RESET:
+        uart_write_register(uart, UART_FCR, uart_fifo_control_of(uart_level_of(uart, on)));
+        return on;
+    case UART_FIFO_ACTION_DISABLE:
+    default:
+        uart_write_register(uart, UART_FCR, uart_fifo_control_of(uart_no_fifo_trigger_level()));
+        return false;
+    }
+}
+
+/*
+ * Leaves the port, so that the chip interrupts nobody: disables all interrupts, writes the
+ * outputs to the modem, and does with the FIFOs what is asked for.
+ *
+ * Does not wait: what is still in the transmitter goes out, if the FIFOs are kept. LOOP_BACK
+ * is left out of the outputs. Afterwards the driver's configuration has no interrupts. init,
+ * or restore with a dump that was made before, takes the port up again.
+ *
+ * Proved: all interrupts are disabled, and the outputs and FCR written.
+ */
+static void
+uart_quiesce(struct u16550_core_driver *uart, uint8_t outputs, enum uart_fifo_action fifos)
+{
+    uart->config.interrupts = 0;
+    uart_write_register(uart, UART_IER, 0);
+    uart_set_modem_control(uart, outputs);
+    uart->fifo_enabled = uart_change_fifos(uart, fifos);
+}
+
+/*
+ * Checks whether a received byte is available: whether LSR shows DATA_READY.
+ *
+ * Does not wait: reads LSR once. The error bits that this clears are saved for the next lsr.
+ *
+ * Errors
+ *
+ * ByteReceiveError if no byte is available.
+ *
+ * Proved: one look, with the result.
+ */
+static bool uart_ready_to_receive(struct u16550_core_driver *uart)
+{
+    if ((uart_read_lsr(uart) & U16550_LSR_DATA_READY) == 0)
+        return false;
+    return true;
+}
+
+/*
+ * Returns whether the modem lines allow sending. In loopback they do not matter: CTS is then
+ * connected to RTS inside the chip, and says nothing about the remote.
+ *
+ * Proved: whether the modem lines allow sending: they do if MCR shows loopback, in which
+ * they mean nothing, or if MSR shows CTS.
+ */
+static bool uart_is_clear_to_send(struct u16550_core_driver *uart)
+{
+    if ((uart_read_register(uart, UART_MCR) & U16550_MCR_LOOP_BACK) != 0)
+        return true;
+    return (uart_read_msr(uart) & U16550_MSR_CTS) != 0;
+}
+
+/*
+ * Checks whether a byte can be sent now: whether LSR shows THR_EMPTY and, if the
+ * configuration checks CTS, the remote is clear to send.
+ *
+ * Does not wait: reads LSR once. If the configuration checks CTS and THR is empty, it also
+ * reads MCR and, unless that shows loopback, MSR. The errors and changes that these reads
+ * clear are saved for the next lsr and msr.
+ *
+ * Errors
+ *
+ * - NoCapacity if THR, or the transmitter FIFO, is not empty.
+ * - RemoteNotClearToSend if it is empty, but the remote does not assert CTS.
+ *
+ * Proved: a send check, with the result.
+ */
+static enum uart_byte_send_error uart_ready_to_send(struct u16550_core_driver *uart)
+{
+    if ((uart_read_lsr(uart) & U16550_LSR_THR_EMPTY) == 0)
+        return UART_BYTE_SEND_ERROR_NO_CAPACITY;
+    if (!uart->config.check_cts_before_sending)
+        return UART_BYTE_SEND_ERROR_NONE;
+    if (!uart_is_clear_to_send(uart))
+        return UART_BYTE_SEND_ERROR_REMOTE_NOT_CLEAR_TO_SEND;
+    return UART_BYTE_SEND_ERROR_NONE;
+}
+
+/*
+ * Receives one byte if one is available: reads LSR, and if it shows DATA_READY, RBR.
+ *
+ * Does not wait. The error bits that the read of LSR clears are saved for the next lsr; they
+ * belong to the byte that is then received, except for an overrun.
+ *
+ * Errors
+ *
+ * ByteReceiveError if no byte is available. RBR was not read then.
+ *
+ * Proved: a hit with the byte, or a miss.
+ */
+static struct u16550_core_maybe_u8 uart_try_receive_byte(struct u16550_core_driver *uart)
+{
+    if (!uart_ready_to_receive(uart))
+        return uart_no_u8();
+    return uart_some_u8(uart_read_register(uart, UART_DATA));
+}
+
+/*
+ * Receives bytes while some are available and there are free slots. Returns how many, and
+ * leaves the slots beyond them unchanged.
+ *
+ * Does not wait: reads LSR before each byte, and ends when it shows none. Call it again with
+ * the rest of the slice to receive more. An empty slice makes no access. Error bits are saved
+ * for the next lsr, and do not end the call.
+ *
+ * Proved: receive_bytes into n slots: these bytes fill all slots, or a miss follows them.
+ */
+static size_t
+uart_receive_bytes(struct u16550_core_driver *uart, uint8_t *buffer, size_t buffer_len)
+{
+    for (size_t count = 0; count < buffer_len; count++) {
+        struct u16550_core_maybe_u8 found = uart_try_receive_byte(uart);
+        if (!found.is_some)
+            return count;
+        buffer[count] = found.value;
+    }
+    return buffer_len;
+}
+
+/*
+ * Waits for one byte. The first poll is separate, since it mostly finds one: then the limit is
+ * never read.
+ *
+ * Proved: a wait for one byte: it was received, or there were as many misses as the limit.
+ */
+static struct u16550_core_maybe_u8 uart_receive_one(struct u16550_core_driver *uart)
+{
+    struct u16550_core_maybe_u8 found = uart_try_receive_byte(uart);
+    if (found.is_some)
+        return uart_some_u8(found.value);
+    uint64_t number = uart->spin_limit;
+    for (uint64_t turn = 1; turn < number; turn++) {
+        struct u16550_core_maybe_u8 found2 = uart_try_receive_byte(uart);
+        if (found2.is_some)
+            return uart_some_u8(found2.value);
+    }
+    return uart_no_u8();
+}
+
+/*
+ * Receives a byte into each slot, and waits for each.
+ *
+ * Each wait makes at most spin_limit polls of LSR. Error bits are saved for the next lsr,
+ * and do not end the call. An empty slice makes no access. If the chip is gone, bytes of FF
+ * are received: is_gone tells.
+ *
+ * Errors
+ *
+ * StalledError after spin_limit unsuccessful polls in a row: the remote sent nothing for
+ * so long. The first done slots have the bytes that were received, and the other slots are
+ * unchanged.
+ *
+ * Proved: receive_bytes_exact into n slots: all are filled, each after its own wait; or
+ * some, and then a wait reaches the limit.
+ */
+static struct uart_maybe_stalled_error
+uart_receive_bytes_exact(struct u16550_core_driver *uart, uint8_t *buffer, size_t buffer_len)
+{
+    for (size_t done = 0; done < buffer_len; done++) {
+        struct u16550_core_maybe_u8 found = uart_receive_one(uart);
+        if (!found.is_some)
+            return uart_failed_stalled_error(done);
+        buffer[done] = found.value;
+    }
+    return uart_no_stalled_error();
+}
+
+/*
+ * Receives one byte if one is available, with the errors that LSR showed with it: reads LSR,
+ * and if it shows DATA_READY, RBR.
+ *
+ * Does not wait. The error bits are saved for the next lsr too. receive_with_errors says
+ * when an error is not shown.
+ *
+ * Errors
+ *
+ * ByteReceiveError if no byte is available. RBR was not read then.
+ *
+ * Proved: a hit with the byte and its errors, or a miss.
+ */
+static struct uart_maybe_received uart_try_receive_with_errors(struct u16550_core_driver *uart)
+{
+    uint8_t lsr = uart_read_lsr(uart);
+    if ((lsr & U16550_LSR_DATA_READY) == 0)
+        return uart_no_received();
+    return uart_some_received(uart_make_received(uart_read_register(uart, UART_DATA),
+        lsr & (U16550_LSR_OVERRUN_ERROR | U16550_LSR_PARITY_ERROR | U16550_LSR_FRAMING_ERROR |
+        U16550_LSR_BREAK_INTERRUPT)));
+}
+
+/*
+ * Receives bytes with their errors while some are available and there are free slots. Returns
+ * how many, and leaves the slots beyond them unchanged.
+ *
+ * The chip shows the errors of the character that is the next to be read, once: if an earlier
+ * call has already looked at the first byte, its errors are missing here, and are in the next
+ * lsr. Without a FIFO a byte that arrives between the two reads replaces the one that LSR
+ * described, and the next look shows an overrun.
+ *
+ * An overrun tells that a character was lost, and the FIFO decides on which side of the byte
+ * that it comes with. With the FIFO on, all that waited came before the lost one: it was lost
+ * right behind the 15th or the 16th character from this byte on, which are bytes that the call
+ * returns and then those that are still in the receiver. With the FIFO off, the further
+ * character replaces the one that waits, so the lost one came before this byte.
+ *
+ * Does not wait: reads LSR before each byte, and ends when it shows none. An empty slice makes
+ * no access. The error bits are saved for the next lsr too, and do not end the call.
+ *
+ * Proved: receive_with_errors into n slots: these fill all slots, or a miss follows them.
+ */
+static size_t
+uart_receive_with_errors(struct u16550_core_driver *uart, struct u16550_received *slots,
+    size_t slots_len)
+{
+    for (size_t taken = 0; taken < slots_len; taken++) {
+        struct uart_maybe_received found = uart_try_receive_with_errors(uart);
+        if (!found.is_some)
+            return taken;
+        slots[taken] = found.value;
+    }
+    return slots_len;
+}
+
+/* Returns the divisor in the divisor latch, 0 to 65535. */
+static uint16_t uart_config_register_dump_divisor(const struct u16550_dump *config_register_dump)
+{
+    return (uint16_t)((uint16_t)(256 * (uint16_t)config_register_dump->dlm) +
+        (uint16_t)config_register_dump->dll);
+}
+
+/*
+ * Writes to the chip what a dump of its registers shows, for example after it was without
+ * power: the divisor, the frame, the FIFOs, the outputs, the scratch register, and in the end
+ * the interrupts, which are stored in the driver's configuration.
+ *
+ * Both FIFOs are emptied. If they were on, they get the level of the configuration, since a
+ * chip does not show its own, and ISR tells whether they are on now (fifo_enabled). DLAB
+ * and LOOP_BACK are left out. Does not wait, and discards nothing that is saved for the next
+ * lsr or msr. The other fields of the configuration stay as they are.
+ *
+ * Proved: divisor and frame, the FIFOs, and the rest are written as they were read; the
+ * FIFOs are on as ISR shows.
+ */
+static void uart_restore(struct u16550_core_driver *uart, const struct u16550_dump *dump)
+{
+    uart->config.interrupts = dump->ier;
+    uint16_t config_register_dump_divisor = uart_config_register_dump_divisor(dump);
+    uart_set_line(uart, config_register_dump_divisor, dump->lcr & (uint8_t)~U16550_LCR_DLAB);
+    bool on = uart_set_fifo(uart, uart_level_of(uart, uart_isr_fifo_enabled(dump->isr)));
+    uart_set_modem_control(uart, dump->mcr);
+    uart_write_register(uart, UART_SPR, dump->spr);
+    uart_write_register(uart, UART_IER, dump->ier);
+    uart->fifo_enabled = on;
+}
+
+/*
+ * Makes the interrupt output fall, and rise again if an interrupt is enabled and pending:
+ * reads IER, writes 0, and writes back what it read.
+ *
+ * An interrupt controller that detects edges sees no new edge while the output stays high.
+ * Call this at the end of an interrupt handler that leaves before ISR has shown that no
+ * interrupt is pending, and after the interrupt was masked at a controller that forgets edges
+ * meanwhile.
+ *
+ * If THR_EMPTY is enabled and the transmitter is empty, the chip raises that interrupt
+ * again. Does not wait: makes three accesses. The interrupts of config are not used, and not
+ * changed.
+ *
+ * Proved: IER is read, and written with 0 and then with what was read.
+ */
+static void uart_retrigger_interrupts(struct u16550_core_driver *uart)
+{
+    uint8_t enabled = uart_read_register(uart, UART_IER);
+    uart_write_register(uart, UART_IER, 0);
+    uart_write_register(uart, UART_IER, enabled);
+}
+
+/* Returns the number of characters. */
+static size_t uart_fifo_size_characters(enum uart_fifo_size fifo_size)
+{
+    switch (fifo_size) {
+    case UART_FIFO_SIZE_SIXTEEN:
+        return 16;
+    case UART_FIFO_SIZE_THIRTY_TWO:
+        return 32;
+    case UART_FIFO_SIZE_SIXTY_FOUR:
+        return 64;
+    case UART_FIFO_SIZE_ONE_HUNDRED_TWENTY_EIGHT:
+        return 128;
+    case UART_FIFO_SIZE_TWO_HUNDRED_FIFTY_SIX:
+    default:
+        return 256;
+    }
+}
+
+/* Returns how many bytes certainly fit once LSR has shown THR_EMPTY. */
+static size_t uart_room(const struct u16550_core_driver *uart, enum uart_fifo_size size)
+{
+    if (uart->fifo_enabled)
+        return uart_fifo_size_characters(size);
+    return 1;
+}
+
+/* Writes a byte to DATA. */
+static void uart_write_byte(struct u16550_core_driver *uart, uint8_t byte)
+{
+    uart_device_write(&uart->backend, UART_DATA, byte);
+}
+
+/* Writes the bytes to DATA in order. */
+static void uart_write_data(struct u16550_core_driver *uart, const uint8_t *bytes, size_t bytes_len)
+{
+    for (size_t byte = 0; byte < bytes_len; byte++)
+        uart_write_byte(uart, bytes[byte]);
+}
+
+/*
+ * Does the same as send_bytes for a chip whose transmitter FIFO has this size: sends as many
+ * bytes as it holds if the FIFO is on, else one.
+ *
+ * So fewer looks and fewer interrupts are needed for the same bytes. The size is taken on
+ * trust: on a chip with a smaller FIFO the bytes that do not fit are lost, and nothing tells.
+ * Some chips hold more than 16 only after a register of their own was written.
+ *
+ * Proved: nothing if there are no bytes; else a check that fails, or one burst from the
+ * front.
+ */
+static size_t
+uart_send_burst(struct u16550_core_driver *uart, const uint8_t *buffer, size_t buffer_len,
+    enum uart_fifo_size size)
+{
+    if (buffer_len == 0)
+        return 0;
+    if (uart_ready_to_send(uart) != UART_BYTE_SEND_ERROR_NONE)
+        return 0;
+    size_t room = uart_room(uart, size);
+    size_t number = room < buffer_len ? room : buffer_len;
+    uart_write_data(uart, buffer, number);
+    return number;
+}
+
+/*
+ * Writes one burst from the front to DATA, and returns its length: as many bytes as certainly
+ * fit. LSR shows whether the FIFO is empty, and no register shows how full it is. One byte more
+ * could be lost, and nothing would tell.
+ *
+ * A whole burst is apart, since its length is known to the compiler: it then counts no bytes.
+ */
+static size_t
+uart_write_burst(struct u16550_core_driver *uart, const uint8_t *bytes, size_t bytes_len)
+{
+    if (!uart->fifo_enabled) {
+        uart_write_byte(uart, bytes[0]);
+        return 1;
+    }
+    const uint8_t *found = bytes_len >= 16 ? bytes : NULL;
+    if (found != NULL) {
+        uart_write_data(uart, found, 16);
+        return 16;
+    }
+    uart_write_data(uart, bytes, bytes_len);
+    return bytes_len;
+}
+
+/*
+ * Sends bytes from the front of the slice if there is room, and returns how many: up to 16 if
+ * the FIFO is on, else one; 0 if ready_to_send fails.
+ *
+ * Does not wait: makes one check as ready_to_send, and one burst of writes to THR. The chip
+ * reports only an empty FIFO, not how full it is, so nothing is sent until the last burst has
+ * left the FIFO. Call it again with the rest of the slice to send more. An empty slice makes
+ * no access.
+ *
+ * Proved: nothing if there are no bytes; else a check that fails, or one burst from the
+ * front.
+ */
+static size_t
+uart_send_bytes(struct u16550_core_driver *uart, const uint8_t *buffer, size_t buffer_len)
+{
+    if (buffer_len == 0)
+        return 0;
+    if (uart_ready_to_send(uart) != UART_BYTE_SEND_ERROR_NONE)
+        return 0;
+    return uart_write_burst(uart, buffer, buffer_len);
+}
+
+/*
+ * Waits until bytes may be written. The first check is separate, since it mostly succeeds: then
+ * the limit is never read. Waiting and writing are two functions, and this one is inlined, so
+ * that each loop that sends holds one copy of the wait.
+ *
+ * Proved: a wait for room: a check succeeded after fewer misses in a row than the limit, or
+ * there were as many misses.
+ */
+static bool uart_wait_to_send(struct u16550_core_driver *uart)
+{
+    if (uart_ready_to_send(uart) == UART_BYTE_SEND_ERROR_NONE)
+        return true;
+    uint64_t number = uart->spin_limit;
+    for (uint64_t turn = 1; turn < number; turn++) {
+        if (uart_ready_to_send(uart) == UART_BYTE_SEND_ERROR_NONE)
+            return true;
+    }
+    return false;
+}
+
+/*
+ * Waits until a burst was sent, and returns its length.
+ *
+ * Proved: a wait for one burst: k of the bytes were sent, or there were as many misses as
+ * the limit.
+ */
+static struct uart_maybe_u64
+uart_send_some(struct u16550_core_driver *uart, const uint8_t *bytes, size_t bytes_len)
+{
+    if (!uart_wait_to_send(uart))
+        return uart_no_u64();
+    return uart_some_u64(uart_write_burst(uart, bytes, bytes_len));
+}
+
+/*
+ * Sends the bytes burst by burst, and waits for room before each burst.
+ *
+ * Proved: all bytes; or all before a rest, burst by burst, and then a wait that reaches the
+ * limit.
+ */
+static struct uart_maybe_stalled_error
+uart_send_bursts(struct u16550_core_driver *uart, const uint8_t *bytes, size_t bytes_len)
+{
+    size_t done = 0;
+    while (done < bytes_len) {
+        struct uart_maybe_u64 found = uart_send_some(uart, &bytes[done], bytes_len - done);
+        if (!found.is_some)
+            return uart_failed_stalled_error(done);
+        done += (size_t)found.value;
+    }
+    return uart_no_stalled_error();
+}
+
+/*
+ * Sends the bytes one by one, and waits for room before each.
+ *
+ * Proved: these bytes, one by one: all of them, or a beginning.
+ */
+static struct uart_maybe_stalled_error
+uart_send_singly(struct u16550_core_driver *uart, const uint8_t *bytes, size_t bytes_len)
+{
+    for (size_t done = 0; done < bytes_len; done++) {
+        uint8_t byte = bytes[done];
+        if (!uart_wait_to_send(uart))
+            return uart_failed_stalled_error(done);
+        uart_write_byte(uart, byte);
+    }
+    return uart_no_stalled_error();
+}
+
+/*
+ * Sends all of the bytes, and waits for room before each burst: of up to 16 bytes if the FIFO
+ * is on, else of one.
+ *
+ * Each wait makes at most spin_limit checks as ready_to_send. It returns when the last
+ * burst is in THR or the FIFO; flush of embedded_io waits until all
+ * of it has left the chip. An empty slice makes no access.
+ *
+ * Errors
+ *
+ * StalledError after spin_limit unsuccessful checks in a row: the chip is slower than the
+ * limit allows, or CTS is checked and the remote is not clear to send. The first done bytes
+ * were written to the chip.
+ *
+ * Proved: all bytes; or all before a rest, burst by burst, and then a wait that reaches the
+ * limit.
+ */
+static struct uart_maybe_stalled_error
+uart_send_bytes_exact(struct u16550_core_driver *uart, const uint8_t *bytes, size_t bytes_len)
+{
+    if (uart->fifo_enabled)
+        return uart_send_bursts(uart, bytes, bytes_len);
+    return uart_send_singly(uart, bytes, bytes_len);
+}
+
+/* Returns LCR with a break or without. */
+static uint8_t uart_break_of(uint8_t lcr, bool on)
+{
+    if (on)
+        return lcr | U16550_LCR_SET_BREAK;
+    return lcr & (uint8_t)~U16550_LCR_SET_BREAK;
+}
+
+/*
+ * Begins or ends a break: reads LCR, and writes it with SET_BREAK set or cleared, the other
+ * bits as they were.
+ *
+ * In a break the line is held at 0, whatever the transmitter sends. So a character that is
+ * going out is lost: wait until is_idle is true. The remote sees a break once the line was 0
+ * for a whole character. Does not wait: the caller ends the break after that time.
+ *
+ * Proved: LCR is read, and written with the break set or cleared.
+ */
+static void uart_set_break(struct u16550_core_driver *uart, bool on)
+{
+    uart_write_register(uart, UART_LCR, uart_break_of(uart_lcr(uart), on));
+}
+
+/* Returns MCR with an output asserted or clear. */
+static uint8_t uart_outputs_of(uint8_t mcr, uint8_t output, bool on)
+{
+    if (on)
+        return mcr | output;
+    return mcr & (uint8_t)~output;
+}
+
+/*
+ * Asserts or clears one output.
+ *
+ * Proved: set_rts, set_dtr: MCR is read, and written with this bit set or cleared, without
+ * loopback.
+ */
+static void uart_set_output(struct u16550_core_driver *uart, uint8_t output, bool on)
+{
+    uart_set_modem_control(uart, uart_outputs_of(uart_mcr(uart), output, on));
+}
+
+/*
+ * Asserts or clears DTR: reads MCR, and writes it with this bit so, the other outputs as they
+ * were, and loopback off, as in set_modem_control.
+ *
+ * Proved: set_rts, set_dtr: MCR is read, and written with this bit set or cleared, without
+ * loopback.
+ */
+static void uart_set_dtr(struct u16550_core_driver *uart, bool on)
+{
+    uart_set_output(uart, U16550_MCR_DTR, on);
+}
+
+/*
+ * Stores the clock, the baud rate and the frame. The other fields of the configuration are for
+ * registers that a change of the frame does not write.
+ *
+ * Proved: no access, and this change to the fields.
+ */
+static void
+uart_store_frame(struct u16550_core_driver *uart, const struct u16550_core_config *config)
+{
+    uart->config.frequency = config->frequency;
+    uart->config.prescaler_division_factor = config->prescaler_division_factor;
+    uart->config.baud_rate = config->baud_rate;
+    uart->config.data_bits = config->data_bits;
+    uart->config.extra_stop_bits = config->extra_stop_bits;
+    uart->config.parity = config->parity;
+}
+
+/* Sets the divisor and the frame. */
+static void uart_write_frame(struct u16550_core_driver *uart, uint16_t divisor, uint8_t frame)
+{
+    uart_write_register(uart, UART_LCR, frame | U16550_LCR_DLAB);
+    uart_write_register(uart, UART_DATA, (uint8_t)(uint16_t)(divisor % 256));
+    uart_write_register(uart, UART_IER, (uint8_t)(uint16_t)(divisor / 256));
+    uart_write_register(uart, UART_LCR, frame);
+}
+
+/*
+ * Changes the baud rate and the frame to those of this configuration, which must be computable
+ * (Config_is_computable), and stores them in the driver's configuration.
+ *
+ * Writes LCR, DLL, DLM and LCR, and nothing else. So the FIFOs, the outputs to the modem and
+ * the interrupts stay as they are, no byte is discarded, and a break ends. Does not wait.
+ *
+ * A character that is on the line meanwhile is corrupted, since its rest has the new rate and
+ * frame: one that goes out, and one that comes in. Bytes that wait in the transmitter are sent
+ * in the new frame. So wait before, until is_idle is true or with flush.
+ *
+ * While DLAB is set, offsets 0 and 1 are the latch, as in dll_dlm, so nothing else may
+ * access the chip. Of the configuration interrupts, fifo_trigger_level and
+ * check_cts_before_sending are not used.
+ *
+ * Errors
+ *
+ * - NonInteger if the divisor is not a whole number: Config_nearest finds the nearest.
+ * - OutOfRange if it does not fit into the divisor latch.
+ *
+ * No access was made then, and nothing changed.
+ *
+ * Proved: what is set is stored, and written to the divisor latch and to LCR; or there is no
+ * divisor, and nothing was done.
+ */
+static struct uart_invalid_divisor_error
+uart_set_frame(struct u16550_core_driver *uart, const struct u16550_core_config *config)
+{
+    uint32_t baud_rate = uart_baud_rate_to_integer(config->baud_rate);
+    struct uart_u16_or_invalid_divisor_error outcome =
+        uart_calc_divisor(config->frequency, baud_rate, config->prescaler_division_factor);
+    if (outcome.error.kind != UART_INVALID_DIVISOR_ERROR_NONE)
+        return outcome.error;
+    uart_store_frame(uart, config);
+    uart_write_frame(uart, outcome.value, uart_frame_of(config));
+    return uart_invalid_divisor_error_none();
+}
+
+/*
+ * Waits until all that was sent is on the line, and then changes the baud rate and the frame,
+ * as set_frame does. The configuration must be computable (Config_is_computable).
+ *
+ * Polls LSR at most spin_limit times; error bits are saved for the next lsr. So no
+ * character is broken that goes out. One that comes in meanwhile is: agree with the remote
+ * when to change.
+ *
+ * Errors
+ *
+ * - InvalidBaudRate if the divisor is not a whole number, or does not fit into the divisor
+ *   latch. No access was made, and nothing changed.
+ * - Stalled if the transmitter was not empty after spin_limit polls. Nothing was written,
+ *   and the driver's configuration is as it was.
+ *
+ * Proved: what was sent is on the line, and then all is as in set_frame; or there is no
+ * divisor, and nothing was done; or the transmitter did not become empty, and nothing was
+ * written.
+ */
+static struct uart_frame_error
+uart_set_frame_when_idle(struct u16550_core_driver *uart, const struct u16550_core_config *config)
+{
+    uint32_t baud_rate = uart_baud_rate_to_integer(config->baud_rate);
+    struct uart_u16_or_invalid_divisor_error outcome =
+        uart_calc_divisor(config->frequency, baud_rate, config->prescaler_division_factor);
+    if (outcome.error.kind != UART_INVALID_DIVISOR_ERROR_NONE)
+        return uart_frame_error_invalid_baud_rate(outcome.error);
+    if (!uart_wait_for(uart, U16550_LSR_TRANSMITTER_EMPTY))
+        return uart_frame_error_stalled();
+    uart_store_frame(uart, config);
+    uart_write_frame(uart, outcome.value, uart_frame_of(config));
+    return uart_frame_error_none();
+}
+
+/*
+ * Asserts or clears RTS: reads MCR, and writes it with this bit so, the other outputs as they
+ * were, and loopback off, as in set_modem_control.
+ *
+ * Proved: set_rts, set_dtr: MCR is read, and written with this bit set or cleared, without
+ * loopback.
+ */
+static void uart_set_rts(struct u16550_core_driver *uart, bool on)
+{
+    uart_set_output(uart, U16550_MCR_RTS, on);
+}
+
+/*
+ * Sets how many unsuccessful polls in a row a wait makes before it returns an error. Makes no
+ * access, and changes nothing else.
+ *
+ * Choose it by the time of one poll: at 9,600 baud a full FIFO and shift register hold 17
+ * characters of 10 bits, which take about 17.7 ms to send. A limit near 2^64 is a wait without
+ * end in practice: at a microsecond a poll it takes more than half a million years.
+ *
+ * Proved: no access, and this change to the fields.
+ */
+static void uart_set_spin_limit(struct u16550_core_driver *uart, uint64_t limit)
+{
+    uart->spin_limit = limit;
+}
+
+/*
+ * Returns FCR for FIFOs that are on and stay on. Without the reset bits the bytes in them stay.
+ */
+static uint8_t uart_level_control_of(enum u16550_core_fifo_trigger_level level)
+{
+    return uart_fcr_set_fifo_trigger_level(U16550_FCR_FIFO_ENABLE, level);
+}
+
+/*
+ * Sets the trigger level of the receiver FIFO, and stores it in the driver's configuration.
+ *
+ * Writes FCR once, without a reset: the bytes in both FIFOs stay. Does not wait.
+ *
+ * Errors
+ *
+ * FifosOffError if the FIFOs are off (fifo_enabled). No access was made, and nothing
+ * changed: a write that turns the FIFOs on empties them, which init does.
+ *
+ * Proved: with the FIFOs on, the level is stored and written to FCR; with them off, nothing
+ * is done.
+ */
+static bool
+uart_set_trigger_level(struct u16550_core_driver *uart, enum u16550_core_fifo_trigger_level level)
+{
+    if (!uart->fifo_enabled)
+        return false;
+    uart->config.fifo_trigger_level = uart_some_fifo_trigger_level(level);
+    uart_write_register(uart, UART_FCR, uart_level_control_of(level));
+    return true;
+}
+
+/*
+ * Returns how many unsuccessful polls in a row a wait makes before it returns an error. Makes
+ * no access.
+ */
+static uint64_t uart_spin_limit(const struct u16550_core_driver *uart)
+{
+    return uart->spin_limit;
+}
+
+/* Returns the state of the driver, as a copy. Makes no access. */
+static struct uart_driver_state uart_state(const struct u16550_core_driver *uart)
+{
+    struct u16550_core_config config;
+    config.interrupts = uart->config.interrupts;
+    config.frequency = uart->config.frequency;
+    config.prescaler_division_factor = uart->config.prescaler_division_factor;
+    config.fifo_trigger_level = uart->config.fifo_trigger_level;
+    config.baud_rate = uart->config.baud_rate;
+    config.data_bits = uart->config.data_bits;
+    config.extra_stop_bits = uart->config.extra_stop_bits;
+    config.parity = uart->config.parity;
+    config.check_cts_before_sending = uart->config.check_cts_before_sending;
+    struct uart_driver_state driver_state;
+    driver_state.config = config;
+    driver_state.fifo_enabled = uart->fifo_enabled;
+    driver_state.saved_lsr = uart->saved_lsr;
+    driver_state.saved_msr = uart->saved_msr;
+    driver_state.spin_limit = uart->spin_limit;
+    return driver_state;
+}
+
+/*
+ * Reads the modem lines, and sets the device to loopback with interrupts off.
+ *
+ * Proved: MSR is read, interrupts are switched off, loopback is switched on, and the FIFO
+ * step is made.
+ */
+static uint8_t uart_enter_loopback(struct u16550_core_driver *uart)
+{
+    uint8_t before = uart_read_msr(uart);
+    uart_write_register(uart, UART_IER, 0);
+    uart_write_register(uart, UART_MCR, U16550_MCR_LOOP_BACK);
+    uart->fifo_enabled = uart_set_fifo(uart, uart->config.fifo_trigger_level);
+    return before;
+}
+
+/*
+ * Discards received bytes until none is available: a byte from before the test would be taken
+ * for the first that returns. Returns false after as many bytes as the spin limit, right after
+ * the last of them. So with a limit of 1 one byte is too many, even if none is behind it.
+ *
+ * Proved: bytes that were received before the test are taken until none is available; or as
+ * many as the limit were taken.
+ */
+static bool uart_drain_received(struct u16550_core_driver *uart)
+{
+    uint64_t number = uart->spin_limit;
+    for (uint64_t turn = 0; turn < number; turn++) {
+        if (!uart_try_receive_byte(uart).is_some)
+            return true;
+    }
+    return false;
+}
+
+/*
+ * Sends one byte if there is room: makes one check as ready_to_send, and one write to THR.
+ *
+ * Does not wait.
+ *
+ * Errors
+ *
+ * NoCapacity if the byte was not sent, whatever the cause: also if the remote is not clear
+ * to send.
+ *
+ * Proved: the send_bytes of one byte.
+ */
+static enum uart_byte_send_error uart_try_send_byte(struct u16550_core_driver *uart, uint8_t byte)
+{
+    struct uart_bytes1 bytes;
+    bytes.bytes[0] = byte;
+    if (uart_send_bytes(uart, bytes.bytes, 1) == 0)
+        return UART_BYTE_SEND_ERROR_NO_CAPACITY;
+    return UART_BYTE_SEND_ERROR_NONE;
+}
+
+/*
+ * Sends the test byte, and compares what returns.
+ *
+ * Proved: the test byte: it is sent and comes back; or it is not sent; or the wait for it is
+ * unsuccessful; or another byte comes back.
+ */
+static struct uart_loopback_error uart_exchange_byte(struct u16550_core_driver *uart)
+{
+    enum uart_byte_send_error error = uart_try_send_byte(uart, 66);
+    if (error != UART_BYTE_SEND_ERROR_NONE)
+        return uart_loopback_error_send_error(error);
+    struct u16550_core_maybe_u8 found = uart_receive_one(uart);
+    if (!found.is_some)
+        return uart_loopback_error_stalled();
+    if (found.value == 66)
+        return uart_loopback_error_none();
+    return uart_loopback_error_unexpected_loopback_byte(66, found.value);
+}
+
+/*
+ * Sends the whole test message, and then receives it. A FIFO has room for all of it.
+ *
+ * Proved: what came back for these bytes, or nothing if a wait was unsuccessful, with a FIFO
+ * and without; the one of the two that fits.
+ */
+static struct uart_maybe_bytes16 uart_echo_whole(struct u16550_core_driver *uart)
+{
+    if (uart_send_bytes_exact(uart, uart_echo_whole_bytes, 16).is_error)
+        return uart_no_bytes16();
+    struct uart_bytes16 actual;
+    uart_fill_bytes(actual.bytes, 0, 16);
+    if (uart_receive_bytes_exact(uart, actual.bytes, 16).is_error)
+        return uart_no_bytes16();
+    return uart_some_bytes16(actual);
+}
+
+/*
+ * Sends a byte, and waits for the byte that returns. On a real chip it returns after the time
+ * of a character, and not at once.
+ *
+ * Proved: what came back for a byte, or nothing if a wait was unsuccessful.
+ */
+static struct u16550_core_maybe_u8 uart_echo(struct u16550_core_driver *uart, uint8_t byte)
+{
+    struct uart_bytes1 bytes;
+    bytes.bytes[0] = byte;
+    if (!uart_send_some(uart, bytes.bytes, 1).is_some)
+        return uart_no_u8();
+    return uart_receive_one(uart);
+}
+
+/*
+ * Sends the test message byte by byte, and waits for each to return. Without FIFO the receiver
+ * has room for one character, and the next would replace it.
+ */
+static struct uart_maybe_bytes16 uart_echo_each(struct u16550_core_driver *uart)
+{
+    struct uart_bytes16 actual;
+    uart_fill_bytes(actual.bytes, 0, 16);
+    for (size_t i = 0; i < 16; i++) {
+        struct u16550_core_maybe_u8 found = uart_echo(uart, uart_echo_whole_bytes[i]);
+        if (!found.is_some)
+            return uart_no_bytes16();
+        actual.bytes[i] = found.value;
+    }
+    return uart_some_bytes16(actual);
+}
+
+/* Sends and receives the test message: as a whole if the FIFO is on, else byte by byte. */
+static struct uart_maybe_bytes16 uart_echo_message(struct u16550_core_driver *uart)
+{
+    if (uart->fifo_enabled)
+        return uart_echo_whole(uart);
+    return uart_echo_each(uart);
+}
+
+/*
+ * Sends the test message, and compares what returns.
+ *
+ * Proved: the test message: sent and received; or a wait that reaches the limit; or other
+ * bytes received.
+ */
+static struct uart_loopback_error uart_exchange_message(struct u16550_core_driver *uart)
+{
+    struct uart_maybe_bytes16 found = uart_echo_message(uart);
+    if (!found.is_some)
+        return uart_loopback_error_stalled();
+    struct uart_bytes16 actual = found.value;
+    if (!uart_same_bytes(actual.bytes, uart_echo_whole_bytes, 16)) {
+        struct uart_bytes16 bytes;
+        bytes.bytes[0] = 104;
+        bytes.bytes[1] = 101;
+        bytes.bytes[2] = 108;
+        bytes.bytes[3] = 108;
+        bytes.bytes[4] = 111;
+        bytes.bytes[5] = 32;
+        bytes.bytes[6] = 119;
+        bytes.bytes[7] = 111;
+        bytes.bytes[8] = 114;
+        bytes.bytes[9] = 108;
+        bytes.bytes[10] = 100;
+        bytes.bytes[11] = 33;
+        bytes.bytes[12] = 49;
+        bytes.bytes[13] = 51;
+        bytes.bytes[14] = 51;
+        bytes.bytes[15] = 55;
+        return uart_loopback_error_unexpected_loopback_msg(bytes, actual);
+    }
+    return uart_loopback_error_none();
+}
+
+/*
+ * Makes the test itself, while the device is in loopback.
+ *
+ * Proved: in loopback: bytes from before the test taken, the byte, the message, up to the
+ * first error.
+ */
+static struct uart_loopback_error uart_exchange(struct u16550_core_driver *uart)
+{
+    if (!uart_drain_received(uart))
+        return uart_loopback_error_stalled();
+    struct uart_loopback_error error = uart_exchange_byte(uart);
+    if (error.kind != UART_LOOPBACK_ERROR_NONE)
+        return error;
+    return uart_exchange_message(uart);
+}
+
+/* Returns whether this line has changed. */
+static bool uart_msr_is_changed(uint8_t msr, uint8_t before, uint8_t line)
+{
+    return (before & line) != (msr & line);
+}
+
+/* Returns these bits if the condition holds, else none. */
+static uint8_t uart_flag(bool on, uint8_t bits)
+{
+    return on ? bits : 0;
+}
+
+/*
+ * Returns the changes of the lines since an earlier reading, as their bits: of RI only its
+ * trailing edge, from set to clear.
+ */
+static uint8_t uart_msr_changes_since(uint8_t msr, uint8_t before)
+{
+    uint8_t ri = uart_flag(uart_msr_is_changed(msr, before, U16550_MSR_CTS), U16550_MSR_DELTA_CTS);
+    uint8_t cd = uart_flag(uart_msr_is_changed(msr, before, U16550_MSR_DSR), U16550_MSR_DELTA_DSR);
+    uint8_t flag =
+        uart_flag((before & U16550_MSR_RI) != 0 && (msr & U16550_MSR_RI) == 0,
+        U16550_MSR_TRAILING_EDGE_RI);
+    return ri | cd |
+        (flag | uart_flag(uart_msr_is_changed(msr, before, U16550_MSR_CD), U16550_MSR_DELTA_CD));
+}
+
+/*
+ * Leaves loopback, restores MCR and IER, and saves the changes of the lines that are not due to
+ * the test.
+ *
+ * Proved: loopback is left, MCR and IER are restored, changes of the lines are saved, and
+ * the saved errors are those noted before.
+ */
+static void
+uart_leave_loopback(struct u16550_core_driver *uart, uint8_t mcr, uint8_t ier, uint8_t before,
+    uint8_t noted)
+{
+    uart_write_register(uart, UART_MCR, mcr & (uint8_t)~U16550_MCR_OUT_2_INT_ENABLE);
+    uint8_t plain = uart_read_plain(uart, 6);
+    uart_write_register(uart, UART_MCR, mcr);
+    uart_write_register(uart, UART_IER, ier);
+    uint8_t msr_changes_since = uart_msr_changes_since(plain, before);
+    uart->saved_msr |= msr_changes_since;
+    uart->saved_lsr = noted;
+}
+
+/*
+ * Tests whether bytes that are sent return while the device is in loopback: first one byte,
+ * and then a message of 16.
+ *
+ * Call it after init, to find out whether the chip works. Send nothing else while it runs.
+ * In loopback the chip connects its transmitter to its receiver, and nothing goes out on the
+ * line. For a device without loopback do not call it; wrap the driver with
+ * Uart16550Tty_from_inner instead of constructing a terminal.
+ *
+ * Waits until the transmitter is empty, and then for each byte, at most spin_limit polls
+ * each time. Received bytes and error bits that are found in loopback are discarded; error
+ * bits that were saved before it stay saved. The FIFOs are reset and set up again, and
+ * fifo_enabled is read again. Afterwards MCR and IER are as before, also on a chip that was
+ * in loopback already.
+ *
+ * The modem lines before and after the test are compared, and their changes saved for the next
+ * msr; of RI only its trailing edge. A line that changed and changed back in between is not
+ * reported.
+ *
+ * Whole bytes are compared. With 5 or 6 data bits a chip that cuts characters fails the test.
+ *
+ * Errors
+ *
+ * - Stalled after spin_limit unsuccessful polls in a row. If the first wait failed,
+ *   nothing was written, and what the polls cleared is saved. Later a test byte may still be
+ *   in the transmitter, and is then sent after the test.
+ * - SendError if the device does not accept the test byte. Its cause is always NoCapacity.
+ * - UnexpectedLoopbackByte, UnexpectedLoopbackMsg if other bytes return.
+ *
+ * Except for the first wait, MCR and IER are restored before the error is returned.
+ *
+ * Proved: a first wait that reaches the limit, and nothing written; or the test.
+ */
+static struct uart_loopback_error uart_test_loopback(struct u16550_core_driver *uart)
+{
+    uint8_t mcr = uart_mcr(uart);
+    uint8_t ier = uart_ier(uart);
+    if (!uart_wait_for(uart, U16550_LSR_TRANSMITTER_EMPTY))
+        return uart_loopback_error_stalled();
+    uint8_t noted = uart->saved_lsr;
+    uint8_t before = uart_enter_loopback(uart);
+    struct uart_loopback_error outcome = uart_exchange(uart);
+    uart_leave_loopback(uart, mcr, ier, before, noted);
+    return outcome;
+}
+
+/*
+ * Waits until some bytes were received, and returns how many.
+ *
+ * Proved: a wait for bytes into n slots: some were received, or there were as many misses as
+ * the limit.
+ */
+static struct uart_maybe_u64
+uart_receive_some(struct u16550_core_driver *uart, uint8_t *buffer, size_t buffer_len)
+{
+    uint64_t number = uart->spin_limit;
+    for (uint64_t turn = 0; turn < number; turn++) {
+        size_t count = uart_receive_bytes(uart, buffer, buffer_len);
+        if (0 < count)
+            return uart_some_u64(count);
+    }
+    return uart_no_u64();
+}
+
+/*
+ * Reads at least one byte into the slots, waits for it if necessary, and returns how many were
+ * read: 0 only if there are no slots.
+ *
+ * Slots beyond this number are unchanged. If the call fails, all slots are unchanged.
+ */
+static struct uart_u64_or_stalled_error
+uart_read(struct u16550_core_driver *uart, uint8_t *buf, size_t buf_len)
+{
+    if (buf_len == 0)
+        return uart_good_u64_or_stalled_error(0);
+    struct uart_maybe_u64 found = uart_receive_some(uart, buf, buf_len);
+    if (found.is_some)
+        return uart_good_u64_or_stalled_error(found.value);
+    return uart_bad_u64_or_stalled_error(0);
+}
+
+/* Returns whether a read would find a byte without waiting. */
+static struct uart_bool_or_stalled_error uart_read_ready(struct u16550_core_driver *uart)
+{
+    return uart_good_bool_or_stalled_error(uart_ready_to_receive(uart));
+}
+
+/* Waits until everything that was written has been sent. */
+static struct uart_maybe_stalled_error uart_flush(struct u16550_core_driver *uart)
+{
+    if (uart_wait_for(uart, U16550_LSR_TRANSMITTER_EMPTY))
+        return uart_no_stalled_error();
+    return uart_failed_stalled_error(0);
+}
+
+/*
+ * Writes at least one byte from the front, waits for room if necessary, and returns how many
+ * were written: 0 only if there are no bytes.
+ */
+static struct uart_u64_or_stalled_error
+uart_write(struct u16550_core_driver *uart, const uint8_t *buf, size_t buf_len)
+{
+    if (buf_len == 0)
+        return uart_good_u64_or_stalled_error(0);
+    struct uart_maybe_u64 found = uart_send_some(uart, buf, buf_len);
+    if (found.is_some)
+        return uart_good_u64_or_stalled_error(found.value);
+    return uart_bad_u64_or_stalled_error(0);
+}
+
+/* Returns whether a write would find room without waiting. */
+static struct uart_bool_or_stalled_error uart_write_ready(struct u16550_core_driver *uart)
+{
+    return uart_good_bool_or_stalled_error(uart_ready_to_send(uart) ==
+        UART_BYTE_SEND_ERROR_NONE && true);
+}
+
+/* Returns what is sent for a byte of a text. */
+static struct uart_expansion uart_expansion_of(uint8_t byte)
+{
+    switch (byte) {
+    case 8:
+    case 127: {
+        struct uart_bytes3 n;
+        uart_copy_bytes(n.bytes, uart_expansion_of_bytes, 3);
+        return uart_make_expansion(n, 3);
+    }
+    case 10: {
+        struct uart_bytes3 bytes;
+        uart_copy_bytes(bytes.bytes, uart_expansion_of_bytes2, 3);
+        return uart_make_expansion(bytes, 2);
+    }
+    default: {
+        struct uart_bytes3 bytes2;
+        bytes2.bytes[0] = byte;
+        bytes2.bytes[1] = 0;
+        bytes2.bytes[2] = 0;
+        return uart_make_expansion(bytes2, 1);
+    }
+    }
+}
+
+/*
+ * Sends the expansion of a byte, and returns its length. Printable bytes have a branch of their
+ * own, since most bytes of a text are printable, and that branch is short.
+ *
+ * Proved: the driver under the terminal made a list of the language.
+ * Proved: these bytes, one by one: all of them, or a beginning.
+ */
+static struct uart_u64_or_stalled_error uart_tty_send_expansion(struct uart_tty *tty, uint8_t byte)
+{
+    if (byte >= 32 && byte < 127) {
+        struct uart_bytes1 bytes;
+        bytes.bytes[0] = byte;
+        struct uart_maybe_stalled_error expansion = uart_send_singly(&tty->inner, bytes.bytes, 1);
+        if (expansion.is_error)
+            return uart_bad_u64_or_stalled_error(expansion.error);
+        return uart_good_u64_or_stalled_error(1);
+    }
+    struct uart_expansion b = uart_expansion_of(byte);
+    struct uart_maybe_stalled_error found = uart_send_singly(&tty->inner, b.first.bytes, b.second);
+    if (found.is_error)
+        return uart_bad_u64_or_stalled_error(found.error);
+    return uart_good_u64_or_stalled_error(b.second);
+}
+
+/*
+ * Sends the expansion of text that need not be UTF-8, as write_text does.
+ *
+ * This is for a console that passes on what others write, as the messages of a log in an older
+ * code.
+ *
+ * Errors
+ *
+ * Those of write_text.
+ *
+ * Proved: the driver under the terminal made a list of the language.
+ * Proved: the whole expansion; or a beginning of it, as long as the error reports, at most 2
+ * ^ 64 - 1.
+ */
+static struct uart_maybe_stalled_error
+uart_tty_write_raw_text(struct uart_tty *tty, const uint8_t *text, size_t text_len)
+{
+    size_t done = 0;
+    for (size_t byte = 0; byte < text_len; byte++) {
+        struct uart_u64_or_stalled_error outcome = uart_tty_send_expansion(tty, text[byte]);
+        if (outcome.is_error) {
+            size_t number = done;
+            return uart_failed_stalled_error(number <= SIZE_MAX - outcome.error
+                ? number + outcome.error : SIZE_MAX);
+        }
+        size_t number2 = done;
+        done = number2 <= SIZE_MAX - (size_t)outcome.value ? number2 + (size_t)outcome.value
+            : SIZE_MAX;
+    }
+    return uart_no_stalled_error();
+}
+
+/*
+ * Handles the interrupt of a line that several ports share, whether the controller detects levels
+ * or edges. Returns whether an interrupt was served at one of them.
+ *
+ * Call it once each time the controller calls the handler, under the lock that all calls at these
+ * ports take: one lock for the line. With a lock for each port another processor could let the
+ * line of one rise, before that of the next has fallen.
+ *
+ * At each port, in turn, it handles what is pending and disables the chip's interrupts. Then the
+ * common line is low, whatever happens to the chips. After that it enables the interrupts again,
+ * at each port in turn. So if the line is high afterwards, it has risen since the call began, and
+ * a controller that detects edges calls the handler again.
+ *
+ * A chip that is stuck has its interrupts disabled, as after a try_handle, and the others are
+ * served.
+ */
+static bool uart_handle_line(struct uart_line_ports *ports, size_t limit, uint32_t rounds)
+{
+    size_t number = uart_line_ports_number(ports);
+    bool has_served = false;
+    for (size_t port = 0; port < number; port++) {
+        bool is_so = uart_line_ports_lower(ports, port, limit, rounds);
+        has_served = has_served || is_so;
+    }
+    for (size_t port2 = 0; port2 < number; port2++)
+        uart_line_ports_raise(ports, port2);
+    return has_served;
+}
+
+/* Returns the largest number of bytes. */
+static size_t uart_byte_queue_capacity(const struct u16550_core_byte_queue *byte_queue)
+{
+    return byte_queue->cells.len;
+}
+
+/* Returns MCR with RTS asserted or clear. */
+static uint8_t uart_with_rts(uint8_t mcr, bool on)
+{
+    if (on)
+        return mcr | U16550_MCR_RTS;
+    return mcr & (uint8_t)~U16550_MCR_RTS;
+}
+
+/*
+ * Asserts or clears RTS, unless it is so already.
+ *
+ * Proved: this is made of RTS, or it stays as it is.
+ */
+static void uart_ring_make_rts(struct u16550_core_ring *ring, bool on)
+{
+    uint8_t mcr = uart_mcr(&ring->uart);
+    if (((mcr & U16550_MCR_RTS) != 0) != on) {
+        uint8_t with_rts = uart_with_rts(mcr, on);
+        uart_set_modem_control(&ring->uart, with_rts);
+    }
+}
+
+/*
+ * Holds the other end back, or lets it go on, by RTS: clears RTS if the receive ring has room
+ * for fewer than marks.hold bytes, and asserts it if there is room for at least
+ * marks.release. Between the two RTS stays as it is.
+ *
+ * The other end has to check CTS before it sends, as check_cts_before_sending says. It may
+ * still send what is in its transmitter. So choose hold with room for that, and release
+ * not above the capacity of the receive ring, or RTS would never be asserted again.
+ *
+ * Call it at the end of the interrupt handler, and after each take and clear_receive. A
+ * handler alone is not enough: while the other end is held back no byte arrives, so nothing
+ * calls the handler.
+ *
+ * Does not wait. Between the marks it makes no access. Otherwise it reads MCR, and if RTS is
+ * not as it is to be, writes MCR: the other outputs as they were, and loopback off.
+ *
+ * Proved: RTS is made as the room in the receive ring says.
+ */
+static void uart_ring_adjust_rts(struct u16550_core_ring *ring, struct uart_receive_marks marks)
+{
+    size_t byte_queue_capacity = uart_byte_queue_capacity(&ring->receive);
+    size_t room = byte_queue_capacity - ring->receive.len;
+    if (room < marks.hold) {
+        uart_ring_make_rts(ring, false);
+    } else if (marks.release <= room)
+        uart_ring_make_rts(ring, true);
+}
+
+/*
+ * Returns the cell that is count behind cell, of so many cells.
+ *
+ * Proved: this is the cell that is count behind cell, of so many cells: behind the last one
+ * is the first.
+ */
+static size_t uart_cell_behind(size_t cell, size_t count, size_t cells)
+{
+    size_t to_end = cells - cell;
+    return count < to_end ? cell + count : count - to_end;
+}
+
+/* Drops this number of bytes from the front. */
+static void uart_byte_queue_drop_front(struct u16550_core_byte_queue *byte_queue, size_t count)
+{
+    size_t number = byte_queue->front;
+    byte_queue->front = uart_cell_behind(number, count, uart_byte_queue_capacity(byte_queue));
+    byte_queue->len -= count;
+}
+
+/*
+ * Ends a pause if so many bytes have left the receive ring.
+ *
+ * Proved: this if the count is more than 0, else nothing at all.
+ * Proved: if receiving is paused, DATA_READY is enabled, and the pause ends.
+ */
+static void uart_ring_end_pause(struct u16550_core_ring *ring, size_t count)
+{
+    if (0 < count && ring->is_paused) {
+        uart_enable_interrupts(&ring->uart, U16550_IER_DATA_READY);
+        ring->is_paused = false;
+    }
+}
+
+/*
+ * Drops the bytes of the receive ring, and returns how many. What is in the chip stays there.
+ *
+ * Does not wait. If it drops at least one byte and receiving is paused, it enables
+ * DATA_READY again and ends the pause, as take does. Otherwise it makes no access.
+ *
+ * Proved: the receive ring is emptied of so many bytes; if there are any, a pause ends.
+ */
+static size_t uart_ring_clear_receive(struct u16550_core_ring *ring)
+{
+    size_t number = ring->receive.len;
+    uart_byte_queue_drop_front(&ring->receive, number);
+    uart_ring_end_pause(ring, number);
+    return number;
+}
+
+/*
+ * Drops bytes from the front of the transmit ring, and notes it if the ring falls to the low
+ * mark.
+ */
+static void uart_ring_drop_queued(struct u16550_core_ring *ring, size_t count)
+{
+    bool was_above = ring->low_mark < ring->transmit.len;
+    uart_byte_queue_drop_front(&ring->transmit, count);
+    bool is_at_mark = ring->transmit.len <= ring->low_mark;
+    ring->is_low = ring->is_low || (was_above && is_at_mark);
+}
+
+/*
+ * Drops the bytes of the transmit ring, and returns how many.
+ *
+ * An urgent byte, and what is in the chip, still go out. Makes no access: if THR_EMPTY is
+ * enabled, it is disabled when its next interrupt is served.
+ *
+ * Proved: the transmit ring is emptied of so many bytes.
+ */
+static size_t uart_ring_clear_transmit(struct u16550_core_ring *ring)
+{
+    size_t number = ring->transmit.len;
+    uart_ring_drop_queued(ring, number);
+    return number;
+}
+
+/* Returns whether there is no byte. */
+static bool uart_byte_queue_is_empty(const struct u16550_core_byte_queue *byte_queue)
+{
+    return byte_queue->len == 0;
+}
+
+/* Returns the bytes in order, as two slices. */
+static struct uart_pair_of_slice
+uart_byte_queue_as_slices(const struct u16550_core_byte_queue *byte_queue)
+{
+    const uint8_t *cells = byte_queue->cells.data;
+    size_t number = byte_queue->front;
+    size_t number2 = byte_queue->len;
+    size_t number3 = byte_queue->cells.len - number;
+    size_t number4 = number3 < number2 ? number3 : number2;
+    return uart_make_pair_of_slice(uart_make_slice(&cells[number], number4),
+        uart_make_slice(cells, byte_queue->len - number4));
+}
+
+/* Copies bytes to the slots from place on, as many as both have, and returns how many. */
+static size_t
+uart_copy(const uint8_t *bytes, size_t bytes_len, uint8_t *slots, size_t slots_len, size_t place)
+{
+    size_t number = slots_len - place;
+    size_t number2 = number < bytes_len ? number : bytes_len;
+    if (0 < number2)
+        uart_copy_bytes(&slots[place], bytes, place + number2 - place);
+    return number2;
+}
+
+/*
+ * Copies bytes from the front, as many as there are slots, and returns how many. Leaves the
+ * other slots unchanged.
+ */
+static size_t
+uart_byte_queue_copy_front(const struct u16550_core_byte_queue *byte_queue, uint8_t *slots,
+    size_t slots_len)
+{
+    struct uart_pair_of_slice pair = uart_byte_queue_as_slices(byte_queue);
+    size_t before = uart_copy(pair.first.data, pair.first.len, slots, slots_len, 0);
+    return before + uart_copy(pair.second.data, pair.second.len, &slots[before],
+        slots_len - before, 0);
+}
+
+/*
+ * Copies bytes of the transmit ring, as many as there are slots, and returns how many: none
+ * while it is held. Leaves the other slots unchanged.
+ */
+static size_t
+uart_ring_copy_queued(const struct u16550_core_ring *ring, uint8_t *slots, size_t slots_len)
+{
+    if (ring->is_held)
+        return 0;
+    return uart_byte_queue_copy_front(&ring->transmit, slots, slots_len);
+}
+
+/*
+ * Copies bytes that may be sent, from the front, as many as there are slots, and returns how
+ * many. Leaves the other slots unchanged.
+ */
+static size_t
+uart_ring_copy_sendable(const struct u16550_core_ring *ring, uint8_t *slots, size_t slots_len)
+{
+    if (ring->stuck.is_some)
+        return 0;
+    if (ring->urgent.is_some) {
+        slots[0] = ring->urgent.value;
+        return 1 + uart_ring_copy_queued(ring, &slots[1], slots_len - 1);
+    }
+    return uart_ring_copy_queued(ring, slots, slots_len);
+}
+
+/* Drops bytes that were sent. The urgent byte is the first of them. */
+static void uart_ring_drop_sent(struct u16550_core_ring *ring, size_t count)
+{
+    if (count == 0)
+        return;
+    struct u16550_core_maybe_u8 found = ring->urgent;
+    ring->urgent = uart_no_u8();
+    if (found.is_some)
+        uart_ring_drop_queued(ring, count - 1);
+    else
+        uart_ring_drop_queued(ring, count);
+}
+
+/* Returns whether a byte waits that may be sent. */
+static bool uart_ring_has_sendable(const struct u16550_core_ring *ring)
+{
+    if (ring->stuck.is_some)
+        return false;
+    if (ring->urgent.is_some)
+        return true;
+    bool is_empty = uart_byte_queue_is_empty(&ring->transmit);
+    return !ring->is_held && !is_empty;
+}
+
+/*
+ * Sends bytes that may be sent if the chip has room. Then enables THR_EMPTY if such bytes are
+ * left, else disables it.
+ *
+ * The bytes are sent first, because not every chip interrupts when THR_EMPTY is enabled on an
+ * empty transmitter. If bytes are left, the chip was found full or has just been filled, so it
+ * still has to report that it is empty.
+ *
+ * IER is read and written each time, even if it need not change: only the chip knows what IER
+ * holds, and a caller may have changed it.
+ *
+ * Proved: a pump: send_bytes of the first 16 bytes that may be sent, and those that were
+ * sent no longer wait; then THR_EMPTY is enabled or disabled. Without an urgent byte, a hold
+ * or a stuck chip these are the bytes of the transmit ring.
+ */
+static void uart_ring_pump(struct u16550_core_ring *ring)
+{
+    struct uart_bytes16 burst;
+    uart_fill_bytes(burst.bytes, 0, 16);
+    size_t count = uart_ring_copy_sendable(ring, burst.bytes, 16);
+    uart_ring_drop_sent(ring, uart_send_bytes(&ring->uart, burst.bytes, count));
+    if (uart_ring_has_sendable(ring))
+        uart_enable_interrupts(&ring->uart, U16550_IER_THR_EMPTY);
+    else
+        uart_disable_interrupts(&ring->uart, U16550_IER_THR_EMPTY);
+}
+
+/*
+ * Starts sending again if bytes wait in the transmit ring with no interrupt to come.
+ *
+ * If bytes wait, it sends some of them if the chip has room: up to 16 if its FIFO is on, else
+ * one. Then it enables THR_EMPTY if bytes are left in the ring, else it disables it. The
+ * rest is sent when that interrupt is served. If none wait, it makes no access.
+ *
+ * Does not wait. Call it
+ *
+ * - after an init through inner_mut, which disables THR_EMPTY and may acknowledge its
+ *   interrupt;
+ * - with CTS checking, when take_modem reports that CTS came back. While CTS is clear, it
+ *   sends nothing.
+ *
+ * Proved: if bytes wait, a pump.
+ */
+static void uart_ring_resume_transmit(struct u16550_core_ring *ring)
+{
+    bool is_so = ring->urgent.is_some;
+    if (is_so || !uart_byte_queue_is_empty(&ring->transmit))
+        uart_ring_pump(ring);
+}
+
+/*
+ * Reads all registers, as the driver's config_register_dump does, and then sends bytes that
+ * wait, as resume_transmit does.
+ *
+ * ISR is among the registers, and a read of it that shows THR_EMPTY acknowledges that
+ * interrupt. So after the driver's own call, through inner_mut, bytes in the transmit ring
+ * may wait for ever. After this call they do not.
+ *
+ * take_line and take_modem still return what the reads of LSR and MSR have cleared.
+ *
+ * Does not wait. Under DLAB, which is set meanwhile, the divisor latch is read in place of
+ * DATA and IER: mask the interrupt, as for every call.
+ *
+ * Proved: that of the driver, whose read of ISR may acknowledge THR_EMPTY; and then sending
+ * resumes.
+ */
+static struct u16550_dump uart_ring_config_register_dump(struct u16550_core_ring *ring)
+{
+    struct u16550_dump dump = uart_config_register_dump(&ring->uart);
+    uart_ring_resume_transmit(ring);
+    return dump;
+}
+
+/*
+ * Returns the interrupt that the low nibble of an ISR value identifies.
+ *
+ * Returns None if bit 0 is set, since no interrupt is pending then, and also for the code
+ * 100 in bits 3 to 1, although an interrupt is pending then.
+ *
+ * Proved: the one value that has the property, or none if no value has it.
+ * Proved: bit 0 is clear, so an interrupt is pending, and the code is that of this
+ * interrupt.
+ */
+static struct uart_maybe_interrupt_type uart_interrupt_type_from_bits(uint8_t isr_bits)
+{
+    switch (isr_bits & 15) {
+    case 6:
+        return uart_some_interrupt_type(U16550_CORE_INTERRUPT_TYPE_RECEIVER_LINE_STATUS);
+    case 4:
+        return uart_some_interrupt_type(U16550_CORE_INTERRUPT_TYPE_RECEIVED_DATA_READY);
+    case 12:
+        return uart_some_interrupt_type(U16550_CORE_INTERRUPT_TYPE_RECEPTION_TIMEOUT);
+    case 2:
+        return uart_some_interrupt_type(
+            U16550_CORE_INTERRUPT_TYPE_TRANSMITTER_HOLDING_REGISTER_EMPTY);
+    case 0:
+        return uart_some_interrupt_type(U16550_CORE_INTERRUPT_TYPE_MODEM_STATUS);
+    case 14:
+        return uart_some_interrupt_type(U16550_CORE_INTERRUPT_TYPE_DMA_RECEPTION_END_OF_TRANSFER);
+    case 10:
+        return uart_some_interrupt_type(
+            U16550_CORE_INTERRUPT_TYPE_DMA_TRANSMISSION_END_OF_TRANSFER);
+    default:
+        return uart_no_interrupt_type();
+    }
+}
+
+/*
+ * Returns the pending interrupt. None if none is pending, or if its code is not known.
+ *
+ * Proved: the one value that has the property, or none if no value has it.
+ * Proved: bit 0 is clear, so an interrupt is pending, and the code is that of this
+ * interrupt.
+ */
+static struct uart_maybe_interrupt_type uart_isr_interrupt_type(uint8_t isr)
+{
+    return uart_interrupt_type_from_bits(isr);
+}
+
+/* Returns whether an interrupt is pending: bit 0 is clear then. */
+static bool uart_isr_has_pending_interrupt(uint8_t isr)
+{
+    return (isr & U16550_ISR_INTERRUPT_STATUS) == 0;
+}
+
+/*
+ * Notes the errors that LSR shows, and those that the driver has saved.
+ *
+ * Proved: lsr, of which the line errors are noted.
+ */
+static void uart_ring_note_line(struct u16550_core_ring *ring)
+{
+    uint8_t lsr =
+        uart_lsr(&ring->uart) & (U16550_LSR_OVERRUN_ERROR | U16550_LSR_PARITY_ERROR |
+        U16550_LSR_FRAMING_ERROR | U16550_LSR_BREAK_INTERRUPT);
+    ring->line |= lsr;
+}
+
+/*
+ * Appends bytes from the front of the slice, as many as there is room for, and returns how
+ * many.
+ */
+static size_t
+uart_byte_queue_fill_from_slice(struct u16550_core_byte_queue *byte_queue, const uint8_t *bytes,
+    size_t bytes_len)
+{
+    size_t byte_queue_capacity = uart_byte_queue_capacity(byte_queue);
+    size_t number = byte_queue_capacity - byte_queue->len;
+    size_t number2 = number < bytes_len ? number : bytes_len;
+    size_t number3 = byte_queue->front;
+    size_t number4 = byte_queue->len;
+    size_t behind = uart_cell_behind(number3, number4, uart_byte_queue_capacity(byte_queue));
+    uint8_t *cells = byte_queue->cells.data;
+    size_t cells_len = byte_queue->cells.len;
+    size_t before = uart_copy(bytes, number2, cells, cells_len, behind);
+    size_t count = before + uart_copy(&bytes[before], number2 - before, cells, cells_len, 0);
+    byte_queue->len += count;
+    return count;
+}
+
+/* Returns whether there is no room for another byte. */
+static bool uart_byte_queue_is_full(const struct u16550_core_byte_queue *byte_queue)
+{
+    size_t number = byte_queue->len;
+    return number == uart_byte_queue_capacity(byte_queue);
+}
+
+/*
+ * Pauses receiving if the receive ring is full. The data interrupt does not end until the data
+ * are read, so the handler would be called without end.
+ *
+ * Proved: if the receive ring is full, DATA_READY is disabled and receiving is paused.
+ */
+static void uart_ring_pause_if_full(struct u16550_core_ring *ring)
+{
+    if (uart_byte_queue_is_full(&ring->receive)) {
+        uart_disable_interrupts(&ring->uart, U16550_IER_DATA_READY);
+        ring->is_paused = true;
+    }
+}
+
+/*
+ * Receives bytes into the receive ring: as many as a FIFO holds, and as there is room for.
+ *
+ * Proved: receive_bytes into as many slots as the receive ring has room for, at most 16; the
+ * bytes are appended to it.
+ */
+static void uart_ring_fill_receive_ring(struct u16550_core_ring *ring)
+{
+    struct uart_bytes16 slots;
+    uart_fill_bytes(slots.bytes, 0, 16);
+    size_t byte_queue_capacity = uart_byte_queue_capacity(&ring->receive);
+    size_t number = byte_queue_capacity - ring->receive.len;
+    size_t count = uart_receive_bytes(&ring->uart, slots.bytes, number < 16 ? number : 16);
+    uart_byte_queue_fill_from_slice(&ring->receive, slots.bytes, count);
+    uart_ring_pause_if_full(ring);
+}
+
+/*
+ * Notes the changes that MSR shows, and those that the driver has saved.
+ *
+ * Proved: msr, of which the changes are noted.
+ */
+static void uart_ring_note_modem(struct u16550_core_ring *ring)
+{
+    uint8_t msr =
+        uart_msr(&ring->uart) & (U16550_MSR_DELTA_CTS | U16550_MSR_DELTA_DSR |
+        U16550_MSR_TRAILING_EDGE_RI | U16550_MSR_DELTA_CD);
+    ring->modem |= msr;
+}
+
+/*
+ * Serves one interrupt.
+ *
+ * Proved: how an interrupt is served: bytes are received, a pump is made, a status is noted,
+ * or nothing is done.
+ */
+static void
+uart_ring_serve(struct u16550_core_ring *ring, enum u16550_core_interrupt_type interrupt)
+{
+    switch (interrupt) {
+    case U16550_CORE_INTERRUPT_TYPE_RECEIVER_LINE_STATUS:
+        uart_ring_note_line(ring);
+        break;
+    case U16550_CORE_INTERRUPT_TYPE_RECEIVED_DATA_READY:
+    case U16550_CORE_INTERRUPT_TYPE_RECEPTION_TIMEOUT:
+        uart_ring_fill_receive_ring(ring);
+        break;
+    case U16550_CORE_INTERRUPT_TYPE_TRANSMITTER_HOLDING_REGISTER_EMPTY:
+        uart_ring_pump(ring);
+        break;
+    case U16550_CORE_INTERRUPT_TYPE_MODEM_STATUS:
+        uart_ring_note_modem(ring);
+        break;
+    case U16550_CORE_INTERRUPT_TYPE_DMA_RECEPTION_END_OF_TRANSFER:
+    case U16550_CORE_INTERRUPT_TYPE_DMA_TRANSMISSION_END_OF_TRANSFER:
+    default:
+        break;
+    }
+}
+
+/*
+ * Serves the interrupts that ISR identifies, at most limit. Returns how many, and why it
+ * serves no more.
+ *
+ * Proved: as many interrupts as are pending are served, but no more than the limit.
+ */
+static struct uart_handled uart_ring_serve_up_to(struct u16550_core_ring *ring, size_t limit)
+{
+    for (size_t served = 0; served < limit; served++) {
+        uint8_t isr = uart_isr(&ring->uart);
+        struct uart_maybe_interrupt_type found = uart_isr_interrupt_type(isr);
+        if (!found.is_some) {
+            return uart_make_handled(served,
+                uart_isr_has_pending_interrupt(isr) ? UART_HANDLE_END_UNKNOWN
+                : UART_HANDLE_END_IDLE);
+        }
+        uart_ring_serve(ring, found.value);
+    }
+    return uart_make_handled(limit, UART_HANDLE_END_LIMIT);
+}
+
+/*
+ * Makes the chip's interrupt line fall, and rise again if an interrupt is enabled and pending:
+ * reads IER, writes 0, and writes back what it read.
+ *
+ * An interrupt controller that detects edges sees no new edge while the line stays high, so
+ * it would not call the handler again. handle retriggers where that is needed. Call this
+ * yourself
+ *
+ * - at the end of a handler of your own that returns before ISR has shown that no interrupt is
+ *   pending;
+ * - after the interrupt was unmasked at a controller that forgets the edges that come while it
+ *   is masked, as an I/O APIC does.
+ *
+ * If THR_EMPTY is enabled and the transmitter is empty, the chip raises that interrupt
+ * again.
+ *
+ * Does not wait: makes three accesses.
+ *
+ * Proved: IER is read, and written with 0 and then with what was read.
+ */
+static void uart_ring_retrigger(struct u16550_core_ring *ring)
+{
+    uart_retrigger_interrupts(&ring->uart);
+}
+
+/*
+ * Handles the chip's interrupt: serves what is pending, as service does, but at most limit
+ * interrupts. Returns how many it served, and why it ended.
+ *
+ * Call it once each time the interrupt handler runs, whether the interrupt controller detects
+ * levels or edges:
+ *
+ * - If the end is Idle, no interrupt is pending, and the line is low. The next interrupt
+ *   makes the line rise.
+ * - Otherwise an interrupt may be left, and handle makes the line fall and rise again, as
+ *   retrigger does. So the controller calls the handler again.
+ *
+ * A broken chip may show interrupts for ever, and the controller then calls the handler for
+ * ever. So count the calls in a row that do not end with Idle, and after a number of them
+ * disable the chip's interrupts.
+ *
+ * Does not wait: makes at most 35 accesses for each interrupt of the limit, and 3 more.
+ *
+ * Proved: as many interrupts as are pending are served, but no more than the limit; those
+ * that may be left are triggered again.
+ */
+static struct uart_handled uart_ring_handle(struct u16550_core_ring *ring, size_t limit)
+{
+    struct uart_handled handled = uart_ring_serve_up_to(ring, limit);
+    if (handled.end != UART_HANDLE_END_IDLE)
+        uart_ring_retrigger(ring);
+    return handled;
+}
+
+/*
+ * Holds the transmit ring: none of its bytes is handed to the chip until release_transmit.
+ *
+ * What is in the chip goes out: a held ring stops with at most 16 characters of delay. queue
+ * accepts bytes as before, and an urgent byte still goes out.
+ *
+ * Makes no access. If THR_EMPTY is enabled, it is disabled when its next interrupt is
+ * served.
+ *
+ * Proved: the ring is held, and no access is made.
+ */
+static void uart_ring_hold_transmit(struct u16550_core_ring *ring)
+{
+    ring->is_held = true;
+}
+
+/* Returns whether the transmit ring is held. Makes no access. */
+static bool uart_ring_is_held(const struct u16550_core_ring *ring)
+{
+    return ring->is_held;
+}
+
+/*
+ * Returns whether receiving is paused because the receive ring was full. Makes no access.
+ *
+ * During a pause DATA_READY is disabled and received bytes stay in the chip, which loses
+ * some if there are more than it has room for. The next take of at least one byte ends the
+ * pause.
+ */
+static bool uart_ring_is_paused(const struct u16550_core_ring *ring)
+{
+    return ring->is_paused;
+}
+
+/*
+ * Returns whether a byte has moved between the rings and the chip since there were so many in
+ * the rings.
+ */
+static bool
+uart_ring_has_moved(const struct u16550_core_ring *ring, size_t transmit, bool is_urgent,
+    size_t receive)
+{
+    return (ring->transmit.len != transmit) || (is_urgent && !ring->urgent.is_some) ||
+        (ring->receive.len != receive);
+}
+
+/* Returns how a round counts that ended so: as idle if a byte moved. */
+static enum uart_handle_end uart_counted_as(bool has_moved, enum uart_handle_end end)
+{
+    return has_moved ? UART_HANDLE_END_IDLE : end;
+}
+
+/*
+ * Returns why a chip that shows this is stuck, or None if no interrupt is pending.
+ *
+ * Proved: this is why, or no interrupt is pending.
+ */
+static struct u16550_core_maybe_stuck_error uart_shown_by(uint8_t isr)
+{
+    struct uart_maybe_interrupt_type found = uart_isr_interrupt_type(isr);
+    if (found.is_some)
+        return uart_some_stuck_error(uart_stuck_error_pending(found.value));
+    if (uart_isr_has_pending_interrupt(isr))
+        return uart_some_stuck_error(uart_stuck_error_unknown(isr));
+    return uart_no_stuck_error();
+}
+
+/*
+ * Reads ISR once more. If it shows an interrupt, disables all interrupts and returns why.
+ *
+ * Proved: ISR is read once more. If no interrupt is pending now, the chip is not stuck, and
+ * the count of rounds begins again; else all interrupts are disabled.
+ */
+static struct u16550_core_maybe_stuck_error uart_ring_look_once_more(struct u16550_core_ring *ring)
+{
+    struct u16550_core_maybe_stuck_error found = uart_shown_by(uart_isr(&ring->uart));
+    if (found.is_some) {
+        uart_disable_interrupts(&ring->uart, 255);
+        ring->rounds = 0;
+        ring->stuck = uart_some_stuck_error(found.value);
+        return uart_some_stuck_error(found.value);
+    }
+    ring->rounds = 0;
+    return uart_no_stuck_error();
+}
+
+/*
+ * Counts a round that did not end with Idle, if there may be more of them in a row.
+ *
+ * Proved: a round was left unfinished. It is counted, if there may be more in a row.
+ */
+static struct u16550_core_maybe_stuck_error
+uart_ring_count_unfinished(struct u16550_core_ring *ring, uint32_t rounds)
+{
+    if (ring->rounds < (1 <= rounds ? rounds - 1 : 0)) {
+        ring->rounds++;
+        return uart_no_stuck_error();
+    }
+    return uart_ring_look_once_more(ring);
+}
+
+/*
+ * Counts a round that ended so.
+ *
+ * Proved: how a round ended: if no interrupt is pending, the count of rounds begins again.
+ */
+static struct u16550_core_maybe_stuck_error
+uart_ring_count_round(struct u16550_core_ring *ring, uint32_t rounds, enum uart_handle_end end)
+{
+    if (end == UART_HANDLE_END_IDLE) {
+        ring->rounds = 0;
+        return uart_no_stuck_error();
+    }
+    return uart_ring_count_unfinished(ring, rounds);
+}
+
+/*
+ * Handles the interrupt, and counts the round.
+ *
+ * Proved: a handle, and its round is counted.
+ */
+static struct uart_handled_or_stuck_error
+uart_ring_handle_round(struct u16550_core_ring *ring, size_t limit, uint32_t rounds)
+{
+    size_t number = ring->transmit.len;
+    bool is_so = ring->urgent.is_some;
+    size_t number2 = ring->receive.len;
+    struct uart_handled handled = uart_ring_handle(ring, limit);
+    struct u16550_core_maybe_stuck_error found =
+        uart_ring_count_round(ring, rounds,
+        uart_counted_as(uart_ring_has_moved(ring, number, is_so, number2), handled.end));
+    if (found.is_some)
+        return uart_bad_handled_or_stuck_error(found.value);
+    return uart_good_handled_or_stuck_error(handled);
+}
+
+/*
+ * Handles the chip's interrupt as handle does, and ends a storm: a chip that shows an
+ * interrupt for ever gets its interrupts disabled.
+ *
+ * A call that does not end with Idle, and that moves no byte between the rings and the chip,
+ * is a round that is left unfinished. The controller then calls the handler again, and on a
+ * broken chip for ever. So this call counts such rounds. If there were rounds of them in a
+ * row, the last one reads ISR once more. If that shows no interrupt, the count begins again.
+ * Otherwise the chip is stuck: the call reads IER, writes 0 to it, and returns why.
+ *
+ * While the chip is stuck, the rings hand no byte to it, and each further call of try_handle
+ * serves nothing, writes 0 to IER again, and returns the same error. restart starts again.
+ *
+ * Let the limit be at least 6. Then a chip that works leaves a round unfinished, without a
+ * byte that moves, only if the rest arrives while the round is served: at least limit - 5
+ * characters or changes of the modem lines. So it is never found stuck, unless as many come
+ * in the course of each of rounds rounds in a row. With a lower limit it may be: a round of
+ * one interrupt never ends with Idle, so rounds line errors or changes of modem lines in a
+ * row count, however slowly they come, and one that is pending at the last look is enough
+ * then. If rounds is 0 or 1, the first unfinished round is the last one.
+ *
+ * As long as bytes move, the rounds end by themselves: a handler alone moves no more bytes
+ * than wait in the transmit ring and fit into the receive ring.
+ *
+ * A chip whose line stays high while ISR shows no interrupt is not found: its rounds end with
+ * Idle. DesignWare's busy detect is such a one.
+ *
+ * Does not wait: makes at most 35 accesses for each interrupt of the limit, and 6 more.
+ *
+ * Errors
+ *
+ * The chip is stuck:
+ *
+ * - Unknown if ISR shows an interrupt without a name.
+ * - Pending if ISR shows this interrupt, after so many were served.
+ *
+ * If the chip's interrupt line stays high although IER is 0, mask the interrupt at the
+ * controller.
+ *
+ * Proved: try_handle.
+ */
+static struct uart_handled_or_stuck_error
+uart_ring_try_handle(struct u16550_core_ring *ring, size_t limit, uint32_t rounds)
+{
+    if (ring->stuck.is_some) {
+        struct u16550_core_stuck_error error = ring->stuck.value;
+        uart_disable_interrupts(&ring->uart, 255);
+        return uart_bad_handled_or_stuck_error(error);
+    }
+    return uart_ring_handle_round(ring, limit, rounds);
+}
+
+/*
+ * Handles the chip's interrupt as try_handle does, and then lowers the chip's interrupt
+ * line: reads IER, and disables all interrupts. Returns what was handled and what was enabled.
+ *
+ * This is the first half of handling at a line that several ports share
+ * (handle_ports); raise_line is the second. In between make no
+ * other call at this port: a take that ends a pause would let its line rise.
+ *
+ * Does not wait: makes 3 accesses more than try_handle.
+ *
+ * Proved: a try_handle; then IER is read, and all interrupts are disabled.
+ */
+static struct uart_lowered
+uart_ring_lower_line(struct u16550_core_ring *ring, size_t limit, uint32_t rounds)
+{
+    struct uart_handled_or_stuck_error handled = uart_ring_try_handle(ring, limit, rounds);
+    uint8_t enabled = uart_ier(&ring->uart);
+    uart_disable_interrupts(&ring->uart, 255);
+    return uart_make_lowered(handled, enabled);
+}
+
+/*
+ * Returns whether a ring can have this capacity.
+ *
+ * Proved: how many bytes a ring can be made for: 1 to 4096.
+ */
+static bool uart_is_capacity(size_t capacity)
+{
+    return 1 <= capacity && capacity <= 4096;
+}
+
+/* Returns an empty queue with room for this number of bytes. */
+static struct uart_maybe_byte_queue
+uart_byte_queue_with_capacity(struct uart_memory *alloc, size_t capacity)
+{
+    struct uart_maybe_vec_u8 found = uart_cells_in_memory(alloc, 0, capacity);
+    if (!found.is_some)
+        return uart_no_byte_queue();
+    return uart_some_byte_queue(uart_make_byte_queue(found.value, 0, 0));
+}
+
+/*
+ * Returns empty rings over this driver, for tx_capacity bytes that are to be sent and
+ * rx_capacity received bytes.
+ *
+ * Makes no access. Allocates all memory of the rings; no later call allocates.
+ *
+ * Errors
+ *
+ * - BadCapacity if a capacity is 0 or more than MAX_CAPACITY.
+ * - OutOfMemory if memory could not be allocated.
+ *
+ * The driver is returned with the error, unchanged.
+ *
+ * Proved: how many bytes a ring can be made for: 1 to 4096.
+ */
+static struct uart_ring_or_pair_of_driver_ring_error
+uart_ring_new(struct uart_memory *alloc, struct u16550_core_driver uart, size_t tx_capacity,
+    size_t rx_capacity)
+{
+    if (!uart_is_capacity(tx_capacity) || !uart_is_capacity(rx_capacity)) {
+        return uart_bad_ring_or_pair_of_driver_ring_error(
+            uart_make_pair_of_driver_ring_error(uart, UART_RING_ERROR_BAD_CAPACITY));
+    }
+    struct uart_maybe_byte_queue found = uart_byte_queue_with_capacity(alloc, tx_capacity);
+    if (!found.is_some) {
+        return uart_bad_ring_or_pair_of_driver_ring_error(
+            uart_make_pair_of_driver_ring_error(uart, UART_RING_ERROR_OUT_OF_MEMORY));
+    }
+    struct uart_maybe_byte_queue found2 = uart_byte_queue_with_capacity(alloc, rx_capacity);
+    if (!found2.is_some) {
+        return uart_bad_ring_or_pair_of_driver_ring_error(
+            uart_make_pair_of_driver_ring_error(uart, UART_RING_ERROR_OUT_OF_MEMORY));
+    }
+    struct u16550_core_ring ring;
+    ring.uart = uart;
+    ring.transmit = found.value;
+    ring.receive = found2.value;
+    ring.line = 0;
+    ring.modem = 0;
+    ring.is_paused = false;
+    ring.urgent = uart_no_u8();
+    ring.is_held = false;
+    ring.low_mark = 0;
+    ring.is_low = false;
+    ring.rounds = 0;
+    ring.stuck = uart_no_stuck_error();
+    return uart_good_ring_or_pair_of_driver_ring_error(ring);
+}
+
+/*
+ * Queues bytes from the front of the slice, as many as the transmit ring has room for, and
+ * returns how many.
+ *
+ * If it queues any, it sends bytes of the ring if the chip has room: up to 16 if its FIFO is
+ * on, else one. Then it enables THR_EMPTY if bytes are left in the ring, else it disables
+ * it. The rest is sent when that interrupt is served. While the ring is held or the chip is
+ * stuck, it sends none, and disables THR_EMPTY.
+ *
+ * Does not wait. If it did not queue all bytes, call it again with the rest of the slice after
+ * interrupts were served.
+ *
+ * Proved: bytes from the front of the input are added at the end of the transmit ring, as
+ * many as it has room for; if there are any, a pump follows.
+ */
+static size_t uart_ring_queue(struct u16550_core_ring *ring, const uint8_t *bytes, size_t bytes_len)
+{
+    size_t count = uart_byte_queue_fill_from_slice(&ring->transmit, bytes, bytes_len);
+    if (0 < count)
+        uart_ring_pump(ring);
+    return count;
+}
+
+/*
+ * Puts this byte before all bytes that wait to be sent, and sends if the chip has room.
+ * Returns the urgent byte that still waited, which this one replaces.
+ *
+ * This is for the flow control of a terminal: an XON or XOFF goes out after what is in the
+ * chip, even while the transmit ring is held. The newest one counts, so it replaces one that
+ * waits. With CTS checking it waits, as all bytes do, until the remote is clear to send.
+ *
+ * Does not wait.
+ *
+ * Proved: the byte is the urgent one, in place of one that waited, which is returned; and a
+ * pump.
+ */
+static struct u16550_core_maybe_u8
+uart_ring_queue_urgent(struct u16550_core_ring *ring, uint8_t byte)
+{
+    struct u16550_core_maybe_u8 found = ring->urgent;
+    ring->urgent = uart_some_u8(byte);
+    uart_ring_pump(ring);
+    return found;
+}
+
+/*
+ * Lets the chip raise its interrupt line again: enables these interrupts, which lower_line
+ * found enabled. Those of a chip that is stuck stay disabled.
+ *
+ * Does not wait: makes 2 accesses, or none if the chip is stuck.
+ *
+ * Proved: these interrupts are enabled; of a chip that is stuck none.
+ */
+static void uart_ring_raise_line(struct u16550_core_ring *ring, uint8_t enabled)
+{
+    if (!ring->stuck.is_some)
+        uart_enable_interrupts(&ring->uart, enabled);
+}
+
+/*
+ * Returns the number of bytes in the receive ring: those that were received and not yet taken.
+ * Makes no access.
+ */
+static size_t uart_ring_receive_len(const struct u16550_core_ring *ring)
+{
+    return ring->receive.len;
+}
+
+/*
+ * Ends the hold of the transmit ring, and starts sending again as resume_transmit does, so
+ * that no interrupt is missed which came during the hold.
+ *
+ * Does not wait.
+ *
+ * Proved: the ring is no longer held, and sending resumes.
+ */
+static void uart_ring_release_transmit(struct u16550_core_ring *ring)
+{
+    ring->is_held = false;
+    uart_ring_resume_transmit(ring);
+}
+
+/* Returns these interrupts, without DATA_READY while receiving is paused. */
+static uint8_t uart_ring_not_paused(const struct u16550_core_ring *ring, uint8_t interrupts)
+{
+    if (ring->is_paused)
+        return interrupts & (uint8_t)~U16550_IER_DATA_READY;
+    return interrupts;
+}
+
+/*
+ * Starts a chip again that is stuck: forgets why, and the count of rounds, enables these
+ * interrupts, and sends bytes that wait, as resume_transmit does.
+ *
+ * DATA_READY is left out while receiving is paused: the take that ends the pause enables
+ * it. After an init through inner_mut, which has enabled interrupts itself, call it with
+ * none.
+ *
+ * Does not wait. It may be called on a chip that is not stuck.
+ */
+static void uart_ring_restart(struct u16550_core_ring *ring, uint8_t interrupts)
+{
+    uint8_t enabled = uart_ring_not_paused(ring, interrupts);
+    uart_enable_interrupts(&ring->uart, enabled);
+    ring->rounds = 0;
+    ring->stuck = uart_no_stuck_error();
+    uart_ring_resume_transmit(ring);
+}
+
+/*
+ * Serves the interrupts that ISR identifies, until it identifies none or MAX_INTERRUPTS
+ * were served. Returns how many.
+ *
+ * This is for a program that polls. A handler calls handle, or handle_ports for several
+ * chips on one line, which also leaves the interrupt line so that the next interrupt is
+ * noticed. service does not write IER for that, and its count alone does not tell whether an
+ * interrupt is left: one that has no name may be.
+ *
+ * Does not wait. What it does depends on the interrupt:
+ *
+ * - Received data, or a reception timeout: bytes are moved to the receive ring. If that is
+ *   full then, receiving is paused: DATA_READY is disabled, and bytes stay in the chip until
+ *   a take makes room.
+ * - THR_EMPTY: bytes of the transmit ring are sent, up to 16 if the FIFO is on, else one. If
+ *   bytes are left in the ring, THR_EMPTY stays enabled, else it is disabled.
+ * - Line status: the errors are noted for take_line.
+ * - Modem status: the changes are noted for take_modem.
+ * - End of DMA: nothing.
+ *
+ * With CTS checking no byte is sent while CTS is clear, and no THR_EMPTY interrupt is raised
+ * when CTS returns. After such a change, which take_modem reports, call resume_transmit.
+ *
+ * Proved: at most 8 interrupts are served. It tells how many, and not why it ended.
+ */
+static size_t uart_ring_service(struct u16550_core_ring *ring)
+{
+    return uart_ring_serve_up_to(ring, 8).served;
+}
+
+/*
+ * Sets the low mark, a number of bytes in the transmit ring. It is 0 at first. Makes no
+ * access.
+ *
+ * Proved: set_low_mark.
+ */
+static void uart_ring_set_low_mark(struct u16550_core_ring *ring, size_t mark)
+{
+    ring->low_mark = mark;
+}
+
+/*
+ * Returns why the chip is stuck, or None if it is not: try_handle has disabled its
+ * interrupts since the last restart. Makes no access.
+ */
+static struct u16550_core_maybe_stuck_error uart_ring_stuck(const struct u16550_core_ring *ring)
+{
+    return ring->stuck;
+}
+
+/*
+ * Takes bytes from the front, as many as there are slots, and returns how many. Leaves the
+ * other slots unchanged.
+ */
+static size_t
+uart_byte_queue_read_into(struct u16550_core_byte_queue *byte_queue, uint8_t *slots,
+    size_t slots_len)
+{
+    size_t count = uart_byte_queue_copy_front(byte_queue, slots, slots_len);
+    uart_byte_queue_drop_front(byte_queue, count);
+    return count;
+}
+
+/*
+ * Takes received bytes from the front of the receive ring, as many as there are slots, and
+ * returns how many. Leaves the other slots unchanged.
+ *
+ * Does not wait. If it takes at least one byte and receiving is paused, it enables
+ * DATA_READY again and ends the pause: one read and one write of IER. Otherwise it makes no
+ * access.
+ *
+ * Proved: take into n slots returns these bytes: from the front of the receive ring, as many
+ * as there are slots; if there are any, a pause ends.
+ */
+static size_t uart_ring_take(struct u16550_core_ring *ring, uint8_t *slots, size_t slots_len)
+{
+    size_t count = uart_byte_queue_read_into(&ring->receive, slots, slots_len);
+    uart_ring_end_pause(ring, count);
+    return count;
+}
+
+/*
+ * Reads LSR once. Returns it joined with the errors that were noted when interrupts were
+ * served, and with those that the driver has saved. Both are then forgotten.
+ *
+ * Proved: lsr joined with what was noted, which is then cleared.
+ */
+static uint8_t uart_ring_take_line(struct u16550_core_ring *ring)
+{
+    uint8_t lsr = uart_lsr(&ring->uart);
+    uint8_t lsr2 = ring->line;
+    ring->line = 0;
+    return lsr | lsr2;
+}
+
+/*
+ * Returns whether the transmit ring fell from above the low mark to the mark or below since
+ * the last take_low. Makes no access.
+ *
+ * Call it at the end of the interrupt handler, and wake who waits for room if it returns
+ * true. It tells once of each fall; of several falls between two calls it tells once.
+ * A flag and not a callback: a callback would run inside the call that sends, with the rings
+ * borrowed, and could not queue.
+ *
+ * Proved: whether a fall to the low mark was noted, which is then forgotten.
+ */
+static bool uart_ring_take_low(struct u16550_core_ring *ring)
+{
+    bool low = ring->is_low;
+    ring->is_low = false;
+    return low;
+}
+
+/*
+ * Reads MSR once. Returns it joined with the changes that were noted when interrupts were
+ * served, and with those that the driver has saved. Both are then forgotten.
+ *
+ * Proved: msr, joined with what was noted, after which nothing is noted.
+ */
+static uint8_t uart_ring_take_modem(struct u16550_core_ring *ring)
+{
+    uint8_t msr = uart_msr(&ring->uart);
+    uint8_t msr2 = ring->modem;
+    ring->modem = 0;
+    return msr | msr2;
+}
+
+/*
+ * Returns the number of bytes in the transmit ring: those that are queued and not yet written
+ * to the chip. Makes no access.
+ */
+static size_t uart_ring_transmit_len(const struct u16550_core_ring *ring)
+{
+    return ring->transmit.len;
+}
+
+/* Returns how many more bytes the transmit ring has room for. Makes no access. */
+static size_t uart_ring_transmit_room(const struct u16550_core_ring *ring)
+{
+    size_t byte_queue_capacity = uart_byte_queue_capacity(&ring->transmit);
+    return byte_queue_capacity - ring->transmit.len;
+}
+
+/* Returns the urgent byte that still waits to be sent. Makes no access. */
+static struct u16550_core_maybe_u8 uart_ring_urgent(const struct u16550_core_ring *ring)
+{
+    return ring->urgent;
+}
+
+/*
+ * Returns the baud rate with this number of bits per second: the case with a name if there is
+ * one, else Custom.
+ *
+ * Proved: the case has a name: it is not Custom.
+ */
+static struct u16550_core_baud_rate uart_baud_rate_from_integer(uint32_t value)
+{
+    switch (value) {
+    case UINT32_C(115200):
+        return uart_baud_rate_baud115200();
+    case UINT32_C(57600):
+        return uart_baud_rate_baud57600();
+    case UINT32_C(38400):
+        return uart_baud_rate_baud38400();
+    case 9600:
+        return uart_baud_rate_baud9600();
+    case 4800:
+        return uart_baud_rate_baud4800();
+    case 2400:
+        return uart_baud_rate_baud2400();
+    case 1200:
+        return uart_baud_rate_baud1200();
+    case 600:
+        return uart_baud_rate_baud600();
+    case 300:
+        return uart_baud_rate_baud300();
+    case 150:
+        return uart_baud_rate_baud150();
+    case 110:
+        return uart_baud_rate_baud110();
+    default:
+        return uart_baud_rate_custom(value);
+    }
+}
+
+/* Returns how many clock ticks a bit has at divisor 1. */
+static uint64_t
+uart_ticks_of(uint32_t baud_rate, struct u16550_core_maybe_u32 prescaler_division_factor)
+{
+    return 16 * ((uint64_t)(prescaler_division_factor.is_some ? prescaler_division_factor.value
+        : 0) + 1) * (uint64_t)baud_rate;
+}
+
+/*
+ * Returns the factor, at least 1, at which the rate is nearest to the one that is wanted, if the
+ * clock has this frequency, and if the factor 1 is exact at this number of ticks. If two are
+ * equally near, it is the larger one.
+ *
+ * A factor gives the rate frequency / factor, and the wanted one is ticks. Rates are not spaced
+ * as their factors are: between two neighbours the rates are equally far off where the frequency
+ * divided by the ticks is the harmonic mean of the two, which is below the middle.
+ */
+static uint64_t uart_nearest_factor(uint64_t frequency, uint64_t ticks)
+{
+    uint64_t below = frequency / ticks;
+    uint64_t above = below + 1;
+    return 2 * (ticks * below * above) <= frequency * (below + above) ? above : below;
+}
+
+/*
+ * Returns the configuration for the divisor whose rate is nearest to the configured one, if it
+ * is near enough. Use it for a clock that gives no exact divisor, since init and set_frame
+ * round nothing.
+ *
+ * In the result only frequency differs: it is the one, in hertz, at which the nearest
+ * divisor gives the configured baud rate exactly. So init accepts the result, and writes
+ * this divisor. If two divisors are equally near, it is the larger one.
+ *
+ * The rate on the line differs from the configured one by at most per_mille thousandths of
+ * the configured one: 20 are two per cent, 0 takes an exact divisor alone. A receiver looks at
+ * the last of ten bits nine and a half bit times after the start of the character. So the two
+ * sides together may be some 45 thousandths apart, and 20 for each side is a usual choice.
+ *
+ * Errors
+ *
+ * - OutOfRange, with the nearest divisor, if it is above 65,535, or its frequency needs more
+ *   than 32 bits.
+ * - TooFar, with the nearest divisor, if it is in range, and the rate differs by more. Then
+ *   the rate of each divisor does.
+ *
+ * Proved: the configuration with the frequency at which the nearest divisor is exact, so
+ * that it is the one that the exact arithmetic computes, and the rate is near enough; or the
+ * nearest divisor, which does not fit, or fits and is too far off, as each other divisor
+ * then is.
+ */
+static struct uart_config_or_nearest_divisor_error
+uart_config_nearest(struct u16550_core_config config, uint32_t per_mille)
+{
+    uint64_t frequency = (uint64_t)config.frequency;
+    uint64_t ticks =
+        uart_ticks_of(uart_baud_rate_to_integer(config.baud_rate),
+        config.prescaler_division_factor);
+    uint64_t divisor = uart_nearest_factor(frequency, ticks);
+    uint64_t exact = ticks * divisor;
+    if ((UINT32_C(65535) < divisor) || (UINT32_C(4294967295) < exact)) {
+        return uart_bad_config_or_nearest_divisor_error(
+            uart_nearest_divisor_error_out_of_range(divisor));
+    }
+    if ((uint64_t)per_mille * exact <
+        1000 * (exact < frequency ? frequency - exact : exact - frequency)) {
+        return uart_bad_config_or_nearest_divisor_error(
+            uart_nearest_divisor_error_too_far(divisor));
+    }
+    struct u16550_core_config config2;
+    config2.interrupts = config.interrupts;
+    config2.frequency = (uint32_t)exact;
+    config2.prescaler_division_factor = config.prescaler_division_factor;
+    config2.fifo_trigger_level = config.fifo_trigger_level;
+    config2.baud_rate = config.baud_rate;
+    config2.data_bits = config.data_bits;
+    config2.extra_stop_bits = config.extra_stop_bits;
+    config2.parity = config.parity;
+    config2.check_cts_before_sending = config.check_cts_before_sending;
+    return uart_good_config_or_nearest_divisor_error(config2);
+}
+
+/*
+ * Returns the baud rate that a divisor gives at a clock frequency in hertz. Nothing is rounded.
+ *
+ * Errors
+ *
+ * NonIntegerBaudRateError, with the arguments, if the baud rate is not a whole number.
+ *
+ * Proved: this value and no other has the property.
+ * Proved: the baud rate at which the clock has this frequency; or an error, if no whole one
+ * does.
+ */
+static struct uart_u32_or_non_integer_baud_rate_error
+uart_calc_baud_rate(uint32_t frequency, uint32_t divisor,
+    struct u16550_core_maybe_u32 prescaler_division_factor)
+{
+    struct u16550_core_maybe_u32 found =
+        uart_other_factor(frequency, divisor, prescaler_division_factor);
+    if (found.is_some)
+        return uart_good_u32_or_non_integer_baud_rate_error(found.value);
+    return uart_bad_u32_or_non_integer_baud_rate_error(
+        uart_make_non_integer_baud_rate_error(frequency, divisor, prescaler_division_factor));
+}
+
+/*
+ * Returns the baud rate that the divisor gives at the configuration's frequency and prescaler
+ * division factor: the case with a name if there is one, else Custom.
+ *
+ * The configuration's own baud rate does not matter. Its frequency must not be 0, and its
+ * prescaler division factor must be None or at most 15.
+ *
+ * Errors
+ *
+ * NonIntegerBaudRateError if the divisor is 0, or if the baud rate is not a whole number.
+ *
+ * Proved: the baud rate that a dump's divisor gives, with its name if it has one; or an
+ * error if it is not a whole number.
+ */
+static struct uart_baud_rate_or_non_integer_baud_rate_error
+uart_config_register_dump_baud_rate(const struct u16550_dump *config_register_dump,
+    const struct u16550_core_config *config)
+{
+    uint32_t frequency = config->frequency;
+    struct u16550_core_maybe_u32 prescaler_division_factor = config->prescaler_division_factor;
+    uint32_t divisor = (uint32_t)uart_config_register_dump_divisor(config_register_dump);
+    if (divisor == 0) {
+        return uart_bad_baud_rate_or_non_integer_baud_rate_error(
+            uart_make_non_integer_baud_rate_error(frequency, divisor, prescaler_division_factor));
+    }
+    struct uart_u32_or_non_integer_baud_rate_error outcome =
+        uart_calc_baud_rate(frequency, divisor, prescaler_division_factor);
+    if (outcome.is_error)
+        return uart_bad_baud_rate_or_non_integer_baud_rate_error(outcome.error);
+    return uart_good_baud_rate_or_non_integer_baud_rate_error(
+        uart_baud_rate_from_integer(outcome.value));
+}
+
+/*
+ * Returns the low nibble of an ISR value that identifies this interrupt.
+ *
+ * Proved: bit 0 is clear, so an interrupt is pending, and the code is that of this
+ * interrupt.
+ */
+static uint8_t uart_interrupt_type_to_bits(enum u16550_core_interrupt_type interrupt_type)
+{
+    switch (interrupt_type) {
+    case U16550_CORE_INTERRUPT_TYPE_RECEIVER_LINE_STATUS:
+        return 6;
+    case U16550_CORE_INTERRUPT_TYPE_RECEIVED_DATA_READY:
+        return 4;
+    case U16550_CORE_INTERRUPT_TYPE_RECEPTION_TIMEOUT:
+        return 12;
+    case U16550_CORE_INTERRUPT_TYPE_TRANSMITTER_HOLDING_REGISTER_EMPTY:
+        return 2;
+    case U16550_CORE_INTERRUPT_TYPE_MODEM_STATUS:
+        return 0;
+    case U16550_CORE_INTERRUPT_TYPE_DMA_RECEPTION_END_OF_TRANSFER:
+        return 14;
+    case U16550_CORE_INTERRUPT_TYPE_DMA_TRANSMISSION_END_OF_TRANSFER:
+    default:
+        return 10;
+    }
+}
+
+/* --------------------------------------------------------------- what is by hand: memory and numbers of the caller */
+
+/* Takes so many cells from the front of the memory, if there are so many. */
+static struct uart_maybe_vec_u8
+uart_cells_in_memory(struct uart_memory *memory, uint8_t value, size_t count)
+{
+    struct uart_maybe_vec_u8 made = { false, { NULL, 0, 0 } };
+    if (count > memory->len)
+        return made;
+    made.is_some = true;
+    made.value.data = memory->data;
+    made.value.len = count;
+    made.value.capacity = count;
+    memory->data += count;
+    memory->len -= count;
+    for (size_t i = 0; i < count; i++)
+        made.value.data[i] = value;
+    return made;
+}
+
+/* Marks memory with a driver in it, and a call that is not done. Either is unlikely in other memory. */
+#define UART_MARK UINT32_C(0x16550a5e)
+#define UART_BUSY UINT32_C(0x16550b5b)
+
+/* What is before this in the text is done before what is behind it, as an interrupt handler of the same processor sees it. */
+#if defined(__GNUC__)
+#define UART_FENCE() __asm__ __volatile__("" : : : "memory")
+#else
+#define UART_FENCE() ((void)0)
+#endif
+
+#define UART_ALIGNMENT(name, type) struct uart_aligned_##name { char first; type value; }
+UART_ALIGNMENT(handle, struct u16550);
+UART_ALIGNMENT(io, struct u16550_io);
+UART_ALIGNMENT(config, struct u16550_config);
+UART_ALIGNMENT(state, struct u16550_state);
+UART_ALIGNMENT(difference, struct u16550_difference);
+UART_ALIGNMENT(handled, struct u16550_handled);
+UART_ALIGNMENT(port, struct u16550_line_port);
+UART_ALIGNMENT(size, size_t);
+UART_ALIGNMENT(u64, uint64_t);
+UART_ALIGNMENT(u32, uint32_t);
+UART_ALIGNMENT(u16, uint16_t);
+#define UART_USABLE(at, name) uart_usable(at, offsetof(struct uart_aligned_##name, value))
+#define UART_ALIGNED(at, name) uart_aligned(at, offsetof(struct uart_aligned_##name, value))
+
+/* This number if something holds, else that of no error. */
+static inline int uart_if(bool holds, int status)
+{
+    return holds ? status : U16550_OK;
+}
+
+static inline int uart_unless(bool holds, int status)
+{
+    return holds ? U16550_OK : status;
+}
+
+static inline int uart_aligned(const void *at, size_t alignment)
+{
+    return uart_unless((uintptr_t)at % alignment == 0, U16550_MISALIGNED);
+}
+
+/* Refuses a pointer that is null or not aligned. */
+static int uart_usable(const void *at, size_t alignment)
+{
+    return at == NULL ? U16550_NULL_POINTER : uart_aligned(at, alignment);
+}
+
+/* Refuses an array that cannot be: of items of this size. One of none may be anywhere. */
+static int uart_array(const void *at, size_t len, size_t item, size_t alignment)
+{
+    uintptr_t start = (uintptr_t)at;
+    int status;
+    if (len == 0)
+        return U16550_OK;
+    status = uart_usable(at, alignment);
+    if (status != U16550_OK)
+        return status;
+    if (len > (SIZE_MAX / 2) / item || start > UINTPTR_MAX - len * item)
+        return U16550_BAD_LENGTH;
+    return U16550_OK;
+}
+
+/* Begins a call over a driver, unless there is none or a call over it is not done. */
+static int uart_enter(struct u16550 *uart)
+{
+    int status = UART_USABLE(uart, handle);
+    if (status != U16550_OK)
+        return status;
+    if (uart->mark != UART_MARK)
+        return U16550_NOT_MADE;
+    if (uart->is_busy != 0)
+        return U16550_BUSY;
+    uart->is_busy = UART_BUSY;
+    UART_FENCE();
+    /* A handler that came before the sign was set may have ended the driver. */
+    if (uart->mark != UART_MARK) {
+        uart->is_busy = 0;
+        return U16550_NOT_MADE;
+    }
+    return U16550_OK;
+}
+
+/* The same for a call over the rings. */
+static int uart_enter_rings(struct u16550 *uart)
+{
+    int status = uart_enter(uart);
+    if (status == U16550_OK && !uart->has_rings) {
+        uart->is_busy = 0;
+        return U16550_NO_RINGS;
+    }
+    return status;
+}
+
+/* Ends a call, and returns its status. */
+static inline int uart_leave(struct u16550 *uart, int status)
+{
+    UART_FENCE();
+    uart->is_busy = 0;
+    return status;
+}
+
+static int uart_check_flag(uint8_t byte)
+{
+    return uart_unless(byte <= 1, U16550_BAD_CODE);
+}
+
+/* Reads the trigger level of so many characters, or none for 0. */
+static int uart_decode_level(uint8_t characters, struct u16550_core_maybe_fifo_trigger_level *level)
+{
+    level->is_some = characters != 0;
+    level->value = U16550_CORE_FIFO_TRIGGER_LEVEL_ONE;
+    switch (characters) {
+    case 0:
+    case 1:
+        return U16550_OK;
+    case 4:
+        level->value = U16550_CORE_FIFO_TRIGGER_LEVEL_FOUR;
+        return U16550_OK;
+    case 8:
+        level->value = U16550_CORE_FIFO_TRIGGER_LEVEL_EIGHT;
+        return U16550_OK;
+    case 14:
+        level->value = U16550_CORE_FIFO_TRIGGER_LEVEL_FOURTEEN;
+        return U16550_OK;
+    default:
+        return U16550_BAD_CODE;
+    }
+}
+
+static uint8_t uart_encode_level(struct u16550_core_maybe_fifo_trigger_level level)
+{
+    if (!level.is_some)
+        return 0;
+    switch (level.value) {
+    case U16550_CORE_FIFO_TRIGGER_LEVEL_ONE:
+        return 1;
+    case U16550_CORE_FIFO_TRIGGER_LEVEL_FOUR:
+        return 4;
+    case U16550_CORE_FIFO_TRIGGER_LEVEL_EIGHT:
+        return 8;
+    case U16550_CORE_FIFO_TRIGGER_LEVEL_FOURTEEN:
+    default:
+        return 14;
+    }
+}
+
+/* Reads a configuration, of which perhaps no divisor can be computed. */
+static int uart_decode_config(const struct u16550_config *from, struct u16550_core_config *to)
+{
+    static const enum u16550_core_word_length lengths[] = {
+        U16550_CORE_WORD_LENGTH_FIVE_BITS, U16550_CORE_WORD_LENGTH_SIX_BITS,
+        U16550_CORE_WORD_LENGTH_SEVEN_BITS, U16550_CORE_WORD_LENGTH_EIGHT_BITS };
+    static const enum u16550_core_parity parities[] = {
+        U16550_CORE_PARITY_DISABLED, U16550_CORE_PARITY_ODD, U16550_CORE_PARITY_EVEN,
+        U16550_CORE_PARITY_FORCED1, U16550_CORE_PARITY_FORCED0 };
+    if (uart_check_flag(from->has_prescaler) != U16550_OK || uart_check_flag(from->extra_stop_bits) != U16550_OK ||
+        uart_check_flag(from->check_cts_before_sending) != U16550_OK || from->data_bits < 5 ||
+        from->data_bits > 8 || from->parity > 4 ||
+        uart_decode_level(from->fifo_trigger_level, &to->fifo_trigger_level) != U16550_OK)
+        return U16550_BAD_CODE;
+    to->interrupts = from->interrupts;
+    to->frequency = from->frequency;
+    to->prescaler_division_factor.is_some = from->has_prescaler == 1;
+    to->prescaler_division_factor.value = from->prescaler_division_factor;
+    to->baud_rate = uart_baud_rate_from_integer(from->baud_rate);
+    to->data_bits = lengths[from->data_bits - 5];
+    to->extra_stop_bits = from->extra_stop_bits == 1;
+    to->parity = parities[from->parity];
+    to->check_cts_before_sending = from->check_cts_before_sending == 1;
+    return U16550_OK;
+}
+
+/* The same, if a divisor can be computed. */
+static int uart_decode_computable(const struct u16550_config *from, struct u16550_core_config *to)
+{
+    int status = UART_USABLE(from, config);
+    if (status == U16550_OK)
+        status = uart_decode_config(from, to);
+    if (status != U16550_OK)
+        return status;
+    return uart_unless(uart_config_is_computable(to), U16550_NOT_COMPUTABLE);
+}
+
+static void uart_encode_config(const struct u16550_core_config *from, struct u16550_config *to)
+{
+    bool has_prescaler = from->prescaler_division_factor.is_some;
+    to->frequency = from->frequency;
+    to->baud_rate = uart_baud_rate_to_integer(from->baud_rate);
+    to->prescaler_division_factor = has_prescaler ? from->prescaler_division_factor.value : 0;
+    to->has_prescaler = has_prescaler;
+    to->interrupts = from->interrupts;
+    to->fifo_trigger_level = uart_encode_level(from->fifo_trigger_level);
+    to->data_bits = (uint8_t)(5 + (int)from->data_bits);
+    to->extra_stop_bits = from->extra_stop_bits;
+    to->parity = (uint8_t)from->parity;
+    to->check_cts_before_sending = from->check_cts_before_sending;
+}
+
+static int uart_decode_state(const struct u16550_state *from, struct uart_driver_state *to)
+{
+    int status = uart_decode_config(&from->config, &to->config);
+    if (status == U16550_OK)
+        status = uart_check_flag(from->fifo_enabled);
+    if (status == U16550_OK && from->spin_limit == 0)
+        status = U16550_ZERO_LIMIT;
+    if (status != U16550_OK)
+        return status;
+    to->fifo_enabled = from->fifo_enabled == 1;
+    to->saved_lsr = from->saved_lsr;
+    to->saved_msr = from->saved_msr;
+    to->spin_limit = from->spin_limit;
+    return U16550_OK;
+}
+
+static int uart_decode_setup(const struct u16550_setup *from, struct uart_setup *to)
+{
+    static const enum uart_transmitter_wait waits[] = {
+        UART_TRANSMITTER_WAIT_FIRST, UART_TRANSMITTER_WAIT_LAST, UART_TRANSMITTER_WAIT_NEVER };
+    if (from == NULL)
+        return U16550_NULL_POINTER;
+    if (uart_check_flag(from->checks_presence) != U16550_OK || from->wait > 2)
+        return U16550_BAD_CODE;
+    to->checks_presence = from->checks_presence == 1;
+    to->wait = waits[from->wait];
+    to->outputs = from->outputs;
+    return U16550_OK;
+}
+
+static int uart_decode_size(uint16_t characters, enum uart_fifo_size *size)
+{
+    static const enum uart_fifo_size sizes[] = {
+        UART_FIFO_SIZE_SIXTEEN, UART_FIFO_SIZE_THIRTY_TWO, UART_FIFO_SIZE_SIXTY_FOUR,
+        UART_FIFO_SIZE_ONE_HUNDRED_TWENTY_EIGHT, UART_FIFO_SIZE_TWO_HUNDRED_FIFTY_SIX };
+    for (unsigned order = 0; order < 5; order++) {
+        if (characters == 16u << order) {
+            *size = sizes[order];
+            return U16550_OK;
+        }
+    }
+    return U16550_BAD_CODE;
+}
+
+/* --------------------------------------------------------------- errors as numbers */
+
+static int uart_status_of_divisor(struct uart_invalid_divisor_error error, int non_integer, int out_of_range)
+{
+    return error.kind == UART_INVALID_DIVISOR_ERROR_NON_INTEGER ? non_integer : out_of_range;
+}
+
+static int uart_status_of_init(struct uart_init_error error)
+{
+    switch (error.kind) {
+    case UART_INIT_ERROR_NONE:
+        return U16550_OK;
+    case UART_INIT_ERROR_DEVICE_NOT_PRESENT:
+        return U16550_INIT_DEVICE_NOT_PRESENT;
+    case UART_INIT_ERROR_INVALID_BAUD_RATE:
+        return uart_status_of_divisor(error.invalid_baud_rate, U16550_INIT_NON_INTEGER_DIVISOR,
+            U16550_INIT_DIVISOR_OUT_OF_RANGE);
+    case UART_INIT_ERROR_STALLED:
+    default:
+        return U16550_INIT_STALLED;
+    }
+}
+
+static int uart_status_of_frame(struct uart_invalid_divisor_error error)
+{
+    if (error.kind == UART_INVALID_DIVISOR_ERROR_NONE)
+        return U16550_OK;
+    return uart_status_of_divisor(error, U16550_FRAME_NON_INTEGER_DIVISOR,
+        U16550_FRAME_DIVISOR_OUT_OF_RANGE);
+}
+
+static int uart_status_of_frame_when_idle(struct uart_frame_error error)
+{
+    if (error.kind == UART_FRAME_ERROR_NONE)
+        return U16550_OK;
+    if (error.kind == UART_FRAME_ERROR_STALLED)
+        return U16550_FRAME_STALLED;
+    return uart_status_of_frame(error.invalid_baud_rate);
+}
+
+static int uart_status_of_send(enum uart_byte_send_error error)
+{
+    switch (error) {
+    case UART_BYTE_SEND_ERROR_NONE:
+        return U16550_OK;
+    case UART_BYTE_SEND_ERROR_NO_CAPACITY:
+        return U16550_SEND_NO_CAPACITY;
+    case UART_BYTE_SEND_ERROR_REMOTE_NOT_CLEAR_TO_SEND:
+    default:
+        return U16550_SEND_NOT_CLEAR_TO_SEND;
+    }
+}
+
+static int uart_status_of_remote(enum uart_remote_ready_to_receive_error error)
+{
+    switch (error) {
+    case UART_REMOTE_READY_TO_RECEIVE_ERROR_NONE:
+        return U16550_OK;
+    case UART_REMOTE_READY_TO_RECEIVE_ERROR_NO_REMOTE_CONNECTED_NO_DSR:
+        return U16550_REMOTE_NO_DSR;
+    case UART_REMOTE_READY_TO_RECEIVE_ERROR_NO_REMOTE_CONNECTED_NO_CD:
+        return U16550_REMOTE_NO_CD;
+    case UART_REMOTE_READY_TO_RECEIVE_ERROR_REMOTE_NOT_CLEAR_TO_SEND:
+    default:
+        return U16550_REMOTE_NOT_CLEAR_TO_SEND;
+    }
+}
+
+static int uart_status_of_attach(enum uart_attach_error error)
+{
+    switch (error) {
+    case UART_ATTACH_ERROR_NONE:
+        return U16550_OK;
+    case UART_ATTACH_ERROR_DIVISOR_LATCH_OPEN:
+        return U16550_ATTACH_DIVISOR_LATCH_OPEN;
+    case UART_ATTACH_ERROR_LOOPBACK:
+        return U16550_ATTACH_LOOPBACK;
+    case UART_ATTACH_ERROR_NO_DIVISOR:
+    default:
+        return U16550_ATTACH_NO_DIVISOR;
+    }
+}
+
+static int uart_status_of_stuck(struct u16550_core_stuck_error error)
+{
+    switch (error.kind) {
+    case U16550_CORE_STUCK_ERROR_NONE:
+        return U16550_OK;
+    case U16550_CORE_STUCK_ERROR_UNKNOWN:
+        return U16550_RING_STUCK_UNKNOWN;
+    case U16550_CORE_STUCK_ERROR_PENDING:
+    default:
+        return U16550_RING_STUCK_PENDING;
+    }
+}
+
+static int uart_status_of_loopback(const struct uart_loopback_error *error)
+{
+    switch (error->kind) {
+    case UART_LOOPBACK_ERROR_NONE:
+        return U16550_OK;
+    case UART_LOOPBACK_ERROR_SEND_ERROR:
+        return error->send_error == UART_BYTE_SEND_ERROR_NO_CAPACITY ?
+            U16550_LOOPBACK_NO_CAPACITY : U16550_LOOPBACK_NOT_CLEAR_TO_SEND;
+    case UART_LOOPBACK_ERROR_UNEXPECTED_LOOPBACK_BYTE:
+        return U16550_LOOPBACK_UNEXPECTED_BYTE;
+    case UART_LOOPBACK_ERROR_UNEXPECTED_LOOPBACK_MSG:
+        return U16550_LOOPBACK_UNEXPECTED_MSG;
+    case UART_LOOPBACK_ERROR_STALLED:
+    default:
+        return U16550_LOOPBACK_STALLED;
+    }
+}
+
+static void uart_encode_failure(const struct uart_loopback_error *error, struct u16550_loopback_failure *to)
+{
+    to->expected = error->unexpected_loopback_byte_expected;
+    to->actual = error->unexpected_loopback_byte_actual;
+    uart_copy_bytes(to->expected_msg, error->unexpected_loopback_msg_expected.bytes, 16);
+    uart_copy_bytes(to->actual_msg, error->unexpected_loopback_msg_actual.bytes, 16);
+}
+
+/* Writes what was expected and shown, and returns the number of the error. */
+static int uart_encode_difference(const struct uart_configuration_error *error, struct u16550_difference *to)
+{
+    switch (error->kind) {
+    case UART_CONFIGURATION_ERROR_NONE:
+        return U16550_OK;
+    case UART_CONFIGURATION_ERROR_NO_DIVISOR:
+        to->expected = 0;
+        to->shown = 0;
+        return U16550_CONFIGURATION_NO_DIVISOR;
+    case UART_CONFIGURATION_ERROR_LINE_CONTROL:
+        to->expected = error->line_control_expected;
+        to->shown = error->line_control_shown;
+        return U16550_CONFIGURATION_LINE_CONTROL;
+    case UART_CONFIGURATION_ERROR_MODEM_CONTROL:
+        to->expected = error->modem_control_expected;
+        to->shown = error->modem_control_shown;
+        return U16550_CONFIGURATION_MODEM_CONTROL;
+    case UART_CONFIGURATION_ERROR_INTERRUPTS:
+        to->expected = error->interrupts_expected;
+        to->shown = error->interrupts_shown;
+        return U16550_CONFIGURATION_INTERRUPTS;
+    case UART_CONFIGURATION_ERROR_DIVISOR:
+        to->expected = error->divisor_expected;
+        to->shown = error->divisor_shown;
+        return U16550_CONFIGURATION_DIVISOR;
+    case UART_CONFIGURATION_ERROR_FIFOS:
+    default:
+        to->expected = error->fifos_expected;
+        to->shown = error->fifos_shown;
+        return U16550_CONFIGURATION_FIFOS;
+    }
+}
+
+static struct u16550_handled uart_encode_handled(struct uart_handled handled)
+{
+    struct u16550_handled made = { handled.served, U16550_HANDLE_IDLE };
+    if (handled.end == UART_HANDLE_END_UNKNOWN)
+        made.end = U16550_HANDLE_UNKNOWN;
+    else if (handled.end == UART_HANDLE_END_LIMIT)
+        made.end = U16550_HANDLE_LIMIT;
+    return made;
+}
+
+static struct u16550_urgent uart_encode_urgent(struct u16550_core_maybe_u8 urgent)
+{
+    struct u16550_urgent made = { urgent.is_some, (uint8_t)(urgent.is_some ? urgent.value : 0) };
+    return made;
+}
+
+/* --------------------------------------------------------------- making and ending a driver */
+
+/* Makes a driver, if its memory and its functions are there, and no call over one that is there is not done. */
+static int uart_make(struct u16550 *uart, const struct u16550_io *io, uintptr_t base, uint8_t stride, int refused,
+                     const struct uart_driver_state *state)
+{
+    struct u16550_device device = { { NULL, NULL, NULL }, 0, 0 };
+    int status = UART_USABLE(uart, handle);
+    if (status != U16550_OK)
+        return status;
+    if (uart->is_busy == UART_BUSY)
+        return U16550_BUSY;
+    status = UART_USABLE(io, io);
+    if (status == U16550_OK)
+        status = refused;
+    if (status == U16550_OK && (io->read == NULL || io->write == NULL))
+        status = U16550_NULL_POINTER;
+    if (status != U16550_OK)
+        return status;
+    device.io = *io;
+    device.base = base;
+    device.stride = stride;
+    /* A handler that comes now finds a call that is not done, and never a part of the old driver with one of the new. */
+    uart->is_busy = UART_BUSY;
+    UART_FENCE();
+    uart->mark = UART_MARK;
+    uart->has_rings = false;
+    uart->ring.uart = state == NULL ? uart_new_with_backend(device) : uart_from_state(device, state);
+    return uart_leave(uart, U16550_OK);
+}
+
+int u16550_new(struct u16550 *uart, const struct u16550_io *io)
+{
+    return uart_make(uart, io, 0, 1, U16550_OK, NULL);
+}
+
+int u16550_new_port(struct u16550 *uart, const struct u16550_io *io, uint16_t base)
+{
+    return uart_make(uart, io, base, 1,uart_if(base > 0xfff8, U16550_BAD_BASE), NULL);
+}
+
+int u16550_new_mmio(struct u16550 *uart, const struct u16550_io *io, uintptr_t base, uint8_t stride)
+{
+    int refused = U16550_OK;
+    if (base == 0)
+        refused = U16550_BAD_BASE;
+    else if (stride == 0 || (stride & (stride - 1)) != 0)
+        refused = U16550_BAD_STRIDE;
+    else if (base > UINTPTR_MAX - (uintptr_t)7 * stride)
+        refused = U16550_BAD_BASE;
+    return uart_make(uart, io, base, stride, refused, NULL);
+}
+
+int u16550_from_state(struct u16550 *uart, const struct u16550_io *io, const struct u16550_state *state)
+{
+    struct uart_driver_state decoded;
+    int refused = UART_USABLE(state, state);
+    if (refused == U16550_OK && UART_USABLE(io, io) == U16550_OK && (io->read == NULL || io->write == NULL))
+        refused = U16550_NULL_POINTER;
+    if (refused == U16550_OK)
+        refused = uart_decode_state(state, &decoded);
+    return uart_make(uart, io, 0, 1, refused, &decoded);
+}
+
+int u16550_end(struct u16550 *uart)
+{
+    int status = uart_enter(uart);
+    if (status != U16550_OK)
+        return status;
+    uart->mark = 0;
+    return uart_leave(uart, U16550_OK);
+}
+
+int u16550_get_io(struct u16550 *uart, struct u16550_io *io)
+{
+    struct u16550_io found;
+    int status = UART_USABLE(io, io);
+    if (status == U16550_OK)
+        status = uart_enter(uart);
+    if (status != U16550_OK)
+        return status;
+    found = uart_backend(&uart->ring.uart)->io;
+    uart_leave(uart, U16550_OK);
+    *io = found;
+    return U16550_OK;
+}
+
+int u16550_set_io(struct u16550 *uart, const struct u16550_io *io)
+{
+    int status = uart_enter(uart);
+    if (status != U16550_OK)
+        return status;
+    status = UART_USABLE(io, io);
+    if (status == U16550_OK && (io->read == NULL || io->write == NULL))
+        status = U16550_NULL_POINTER;
+    if (status == U16550_OK)
+        uart_backend_mut(&uart->ring.uart)->io = *io;
+    return uart_leave(uart, status);
+}
+
+int u16550_default_config(struct u16550_config *config)
+{
+    struct u16550_device device = { { NULL, NULL, NULL }, 0, 0 };
+    struct u16550_core_driver fresh;
+    int status = UART_USABLE(config, config);
+    if (status != U16550_OK)
+        return status;
+    fresh = uart_new_with_backend(device);
+    uart_encode_config(&fresh.config, config);
+    return U16550_OK;
+}
+
+int u16550_nearest(const struct u16550_config *config, uint32_t per_mille, struct u16550_config *nearest)
+{
+    struct uart_config_or_nearest_divisor_error found;
+    struct u16550_core_config decoded;
+    int status = UART_USABLE(nearest, config);
+    if (status == U16550_OK)
+        status = uart_decode_computable(config, &decoded);
+    if (status != U16550_OK)
+        return status;
+    found = uart_config_nearest(decoded, per_mille);
+    if (found.error.kind == UART_NEAREST_DIVISOR_ERROR_TOO_FAR)
+        return U16550_NEAREST_TOO_FAR;
+    if (found.error.kind != UART_NEAREST_DIVISOR_ERROR_NONE)
+        return U16550_NEAREST_OUT_OF_RANGE;
+    uart_encode_config(&found.value, nearest);
+    return U16550_OK;
+}
+
+int u16550_dump_divisor(const struct u16550_dump *dump, uint16_t *divisor)
+{
+    int status = UART_USABLE(divisor, u16);
+    if (status == U16550_OK && dump == NULL)
+        status = U16550_NULL_POINTER;
+    if (status == U16550_OK)
+        *divisor = uart_config_register_dump_divisor(dump);
+    return status;
+}
+
+int u16550_dump_baud_rate(const struct u16550_dump *dump, const struct u16550_config *config, uint32_t *baud_rate)
+{
+    struct uart_baud_rate_or_non_integer_baud_rate_error rate;
+    struct u16550_core_config decoded;
+    int status = UART_USABLE(baud_rate, u32);
+    if (status == U16550_OK && dump == NULL)
+        status = U16550_NULL_POINTER;
+    if (status == U16550_OK)
+        status = UART_USABLE(config, config);
+    if (status == U16550_OK)
+        status = uart_decode_config(config, &decoded);
+    if (status != U16550_OK)
+        return status;
+    if (decoded.frequency == 0 || (decoded.prescaler_division_factor.is_some && decoded.prescaler_division_factor.value > 15))
+        return U16550_NOT_COMPUTABLE;
+    rate = uart_config_register_dump_baud_rate(dump, &decoded);
+    if (rate.is_error)
+        return U16550_NON_INTEGER_BAUD_RATE;
+    *baud_rate = uart_baud_rate_to_integer(rate.value);
+    return U16550_OK;
+}
+
+/* --------------------------------------------------------------- rings and lines */
+
+int u16550_ring_new(struct u16550 *uart, uint8_t *memory, size_t size, size_t tx_capacity, size_t rx_capacity)
+{
+    struct uart_ring_or_pair_of_driver_ring_error made;
+    struct uart_memory cells = { memory, size };
+    int status = uart_enter(uart);
+    if (status != U16550_OK)
+        return status;
+    status = uart->has_rings ? U16550_HAS_RINGS : uart_array(memory, size, 1, 1);
+    if (status != U16550_OK)
+        return uart_leave(uart, status);
+    made = uart_ring_new(&cells, uart->ring.uart, tx_capacity, rx_capacity);
+    if (made.is_error) {
+        return uart_leave(uart, made.error.second == UART_RING_ERROR_BAD_CAPACITY ? U16550_RING_BAD_CAPACITY
+                                                                                  : U16550_RING_OUT_OF_MEMORY);
+    }
+    uart->ring = made.value;
+    uart->has_rings = true;
+    return uart_leave(uart, U16550_OK);
+}
+
+int u16550_ring_end(struct u16550 *uart)
+{
+    int status = uart_enter_rings(uart);
+    if (status != U16550_OK)
+        return status;
+    uart->has_rings = false;
+    return uart_leave(uart, U16550_OK);
+}
+
+int u16550_ring_stuck(struct u16550 *uart, struct u16550_stuck *stuck)
+{
+    struct u16550_core_maybe_stuck_error found;
+    int status = stuck == NULL ? U16550_NULL_POINTER : uart_enter_rings(uart);
+    if (status != U16550_OK)
+        return status;
+    found = uart_ring_stuck(&uart->ring);
+    uart_leave(uart, U16550_OK);
+    stuck->is_stuck = found.is_some;
+    stuck->isr = 0;
+    if (found.is_some && found.value.kind == U16550_CORE_STUCK_ERROR_UNKNOWN)
+        stuck->isr = found.value.unknown & 0x0f;
+    else if (found.is_some)
+        stuck->isr = uart_interrupt_type_to_bits(found.value.pending);
+    return U16550_OK;
+}
+
+static inline size_t uart_line_ports_number(const struct uart_line_ports *ports)
+{
+    return ports->count;
+}
+
+static bool
+uart_line_ports_lower(struct uart_line_ports *ports, size_t port, size_t limit, uint32_t rounds)
+{
+    struct u16550_line_port *at = &ports->ports[port];
+    struct uart_lowered lowered;
+    at->handled.served = 0;
+    at->handled.end = U16550_HANDLE_IDLE;
+    at->status = uart_enter_rings(at->uart);
+    if (at->status != U16550_OK)
+        return false;
+    lowered = uart_ring_lower_line(&at->uart->ring, limit, rounds);
+    uart_leave(at->uart, U16550_OK);
+    at->enabled = lowered.enabled;
+    at->status = uart_status_of_stuck(lowered.handled.error);
+    if (at->status != U16550_OK)
+        return false;
+    at->handled = uart_encode_handled(lowered.handled.value);
+    return at->handled.served > 0;
+}
+
+static void uart_line_ports_raise(struct uart_line_ports *ports, size_t port)
+{
+    struct u16550_line_port *at = &ports->ports[port];
+    if (uart_enter_rings(at->uart) != U16550_OK)
+        return;
+    uart_ring_raise_line(&at->uart->ring, at->enabled);
+    uart_leave(at->uart, U16550_OK);
+}
+
+int u16550_line_handle(struct u16550_line_port *ports, size_t count, size_t limit, uint32_t rounds, uint8_t *served)
+{
+    struct uart_line_ports line = { ports, count };
+    int status = served == NULL ? U16550_NULL_POINTER :
+        uart_array(ports, count, sizeof(struct u16550_line_port), offsetof(struct uart_aligned_port, value));
+    for (size_t port = 0; status == U16550_OK && port < count; port++) {
+        status = uart_enter_rings(ports[port].uart);
+        if (status == U16550_OK)
+            uart_leave(ports[port].uart, U16550_OK);
+    }
+    if (status == U16550_OK)
+        *served = uart_handle_line(&line, limit, rounds);
+    return status;
+}
+
+/* Returns whether a text is UTF-8: no overlong form, no surrogate, nothing above U+10FFFF. */
+static bool uart_is_utf8(const uint8_t *text, size_t len)
+{
+    size_t at = 0;
+    while (at < len) {
+        uint8_t first = text[at++];
+        uint8_t low = 0x80, high = 0xbf;
+        unsigned more;
+        if (first < 0x80)
+            continue;
+        if (first < 0xc2 || first > 0xf4)
+            return false;
+        more = first < 0xe0 ? 1u : first < 0xf0 ? 2u : 3u;
+        if (first == 0xe0)
+            low = 0xa0;
+        else if (first == 0xed)
+            high = 0x9f;
+        else if (first == 0xf0)
+            low = 0x90;
+        else if (first == 0xf4)
+            high = 0x8f;
+        for (; more > 0; more--) {
+            if (at == len || text[at] < low || text[at] > high)
+                return false;
+            low = 0x80;
+            high = 0xbf;
+            at++;
+        }
+    }
+    return true;
+}
+
+/* Sends a text over a terminal, which has the driver meanwhile. */
+static int uart_send_text(struct u16550 *uart, const char *text, size_t len, size_t *done, bool is_checked)
+{
+    const uint8_t *bytes = (const uint8_t *)text;
+    struct uart_maybe_stalled_error stalled;
+    struct uart_tty terminal;
+    int status = UART_ALIGNED(done, size);
+    if (status == U16550_OK)
+        status = uart_enter(uart);
+    if (status != U16550_OK)
+        return status;
+    status = uart_array(bytes, len, 1, 1);
+    if (status == U16550_OK && is_checked && !uart_is_utf8(bytes, len))
+        status = U16550_NOT_UTF8;
+    if (status != U16550_OK)
+        return uart_leave(uart, status);
+    terminal.inner = uart->ring.uart;
+    stalled = uart_tty_write_raw_text(&terminal, bytes, len);
+    uart->ring.uart = terminal.inner;
+    uart_leave(uart, U16550_OK);
+    if (stalled.is_error && done != NULL)
+        *done = stalled.error;
+    return uart_if(stalled.is_error, U16550_STALLED);
+}
+
+int u16550_write_text(struct u16550 *uart, const char *text, size_t len, size_t *done)
+{
+    return uart_send_text(uart, text, len, done, true);
+}
+
+int u16550_write_raw_text(struct u16550 *uart, const char *text, size_t len, size_t *done)
+{
+    return uart_send_text(uart, text, len, done, false);
+}
+
+int u16550_get_config(struct u16550 *uart, struct u16550_config *config)
+{
+    struct u16550_config found;
+    int status = UART_USABLE(config, config);
+    if (status == U16550_OK)
+        status = uart_enter(uart);
+    if (status != U16550_OK)
+        return status;
+    uart_encode_config(uart_config(&uart->ring.uart), &found);
+    uart_leave(uart, U16550_OK);
+    *config = found;
+    return U16550_OK;
+}
+
+int u16550_get_state(struct u16550 *uart, struct u16550_state *state)
+{
+    struct uart_driver_state state_of;
+    struct u16550_state found;
+    int status = UART_USABLE(state, state);
+    if (status == U16550_OK)
+        status = uart_enter(uart);
+    if (status != U16550_OK)
+        return status;
+    state_of = uart_state(&uart->ring.uart);
+    found.spin_limit = state_of.spin_limit;
+    uart_encode_config(&state_of.config, &found.config);
+    found.fifo_enabled = state_of.fifo_enabled;
+    found.saved_lsr = state_of.saved_lsr;
+    found.saved_msr = state_of.saved_msr;
+    uart_leave(uart, U16550_OK);
+    *state = found;
+    return U16550_OK;
+}
+
+int u16550_fifo_enabled(struct u16550 *uart, uint8_t *enabled)
+{
+    uint8_t found;
+    int status = uart_if(enabled == NULL, U16550_NULL_POINTER);
+    if (status == U16550_OK)
+        status = uart_enter(uart);
+    if (status != U16550_OK)
+        return status;
+    found = uart_fifo_enabled(&uart->ring.uart);
+    uart_leave(uart, U16550_OK);
+    *enabled = found;
+    return U16550_OK;
+}
+
+int u16550_spin_limit(struct u16550 *uart, uint64_t *limit)
+{
+    uint64_t found;
+    int status = UART_USABLE(limit, u64);
+    if (status == U16550_OK)
+        status = uart_enter(uart);
+    if (status != U16550_OK)
+        return status;
+    found = uart_spin_limit(&uart->ring.uart);
+    uart_leave(uart, U16550_OK);
+    *limit = found;
+    return U16550_OK;
+}
+
+int u16550_set_spin_limit(struct u16550 *uart, uint64_t limit)
+{
+    int status = uart_enter(uart);
+    if (status != U16550_OK)
+        return status;
+    status = uart_if(limit == 0, U16550_ZERO_LIMIT);
+    if (status != U16550_OK)
+        return uart_leave(uart, status);
+    uart_set_spin_limit(&uart->ring.uart, limit);
+    return uart_leave(uart, U16550_OK);
+}
+
+int u16550_check_present(struct u16550 *uart, uint8_t *present)
+{
+    uint8_t found;
+    int status = uart_if(present == NULL, U16550_NULL_POINTER);
+    if (status == U16550_OK)
+        status = uart_enter(uart);
+    if (status != U16550_OK)
+        return status;
+    found = uart_check_present(&uart->ring.uart);
+    uart_leave(uart, U16550_OK);
+    *present = found;
+    return U16550_OK;
+}
+
+int u16550_init(struct u16550 *uart, const struct u16550_config *config)
+{
+    struct u16550_core_config decoded;
+    int status = uart_enter(uart);
+    if (status != U16550_OK)
+        return status;
+    status = uart_decode_computable(config, &decoded);
+    if (status != U16550_OK)
+        return uart_leave(uart, status);
+    status = uart_status_of_init(uart_init(&uart->ring.uart, decoded));
+    return uart_leave(uart, status);
+}
+
+int u16550_init_with(struct u16550 *uart, const struct u16550_config *config,
+    const struct u16550_setup *setup)
+{
+    struct u16550_core_config decoded;
+    struct uart_setup setup_of;
+    int status = uart_enter(uart);
+    if (status != U16550_OK)
+        return status;
+    status = uart_decode_computable(config, &decoded);
+    if (status == U16550_OK)
+        status = uart_decode_setup(setup, &setup_of);
+    if (status != U16550_OK)
+        return uart_leave(uart, status);
+    status = uart_status_of_init(uart_init_with(&uart->ring.uart, decoded, &setup_of));
+    return uart_leave(uart, status);
+}
+
+int u16550_set_frame(struct u16550 *uart, const struct u16550_config *config)
+{
+    struct u16550_core_config decoded;
+    int status = uart_enter(uart);
+    if (status != U16550_OK)
+        return status;
+    status = uart_decode_computable(config, &decoded);
+    if (status != U16550_OK)
+        return uart_leave(uart, status);
+    status = uart_status_of_frame(uart_set_frame(&uart->ring.uart, &decoded));
+    return uart_leave(uart, status);
+}
+
+int u16550_set_frame_when_idle(struct u16550 *uart, const struct u16550_config *config)
+{
+    struct u16550_core_config decoded;
+    int status = uart_enter(uart);
+    if (status != U16550_OK)
+        return status;
+    status = uart_decode_computable(config, &decoded);
+    if (status != U16550_OK)
+        return uart_leave(uart, status);
+    status = uart_status_of_frame_when_idle(uart_set_frame_when_idle(&uart->ring.uart, &decoded));
+    return uart_leave(uart, status);
+}
+
+int u16550_set_trigger_level(struct u16550 *uart, uint8_t characters)
+{
+    struct u16550_core_maybe_fifo_trigger_level level;
+    int status = uart_enter(uart);
+    if (status != U16550_OK)
+        return status;
+    status = uart_decode_level(characters, &level);
+    if (status == U16550_OK)
+        status = uart_unless(level.is_some, U16550_BAD_CODE);
+    if (status != U16550_OK)
+        return uart_leave(uart, status);
+    status = uart_unless(uart_set_trigger_level(&uart->ring.uart, level.value), U16550_FIFOS_OFF);
+    return uart_leave(uart, status);
+}
+
+int u16550_quiesce(struct u16550 *uart, uint8_t outputs, uint8_t fifos)
+{
+    int status = uart_enter(uart);
+    if (status != U16550_OK)
+        return status;
+    status = uart_unless(fifos <= U16550_FIFOS_DISABLE, U16550_BAD_CODE);
+    if (status != U16550_OK)
+        return uart_leave(uart, status);
+    uart_quiesce(&uart->ring.uart, outputs, fifos == U16550_FIFOS_KEEP ? UART_FIFO_ACTION_KEEP :
+        fifos == U16550_FIFOS_RESET ? UART_FIFO_ACTION_RESET : UART_FIFO_ACTION_DISABLE);
+    return uart_leave(uart, U16550_OK);
+}
+
+int u16550_restore(struct u16550 *uart, const struct u16550_dump *dump)
+{
+    int status = uart_enter(uart);
+    if (status != U16550_OK)
+        return status;
+    status = uart_if(dump == NULL, U16550_NULL_POINTER);
+    if (status != U16550_OK)
+        return uart_leave(uart, status);
+    uart_restore(&uart->ring.uart, dump);
+    return uart_leave(uart, U16550_OK);
+}
+
+int u16550_set_modem_control(struct u16550 *uart, uint8_t outputs)
+{
+    int status = uart_enter(uart);
+    if (status != U16550_OK)
+        return status;
+    uart_set_modem_control(&uart->ring.uart, outputs);
+    return uart_leave(uart, U16550_OK);
+}
+
+int u16550_set_rts(struct u16550 *uart, uint8_t on)
+{
+    int status = uart_enter(uart);
+    if (status != U16550_OK)
+        return status;
+    status = uart_check_flag(on);
+    if (status != U16550_OK)
+        return uart_leave(uart, status);
+    uart_set_rts(&uart->ring.uart, on == 1);
+    return uart_leave(uart, U16550_OK);
+}
+
+int u16550_set_dtr(struct u16550 *uart, uint8_t on)
+{
+    int status = uart_enter(uart);
+    if (status != U16550_OK)
+        return status;
+    status = uart_check_flag(on);
+    if (status != U16550_OK)
+        return uart_leave(uart, status);
+    uart_set_dtr(&uart->ring.uart, on == 1);
+    return uart_leave(uart, U16550_OK);
+}
+
+int u16550_set_break(struct u16550 *uart, uint8_t on)
+{
+    int status = uart_enter(uart);
+    if (status != U16550_OK)
+        return status;
+    status = uart_check_flag(on);
+    if (status != U16550_OK)
+        return uart_leave(uart, status);
+    uart_set_break(&uart->ring.uart, on == 1);
+    return uart_leave(uart, U16550_OK);
+}
+
+int u16550_check_connected(struct u16550 *uart)
+{
+    int status = uart_enter(uart);
+    if (status != U16550_OK)
+        return status;
+    status = uart_status_of_remote(uart_check_connected(&uart->ring.uart));
+    return uart_leave(uart, status);
+}
+
+int u16550_ready_to_receive(struct u16550 *uart)
+{
+    int status = uart_enter(uart);
+    if (status != U16550_OK)
+        return status;
+    status = uart_unless(uart_ready_to_receive(&uart->ring.uart), U16550_RECEIVE_NO_DATA);
+    return uart_leave(uart, status);
+}
+
+int u16550_ready_to_send(struct u16550 *uart)
+{
+    int status = uart_enter(uart);
+    if (status != U16550_OK)
+        return status;
+    status = uart_status_of_send(uart_ready_to_send(&uart->ring.uart));
+    return uart_leave(uart, status);
+}
+
+int u16550_try_receive_byte(struct u16550 *uart, uint8_t *byte)
+{
+    struct u16550_core_maybe_u8 found;
+    int status = uart_if(byte == NULL, U16550_NULL_POINTER);
+    if (status == U16550_OK)
+        status = uart_enter(uart);
+    if (status != U16550_OK)
+        return status;
+    found = uart_try_receive_byte(&uart->ring.uart);
+    status = uart_leave(uart, uart_unless(found.is_some, U16550_RECEIVE_NO_DATA));
+    if (status == U16550_OK)
+        *byte = found.value;
+    return status;
+}
+
+int u16550_try_send_byte(struct u16550 *uart, uint8_t byte)
+{
+    int status = uart_enter(uart);
+    if (status != U16550_OK)
+        return status;
+    status = uart_status_of_send(uart_try_send_byte(&uart->ring.uart, byte));
+    return uart_leave(uart, status);
+}
+
+int u16550_receive_bytes(struct u16550 *uart, uint8_t *buffer, size_t len, size_t *count)
+{
+    size_t found;
+    int status = UART_USABLE(count, size);
+    if (status == U16550_OK)
+        status = uart_enter(uart);
+    if (status != U16550_OK)
+        return status;
+    status = uart_array(buffer, len, 1, 1);
+    if (status != U16550_OK)
+        return uart_leave(uart, status);
+    found = uart_receive_bytes(&uart->ring.uart, buffer, len);
+    uart_leave(uart, U16550_OK);
+    *count = found;
+    return U16550_OK;
+}
+
+int u16550_send_bytes(struct u16550 *uart, const uint8_t *buffer, size_t len, size_t *count)
+{
+    size_t found;
+    int status = UART_USABLE(count, size);
+    if (status == U16550_OK)
+        status = uart_enter(uart);
+    if (status != U16550_OK)
+        return status;
+    status = uart_array(buffer, len, 1, 1);
+    if (status != U16550_OK)
+        return uart_leave(uart, status);
+    found = uart_send_bytes(&uart->ring.uart, buffer, len);
+    uart_leave(uart, U16550_OK);
+    *count = found;
+    return U16550_OK;
+}
+
+int u16550_send_burst(struct u16550 *uart, const uint8_t *buffer, size_t len, uint16_t fifo_size,
+    size_t *count)
+{
+    enum uart_fifo_size size;
+    size_t found;
+    int status = UART_USABLE(count, size);
+    if (status == U16550_OK)
+        status = uart_enter(uart);
+    if (status != U16550_OK)
+        return status;
+    status = uart_decode_size(fifo_size, &size);
+    if (status == U16550_OK)
+        status = uart_array(buffer, len, 1, 1);
+    if (status != U16550_OK)
+        return uart_leave(uart, status);
+    found = uart_send_burst(&uart->ring.uart, buffer, len, size);
+    uart_leave(uart, U16550_OK);
+    *count = found;
+    return U16550_OK;
+}
+
+int u16550_try_receive_with_errors(struct u16550 *uart, struct u16550_received *received)
+{
+    struct uart_maybe_received found;
+    int status = uart_if(received == NULL, U16550_NULL_POINTER);
+    if (status == U16550_OK)
+        status = uart_enter(uart);
+    if (status != U16550_OK)
+        return status;
+    found = uart_try_receive_with_errors(&uart->ring.uart);
+    status = uart_leave(uart, uart_unless(found.is_some, U16550_RECEIVE_NO_DATA));
+    if (status == U16550_OK)
+        *received = found.value;
+    return status;
+}
+
+int u16550_receive_with_errors(struct u16550 *uart, struct u16550_received *received, size_t len,
+    size_t *count)
+{
+    size_t found;
+    int status = UART_USABLE(count, size);
+    if (status == U16550_OK)
+        status = uart_enter(uart);
+    if (status != U16550_OK)
+        return status;
+    status = uart_array(received, len, sizeof(struct u16550_received), 1);
+    if (status != U16550_OK)
+        return uart_leave(uart, status);
+    found = uart_receive_with_errors(&uart->ring.uart, received, len);
+    uart_leave(uart, U16550_OK);
+    *count = found;
+    return U16550_OK;
+}
+
+int u16550_receive_bytes_exact(struct u16550 *uart, uint8_t *buffer, size_t len, size_t *done)
+{
+    struct uart_maybe_stalled_error stalled;
+    int status = UART_ALIGNED(done, size);
+    if (status == U16550_OK)
+        status = uart_enter(uart);
+    if (status != U16550_OK)
+        return status;
+    status = uart_array(buffer, len, 1, 1);
+    if (status != U16550_OK)
+        return uart_leave(uart, status);
+    stalled = uart_receive_bytes_exact(&uart->ring.uart, buffer, len);
+    status = uart_leave(uart, uart_if(stalled.is_error, U16550_STALLED));
+    if (done != NULL)
+        *done = stalled.is_error ? stalled.error : len;
+    return status;
+}
+
+int u16550_send_bytes_exact(struct u16550 *uart, const uint8_t *buffer, size_t len, size_t *done)
+{
+    struct uart_maybe_stalled_error stalled;
+    int status = UART_ALIGNED(done, size);
+    if (status == U16550_OK)
+        status = uart_enter(uart);
+    if (status != U16550_OK)
+        return status;
+    status = uart_array(buffer, len, 1, 1);
+    if (status != U16550_OK)
+        return uart_leave(uart, status);
+    stalled = uart_send_bytes_exact(&uart->ring.uart, buffer, len);
+    status = uart_leave(uart, uart_if(stalled.is_error, U16550_STALLED));
+    if (done != NULL)
+        *done = stalled.is_error ? stalled.error : len;
+    return status;
+}
+
+int u16550_read(struct u16550 *uart, uint8_t *buffer, size_t len, size_t *count)
+{
+    struct uart_u64_or_stalled_error some;
+    int status = UART_USABLE(count, size);
+    if (status == U16550_OK)
+        status = uart_enter(uart);
+    if (status != U16550_OK)
+        return status;
+    status = uart_array(buffer, len, 1, 1);
+    if (status != U16550_OK)
+        return uart_leave(uart, status);
+    some = uart_read(&uart->ring.uart, buffer, len);
+    status = uart_leave(uart, uart_if(some.is_error, U16550_STALLED));
+    if (status == U16550_OK)
+        *count = (size_t)some.value;
+    return status;
+}
+
+int u16550_write(struct u16550 *uart, const uint8_t *buffer, size_t len, size_t *count)
+{
+    struct uart_u64_or_stalled_error some;
+    int status = UART_USABLE(count, size);
+    if (status == U16550_OK)
+        status = uart_enter(uart);
+    if (status != U16550_OK)
+        return status;
+    status = uart_array(buffer, len, 1, 1);
+    if (status != U16550_OK)
+        return uart_leave(uart, status);
+    some = uart_write(&uart->ring.uart, buffer, len);
+    status = uart_leave(uart, uart_if(some.is_error, U16550_STALLED));
+    if (status == U16550_OK)
+        *count = (size_t)some.value;
+    return status;
+}
+
+int u16550_flush(struct u16550 *uart)
+{
+    int status = uart_enter(uart);
+    if (status != U16550_OK)
+        return status;
+    status = uart_if(uart_flush(&uart->ring.uart).is_error, U16550_STALLED);
+    return uart_leave(uart, status);
+}
+
+int u16550_read_ready(struct u16550 *uart, uint8_t *ready)
+{
+    struct uart_bool_or_stalled_error some;
+    int status = uart_if(ready == NULL, U16550_NULL_POINTER);
+    if (status == U16550_OK)
+        status = uart_enter(uart);
+    if (status != U16550_OK)
+        return status;
+    some = uart_read_ready(&uart->ring.uart);
+    status = uart_leave(uart, uart_if(some.is_error, U16550_STALLED));
+    if (status == U16550_OK)
+        *ready = some.value;
+    return status;
+}
+
+int u16550_write_ready(struct u16550 *uart, uint8_t *ready)
+{
+    struct uart_bool_or_stalled_error some;
+    int status = uart_if(ready == NULL, U16550_NULL_POINTER);
+    if (status == U16550_OK)
+        status = uart_enter(uart);
+    if (status != U16550_OK)
+        return status;
+    some = uart_write_ready(&uart->ring.uart);
+    status = uart_leave(uart, uart_if(some.is_error, U16550_STALLED));
+    if (status == U16550_OK)
+        *ready = some.value;
+    return status;
+}
+
+int u16550_is_idle(struct u16550 *uart, uint8_t *idle)
+{
+    uint8_t found;
+    int status = uart_if(idle == NULL, U16550_NULL_POINTER);
+    if (status == U16550_OK)
+        status = uart_enter(uart);
+    if (status != U16550_OK)
+        return status;
+    found = uart_is_idle(&uart->ring.uart);
+    uart_leave(uart, U16550_OK);
+    *idle = found;
+    return U16550_OK;
+}
+
+int u16550_is_gone(struct u16550 *uart, uint8_t *gone)
+{
+    uint8_t found;
+    int status = uart_if(gone == NULL, U16550_NULL_POINTER);
+    if (status == U16550_OK)
+        status = uart_enter(uart);
+    if (status != U16550_OK)
+        return status;
+    found = uart_is_gone(&uart->ring.uart);
+    uart_leave(uart, U16550_OK);
+    *gone = found;
+    return U16550_OK;
+}
+
+int u16550_ier(struct u16550 *uart, uint8_t *value)
+{
+    uint8_t found;
+    int status = uart_if(value == NULL, U16550_NULL_POINTER);
+    if (status == U16550_OK)
+        status = uart_enter(uart);
+    if (status != U16550_OK)
+        return status;
+    found = uart_ier(&uart->ring.uart);
+    uart_leave(uart, U16550_OK);
+    *value = found;
+    return U16550_OK;
+}
+
+int u16550_isr(struct u16550 *uart, uint8_t *value)
+{
+    uint8_t found;
+    int status = uart_if(value == NULL, U16550_NULL_POINTER);
+    if (status == U16550_OK)
+        status = uart_enter(uart);
+    if (status != U16550_OK)
+        return status;
+    found = uart_isr(&uart->ring.uart);
+    uart_leave(uart, U16550_OK);
+    *value = found;
+    return U16550_OK;
+}
+
+int u16550_lcr(struct u16550 *uart, uint8_t *value)
+{
+    uint8_t found;
+    int status = uart_if(value == NULL, U16550_NULL_POINTER);
+    if (status == U16550_OK)
+        status = uart_enter(uart);
+    if (status != U16550_OK)
+        return status;
+    found = uart_lcr(&uart->ring.uart);
+    uart_leave(uart, U16550_OK);
+    *value = found;
+    return U16550_OK;
+}
+
+int u16550_mcr(struct u16550 *uart, uint8_t *value)
+{
+    uint8_t found;
+    int status = uart_if(value == NULL, U16550_NULL_POINTER);
+    if (status == U16550_OK)
+        status = uart_enter(uart);
+    if (status != U16550_OK)
+        return status;
+    found = uart_mcr(&uart->ring.uart);
+    uart_leave(uart, U16550_OK);
+    *value = found;
+    return U16550_OK;
+}
+
+int u16550_lsr(struct u16550 *uart, uint8_t *value)
+{
+    uint8_t found;
+    int status = uart_if(value == NULL, U16550_NULL_POINTER);
+    if (status == U16550_OK)
+        status = uart_enter(uart);
+    if (status != U16550_OK)
+        return status;
+    found = uart_lsr(&uart->ring.uart);
+    uart_leave(uart, U16550_OK);
+    *value = found;
+    return U16550_OK;
+}
+
+int u16550_msr(struct u16550 *uart, uint8_t *value)
+{
+    uint8_t found;
+    int status = uart_if(value == NULL, U16550_NULL_POINTER);
+    if (status == U16550_OK)
+        status = uart_enter(uart);
+    if (status != U16550_OK)
+        return status;
+    found = uart_msr(&uart->ring.uart);
+    uart_leave(uart, U16550_OK);
+    *value = found;
+    return U16550_OK;
+}
+
+int u16550_spr(struct u16550 *uart, uint8_t *value)
+{
+    uint8_t found;
+    int status = uart_if(value == NULL, U16550_NULL_POINTER);
+    if (status == U16550_OK)
+        status = uart_enter(uart);
+    if (status != U16550_OK)
+        return status;
+    found = uart_spr(&uart->ring.uart);
+    uart_leave(uart, U16550_OK);
+    *value = found;
+    return U16550_OK;
+}
+
+int u16550_peek_modem(struct u16550 *uart, uint8_t *msr)
+{
+    uint8_t found;
+    int status = uart_if(msr == NULL, U16550_NULL_POINTER);
+    if (status == U16550_OK)
+        status = uart_enter(uart);
+    if (status != U16550_OK)
+        return status;
+    found = uart_peek_modem(&uart->ring.uart);
+    uart_leave(uart, U16550_OK);
+    *msr = found;
+    return U16550_OK;
+}
+
+int u16550_enable_interrupts(struct u16550 *uart, uint8_t interrupts)
+{
+    int status = uart_enter(uart);
+    if (status != U16550_OK)
+        return status;
+    uart_enable_interrupts(&uart->ring.uart, interrupts);
+    return uart_leave(uart, U16550_OK);
+}
+
+int u16550_disable_interrupts(struct u16550 *uart, uint8_t interrupts)
+{
+    int status = uart_enter(uart);
+    if (status != U16550_OK)
+        return status;
+    uart_disable_interrupts(&uart->ring.uart, interrupts);
+    return uart_leave(uart, U16550_OK);
+}
+
+int u16550_retrigger_interrupts(struct u16550 *uart)
+{
+    int status = uart_enter(uart);
+    if (status != U16550_OK)
+        return status;
+    uart_retrigger_interrupts(&uart->ring.uart);
+    return uart_leave(uart, U16550_OK);
+}
+
+int u16550_config_register_dump(struct u16550 *uart, struct u16550_dump *dump)
+{
+    struct u16550_dump found;
+    int status = uart_if(dump == NULL, U16550_NULL_POINTER);
+    if (status == U16550_OK)
+        status = uart_enter(uart);
+    if (status != U16550_OK)
+        return status;
+    found = uart_config_register_dump(&uart->ring.uart);
+    uart_leave(uart, U16550_OK);
+    *dump = found;
+    return U16550_OK;
+}
+
+int u16550_ring_transmit_len(struct u16550 *uart, size_t *len)
+{
+    size_t found;
+    int status = UART_USABLE(len, size);
+    if (status == U16550_OK)
+        status = uart_enter_rings(uart);
+    if (status != U16550_OK)
+        return status;
+    found = uart_ring_transmit_len(&uart->ring);
+    uart_leave(uart, U16550_OK);
+    *len = found;
+    return U16550_OK;
+}
+
+int u16550_ring_receive_len(struct u16550 *uart, size_t *len)
+{
+    size_t found;
+    int status = UART_USABLE(len, size);
+    if (status == U16550_OK)
+        status = uart_enter_rings(uart);
+    if (status != U16550_OK)
+        return status;
+    found = uart_ring_receive_len(&uart->ring);
+    uart_leave(uart, U16550_OK);
+    *len = found;
+    return U16550_OK;
+}
+
+int u16550_ring_is_paused(struct u16550 *uart, uint8_t *paused)
+{
+    uint8_t found;
+    int status = uart_if(paused == NULL, U16550_NULL_POINTER);
+    if (status == U16550_OK)
+        status = uart_enter_rings(uart);
+    if (status != U16550_OK)
+        return status;
+    found = uart_ring_is_paused(&uart->ring);
+    uart_leave(uart, U16550_OK);
+    *paused = found;
+    return U16550_OK;
+}
+
+int u16550_ring_queue(struct u16550 *uart, const uint8_t *buffer, size_t len, size_t *count)
+{
+    size_t found;
+    int status = UART_USABLE(count, size);
+    if (status == U16550_OK)
+        status = uart_enter_rings(uart);
+    if (status != U16550_OK)
+        return status;
+    status = uart_array(buffer, len, 1, 1);
+    if (status != U16550_OK)
+        return uart_leave(uart, status);
+    found = uart_ring_queue(&uart->ring, buffer, len);
+    uart_leave(uart, U16550_OK);
+    *count = found;
+    return U16550_OK;
+}
+
+int u16550_ring_transmit_room(struct u16550 *uart, size_t *room)
+{
+    size_t found;
+    int status = UART_USABLE(room, size);
+    if (status == U16550_OK)
+        status = uart_enter_rings(uart);
+    if (status != U16550_OK)
+        return status;
+    found = uart_ring_transmit_room(&uart->ring);
+    uart_leave(uart, U16550_OK);
+    *room = found;
+    return U16550_OK;
+}
+
+int u16550_ring_hold_transmit(struct u16550 *uart)
+{
+    int status = uart_enter_rings(uart);
+    if (status != U16550_OK)
+        return status;
+    uart_ring_hold_transmit(&uart->ring);
+    return uart_leave(uart, U16550_OK);
+}
+
+int u16550_ring_release_transmit(struct u16550 *uart)
+{
+    int status = uart_enter_rings(uart);
+    if (status != U16550_OK)
+        return status;
+    uart_ring_release_transmit(&uart->ring);
+    return uart_leave(uart, U16550_OK);
+}
+
+int u16550_ring_is_held(struct u16550 *uart, uint8_t *held)
+{
+    uint8_t found;
+    int status = uart_if(held == NULL, U16550_NULL_POINTER);
+    if (status == U16550_OK)
+        status = uart_enter_rings(uart);
+    if (status != U16550_OK)
+        return status;
+    found = uart_ring_is_held(&uart->ring);
+    uart_leave(uart, U16550_OK);
+    *held = found;
+    return U16550_OK;
+}
+
+int u16550_ring_queue_urgent(struct u16550 *uart, uint8_t byte, struct u16550_urgent *replaced)
+{
+    struct u16550_urgent found;
+    int status = uart_if(replaced == NULL, U16550_NULL_POINTER);
+    if (status == U16550_OK)
+        status = uart_enter_rings(uart);
+    if (status != U16550_OK)
+        return status;
+    found = uart_encode_urgent(uart_ring_queue_urgent(&uart->ring, byte));
+    uart_leave(uart, U16550_OK);
+    *replaced = found;
+    return U16550_OK;
+}
+
+int u16550_ring_urgent(struct u16550 *uart, struct u16550_urgent *urgent)
+{
+    struct u16550_urgent found;
+    int status = uart_if(urgent == NULL, U16550_NULL_POINTER);
+    if (status == U16550_OK)
+        status = uart_enter_rings(uart);
+    if (status != U16550_OK)
+        return status;
+    found = uart_encode_urgent(uart_ring_urgent(&uart->ring));
+    uart_leave(uart, U16550_OK);
+    *urgent = found;
+    return U16550_OK;
+}
+
+int u16550_ring_clear_transmit(struct u16550 *uart, size_t *count)
+{
+    size_t found;
+    int status = UART_USABLE(count, size);
+    if (status == U16550_OK)
+        status = uart_enter_rings(uart);
+    if (status != U16550_OK)
+        return status;
+    found = uart_ring_clear_transmit(&uart->ring);
+    uart_leave(uart, U16550_OK);
+    *count = found;
+    return U16550_OK;
+}
+
+int u16550_ring_clear_receive(struct u16550 *uart, size_t *count)
+{
+    size_t found;
+    int status = UART_USABLE(count, size);
+    if (status == U16550_OK)
+        status = uart_enter_rings(uart);
+    if (status != U16550_OK)
+        return status;
+    found = uart_ring_clear_receive(&uart->ring);
+    uart_leave(uart, U16550_OK);
+    *count = found;
+    return U16550_OK;
+}
+
+int u16550_ring_set_low_mark(struct u16550 *uart, size_t mark)
+{
+    int status = uart_enter_rings(uart);
+    if (status != U16550_OK)
+        return status;
+    uart_ring_set_low_mark(&uart->ring, mark);
+    return uart_leave(uart, U16550_OK);
+}
+
+int u16550_ring_take_low(struct u16550 *uart, uint8_t *low)
+{
+    uint8_t found;
+    int status = uart_if(low == NULL, U16550_NULL_POINTER);
+    if (status == U16550_OK)
+        status = uart_enter_rings(uart);
+    if (status != U16550_OK)
+        return status;
+    found = uart_ring_take_low(&uart->ring);
+    uart_leave(uart, U16550_OK);
+    *low = found;
+    return U16550_OK;
+}
+
+int u16550_ring_take(struct u16550 *uart, uint8_t *buffer, size_t len, size_t *count)
+{
+    size_t found;
+    int status = UART_USABLE(count, size);
+    if (status == U16550_OK)
+        status = uart_enter_rings(uart);
+    if (status != U16550_OK)
+        return status;
+    status = uart_array(buffer, len, 1, 1);
+    if (status != U16550_OK)
+        return uart_leave(uart, status);
+    found = uart_ring_take(&uart->ring, buffer, len);
+    uart_leave(uart, U16550_OK);
+    *count = found;
+    return U16550_OK;
+}
+
+int u16550_ring_adjust_rts(struct u16550 *uart, size_t hold, size_t release)
+{
+    struct uart_receive_marks marks;
+    int status = uart_enter_rings(uart);
+    if (status != U16550_OK)
+        return status;
+    marks.hold = hold;
+    marks.release = release;
+    uart_ring_adjust_rts(&uart->ring, marks);
+    return uart_leave(uart, U16550_OK);
+}
+
+int u16550_ring_resume_transmit(struct u16550 *uart)
+{
+    int status = uart_enter_rings(uart);
+    if (status != U16550_OK)
+        return status;
+    uart_ring_resume_transmit(&uart->ring);
+    return uart_leave(uart, U16550_OK);
+}
+
+int u16550_ring_handle(struct u16550 *uart, size_t limit, struct u16550_handled *handled)
+{
+    struct u16550_handled found;
+    int status = UART_USABLE(handled, handled);
+    if (status == U16550_OK)
+        status = uart_enter_rings(uart);
+    if (status != U16550_OK)
+        return status;
+    found = uart_encode_handled(uart_ring_handle(&uart->ring, limit));
+    uart_leave(uart, U16550_OK);
+    *handled = found;
+    return U16550_OK;
+}
+
+int u16550_ring_try_handle(struct u16550 *uart, size_t limit, uint32_t rounds,
+    struct u16550_handled *handled)
+{
+    struct uart_handled_or_stuck_error outcome;
+    int status = UART_USABLE(handled, handled);
+    if (status == U16550_OK)
+        status = uart_enter_rings(uart);
+    if (status != U16550_OK)
+        return status;
+    outcome = uart_ring_try_handle(&uart->ring, limit, rounds);
+    status = uart_leave(uart, uart_status_of_stuck(outcome.error));
+    if (status == U16550_OK)
+        *handled = uart_encode_handled(outcome.value);
+    return status;
+}
+
+int u16550_ring_restart(struct u16550 *uart, uint8_t interrupts)
+{
+    int status = uart_enter_rings(uart);
+    if (status != U16550_OK)
+        return status;
+    uart_ring_restart(&uart->ring, interrupts);
+    return uart_leave(uart, U16550_OK);
+}
+
+int u16550_ring_retrigger(struct u16550 *uart)
+{
+    int status = uart_enter_rings(uart);
+    if (status != U16550_OK)
+        return status;
+    uart_ring_retrigger(&uart->ring);
+    return uart_leave(uart, U16550_OK);
+}
+
+int u16550_ring_service(struct u16550 *uart, size_t *count)
+{
+    size_t found;
+    int status = UART_USABLE(count, size);
+    if (status == U16550_OK)
+        status = uart_enter_rings(uart);
+    if (status != U16550_OK)
+        return status;
+    found = uart_ring_service(&uart->ring);
+    uart_leave(uart, U16550_OK);
+    *count = found;
+    return U16550_OK;
+}
+
+int u16550_ring_take_line(struct u16550 *uart, uint8_t *lsr)
+{
+    uint8_t found;
+    int status = uart_if(lsr == NULL, U16550_NULL_POINTER);
+    if (status == U16550_OK)
+        status = uart_enter_rings(uart);
+    if (status != U16550_OK)
+        return status;
+    found = uart_ring_take_line(&uart->ring);
+    uart_leave(uart, U16550_OK);
+    *lsr = found;
+    return U16550_OK;
+}
+
+int u16550_ring_take_modem(struct u16550 *uart, uint8_t *msr)
+{
+    uint8_t found;
+    int status = uart_if(msr == NULL, U16550_NULL_POINTER);
+    if (status == U16550_OK)
+        status = uart_enter_rings(uart);
+    if (status != U16550_OK)
+        return status;
+    found = uart_ring_take_modem(&uart->ring);
+    uart_leave(uart, U16550_OK);
+    *msr = found;
+    return U16550_OK;
+}
+
+int u16550_ring_config_register_dump(struct u16550 *uart, struct u16550_dump *dump)
+{
+    struct u16550_dump found;
+    int status = uart_if(dump == NULL, U16550_NULL_POINTER);
+    if (status == U16550_OK)
+        status = uart_enter_rings(uart);
+    if (status != U16550_OK)
+        return status;
+    found = uart_ring_config_register_dump(&uart->ring);
+    uart_leave(uart, U16550_OK);
+    *dump = found;
+    return U16550_OK;
+}
+
+int u16550_test_loopback(struct u16550 *uart, struct u16550_loopback_failure *failure)
+{
+    struct uart_loopback_error error;
+    int status = uart_enter(uart);
+    if (status != U16550_OK)
+        return status;
+    error = uart_test_loopback(&uart->ring.uart);
+    status = uart_status_of_loopback(&error);
+    if (status != U16550_OK && failure != NULL)
+        uart_encode_failure(&error, failure);
+    return uart_leave(uart, status);
+}
+
+int u16550_check_configured(struct u16550 *uart, uint8_t outputs,
+    struct u16550_difference *difference)
+{
+    struct uart_configuration_error error;
+    struct u16550_difference shown;
+    int status = uart_enter(uart);
+    if (status != U16550_OK)
+        return status;
+    status = UART_ALIGNED(difference, difference);
+    if (status != U16550_OK)
+        return uart_leave(uart, status);
+    error = uart_check_configured(&uart->ring.uart, outputs);
+    status = uart_encode_difference(&error, &shown);
+    if (status != U16550_OK && difference != NULL)
+        *difference = shown;
+    return uart_leave(uart, status);
+}
+
+int u16550_dll_dlm(struct u16550 *uart, uint8_t *dll, uint8_t *dlm)
+{
+    struct uart_pair_of_u8 latch;
+    int status = dll == NULL || dlm == NULL ? U16550_NULL_POINTER : uart_enter(uart);
+    if (status != U16550_OK)
+        return status;
+    latch = uart_dll_dlm(&uart->ring.uart);
+    status = uart_leave(uart, U16550_OK);
+    if (status == U16550_OK) {
+        *dll = latch.first;
+        *dlm = latch.second;
+    }
+    return status;
+}
+
+int u16550_attach(struct u16550 *uart, uint8_t *dll, uint8_t *dlm)
+{
+    struct uart_pair_of_u8_or_attach_error taken;
+    int status = dll == NULL || dlm == NULL ? U16550_NULL_POINTER : uart_enter(uart);
+    if (status != U16550_OK)
+        return status;
+    taken = uart_attach(&uart->ring.uart);
+    status = uart_leave(uart, uart_status_of_attach(taken.error));
+    if (status == U16550_OK) {
+        *dll = taken.value.first;
+        *dlm = taken.value.second;
+    }
+    return status;
+}
+
+const char *u16550_text(int status)
+{
+    switch (status) {
+    case 0:
+        return "no error";
+    case -1:
+        return "a pointer is null";
+    case -2:
+        return "a pointer is not aligned";
+    case -3:
+        return "there is no driver in this memory";
+    case -4:
+        return "another call over this driver is not done";
+    case -5:
+        return "a length is larger than any array";
+    case -6:
+        return "a number stands for nothing";
+    case -7:
+        return "no divisor can be computed for the configuration";
+    case -8:
+        return "the spin limit is 0";
+    case -9:
+        return "the text is not UTF-8";
+    case -10:
+        return "the driver has no rings";
+    case -11:
+        return "the driver has rings already";
+    case 10:
+        return "the registers do not fit behind the base address";
+    case 11:
+        return "the stride is not a power of two";
+    case 12:
+        return "a register has 8, 16 or 32 bits";
+    case 13:
+        return "the registers overlap: the stride is less than their width";
+    case 14:
+        return "the base address is not aligned for the registers";
+    case 20:
+        return "there is no device";
+    case 21:
+        return "no whole divisor gives the baud rate";
+    case 22:
+        return "the divisor for the baud rate does not fit";
+    case 23:
+        return "the transmitter did not become empty";
+    case 30:
+        return "loopback: the device took no byte";
+    case 31:
+        return "loopback: the remote is not clear to send";
+    case 32:
+        return "loopback: another byte came back";
+    case 33:
+        return "loopback: another message came back";
+    case 34:
+        return "loopback: the device did not respond in time";
+    case 40:
+        return "no remote is connected: DSR is clear";
+    case 41:
+        return "no remote is connected: CD is clear";
+    case 42:
+        return "the remote is not clear to send";
+    case 50:
+        return "the transmitter has no room";
+    case 51:
+        return "nothing is sent, because CTS is clear";
+    case 60:
+        return "no byte was received";
+    case 70:
+        return "a wait came to the spin limit";
+    case 80:
+        return "the divisor gives no whole baud rate";
+    case 90:
+        return "a ring has room for 1 to 4096 bytes";
+    case 91:
+        return "the memory is too small for the rings";
+    case 92:
+        return "the chip shows an unknown interrupt for ever";
+    case 93:
+        return "an interrupt does not go away";
+    case 100:
+        return "frame: no whole divisor gives the baud rate";
+    case 101:
+        return "frame: the divisor for the baud rate does not fit";
+    case 102:
+        return "frame: the transmitter did not become empty";
+    case 110:
+        return "the nearest divisor is not near enough";
+    case 111:
+        return "the nearest divisor does not fit";
+    case 120:
+        return "attach: the divisor latch was left open";
+    case 121:
+        return "attach: the chip was left in loopback";
+    case 122:
+        return "attach: the port has no divisor";
+    case 130:
+        return "the FIFOs are off";
+    case 140:
+        return "configured: there is no divisor for the baud rate";
+    case 141:
+        return "configured: LCR does not show what was written";
+    case 142:
+        return "configured: MCR does not show what was written";
+    case 143:
+        return "configured: IER does not show what was written";
+    case 144:
+        return "configured: the divisor latch has another divisor";
+    case 145:
+        return "configured: the FIFOs are not as the driver takes them to be";
+    default:
+        return "no known status";
+    }
+}

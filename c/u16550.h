@@ -1,0 +1,1001 @@
+/*
+ * u16550.h - a driver for serial chips of the 16550 family, for kernels and firmware.
+ *
+ * Made by tools/c/emit from the code that is proved, and from the header of the library that is made of Rust. Do not edit.
+ *
+ * This is u16550.c and u16550.h alone: C99 that needs stddef.h, stdint.h and stdbool.h, and nothing else. It allocates nothing, has
+ * no variables and calls no function but those that it is given. Compile u16550.c as the rest of the program is compiled.
+ *
+ * The device is reached by two functions of the caller, and the driver is in memory of the caller.
+ *
+ * 'Proved' says which accesses a call makes and what it leaves, for every device, in the words of the definitions. It is proved of the
+ * code that this is made from, which the C is compared with.
+ *
+ * Every function that returns an int returns U16550_OK, or a number of the enums below: a negative one if the call was a
+ * misuse, which made no access and changed nothing, or a positive one, which is the error of the call. What a call reports
+ * through a pointer is written only if it returns U16550_OK, unless the function says otherwise.
+ *
+ * A pointer must point to what its type says, or be null. Null is refused, unless the function says otherwise. An array of
+ * length 0 may be null. Arrays and structs of one call must not overlap, and nobody else changes them until the call has
+ * returned.
+ */
+#ifndef U16550_H
+#define U16550_H
+
+/* A kernel without these headers defines U16550_HAS_TYPES, and has bool, size_t, offsetof, uintptr_t and uint8_t to uint64_t with
+ * their limits itself. */
+#ifndef U16550_HAS_TYPES
+#include <stdbool.h>
+#include <stddef.h>
+#include <stdint.h>
+#endif
+
+/* The library that is made of Rust has a calling convention. This one has that of the program, whatever it is. */
+#ifndef U16550_CALL
+#define U16550_CALL
+#endif
+
+#if defined(__cplusplus)
+extern "C" {
+#endif
+
+enum u16550_status { U16550_OK = 0 };
+
+/* The call was a misuse. It made no access and changed nothing. */
+enum u16550_misuse {
+    U16550_NULL_POINTER = -1,
+    U16550_MISALIGNED = -2,
+    U16550_NOT_MADE = -3,         /* there is no driver in this memory */
+    U16550_BUSY = -4,             /* a call over this driver is not done: the caller is a callback or an interrupt handler */
+    U16550_BAD_LENGTH = -5,       /* no array is so long: it is larger than half of all memory, or holds the last address */
+    U16550_BAD_CODE = -6,         /* a number in a configuration or a state stands for nothing */
+    U16550_NOT_COMPUTABLE = -7,   /* frequency or baud rate 0, or a prescaler division factor above 15 */
+    U16550_ZERO_LIMIT = -8,       /* a spin limit of 0 */
+    U16550_NOT_UTF8 = -9,
+    U16550_NO_RINGS = -10,
+    U16550_HAS_RINGS = -11
+};
+
+/* Why the registers cannot be there. */
+enum u16550_address_error {
+    U16550_BAD_BASE = 10,         /* the last register is above the last address or port, or the base is 0 in memory */
+    U16550_BAD_STRIDE = 11,       /* the stride is no power of two */
+    U16550_BAD_WIDTH = 12,        /* a register has not 8, 16 or 32 bits */
+    U16550_STRIDE_TOO_SMALL = 13, /* the registers would overlap: the stride is less than their width */
+    U16550_MISALIGNED_BASE = 14   /* the base is no multiple of the width */
+};
+
+/* Why an initialisation failed. */
+enum u16550_init_error {
+    U16550_INIT_DEVICE_NOT_PRESENT = 20,
+    U16550_INIT_NON_INTEGER_DIVISOR = 21, /* no whole divisor gives the baud rate; no access was made */
+    U16550_INIT_DIVISOR_OUT_OF_RANGE = 22, /* it is above 65535; no access was made */
+    U16550_INIT_STALLED = 23      /* the transmitter did not become empty within the spin limit */
+};
+
+/* Why a loopback test failed. */
+enum u16550_loopback_error {
+    U16550_LOOPBACK_NO_CAPACITY = 30, /* the device took no byte */
+    U16550_LOOPBACK_NOT_CLEAR_TO_SEND = 31, /* no call returns this */
+    U16550_LOOPBACK_UNEXPECTED_BYTE = 32,
+    U16550_LOOPBACK_UNEXPECTED_MSG = 33,
+    U16550_LOOPBACK_STALLED = 34
+};
+
+/* Why the remote seems not to be connected. */
+enum u16550_remote_error {
+    U16550_REMOTE_NO_DSR = 40,
+    U16550_REMOTE_NO_CD = 41,     /* no call returns this */
+    U16550_REMOTE_NOT_CLEAR_TO_SEND = 42
+};
+
+/* Why no byte can be sent at the moment. */
+enum u16550_send_error {
+    U16550_SEND_NO_CAPACITY = 50,
+    U16550_SEND_NOT_CLEAR_TO_SEND = 51 /* CTS is clear, and the configuration checks it */
+};
+
+enum u16550_receive_error { U16550_RECEIVE_NO_DATA = 60 };
+
+enum u16550_stalled_error { U16550_STALLED = 70 }; /* a wait came to the spin limit */
+
+enum u16550_baud_rate_error { U16550_NON_INTEGER_BAUD_RATE = 80 }; /* the divisor is 0, or gives no whole baud rate */
+
+/* Why there are no rings. */
+enum u16550_ring_error {
+    U16550_RING_BAD_CAPACITY = 90, /* a capacity is 0 or more than U16550_MAX_CAPACITY */
+    U16550_RING_OUT_OF_MEMORY = 91 /* the memory is smaller than both capacities together */
+};
+
+/* Why a chip is stuck. */
+enum u16550_stuck_error {
+    U16550_RING_STUCK_UNKNOWN = 92, /* ISR shows an interrupt that has no name */
+    U16550_RING_STUCK_PENDING = 93 /* ISR shows an interrupt that was served and does not go away */
+};
+
+/* Why no frame was set. */
+enum u16550_frame_error {
+    U16550_FRAME_NON_INTEGER_DIVISOR = 100, /* no whole divisor gives the baud rate; no access was made */
+    U16550_FRAME_DIVISOR_OUT_OF_RANGE = 101, /* it is above 65535; no access was made */
+    U16550_FRAME_STALLED = 102    /* the transmitter did not become empty within the spin limit; nothing was written */
+};
+
+/* Why the nearest divisor for a baud rate cannot be used. */
+enum u16550_nearest_error {
+    U16550_NEAREST_TOO_FAR = 110, /* its baud rate differs by more than so many thousandths */
+    U16550_NEAREST_OUT_OF_RANGE = 111 /* it is above 65535, or the frequency at which it is exact is above 32 bits */
+};
+
+/* Why a port could not be taken as it is. */
+enum u16550_attach_error {
+    U16550_ATTACH_DIVISOR_LATCH_OPEN = 120, /* DLAB is set */
+    U16550_ATTACH_LOOPBACK = 121,
+    U16550_ATTACH_NO_DIVISOR = 122 /* the divisor latch reads as 0: no port is set up there, or there is none */
+};
+
+enum u16550_fifos_error { U16550_FIFOS_OFF = 130 }; /* the FIFOs are off, so they have no trigger level */
+
+/* What a chip does not show of what was written to it. The first difference is told, in this order. */
+enum u16550_configuration_error {
+    U16550_CONFIGURATION_NO_DIVISOR = 140, /* the driver's configuration has no divisor; no access was made */
+    U16550_CONFIGURATION_LINE_CONTROL = 141, /* LCR shows another frame, or DLAB was not set or not cleared */
+    U16550_CONFIGURATION_MODEM_CONTROL = 142,
+    U16550_CONFIGURATION_INTERRUPTS = 143,
+    U16550_CONFIGURATION_DIVISOR = 144,
+    U16550_CONFIGURATION_FIFOS = 145 /* ISR shows otherwise than u16550_fifo_enabled whether they are on */
+};
+
+/* Returns a text for what a function returned, for a log. Never null. */
+const char *u16550_text(int status);
+
+/* --------------------------------------------------------------- the device and the memory of a driver */
+
+/*
+ * How the device is reached. The functions get the context and an address: the offset of a register, 0 to 7, or after
+ * u16550_new_port a port, or after u16550_new_mmio an address of memory. They must return, and must not throw. If one of
+ * them calls a function over the same driver, that function returns U16550_BUSY.
+ */
+struct u16550;
+
+struct u16550_io {
+    void *context;
+    uint8_t (*read)(void *context, uintptr_t address);
+    void (*write)(void *context, uintptr_t address, uint8_t value);
+};
+
+enum u16550_parity {
+    U16550_PARITY_NONE = 0,
+    U16550_PARITY_ODD = 1,
+    U16550_PARITY_EVEN = 2,
+    U16550_PARITY_FORCED_1 = 3,
+    U16550_PARITY_FORCED_0 = 4
+};
+
+/* How a device is to be set up. Another number than these is refused by U16550_BAD_CODE. */
+struct u16550_config {
+    uint32_t frequency;                 /* of the clock, in hertz: usually 1843200 */
+    uint32_t baud_rate;
+    uint32_t prescaler_division_factor; /* 0 to 15; counts only with has_prescaler */
+    uint8_t has_prescaler;              /* 0 or 1 */
+    uint8_t interrupts;                 /* as in IER */
+    uint8_t fifo_trigger_level;         /* 0 for no FIFO, or 1, 4, 8, 14 */
+    uint8_t data_bits;                  /* 5 to 8 */
+    uint8_t extra_stop_bits;            /* 0 or 1 */
+    uint8_t parity;                     /* an enum u16550_parity */
+    uint8_t check_cts_before_sending;   /* 0 or 1 */
+};
+
+/* What a driver keeps from call to call. */
+struct u16550_state {
+    uint64_t spin_limit;                /* how many unsuccessful polls in a row a wait makes; not 0 */
+    struct u16550_config config;
+    uint8_t fifo_enabled;               /* 0 or 1 */
+    uint8_t saved_lsr;                  /* errors that reads of LSR cleared in the chip, and that were not reported yet */
+    uint8_t saved_msr;                  /* the same for changes of the modem lines */
+};
+
+/* All registers at one time. */
+struct u16550_dump {
+    uint8_t ier, isr, lcr, mcr, lsr, msr, spr, dll, dlm;
+};
+
+/* When an initialisation waits until the transmitter is empty. */
+enum u16550_transmitter_wait {
+    U16550_WAIT_FIRST = 0,        /* before divisor and frame are written: no character is broken that is going out */
+    U16550_WAIT_LAST = 1,         /* after everything but the interrupts is written, as u16550_init does */
+    U16550_WAIT_NEVER = 2
+};
+
+/* What u16550_init_with does beside writing the configuration. u16550_init does { 1, U16550_WAIT_LAST, 0x0b }. */
+struct u16550_setup {
+    uint8_t checks_presence;            /* 1: the scratch register is tested first; 0 for a chip without one */
+    uint8_t wait;                       /* an enum u16550_transmitter_wait */
+    uint8_t outputs;                    /* bits of MCR that are set, others are clear; loopback is left out */
+};
+
+/* What becomes of the FIFOs of a port that is left. */
+enum u16550_fifo_action {
+    U16550_FIFOS_KEEP = 0,
+    U16550_FIFOS_RESET = 1,       /* they are emptied, and stay on if they are on */
+    U16550_FIFOS_DISABLE = 2      /* they are emptied and turned off */
+};
+
+/* What came back in a loopback test. What does not belong to the error is 0. */
+struct u16550_loopback_failure {
+    uint8_t expected, actual;
+    uint8_t expected_msg[16], actual_msg[16];
+};
+
+/* What was expected of a register, and what it shows. For FIFOs 1 says that they are on. */
+struct u16550_difference { uint16_t expected, shown; };
+
+/*
+ * A received byte, and the line errors that LSR showed with it. Parity, framing and break are of this byte. An overrun tells that
+ * a character was lost: with the FIFO on right behind the 15th or the 16th character from this byte on, with the FIFO off before it.
+ */
+struct u16550_received {
+    uint8_t byte;                       /* 0 for a break */
+    uint8_t errors;                     /* as in LSR */
+};
+
+/* Why a call of u16550_ring_handle ended. */
+enum u16550_handle_end {
+    U16550_HANDLE_IDLE = 0,       /* ISR showed that no interrupt is pending */
+    U16550_HANDLE_UNKNOWN = 1,    /* ISR showed an interrupt that has no name; it was not served */
+    U16550_HANDLE_LIMIT = 2       /* as many interrupts as the limit were served */
+};
+
+/* What a call of u16550_ring_handle did. */
+struct u16550_handled {
+    size_t served;                      /* how many interrupts */
+    uint8_t end;                        /* an enum u16550_handle_end */
+};
+
+/* A port of an interrupt line that several ports share, and what u16550_line_handle did there. */
+struct u16550_line_port {
+    struct u16550 *uart;                /* a driver with rings; this alone is given */
+    struct u16550_handled handled;      /* all 0 if the chip is stuck */
+    int status;                         /* U16550_OK, or an enum u16550_stuck_error if the chip is stuck */
+    uint8_t enabled;                    /* the interrupts that were enabled, for the library */
+};
+
+/* The urgent byte of rings. */
+struct u16550_urgent {
+    uint8_t waits;                      /* whether there is one */
+    uint8_t byte;                       /* 0 if there is none */
+};
+
+/* Whether a chip is stuck. */
+struct u16550_stuck {
+    uint8_t is_stuck;
+    uint8_t isr;                        /* bits 3 to 0 of ISR, which showed why; 0 if it is not stuck */
+};
+
+/* What a driver keeps of its device: its functions, the first address, and how far apart the registers are. */
+struct u16550_device {
+    struct u16550_io io;
+    uintptr_t base;
+    uint8_t stride;
+};
+
+/* ---- what a driver keeps */
+
+struct u16550_core_maybe_u32 {
+    bool is_some;
+    uint32_t value;
+};
+
+/*
+ * The number of characters in the receiver FIFO at which a DATA_READY interrupt is raised.
+ *
+ * A high level needs fewer interrupts. A low level leaves more time to read before the FIFO
+ * overruns.
+ */
+enum u16550_core_fifo_trigger_level {
+    U16550_CORE_FIFO_TRIGGER_LEVEL_ONE = 0,
+    U16550_CORE_FIFO_TRIGGER_LEVEL_FOUR = 1,
+    U16550_CORE_FIFO_TRIGGER_LEVEL_EIGHT = 2,
+    U16550_CORE_FIFO_TRIGGER_LEVEL_FOURTEEN = 3
+};
+
+struct u16550_core_maybe_fifo_trigger_level {
+    bool is_some;
+    enum u16550_core_fifo_trigger_level value;
+};
+
+enum u16550_core_baud_rate_kind {
+    U16550_CORE_BAUD_RATE_BAUD115200 = 0,
+    U16550_CORE_BAUD_RATE_BAUD57600 = 1,
+    U16550_CORE_BAUD_RATE_BAUD38400 = 2,
+    U16550_CORE_BAUD_RATE_BAUD9600 = 3,
+    U16550_CORE_BAUD_RATE_BAUD4800 = 4,
+    U16550_CORE_BAUD_RATE_BAUD2400 = 5,
+    U16550_CORE_BAUD_RATE_BAUD1200 = 6,
+    U16550_CORE_BAUD_RATE_BAUD600 = 7,
+    U16550_CORE_BAUD_RATE_BAUD300 = 8,
+    U16550_CORE_BAUD_RATE_BAUD150 = 9,
+    U16550_CORE_BAUD_RATE_BAUD110 = 10,
+    U16550_CORE_BAUD_RATE_CUSTOM = 11
+};
+
+/*
+ * A baud rate, in bits per second.
+ *
+ * Baud rates are ordered by their number. If two have the same number, the one with a name comes
+ * before Custom. So Baud9600 and Custom(9600) are different values; from_integer returns
+ * the one with a name.
+ */
+struct u16550_core_baud_rate {
+    enum u16550_core_baud_rate_kind kind;
+    uint32_t custom;
+};
+
+/* The number of data bits of a character. */
+enum u16550_core_word_length {
+    U16550_CORE_WORD_LENGTH_FIVE_BITS = 0,
+    U16550_CORE_WORD_LENGTH_SIX_BITS = 1,
+    U16550_CORE_WORD_LENGTH_SEVEN_BITS = 2,
+    U16550_CORE_WORD_LENGTH_EIGHT_BITS = 3
+};
+
+/* The parity bit that follows the data bits of a character. */
+enum u16550_core_parity {
+    U16550_CORE_PARITY_DISABLED = 0,
+    U16550_CORE_PARITY_ODD = 1,
+    U16550_CORE_PARITY_EVEN = 2,
+    U16550_CORE_PARITY_FORCED1 = 3,
+    U16550_CORE_PARITY_FORCED0 = 4
+};
+
+/*
+ * The configuration of a device: clock and baud rate, the format of a character, FIFOs and
+ * interrupts.
+ *
+ * Pass it to Uart16550_init, which requires that it is computable (Config_is_computable).
+ * Start from Config_DEFAULT, and set what differs.
+ */
+struct u16550_core_config {
+    uint8_t interrupts;
+    uint32_t frequency;
+    struct u16550_core_maybe_u32 prescaler_division_factor;
+    struct u16550_core_maybe_fifo_trigger_level fifo_trigger_level;
+    struct u16550_core_baud_rate baud_rate;
+    enum u16550_core_word_length data_bits;
+    bool extra_stop_bits;
+    enum u16550_core_parity parity;
+    bool check_cts_before_sending;
+};
+
+/*
+ * A driver for one serial chip of the 16550 family, over any backend.
+ *
+ * Construct it with new_port, new_mmio or new_with_backend, and call init before any other
+ * call, or attach on a port that is set up already. test_loopback then tests whether the chip
+ * works, and check_connected whether a remote is ready.
+ *
+ * No call blocks forever. init, init_with, test_loopback, set_frame_when_idle,
+ * send_bytes_exact, receive_bytes_exact, and the calls read, write and flush of the
+ * traits in embedded_io poll LSR, and return an error after spin_limit
+ * unsuccessful polls in a row. The other calls do not wait.
+ *
+ * A read of LSR clears its error bits in the chip, and a read of MSR its change bits. The driver
+ * saves those that its own reads clear, and the next lsr or msr returns them. So a poll loses
+ * no error and no change. init and the loopback test discard some.
+ */
+struct u16550_core_driver {
+    struct u16550_device backend;
+    struct u16550_core_config config;
+    bool fifo_enabled;
+    uint8_t saved_lsr;
+    uint8_t saved_msr;
+    uint64_t spin_limit;
+};
+
+struct u16550_core_maybe_u8 {
+    bool is_some;
+    uint8_t value;
+};
+
+struct u16550_core_vec_u8 {
+    uint8_t *data;
+    size_t len;
+    size_t capacity;
+};
+
+/* Bytes in order, at most as many as there are cells. */
+struct u16550_core_byte_queue {
+    struct u16550_core_vec_u8 cells;
+    size_t front;
+    size_t len;
+};
+
+enum u16550_core_stuck_error_kind {
+    U16550_CORE_STUCK_ERROR_NONE = 0,
+    U16550_CORE_STUCK_ERROR_UNKNOWN = 1,
+    U16550_CORE_STUCK_ERROR_PENDING = 2
+};
+
+/* An interrupt, in the order in which a chip reports interrupts that are pending together. */
+enum u16550_core_interrupt_type {
+    U16550_CORE_INTERRUPT_TYPE_RECEIVER_LINE_STATUS = 0,
+    U16550_CORE_INTERRUPT_TYPE_RECEIVED_DATA_READY = 1,
+    U16550_CORE_INTERRUPT_TYPE_RECEPTION_TIMEOUT = 2,
+    U16550_CORE_INTERRUPT_TYPE_TRANSMITTER_HOLDING_REGISTER_EMPTY = 3,
+    U16550_CORE_INTERRUPT_TYPE_MODEM_STATUS = 4,
+    U16550_CORE_INTERRUPT_TYPE_DMA_RECEPTION_END_OF_TRANSFER = 5,
+    U16550_CORE_INTERRUPT_TYPE_DMA_TRANSMISSION_END_OF_TRANSFER = 6
+};
+
+/* Why a chip is stuck: what ISR still showed after as many rounds as the caller allows. */
+struct u16550_core_stuck_error {
+    enum u16550_core_stuck_error_kind kind;
+    uint8_t unknown;
+    enum u16550_core_interrupt_type pending;
+};
+
+struct u16550_core_maybe_stuck_error {
+    bool is_some;
+    struct u16550_core_stuck_error value;
+};
+
+/*
+ * A driver with a ring for bytes that are to be sent, and a ring for received bytes.
+ *
+ * Initialise the driver through inner_mut, with DATA_READY, RECEIVER_LINE_STATUS and
+ * MODEM_STATUS enabled and without THR_EMPTY, which the rings enable as long as there are
+ * bytes to send. Call handle or try_handle in the interrupt handler. Mask the interrupt during
+ * all other calls, since the handler must not run in the middle of one.
+ *
+ * No call waits, so none returns a stall.
+ */
+struct u16550_core_ring {
+    struct u16550_core_driver uart;
+    struct u16550_core_byte_queue transmit;
+    struct u16550_core_byte_queue receive;
+    uint8_t line;
+    uint8_t modem;
+    bool is_paused;
+    struct u16550_core_maybe_u8 urgent;
+    bool is_held;
+    size_t low_mark;
+    bool is_low;
+    uint32_t rounds;
+    struct u16550_core_maybe_stuck_error stuck;
+};
+
+/*
+ * The memory of a driver. What is in it is the library's: it is here so that a C compiler knows how much it is. It may be copied
+ * to another place between two calls, if only one of the copies is used from then on. One thread at a time may use a driver;
+ * different drivers are independent.
+ *
+ * Set it to zero before a first driver is made in it, unless it is static, and so zero from the start. What was left in it
+ * may look like a driver, or like a call that is not done.
+ */
+struct u16550 {
+    volatile uint32_t mark;
+    volatile uint32_t is_busy;
+    bool has_rings;
+    struct u16550_core_ring ring;
+};
+
+/* --------------------------------------------------------------- making a driver
+ *
+ * These make a driver in the memory, in place of one that is there, whose rings end. They make no access. If a call over the
+ * driver that is there is not done, they return U16550_BUSY. The driver has the default configuration and a spin limit of
+ * 1000000 polls.
+ */
+
+/* A driver whose functions get offsets. */
+int u16550_new(struct u16550 *uart, const struct u16550_io *io);
+
+/* A driver whose functions get ports, from base on. Refused by U16550_BAD_BASE if base + 7 is above 65535. */
+int u16550_new_port(struct u16550 *uart, const struct u16550_io *io, uint16_t base);
+
+/*
+ * A driver whose functions get addresses of memory, from base on and stride apart. Refused by U16550_BAD_STRIDE if stride
+ * is no power of two, else by U16550_BAD_BASE if base is 0 or base + 7 * stride is too large.
+ */
+int u16550_new_mmio(struct u16550 *uart, const struct u16550_io *io, uintptr_t base, uint8_t stride);
+
+/* A driver in this state, whose functions get offsets. */
+int u16550_from_state(struct u16550 *uart, const struct u16550_io *io, const struct u16550_state *state);
+
+/*
+ * Ends a driver: the memory is the caller's again, and so is that of its rings. If a call over the driver is not done, this
+ * returns U16550_BUSY, and the driver stays.
+ */
+int u16550_end(struct u16550 *uart);
+
+/* --------------------------------------------------------------- what a driver keeps; none of these makes an access */
+
+/* Writes the default: no interrupts, 1843200 Hz, 9600 baud, FIFO with trigger level 14, 8 data bits, 1 stop bit, no parity. */
+int u16550_default_config(struct u16550_config *config);
+
+/*
+ * Writes the configuration with the frequency at which the nearest divisor gives its baud rate exactly, if that differs from
+ * its frequency by at most so many thousandths. u16550_init and u16550_set_frame accept it, and write the nearest divisor. The
+ * line then has a rate that differs by as many thousandths at most. Receivers tolerate about 20, of both sides together.
+ * Returns an enum u16550_nearest_error if there is none. nearest may be config.
+ */
+int u16550_nearest(const struct u16550_config *config, uint32_t per_mille, struct u16550_config *nearest);
+
+int u16550_get_io(struct u16550 *uart, struct u16550_io *io);
+int u16550_set_io(struct u16550 *uart, const struct u16550_io *io);
+int u16550_get_config(struct u16550 *uart, struct u16550_config *config);
+int u16550_get_state(struct u16550 *uart, struct u16550_state *state);
+int u16550_fifo_enabled(struct u16550 *uart, uint8_t *enabled);
+int u16550_spin_limit(struct u16550 *uart, uint64_t *limit);
+/* Proved: no access, and this change to the fields. */
+int u16550_set_spin_limit(struct u16550 *uart, uint64_t limit);
+
+/* --------------------------------------------------------------- setting up */
+
+/* Whether a chip is there: its scratch register keeps two patterns. */
+/* Proved: the scratch register is read, tested with the patterns, and restored. */
+int u16550_check_present(struct u16550 *uart, uint8_t *present);
+
+/* Sets the device up. Returns an enum u16550_init_error if it cannot be. */
+/* Proved: the whole list, or the list up to the refusal, with the fields that each leaves. */
+int u16550_init(struct u16550 *uart, const struct u16550_config *config);
+
+/*
+ * Does the same otherwise: without the test of the scratch register, with the wait for the transmitter first or not at all,
+ * with other outputs. If the wait that comes first ends by U16550_INIT_STALLED, nothing was written but the scratch register.
+ */
+/*
+ * Proved: the configuration is stored, and the rest done in this order; or the list up to
+ * the refusal.
+ */
+int u16550_init_with(struct u16550 *uart, const struct u16550_config *config, const struct u16550_setup *setup);
+
+/*
+ * Tests the chip in loopback. Returns an enum u16550_loopback_error if it fails; *failure then has what came back. failure
+ * may be null.
+ */
+/* Proved: a first wait that reaches the limit, and nothing written; or the test. */
+int u16550_test_loopback(struct u16550 *uart, struct u16550_loopback_failure *failure);
+
+/*
+ * Whether the chip shows what was written to it: the frame, these outputs, which after u16550_init are 0x0b, the interrupts, the
+ * divisor, and whether the FIFOs are on. Call it after a call that sets the chip up, if the chip may ignore a write. Returns an
+ * enum u16550_configuration_error if a register differs; *difference then has both values. difference may be null. It reads the
+ * latch only if LCR shows DLAB, writes LCR back, and is without interrupts while it reads ISR.
+ */
+/*
+ * Proved: the registers show the configuration and these outputs, without loopback; or one
+ * does not; or the configuration has no divisor, and no access was made.
+ */
+int u16550_check_configured(struct u16550 *uart, uint8_t outputs, struct u16550_difference *difference);
+
+/* Whether a remote is there and ready to receive. Returns an enum u16550_remote_error if not. */
+/* Proved: one read of MSR, which shows the result. */
+int u16550_check_connected(struct u16550 *uart);
+
+/*
+ * Changes baud rate and frame to those of this configuration while the port runs: writes LCR, DLL, DLM and LCR, and nothing
+ * else. So FIFOs, outputs to the modem and interrupts stay as they are, and no byte is discarded; characters that are on the
+ * line may be cut, and a break ends. interrupts, fifo_trigger_level and check_cts_before_sending are not used. Returns an enum
+ * u16550_frame_error if the divisor cannot be had.
+ */
+/*
+ * Proved: what is set is stored, and written to the divisor latch and to LCR; or there is no
+ * divisor, and nothing was done.
+ */
+int u16550_set_frame(struct u16550 *uart, const struct u16550_config *config);
+
+/* Waits until all that was sent is on the line, within the spin limit, and then does the same. */
+/*
+ * Proved: what was sent is on the line, and then all is as in set_frame; or there is no
+ * divisor, and nothing was done; or the transmitter did not become empty, and nothing was
+ * written.
+ */
+int u16550_set_frame_when_idle(struct u16550 *uart, const struct u16550_config *config);
+
+/*
+ * Sets the trigger level of the receiver FIFO to 1, 4, 8 or 14 characters, without a reset: what is in the FIFOs stays. Returns
+ * U16550_FIFOS_OFF, without an access, if the FIFOs are off.
+ */
+/*
+ * Proved: with the FIFOs on, the level is stored and written to FCR; with them off, nothing
+ * is done.
+ */
+int u16550_set_trigger_level(struct u16550 *uart, uint8_t characters);
+
+/*
+ * Leaves the port so that the chip interrupts nobody: writes 0 to IER, then the outputs to MCR without loopback, and does with
+ * the FIFOs what an enum u16550_fifo_action says. Does not wait.
+ */
+/* Proved: all interrupts are disabled, and the outputs and FCR written. */
+int u16550_quiesce(struct u16550 *uart, uint8_t outputs, uint8_t fifos);
+
+/*
+ * Writes what a dump shows back to the chip, for example after it was without power: divisor and frame without DLAB, FCR, MCR
+ * without loopback, SPR, and IER in the end. Both FIFOs are emptied; if they were on, they get the configured trigger level.
+ */
+/*
+ * Proved: divisor and frame, the FIFOs, and the rest are written as they were read; the
+ * FIFOs are on as ISR shows.
+ */
+int u16550_restore(struct u16550 *uart, const struct u16550_dump *dump);
+
+/*
+ * Takes a port as it was set up, for example by firmware: finds out whether the FIFO is on, and gives the divisor, which is
+ * not 0. It reads LCR, MCR, the divisor latch, for which it sets DLAB and then writes LCR back, and ISR; nothing else is
+ * written. The read of ISR acknowledges a THR_EMPTY interrupt. The driver's configuration stays as it was, since nobody knows
+ * the chip's clock. Returns an enum u16550_attach_error if the port is not one to be taken. ISR was not read then, and the
+ * driver is as it was.
+ */
+/*
+ * Proved: the divisor is not 0, and the driver takes the FIFO to be as ISR shows; or the
+ * port was refused before ISR was read, and nothing changed.
+ */
+int u16550_attach(struct u16550 *uart, uint8_t *dll, uint8_t *dlm);
+
+/* --------------------------------------------------------------- outputs
+ *
+ * on is 0 or 1; another number is refused by U16550_BAD_CODE.
+ */
+
+/* Writes MCR with these bits, an enum u16550_mcr_bits, but never loopback. */
+/* Proved: these bits are written to MCR, without loopback. */
+int u16550_set_modem_control(struct u16550 *uart, uint8_t outputs);
+
+/* Asserts or clears one output, and leaves the others. Clears loopback. */
+/*
+ * Proved: set_rts, set_dtr: MCR is read, and written with this bit set or cleared, without
+ * loopback.
+ */
+int u16550_set_rts(struct u16550 *uart, uint8_t on);
+/*
+ * Proved: set_rts, set_dtr: MCR is read, and written with this bit set or cleared, without
+ * loopback.
+ */
+int u16550_set_dtr(struct u16550 *uart, uint8_t on);
+
+/* Begins or ends a break. */
+/* Proved: LCR is read, and written with the break set or cleared. */
+int u16550_set_break(struct u16550 *uart, uint8_t on);
+
+/* --------------------------------------------------------------- sending and receiving */
+
+/* These two and the next two do not wait. They return U16550_RECEIVE_NO_DATA or an enum u16550_send_error. */
+/* Proved: one look, with the result. */
+int u16550_ready_to_receive(struct u16550 *uart);
+/* Proved: a send check, with the result. */
+int u16550_ready_to_send(struct u16550 *uart);
+/* Proved: a hit with the byte, or a miss. */
+int u16550_try_receive_byte(struct u16550 *uart, uint8_t *byte);
+/* Proved: the send_bytes of one byte. */
+int u16550_try_send_byte(struct u16550 *uart, uint8_t byte);
+
+/* Receive what is there, or send one burst, without waiting. *count is how many bytes it was, perhaps 0. */
+/* Proved: receive_bytes into n slots: these bytes fill all slots, or a miss follows them. */
+int u16550_receive_bytes(struct u16550 *uart, uint8_t *buffer, size_t len, size_t *count);
+/*
+ * Proved: nothing if there are no bytes; else a check that fails, or one burst from the
+ * front.
+ */
+int u16550_send_bytes(struct u16550 *uart, const uint8_t *buffer, size_t len, size_t *count);
+
+/*
+ * The same as u16550_send_bytes for a chip whose transmitter FIFO has 16, 32, 64, 128 or 256 characters: one burst of that size.
+ * On a chip with fewer the bytes that do not fit are lost.
+ */
+/*
+ * Proved: nothing if there are no bytes; else a check that fails, or one burst from the
+ * front.
+ */
+int u16550_send_burst(struct u16550 *uart, const uint8_t *buffer, size_t len, uint16_t fifo_size, size_t *count);
+
+/*
+ * The same as u16550_try_receive_byte and u16550_receive_bytes, with the line errors of each byte. A chip shows these once: if
+ * an earlier call has looked at the first byte, its errors are missing here. The next u16550_lsr has all of them.
+ */
+/* Proved: a hit with the byte and its errors, or a miss. */
+int u16550_try_receive_with_errors(struct u16550 *uart, struct u16550_received *received);
+/* Proved: receive_with_errors into n slots: these fill all slots, or a miss follows them. */
+int u16550_receive_with_errors(struct u16550 *uart, struct u16550_received *received, size_t len, size_t *count);
+
+/*
+ * Receive or send all bytes, and wait for each. They return U16550_STALLED after as many unsuccessful polls in a row as the
+ * spin limit. *done is how many bytes were done, also after a stall. done may be null.
+ */
+/*
+ * Proved: receive_bytes_exact into n slots: all are filled, each after its own wait; or
+ * some, and then a wait reaches the limit.
+ */
+int u16550_receive_bytes_exact(struct u16550 *uart, uint8_t *buffer, size_t len, size_t *done);
+/*
+ * Proved: all bytes; or all before a rest, burst by burst, and then a wait that reaches the
+ * limit.
+ */
+int u16550_send_bytes_exact(struct u16550 *uart, const uint8_t *buffer, size_t len, size_t *done);
+
+/* As the traits of embedded-io: some bytes, and a wait for the first. They return U16550_STALLED as the last two. */
+int u16550_read(struct u16550 *uart, uint8_t *buffer, size_t len, size_t *count);
+int u16550_write(struct u16550 *uart, const uint8_t *buffer, size_t len, size_t *count);
+int u16550_flush(struct u16550 *uart);
+int u16550_read_ready(struct u16550 *uart, uint8_t *ready);
+int u16550_write_ready(struct u16550 *uart, uint8_t *ready);
+
+/* Whether the transmitter has sent everything: the FIFO and the byte on the line. Does not wait. */
+/* Proved: one read of LSR, which shows whether the transmitter is empty. */
+int u16550_is_idle(struct u16550 *uart, uint8_t *idle);
+
+/*
+ * Whether the chip is gone, as one that was unplugged: whether MCR shows 0xff, as most buses do where nobody answers. Then all that is
+ * received is 0xff, and all sends succeed. Reads MCR once, which changes nothing.
+ */
+/* Proved: MCR shows what a bus shows that nobody drives, all bits set, or not. */
+int u16550_is_gone(struct u16550 *uart, uint8_t *gone);
+
+/*
+ * Sends a text as terminals expect it: a line feed as carriage return and line feed, backspace and delete as backspace,
+ * space and backspace. The text is UTF-8, and needs no zero at its end. After U16550_STALLED *done is how many bytes were
+ * sent. done may be null.
+ */
+int u16550_write_text(struct u16550 *uart, const char *text, size_t len, size_t *done);
+
+/* The same for a text that need not be UTF-8. */
+int u16550_write_raw_text(struct u16550 *uart, const char *text, size_t len, size_t *done);
+
+/* --------------------------------------------------------------- registers */
+
+/* LSR and MSR are joined with what the driver saved of them, which is then forgotten. */
+int u16550_ier(struct u16550 *uart, uint8_t *value);
+int u16550_isr(struct u16550 *uart, uint8_t *value);
+int u16550_lcr(struct u16550 *uart, uint8_t *value);
+int u16550_mcr(struct u16550 *uart, uint8_t *value);
+/* Proved: one read. The result is joined with the saved bits, of which none are left. */
+int u16550_lsr(struct u16550 *uart, uint8_t *value);
+/* Proved: one read. The result is joined with the saved bits, of which none are left. */
+int u16550_msr(struct u16550 *uart, uint8_t *value);
+int u16550_spr(struct u16550 *uart, uint8_t *value);
+/* Proved: the accesses to the divisor latch, whatever LCR showed. */
+int u16550_dll_dlm(struct u16550 *uart, uint8_t *dll, uint8_t *dlm);
+
+/* MSR as it is now. The changes in it stay saved for the next u16550_msr. */
+int u16550_peek_modem(struct u16550 *uart, uint8_t *msr);
+
+/*
+ * Proved: enable_interrupts, disable_interrupts: IER is read; its new value, with these bits
+ * added or removed, is stored and written.
+ */
+int u16550_enable_interrupts(struct u16550 *uart, uint8_t interrupts);
+int u16550_disable_interrupts(struct u16550 *uart, uint8_t interrupts);
+
+/*
+ * Makes the interrupt line fall, and rise again if an interrupt is enabled and pending: reads IER, writes 0, and writes what it
+ * read. A controller that detects edges sees no new edge while the line stays high. Call this at the end of a handler that
+ * leaves before ISR has shown that none is pending, and after the interrupt was masked at a controller that forgets edges.
+ */
+/* Proved: IER is read, and written with 0 and then with what was read. */
+int u16550_retrigger_interrupts(struct u16550 *uart);
+
+/* Reads all registers. What the driver saved of LSR and MSR is in the dump, and stays saved. */
+int u16550_config_register_dump(struct u16550 *uart, struct u16550_dump *dump);
+
+/* The divisor of a dump, and the baud rate that it gives with the frequency and the prescaler of a configuration. */
+int u16550_dump_divisor(const struct u16550_dump *dump, uint16_t *divisor);
+int u16550_dump_baud_rate(const struct u16550_dump *dump, const struct u16550_config *config, uint32_t *baud_rate);
+
+/* Bits of registers. */
+enum u16550_ier_bits {
+    U16550_IER_DATA_READY = 0x01,
+    U16550_IER_THR_EMPTY = 0x02,
+    U16550_IER_RECEIVER_LINE_STATUS = 0x04,
+    U16550_IER_MODEM_STATUS = 0x08
+};
+enum u16550_mcr_bits {
+    U16550_MCR_DTR = 0x01,
+    U16550_MCR_RTS = 0x02,
+    U16550_MCR_OUT_1 = 0x04,
+    U16550_MCR_OUT_2_INT_ENABLE = 0x08, /* on a PC the interrupt line is connected only with this */
+    U16550_MCR_LOOP_BACK = 0x10
+};
+enum u16550_lsr_bits {
+    U16550_LSR_DATA_READY = 0x01,
+    U16550_LSR_OVERRUN_ERROR = 0x02,
+    U16550_LSR_PARITY_ERROR = 0x04,
+    U16550_LSR_FRAMING_ERROR = 0x08,
+    U16550_LSR_BREAK_INTERRUPT = 0x10,
+    U16550_LSR_THR_EMPTY = 0x20,
+    U16550_LSR_TRANSMITTER_EMPTY = 0x40,
+    U16550_LSR_FIFO_DATA_ERROR = 0x80
+};
+enum u16550_msr_bits {
+    U16550_MSR_DELTA_CTS = 0x01,
+    U16550_MSR_DELTA_DSR = 0x02,
+    U16550_MSR_TRAILING_EDGE_RI = 0x04,
+    U16550_MSR_DELTA_CD = 0x08,
+    U16550_MSR_CTS = 0x10,
+    U16550_MSR_DSR = 0x20,
+    U16550_MSR_RI = 0x40,
+    U16550_MSR_CD = 0x80
+};
+
+/* --------------------------------------------------------------- rings, for use with interrupts
+ *
+ * Rings keep bytes until the chip has room for them, and received bytes until they are taken. Initialise the driver with
+ * DATA_READY and RECEIVER_LINE_STATUS enabled, and call u16550_ring_try_handle in the interrupt handler. No ring call waits. All
+ * calls above work on a driver with rings; what they send and receive bypasses the rings.
+ *
+ * A handler that comes into the middle of another call gets U16550_BUSY, and comes again at once if the line stays high. So turn
+ * the processor's interrupts off during each call that does not wait. During one that waits they may stay on: the handler then
+ * masks the line at the interrupt controller on U16550_BUSY, and after the call the program unmasks it and calls
+ * u16550_retrigger_interrupts. examples/console.c is such a handler.
+ */
+
+#define U16550_MAX_CAPACITY 4096
+#define U16550_MAX_INTERRUPTS 8
+
+/*
+ * Gives a driver rings for so many bytes to be sent and so many received bytes, in this memory of size bytes. The memory is
+ * the rings' until u16550_ring_end or u16550_end, or until another driver is made in the place of this one. Refused by an
+ * enum u16550_ring_error.
+ */
+/* Proved: how many bytes a ring can be made for: 1 to 4096. */
+int u16550_ring_new(struct u16550 *uart, uint8_t *memory, size_t size, size_t tx_capacity, size_t rx_capacity);
+
+/* Ends the rings, with the bytes in them. The driver stays. */
+int u16550_ring_end(struct u16550 *uart);
+
+/* How many bytes wait to be sent, how many were received and not taken, and whether receiving is paused. */
+int u16550_ring_transmit_len(struct u16550 *uart, size_t *len);
+int u16550_ring_receive_len(struct u16550 *uart, size_t *len);
+int u16550_ring_is_paused(struct u16550 *uart, uint8_t *paused);
+
+/* Queues bytes to be sent, as many as there is room for. *count is how many. */
+/*
+ * Proved: bytes from the front of the input are added at the end of the transmit ring, as
+ * many as it has room for; if there are any, a pump follows.
+ */
+int u16550_ring_queue(struct u16550 *uart, const uint8_t *buffer, size_t len, size_t *count);
+
+/* How many more bytes can be queued. */
+int u16550_ring_transmit_room(struct u16550 *uart, size_t *room);
+
+/*
+ * Holds the bytes that are queued: what is in the chip goes out, and nothing more is handed over. The release starts sending
+ * again, and misses no interrupt that came meanwhile.
+ */
+/* Proved: the ring is held, and no access is made. */
+int u16550_ring_hold_transmit(struct u16550 *uart);
+/* Proved: the ring is no longer held, and sending resumes. */
+int u16550_ring_release_transmit(struct u16550 *uart);
+int u16550_ring_is_held(struct u16550 *uart, uint8_t *held);
+
+/*
+ * Sends a byte before all that wait, as XON and XOFF are, also during a hold. There is one place: a byte that still waits there is
+ * replaced, and *replaced is that byte. The second tells which byte still waits.
+ */
+/*
+ * Proved: the byte is the urgent one, in place of one that waited, which is returned; and a
+ * pump.
+ */
+int u16550_ring_queue_urgent(struct u16550 *uart, uint8_t byte, struct u16550_urgent *replaced);
+int u16550_ring_urgent(struct u16550 *uart, struct u16550_urgent *urgent);
+
+/*
+ * Drop the bytes that are queued, and those that were received and not taken. *count is how many. An urgent byte and what is in the
+ * chip stay.
+ */
+/* Proved: the transmit ring is emptied of so many bytes. */
+int u16550_ring_clear_transmit(struct u16550 *uart, size_t *count);
+/* Proved: the receive ring is emptied of so many bytes; if there are any, a pause ends. */
+int u16550_ring_clear_receive(struct u16550 *uart, size_t *count);
+
+/*
+ * The low mark, a number of queued bytes, is 0 at first. *low is whether their number fell from above the mark to the mark or
+ * below since the last call. Ask at the end of the handler, and wake who waits for room.
+ */
+/* Proved: set_low_mark. */
+int u16550_ring_set_low_mark(struct u16550 *uart, size_t mark);
+/* Proved: whether a fall to the low mark was noted, which is then forgotten. */
+int u16550_ring_take_low(struct u16550 *uart, uint8_t *low);
+
+/* Takes received bytes, as many as there are and as there is room for. *count is how many. */
+/*
+ * Proved: take into n slots returns these bytes: from the front of the receive ring, as many
+ * as there are slots; if there are any, a pause ends.
+ */
+int u16550_ring_take(struct u16550 *uart, uint8_t *buffer, size_t len, size_t *count);
+
+/*
+ * Holds the other end back by RTS, or lets it go on: RTS goes off if there is room for fewer received bytes than hold, and on if there
+ * is room for at least release. Between the two it stays as it is. The other end has to check CTS. Call it at the end of the handler,
+ * and after each u16550_ring_take and u16550_ring_clear_receive: while the other end is held back no byte arrives, so nothing calls
+ * the handler. docs/INTERRUPTS.md says which marks to choose; release is to be at most the capacity, or RTS never goes on again. MCR is
+ * read, and written if RTS is not so yet: the other outputs as they were, and loopback off.
+ */
+/* Proved: RTS is made as the room in the receive ring says. */
+int u16550_ring_adjust_rts(struct u16550 *uart, size_t hold, size_t release);
+
+/*
+ * Starts sending again if bytes wait with no interrupt to come: when CTS came back and the configuration checks it; and after each
+ * of these, which take the interrupt away: u16550_isr, u16550_config_register_dump, u16550_attach, u16550_disable_interrupts of
+ * U16550_IER_THR_EMPTY, u16550_quiesce, u16550_restore, u16550_test_loopback, u16550_init and u16550_init_with.
+ */
+/* Proved: if bytes wait, a pump. */
+int u16550_ring_resume_transmit(struct u16550 *uart);
+
+/*
+ * Serves interrupts until ISR shows that none is pending, but at most limit. Otherwise it makes the interrupt line fall and
+ * rise again, as u16550_ring_retrigger does. *handled says how many it served, and why it ended.
+ *
+ * Call it once in an interrupt handler, whether the controller detects levels or edges: the line was low at some time during
+ * the call, so what is pending afterwards makes a new edge. It does not wait, and ends on a chip that shows an interrupt for
+ * ever. But then the controller calls the handler for ever, unless somebody counts: u16550_ring_try_handle does.
+ */
+/*
+ * Proved: as many interrupts as are pending are served, but no more than the limit; those
+ * that may be left are triggered again.
+ */
+int u16550_ring_handle(struct u16550 *uart, size_t limit, struct u16550_handled *handled);
+
+/*
+ * Handles the interrupt as u16550_ring_handle does, and ends a storm. If so many rounds in a row have ended with another end
+ * than U16550_HANDLE_IDLE, and moved no byte between the rings and the chip, it reads ISR once more. If that still shows an
+ * interrupt, the chip is stuck: the call writes 0 to IER, and returns an enum u16550_stuck_error. While the chip is stuck, each
+ * further call writes 0 to IER again and returns the same, and the rings hand no byte to the chip. A limit of at least 6 keeps a
+ * chip that works from it: see docs/INTERRUPTS.md. 100 rounds are 3,200 interrupts without a pause, if the limit is 32.
+ */
+/* Proved: try_handle. */
+int u16550_ring_try_handle(struct u16550 *uart, size_t limit, uint32_t rounds, struct u16550_handled *handled);
+
+/* Whether the chip is stuck, and what ISR showed. */
+int u16550_ring_stuck(struct u16550 *uart, struct u16550_stuck *stuck);
+
+/*
+ * Starts a chip again that is stuck: enables these interrupts, U16550_IER_DATA_READY not while receiving is paused, and sends
+ * what waits. After u16550_init, which enables interrupts itself, give 0.
+ */
+int u16550_ring_restart(struct u16550 *uart, uint8_t interrupts);
+
+/* The same as u16550_retrigger_interrupts. */
+/* Proved: IER is read, and written with 0 and then with what was read. */
+int u16550_ring_retrigger(struct u16550 *uart);
+
+/*
+ * Serves the interrupts that are pending, at most U16550_MAX_INTERRUPTS, for a handler of your own. *count is how many. If it
+ * is the most, or ISR shows an interrupt without a name, the line may still be high.
+ */
+/* Proved: at most 8 interrupts are served. It tells how many, and not why it ended. */
+int u16550_ring_service(struct u16550 *uart, size_t *count);
+
+/*
+ * Handles the interrupt of a line that these ports share, whether the controller detects levels or edges. At each port in turn it
+ * does what u16550_ring_try_handle does, and disables the chip's interrupts; once all are disabled, so that the line is low, it
+ * enables them again at each. So if the line is high afterwards, it has risen since, and a controller that detects edges calls the
+ * handler again. A chip that is stuck stays off, and the others are served. *served is whether an interrupt was served at one of
+ * them.
+ *
+ * Call it once in the handler of the line, under one lock that all calls at these ports take. With a lock for each port another
+ * processor could let the line of one rise before that of the next has fallen, and no edge would ever come again.
+ *
+ * If one of the ports has no driver or no rings, or a call at it is not done, the number of this is returned, and nothing was done
+ * at any.
+ */
+int u16550_line_handle(struct u16550_line_port *ports, size_t count, size_t limit, uint32_t rounds, uint8_t *served);
+
+/* LSR or MSR, joined with the errors or changes that were noted since the last of these calls. */
+/* Proved: lsr joined with what was noted, which is then cleared. */
+int u16550_ring_take_line(struct u16550 *uart, uint8_t *lsr);
+/* Proved: msr, joined with what was noted, after which nothing is noted. */
+int u16550_ring_take_modem(struct u16550 *uart, uint8_t *msr);
+
+/*
+ * Reads all registers, as u16550_config_register_dump does, and then starts sending again if bytes wait: the read of ISR may take
+ * away the interrupt that would have sent them.
+ */
+/*
+ * Proved: that of the driver, whose read of ISR may acknowledge THR_EMPTY; and then sending
+ * resumes.
+ */
+int u16550_ring_config_register_dump(struct u16550 *uart, struct u16550_dump *dump);
+
+#ifdef __cplusplus
+}
+#endif
+
+#endif

@@ -1,0 +1,32 @@
+/* --------------------------------------------------------------- the device */
+
+static inline uint8_t uart_device_read(struct u16550_device *device, uint8_t offset)
+{
+    uintptr_t address = (uintptr_t)(device->base + (uintptr_t)((uintptr_t)offset * device->stride));
+    return device->io.read(device->io.context, address);
+}
+
+static inline void uart_device_write(struct u16550_device *device, uint8_t offset, uint8_t value)
+{
+    uintptr_t address = (uintptr_t)(device->base + (uintptr_t)((uintptr_t)offset * device->stride));
+    device->io.write(device->io.context, address, value);
+}
+
+/* Memory of the caller, of which the rings take cells from the front. */
+struct uart_memory {
+    uint8_t *data;
+    size_t len;
+};
+
+/* The ports of a line: see u16550_line_handle. */
+struct uart_line_ports {
+    struct u16550_line_port *ports;
+    size_t count;
+};
+
+static struct uart_maybe_vec_u8
+uart_cells_in_memory(struct uart_memory *memory, uint8_t value, size_t count);
+static inline size_t uart_line_ports_number(const struct uart_line_ports *ports);
+static bool
+uart_line_ports_lower(struct uart_line_ports *ports, size_t port, size_t limit, uint32_t rounds);
+static void uart_line_ports_raise(struct uart_line_ports *ports, size_t port);

@@ -1,0 +1,464 @@
+"""All functions that are asked for, and what they need, as one file of C."""
+import re
+
+import passes
+import syntax as c
+from body import NATIVE, OF_C, Body, Pair
+from names import snake
+from representation import NO_DEVICE, Representation, comment_of, safe
+from translate import Unknown, head
+from tree import DEVICE, OF_CALLER, OWN, PORTS, Forest, SizeOf
+
+# What C has for a type that has to have a trait.
+OF_TRAITS = {
+    "uart_spec::backend::Backend": DEVICE,
+    "uart_16550::backend::PortAccess": DEVICE,
+    "uart_16550::backend::ByteAccess": DEVICE,
+    "uart_ring::line::LinePorts": PORTS,
+}
+HELPERS = {
+    "uart_copy_bytes": """/* Copies so many bytes between two places that do not overlap. */
+static inline void uart_copy_bytes(uint8_t *to, const uint8_t *from, size_t count)
+{
+    for (size_t i = 0; i < count; i++)
+        to[i] = from[i];
+}
+""",
+    "uart_fill_bytes": """/* Sets so many bytes to one value. */
+static inline void uart_fill_bytes(uint8_t *to, uint8_t value, size_t count)
+{
+    for (size_t i = 0; i < count; i++)
+        to[i] = value;
+}
+""",
+    "uart_same_bytes": """/* Returns whether so many bytes are the same. */
+static inline bool uart_same_bytes(const uint8_t *one, const uint8_t *other, size_t count)
+{
+    for (size_t i = 0; i < count; i++) {
+        if (one[i] != other[i])
+            return false;
+    }
+    return true;
+}
+""",
+}
+# The functions whose second argument is the offset of a register, and the names of these.
+READ = dict(enumerate("DATA IER ISR LCR MCR LSR MSR SPR".split()))
+WRITTEN = {**READ, 2: "FCR"}
+OFFSETS = {"uart_device_read": READ, "uart_read_register": READ, "uart_device_write": WRITTEN, "uart_write_register": WRITTEN}
+
+
+class Written:
+    """A function in C."""
+
+    def __init__(self, name, parameters, result, comment):
+        self.name, self.parameters, self.result, self.comment = name, parameters, result, comment
+        self.statements, self.proved = [], []
+
+    def top(self):
+        return top("static", self.result, self.name, [c.declared(one.of, one.name) for one in self.parameters])
+
+    def text(self):
+        body = c.lines(self.statements)
+        return "\n".join([self.comment + "\n".join(self.top()), "{", *body, "}", ""])
+
+
+def top(word, result, name, parameters):
+    """The lines of the top of a function."""
+    given = ", ".join(parameters) or "void"
+    whole = f"{word} {c.declared(result, name)}({given})"
+    if len(whole) <= c.WIDTH:
+        return [whole]
+    return [f"{word} {result.text()}".rstrip(), *c.wrapped(f"{name}({given})")]
+
+
+class Library:
+    def __init__(self, program, source, public, device_methods=None):
+        self.forest = Forest(program, lambda name: name in NATIVE or name in OF_C)
+        self.source = source
+        self.types = Representation(self.forest, source, public)
+        self.functions, self.order, self.failed = {}, [], []
+        self.makers, self.helpers, self.bits, self.offsets, self.statics = {}, set(), {}, {}, {}
+
+    # What is asked for.
+
+    def want(self, name):
+        """Translates a function of our crates over the device. Returns its C name, or None if it cannot be."""
+        generics = self.forest.program.functions[name]["generics"]
+        types = [DEVICE for _ in generics["types"]]
+        for one in generics["bounds"]:
+            if one["of"] in OF_TRAITS:
+                types[one["types"][0]["Param"]] = OF_TRAITS[one["of"]]
+        types = tuple(types)
+        dictionaries = tuple(self.dictionary_for(one["of"], types) for one in generics["bounds"])
+        return self.function((name, types, dictionaries))
+
+    @staticmethod
+    def dictionary_for(trait, types):
+        if trait in OF_TRAITS:
+            return (OF_CALLER + trait, (), ())
+        if trait.endswith("marker::Destruct"):
+            return ("Destruct of nothing", types, ())
+        raise Unknown(f"a function over {trait}")
+
+    def function(self, key):
+        """The function of a key, which is translated with all that it calls, before it."""
+        if key not in self.functions:
+            self.functions[key] = None
+            body = Body(self, key)
+            parameters = [one for item in body.parameters if item is not None
+                          for one in ([item.pointer, item.length] if isinstance(item, Pair) else [item])]
+            info = body.information
+            written = Written(self.name_of(key), parameters, body.result, comment_of(info.comment, proved=self.source.proved(info)) if info else "")
+            written.proved = self.source.proved(info)
+            written.statements = passes.run(body.statements, body.result, self.with_names)
+            passes.on_expressions(written.statements, self.with_register)
+            name_variables(body, written)
+            passes.declare(written.statements, parameters)
+            self.functions[key] = written
+            self.order.append(written)
+        if self.functions[key] is None:
+            raise Unknown(f"{key[0]} calls itself, or a function that could not be translated")
+        return self.functions[key]
+
+    def name_of(self, key):
+        path = key[0].split("::")
+        name = snake(path[-1].replace("+", "_"))
+        of = snake(re.sub(r"[+].*", "", path[-2])) if path[-2][:1].isupper() else ""
+        of = re.sub("^uart16550_?", "", of)
+        if len(path) > 2 and path[-3] == "embedded_io":
+            of = ""
+        if path[0] in OWN:
+            return "_".join(one for one in ("uart", of, name) if one)
+        inner = [self.types.bare_name(one) for one in key[1] if one not in (DEVICE, PORTS) and one[0] != "Num"]
+        return re.sub(r"\W", "_", "_".join(["uart", of or path[-2], name, *inner]))
+
+    # What bodies ask for.
+
+    def call(self, key, arguments, body):
+        if key[0] not in self.forest.program.functions:
+            raise Unknown(f"no function {key[0]}")
+        written = self.function(key)
+        flat = []
+        for one in arguments:
+            flat += [one.pointer, one.length] if isinstance(one, Pair) else [] if one is None else [one]
+        if len(flat) != len(written.parameters):
+            raise Unknown(f"{len(flat)} arguments for {written.name}")
+        for order, (one, parameter) in enumerate(zip(flat, written.parameters)):
+            body.join(one, c.Var(parameter), "=")
+            if isinstance(one, c.Literal):
+                flat[order] = self.with_names(one, parameter.meaning)
+        return c.CallOf(written.name, flat, written.result, expects=tuple(one.of for one in written.parameters))
+
+    def with_register(self, one):
+        """A call with the name of a register in place of its offset."""
+        if isinstance(one, c.CallOf) and len(one.arguments) > 1 and isinstance(one.arguments[1], c.Literal) and one.name in OFFSETS:
+            offset = self.register(one.arguments[1], OFFSETS[one.name])
+            return c.CallOf(one.name, [one.arguments[0], offset, *one.arguments[2:]], one.of, one.is_pure, one.expects, one.fields)
+        return one
+
+    def helper(self, name, arguments, of):
+        self.helpers.add(name)
+        return c.CallOf(name, arguments, of)
+
+    def register(self, literal, table):
+        """The offset of a register by its name."""
+        name = table.get(literal.value)
+        if name is None:
+            return literal
+        self.offsets[name] = literal.value
+        return c.Literal(literal.value, literal.of, (f"UART_{name}",))
+
+    def with_names(self, literal, of):
+        """A number of a register by the names of its bits. Together they are the number, or it stays one."""
+        if literal.names or not isinstance(of, tuple) or of[0] != "Named" or not literal.value:
+            return literal
+        crate, register = of[1].split("::")[0], of[1].split("::")[-1]
+        bits = {name: value for name, value in self.source.bits.get((crate, register), {}).items() if not name.startswith("_") and value}
+        exact = [name for name, value in bits.items() if value == literal.value]
+        single = [name for name, value in bits.items() if value & (value - 1) == 0 and value & literal.value]
+        names = exact[:1] or (single if sum(bits[name] for name in single) == literal.value and len(single) <= 4 else [])
+        if not names or sum(bits[name] for name in names) != literal.value:
+            return literal
+        for name in names:
+            self.bits[f"U16550_{register}_{name}"] = bits[name]
+        return c.Literal(literal.value, literal.of, tuple(f"U16550_{register}_{name}" for name in names))
+
+    def size_of(self, item):
+        """How many bytes a struct of bytes has."""
+        of = next((of for of, name in self.types.public.items() if item.text() == f"struct {name}"), None)
+        if of is None:
+            return None
+        fields = self.types.fields(of)
+        are_bytes = all(self.types.c(inner).text() == "uint8_t" for _, inner in fields)
+        return len(fields) if are_bytes else None
+
+    def static(self, value, function):
+        """A constant array, as a pointer to its first item."""
+        kind, inner = head(value.node)
+        if kind == "Parts" and all(head(one)[0] == "Int" for one in inner):
+            values = [head(one)[1]["value"] for one in inner]
+        elif kind == "Ints":
+            values = inner["values"]
+        else:
+            raise Unknown(f"a static {kind}")
+        if value.of[0] != "Array" or value.of[1] != ("Int", 8):
+            raise Unknown(f"a static of {value.of}")
+        key = tuple(values)
+        if key not in self.statics:
+            base = safe(snake(function.split("::")[-1]))
+            count = sum(name.startswith(f"uart_{base}_bytes") for name in self.statics.values())
+            self.statics[key] = f"uart_{base}_bytes{count + 1 if count else ''}"
+        return c.Word(self.statics[key], c.Pointer(c.BYTE, True))
+
+    def all_bits(self, key):
+        """The bits that `Flags::all` joins: those of the table in the MIR."""
+        dictionary = key[2][0]
+        name = self.forest.program.methods.get((dictionary[0], 0))
+        if name is None:
+            listed = self.forest.program.implementations[dictionary[0]]["methods"]
+            name = listed[0]
+        statics = [head(one)[1] for one in self.forest.program.functions[name]["body"] if head(one)[0] == "LendStatic"]
+        return table_of_bits(statics)
+
+    # Structs.
+
+    def made(self, of, tag, fields):
+        """A call of the function that makes a struct of these parts."""
+        if of[0] == "Named" and of[1] == "core::ops::ControlFlow":
+            raise Unknown("a ControlFlow that is made")
+        kind, name = self.types.kind(of), self.types.plain_name(of)
+        made = self.types.c(of)
+        variable = [(field, value) for field, value in fields if not isinstance(value, c.Word)]
+        fixed = {field: value.name for field, value in fields if isinstance(value, c.Word)}
+        maker = self.maker_name(of, kind, tag, name)
+        if (maker, tuple(sorted(fixed.items()))) not in self.makers and any(key[0] == maker for key in self.makers):
+            # The same variant with another constant in it: it becomes a parameter.
+            number = sum(key[0].startswith(maker) for key in self.makers)
+            maker = f"{maker}_{number + 1}"
+        key = (maker, tuple(sorted(fixed.items())))
+        expects = tuple(value.of for _, value in variable)
+        if key not in self.makers:
+            self.makers[key] = self.maker_text(maker, of, made, variable, fixed)
+        types = self.types_of_members(of)
+        return c.CallOf(maker, [value for _, value in variable], made, True,
+                        tuple(types.get(field, one) for (field, _), one in zip(variable, expects)),
+                        {**dict(fields), **{field: order for order, (field, _) in enumerate(variable)}})
+
+    def maker_name(self, of, kind, tag, name):
+        bare = re.sub(r"^(uart|u16550_core|u16550)_(maybe_)?", "", name)
+        if kind.kind == "option":
+            is_full = tag == kind.parts[1]
+            if kind.parts[2] == "is_error":
+                return f"uart_{'failed' if is_full else 'no'}_{bare}"
+            return f"uart_{'some' if is_full else 'no'}_{bare}"
+        if kind.kind in ("outcome", "either"):
+            return f"uart_{'bad' if tag else 'good'}_{bare}"
+        if tag is None:
+            return f"uart_make_{bare}"
+        return f"uart_{bare}_{tag if isinstance(tag, str) else snake(self.types.variants(of)[tag][0])}"
+
+    def members(self, of):
+        """The members of the struct of C: name and type of the MIR, or of C."""
+        kind = self.types.kind(of)
+        if kind.kind == "option":
+            return [(kind.parts[2], "Bool"), (kind.parts[3], kind.parts[0])]
+        if kind.kind == "outcome":
+            return [("error", kind.parts[1]), ("value", kind.parts[0])]
+        if kind.kind == "either":
+            return [("is_error", "Bool"), ("error", kind.parts[1]), ("value", kind.parts[0])]
+        if kind.kind == "tagged":
+            return [("kind", ("Kind", of))] + [(self.types.part_name(of, tag, order), one) for tag, (_, _, part) in enumerate(self.types.variants(of))
+                                              for order, one in enumerate(part) if not self.types.is_unit(one)]
+        if kind.kind == "slice":
+            return [("data", kind.parts[0]), ("len", ("Int", 64))]
+        return [(name, inner) for name, inner in self.types.fields(of) if not self.types.is_unit(inner)]
+
+    def types_of_members(self, of):
+        out = {}
+        for order, (name, inner) in enumerate(self.members(of)):
+            if inner[0] == "Kind":
+                out[name] = c.Named(f"enum {self.types.plain_name(of)}_kind")
+            else:
+                is_size = self.types.kind(of).kind == "slice" and name == "len" or self.types.kind(of).kind == "struct" and self.size_member(of, name)
+                out[name] = c.Pointer(c.BYTE) if inner == "Ptr" else self.types.c(inner, is_size)
+        return out
+
+    def size_member(self, of, name):
+        return any(field == name and self.types.is_size(of, order) for order, (field, _) in enumerate(self.types.fields(of)))
+
+    def zero(self, of, whole=None):
+        """The text of a value of which all is zero."""
+        if of[0] == "Kind":
+            first = self.types.constants(of[1])[0].split("=")[0].strip()
+            return first
+        kind = self.types.kind(of)
+        if kind.kind == "bool":
+            return "false"
+        if kind.kind in ("number", "wrapper"):
+            return "0" if self.types.c(of) is not c.BOOL else "false"
+        if kind.kind in ("pointer", "nullable"):
+            return "NULL"
+        if kind.kind == "status":
+            return self.zero(kind.parts[0])
+        if kind.kind == "array":
+            return "{ { 0 } }"
+        if kind.kind == "enum":
+            return self.types.constants(of)[0].split("=")[0].strip()
+        if kind.kind == "option" and self.types.is_unit(kind.parts[0]):
+            return "false"
+        if kind.kind == "device":
+            return NO_DEVICE
+        return "{ " + ", ".join(self.zero(inner) for _, inner in self.members(of)) + " }"
+
+    def maker_text(self, maker, of, made, variable, fixed):
+        types = self.types_of_members(of)
+        given = [(safe(field), types[field]) for field, _ in variable]
+        values = []
+        for name, inner in self.members(of):
+            if name in fixed:
+                values.append(fixed[name])
+            elif any(field == name for field, _ in variable):
+                values.append(safe(name))
+            else:
+                values.append(self.zero(inner))
+        first = top("static inline", made, maker, [c.declared(one, name) for name, one in given])
+        second = c.wrapped(f"    {c.declared(made, 'made')} = {{ {', '.join(values)} }};")
+        return "\n".join([*first, "{", *second, "    return made;", "}", ""])
+
+    def slice_of(self, pair):
+        """A slice as the struct of C."""
+        inner = pair.pointer.of
+        of = ("Struct", "&[]", (("Ref", ("Int", 8), not inner.is_const), ("Int", 64)))
+        return self.made(of, None, [("data", pair.pointer), ("len", pair.length)])
+
+    def no_error(self, of):
+        none = c.Word(self.types.constant(of, None), self.types.c(of))
+        if self.types.kind(of).kind == "enum":
+            return none
+        return self.made(of, "none", [("kind", none)])
+
+    def is_error(self, one, of):
+        none = self.types.constant(of, None)
+        if self.types.kind(of).kind == "enum":
+            return c.Binary("!=", one, c.Word(none, one.of), c.BOOL)
+        number = c.Named(f"enum {self.types.plain_name(of)}_kind")
+        return c.Binary("!=", c.Field(one, "kind", number), c.Word(none, number), c.BOOL)
+
+    # Text.
+
+    def declarations(self):
+        return [text for _, text in self.types.declarations]
+
+    def text(self):
+        """The functions with what they need, without what the header has."""
+        out = [HELPERS[name] for name in sorted(self.helpers)]
+        for values, name in self.statics.items():
+            shown = ", ".join(map(str, values))
+            out.append("\n".join(c.wrapped(f"static const uint8_t {name}[{len(values)}] = {{ {shown} }};")) + "\n")
+        functions = "\n".join(one.text() for one in self.order)
+        # What was made on the way and is gone again has left makers that nobody calls.
+        makers, called = [], functions
+        for text in reversed(list(self.makers.values())):
+            name = re.search(r"\b(uart_\w+)\(", text)[1]
+            if re.search(rf"\b{name}\(", called):
+                makers.insert(0, text)
+                called += text
+        return "\n".join([*out, *makers, functions])
+
+
+def table_of_bits(statics):
+    """The bits of a table: each entry is a name and a value."""
+    found = []
+
+    def go(node):
+        kind, value = head(node) if isinstance(node, (dict, str)) else (None, None)
+        if kind == "Int" and value["width"] == 8:
+            found.append(value["value"])
+        elif kind == "Parts":
+            for one in value:
+                go(one)
+        elif kind == "Ints":
+            return
+
+    for _, _, node in statics:
+        go(node)
+    bits = 0
+    for one in found:
+        bits |= one
+    return bits
+
+
+# Names of variables.
+
+def name_variables(body, written):
+    """The names of the source for the locals, in order; else one that says what it is."""
+    taken = {one.name for one in written.parameters} | {one.name for one in written.parameters if one.name}
+    names = names_by_order(body)
+    found = []
+    for one in c.all_statements(written.statements):
+        for expression in c.expressions(one):
+            for part in c.every(expression):
+                if isinstance(part, c.Var) and part.variable.name is None and part.variable not in found:
+                    found.append(part.variable)
+    hints = hints_of_calls(written.statements)
+    for variable in found:
+        origin = body.tree.origin[variable.local] if 0 <= variable.local < len(body.tree.origin) else None
+        base = names.get(origin)
+        if base and variable.hint == "len":
+            base += "_len"
+        base = base or hints.get(variable) or variable.hint or by_type(body, variable)
+        base = safe(re.sub(r"\W", "_", base))
+        name, count = base, 1
+        while name in taken:
+            count += 1
+            name = f"{base}{count}"
+        taken.add(name)
+        variable.name = name
+
+
+def names_by_order(body):
+    out, at = {}, body.tree.params + 1
+    for name in body.information.bindings if body.information else []:
+        while at < body.tree.own and is_hidden(body, body.tree.locals[at], name):
+            at += 1
+        if at >= body.tree.own:
+            break
+        if name == "?":
+            at += 2
+            continue
+        out[at] = name.lstrip("_") or "turn"
+        at += 1
+    return out
+
+
+def is_hidden(body, of, name):
+    if name == "?":
+        return False
+    is_residual = of[0] == "Named" and of[1].endswith(("NoValue", "ErrResidual"))
+    return of == "Unit" or is_residual or of[0] == "Ref" and of[1][0] == "Array"
+
+
+def hints_of_calls(statements):
+    out = {}
+    for one in c.all_statements(statements):
+        if isinstance(one, c.Set) and isinstance(one.to, c.Var) and isinstance(one.value, c.CallOf) and isinstance(one.to.of, c.Number):
+            name = re.sub(r"^uart_(ring_)?", "", one.value.name)
+            name = re.sub(r"^(read|try|get|calc|take)_", "", name)
+            out.setdefault(one.to.variable, {"device_read": "value"}.get(name, name))
+    return out
+
+
+def by_type(body, variable):
+    of = variable.meaning
+    if of is None:
+        return "found"
+    kind = body.types.kind(of).kind
+    if body.types.plain_name(of).startswith("uart_pair_of"):
+        return "pair"
+    named = {"number": "number", "bool": "is_so", "pointer": "at", "array": "bytes", "option": "found", "status": "error", "outcome": "outcome",
+             "either": "outcome", "nullable": "found", "slice": "slice"}
+    return named.get(kind) or re.sub(r"^(uart|u16550_core|u16550)_", "", body.types.plain_name(of))
+
+
+__all__ = ["Library", "SizeOf", "Unknown"]

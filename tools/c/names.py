@@ -1,0 +1,171 @@
+"""What the MIR has lost and the source still has: the names of fields, variants, parameters, locals and bits, and what is written about
+them. A wrong name is only ugly. No number is taken from here but to choose the names of bits, and the numbers of these are compared with
+that of the MIR."""
+import re
+
+OPENING = {"(": ")", "{": "}", "[": "]"}
+
+
+def snake(name):
+    """A name of Rust as C has it."""
+    if name.isupper():
+        return name.lower()
+    return re.sub(r"(?<=[a-z0-9])(?=[A-Z])|(?<=[A-Z])(?=[A-Z][a-z])", "_", name).lower()
+
+
+def closing(text, at):
+    """Where the bracket that opens at `at` closes."""
+    opened, closed, depth = text[at], OPENING[text[at]], 0
+    for order in range(at, len(text)):
+        depth += (text[order] == opened) - (text[order] == closed)
+        if depth == 0:
+            return order
+    return len(text)
+
+
+def listed(text):
+    """The parts between commas that are in no brackets."""
+    out, depth, last = [], 0, 0
+    for order, letter in enumerate(text):
+        if letter in "([{<":
+            depth += 1
+        elif letter in ")]}" or (letter == ">" and text[order - 1] not in "-="):
+            depth -= 1
+        elif letter == "," and depth == 0:
+            out.append(text[last:order])
+            last = order + 1
+    return [one.strip() for one in [*out, text[last:]] if one.strip()]
+
+
+def bare(text):
+    """Text without comments and attributes."""
+    return re.sub(r"#\[[^\]]*\]", "", re.sub(r"//[^\n]*", "", text))
+
+
+def documentation(text, at):
+    """The lines of the comment in front of a place."""
+    before, out = text[:at].rstrip("\n").split("\n"), []
+    while before and re.match(r"\s*(///|#\[|//)", before[-1]):
+        line = before.pop().strip()
+        if line.startswith("//"):
+            out.insert(0, re.sub(r"^///? ?", "", line))
+    return out
+
+
+class Function:
+    """What the source says of a function."""
+
+    def __init__(self, parameters, result, is_public, comment, bindings, cited):
+        self.parameters, self.result, self.is_public, self.comment, self.bindings = parameters, result, is_public, comment, bindings
+        # The definitions that its contract says what it does by.
+        self.cited = cited
+
+
+class Source:
+    def __init__(self, root, crates):
+        self.fields, self.types_of_fields, self.variants, self.functions, self.bits, self.comments = {}, {}, {}, {}, {}, {}
+        self.definitions = {}
+        for crate in crates:
+            for file in sorted((root / "crates" / crate / "specs").glob("*.antt")):
+                self.define(file.read_text(encoding="utf-8").split("\n"))
+            for file in sorted((root / "crates" / crate / "src").rglob("*.rt")):
+                self.read(crate, re.sub(r"(?m)^\s*ghost use [^;]*;\n", "", file.read_text(encoding="utf-8")))
+
+    def define(self, lines):
+        """The comments in front of the definitions of a file."""
+        for order, line in enumerate(lines):
+            found = re.match(r"(?:abbrev|data|record)\s+(?:pub\s+)?(\w+)", line)
+            if not found:
+                continue
+            comment = []
+            for before in reversed(lines[:order]):
+                if not before.startswith("--"):
+                    break
+                comment.insert(0, before[2:].strip())
+            if comment:
+                self.definitions[found[1]] = " ".join(comment)
+
+    def proved(self, function):
+        """What is proved of a function, in the words of the definitions that its contract cites."""
+        out = []
+        for name in function.cited if function else []:
+            words = re.sub(r"^`\w+`: ", "", self.definitions.get(name, ""))
+            if words and words not in out and words.isascii():
+                out.append(words)
+        return out
+
+    def read(self, crate, text):
+        for found in re.finditer(r"(?m)^(?:pub(?:\([a-z]+\))? )?(struct|enum) (\w+)[^;{(]*([;{(])", text):
+            self.read_type(crate, text, found)
+        blocks = [(found.start(), found[1]) for found in re.finditer(r"(?m)^impl(?:<[^{]*?>)? (?:[\w:<>]+ for )?(\w+)", text)]
+        for found in re.finditer(r"(?m)^( *)(pub(?:\([a-z]+\))? )?(?:const )?fn (\w+)(?:<[^(]*>)?\(", text):
+            of = next((name for at, name in reversed(blocks) if at < found.start()), None) if found[1] else None
+            self.functions[crate, of, found[3]] = self.function(text, found)
+        for found in re.finditer(r"const (\w+): (\w+) = \w+\(([^;]*?)\);", text):
+            value = number(found[3])
+            if value is not None:
+                self.bits.setdefault((crate, found[2]), {})[found[1]] = value
+
+    def read_type(self, crate, text, found):
+        key, start = (crate, found[2]), found.end() - 1
+        self.comments[key] = documentation(text, found.start())
+        items = listed(bare(text[start + 1:closing(text, start)])) if found[3] != ";" else []
+        if found[1] == "struct":
+            names = [re.sub(r"^(?:pub(?:\([a-z]+\))?\s+)?(\w+)\s*:.*", r"\1", one, flags=re.S) for one in items]
+            self.fields[key] = names if found[3] == "{" else [f"part{order}" for order, _ in enumerate(items)]
+            self.types_of_fields[key] = [one.split(":")[-1] if found[3] == "{" else one for one in items]
+            return
+        out = []
+        for one in items:
+            name = re.match(r"(\w+)\s*([({])?", one)
+            inner = listed(one[name.end():closing(one, name.end() - 1)]) if name[2] else []
+            out.append((name[1], [re.sub(r"\s*:.*", "", part, flags=re.S) if name[2] == "{" else "value" for part in inner]))
+        self.variants[key] = out
+
+    def function(self, text, found):
+        end = closing(text, found.end() - 1)
+        opened, in_line = text.find("\n" + found[1] + "{", end), text.find("{", end)
+        opened = in_line if "\n" not in text[end:in_line] else opened + 1 + len(found[1])
+        has_body = 0 < opened < len(text) and text[opened] == "{"
+        parameters = []
+        for one in listed(bare(text[found.end():end])):
+            name, _, of = one.partition(":")
+            parameters.append(("self" if "self" in name else re.sub(r"^mut ", "", name.strip()).strip("&"), of.strip()))
+        result = re.match(r"\)\s*->\s*([^\n{]+)", text[end:])
+        body = bare(text[opened:closing(text, opened)]) if has_body else ""
+        return Function(parameters, (result[1] if result else "").strip(), found[2] == "pub ",
+                        documentation(text, found.start()), bindings(body), cited(text[end:opened]) if has_body else [])
+
+    def find(self, name):
+        """What the source says of a function of the MIR, or None."""
+        path = name.split("::")
+        for of in (path[-2], None, re.sub(r"(Default|Clone|PartialEq|Flags|Backend|Read|Write|ReadReady|WriteReady)$", "", path[-2])):
+            found = self.functions.get((path[0], of, path[-1]))
+            if found:
+                return found
+        return None
+
+
+def number(text):
+    """The number that a text is, or None."""
+    found = re.fullmatch(r"\s*(0x[0-9a-fA-F_]+|0b[01_]+|\d[\d_]*)\s*(?:<<\s*(\d+))?\s*", text)
+    return int(found[1].replace("_", ""), 0) << int(found[2] or 0) if found else None
+
+
+def cited(contract):
+    """The definitions that the `ensures` of a contract name, in order."""
+    clauses = "".join(re.findall(r"(?s)\bensures\b(.*?)(?=\bensures\b|\brequires\b|\Z)", contract))
+    return list(dict.fromkeys(re.findall(r"(?<![\w.])([A-Z]\w+)", clauses)))
+
+
+def bindings(body):
+    """The names that a body binds, in order; "?" where it may return by a question mark."""
+    out = []
+    for found in re.finditer(r"\blet\s+(?:mut\s+)?([^=;]+?)(?::[^=;]+)?=|\bfor\s+(.+?)\s+in\b|([^{};,]*?)=>|(\?)[;),.]", body):
+        if found[4]:
+            out.append("?")
+            continue
+        pattern = re.sub(r"\bif\b.*", "", found[1] or found[2] or found[3] or "")
+        pattern = re.sub(r"\w+\s*:(?!:)", "", pattern)
+        out += [name for name in re.findall(r"(?<![\w:])([a-z_]\w*)\b(?!\s*(?:::|\())", pattern) if name not in ("mut", "ref", "true", "false", "_")]
+    return out

@@ -1,0 +1,827 @@
+"""What makes the C of a function readable, step by step. Each step leaves what the function does."""
+import syntax as c
+from translate import Unknown
+
+# A condition with two short values is written in one line up to this length.
+SHORT = 76
+
+
+# Blocks and their exits as `if`, `break` and `continue`.
+
+def structured(statements, follow=frozenset(), leave=frozenset(), again=frozenset()):
+    """`follow` are the labels behind which it goes on anyway, and `leave` and `again` those that `break` and `continue` lead to."""
+    out = []
+    for order, one in enumerate(statements):
+        rest = statements[order + 1:]
+        after = frozenset() if rest else follow
+        if isinstance(one, c.Exit):
+            if one.label in follow:
+                return out
+            if one.label in leave:
+                return [*out, c.Break()]
+            if one.label in again:
+                return [*out, c.Continue()]
+            raise Unknown("an exit that needs a jump")
+        if isinstance(one, (c.If, c.Switch)):
+            moved = with_rest(one, rest, follow) if rest else None
+            if moved:
+                return out + structured(moved, follow, leave, again)
+            out.append(structured_choice(one, after, leave, again))
+        elif isinstance(one, c.Block) and if_else(one):
+            out += structured(if_else(one), after, leave, again)
+        elif isinstance(one, c.Block):
+            mine = frozenset([one.label])
+            out += structured(one.body, after | mine, leave | (mine if after & leave else frozenset()),
+                              again | (mine if after & again else frozenset()))
+        elif isinstance(one, c.Loop):
+            around = frozenset([-one.label])
+            body = structured(one.body, around, frozenset([one.label]) | after, around)
+            out.append(c.While(c.Word("true", c.BOOL), body))
+        else:
+            out.append(one)
+        if c.leaves(out) and not isinstance(out[-1], c.While):
+            return out
+    return out
+
+
+def branches(one):
+    """The branches of a choice, which can be set."""
+    return [one.yes, one.no] if isinstance(one, c.If) else [body for _, body in one.cases]
+
+
+def with_branches(one, bodies):
+    if isinstance(one, c.If):
+        return c.If(one.condition, *bodies)
+    return c.Switch(one.on, [(labels, body) for (labels, _), body in zip(one.cases, bodies)])
+
+
+def exits_to(body, labels):
+    return bool(body) and isinstance(body[-1], c.Exit) and body[-1].label in labels
+
+
+def with_rest(one, rest, follow):
+    """A choice some of whose branches skip what comes behind it: that goes into the only other branch, or behind a variable that says
+    whether none of them was taken. None if there are no such."""
+    found = [each.label for each in c.all_statements([one]) if isinstance(each, c.Exit) and each.label in follow]
+    if not found:
+        return None
+    bodies = branches(one)
+    skipping = [exits_to(body, follow) for body in bodies]
+    going = [order for order, body in enumerate(bodies) if not skipping[order] and not c.leaves(body)]
+    if len(going) <= 1 and sum(skipping) == len(found):
+        return [with_branches(one, [body[:-1] if skips else [*body, *rest] if order in going else body
+                                    for order, (body, skips) in enumerate(zip(bodies, skipping))])]
+    if len(set(found)) > 1:
+        raise Unknown("a choice that needs a jump")
+    is_reached = c.Variable(c.BOOL, hint="is_so")
+    return [*flagged([one], found[0], is_reached), c.If(c.Var(is_reached), rest, [])]
+
+
+def has_exit(one, label):
+    return any(isinstance(each, c.Exit) and each.label == label for each in c.all_statements([one]))
+
+
+def flagged(statements, label, flag):
+    """The same statements, which note in a variable whether their end is reached, in place of leaving a block."""
+    if not statements:
+        return [c.Set(c.Var(flag), c.Word("true", c.BOOL))]
+    one, rest = statements[0], statements[1:]
+    if isinstance(one, c.Exit) and one.label == label:
+        return [c.Set(c.Var(flag), c.Word("false", c.BOOL))]
+    if not has_exit(one, label):
+        return [one] if c.leaves([one]) else [one, *flagged(rest, label, flag)]
+    if not isinstance(one, c.If):
+        raise Unknown("a choice that needs a jump")
+    if not rest or exits_to(one.yes, {label}) or exits_to(one.no, {label}):
+        return [c.If(one.condition, *(flagged(body if exits_to(body, {label}) else [*body, *rest], label, flag) for body in (one.yes, one.no)))]
+    inner = c.Variable(c.BOOL, hint="is_so")
+    return [*flagged([one], label, inner), c.If(c.Var(inner), flagged(rest, label, flag), [c.Set(c.Var(flag), c.Word("false", c.BOOL))])]
+
+
+def with_last_test(body, label):
+    """The same statements, where the last choice between going on and leaving the block by this label only leaves it."""
+    if len(body) > 1 and isinstance(body[-1], c.Exit) and body[-1].label == label and isinstance(body[-2], c.If):
+        last = body[-2]
+        if c.leaves(last.yes) and not last.no:
+            return [*body[:-2], c.If(last.condition, [], [body[-1]]), *last.yes]
+        if c.leaves(last.no) and not last.yes:
+            return [*body[:-2], c.If(last.condition, [body[-1]], []), *last.no]
+    last = body[-1]
+    if isinstance(last, c.If) and len(last.no) == 1 and exits_to(last.no, {label}):
+        return [*body[:-1], c.If(last.condition, [], last.no), *last.yes]
+    if isinstance(last, c.If) and len(last.yes) == 1 and exits_to(last.yes, {label}):
+        return [*body[:-1], c.If(last.condition, last.yes, []), *last.no]
+    return body
+
+
+def if_else(block):
+    """A block in which another one computes a condition, and that leaves the outer one where it holds: an `if` with its `else`."""
+    inner = block.body[0] if block.body else None
+    if not isinstance(inner, c.Block) or not inner.body or not any(has_exit(one, inner.label) for one in inner.body):
+        return None
+    body = with_last_test(inner.body, inner.label)
+    last = max(order for order, one in enumerate(body) if has_exit(one, inner.label))
+    condition, then = body[:last + 1], body[last + 1:]
+    ends = bool(then) and isinstance(then[-1], c.Exit) and then[-1].label == block.label
+    if not (ends or c.leaves(then)):
+        return None
+    if any(has_exit(one, block.label) for one in condition):
+        return None
+    holds = c.Variable(c.BOOL, hint="is_so")
+    try:
+        first = flagged(condition, inner.label, holds)
+    except Unknown:
+        return None
+    return [*first, c.Block(block.label, [c.If(c.Var(holds), then[:-1] if ends else then, block.body[1:])])]
+
+
+def structured_choice(one, follow, leave, again):
+    if isinstance(one, c.If):
+        return c.If(one.condition, structured(one.yes, follow, leave, again), structured(one.no, follow, leave, again))
+    try:
+        # In a `switch`, `break` would not leave the loop.
+        return c.Switch(one.on, [(labels, structured(body, follow, frozenset(), again)) for labels, body in one.cases])
+    except Unknown:
+        return structured_choice(as_ifs(one), follow, leave, again)
+
+
+def as_ifs(one):
+    """A `switch` as one `if` behind another."""
+    if len(one.cases) < 2 or any(isinstance(part, (c.CallOf, c.Deref)) for part in c.every(one.on)):
+        raise Unknown("a switch in a loop that it leaves")
+    labels, body = one.cases[0]
+    others = c.Switch(one.on, one.cases[1:])
+    condition = None
+    for label in labels:
+        test = c.Binary("==", one.on, label, c.BOOL)
+        condition = test if condition is None else c.Binary("||", condition, test, c.BOOL)
+    return c.If(condition, body, one.cases[1][1] if len(one.cases) == 2 else [as_ifs(others)])
+
+
+# What is the same and shorter.
+
+def simpler(one):
+    if isinstance(one, c.Deref) and isinstance(one.pointer, c.AddressOf):
+        return one.pointer.place
+    if isinstance(one, c.AddressOf) and isinstance(one.place, c.Deref):
+        return one.place.pointer
+    if isinstance(one, c.Field) and isinstance(one.base, c.CallOf) and one.base.fields and one.name in one.base.fields:
+        return part_of_made(one.base, one.name)
+    if isinstance(one, c.Unary) and one.operator == "!" and one.operand.of is c.BOOL:
+        opposite = c.negated(one.operand)
+        if not (isinstance(opposite, c.Unary) and opposite.operator == "!"):
+            return opposite
+    if isinstance(one, c.Binary):
+        return simpler_binary(one)
+    if isinstance(one, c.Cast) and isinstance(one.operand, c.Literal) and isinstance(one.of, c.Number) and one.operand.value < 1 << one.of.bits:
+        return c.Literal(one.operand.value, one.of, one.operand.names)
+    return one
+
+
+def part_of_made(made, name):
+    """What a maker puts into a member: an argument, or a constant."""
+    what = made.fields[name]
+    return made.arguments[what] if isinstance(what, int) else what
+
+
+def simpler_binary(one):
+    left, right = one.left, one.right
+    if one.operator in ("==", "!="):
+        if isinstance(left, c.Word) and isinstance(right, c.Word):
+            same = left.name == right.name
+            return c.Word("true" if same == (one.operator == "==") else "false", c.BOOL)
+        if isinstance(right, c.Word) and right.name in ("true", "false"):
+            return left if (right.name == "true") == (one.operator == "==") else simpler(c.Unary("!", left, c.BOOL))
+        is_one_bit = isinstance(right, c.Literal) and right.value and right.value & (right.value - 1) == 0
+        if is_one_bit and isinstance(left, c.Binary) and left.operator == "&" and isinstance(left.right, c.Literal) and left.right.value == right.value:
+            return c.Binary("!=" if one.operator == "==" else "==", left, c.Literal(0, right.of), c.BOOL)
+        if isinstance(left, c.Literal) and isinstance(right, c.Literal):
+            return c.Word("true" if (left.value == right.value) == (one.operator == "==") else "false", c.BOOL)
+    if one.operator == "+" and isinstance(right, c.Literal) and right.value == 0:
+        return left
+    if one.operator == "&" and isinstance(right, c.Literal) and right.value == (1 << right.of.bits) - 1:
+        return left
+    return one
+
+
+def on_expressions(statements, change):
+    """Changes each expression of statements, in place."""
+    for one in c.all_statements(statements):
+        for name in c.EXPRESSIONS.get(type(one), ()):
+            value = getattr(one, name)
+            if value is not None:
+                setattr(one, name, c.rebuilt(value, change))
+
+
+def simplify(statements):
+    on_expressions(statements, simpler)
+
+
+# What an expression depends on, and what a statement does.
+
+def root(one):
+    """The variable of which a place is a part, or None."""
+    while isinstance(one, c.Field):
+        one = one.base
+    return one.variable if isinstance(one, c.Var) else None
+
+
+def is_start_of_array(one):
+    return isinstance(one, c.Field) and one.name == "bytes" and isinstance(one.of, c.Pointer)
+
+
+class Facts:
+    """Of a function: which variables are defined once, how often each is read, and which of them have an address."""
+
+    def __init__(self, statements):
+        self.definitions, self.reads, self.taken, self.in_parts = {}, {}, set(), set()
+        for one in c.all_statements(statements):
+            if isinstance(one, c.Set):
+                self.note_set(one)
+            for expression in c.expressions(one):
+                is_target = isinstance(one, c.Set) and expression is one.to
+                self.note(expression, is_target)
+
+    def note_set(self, one):
+        if isinstance(one.to, c.Var):
+            self.definitions[one.to.variable] = self.definitions.get(one.to.variable, 0) + 1
+        elif root(one.to):
+            self.in_parts.add(root(one.to))
+
+    def note(self, expression, is_target):
+        for part in c.every(expression):
+            if isinstance(part, c.Var) and not (is_target and (part is expression or root(expression) is part.variable)):
+                self.reads[part.variable] = self.reads.get(part.variable, 0) + 1
+            if isinstance(part, c.AddressOf) and root(part.place):
+                self.taken.add(root(part.place))
+            if is_start_of_array(part) and root(part):
+                self.taken.add(root(part))
+
+    def is_fixed(self, variable):
+        """Whether a variable has one value for ever, which no pointer can change."""
+        if variable in self.taken or variable in self.in_parts:
+            return False
+        return self.definitions.get(variable, 0) == (0 if variable.is_parameter else 1)
+
+    def is_address(self, one):
+        """Whether an expression is an address that never changes."""
+        if isinstance(one, c.AddressOf):
+            return self.is_fixed_place(one.place)
+        return is_start_of_array(one) and self.is_fixed_place(one.base)
+
+    def is_fixed_place(self, one):
+        if isinstance(one, c.Var):
+            return True
+        if isinstance(one, c.Field):
+            return self.is_fixed_place(one.base)
+        if isinstance(one, c.Deref):
+            return self.is_stable(one.pointer)
+        return isinstance(one, c.Index) and self.is_stable(one.pointer) and self.is_stable(one.index)
+
+    def is_stable(self, one):
+        """Whether an expression may be computed again at any time behind, with the same result."""
+        if isinstance(one, (c.Literal, c.Word)):
+            return True
+        if isinstance(one, c.Var):
+            return self.is_fixed(one.variable)
+        if self.is_address(one):
+            return True
+        return isinstance(one, c.Field) and root(one) is not None and self.is_fixed(root(one))
+
+    def depends(self, expression):
+        """What an expression calls, reads and uses: whether it has a call, whether it reads memory, and which variables."""
+        calls = memory = False
+        variables = set()
+        for part in c.every(expression):
+            if isinstance(part, c.CallOf) and not part.is_pure:
+                calls = True
+            if isinstance(part, (c.Deref, c.Index)):
+                memory = True
+            if isinstance(part, c.Var):
+                variables.add(part.variable)
+                memory = memory or part.variable in self.taken
+        return calls, memory, variables
+
+
+def depends_of_target(facts, to):
+    """As `depends`, of a place that is written: only what is computed to find it."""
+    calls = memory = False
+    variables = set()
+    while isinstance(to, (c.Field, c.Deref, c.Index)):
+        if isinstance(to, c.Field):
+            to = to.base
+            continue
+        for part in c.parts(to):
+            found = facts.depends(part)
+            calls, memory, variables = calls or found[0], memory or found[1], variables | found[2]
+        return calls, memory, variables
+    return calls, memory, variables
+
+
+# Values that never change, where they are used.
+
+def propagate(statements, with_names):
+    """Puts stable values in place of variables. Returns whether there was one."""
+    facts = Facts(statements)
+    values = {}
+    for one in c.all_statements(statements):
+        if isinstance(one, c.Set) and isinstance(one.to, c.Var) and facts.is_fixed(one.to.variable) and not one.to.variable.is_parameter:
+            variable, value = one.to.variable, one.value
+            if facts.is_stable(value) or is_stable_struct(facts, value, variable, statements):
+                values[variable] = value
+    if not values:
+        return False
+
+    def change(one):
+        if isinstance(one, c.Var) and one.variable in values:
+            value = values[one.variable]
+            for inner in c.every(value):
+                if isinstance(inner, c.Var) and inner.variable in values:
+                    return one
+            return with_names(value, one.variable.meaning) if isinstance(value, c.Literal) else value
+        return simpler(one)
+
+    before = {variable: facts.reads.get(variable, 0) for variable in values}
+    for one in c.all_statements(statements):
+        for name in c.EXPRESSIONS.get(type(one), ()):
+            value = getattr(one, name)
+            if value is None or isinstance(one, c.Set) and name == "to" and isinstance(value, c.Var):
+                continue
+            setattr(one, name, c.rebuilt(value, change))
+    after = Facts(statements).reads
+    return any(after.get(variable, 0) != count for variable, count in before.items())
+
+
+def is_stable_struct(facts, value, variable, statements):
+    """Whether a struct that is made of stable parts is only looked into."""
+    if not (isinstance(value, c.CallOf) and value.is_pure and value.fields):
+        return False
+    if not all(facts.is_stable(part) for part in value.arguments):
+        return False
+    for one in c.all_statements(statements):
+        for expression in c.expressions(one):
+            inside = {id(part.base) for part in c.every(expression) if isinstance(part, c.Field) and part.name in value.fields}
+            for part in c.every(expression):
+                if isinstance(part, c.Var) and part.variable is variable and id(part) not in inside and not (isinstance(one, c.Set) and part is one.to):
+                    return False
+    return True
+
+
+def remove_dead(statements):
+    """Removes assignments that nothing reads. Returns whether there was one."""
+    facts, changed = Facts(statements), False
+
+    def go(body):
+        nonlocal changed
+        out = []
+        for one in body:
+            for inner in c.lists(one):
+                inner[:] = go(inner)
+            if isinstance(one, c.Set):
+                variable = root(one.to)
+                is_dead = variable and not facts.reads.get(variable) and variable not in facts.taken and not variable.is_parameter
+                if isinstance(one.to, c.Var) and isinstance(one.value, c.Var) and one.to.variable is one.value.variable:
+                    changed = True
+                    continue
+                if is_dead:
+                    changed = True
+                    if facts.depends(one.value)[0]:
+                        out.append(c.Do(one.value))
+                    continue
+            if isinstance(one, c.If) and isinstance(one.condition, c.Word):
+                changed = True
+                out += one.yes if one.condition.name == "true" else one.no
+                continue
+            if isinstance(one, c.If) and not one.yes and not one.no:
+                changed = True
+                if facts.depends(one.condition)[0]:
+                    out.append(c.Do(one.condition))
+                continue
+            out.append(one)
+        return out
+
+    statements[:] = go(statements)
+    return changed
+
+
+# Values that are used once, where they are used.
+
+def forward(statements, with_names):
+    """Puts a value into the statement that is the only one to use it. Returns whether there was one."""
+    facts = Facts(statements)
+    for body in every_list(statements):
+        for order, one in enumerate(body):
+            if isinstance(one, c.Set) and isinstance(one.to, c.Var) and can_go(facts, one.to.variable) and moves(facts, body, order, with_names):
+                del body[order]
+                return True
+    return False
+
+
+def every_list(statements):
+    yield statements
+    for one in statements:
+        for body in c.lists(one):
+            yield from every_list(body)
+
+
+def can_go(facts, variable):
+    return facts.is_fixed(variable) and not variable.is_parameter and facts.reads.get(variable) == 1
+
+
+def moves(facts, body, order, with_names):
+    """Moves a value behind the statements that do not interfere into the one that uses it, if there is such a one."""
+    variable, value = body[order].to.variable, body[order].value
+    calls, memory, variables = facts.depends(value)
+    for at in range(order + 1, len(body)):
+        one = body[at]
+        if uses(one, variable):
+            return goes_into(facts, one, variable, value, with_names)
+        if not isinstance(one, (c.Set, c.Do)) or any(uses(inner, variable) for inner in c.all_statements([one])):
+            return False
+        if isinstance(one, c.Set) and root(one.to) in variables:
+            return False
+        its_calls, its_memory, _ = joined_depends(facts, one)
+        writes = isinstance(one, c.Set) and (root(one.to) is None or root(one.to) in facts.taken)
+        if calls and (its_calls or its_memory or writes) or memory and (its_calls or writes):
+            return False
+    return False
+
+
+def joined_depends(facts, one):
+    calls = memory = False
+    variables = set()
+    for expression in c.expressions(one):
+        found = depends_of_target(facts, expression) if isinstance(one, c.Set) and expression is one.to else facts.depends(expression)
+        calls, memory, variables = calls or found[0], memory or found[1], variables | found[2]
+    return calls, memory, variables
+
+
+def uses(one, variable):
+    return any(isinstance(part, c.Var) and part.variable is variable for expression in c.expressions(one) for part in c.every(expression))
+
+
+def goes_into(facts, one, variable, value, with_names):
+    if isinstance(one, (c.While, c.For)):
+        return False
+    calls, memory, _ = facts.depends(value)
+    path = path_to(c.expressions(one), variable)
+    if path is None or isinstance(path[0], c.Var) and path[0].variable is variable and isinstance(one, c.Set) and path[0] is one.to:
+        return False
+    if calls or memory:
+        for part, child in zip(path, path[1:]):
+            is_later = isinstance(part, c.Binary) and part.operator in c.LOGICAL and child is part.right
+            if is_later or isinstance(part, c.Choice) and child is not part.condition:
+                return False
+        if not may_join(facts, one, path, calls):
+            return False
+    value = with_names(value, variable.meaning) if isinstance(value, c.Literal) else value
+
+    def change(part):
+        return value if isinstance(part, c.Var) and part.variable is variable else simpler(part)
+
+    for name in c.EXPRESSIONS[type(one)]:
+        if getattr(one, name) is not None:
+            setattr(one, name, c.rebuilt(getattr(one, name), change))
+    return True
+
+
+def path_to(expressions, variable):
+    """The expressions from the outermost one to the use of a variable."""
+    for expression in expressions:
+        if isinstance(expression, c.Var) and expression.variable is variable:
+            return [expression]
+        inner = path_to(c.parts(expression), variable)
+        if inner:
+            return [expression, *inner]
+    return None
+
+
+def may_join(facts, one, path, has_call):
+    """Whether a value that calls or reads memory may be computed in the middle of a statement: C says nothing of the order there."""
+    on_path = {id(part) for part in path}
+    for expression in c.expressions(one):
+        is_target = isinstance(one, c.Set) and expression is one.to
+        if is_target and id(expression) not in on_path:
+            calls, memory, _ = depends_of_target(facts, expression)
+            if calls or has_call and memory:
+                return False
+            continue
+        if not beside(facts, expression, on_path, has_call, is_target):
+            return False
+    return True
+
+
+def beside(facts, expression, on_path, has_call, is_target):
+    """Whether what is beside the path neither calls nor, if the value calls, reads memory."""
+    if id(expression) not in on_path:
+        calls, memory, _ = facts.depends(expression)
+        return not calls and not (has_call and memory)
+    if has_call and isinstance(expression, c.Index) and not is_target:
+        return False
+    return all(beside(facts, part, on_path, has_call, False) for part in c.parts(expression))
+
+
+def forward_addresses(statements):
+    """Puts the address of an item in place of a pointer, if its index stays as it is up to the last use."""
+    facts = Facts(statements)
+    for body in every_list(statements):
+        for order, one in enumerate(body):
+            if not (isinstance(one, c.Set) and isinstance(one.to, c.Var) and isinstance(one.value, c.AddressOf)):
+                continue
+            variable = one.to.variable
+            if variable.is_parameter or not facts.is_fixed(variable) or not isinstance(one.value.place, c.Index):
+                continue
+            if keeps(facts, body, order, variable, one.value):
+                value = one.value
+                del body[order]
+
+                def change(part, variable=variable, value=value):
+                    return value if isinstance(part, c.Var) and part.variable is variable else simpler(part)
+
+                on_expressions(statements, change)
+                return True
+    return False
+
+
+def keeps(facts, body, order, variable, value):
+    """Whether all uses of a variable are behind here in the same list, before what its value is made of changes."""
+    calls, memory, variables = facts.depends(value.place.pointer)
+    more = facts.depends(value.place.index)
+    if calls or memory or more[0] or more[1]:
+        return False
+    variables |= more[2]
+    count = 0
+    for one in body[order + 1:]:
+        inner = list(c.all_statements([one]))
+        used = sum(isinstance(part, c.Var) and part.variable is variable for each in inner for expression in c.expressions(each)
+                   for part in c.every(expression))
+        count += used
+        changes = any(isinstance(each, c.Set) and root(each.to) in variables for each in inner)
+        if changes:
+            return count == facts.reads.get(variable) and not used
+    return count == facts.reads.get(variable)
+
+
+# Returns, conditions and loops.
+
+def pretty(statements):
+    """The same statements, as one would write them."""
+    out = []
+    for one in statements:
+        out += pretty_one(one)
+    out = counted(returned(sunk(in_conditions(out))))
+    for order, one in enumerate(out):
+        # What is behind a branch that leaves needs no `else`.
+        if isinstance(one, c.If) and one.no and c.leaves(one.yes):
+            return [*out[:order], c.If(one.condition, one.yes, []), *pretty([*one.no, *out[order + 1:]])]
+    return out
+
+
+def pretty_one(one):
+    if isinstance(one, c.If):
+        return pretty_if(c.If(one.condition, pretty(one.yes), pretty(one.no)))
+    if isinstance(one, c.Switch):
+        return [c.Switch(one.on, [(labels, pretty(body)) for labels, body in one.cases])]
+    if isinstance(one, c.While):
+        body = pretty(one.body)
+        while body and isinstance(body[-1], c.Continue):
+            body = body[:-1]
+        first = body[0] if body else None
+        is_endless = isinstance(one.condition, c.Word)
+        if is_endless and isinstance(first, c.If) and len(first.yes) == 1 and isinstance(first.yes[0], c.Break) and not first.no:
+            return [c.While(simpler(c.negated(first.condition)), body[1:])]
+        return [c.While(one.condition, body)]
+    if isinstance(one, c.For):
+        return [c.For(one.first, one.condition, one.step, pretty(one.body))]
+    return [one]
+
+
+def pretty_if(one):
+    yes, no, condition = one.yes, one.no, one.condition
+    both = as_value(one)
+    if both:
+        return [both]
+    if not yes or no and c.leaves(no) and not c.leaves(yes) or no and c.leaves(no) and len(no) < len(yes) and c.leaves(yes) and len(no) == 1:
+        yes, no, condition = no, yes, simpler(c.negated(condition))
+    if not no and len(yes) == 1 and isinstance(yes[0], c.If) and not yes[0].no:
+        return [c.If(c.Binary("&&", condition, yes[0].condition, c.BOOL), yes[0].yes, [])]
+    return [c.If(condition, yes, no)]
+
+
+def as_value(one):
+    """Two branches that set the same place, as one assignment."""
+    if not (len(one.yes) == len(one.no) == 1 and all(isinstance(branch[0], c.Set) for branch in (one.yes, one.no))):
+        return None
+    yes, no = one.yes[0], one.no[0]
+    if not isinstance(yes.to, c.Var) or not isinstance(no.to, c.Var) or yes.to.variable is not no.to.variable:
+        return None
+    value = chosen(one.condition, yes.value, no.value)
+    return c.Set(yes.to, value) if value is not None else None
+
+
+def chosen(condition, yes, no):
+    """One value or another, by a condition, if that is short."""
+    for word, other, operator in (("true", no, "||"), ("false", yes, "&&")):
+        fixed = yes if word == "true" else no
+        if isinstance(fixed, c.Word) and fixed.name == word:
+            if isinstance(other, c.Word) and other.name in ("true", "false"):
+                return condition
+            return c.Binary(operator, condition, other, c.BOOL)
+    if isinstance(yes, c.Word) and yes.name == "false":
+        return c.Binary("&&", simpler(c.negated(condition)), no, c.BOOL)
+    if isinstance(no, c.Word) and no.name == "true":
+        return c.Binary("||", simpler(c.negated(condition)), yes, c.BOOL)
+    for part in (yes, no):
+        if any(isinstance(inner, c.CallOf) for inner in c.every(part)):
+            return None
+    made = c.Choice(condition, yes, no)
+    return made
+
+
+def sunk(statements):
+    """`return` in each branch, instead of a variable that each branch sets."""
+    if len(statements) < 2 or not isinstance(statements[-1], c.Return) or not isinstance(statements[-1].value, c.Var):
+        return statements
+    variable, choice = statements[-1].value.variable, statements[-2]
+    if variable.is_parameter or not isinstance(choice, (c.If, c.Switch)):
+        return statements
+    bodies = branches(choice)
+    if any(not (c.leaves(body) or body and isinstance(body[-1], c.Set) and isinstance(body[-1].to, c.Var) and body[-1].to.variable is variable
+                or body and isinstance(body[-1], (c.If, c.Switch))) for body in bodies):
+        return statements
+    if isinstance(choice, c.If) and not choice.no:
+        return statements
+
+    def with_return(body):
+        if c.leaves(body):
+            return body
+        if isinstance(body[-1], c.Set) and isinstance(body[-1].to, c.Var) and body[-1].to.variable is variable:
+            return [*body[:-1], c.Return(body[-1].value)]
+        return sunk([*body, c.Return(c.Var(variable))])
+
+    return [*statements[:-2], with_branches(choice, [with_return(body) for body in bodies])]
+
+
+def in_conditions(statements):
+    """`a && b` or `a || b`, where a variable is set to the first and then, if that leaves it open, to the second."""
+    out = []
+    for one in statements:
+        first = out[-1] if out else None
+        if isinstance(one, c.If) and not one.no and len(one.yes) == 1 and isinstance(one.yes[0], c.Set) and isinstance(first, c.Set):
+            operator, variable = ("||", c.negated(one.condition)) if isinstance(one.condition, c.Unary) else ("&&", one.condition)
+            second = one.yes[0]
+            if all(isinstance(to, c.Var) and isinstance(variable, c.Var) and to.variable is variable.variable for to in (first.to, second.to)) \
+                    and not uses(c.Do(second.value), variable.variable):
+                out[-1] = c.Set(first.to, c.Binary(operator, first.value, second.value, c.BOOL))
+                continue
+        out.append(one)
+    return out
+
+
+def returned(statements):
+    """`return` of a value, instead of a variable that is only set for it."""
+    if len(statements) < 2 or not isinstance(statements[-1], c.Return) or not isinstance(statements[-1].value, c.Var):
+        return statements
+    last = statements[-2]
+    variable = statements[-1].value.variable
+    if isinstance(last, c.Set) and isinstance(last.to, c.Var) and last.to.variable is variable and not variable.is_parameter:
+        return [*statements[:-2], c.Return(last.value)]
+    return statements
+
+
+def counted(statements):
+    """A loop that counts, as a `for`."""
+    out = []
+    for order, one in enumerate(statements):
+        made = as_for(out, one, statements[order + 1:]) if isinstance(one, c.While) else None
+        if made:
+            first, loop = made
+            out.remove(first)
+            one = loop
+        out.append(one)
+    return out
+
+
+def as_for(before, loop, behind):
+    step = loop.body[-1] if loop.body else None
+    if not (isinstance(step, c.Set) and isinstance(step.to, c.Var) and isinstance(step.value, c.Binary) and step.value.operator == "+"):
+        return None
+    variable = step.to.variable
+    if not (isinstance(step.value.left, c.Var) and step.value.left.variable is variable) or variable.is_parameter:
+        return None
+    if continues(loop.body) or mentions(behind, variable) or not uses(loop, variable):
+        return None
+    if not isinstance(step.value.right, c.Literal):
+        return None
+    # The start may be some assignments before.
+    for at in range(len(before) - 1, max(-1, len(before) - 4), -1):
+        one = before[at]
+        if not isinstance(one, c.Set):
+            return None
+        if isinstance(one.to, c.Var) and one.to.variable is variable:
+            if mentions(before[at + 1:], variable) or mentions(before[:at], variable):
+                return None
+            return one, c.For(one, loop.condition, step, loop.body[:-1])
+    return None
+
+
+def mentions(statements, variable):
+    return any(uses(one, variable) for one in c.all_statements(statements))
+
+
+def continues(statements):
+    for one in statements:
+        if isinstance(one, c.Continue):
+            return True
+        if isinstance(one, (c.If, c.Switch)) and any(continues(body) for body in c.lists(one)):
+            return True
+    return False
+
+
+# Types and declarations.
+
+def settle(statements, result):
+    """Puts a cast where a number that any type may be a part of is used as a size of memory."""
+    def fit(value, to):
+        if not (isinstance(value.of, c.Number) and isinstance(to, c.Number)) or isinstance(value, c.Literal):
+            return value
+        mine, wanted = value.of.text(), to.text()
+        return c.Cast(to, value) if mine != wanted and {mine, wanted} == {"size_t", "uint64_t"} and wanted == "size_t" else value
+
+    def change(one):
+        if isinstance(one, c.Binary) and one.operator not in c.LOGICAL | {"<<", ">>"}:
+            sized = next((side.of for side in (one.left, one.right) if isinstance(side.of, c.Number) and side.of.text() == "size_t"), None)
+            if sized:
+                return c.Binary(one.operator, fit(one.left, sized), fit(one.right, sized), one.of)
+        if isinstance(one, c.CallOf) and one.expects:
+            fitted = [fit(argument, to) for argument, to in zip(one.arguments, one.expects)]
+            return c.CallOf(one.name, fitted, one.of, one.is_pure, one.expects, one.fields)
+        if isinstance(one, c.Index):
+            return c.Index(one.pointer, fit(one.index, c.Number(64, c.SIZE)))
+        return one
+
+    on_expressions(statements, change)
+    for one in c.all_statements(statements):
+        if isinstance(one, c.Set):
+            one.value = fit(one.value, one.to.of)
+        if isinstance(one, c.Return) and one.value is not None:
+            one.value = fit(one.value, result)
+
+
+def declare(statements, parameters):
+    """Declares each variable where it is first set, or before the first statement that has it."""
+    place_of = {}
+    for one in c.all_statements(statements):
+        for expression in c.expressions(one):
+            for part in c.every(expression):
+                if isinstance(part, c.Var) and not part.variable.is_parameter:
+                    place_of.setdefault(part.variable, None)
+    for variable in place_of:
+        declare_one(statements, variable)
+
+
+def declare_one(statements, variable):
+    has = [one for one in statements if mentions([one], variable)]
+    if len(has) == 1:
+        one = has[0]
+        if isinstance(one, c.For) and uses(one.first, variable):
+            one.first.declares = True
+            return
+        inner = [body for body in c.lists(one) if mentions(body, variable)]
+        if len(inner) == 1 and not uses(one, variable):
+            declare_one(inner[0], variable)
+            return
+    first = has[0]
+    if isinstance(first, c.Set) and isinstance(first.to, c.Var) and first.to.variable is variable and not any(
+            isinstance(part, c.Var) and part.variable is variable for part in c.every(first.value)):
+        first.declares = True
+        return
+    statements.insert(statements.index(first), c.Declare(variable))
+
+
+def run(statements, result, with_names):
+    """All steps."""
+    statements = structured(statements)
+    for _ in range(200):
+        simplify(statements)
+        changed = propagate(statements, with_names)
+        changed = remove_dead(statements) or changed
+        changed = forward_addresses(statements) or changed
+        while forward(statements, with_names):
+            changed = True
+        made = pretty(statements)
+        if not changed and shape(made) == shape(statements):
+            statements = made
+            break
+        statements = made
+    else:
+        raise Unknown("steps without an end")
+    while statements and isinstance(statements[-1], c.Return) and statements[-1].value is None:
+        statements = statements[:-1]
+    settle(statements, result)
+    return statements
+
+
+def shape(statements):
+    """What tells whether a step has changed something."""
+    return [(type(one).__name__, *(shape(body) for body in c.lists(one)), len(c.expressions(one))) for one in statements]

@@ -1,0 +1,53 @@
+"""Wrong lines that the comparison has to find: in the C, and in what makes it. Each old text stands in its file once."""
+
+# Of u16550.c.
+IN_C = [
+    ("a burst of 15 of 16", "uart_write_data(uart, found, 16);\n        return 16;", "uart_write_data(uart, found, 16);\n        return 15;"),
+    ("a whole burst from 12 on", "bytes_len >= 16 ? bytes : NULL", "bytes_len >= 12 ? bytes : NULL"),
+    ("LSR forgets what was saved", "uart->saved_lsr |= lsr &", "uart->saved_lsr = lsr &"),
+    ("MSR keeps what was reported", "    uint8_t msr2 = uart->saved_msr;\n    uart->saved_msr = 0;\n", "    uint8_t msr2 = uart->saved_msr;\n"),
+    ("one poll more", "for (uint64_t turn = 1; turn < number; turn++) {\n        if (uart_ready_to_send",
+     "for (uint64_t turn = 1; turn <= number; turn++) {\n        if (uart_ready_to_send"),
+    ("the low byte of a divisor", "UART_LCR, U16550_LCR_DLAB);\n    uart_write_register(uart, UART_DATA, (uint8_t)(uint16_t)(divisor % 256",
+     "UART_LCR, U16550_LCR_DLAB);\n    uart_write_register(uart, UART_DATA, (uint8_t)(uint16_t)(divisor % 255"),
+    ("the frame with DLAB set", "uart_write_register(uart, UART_LCR, 0);\n    uart_write_register(uart, UART_LCR, frame);",
+     "uart_write_register(uart, UART_LCR, 0);\n    uart_write_register(uart, UART_LCR, frame | U16550_LCR_DLAB);"),
+    ("a drain of 16", "turn < 17", "turn < 16"),
+    ("even parity as mark", "case U16550_CORE_PARITY_EVEN:\n        return 3;", "case U16550_CORE_PARITY_EVEN:\n        return 2;"),
+    ("a byte of the loopback's message", "32, 119, 111, 114, 108,", "32, 119, 111, 115, 108,"),
+    ("a cell too far", "cell + count : count - to_end;", "cell + count : count - to_end + 1;"),
+    ("nine interrupts in one service", "uart_ring_serve_up_to(ring, 8).served", "uart_ring_serve_up_to(ring, 9).served"),
+    ("XON waits its turn", "slots[0] = ring->urgent.value;\n        return 1 + uart_ring_copy_queued(ring, &slots[1], slots_len - 1);",
+     "slots[0] = ring->urgent.value;\n        return 1 + uart_ring_copy_queued(ring, &slots[0], slots_len - 1);"),
+    ("a stuck chip sends", "    if (ring->stuck.is_some)\n        return 0;\n    if (ring->urgent", "    if (ring->urgent"),
+    ("the mark is reached from below", "bool was_above = ring->low_mark < ring->transmit.len;", "bool was_above = ring->low_mark <= ring->transmit.len;"),
+    ("a frame without a divisor", "    if (outcome.error.kind != UART_INVALID_DIVISOR_ERROR_NONE)\n        return outcome.error;\n", ""),
+    ("a call in the middle of another", "    if (uart->is_busy != 0)\n        return U16550_BUSY;\n", ""),
+    ("a spin limit of 0", "uart_if(limit == 0, U16550_ZERO_LIMIT)", "U16550_OK"),
+    ("a parity that is none", "from->parity > 4", "from->parity > 5"),
+    ("the wrong error", "return U16550_ATTACH_LOOPBACK;", "return U16550_ATTACH_NO_DIVISOR;"),
+    ("a length of all memory", "if (len > (SIZE_MAX / 2) / item", "if (len > SIZE_MAX / item"),
+    ("a surrogate in UTF-8", "high = 0x9f;", "high = 0xbf;"),
+]
+
+# Of what makes it: the file, the old text and the new one.
+IN_TRANSLATOR = [
+    ("the other variant of an option", "representation.py", 'Kind("option", inner, 1, "is_some", "value")', 'Kind("option", inner, 0, "is_some", "value")'),
+    ("a comparison that takes one more", "body.py", '"Lt": "<", "Le": "<="', '"Lt": "<=", "Le": "<="'),
+    ("a product in place of a sum", "body.py", '"Add": "+"', '"Add": "*"'),
+    ("`and` in place of `or`", "passes.py", '("true", no, "||")', '("true", no, "&&")'),
+    ("the branches of `if` change places", "body.py", "return c.If(condition, self.list(yes, labels), self.list(no, labels))",
+     "return c.If(condition, self.list(no, labels), self.list(yes, labels))"),
+    ("a negation is lost", "syntax.py", 'OPPOSITE = {"==": "!=", "!=": "=="', 'OPPOSITE = {"==": "==", "!=": "=="'),
+    ("a read passes a write of memory", "passes.py", "or memory and (its_calls or writes)", "or memory and its_calls"),
+    ("a read passes a call", "passes.py", "or memory and (its_calls or writes)", "or memory and writes"),
+    ("a call becomes the second of two conditions", "passes.py", "if is_later or isinstance(part, c.Choice)", "if isinstance(part, c.Choice)"),
+    ("a variable that changes is taken for one that does not", "passes.py",
+     "return self.definitions.get(variable, 0) == (0 if variable.is_parameter else 1)", "return True"),
+    ("an assignment that is read is removed", "passes.py", "is_dead = variable and not facts.reads.get(variable) and", "is_dead = variable and"),
+    ("a loop counts twice", "passes.py", "c.For(one, loop.condition, step, loop.body[:-1])", "c.For(one, loop.condition, step, loop.body)"),
+    ("what is to be skipped is done", "passes.py", "[body[:-1] if skips else", "[[*body[:-1], *rest] if skips else"),
+    ("a local is one variable for two purposes", "tree.py", "        return {local: one.get(local, frozenset()) | other.get(local, frozenset())",
+     "        return {local: one.get(local, frozenset()) or other.get(local, frozenset())"),
+    ("a bit of a register", "library.py", 'for one in found:\n        bits |= one', 'for one in found[1:]:\n        bits |= one'),
+]

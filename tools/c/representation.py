@@ -1,0 +1,342 @@
+"""How each type of the MIR is a type of C."""
+import re
+import textwrap
+
+from names import snake
+from syntax import BOOL, BYTE, SIZE, VOID, Named, Number, Pointer, Width, declared
+from translate import Unknown, head
+from tree import DEVICE, MEMORY, PORTS
+
+RESERVED = set("char int short long switch default case break register if else for while do return signed unsigned float double const static "
+               "auto union struct enum void bool true false class new delete this private public template typename".split())
+OF_CALLER_TYPES = {DEVICE: "struct u16550_device", PORTS: "struct uart_line_ports", MEMORY: "struct uart_memory *"}
+NO_DEVICE = "{ { NULL, NULL, NULL }, 0, 0 }"
+VECTOR = "std_alloc::vec::Vec"
+OPTION, RESULT = "core::option::Option", "core::result::Result"
+# A struct of more parts than this is made part by part, and one of fewer by a function.
+FEW = 3
+
+
+class Kind:
+    """What a type is in C: `kind` is a word, and `parts` what belongs to it."""
+
+    def __init__(self, kind, *parts):
+        self.kind, self.parts = kind, parts
+
+
+class Representation:
+    """`public` has the C names of types that the header has already. The types that a driver with rings is made of are in the header."""
+
+    def __init__(self, forest, source, public):
+        self.forest, self.source, self.public = forest, source, public
+        self.kinds, self.names, self.declarations, self.makers = {}, {}, [], {}
+        self.in_header = set()
+
+    def put_into_header(self, of):
+        """The names of this type, and of all that it is made of, begin as those of the header do."""
+        if not isinstance(of, tuple) or of in self.in_header or of in OF_CALLER_TYPES:
+            return
+        self.in_header.add(of)
+        for one in of[2] if of[0] in ("Named", "Struct") and of[1] != VECTOR else []:
+            self.put_into_header(one)
+        if of[0] == "Named":
+            for part in self.shape(of)[1]:
+                for one in part:
+                    self.put_into_header(one)
+
+    # What a type is.
+
+    def kind(self, of):
+        if of not in self.kinds:
+            self.kinds[of] = self.find_kind(of)
+        return self.kinds[of]
+
+    def is_unit(self, of):
+        return self.kind(of).kind == "unit"
+
+    def shape(self, of):
+        """Of a struct or an enum: "Fields" or "Variants", and the types of the parts of each."""
+        if of[0] == "Struct":
+            return "Fields", [list(of[2])]
+        if of[1] not in self.forest.program.types:
+            raise Unknown(f"the type {of[1]}")
+        kind, value = head(self.forest.program.types[of[1]]["shape"])
+        if of[1] == VECTOR:
+            # Cells, length and capacity: where they come from is not kept.
+            value = value[:3]
+        return kind, [[self.forest.type(one, of[2]) for one in part] for part in ([value] if kind == "Fields" else value)]
+
+    def find_kind(self, of):
+        if of in ("Unit", "Never"):
+            return Kind("unit")
+        if of == "Bool":
+            return Kind("bool")
+        if of == "Ptr" or of[0] == "Ref":
+            return Kind("pointer")
+        if of[0] == "Int":
+            return Kind("number")
+        if of[0] == "Array":
+            return Kind("array")
+        if of in OF_CALLER_TYPES:
+            return Kind("device")
+        if of[0] == "Struct" and of[1] == "&[]":
+            return Kind("slice", of[2][0])
+        if of[0] == "Other":
+            raise Unknown(f"the type {of}")
+        name = of[1] if of[0] == "Named" else ""
+        if name == "core::ops::ControlFlow":
+            return self.kind(self.same_as(of))
+        if name == OPTION:
+            inner = of[2][0]
+            return Kind("nullable", inner) if inner[0] == "Ref" else Kind("option", inner, 1, "is_some", "value")
+        if name == RESULT:
+            return self.kind_of_result(*of[2])
+        shape, parts = self.shape(of)
+        if name.endswith("ErrResidual"):
+            return Kind("wrapper", 0, parts[0][0])
+        if shape == "Variants":
+            is_plain = all(self.is_unit(one) for part in parts for one in part)
+            return Kind("enum") if is_plain else Kind("tagged")
+        full = [order for order, one in enumerate(parts[0]) if not self.is_unit(one)]
+        if not full:
+            return Kind("unit")
+        if len(full) == 1 and self.kind(parts[0][full[0]]).kind in ("number", "bool"):
+            return Kind("wrapper", full[0], parts[0][full[0]])
+        return Kind("struct")
+
+    def kind_of_result(self, value, error):
+        """`Ok` is 0 in C, or what the error has for none: no error is number 0."""
+        if self.is_unit(error):
+            return Kind("option", value, 0, "is_some", "value")
+        if self.kind(error).kind in ("enum", "tagged"):
+            return Kind("status", error) if self.is_unit(value) else Kind("outcome", value, error)
+        if self.is_unit(value):
+            return Kind("option", error, 1, "is_error", "error")
+        if self.kind(error).kind in ("wrapper", "struct"):
+            return Kind("either", value, error)
+        raise Unknown(f"a result of {value} and {error}")
+
+    @staticmethod
+    def same_as(of):
+        """The result or option that a `ControlFlow` says the same as."""
+        first, value = of[2]
+        if first[1].endswith("NoValue"):
+            return ("Named", RESULT, (value, "Unit"))
+        return ("Named", RESULT, (value, first[2][0]))
+
+    # Names.
+
+    @staticmethod
+    def own(of):
+        path = of[1].split("::")
+        return path[0], path[-1]
+
+    def plain_name(self, of):
+        """The name of a type without `struct`."""
+        if of in self.public:
+            return self.public[of]
+        of = self.canonical(of)
+        name = self.other_name(of)
+        return re.sub("^uart_", "u16550_core_", name) if of in self.in_header else name
+
+    def canonical(self, of):
+        """The type of those that are the same in C: a result whose error says nothing is an option."""
+        if not isinstance(of, tuple) or of[0] != "Named":
+            return of
+        if of[1] == "core::ops::ControlFlow":
+            return self.canonical(self.same_as(of))
+        kind = self.kind(of)
+        return ("Named", OPTION, (kind.parts[0],)) if kind.kind == "option" and kind.parts[2] == "is_some" else of
+
+    def other_name(self, of):
+        if of in ("Unit", "Bool", "Ptr"):
+            return {"Unit": "nothing", "Bool": "bool", "Ptr": "pointer"}[of]
+        if of[0] == "Int":
+            return f"u{of[1]}"
+        if of[0] == "Array":
+            return f"uart_bytes{of[2]}" if of[1] == ("Int", 8) else f"uart_{self.bare_name(of[1])}_{of[2]}"
+        if of[0] == "Ref":
+            return f"{self.bare_name(of[1])}_at"
+        if of[0] == "Num":
+            return str(of[1])
+        if of[0] == "Struct" and of[1] == "&[]":
+            return "uart_slice_mut" if of[2][0][2] else "uart_slice"
+        if of[0] == "Struct":
+            names = [self.bare_name(one) for one in of[2]]
+            return f"uart_pair_of_{names[0]}" if len(set(names)) == 1 else "uart_pair_of_" + "_and_".join(names)
+        kind = self.kind(of)
+        if kind.kind == "option":
+            return f"uart_maybe_{self.bare_name(kind.parts[0])}"
+        if kind.kind in ("outcome", "either"):
+            return f"uart_{self.bare_name(kind.parts[0])}_or_{self.bare_name(kind.parts[1])}"
+        base = snake(of[1].split("::")[-1])
+        base = "pair_of" if base.startswith("(") else re.sub("uart16550_?", "", base) or "driver"
+        inner = [self.bare_name(one) for one in of[2] if one not in OF_CALLER_TYPES]
+        if base == "pair_of" and len(set(inner)) == 1:
+            inner = inner[:1]
+        return "_".join(["uart", base, *inner])
+
+    def bare_name(self, of):
+        return re.sub(r"^(uart|u16550_core|u16550)_", "", self.plain_name(of))
+
+    def variants(self, of):
+        """Of an enum: the name, the names of the parts and their types of each variant."""
+        _, parts = self.shape(of)
+        named = self.source.variants.get(self.own(of))
+        if not named or len(named) != len(parts):
+            named = [(f"Case{order}", [f"part{place}" for place, _ in enumerate(part)]) for order, part in enumerate(parts)]
+        return [(name, fields, part) for (name, fields), part in zip(named, parts)]
+
+    def fields(self, of):
+        """Of a struct: the names and types of its parts."""
+        parts = self.shape(of)[1][0]
+        names = self.source.fields.get(self.own(of)) if of[0] == "Named" else None
+        if of[0] == "Named" and of[1] == VECTOR:
+            names = ["data", "len", "capacity"]
+        if not names or len(names) != len(parts):
+            names = [f"part{order}" for order, _ in enumerate(parts)] if len(parts) > 4 else ["first", "second", "third", "fourth"][:len(parts)]
+        return list(zip(map(safe, names), parts))
+
+    def is_size(self, of, order):
+        """Whether a part of a struct counts bytes of memory."""
+        if of[0] == "Named" and of[1] == VECTOR:
+            return order > 0
+        if of[0] == "Named" and "NonZero" in of[1]:
+            return "Usize" in of[1]
+        types = self.source.types_of_fields.get(self.own(of)) if of[0] == "Named" else None
+        return bool(types) and re.search(r"\b(usize|NonZeroUsize)\b", types[order]) is not None
+
+    def is_error(self, of):
+        return of[1].endswith("Error")
+
+    def constant(self, of, tag):
+        """The C name of a variant, or of none."""
+        prefix = self.plain_name(of).upper()
+        return f"{prefix}_NONE" if tag is None else f"{prefix}_{snake(self.variants(of)[tag][0]).upper()}"
+
+    def part_name(self, of, tag, order):
+        """The name of a part of a variant in the struct of C."""
+        name, fields, part = self.variants(of)[tag]
+        full = [one for one in part if not self.is_unit(one)]
+        return safe(snake(name) if len(full) == 1 else f"{snake(name)}_{fields[order]}")
+
+    # Types of C.
+
+    def c(self, of, is_size=None):
+        """The C type of a value."""
+        kind = self.kind(of)
+        word = kind.kind
+        if word == "unit":
+            return VOID
+        if word == "bool":
+            return BOOL
+        if word == "number":
+            return Number(of[1], (Width(is_size) if of[1] == 64 else None))
+        if word == "wrapper":
+            return self.c(kind.parts[1], self.is_size(of, kind.parts[0]))
+        if word == "pointer":
+            return self.pointer(of)
+        if word in ("nullable", "status"):
+            return self.c(kind.parts[0])
+        if word == "option" and self.is_unit(kind.parts[0]):
+            return BOOL
+        if of[0] == "Named" and of[1] == "core::ops::ControlFlow":
+            return self.c(self.same_as(of))
+        if word == "device":
+            return Named(OF_CALLER_TYPES[of])
+        return Named(self.declare(of))
+
+    def pointer(self, of):
+        if of == "Ptr":
+            return Pointer(BYTE)
+        inner = of[1][1] if of[1][0] == "Array" else of[1]
+        return Pointer(self.c(inner), not of[2])
+
+    def declare(self, of):
+        """The C name of a struct or an enum, which is declared once."""
+        name = self.plain_name(of)
+        if of[0] == "Named" and of[1] == OPTION:
+            of = ("Named", OPTION, of[2])
+        word = "enum" if self.kind(of).kind == "enum" else "struct"
+        if name not in self.names:
+            self.names[name] = f"{word} {name}"
+            if of not in self.public:
+                self.declarations.append((name, self.declaration(of, name)))
+        return self.names[name]
+
+    def member(self, of, name, is_size=None):
+        if of == "Ptr":
+            return f"    {declared(Pointer(BYTE), name)};"
+        return f"    {declared(self.c(of, is_size), name)};"
+
+    def declaration(self, of, name):
+        kind = self.kind(of)
+        comment = self.comment(of)
+        if kind.kind == "enum":
+            return f"{comment}enum {name} {{\n" + ",\n".join(self.constants(of)) + "\n};\n"
+        return f"{comment}struct {name} {{\n" + "\n".join(self.members(of, name)) + "\n};\n"
+
+    def constants(self, of):
+        first = 1 if self.is_error(of) else 0
+        none = [f"    {self.constant(of, None)} = 0"] if first else []
+        return none + [f"    {self.constant(of, order)} = {order + first}" for order, _ in enumerate(self.variants(of))]
+
+    def members(self, of, name):
+        kind = self.kind(of)
+        if kind.kind == "array":
+            return [f"    {declared(self.c(of[1]), f'bytes[{of[2]}]')};"]
+        if kind.kind == "option":
+            return [f"    bool {kind.parts[2]};", self.member(kind.parts[0], kind.parts[3])]
+        if kind.kind == "outcome":
+            return [self.member(kind.parts[1], "error"), self.member(kind.parts[0], "value")]
+        if kind.kind == "either":
+            return ["    bool is_error;", self.member(kind.parts[1], "error"), self.member(kind.parts[0], "value")]
+        if kind.kind == "slice":
+            return [self.member(kind.parts[0], "data"), "    size_t len;"]
+        if kind.kind == "tagged":
+            tags = f"enum {name}_kind"
+            self.declarations.append((f"{name}_kind", f"{tags} {{\n" + ",\n".join(self.constants(of)) + "\n};\n"))
+            inner = [self.member(one, self.part_name(of, tag, order)) for tag, (_, _, part) in enumerate(self.variants(of))
+                     for order, one in enumerate(part) if not self.is_unit(one)]
+            return [f"    {tags} kind;", *inner]
+        return [self.member(one, field, self.is_size(of, order)) for order, (field, one) in enumerate(self.fields(of)) if not self.is_unit(one)]
+
+    def comment(self, of):
+        if of[0] != "Named" or of[1].startswith("core"):
+            return ""
+        return comment_of(self.source.comments.get(self.own(of), []))
+
+
+def safe(name):
+    return name + "_" if name in RESERVED else name
+
+
+def comment_of(lines_of_source, indent="", proved=()):
+    """A comment of Rust as one of C: without examples, and without marks of Rust. What is proved comes behind it."""
+    out, is_example = [], False
+    for one in lines_of_source:
+        if one.strip().startswith(("# Examples", "# Panics", "# Safety")):
+            is_example = True
+        elif one.startswith("# "):
+            is_example = False
+        if not is_example and not one.strip().startswith("```"):
+            out.append(re.sub(r"\[?`([^`]*)`\]?(?:\([^)]*\))?", r"\1", one).replace("# ", "").replace("::", "_"))
+    while out and not out[-1].strip():
+        out.pop()
+    while out and not out[0].strip():
+        out.pop(0)
+    if proved:
+        out += ([""] if out else []) + proved_lines(proved)
+    if not out:
+        return ""
+    if len(out) == 1 and len(out[0]) < 90:
+        return f"{indent}/* {out[0]} */\n"
+    return f"{indent}/*\n" + "".join(f"{indent} * {one}".rstrip() + "\n" for one in out) + f"{indent} */\n"
+
+
+def proved_lines(proved):
+    """What is proved, as the lines of a comment."""
+    return [line for one in proved for line in textwrap.wrap(f"Proved: {one.replace('`', '')}.", 90)]
+
+
+__all__ = ["SIZE", "Representation", "comment_of", "proved_lines", "safe"]

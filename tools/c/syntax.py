@@ -1,0 +1,559 @@
+"""C as a typed tree, and its text."""
+import dataclasses
+import typing
+
+WIDTH = 100
+INDENT = "    "
+PRECEDENCE = {"*": 12, "/": 12, "%": 12, "+": 11, "-": 11, "<<": 10, ">>": 10, "<": 9, "<=": 9, ">": 9, ">=": 9, "==": 8, "!=": 8,
+              "&": 7, "^": 6, "|": 5, "&&": 4, "||": 3}
+PRIMARY, UNARY, CHOICE = 15, 14, 2
+OPPOSITE = {"==": "!=", "!=": "==", "<": ">=", "<=": ">", ">": "<=", ">=": "<"}
+COMPARISONS = set(OPPOSITE)
+LOGICAL = {"&&", "||"}
+BITWISE = {"&", "|", "^"}
+
+
+# Types.
+
+class Width:
+    """What a number of 64 bits counts: bytes of memory or not. Numbers that are compared, added or assigned have one width."""
+
+    def __init__(self, is_size=None):
+        self.same, self.decided = None, is_size
+
+    def root(self):
+        at = self
+        while at.same:
+            at = at.same
+        return at
+
+    @property
+    def is_size(self):
+        return bool(self.root().decided)
+
+    def join(self, other):
+        """Makes both the same. Returns whether they can be."""
+        one, two = self.root(), other.root()
+        if one is two:
+            return True
+        if None not in (one.decided, two.decided) and one.decided != two.decided:
+            return False
+        one.decided = two.decided if one.decided is None else one.decided
+        two.same = one
+        return True
+
+
+@dataclasses.dataclass(eq=False)
+class Number:
+    bits: int
+    width: typing.Any = None
+
+    def text(self):
+        return "size_t" if self.width and self.width.is_size else f"uint{self.bits}_t"
+
+
+@dataclasses.dataclass(frozen=True)
+class Named:
+    name: str
+
+    def text(self):
+        return self.name
+
+
+@dataclasses.dataclass(eq=False)
+class Pointer:
+    to: typing.Any
+    is_const: bool = False
+
+    def text(self):
+        return f"{'const ' if self.is_const else ''}{self.to.text()} *"
+
+
+BOOL, VOID = Named("bool"), Named("void")
+BYTE = Number(8)
+SIZE = Width(True)
+
+
+def declared(of, name):
+    """The declaration of a name of this type."""
+    text = of.text()
+    return text + name if text.endswith("*") else f"{text} {name}"
+
+
+# Expressions. `of` is the type.
+
+@dataclasses.dataclass(eq=False)
+class Variable:
+    """A parameter or a local of a function."""
+    of: typing.Any
+    name: typing.Any = None
+    is_parameter: bool = False
+    local: int = -1
+    meaning: typing.Any = None  # the type of the MIR
+    hint: typing.Any = None  # a name, if the source has none
+
+
+@dataclasses.dataclass(eq=False)
+class Var:
+    variable: Variable
+
+    @property
+    def of(self):
+        return self.variable.of
+
+
+@dataclasses.dataclass(eq=False)
+class Literal:
+    value: int
+    of: typing.Any
+    names: tuple = ()  # of bits or of a register that together are this number
+
+
+@dataclasses.dataclass(eq=False)
+class Word:
+    """A constant that has a name: of an enum, `true`, `NULL`."""
+    name: str
+    of: typing.Any
+
+
+@dataclasses.dataclass(eq=False)
+class Field:
+    base: typing.Any
+    name: str
+    of: typing.Any
+
+
+@dataclasses.dataclass(eq=False)
+class Deref:
+    pointer: typing.Any
+
+    @property
+    def of(self):
+        return self.pointer.of.to
+
+
+@dataclasses.dataclass(eq=False)
+class Index:
+    pointer: typing.Any
+    index: typing.Any
+
+    @property
+    def of(self):
+        return self.pointer.of.to
+
+
+@dataclasses.dataclass(eq=False)
+class AddressOf:
+    place: typing.Any
+    of: typing.Any
+
+
+@dataclasses.dataclass(eq=False)
+class Unary:
+    operator: str
+    operand: typing.Any
+    of: typing.Any
+
+
+@dataclasses.dataclass(eq=False)
+class Binary:
+    operator: str
+    left: typing.Any
+    right: typing.Any
+    of: typing.Any
+
+
+@dataclasses.dataclass(eq=False)
+class Cast:
+    of: typing.Any
+    operand: typing.Any
+
+
+@dataclasses.dataclass(eq=False)
+class CallOf:
+    """A call. If it is pure it has no effect and reads nothing but its arguments. `expects` are the types of the parameters, and `fields`
+    says what is in each member of the struct that a maker makes: the number of an argument, or a constant."""
+    name: str
+    arguments: list
+    of: typing.Any
+    is_pure: bool = False
+    expects: tuple = ()
+    fields: typing.Any = None
+
+
+@dataclasses.dataclass(eq=False)
+class Choice:
+    condition: typing.Any
+    yes: typing.Any
+    no: typing.Any
+
+    @property
+    def of(self):
+        return self.yes.of
+
+
+CHILDREN = {Field: ("base",), Deref: ("pointer",), Index: ("pointer", "index"), AddressOf: ("place",), Unary: ("operand",),
+            Binary: ("left", "right"), Cast: ("operand",), CallOf: ("arguments",), Choice: ("condition", "yes", "no")}
+
+
+def parts(one):
+    """The expressions that an expression is made of."""
+    out = []
+    for name in CHILDREN.get(type(one), ()):
+        value = getattr(one, name)
+        out += value if isinstance(value, list) else [value]
+    return out
+
+
+def every(one):
+    """An expression and all that it is made of."""
+    yield one
+    for part in parts(one):
+        yield from every(part)
+
+
+def rebuilt(one, change):
+    """An expression with each of its parts as `change` makes it, from the inside out."""
+    names = CHILDREN.get(type(one), ())
+    if names:
+        new = {}
+        for name in names:
+            value = getattr(one, name)
+            new[name] = [rebuilt(item, change) for item in value] if isinstance(value, list) else rebuilt(value, change)
+        if any(new[name] is not getattr(one, name) for name in names):
+            one = dataclasses.replace(one, **new)
+    return change(one)
+
+
+# Statements.
+
+@dataclasses.dataclass(eq=False)
+class Set:
+    """An assignment, or the initialisation of a variable that is declared here."""
+    to: typing.Any
+    value: typing.Any
+    declares: bool = False
+
+
+@dataclasses.dataclass(eq=False)
+class Declare:
+    variable: Variable
+
+
+@dataclasses.dataclass(eq=False)
+class Do:
+    call: typing.Any
+
+
+@dataclasses.dataclass(eq=False)
+class If:
+    condition: typing.Any
+    yes: list
+    no: list
+
+
+@dataclasses.dataclass(eq=False)
+class Switch:
+    on: typing.Any
+    cases: list  # of (expressions or None for all others, statements)
+
+
+@dataclasses.dataclass(eq=False)
+class While:
+    condition: typing.Any
+    body: list
+
+
+@dataclasses.dataclass(eq=False)
+class For:
+    first: Set
+    condition: typing.Any
+    step: Set
+    body: list
+
+
+@dataclasses.dataclass(eq=False)
+class Block:
+    """What an `Exit` of this label leaves. C has none: they go before the text is made."""
+    label: int
+    body: list
+
+
+@dataclasses.dataclass(eq=False)
+class Loop:
+    label: int
+    body: list
+
+
+@dataclasses.dataclass(eq=False)
+class Exit:
+    label: int
+
+
+@dataclasses.dataclass(eq=False)
+class Return:
+    value: typing.Any = None
+
+
+@dataclasses.dataclass(eq=False)
+class Break:
+    pass
+
+
+@dataclasses.dataclass(eq=False)
+class Continue:
+    pass
+
+
+EXPRESSIONS = {Set: ("to", "value"), Do: ("call",), If: ("condition",), Switch: ("on",), While: ("condition",), For: ("condition",),
+               Return: ("value",)}
+
+
+def expressions(statement):
+    """The expressions of a statement itself, without those of statements in it."""
+    return [one for one in (getattr(statement, name) for name in EXPRESSIONS.get(type(statement), ())) if one is not None]
+
+
+def lists(statement):
+    """The lists of statements in a statement."""
+    if isinstance(statement, If):
+        return [statement.yes, statement.no]
+    if isinstance(statement, Switch):
+        return [body for _, body in statement.cases]
+    if isinstance(statement, (While, For, Block, Loop)):
+        return [statement.body]
+    return []
+
+
+def all_statements(statements):
+    for one in statements:
+        yield one
+        if isinstance(one, For):
+            yield one.first
+            yield one.step
+        for body in lists(one):
+            yield from all_statements(body)
+
+
+def leaves(statements):
+    """Whether nothing goes on behind these statements."""
+    if not statements:
+        return False
+    last = statements[-1]
+    if isinstance(last, (Return, Break, Continue, Exit)):
+        return True
+    if isinstance(last, If):
+        return leaves(last.yes) and leaves(last.no)
+    if isinstance(last, Switch):
+        has_all = any(labels is None for labels, _ in last.cases)
+        return has_all and all(body and isinstance(body[-1], Return) or leaves_switch(body) for _, body in last.cases)
+    return False
+
+
+def leaves_switch(body):
+    """Whether a case ends without leaving its switch downwards: `break` would."""
+    return leaves(body) and not isinstance(body[-1], Break)
+
+
+def negated(one):
+    """The opposite of a condition."""
+    if isinstance(one, Unary) and one.operator == "!":
+        return one.operand
+    if isinstance(one, Binary) and one.operator in OPPOSITE:
+        return Binary(OPPOSITE[one.operator], one.left, one.right, one.of)
+    if isinstance(one, Word) and one.name in ("true", "false"):
+        return Word("false" if one.name == "true" else "true", one.of)
+    return Unary("!", one, BOOL)
+
+
+# Text.
+
+def number_text(one):
+    if one.names:
+        return " | ".join(one.names)
+    is_size = isinstance(one.of, Number) and one.of.width and one.of.width.is_size
+    if is_size and one.value == (1 << 64) - 1:
+        return "SIZE_MAX"
+    if one.value >= 1 << 32:
+        return f"UINT64_C({one.value})" if one.value < 1 << 63 else f"UINT64_C({one.value:#x})"
+    if one.value > 0x7FFF:
+        return f"UINT32_C({one.value})"
+    return str(one.value)
+
+
+def level(one):
+    """How tightly an expression binds."""
+    if isinstance(one, Literal):
+        return PRECEDENCE["|"] if len(one.names) > 1 else PRIMARY
+    if isinstance(one, (Unary, Cast, AddressOf, Deref)):
+        return UNARY
+    if isinstance(one, Binary):
+        return PRECEDENCE[one.operator]
+    return CHOICE if isinstance(one, Choice) else PRIMARY
+
+
+def at_level(one, least):
+    return text(one) if level(one) >= least else f"({text(one)})"
+
+
+def side(one, operator, is_right):
+    """The text of an operand: in parentheses where C's precedence asks for them, or where few people know it."""
+    mine, its = PRECEDENCE[operator], level(one)
+    if its >= UNARY:
+        return text(one)
+    known = its > mine or its == mine and not is_right
+    are_compared = mine in (8, 9) and its in (8, 9)
+    is_unusual = are_compared or its != mine and (operator in BITWISE or operator in ("<<", ">>") or mine in (8, 9) and its < 11 or operator == "||")
+    return text(one) if known and not is_unusual else f"({text(one)})"
+
+
+def text(one):
+    """The text of an expression."""
+    if isinstance(one, Var):
+        return one.variable.name
+    if isinstance(one, Literal):
+        return number_text(one)
+    if isinstance(one, Word):
+        return one.name
+    if isinstance(one, Field):
+        if isinstance(one.base, Deref):
+            return f"{at_level(one.base.pointer, PRIMARY)}->{one.name}"
+        return f"{at_level(one.base, PRIMARY)}.{one.name}"
+    if isinstance(one, Deref):
+        return f"*{at_level(one.pointer, UNARY)}"
+    if isinstance(one, Index):
+        return f"{at_level(one.pointer, PRIMARY)}[{text(one.index)}]"
+    if isinstance(one, AddressOf):
+        return f"&{at_level(one.place, UNARY)}"
+    if isinstance(one, Unary):
+        return f"{one.operator}{at_level(one.operand, UNARY)}"
+    if isinstance(one, Cast):
+        return f"({one.of.text()}){at_level(one.operand, UNARY)}"
+    if isinstance(one, Binary):
+        return f"{side(one.left, one.operator, False)} {one.operator} {side(one.right, one.operator, True)}"
+    if isinstance(one, Choice):
+        return f"{at_level(one.condition, 3)} ? {at_level(one.yes, 3)} : {at_level(one.no, 3)}"
+    if isinstance(one, CallOf):
+        return f"{one.name}({', '.join(map(text, one.arguments))})"
+    raise TypeError(one)
+
+
+def set_text(one):
+    """An assignment without its semicolon."""
+    to, value = text(one.to), one.value
+    if one.declares:
+        return f"{declared(one.to.of, to)} = {text(value)}"
+    if isinstance(value, Binary) and value.operator not in COMPARISONS | LOGICAL and text(value.left) == to:
+        if value.operator in "+-" and isinstance(value.right, Literal) and value.right.value == 1:
+            return f"{to}{value.operator * 2}"
+        return f"{to} {value.operator}= {text(value.right)}"
+    return f"{to} = {text(value)}"
+
+
+def lines(statements, depth=1):
+    """The lines of statements."""
+    out, tab = [], INDENT * depth
+    for one in statements:
+        if isinstance(one, Set):
+            out += wrapped(f"{tab}{set_text(one)};")
+        elif isinstance(one, Declare):
+            out.append(f"{tab}{declared(one.variable.of, one.variable.name)};")
+        elif isinstance(one, Do):
+            out += wrapped(f"{tab}{text(one.call)};")
+        elif isinstance(one, Return):
+            out += wrapped(f"{tab}return {text(one.value)};" if one.value is not None else f"{tab}return;")
+        elif isinstance(one, (Break, Continue)):
+            out.append(f"{tab}{type(one).__name__.lower()};")
+        elif isinstance(one, If):
+            out += if_lines(one, depth)
+        elif isinstance(one, While):
+            is_endless = isinstance(one.condition, Word) and one.condition.name == "true"
+            out += block("for (;;)" if is_endless else f"while ({text(one.condition)})", one.body, depth)
+        elif isinstance(one, For):
+            out += block(f"for ({set_text(one.first)}; {text(one.condition)}; {set_text(one.step)})", one.body, depth)
+        elif isinstance(one, Switch):
+            out += switch_lines(one, depth)
+        else:
+            raise TypeError(one)
+    return out
+
+
+def block(top, body, depth, braces=False):
+    """A line with the statements that it has, in braces if they are more than one line."""
+    tab, inner = INDENT * depth, lines(body, depth + 1)
+    first = wrapped(tab + top)
+    if len(inner) == 1 and len(first) == 1 and not braces and not isinstance(body[0], (If, While, For)):
+        return [*first, *inner]
+    first[-1] += " {"
+    return [*first, *inner, f"{tab}}}"]
+
+
+def if_lines(one, depth):
+    tab = INDENT * depth
+    has_braces = bool(one.no) and (len(one.yes) != 1 or len(one.no) != 1 or not is_short(one.yes) or not is_short(one.no))
+    out = block(f"if ({text(one.condition)})", one.yes, depth, has_braces)
+    if not one.no:
+        return out
+    if len(one.no) == 1 and isinstance(one.no[0], If):
+        rest = if_lines(one.no[0], depth)
+        rest[0] = f"{tab}}} else {rest[0].strip()}" if out[-1] == f"{tab}}}" else f"{tab}else {rest[0].strip()}"
+        return (out[:-1] if out[-1] == f"{tab}}}" else out) + rest
+    rest = block("else", one.no, depth, has_braces)
+    if out[-1] == f"{tab}}}":
+        rest[0] = f"{tab}}} {rest[0].strip()}"
+        out = out[:-1]
+    return out + rest
+
+
+def is_short(body):
+    return len(lines(body)) == 1 and isinstance(body[0], (Set, Do, Return, Break, Continue))
+
+
+def switch_lines(one, depth):
+    tab = INDENT * depth
+    out = [f"{tab}switch ({text(one.on)}) {{"]
+    for order, (labels, body) in enumerate(one.cases):
+        out += [f"{tab}case {text(label)}:" for label in labels or []]
+        if labels is None or order == len(one.cases) - 1 and not any(labels is None for labels, _ in one.cases):
+            out.append(f"{tab}default:")
+        # No declaration may be behind a label.
+        has_own = any(isinstance(each, Declare) or isinstance(each, Set) and each.declares for each in body)
+        out[-1] += " {" if has_own else ""
+        out += lines(body, depth + 1)
+        if not leaves(body):
+            out.append(f"{tab}{INDENT}break;")
+        if has_own:
+            out.append(f"{tab}}}")
+    return [*out, f"{tab}}}"]
+
+
+def wrapped(line, first=True):
+    """A line in pieces that fit, each behind the first further to the right."""
+    if len(line) <= WIDTH:
+        return [line]
+    tab = len(line) - len(line.lstrip())
+    at = break_at(line, tab)
+    if at is None:
+        return [line]
+    behind = tab + len(INDENT) if first else tab
+    return [line[:at].rstrip(), *wrapped(" " * behind + line[at:].lstrip(), False)]
+
+
+def break_at(line, tab):
+    """Where a line that is too long is cut: as far out of brackets as can be, and there as late as can be."""
+    depth, best = 0, None
+    for at in range(tab + 8, WIDTH):
+        depth += (line[at - 1] in "([{") - (line[at - 1] in ")]}")
+        before = line[:at].rstrip()
+        rank = None
+        if line[at - 1] == " " and before.endswith((",", "&&", "||")):
+            rank = depth
+        elif line[at - 1] == " " and (before.endswith(" =") or line[at:].startswith(("? ", ": "))):
+            rank = depth + 0.5
+        elif line[at - 1] == " " and before.endswith((" |", " +", " <", "==")):
+            rank = depth + 1
+        elif line[at - 1] == "(" and line[at] != ")":
+            rank = depth + 1.5
+        if rank is not None and (best is None or rank <= best[0]):
+            best = (rank, at)
+    return best and best[1]

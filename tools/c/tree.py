@@ -1,0 +1,521 @@
+"""The bodies of the MIR as trees over concrete types: what is small and of a library is put in place of its call, branches that are never
+reached are left out, and each local is split into variables of one purpose."""
+import dataclasses
+import typing
+
+from translate import Translation, Unknown, head
+
+# The crates whose functions stay functions in C.
+OWN = ("uart_spec", "uart_16550", "uart_ring")
+# A function of a library that has no loop is put in place of its call up to so many statements.
+SMALL = 14
+# One of ours only if it is no more than this, and calls nothing.
+TINY = 3
+# What C has in the place of a parameter: the device of a driver, and the ports of a line.
+DEVICE = ("Named", "Device", ())
+PORTS = ("Named", "Ports", ())
+# Where the cells of the rings come from: memory of the caller.
+MEMORY = ("Named", "std_heap::Global", ())
+# How the name of a method of theirs begins.
+OF_CALLER = "of the caller: "
+
+
+# Operands and values.
+
+@dataclasses.dataclass(frozen=True)
+class Place:
+    """A local, or what steps lead to from there: ("Field", number), ("Variant", number) or ("Deref", type)."""
+    local: int
+    steps: tuple = ()
+
+
+@dataclasses.dataclass(frozen=True)
+class Int:
+    value: int
+    bits: int
+
+
+@dataclasses.dataclass(frozen=True)
+class Truth:
+    value: bool
+
+
+@dataclasses.dataclass(frozen=True)
+class Nothing:
+    """The value of the type that has only one."""
+
+
+@dataclasses.dataclass(frozen=True)
+class SizeOf:
+    of: typing.Any
+
+
+@dataclasses.dataclass(frozen=True)
+class Address:
+    place: Place
+
+
+@dataclasses.dataclass(frozen=True)
+class Repeat:
+    item: typing.Any
+    count: int
+
+
+@dataclasses.dataclass(frozen=True)
+class Aggregate:
+    parts: tuple
+
+
+@dataclasses.dataclass(frozen=True)
+class One:
+    operation: str
+    how: typing.Any
+    operand: typing.Any
+
+
+@dataclasses.dataclass(frozen=True)
+class Two:
+    operation: str
+    sign: typing.Any
+    first: typing.Any
+    second: typing.Any
+
+
+@dataclasses.dataclass(frozen=True)
+class Static:
+    of: typing.Any
+    node: typing.Any = dataclasses.field(hash=False)
+
+
+# Statements. Each is itself alone, so that two that look the same stay two.
+
+@dataclasses.dataclass(eq=False)
+class Assign:
+    place: Place
+    value: typing.Any
+
+
+@dataclasses.dataclass(eq=False)
+class Call:
+    place: Place
+    function: tuple
+    arguments: list
+
+
+@dataclasses.dataclass(eq=False)
+class Switch:
+    on: typing.Any
+    cases: list  # of (numbers or None for all others, statements)
+
+
+@dataclasses.dataclass(eq=False)
+class Block:
+    body: list
+
+
+@dataclasses.dataclass(eq=False)
+class Loop:
+    body: list
+
+
+@dataclasses.dataclass(eq=False)
+class Exit:
+    """Leaves so many blocks and loops around it, and one more."""
+    depth: int
+
+
+@dataclasses.dataclass(eq=False)
+class Return:
+    pass
+
+
+@dataclasses.dataclass(eq=False)
+class Never:
+    """What is proved never to be reached."""
+
+
+def bodies(statement):
+    """The lists of statements in a statement."""
+    if isinstance(statement, (Block, Loop)):
+        return [statement.body]
+    if isinstance(statement, Switch):
+        return [body for _, body in statement.cases]
+    return []
+
+
+def walk(statements):
+    for one in statements:
+        yield one
+        for body in bodies(one):
+            yield from walk(body)
+
+
+def places_of(value):
+    """The places that a value or an operand reads."""
+    if isinstance(value, Place):
+        return [value]
+    if isinstance(value, Address):
+        return [value.place]
+    if isinstance(value, Repeat):
+        return places_of(value.item)
+    if isinstance(value, Aggregate):
+        return [place for one in value.parts for place in places_of(one)]
+    if isinstance(value, One):
+        return places_of(value.operand)
+    if isinstance(value, Two):
+        return places_of(value.first) + places_of(value.second)
+    return []
+
+
+def with_places(value, change):
+    """The same value or operand, each place that it reads as `change` says."""
+    if isinstance(value, Place):
+        return change(value)
+    if isinstance(value, Address):
+        return Address(change(value.place))
+    if isinstance(value, Repeat):
+        return Repeat(with_places(value.item, change), value.count)
+    if isinstance(value, Aggregate):
+        return Aggregate(tuple(with_places(one, change) for one in value.parts))
+    if isinstance(value, One):
+        return One(value.operation, value.how, with_places(value.operand, change))
+    if isinstance(value, Two):
+        return Two(value.operation, value.sign, with_places(value.first, change), with_places(value.second, change))
+    return value
+
+
+def renamed(statements, number):
+    """A copy of statements with other numbers of locals."""
+    def place(one):
+        return Place(number(one.local), one.steps)
+
+    out = []
+    for one in statements:
+        if isinstance(one, Assign):
+            out.append(Assign(place(one.place), with_places(one.value, place)))
+        elif isinstance(one, Call):
+            out.append(Call(place(one.place), one.function, [with_places(argument, place) for argument in one.arguments]))
+        elif isinstance(one, Switch):
+            out.append(Switch(with_places(one.on, place), [(numbers, renamed(body, number)) for numbers, body in one.cases]))
+        elif isinstance(one, (Block, Loop)):
+            out.append(type(one)(renamed(one.body, number)))
+        elif isinstance(one, Exit):
+            out.append(Exit(one.depth))
+        else:
+            out.append(type(one)())
+    return out
+
+
+class Tree:
+    """A function over concrete types."""
+
+    def __init__(self, forest, key):
+        self.forest, self.key = forest, key
+        name, self.types, self.dictionaries = key
+        function = forest.program.functions[name]
+        self.nodes, self.at = function["body"], 0
+        self.params = function["params"]
+        self.own = len(function["locals"])
+        self.locals = [forest.type(one["ty"], self.types) for one in function["locals"]]
+        # Which local of the function a variable was made from, for its name.
+        self.origin = list(range(self.own))
+        self.body = self.statement()
+        if self.at != len(self.nodes):
+            raise Unknown("a body with more than one tree")
+
+    def statement(self):
+        """The next statement of the body, as a list of statements."""
+        kind, value = head(self.nodes[self.at])
+        self.at += 1
+        if kind == "Seq":
+            first = self.statement()
+            second = self.statement()
+            return first if first and isinstance(first[-1], Never) else first + second
+        if kind == "Skip":
+            return []
+        if kind in ("Block", "Loop"):
+            return [{"Block": Block, "Loop": Loop}[kind](self.statement())]
+        if kind == "Return":
+            return [Return()]
+        if kind == "Exit":
+            return [Exit(value)]
+        if kind == "Unreachable":
+            return [Never()]
+        if kind == "If":
+            cases = [([1], self.statement()), ([0], self.statement())]
+            return self.choice(self.operand(value), cases)
+        if kind == "Switch":
+            cases = [(numbers, self.statement()) for numbers in value[1]]
+            if value[2]:
+                cases.append((None, self.statement()))
+            return self.choice(self.operand(value[0]), cases)
+        if kind == "Assign":
+            return [Assign(self.place(value[0]), self.value(value[1]))]
+        if kind == "LendStatic":
+            return self.lent(self.place(value[0]), self.forest.type(value[1], self.types), value[2])
+        if kind == "Call":
+            return self.call(*value)
+        raise Unknown(f"a statement {kind}")
+
+    def lent(self, place, of, node):
+        """The address of a constant: of a struct of numbers, as that of a variable."""
+        shape, parts = head(node)
+        if of[0] != "Named" or shape != "Parts" or any(head(one)[0] != "Int" for one in parts):
+            return [Assign(place, Static(of, node))]
+        self.locals.append(of)
+        self.origin.append(None)
+        made = Place(len(self.locals) - 1)
+        return [Assign(made, Aggregate(tuple(map(self.operand, parts)))), Assign(place, Address(made))]
+
+    @staticmethod
+    def choice(on, cases):
+        """A choice without what is never reached: that it is not is proved."""
+        reached = [(numbers, body) for numbers, body in cases if not (body and isinstance(body[-1], Never))]
+        if len(reached) == 1 and len(cases) > 1:
+            return reached[0][1]
+        return [Switch(on, reached)]
+
+    def place(self, node):
+        return Place(node["local"], tuple((kind, self.forest.type(value, self.types) if kind == "Deref" else value)
+                                          for kind, value in map(head, node["steps"])))
+
+    def operand(self, node):
+        kind, value = head(node)
+        if kind in ("Copy", "Move"):
+            return self.place(value)
+        if kind == "Int":
+            return Int(value["value"] % (1 << value["width"]), value["width"])
+        if kind == "Unit":
+            return Nothing()
+        if kind in ("True", "False"):
+            return Truth(kind == "True")
+        if kind == "NumOf":
+            return Int(self.forest.number(value[1], self.types), value[0])
+        if kind == "SizeOf":
+            return SizeOf(self.forest.type(value, self.types))
+        raise Unknown(f"an operand {kind}")
+
+    def value(self, node):
+        kind, value = head(node)
+        if kind == "Opd":
+            return self.operand(value)
+        if kind == "AddrOf":
+            return Address(self.place(value))
+        if kind == "Repeat":
+            return Repeat(self.operand(value[0]), self.forest.number(value[1], self.types))
+        if kind == "Aggregate":
+            return Aggregate(tuple(map(self.operand, value)))
+        if kind == "Op1":
+            return One(*head(value[0]), self.operand(value[1]))
+        if kind == "Op2":
+            return Two(*head(value[0]), self.operand(value[1]), self.operand(value[2]))
+        raise Unknown(f"a value {kind}")
+
+    def call(self, called, arguments, result):
+        key = self.forest.called(called, self.types, self.dictionaries)
+        if key is None:
+            return []
+        if key[0] in NEVER_RETURN:
+            return [Never()]
+        if key[0] == FREES:
+            return []
+        place, arguments = self.place(result), list(map(self.operand, arguments))
+        callee = self.forest.callee(key)
+        if callee is None:
+            return [Call(place, key, arguments)]
+        return self.in_place(callee, arguments, place)
+
+    def in_place(self, callee, arguments, place):
+        """The body of a function in place of its call."""
+        shift = len(self.locals)
+        self.locals += callee.locals
+        self.origin += [None] * len(callee.locals)
+        given = [Assign(Place(shift + order), one) for order, one in enumerate(arguments, 1)]
+        body = renamed(callee.body, lambda number: number + shift)
+        return [*given, *without_last_return(body), Assign(place, Place(shift))]
+
+
+# The cells of a queue are memory of the caller, which nobody frees.
+FREES = "std_alloc::vec::Vec::drop"
+NEVER_RETURN = {"core::assertions::unreachable"}
+
+
+def without_last_return(body):
+    """A body that ends with the one return that it has, without it."""
+    return body[:-1] if body and isinstance(body[-1], Return) else body
+
+
+class Forest(Translation):
+    """All trees that are asked for. `natives` are the functions that C has in another way."""
+
+    def __init__(self, program, natives):
+        super().__init__(program, {}, OWN)
+        self.trees, self.is_native = {}, natives
+        for _, name, _ in (DEVICE, PORTS):
+            program.types[name] = {"name": name, "shape": {"Fields": []}}
+
+    def type(self, node, types):
+        """As in the translation to Rust, but a reference says whether it may change what it is to."""
+        kind, value = head(node)
+        if kind == "Ref":
+            return ("Ref", self.type(value[2], types), value[1] == "Mut")
+        return super().type(node, types)
+
+    def called(self, called, types, dictionaries):
+        """The function of a call: its name, its types and its dictionaries. None if it does nothing."""
+        kind, what = head(called)
+        given = what[1] if kind == "Fn" else what[2]
+        types_given = tuple(self.type(one, types) for one in given["types"])
+        dictionaries_given = tuple(self.dictionary(one, types, dictionaries) for one in given["dicts"])
+        if kind == "Fn":
+            return (what[0], types_given, dictionaries_given)
+        dictionary = self.dictionary(what[0], types, dictionaries)
+        if dictionary[0].startswith(OF_CALLER):
+            return (f"{dictionary[0]} {what[1]}", (), ())
+        name = self.program.methods.get((dictionary[0], what[1]))
+        if name is None:
+            listed = self.program.implementations.get(dictionary[0], {"methods": []})["methods"]
+            name = listed[what[1]] if what[1] < len(listed) else None
+        if name is None and what[1] == 0 and "Destruct" in dictionary[0]:
+            return None
+        if name is None:
+            raise Unknown(f"the method {what[1]} of {dictionary[0]}")
+        return (name, dictionary[1] + types_given, dictionary[2] + dictionaries_given)
+
+    def tree(self, key):
+        if key not in self.trees:
+            self.trees[key] = Tree(self, key)
+        return self.trees[key]
+
+    def callee(self, key):
+        """The tree of a function whose body takes the place of its call, else None."""
+        if self.is_native(key[0]) or key[0] not in self.program.functions:
+            return None
+        tree = self.tree(key)
+        found = list(walk(tree.body))
+        returns = [one for one in found if isinstance(one, Return)]
+        if len(returns) > 1 or any(isinstance(one, Loop) for one in found):
+            return None
+        is_flat = not any(isinstance(one, (Switch, Exit)) for one in found)
+        size = sum(isinstance(one, (Assign, Call, Switch)) for one in found)
+        calls = [one for one in found if isinstance(one, Call)]
+        if key[0].split("::")[0] not in OWN:
+            return tree if is_flat or size <= SMALL else None
+        touches_device = any(one.function[0].startswith(OF_CALLER) for one in calls)
+        if is_flat and not touches_device and key[0].endswith(("PartialEq::eq", "Default::default", "FnOnce::call_once")):
+            return tree
+        return tree if is_flat and not calls and size <= TINY else None
+
+
+# Each group of definitions that reach a common use becomes a variable of its own.
+
+class Webs:
+    def __init__(self, tree):
+        self.tree = tree
+        self.parents, self.local_of = [], []
+        self.made, self.used = {}, {}
+        self.start = {order: self.definition("start", order) for order in range(tree.params + 1)}
+
+    def definition(self, statement, local):
+        key = (statement if isinstance(statement, str) else id(statement), local)
+        if key not in self.made:
+            self.made[key] = len(self.parents)
+            self.parents.append(len(self.parents))
+            self.local_of.append(local)
+        return self.made[key]
+
+    def root(self, number):
+        while self.parents[number] != number:
+            number = self.parents[number]
+        return number
+
+    def use(self, statement, local, reaching):
+        """Notes a use of a local, and joins the definitions that reach it."""
+        found = reaching.get(local) or frozenset([self.definition("none", local)])
+        first, *others = sorted(found)
+        for one in others:
+            self.parents[self.root(one)] = self.root(first)
+        self.used[id(statement), local] = first
+
+    @staticmethod
+    def joined(one, other):
+        """What reaches a place that two ways lead to; None is a way that nobody goes."""
+        if one is None or other is None:
+            return other if one is None else one
+        return {local: one.get(local, frozenset()) | other.get(local, frozenset()) for local in one.keys() | other.keys()}
+
+    def flow(self, statements, reaching, exits):
+        for one in statements:
+            if reaching is None:
+                return None
+            reaching = self.flow_of_one(one, reaching, exits)
+        return reaching
+
+    def flow_of_one(self, one, reaching, exits):
+        if isinstance(one, (Assign, Call)):
+            read = places_of(one.value) if isinstance(one, Assign) else [p for argument in one.arguments for p in places_of(argument)]
+            for place in [*read, *([one.place] if one.place.steps else [])]:
+                self.use(one, place.local, reaching)
+            if one.place.steps:
+                return reaching
+            return {**reaching, one.place.local: frozenset([self.definition(one, one.place.local)])}
+        if isinstance(one, Switch):
+            for place in places_of(one.on):
+                self.use(one, place.local, reaching)
+            ends = [self.flow(body, reaching, exits) for _, body in one.cases]
+            out = None
+            for end in ends:
+                out = self.joined(out, end)
+            return out
+        if isinstance(one, Block):
+            left = [None]
+            return self.joined(self.flow(one.body, reaching, [left, *exits]), left[0])
+        if isinstance(one, Loop):
+            while True:
+                left = [None]
+                around = self.joined(reaching, self.flow(one.body, reaching, [left, *exits]))
+                if around == reaching:
+                    return left[0]
+                reaching = around
+        if isinstance(one, Exit):
+            exits[one.depth][0] = self.joined(exits[one.depth][0], reaching)
+        elif isinstance(one, Return):
+            self.use(one, 0, reaching)
+        return None
+
+    def run(self):
+        """Gives each web a local of its own: a parameter keeps its number."""
+        tree = self.tree
+        self.flow(tree.body, {local: frozenset([one]) for local, one in self.start.items()}, [])
+        numbers = {self.root(one): local for local, one in self.start.items()}
+        taken = set(self.start)
+
+        def number(one):
+            root = self.root(one)
+            if root not in numbers:
+                local = self.local_of[root]
+                if local == 0 or local not in taken:
+                    numbers[root] = local
+                    taken.add(local)
+                else:
+                    numbers[root] = len(tree.locals)
+                    tree.locals.append(tree.locals[local])
+                    tree.origin.append(tree.origin[local])
+            return numbers[root]
+
+        for one in walk(tree.body):
+            def read(place, one=one):
+                used = self.used.get((id(one), place.local))
+                return place if used is None else Place(number(used), place.steps)
+
+            if isinstance(one, Assign):
+                one.value = with_places(one.value, read)
+            elif isinstance(one, Call):
+                one.arguments = [with_places(argument, read) for argument in one.arguments]
+            elif isinstance(one, Switch):
+                one.on = with_places(one.on, read)
+            if isinstance(one, (Assign, Call)):
+                if one.place.steps:
+                    one.place = read(one.place)
+                elif one.place.local:
+                    one.place = Place(number(self.definition(one, one.place.local)))
