@@ -3,7 +3,7 @@
 //!
 //! What a call leaves, and what its monitor has to do then, is that of a port of `uart_virtual`,
 //! whatever bytes the struct holds.
-ghost use Rattle.std.specs.Prelude.{◌≡◌, ◌≢◌, ◌%◌, bit_and, true, false};
+ghost use Rattle.std.specs.Prelude.{◌≡◌, ◌≢◌, ◌<◌, ◌%◌, bit_and, true, false};
 ghost use Rattle.uart_c.specs.Canonical.{IsCanonical};
 ghost use Rattle.uart_c.specs.Port as port_spec;
 ghost use Rattle.uart_c.specs.Port.{IsCanonicalPort, port_of, told_of};
