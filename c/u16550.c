@@ -1123,7 +1123,8 @@ static void uart_write_register(struct u16550_core_driver *uart, size_t offset, 
  * Sets DLAB in LCR for the two reads, and then writes LCR back. In between offsets 0 and 1 are
  * the latch, so nothing else may access the chip: neither data nor IER can be reached.
  *
- * Proved: the accesses to the divisor latch, whatever LCR showed.
+ * Proved: LCR is read, and written with DLAB; the divisor latch is read, its low byte first;
+ * and LCR is written back.
  */
 static struct uart_pair_of_u8 uart_dll_dlm(struct u16550_core_driver *uart)
 {
@@ -1172,8 +1173,9 @@ static bool uart_isr_fifo_enabled(uint8_t isr)
  * the first two only LCR and MCR were read, and nothing was written. For NoDivisor DLAB was
  * set for the look at the latch, and LCR written back.
  *
- * Proved: the divisor is not 0, and the driver takes the FIFO to be as ISR shows; or the
- * port was refused before ISR was read, and nothing changed.
+ * Proved: LCR shows that DLAB is off, MCR that loopback is off, the divisor latch a divisor,
+ * and ISR whether the FIFOs are on, which the driver takes them to be; or these are read up
+ * to the one that the error is about, and the driver stays as it was.
  */
 static struct uart_pair_of_u8_or_attach_error uart_attach(struct u16550_core_driver *uart)
 {
@@ -1299,9 +1301,9 @@ uart_other_factor(uint32_t frequency, uint32_t factor,
  *   bits.
  *
  * Proved: this value and no other has the property.
- * Proved: the divisor at which the clock has this frequency, if it fits into the divisor
- * latch; an error with the divisor if it does not fit; an error with the arguments if no
- * whole divisor does.
+ * Proved: the divisor that gives exactly this baud rate, if it fits into the divisor latch;
+ * an error with the divisor if it does not fit; an error with the arguments if no whole
+ * divisor does.
  */
 static struct uart_u16_or_invalid_divisor_error
 uart_calc_divisor(uint32_t frequency, uint32_t baud_rate,
@@ -1578,7 +1580,8 @@ uart_check_registers(struct u16550_core_driver *uart, uint8_t frame, uint8_t out
  *   way round.
  *
  * Proved: the registers show the configuration and these outputs, without loopback; or one
- * does not; or the configuration has no divisor, and no access was made.
+ * does not, and the error has what was asked for and what it shows; or the configuration has
+ * no divisor, and no access was made.
  */
 static struct uart_configuration_error
 uart_check_configured(struct u16550_core_driver *uart, uint8_t outputs)
@@ -1614,7 +1617,8 @@ static uint8_t uart_read_msr(struct u16550_core_driver *uart)
  *
  * NoRemoteConnectedNoCD is never returned.
  *
- * Proved: one read of MSR, which shows the result.
+ * Proved: one read of MSR, which shows DSR and CTS; or which does not show the one that the
+ * error names.
  */
 static enum uart_remote_ready_to_receive_error uart_check_connected(struct u16550_core_driver *uart)
 {
@@ -1744,6 +1748,9 @@ static void uart_store_interrupts(struct u16550_core_driver *uart, uint8_t enabl
 /*
  * Disables these interrupts and leaves the others: reads IER, removes them, stores the result
  * in the configuration, and writes it.
+ *
+ * Proved: IER is read; what it shows, without these bits, is stored in the configuration and
+ * written.
  */
 static void uart_disable_interrupts(struct u16550_core_driver *uart, uint8_t interrupts)
 {
@@ -1758,8 +1765,8 @@ static void uart_disable_interrupts(struct u16550_core_driver *uart, uint8_t int
  * the next such call. Not every device raises an interrupt if THR_EMPTY is enabled while the
  * transmitter is already empty: send the first bytes directly, and the rest on interrupts.
  *
- * Proved: enable_interrupts, disable_interrupts: IER is read; its new value, with these bits
- * added or removed, is stored and written.
+ * Proved: IER is read; what it shows, with these bits added, is stored in the configuration
+ * and written.
  */
 static void uart_enable_interrupts(struct u16550_core_driver *uart, uint8_t interrupts)
 {
@@ -1938,7 +1945,10 @@ static void uart_finish_init(struct u16550_core_driver *uart)
  * Initialises the device with this configuration, whose divisor this is. This is a function of
  * its own for callers that have tested the configuration already, and so have its divisor.
  *
- * Proved: the whole list, or the list up to the refusal, with the fields that each leaves.
+ * Proved: the configuration is stored, the scratch register tested, divisor, frame and FIFO
+ * are set, the receiver is drained, and MCR is written; after a wait for an empty
+ * transmitter the statuses are read, and IER is written. Or nothing is done, if there is no
+ * divisor; or all up to the test that fails, or to the wait that reaches the limit.
  */
 static struct uart_init_error
 uart_set_up(struct u16550_core_driver *uart, struct u16550_core_config config, uint16_t divisor)
@@ -1996,7 +2006,10 @@ uart_set_up(struct u16550_core_driver *uart, struct u16550_core_config config, u
  *   device are disabled, the driver has the new configuration, and the status bits that the
  *   polls cleared are saved.
  *
- * Proved: the whole list, or the list up to the refusal, with the fields that each leaves.
+ * Proved: the configuration is stored, the scratch register tested, divisor, frame and FIFO
+ * are set, the receiver is drained, and MCR is written; after a wait for an empty
+ * transmitter the statuses are read, and IER is written. Or nothing is done, if there is no
+ * divisor; or all up to the test that fails, or to the wait that reaches the limit.
  */
 static struct uart_init_error
 uart_init(struct u16550_core_driver *uart, struct u16550_core_config config)
@@ -2057,8 +2070,11 @@ static bool uart_is_last(enum uart_transmitter_wait wait)
 /*
  * Initialises the device with this configuration, whose divisor this is, as setup asks.
  *
- * Proved: the configuration is stored, and the rest done in this order; or the list up to
- * the refusal.
+ * Proved: as init, with the test, the wait and the outputs of this setup. The configuration
+ * is stored; the test and the wait that is to be first are made; divisor, frame and FIFO are
+ * set, the receiver is drained, and MCR is written; the wait that is to be last is made; the
+ * statuses are read, and IER is written. Or nothing is done, if there is no divisor; or all
+ * up to the test that fails, or to the wait that reaches the limit.
  */
 static struct uart_init_error
 uart_set_up_with(struct u16550_core_driver *uart, struct u16550_core_config config,
@@ -2099,8 +2115,11 @@ uart_set_up_with(struct u16550_core_driver *uart, struct u16550_core_config conf
  *   saved. If the wait came first, nothing was written except the scratch register, and the
  *   interrupts of the device are as they were; else they are disabled.
  *
- * Proved: the configuration is stored, and the rest done in this order; or the list up to
- * the refusal.
+ * Proved: as init, with the test, the wait and the outputs of this setup. The configuration
+ * is stored; the test and the wait that is to be first are made; divisor, frame and FIFO are
+ * set, the receiver is drained, and MCR is written; the wait that is to be last is made; the
+ * statuses are read, and IER is written. Or nothing is done, if there is no divisor; or all
+ * up to the test that fails, or to the wait that reaches the limit.
  */
 static struct uart_init_error
 uart_init_with(struct u16550_core_driver *uart, struct u16550_core_config config,
@@ -2127,7 +2146,8 @@ uart_init_with(struct u16550_core_driver *uart, struct u16550_core_config config
  * with LOOP_BACK, which the driver leaves off. A bus that shows something else where nobody
  * answers, as 0, is not told from a chip.
  *
- * Proved: MCR shows what a bus shows that nobody drives, all bits set, or not.
+ * Proved: one read of MCR, which shows all bits set, as a bus does that nobody drives,
+ * exactly if the result is true.
  */
 static bool uart_is_gone(struct u16550_core_driver *uart)
 {
@@ -2157,7 +2177,8 @@ static bool uart_is_idle(struct u16550_core_driver *uart)
  * has_error of the result also counts bit 7, an error somewhere in the FIFO, which is not
  * saved.
  *
- * Proved: one read. The result is joined with the saved bits, of which none are left.
+ * Proved: one read of LSR, which is returned joined with the saved bits, of which none are
+ * left.
  */
 static uint8_t uart_lsr(struct u16550_core_driver *uart)
 {
@@ -2173,7 +2194,8 @@ static uint8_t uart_lsr(struct u16550_core_driver *uart)
  *
  * Call it to find out which modem lines changed. Does not wait.
  *
- * Proved: one read. The result is joined with the saved bits, of which none are left.
+ * Proved: one read of MSR, which is returned joined with the saved bits, of which none are
+ * left.
  */
 static uint8_t uart_msr(struct u16550_core_driver *uart)
 {
@@ -2266,7 +2288,8 @@ static bool uart_change_fifos(struct u16550_core_driver *uart, enum uart_fifo_ac
  * is left out of the outputs. Afterwards the driver's configuration has no interrupts. init,
  * or restore with a dump that was made before, takes the port up again.
  *
- * Proved: all interrupts are disabled, and the outputs and FCR written.
+ * Proved: all interrupts are disabled, the outputs are written to MCR, without loopback, and
+ * then FCR, if the FIFOs are to be reset or disabled.
  */
 static void
 uart_quiesce(struct u16550_core_driver *uart, uint8_t outputs, enum uart_fifo_action fifos)
@@ -2286,7 +2309,7 @@ uart_quiesce(struct u16550_core_driver *uart, uint8_t outputs, enum uart_fifo_ac
  *
  * ByteReceiveError if no byte is available.
  *
- * Proved: one look, with the result.
+ * Proved: one read of LSR, which shows a received byte exactly if the result is Ok.
  */
 static bool uart_ready_to_receive(struct u16550_core_driver *uart)
 {
@@ -2322,7 +2345,8 @@ static bool uart_is_clear_to_send(struct u16550_core_driver *uart)
  * - NoCapacity if THR, or the transmitter FIFO, is not empty.
  * - RemoteNotClearToSend if it is empty, but the remote does not assert CTS.
  *
- * Proved: a send check, with the result.
+ * Proved: one send check: LSR shows THR_EMPTY and, if CTS is checked, the modem lines allow
+ * sending; or the error names which of these is not so.
  */
 static enum uart_byte_send_error uart_ready_to_send(struct u16550_core_driver *uart)
 {
@@ -2345,7 +2369,8 @@ static enum uart_byte_send_error uart_ready_to_send(struct u16550_core_driver *u
  *
  * ByteReceiveError if no byte is available. RBR was not read then.
  *
- * Proved: a hit with the byte, or a miss.
+ * Proved: LSR shows a received byte, which is read from DATA and returned; or LSR shows
+ * none.
  */
 static struct u16550_core_maybe_u8 uart_try_receive_byte(struct u16550_core_driver *uart)
 {
@@ -2362,7 +2387,8 @@ static struct u16550_core_maybe_u8 uart_try_receive_byte(struct u16550_core_driv
  * the rest of the slice to receive more. An empty slice makes no access. Error bits are saved
  * for the next lsr, and do not end the call.
  *
- * Proved: receive_bytes into n slots: these bytes fill all slots, or a miss follows them.
+ * Proved: bytes are read from DATA, each after LSR shows it, until the slots are full, or
+ * LSR shows none.
  */
 static size_t
 uart_receive_bytes(struct u16550_core_driver *uart, uint8_t *buffer, size_t buffer_len)
@@ -2409,8 +2435,8 @@ static struct u16550_core_maybe_u8 uart_receive_one(struct u16550_core_driver *u
  * so long. The first done slots have the bytes that were received, and the other slots are
  * unchanged.
  *
- * Proved: receive_bytes_exact into n slots: all are filled, each after its own wait; or
- * some, and then a wait reaches the limit.
+ * Proved: the slots are filled, each after its own wait; or those before the one whose wait
+ * reaches the limit, as many as the error reports.
  */
 static struct uart_maybe_stalled_error
 uart_receive_bytes_exact(struct u16550_core_driver *uart, uint8_t *buffer, size_t buffer_len)
@@ -2435,7 +2461,8 @@ uart_receive_bytes_exact(struct u16550_core_driver *uart, uint8_t *buffer, size_
  *
  * ByteReceiveError if no byte is available. RBR was not read then.
  *
- * Proved: a hit with the byte and its errors, or a miss.
+ * Proved: LSR shows a received byte, which is read from DATA and returned with the errors
+ * that LSR shows; or LSR shows none.
  */
 static struct uart_maybe_received uart_try_receive_with_errors(struct u16550_core_driver *uart)
 {
@@ -2465,7 +2492,8 @@ static struct uart_maybe_received uart_try_receive_with_errors(struct u16550_cor
  * Does not wait: reads LSR before each byte, and ends when it shows none. An empty slice makes
  * no access. The error bits are saved for the next lsr too, and do not end the call.
  *
- * Proved: receive_with_errors into n slots: these fill all slots, or a miss follows them.
+ * Proved: bytes are read from DATA, each after LSR shows it and its errors, until the slots
+ * are full, or LSR shows none.
  */
 static size_t
 uart_receive_with_errors(struct u16550_core_driver *uart, struct u16550_received *slots,
@@ -2497,8 +2525,8 @@ static uint16_t uart_config_register_dump_divisor(const struct u16550_dump *conf
  * and LOOP_BACK are left out. Does not wait, and discards nothing that is saved for the next
  * lsr or msr. The other fields of the configuration stay as they are.
  *
- * Proved: divisor and frame, the FIFOs, and the rest are written as they were read; the
- * FIFOs are on as ISR shows.
+ * Proved: divisor and frame, the FIFOs, and then MCR without loopback, SPR and IER are
+ * written as the dump has them. If it has the FIFOs on, ISR shows whether they are.
  */
 static void uart_restore(struct u16550_core_driver *uart, const struct u16550_dump *dump)
 {
@@ -2581,8 +2609,9 @@ static void uart_write_data(struct u16550_core_driver *uart, const uint8_t *byte
  * trust: on a chip with a smaller FIFO the bytes that do not fit are lost, and nothing tells.
  * Some chips hold more than 16 only after a register of their own was written.
  *
- * Proved: nothing if there are no bytes; else a check that fails, or one burst from the
- * front.
+ * Proved: nothing if there are no bytes; else a send check and, if it succeeds, bytes from
+ * the front are written to DATA: as many as a FIFO of this size holds, or one if it is off.
+ * The result is how many.
  */
 static size_t
 uart_send_burst(struct u16550_core_driver *uart, const uint8_t *buffer, size_t buffer_len,
@@ -2630,8 +2659,9 @@ uart_write_burst(struct u16550_core_driver *uart, const uint8_t *bytes, size_t b
  * left the FIFO. Call it again with the rest of the slice to send more. An empty slice makes
  * no access.
  *
- * Proved: nothing if there are no bytes; else a check that fails, or one burst from the
- * front.
+ * Proved: nothing if there are no bytes; else a send check and, if it succeeds, bytes from
+ * the front are written to DATA: as many as the FIFO holds, or one if it is off. The result
+ * is how many.
  */
 static size_t
 uart_send_bytes(struct u16550_core_driver *uart, const uint8_t *buffer, size_t buffer_len)
@@ -2680,8 +2710,8 @@ uart_send_some(struct u16550_core_driver *uart, const uint8_t *bytes, size_t byt
 /*
  * Sends the bytes burst by burst, and waits for room before each burst.
  *
- * Proved: all bytes; or all before a rest, burst by burst, and then a wait that reaches the
- * limit.
+ * Proved: all bytes, burst by burst, each burst after its own wait; or those before the
+ * burst whose wait reaches the limit, as many as the error reports.
  */
 static struct uart_maybe_stalled_error
 uart_send_bursts(struct u16550_core_driver *uart, const uint8_t *bytes, size_t bytes_len)
@@ -2727,8 +2757,8 @@ uart_send_singly(struct u16550_core_driver *uart, const uint8_t *bytes, size_t b
  * limit allows, or CTS is checked and the remote is not clear to send. The first done bytes
  * were written to the chip.
  *
- * Proved: all bytes; or all before a rest, burst by burst, and then a wait that reaches the
- * limit.
+ * Proved: all bytes, burst by burst, each burst after its own wait; or those before the
+ * burst whose wait reaches the limit, as many as the error reports.
  */
 static struct uart_maybe_stalled_error
 uart_send_bytes_exact(struct u16550_core_driver *uart, const uint8_t *bytes, size_t bytes_len)
@@ -2840,8 +2870,8 @@ static void uart_write_frame(struct u16550_core_driver *uart, uint16_t divisor, 
  *
  * No access was made then, and nothing changed.
  *
- * Proved: what is set is stored, and written to the divisor latch and to LCR; or there is no
- * divisor, and nothing was done.
+ * Proved: clock, baud rate and frame are stored, and written to the divisor latch and to
+ * LCR; or there is no divisor, and nothing is done.
  */
 static struct uart_invalid_divisor_error
 uart_set_frame(struct u16550_core_driver *uart, const struct u16550_core_config *config)
@@ -2871,9 +2901,8 @@ uart_set_frame(struct u16550_core_driver *uart, const struct u16550_core_config 
  * - Stalled if the transmitter was not empty after spin_limit polls. Nothing was written,
  *   and the driver's configuration is as it was.
  *
- * Proved: what was sent is on the line, and then all is as in set_frame; or there is no
- * divisor, and nothing was done; or the transmitter did not become empty, and nothing was
- * written.
+ * Proved: after a wait for an empty transmitter all is as in set_frame; or there is no
+ * divisor, and nothing is done; or the wait reaches the limit, and nothing is written.
  */
 static struct uart_frame_error
 uart_set_frame_when_idle(struct u16550_core_driver *uart, const struct u16550_core_config *config)
@@ -2936,7 +2965,7 @@ static uint8_t uart_level_control_of(enum u16550_core_fifo_trigger_level level)
  * changed: a write that turns the FIFOs on empties them, which init does.
  *
  * Proved: with the FIFOs on, the level is stored and written to FCR; with them off, nothing
- * is done.
+ * is done, and the result is the error.
  */
 static bool
 uart_set_trigger_level(struct u16550_core_driver *uart, enum u16550_core_fifo_trigger_level level)
@@ -3022,7 +3051,8 @@ static bool uart_drain_received(struct u16550_core_driver *uart)
  * NoCapacity if the byte was not sent, whatever the cause: also if the remote is not clear
  * to send.
  *
- * Proved: the send_bytes of one byte.
+ * Proved: the accesses of send_bytes for this one byte, which is sent exactly if the result
+ * is Ok; the only error is NoCapacity.
  */
 static enum uart_byte_send_error uart_try_send_byte(struct u16550_core_driver *uart, uint8_t byte)
 {
@@ -3238,7 +3268,9 @@ uart_leave_loopback(struct u16550_core_driver *uart, uint8_t mcr, uint8_t ier, u
  *
  * Except for the first wait, MCR and IER are restored before the error is returned.
  *
- * Proved: a first wait that reaches the limit, and nothing written; or the test.
+ * Proved: MCR and IER are read, and there is a wait for an empty transmitter. If it reaches
+ * the limit, nothing is written, and the result is a stall; else loopback is entered, bytes
+ * are exchanged up to the first error, and MCR and IER are restored.
  */
 static struct uart_loopback_error uart_test_loopback(struct u16550_core_driver *uart)
 {
@@ -3384,8 +3416,9 @@ static struct uart_u64_or_stalled_error uart_tty_send_expansion(struct uart_tty 
  * Those of write_text.
  *
  * Proved: the driver under the terminal made a list of the language.
- * Proved: the whole expansion; or a beginning of it, as long as the error reports, at most 2
- * ^ 64 - 1.
+ * Proved: the expansion of the text, byte by byte, each after its own wait; or a beginning
+ * of it, as long as the error reports, at most 2 ^ 64 - 1, and then a wait that reaches the
+ * limit.
  */
 static struct uart_maybe_stalled_error
 uart_tty_write_raw_text(struct uart_tty *tty, const uint8_t *text, size_t text_len)
@@ -3478,7 +3511,9 @@ static void uart_ring_make_rts(struct u16550_core_ring *ring, bool on)
  * Does not wait. Between the marks it makes no access. Otherwise it reads MCR, and if RTS is
  * not as it is to be, writes MCR: the other outputs as they were, and loopback off.
  *
- * Proved: RTS is made as the room in the receive ring says.
+ * Proved: RTS is off if the receive ring has room for fewer bytes than hold, on if it has
+ * room for release or more, and else stays. For this MCR is read, and written only if it
+ * shows RTS otherwise.
  */
 static void uart_ring_adjust_rts(struct u16550_core_ring *ring, struct uart_receive_marks marks)
 {
@@ -3530,7 +3565,8 @@ static void uart_ring_end_pause(struct u16550_core_ring *ring, size_t count)
  * Does not wait. If it drops at least one byte and receiving is paused, it enables
  * DATA_READY again and ends the pause, as take does. Otherwise it makes no access.
  *
- * Proved: the receive ring is emptied of so many bytes; if there are any, a pause ends.
+ * Proved: the receive ring is emptied, and the result is how many bytes it had; if it had
+ * any, a pause of receiving ends.
  */
 static size_t uart_ring_clear_receive(struct u16550_core_ring *ring)
 {
@@ -3558,7 +3594,8 @@ static void uart_ring_drop_queued(struct u16550_core_ring *ring, size_t count)
  * An urgent byte, and what is in the chip, still go out. Makes no access: if THR_EMPTY is
  * enabled, it is disabled when its next interrupt is served.
  *
- * Proved: the transmit ring is emptied of so many bytes.
+ * Proved: the transmit ring is emptied without an access, and the result is how many bytes
+ * it had.
  */
 static size_t uart_ring_clear_transmit(struct u16550_core_ring *ring)
 {
@@ -3704,7 +3741,8 @@ static void uart_ring_pump(struct u16550_core_ring *ring)
  * - with CTS checking, when take_modem reports that CTS came back. While CTS is clear, it
  *   sends nothing.
  *
- * Proved: if bytes wait, a pump.
+ * Proved: if bytes wait, what the chip takes at once is sent, and THR_EMPTY is enabled if
+ * some are left, else disabled.
  */
 static void uart_ring_resume_transmit(struct u16550_core_ring *ring)
 {
@@ -3726,8 +3764,8 @@ static void uart_ring_resume_transmit(struct u16550_core_ring *ring)
  * Does not wait. Under DLAB, which is set meanwhile, the divisor latch is read in place of
  * DATA and IER: mask the interrupt, as for every call.
  *
- * Proved: that of the driver, whose read of ISR may acknowledge THR_EMPTY; and then sending
- * resumes.
+ * Proved: the dump of the driver, whose read of ISR may acknowledge THR_EMPTY; and then
+ * sending resumes.
  */
 static struct u16550_dump uart_ring_config_register_dump(struct u16550_core_ring *ring)
 {
@@ -3968,8 +4006,9 @@ static void uart_ring_retrigger(struct u16550_core_ring *ring)
  *
  * Does not wait: makes at most 35 accesses for each interrupt of the limit, and 3 more.
  *
- * Proved: as many interrupts as are pending are served, but no more than the limit; those
- * that may be left are triggered again.
+ * Proved: as many interrupts as are pending are served, but no more than the limit. Then,
+ * unless ISR has shown that none is pending, IER is read, and written with 0 and with what
+ * was read: what is left is triggered again.
  */
 static struct uart_handled uart_ring_handle(struct u16550_core_ring *ring, size_t limit)
 {
@@ -4154,7 +4193,9 @@ uart_ring_handle_round(struct u16550_core_ring *ring, size_t limit, uint32_t rou
  * If the chip's interrupt line stays high although IER is 0, mask the interrupt at the
  * controller.
  *
- * Proved: try_handle.
+ * Proved: a handle, whose round is counted, and after which the chip may be found stuck; or,
+ * if the chip is stuck already, all interrupts are disabled again. The error is why it is
+ * stuck.
  */
 static struct uart_handled_or_stuck_error
 uart_ring_try_handle(struct u16550_core_ring *ring, size_t limit, uint32_t rounds)
@@ -4270,7 +4311,7 @@ uart_ring_new(struct uart_memory *alloc, struct u16550_core_driver uart, size_t 
  * interrupts were served.
  *
  * Proved: bytes from the front of the input are added at the end of the transmit ring, as
- * many as it has room for; if there are any, a pump follows.
+ * many as it has room for; if there are any, what the chip takes at once is sent.
  */
 static size_t uart_ring_queue(struct u16550_core_ring *ring, const uint8_t *bytes, size_t bytes_len)
 {
@@ -4290,8 +4331,8 @@ static size_t uart_ring_queue(struct u16550_core_ring *ring, const uint8_t *byte
  *
  * Does not wait.
  *
- * Proved: the byte is the urgent one, in place of one that waited, which is returned; and a
- * pump.
+ * Proved: the byte is the urgent one, in place of one that waited, which is returned; and
+ * what the chip takes at once is sent.
  */
 static struct u16550_core_maybe_u8
 uart_ring_queue_urgent(struct u16550_core_ring *ring, uint8_t byte)
@@ -4356,6 +4397,9 @@ static uint8_t uart_ring_not_paused(const struct u16550_core_ring *ring, uint8_t
  * none.
  *
  * Does not wait. It may be called on a chip that is not stuck.
+ *
+ * Proved: these interrupts are enabled, without DATA_READY while receiving is paused; the
+ * chip is not stuck any more, and sending resumes.
  */
 static void uart_ring_restart(struct u16550_core_ring *ring, uint8_t interrupts)
 {
@@ -4400,7 +4444,7 @@ static size_t uart_ring_service(struct u16550_core_ring *ring)
  * Sets the low mark, a number of bytes in the transmit ring. It is 0 at first. Makes no
  * access.
  *
- * Proved: set_low_mark.
+ * Proved: the low mark is stored, and no access is made.
  */
 static void uart_ring_set_low_mark(struct u16550_core_ring *ring, size_t mark)
 {
@@ -4437,8 +4481,8 @@ uart_byte_queue_read_into(struct u16550_core_byte_queue *byte_queue, uint8_t *sl
  * DATA_READY again and ends the pause: one read and one write of IER. Otherwise it makes no
  * access.
  *
- * Proved: take into n slots returns these bytes: from the front of the receive ring, as many
- * as there are slots; if there are any, a pause ends.
+ * Proved: the bytes are from the front of the receive ring, as many as there are slots and
+ * bytes; if there are any, a pause of receiving ends.
  */
 static size_t uart_ring_take(struct u16550_core_ring *ring, uint8_t *slots, size_t slots_len)
 {
@@ -4451,7 +4495,7 @@ static size_t uart_ring_take(struct u16550_core_ring *ring, uint8_t *slots, size
  * Reads LSR once. Returns it joined with the errors that were noted when interrupts were
  * served, and with those that the driver has saved. Both are then forgotten.
  *
- * Proved: lsr joined with what was noted, which is then cleared.
+ * Proved: lsr, joined with what was noted, after which nothing is noted.
  */
 static uint8_t uart_ring_take_line(struct u16550_core_ring *ring)
 {
@@ -4640,8 +4684,8 @@ uart_config_nearest(struct u16550_core_config config, uint32_t per_mille)
  * NonIntegerBaudRateError, with the arguments, if the baud rate is not a whole number.
  *
  * Proved: this value and no other has the property.
- * Proved: the baud rate at which the clock has this frequency; or an error, if no whole one
- * does.
+ * Proved: the baud rate that this divisor gives exactly; or an error with the arguments, if
+ * it gives no whole one.
  */
 static struct uart_u32_or_non_integer_baud_rate_error
 uart_calc_baud_rate(uint32_t frequency, uint32_t divisor,

@@ -535,7 +535,12 @@ int u16550_set_spin_limit(struct u16550 *uart, uint64_t limit);
 int u16550_check_present(struct u16550 *uart, uint8_t *present);
 
 /* Sets the device up. Returns an enum u16550_init_error if it cannot be. */
-/* Proved: the whole list, or the list up to the refusal, with the fields that each leaves. */
+/*
+ * Proved: the configuration is stored, the scratch register tested, divisor, frame and FIFO
+ * are set, the receiver is drained, and MCR is written; after a wait for an empty
+ * transmitter the statuses are read, and IER is written. Or nothing is done, if there is no
+ * divisor; or all up to the test that fails, or to the wait that reaches the limit.
+ */
 int u16550_init(struct u16550 *uart, const struct u16550_config *config);
 
 /*
@@ -543,8 +548,11 @@ int u16550_init(struct u16550 *uart, const struct u16550_config *config);
  * with other outputs. If the wait that comes first ends by U16550_INIT_STALLED, nothing was written but the scratch register.
  */
 /*
- * Proved: the configuration is stored, and the rest done in this order; or the list up to
- * the refusal.
+ * Proved: as init, with the test, the wait and the outputs of this setup. The configuration
+ * is stored; the test and the wait that is to be first are made; divisor, frame and FIFO are
+ * set, the receiver is drained, and MCR is written; the wait that is to be last is made; the
+ * statuses are read, and IER is written. Or nothing is done, if there is no divisor; or all
+ * up to the test that fails, or to the wait that reaches the limit.
  */
 int u16550_init_with(struct u16550 *uart, const struct u16550_config *config, const struct u16550_setup *setup);
 
@@ -552,7 +560,11 @@ int u16550_init_with(struct u16550 *uart, const struct u16550_config *config, co
  * Tests the chip in loopback. Returns an enum u16550_loopback_error if it fails; *failure then has what came back. failure
  * may be null.
  */
-/* Proved: a first wait that reaches the limit, and nothing written; or the test. */
+/*
+ * Proved: MCR and IER are read, and there is a wait for an empty transmitter. If it reaches
+ * the limit, nothing is written, and the result is a stall; else loopback is entered, bytes
+ * are exchanged up to the first error, and MCR and IER are restored.
+ */
 int u16550_test_loopback(struct u16550 *uart, struct u16550_loopback_failure *failure);
 
 /*
@@ -563,12 +575,16 @@ int u16550_test_loopback(struct u16550 *uart, struct u16550_loopback_failure *fa
  */
 /*
  * Proved: the registers show the configuration and these outputs, without loopback; or one
- * does not; or the configuration has no divisor, and no access was made.
+ * does not, and the error has what was asked for and what it shows; or the configuration has
+ * no divisor, and no access was made.
  */
 int u16550_check_configured(struct u16550 *uart, uint8_t outputs, struct u16550_difference *difference);
 
 /* Whether a remote is there and ready to receive. Returns an enum u16550_remote_error if not. */
-/* Proved: one read of MSR, which shows the result. */
+/*
+ * Proved: one read of MSR, which shows DSR and CTS; or which does not show the one that the
+ * error names.
+ */
 int u16550_check_connected(struct u16550 *uart);
 
 /*
@@ -578,16 +594,15 @@ int u16550_check_connected(struct u16550 *uart);
  * u16550_frame_error if the divisor cannot be had.
  */
 /*
- * Proved: what is set is stored, and written to the divisor latch and to LCR; or there is no
- * divisor, and nothing was done.
+ * Proved: clock, baud rate and frame are stored, and written to the divisor latch and to
+ * LCR; or there is no divisor, and nothing is done.
  */
 int u16550_set_frame(struct u16550 *uart, const struct u16550_config *config);
 
 /* Waits until all that was sent is on the line, within the spin limit, and then does the same. */
 /*
- * Proved: what was sent is on the line, and then all is as in set_frame; or there is no
- * divisor, and nothing was done; or the transmitter did not become empty, and nothing was
- * written.
+ * Proved: after a wait for an empty transmitter all is as in set_frame; or there is no
+ * divisor, and nothing is done; or the wait reaches the limit, and nothing is written.
  */
 int u16550_set_frame_when_idle(struct u16550 *uart, const struct u16550_config *config);
 
@@ -597,7 +612,7 @@ int u16550_set_frame_when_idle(struct u16550 *uart, const struct u16550_config *
  */
 /*
  * Proved: with the FIFOs on, the level is stored and written to FCR; with them off, nothing
- * is done.
+ * is done, and the result is the error.
  */
 int u16550_set_trigger_level(struct u16550 *uart, uint8_t characters);
 
@@ -605,7 +620,10 @@ int u16550_set_trigger_level(struct u16550 *uart, uint8_t characters);
  * Leaves the port so that the chip interrupts nobody: writes 0 to IER, then the outputs to MCR without loopback, and does with
  * the FIFOs what an enum u16550_fifo_action says. Does not wait.
  */
-/* Proved: all interrupts are disabled, and the outputs and FCR written. */
+/*
+ * Proved: all interrupts are disabled, the outputs are written to MCR, without loopback, and
+ * then FCR, if the FIFOs are to be reset or disabled.
+ */
 int u16550_quiesce(struct u16550 *uart, uint8_t outputs, uint8_t fifos);
 
 /*
@@ -613,8 +631,8 @@ int u16550_quiesce(struct u16550 *uart, uint8_t outputs, uint8_t fifos);
  * without loopback, SPR, and IER in the end. Both FIFOs are emptied; if they were on, they get the configured trigger level.
  */
 /*
- * Proved: divisor and frame, the FIFOs, and the rest are written as they were read; the
- * FIFOs are on as ISR shows.
+ * Proved: divisor and frame, the FIFOs, and then MCR without loopback, SPR and IER are
+ * written as the dump has them. If it has the FIFOs on, ISR shows whether they are.
  */
 int u16550_restore(struct u16550 *uart, const struct u16550_dump *dump);
 
@@ -626,8 +644,9 @@ int u16550_restore(struct u16550 *uart, const struct u16550_dump *dump);
  * driver is as it was.
  */
 /*
- * Proved: the divisor is not 0, and the driver takes the FIFO to be as ISR shows; or the
- * port was refused before ISR was read, and nothing changed.
+ * Proved: LCR shows that DLAB is off, MCR that loopback is off, the divisor latch a divisor,
+ * and ISR whether the FIFOs are on, which the driver takes them to be; or these are read up
+ * to the one that the error is about, and the driver stays as it was.
  */
 int u16550_attach(struct u16550 *uart, uint8_t *dll, uint8_t *dlm);
 
@@ -659,21 +678,34 @@ int u16550_set_break(struct u16550 *uart, uint8_t on);
 /* --------------------------------------------------------------- sending and receiving */
 
 /* These two and the next two do not wait. They return U16550_RECEIVE_NO_DATA or an enum u16550_send_error. */
-/* Proved: one look, with the result. */
+/* Proved: one read of LSR, which shows a received byte exactly if the result is Ok. */
 int u16550_ready_to_receive(struct u16550 *uart);
-/* Proved: a send check, with the result. */
+/*
+ * Proved: one send check: LSR shows THR_EMPTY and, if CTS is checked, the modem lines allow
+ * sending; or the error names which of these is not so.
+ */
 int u16550_ready_to_send(struct u16550 *uart);
-/* Proved: a hit with the byte, or a miss. */
+/*
+ * Proved: LSR shows a received byte, which is read from DATA and returned; or LSR shows
+ * none.
+ */
 int u16550_try_receive_byte(struct u16550 *uart, uint8_t *byte);
-/* Proved: the send_bytes of one byte. */
+/*
+ * Proved: the accesses of send_bytes for this one byte, which is sent exactly if the result
+ * is Ok; the only error is NoCapacity.
+ */
 int u16550_try_send_byte(struct u16550 *uart, uint8_t byte);
 
 /* Receive what is there, or send one burst, without waiting. *count is how many bytes it was, perhaps 0. */
-/* Proved: receive_bytes into n slots: these bytes fill all slots, or a miss follows them. */
+/*
+ * Proved: bytes are read from DATA, each after LSR shows it, until the slots are full, or
+ * LSR shows none.
+ */
 int u16550_receive_bytes(struct u16550 *uart, uint8_t *buffer, size_t len, size_t *count);
 /*
- * Proved: nothing if there are no bytes; else a check that fails, or one burst from the
- * front.
+ * Proved: nothing if there are no bytes; else a send check and, if it succeeds, bytes from
+ * the front are written to DATA: as many as the FIFO holds, or one if it is off. The result
+ * is how many.
  */
 int u16550_send_bytes(struct u16550 *uart, const uint8_t *buffer, size_t len, size_t *count);
 
@@ -682,8 +714,9 @@ int u16550_send_bytes(struct u16550 *uart, const uint8_t *buffer, size_t len, si
  * On a chip with fewer the bytes that do not fit are lost.
  */
 /*
- * Proved: nothing if there are no bytes; else a check that fails, or one burst from the
- * front.
+ * Proved: nothing if there are no bytes; else a send check and, if it succeeds, bytes from
+ * the front are written to DATA: as many as a FIFO of this size holds, or one if it is off.
+ * The result is how many.
  */
 int u16550_send_burst(struct u16550 *uart, const uint8_t *buffer, size_t len, uint16_t fifo_size, size_t *count);
 
@@ -691,9 +724,15 @@ int u16550_send_burst(struct u16550 *uart, const uint8_t *buffer, size_t len, ui
  * The same as u16550_try_receive_byte and u16550_receive_bytes, with the line errors of each byte. A chip shows these once: if
  * an earlier call has looked at the first byte, its errors are missing here. The next u16550_lsr has all of them.
  */
-/* Proved: a hit with the byte and its errors, or a miss. */
+/*
+ * Proved: LSR shows a received byte, which is read from DATA and returned with the errors
+ * that LSR shows; or LSR shows none.
+ */
 int u16550_try_receive_with_errors(struct u16550 *uart, struct u16550_received *received);
-/* Proved: receive_with_errors into n slots: these fill all slots, or a miss follows them. */
+/*
+ * Proved: bytes are read from DATA, each after LSR shows it and its errors, until the slots
+ * are full, or LSR shows none.
+ */
 int u16550_receive_with_errors(struct u16550 *uart, struct u16550_received *received, size_t len, size_t *count);
 
 /*
@@ -701,13 +740,13 @@ int u16550_receive_with_errors(struct u16550 *uart, struct u16550_received *rece
  * spin limit. *done is how many bytes were done, also after a stall. done may be null.
  */
 /*
- * Proved: receive_bytes_exact into n slots: all are filled, each after its own wait; or
- * some, and then a wait reaches the limit.
+ * Proved: the slots are filled, each after its own wait; or those before the one whose wait
+ * reaches the limit, as many as the error reports.
  */
 int u16550_receive_bytes_exact(struct u16550 *uart, uint8_t *buffer, size_t len, size_t *done);
 /*
- * Proved: all bytes; or all before a rest, burst by burst, and then a wait that reaches the
- * limit.
+ * Proved: all bytes, burst by burst, each burst after its own wait; or those before the
+ * burst whose wait reaches the limit, as many as the error reports.
  */
 int u16550_send_bytes_exact(struct u16550 *uart, const uint8_t *buffer, size_t len, size_t *done);
 
@@ -726,7 +765,10 @@ int u16550_is_idle(struct u16550 *uart, uint8_t *idle);
  * Whether the chip is gone, as one that was unplugged: whether MCR shows 0xff, as most buses do where nobody answers. Then all that is
  * received is 0xff, and all sends succeed. Reads MCR once, which changes nothing.
  */
-/* Proved: MCR shows what a bus shows that nobody drives, all bits set, or not. */
+/*
+ * Proved: one read of MCR, which shows all bits set, as a bus does that nobody drives,
+ * exactly if the result is true.
+ */
 int u16550_is_gone(struct u16550 *uart, uint8_t *gone);
 
 /*
@@ -746,22 +788,35 @@ int u16550_ier(struct u16550 *uart, uint8_t *value);
 int u16550_isr(struct u16550 *uart, uint8_t *value);
 int u16550_lcr(struct u16550 *uart, uint8_t *value);
 int u16550_mcr(struct u16550 *uart, uint8_t *value);
-/* Proved: one read. The result is joined with the saved bits, of which none are left. */
+/*
+ * Proved: one read of LSR, which is returned joined with the saved bits, of which none are
+ * left.
+ */
 int u16550_lsr(struct u16550 *uart, uint8_t *value);
-/* Proved: one read. The result is joined with the saved bits, of which none are left. */
+/*
+ * Proved: one read of MSR, which is returned joined with the saved bits, of which none are
+ * left.
+ */
 int u16550_msr(struct u16550 *uart, uint8_t *value);
 int u16550_spr(struct u16550 *uart, uint8_t *value);
-/* Proved: the accesses to the divisor latch, whatever LCR showed. */
+/*
+ * Proved: LCR is read, and written with DLAB; the divisor latch is read, its low byte first;
+ * and LCR is written back.
+ */
 int u16550_dll_dlm(struct u16550 *uart, uint8_t *dll, uint8_t *dlm);
 
 /* MSR as it is now. The changes in it stay saved for the next u16550_msr. */
 int u16550_peek_modem(struct u16550 *uart, uint8_t *msr);
 
 /*
- * Proved: enable_interrupts, disable_interrupts: IER is read; its new value, with these bits
- * added or removed, is stored and written.
+ * Proved: IER is read; what it shows, with these bits added, is stored in the configuration
+ * and written.
  */
 int u16550_enable_interrupts(struct u16550 *uart, uint8_t interrupts);
+/*
+ * Proved: IER is read; what it shows, without these bits, is stored in the configuration and
+ * written.
+ */
 int u16550_disable_interrupts(struct u16550 *uart, uint8_t interrupts);
 
 /*
@@ -848,7 +903,7 @@ int u16550_ring_is_paused(struct u16550 *uart, uint8_t *paused);
 /* Queues bytes to be sent, as many as there is room for. *count is how many. */
 /*
  * Proved: bytes from the front of the input are added at the end of the transmit ring, as
- * many as it has room for; if there are any, a pump follows.
+ * many as it has room for; if there are any, what the chip takes at once is sent.
  */
 int u16550_ring_queue(struct u16550 *uart, const uint8_t *buffer, size_t len, size_t *count);
 
@@ -870,8 +925,8 @@ int u16550_ring_is_held(struct u16550 *uart, uint8_t *held);
  * replaced, and *replaced is that byte. The second tells which byte still waits.
  */
 /*
- * Proved: the byte is the urgent one, in place of one that waited, which is returned; and a
- * pump.
+ * Proved: the byte is the urgent one, in place of one that waited, which is returned; and
+ * what the chip takes at once is sent.
  */
 int u16550_ring_queue_urgent(struct u16550 *uart, uint8_t byte, struct u16550_urgent *replaced);
 int u16550_ring_urgent(struct u16550 *uart, struct u16550_urgent *urgent);
@@ -880,24 +935,30 @@ int u16550_ring_urgent(struct u16550 *uart, struct u16550_urgent *urgent);
  * Drop the bytes that are queued, and those that were received and not taken. *count is how many. An urgent byte and what is in the
  * chip stay.
  */
-/* Proved: the transmit ring is emptied of so many bytes. */
+/*
+ * Proved: the transmit ring is emptied without an access, and the result is how many bytes
+ * it had.
+ */
 int u16550_ring_clear_transmit(struct u16550 *uart, size_t *count);
-/* Proved: the receive ring is emptied of so many bytes; if there are any, a pause ends. */
+/*
+ * Proved: the receive ring is emptied, and the result is how many bytes it had; if it had
+ * any, a pause of receiving ends.
+ */
 int u16550_ring_clear_receive(struct u16550 *uart, size_t *count);
 
 /*
  * The low mark, a number of queued bytes, is 0 at first. *low is whether their number fell from above the mark to the mark or
  * below since the last call. Ask at the end of the handler, and wake who waits for room.
  */
-/* Proved: set_low_mark. */
+/* Proved: the low mark is stored, and no access is made. */
 int u16550_ring_set_low_mark(struct u16550 *uart, size_t mark);
 /* Proved: whether a fall to the low mark was noted, which is then forgotten. */
 int u16550_ring_take_low(struct u16550 *uart, uint8_t *low);
 
 /* Takes received bytes, as many as there are and as there is room for. *count is how many. */
 /*
- * Proved: take into n slots returns these bytes: from the front of the receive ring, as many
- * as there are slots; if there are any, a pause ends.
+ * Proved: the bytes are from the front of the receive ring, as many as there are slots and
+ * bytes; if there are any, a pause of receiving ends.
  */
 int u16550_ring_take(struct u16550 *uart, uint8_t *buffer, size_t len, size_t *count);
 
@@ -905,10 +966,14 @@ int u16550_ring_take(struct u16550 *uart, uint8_t *buffer, size_t len, size_t *c
  * Holds the other end back by RTS, or lets it go on: RTS goes off if there is room for fewer received bytes than hold, and on if there
  * is room for at least release. Between the two it stays as it is. The other end has to check CTS. Call it at the end of the handler,
  * and after each u16550_ring_take and u16550_ring_clear_receive: while the other end is held back no byte arrives, so nothing calls
- * the handler. docs/INTERRUPTS.md says which marks to choose; release is to be at most the capacity, or RTS never goes on again. MCR is
- * read, and written if RTS is not so yet: the other outputs as they were, and loopback off.
+ * the handler. rust/uart_16550/INTERRUPTS.md says which marks to choose; release is to be at most the capacity, or RTS never goes on
+ * again. MCR is read, and written if RTS is not so yet: the other outputs as they were, and loopback off.
  */
-/* Proved: RTS is made as the room in the receive ring says. */
+/*
+ * Proved: RTS is off if the receive ring has room for fewer bytes than hold, on if it has
+ * room for release or more, and else stays. For this MCR is read, and written only if it
+ * shows RTS otherwise.
+ */
 int u16550_ring_adjust_rts(struct u16550 *uart, size_t hold, size_t release);
 
 /*
@@ -916,7 +981,10 @@ int u16550_ring_adjust_rts(struct u16550 *uart, size_t hold, size_t release);
  * of these, which take the interrupt away: u16550_isr, u16550_config_register_dump, u16550_attach, u16550_disable_interrupts of
  * U16550_IER_THR_EMPTY, u16550_quiesce, u16550_restore, u16550_test_loopback, u16550_init and u16550_init_with.
  */
-/* Proved: if bytes wait, a pump. */
+/*
+ * Proved: if bytes wait, what the chip takes at once is sent, and THR_EMPTY is enabled if
+ * some are left, else disabled.
+ */
 int u16550_ring_resume_transmit(struct u16550 *uart);
 
 /*
@@ -928,8 +996,9 @@ int u16550_ring_resume_transmit(struct u16550 *uart);
  * ever. But then the controller calls the handler for ever, unless somebody counts: u16550_ring_try_handle does.
  */
 /*
- * Proved: as many interrupts as are pending are served, but no more than the limit; those
- * that may be left are triggered again.
+ * Proved: as many interrupts as are pending are served, but no more than the limit. Then,
+ * unless ISR has shown that none is pending, IER is read, and written with 0 and with what
+ * was read: what is left is triggered again.
  */
 int u16550_ring_handle(struct u16550 *uart, size_t limit, struct u16550_handled *handled);
 
@@ -938,9 +1007,13 @@ int u16550_ring_handle(struct u16550 *uart, size_t limit, struct u16550_handled 
  * than U16550_HANDLE_IDLE, and moved no byte between the rings and the chip, it reads ISR once more. If that still shows an
  * interrupt, the chip is stuck: the call writes 0 to IER, and returns an enum u16550_stuck_error. While the chip is stuck, each
  * further call writes 0 to IER again and returns the same, and the rings hand no byte to the chip. A limit of at least 6 keeps a
- * chip that works from it: see docs/INTERRUPTS.md. 100 rounds are 3,200 interrupts without a pause, if the limit is 32.
+ * chip that works from it: see rust/uart_16550/INTERRUPTS.md. 100 rounds are 3,200 interrupts without a pause, if the limit is 32.
  */
-/* Proved: try_handle. */
+/*
+ * Proved: a handle, whose round is counted, and after which the chip may be found stuck; or,
+ * if the chip is stuck already, all interrupts are disabled again. The error is why it is
+ * stuck.
+ */
 int u16550_ring_try_handle(struct u16550 *uart, size_t limit, uint32_t rounds, struct u16550_handled *handled);
 
 /* Whether the chip is stuck, and what ISR showed. */
@@ -949,6 +1022,10 @@ int u16550_ring_stuck(struct u16550 *uart, struct u16550_stuck *stuck);
 /*
  * Starts a chip again that is stuck: enables these interrupts, U16550_IER_DATA_READY not while receiving is paused, and sends
  * what waits. After u16550_init, which enables interrupts itself, give 0.
+ */
+/*
+ * Proved: these interrupts are enabled, without DATA_READY while receiving is paused; the
+ * chip is not stuck any more, and sending resumes.
  */
 int u16550_ring_restart(struct u16550 *uart, uint8_t interrupts);
 
@@ -979,7 +1056,7 @@ int u16550_ring_service(struct u16550 *uart, size_t *count);
 int u16550_line_handle(struct u16550_line_port *ports, size_t count, size_t limit, uint32_t rounds, uint8_t *served);
 
 /* LSR or MSR, joined with the errors or changes that were noted since the last of these calls. */
-/* Proved: lsr joined with what was noted, which is then cleared. */
+/* Proved: lsr, joined with what was noted, after which nothing is noted. */
 int u16550_ring_take_line(struct u16550 *uart, uint8_t *lsr);
 /* Proved: msr, joined with what was noted, after which nothing is noted. */
 int u16550_ring_take_modem(struct u16550 *uart, uint8_t *msr);
@@ -989,8 +1066,8 @@ int u16550_ring_take_modem(struct u16550 *uart, uint8_t *msr);
  * away the interrupt that would have sent them.
  */
 /*
- * Proved: that of the driver, whose read of ISR may acknowledge THR_EMPTY; and then sending
- * resumes.
+ * Proved: the dump of the driver, whose read of ISR may acknowledge THR_EMPTY; and then
+ * sending resumes.
  */
 int u16550_ring_config_register_dump(struct u16550 *uart, struct u16550_dump *dump);
 
