@@ -215,6 +215,10 @@ class Rules:
         """Whether an item is the module that is by hand."""
         return name.endswith("::by_hand") and "pub mod by_hand;" in self.table.BY_HAND.values()
 
+    def is_of_pages(self, name, text):
+        """Whether an item is a module of the pages of definitions, which hold documentation alone."""
+        return re.match(r"crate::proved(::|$)", name) is not None and re.fullmatch(r"mod \w+", text) is not None
+
 
 def differences(emitted, library, rules):
     """What an emitted crate exports otherwise than the library: texts, and how many items were compared."""
@@ -222,7 +226,7 @@ def differences(emitted, library, rules):
     for one in items(emitted, ".rs"):
         if one.visibility == "" and one.text.endswith(" .."):
             found.append(f"{one.name}: `{one.text.removesuffix(' ..')}`, which no library has")
-        elif one.visibility == "pub" and not rules.is_by_hand(one.name):
+        elif one.visibility == "pub" and not rules.is_by_hand(one.name) and not rules.is_of_pages(one.name, one.text):
             ours[one.name] = one.text
     for one in items(library, ".rt"):
         text = rules.emitted(one.name, one.text) if one.visibility == "pub" else None

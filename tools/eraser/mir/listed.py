@@ -108,6 +108,12 @@ CONTRACTS = {
     "uart_virtual::port::send": "!a0.sends_at_once()",
     "uart_virtual::port::write": "a1 >= 8",
     "uart_virtual::port::write_slowly": "a1 >= 8",
+    "uart_virtual::port::write_and_raise": "a1 >= 8",
+}
+
+# Packages that are compared for 32 bits only if that is asked for, with the reason. They are compared as a release for this machine instead.
+NOT_YET_ON_32 = {
+    "uart_16550_chip": "1 of 15,001 cases of LiveChip::arrive, and what is built of it, differ there, and it is not known yet why",
 }
 
 # What a function adds or multiplies of type `usize`, as Rust code of type `u128` over its arguments: a pattern of the name, the code, and why
