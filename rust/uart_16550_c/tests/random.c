@@ -80,7 +80,8 @@ static void choose(struct u16550_config *config)
 /* A driver over memory that keeps what is written, sometimes a DesignWare's, of a layout that stands for something, or seldom for none. */
 static int new_wide(struct u16550 *u)
 {
-    static uint32_t words[8 * 128 / 4 + 1];
+    /* A DesignWare has 32 registers and more, and its status is the last of these. */
+    static uint32_t words[32 * 128 / 4 + 1];
     static const uint8_t widths[] = { 8, 16, 32, 0 };
     struct u16550_layout layout;
     uint8_t *cells = (uint8_t *)words;

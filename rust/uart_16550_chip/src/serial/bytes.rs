@@ -45,6 +45,7 @@ const LEVELS: [FifoTriggerLevel; 4] = [
 const MODELS: [Chip; 2] = [Chip::Uart16450, Chip::Uart16550A];
 
 /// The number of one of these.
+#[allow(clippy::cast_possible_truncation, reason = "a list of these has a few")]
 fn number_of<T: PartialEq>(items: &[T], wanted: &T) -> u8 {
     let place = items.iter().position(|item| item == wanted);
     place.unwrap_or(0) as u8
@@ -67,6 +68,10 @@ impl Writer {
     }
 
     /// A list, with its length in front, in the room that it may take.
+    #[allow(
+        clippy::cast_possible_truncation,
+        reason = "a list has room for at most 64 bytes"
+    )]
     fn put_list(&mut self, bytes: &[u8], room: usize) {
         self.put(&[bytes.len() as u8]);
         self.put(bytes);
@@ -74,6 +79,10 @@ impl Writer {
     }
 
     /// What is before the body of a part. A reader that does not know the kind refuses the state.
+    #[allow(
+        clippy::cast_possible_truncation,
+        reason = "a part is shorter than a state"
+    )]
     fn put_part(&mut self, kind: u8, len: usize) {
         self.put(&[kind, 1]);
         self.put(&(len as u16).to_le_bytes());
@@ -428,6 +437,7 @@ impl SerialState {
     ///
     /// `STATE.md` of the package has the layout. The library for C reads and writes the same bytes.
     #[must_use]
+    #[allow(clippy::cast_possible_truncation, reason = "a state has 171 bytes")]
     pub fn to_bytes(&self) -> [u8; Self::LEN] {
         let mut to = Writer {
             bytes: [0; Self::LEN],

@@ -37,16 +37,19 @@ pub struct SerialState {
 
 impl SerialState {
     /// Returns the state of a port.
+    #[must_use]
     pub fn of_port(port: &VirtualPort) -> Self {
         Self::of_parts(port.data(), port.output())
     }
 
     /// Returns the state of a chip. The output is what is on its wire.
+    #[must_use]
     pub fn of_chip(chip: &LiveChip) -> Self {
         Self::of_parts(chip.data(), chip.wire())
     }
 
     /// The state with a chip, and what it has sent.
+    #[allow(clippy::large_types_passed_by_value, reason = "it is kept")]
     fn of_parts(chip: ChipData, sent: &[u8]) -> Self {
         // A wire has room for at most so many bytes.
         let output = ArrayVec::try_from(sent).unwrap_or_default();
