@@ -216,8 +216,9 @@ class Rules:
         return name.endswith("::by_hand") and "pub mod by_hand;" in self.table.BY_HAND.values()
 
     def is_of_pages(self, name, text):
-        """Whether an item is a module of the pages of definitions, which hold documentation alone."""
-        return re.match(r"crate::proved(::|$)", name) is not None and re.fullmatch(r"mod \w+", text) is not None
+        """Whether an item is a module of the pages of definitions, which hold documentation alone, or the pages of another crate there."""
+        is_page = re.fullmatch(r"crate::proved(::\w+)*", name) and re.fullmatch(r"mod \w+", text)
+        return bool(is_page or re.fullmatch(r"crate::proved::use \w+ :: proved as \w+", name))
 
 
 def differences(emitted, library, rules):
