@@ -1,18 +1,20 @@
 """Wrong bodies: which there are, in which function each is, and what the prover says of it.
 
+Those of a crate are in its file `wrong-bodies`, which docs/WRONG_BODIES.md explains.
+
 Many edits are tried in one check of a copy of the crate, each in the body of another function. A body is no part of what other functions
 are proved from, which is contracts, so each is judged by what the prover says of its own function alone: an error in the proof of that
 function, or that no proof of it was found. One whose function only waits for another that is refused is tried in a later check, without
 that one. What a batch does not refuse, and what is not in the body of one function, is tried in a check of its own. So a batch gives only
 the verdict 'refused', and if anything else is refused in it than what is edited, it gives none.
 
-Each check begins with what a check of the crate as it stands has kept, and that check must prove the crate: else no edit is to blame. The
-verdict on an edit is kept for each user of the machine by all that it can depend on: the edit, the interfaces below, and the crate without
+No edit is to blame where the crate is not proved as it stands. So that is known first: from `rt ci`, or from a check. Where it is known,
+a batch proves the functions with edits and what they call, and no others, since these are proved whatever is in a body. What is tried alone
+is tried with the whole crate, and such a check begins with what a check of the crate as it stands has kept. The verdict on an edit is kept for each user of the machine by all that it can depend on: the edit, the interfaces below, and the crate without
 the bodies and proofs of other functions.
 """
 import collections
 import functools
-import glob
 import os
 import re
 import shutil
@@ -20,8 +22,8 @@ import tempfile
 
 import gate
 import proofs
+from wrong_bodies import pairs, sections
 
-HERE = os.path.join(gate.TOP, ".ci", "edits-by-hand")
 # How many edits a check tries at most. More make a check that runs out of memory or time dearer.
 BATCH = 80
 PARTS = ("src", "specs", "proofs")
@@ -48,12 +50,11 @@ def text_of(name):
 
 
 class Edit:
-    """A file of a wrong body: the texts that it replaces, and the function in whose body all of them are, if there is one."""
+    """A wrong body: the texts that it replaces, and the function in whose body all of them are, if there is one."""
 
-    def __init__(self, crate, path):
-        self.crate, self.path, self.text = crate, path, text_of(path)
-        self.name = os.path.basename(path)[: -len(".edit")]
-        self.label = f"{crate.name}/{self.name}"
+    def __init__(self, crate, name, text, is_in_gate):
+        self.crate, self.name, self.text, self.is_in_gate = crate, name, text, is_in_gate
+        self.label = f"{crate.name}/{name}"
         self.pairs = [*pairs(self.text)]
         self.place = place(crate, self.pairs)
 
@@ -75,22 +76,10 @@ class Edit:
         return gate.sum_of(2, kit, self.crate.line, self.text, below, around(self.crate, self.place))
 
 
-def edits_of(crate, in_gate=False):
-    """Returns the edits of a crate that are tried by hand, and those that the gate tries, if they are asked for."""
-    folders = [os.path.join(HERE, crate.name), *([os.path.join(crate.folder, "must-fail")] if in_gate else [])]
-    return [Edit(crate, path) for folder in folders for path in sorted(glob.glob(os.path.join(glob.escape(folder), "*.edit")))]
-
-
-def pairs(text):
-    """Yields the changes that an edit makes, as the kit reads them: file, old text, new text."""
-    file = old = None
-    for line in text.split("\n"):
-        if line.startswith("file: "):
-            file = line[len("file: ") :].strip()
-        elif line.startswith("old: "):
-            old = line[len("old: ") :]
-        elif line.startswith("new:"):
-            yield file, old, line[len("new:") :].removeprefix(" ")
+def edits_of(crate):
+    """Returns the wrong bodies of a crate."""
+    path = os.path.join(crate.folder, "wrong-bodies")
+    return [Edit(crate, name, text, is_in_gate) for name, is_in_gate, text in sections(path)] if os.path.isfile(path) else []
 
 
 # ---- the functions of a source
@@ -143,11 +132,17 @@ class Place:
     def key(self):
         return self.file, self.owner, self.name
 
+    def module(self):
+        return [] if self.file in ("src/lib.rt", "src/main.rt") else self.file[len("src/") : -len(".rt")].split("/")
+
+    def in_module(self):
+        """Returns the kit's name of the function if it, or its type, stands in the module of its file."""
+        return "::".join([self.crate.name, *self.module(), *([self.owner] if self.owner else []), self.name])
+
     def told(self, names):
         """Returns the kit's name of the function, if one alone of the names fits."""
-        module = [] if self.file == "src/lib.rt" else self.file[len("src/") : -len(".rt")].split("/")
+        module, exact = self.module(), [self.in_module()]
         # A method stands in the module of its type, and behind its types if only some of a generic type have it.
-        exact = ["::".join([self.crate.name, *module, *([self.owner] if self.owner else []), self.name])]
         ends = [rf"::{self.owner}(\+\S+)?::{self.name}$"] if self.owner else []
         found = [it for it in names if it in exact] or [it for it in names if any(re.search(end, it) for end in ends)]
         # The same name in two modules: that of the file.
@@ -224,18 +219,51 @@ def around(crate, one):
 # ---- verdicts
 
 
-def checked(crate, batch, made, seed):
-    """Returns the status of a check of a copy of the crate with all edits of a batch, over what a check kept, what the prover said, and the
-    seconds of the processor."""
-    with tempfile.TemporaryDirectory(prefix="edits-") as room:
-        for part in PARTS:
-            if os.path.isdir(os.path.join(crate.folder, part)):
-                shutil.copytree(os.path.join(crate.folder, part), os.path.join(room, part))
-        if not all(edit.apply(room) for edit in batch):
+class Prover:
+    """The prover, asked about copies of a crate with edits, over the libraries that `made` names. It begins with what an earlier check kept
+    in a folder, if there is something."""
+
+    def __init__(self, crate, made, faces, work, say):
+        self.crate, self.made, self.work, self.say = crate, made, work, say
+        self.is_known, self.is_seeded = proofs.is_proved(crate, faces), None
+        # The functions as a check prints them. A program has no library, and so no list of them.
+        rlib = made(crate) if proofs.is_library(crate) else None
+        self.names = proofs.functions_of(crate, rlib) if rlib and os.path.isdir(rlib) else []
+
+    def name_of(self, edit):
+        """Returns the name by which a check can be asked for the function of an edit alone, or None. Of a program it is the likely one: a
+        check of a name that is none says so at once."""
+        if not (self.is_known and edit.place):
+            return None
+        return edit.place.told(self.names) if self.names else edit.place.in_module()
+
+    def is_proved(self):
+        """Returns whether the crate is proved as it stands."""
+        return self.is_known or self.seed()
+
+    def seed(self):
+        """Proves the crate as it stands, once, for its edits to begin with, and returns whether it is proved."""
+        if self.is_seeded is None:
+            status, out, took = proofs.prove(self.crate, self.made, self.work, jobs=proofs.CORES)
+            self.is_seeded = not status
+            self.say(f"{self.crate.name}: the crate as it stands, for its edits to begin with: {took:.0f} cpu s" if self.is_seeded else
+                     f"{proofs.told(out)}\n{self.crate.name} is not proved as it stands, so nothing can be said of its edits")
+        return self.is_seeded
+
+    def check(self, batch, only=()):
+        """Returns the status of a check of a copy of the crate with all edits of a batch, of the whole crate or of these functions, what the
+        prover said, and the seconds of the processor."""
+        if not only and not self.seed():
             return 1, "", 0.0
-        work = os.path.join(room, "seed")
-        proofs.copy_of_work(seed, work)
-        return proofs.prove(crate, made, work, cwd=room)
+        with tempfile.TemporaryDirectory(prefix="edits-") as room:
+            for part in PARTS:
+                if os.path.isdir(os.path.join(self.crate.folder, part)):
+                    shutil.copytree(os.path.join(self.crate.folder, part), os.path.join(room, part))
+            if not all(edit.apply(room) for edit in batch):
+                return 1, "", 0.0
+            work = os.path.join(room, "work")
+            proofs.copy_of_work(self.work, work)
+            return proofs.prove(self.crate, self.made, work, cwd=room, only=only)
 
 
 def folder_of(name):
@@ -288,47 +316,56 @@ def judged_alone(edit, status, out):
     return "does not compile" if re.search(r"\berror\[[\w-]+\]", out) else "not tried"
 
 
-def tried(crate, edits, made, say):
-    """Tries edits of a crate over the libraries that `made` names. Returns the verdict on each, and its processor seconds; `say` is told
-    of each check. Without a verdict is everything if the crate is not proved as it stands."""
+def in_batches(prover, left, is_narrow, verdicts, seconds):
+    """Tries edits that are each in the body of a function, many in one check: of these functions and what they call, or of the whole crate.
+    Notes the verdict 'refused' on those that are, and returns those that are to be tried alone."""
+    say, crate, alone, most = prover.say, prover.crate, [], BATCH
+    while left:
+        batch = {}
+        for edit in left:
+            if len(batch) < most:
+                batch.setdefault(edit.place.key(), edit)
+        batch = [*batch.values()]
+        _, out, took = prover.check(batch, only=[*map(prover.name_of, batch)] if is_narrow else ())
+        if not SAID.search(out):
+            # One does not compile, or two change one line: half of them, and then the other.
+            if len(batch) == 1:
+                alone += batch
+                left.remove(batch[0])
+            half, most = batch[: len(batch) // 2], max(len(batch) // 2, 1)
+            left = half + [edit for edit in left if edit not in half]
+            say(f"{crate.name}: {len(batch)} edits in a check that does not compile")
+            continue
+        found = judged(batch, out)
+        if all(verdict == "waits" for verdict in found.values()):
+            found = dict.fromkeys(found, "alone")
+        say(f"{crate.name}: {len(batch)} edits in a check of {took:.0f} cpu s: {sum(it == 'refused' for it in found.values())} refused")
+        for edit, one in found.items():
+            seconds[edit] += took / len(batch)
+            if one != "waits":
+                left.remove(edit)
+                (alone.append(edit) if one == "alone" else verdicts.__setitem__(edit, one))
+        # Those that waited come first, without those that they waited for.
+        left.sort(key=lambda edit: found.get(edit) != "waits")
+        most = min(2 * most, BATCH)
+    return alone
+
+
+def tried(crate, edits, made, faces, say):
+    """Tries edits of a crate over the libraries that `made` names, with these interfaces. Returns the verdict on each, and its processor
+    seconds; `say` is told of each check. Without a verdict is everything if the crate is not proved as it stands."""
     verdicts, seconds = {}, collections.Counter()
-    with proofs.work_of(crate) as seed:
-        status, out, took = proofs.prove(crate, made, seed, jobs=proofs.CORES)
-        if status:
-            say(f"{proofs.told(out)}\n{crate.name} is not proved as it stands, so nothing can be said of its edits")
+    with proofs.work_of(crate) as work:
+        prover = Prover(crate, made, faces, work, say)
+        if not prover.is_proved():
             return dict.fromkeys(edits, "not tried"), seconds
-        say(f"{crate.name}: the crate as it stands, for its edits to begin with: {took:.0f} cpu s")
-        left, alone, most = [edit for edit in edits if edit.place], [edit for edit in edits if not edit.place], BATCH
-        while left:
-            batch = {}
-            for edit in left:
-                if len(batch) < most:
-                    batch.setdefault(edit.place.key(), edit)
-            batch = [*batch.values()]
-            _, out, took = checked(crate, batch, made, seed)
-            if not SAID.search(out):
-                # One does not compile, or two change one line: half of them, and then the other.
-                if len(batch) == 1:
-                    alone += batch
-                    left.remove(batch[0])
-                half, most = batch[: len(batch) // 2], max(len(batch) // 2, 1)
-                left = half + [edit for edit in left if edit not in half]
-                say(f"{crate.name}: {len(batch)} edits in a check that does not compile")
-                continue
-            found = judged(batch, out)
-            if all(verdict == "waits" for verdict in found.values()):
-                found = dict.fromkeys(found, "alone")
-            say(f"{crate.name}: {len(batch)} edits in a check of {took:.0f} cpu s: {sum(it == 'refused' for it in found.values())} refused")
-            for edit, one in found.items():
-                seconds[edit] += took / len(batch)
-                if one != "waits":
-                    left.remove(edit)
-                    (alone.append(edit) if one == "alone" else verdicts.__setitem__(edit, one))
-            # Those that waited come first, without those that they waited for.
-            left.sort(key=lambda edit: found.get(edit) != "waits")
-            most = min(2 * most, BATCH)
+        narrow = [edit for edit in edits if prover.name_of(edit)]
+        wide = [edit for edit in edits if edit.place and edit not in narrow]
+        alone = [edit for edit in edits if not edit.place]
+        alone += in_batches(prover, narrow, True, verdicts, seconds)
+        alone += in_batches(prover, wide, False, verdicts, seconds)
         for edit in alone:
-            status, out, took = checked(crate, [edit], made, seed)
+            status, out, took = prover.check([edit])
             verdicts[edit] = judged_alone(edit, status, out)
             seconds[edit] += took
             say(f"{edit.label}: alone: {verdicts[edit]}")

@@ -109,6 +109,16 @@ def keep_verdict(crate, key, face, exact, by):
     gate.keep("change/verdicts", f"{crate.name}-{key}", {"face": face, "exact": exact, "by": by})
 
 
+def is_proved(crate, faces):
+    """Returns whether the crate was proved of these files over these interfaces, by `rt ci` or by a check of ours on this machine."""
+    return bool(verdict(crate, key_of(crate, faces)))
+
+
+def functions_of(crate, rlib):
+    """Returns the functions of a library by the names that a check prints."""
+    return [f"{crate.name}::{name.removeprefix('proofs/').replace('/', '::')}" for name in made_of(rlib)[1]]
+
+
 # ---- libraries
 
 
@@ -221,10 +231,12 @@ def work_of(crate):
         shutil.rmtree(old, ignore_errors=True)
 
 
-def prove(crate, made, work, rlib=None, cwd=None, jobs=2):
-    """Runs the prover on a crate, over the libraries that `made` names and what earlier checks kept in a folder, and builds the library if
-    a place for it is given. Returns the status, what was said, and the seconds of the processor."""
-    words = [f"{KIT}/bin/rattle", "build" if rlib else "check", *reading(crate, jobs, made), "--incremental", work]
+def prove(crate, made, work=None, rlib=None, cwd=None, jobs=2, only=()):
+    """Runs the prover on a crate, over the libraries that `made` names and what earlier checks kept in a folder, if one is given, and builds
+    the library if a place for it is given. With `only` it proves no more than these functions and what they call. Returns the status, what
+    was said, and the seconds of the processor."""
+    words = [f"{KIT}/bin/rattle", "build" if rlib else "check", *reading(crate, jobs, made)]
+    words += [*(["--incremental", work] if work else []), *(word for name in only for word in ("--only", name))]
     run = subprocess.Popen([*words, *(["-o", rlib] if rlib else [])], cwd=cwd or crate.folder, stdin=subprocess.DEVNULL,
                            stdout=subprocess.PIPE, stderr=subprocess.STDOUT, text=True, errors="replace")
     out = run.stdout.read()

@@ -1,11 +1,11 @@
 """The gate, at the top of a clean checkout: .ci/run [WORD ..]
 
 What documents say and quote, and how long lines are; whether what ships stands alone; whether pictures and the Rust packages are what the
-repository makes; then every proof, the wrong bodies in must-fail, every test and program of the proved crates, and beside them the tests
-of the eraser and of the Rust packages, their documentation, and the commands of the READMEs, which need no proof; and then side by side
-what needs what was proved: refused memory, uart_port on an emulated PC, the programs, the emitted Rust compared with the proved MIR, the
-C made of it, a dozen of the wrong bodies that are tried by hand, the example monitor, the tty driver in Linux, Linux on the device for
-monitors, the library for C, and the Rust packages compared with it.
+repository makes; then every proof, every test and program of the proved crates, and beside them the tests of the eraser and of the Rust
+packages, their documentation, and the commands of the READMEs, which need no proof; and then side by side what needs what was proved:
+refused memory, uart_port on an emulated PC, the programs, the emitted Rust compared with the proved MIR, the C made of it, kernels and
+U-Boot over that, the wrong bodies of the gate and a dozen of the others, the example monitors, the tty driver in Linux, Linux on the device
+for monitors, the library for C, and the Rust packages compared with it.
 
 A command that passed on this machine with the same files, tools and kit is not run again: its line names it and says what it counted then.
 `rt ci` is always run, and decides by itself what it keeps. CI=full runs everything, as the nightly does; with WORDs only the commands
@@ -32,11 +32,13 @@ IS_FULL = os.environ.get("CI") == "full"
 # What of the checkout a command does not read. `.ci/inputs` runs the commands and finds what is wrong here.
 PAGES = ["CHANGELOG.md", "CONTRIBUTING.md", "SECURITY.md", "docs/*.md", ".ci/*", ".github/*"]
 # Definitions are none of them: the eraser holds what it writes beside some of these.
-PROOFS = ["crates/*/proofs/*", "crates/*/must-fail/*"]
+PROOFS = ["crates/*/proofs/*", "crates/*/wrong-bodies"]
 # The pages that commands compare with code, and what is in .ci and is such a command.
-C_PAGES = ["docs/C.md", "docs/HARDWARE.md", "docs/MANUAL.md", "docs/AUDIT.md"]
+C_PAGES = ["docs/C.md", "docs/C_INTERRUPTS.md", "docs/HARDWARE.md", "docs/MANUAL.md", "docs/AUDIT.md"]
 
 CI, C = "rt ci", "./prove --after-ci uart_c"
+# The code that is proved of that library, of which C is made too.
+CODE_OF_C = "./prove --after-ci --library uart_c"
 USES = dict(re.findall(r"^(\w+)[^:#\n]*:(.*)$", (gate.TOP / "crates.txt").read_text(encoding="utf-8"), re.M))
 OF_C = [f"{CI}: {one}" for one in USES["uart_c"].split() if one in USES]
 SETTLED = re.compile(r"rt: (\w+) (?:proved|is kept: .*)$")
@@ -57,8 +59,10 @@ OF_RUST = [*PAGES, "crates/*", "bench/*", "tools/*"]
 READMES = [*C_PAGES, "README.md", "*/README.md", "*/COMPAT.md"]
 # The two files of C, the program over them and over the library of Rust, and what that is made of.
 OF_C_FILES = [*PAGES, "crates/*", "bench/*", "tools/eraser/*", "integration/*", "examples/*"]
+# What users of these files have: how they are installed, the page, and what they cost beside the library of Rust.
+OF_USERS_OF_C = [*PAGES, "crates/*", "bench/*", "tools/eraser/*", "integration/*", "examples/*"]
 # What is built by `rt ci` and read by these depends on the sources of the crates, which the sums have.
-OVER = {"after": [CI], "without": [*PAGES, "crates/*/must-fail/*"], "but": C_PAGES}
+OVER = {"after": [CI], "without": [*PAGES, "crates/*/wrong-bodies"], "but": C_PAGES}
 COMMANDS = [
     *FIRST,
     Command(CI, always=True),
@@ -73,20 +77,29 @@ COMMANDS = [
     Command("integration/port", **OVER | {"without": OF_RUST}),
     Command("integration/programs", **OVER),
     Command("tools/eraser/mir/compare", **OVER),
-    Command("tools/c/emit --check", **OVER),
-    Command("tools/c/compare", **BESIDE | {"without": OF_C_FILES}),
-    Command(".ci/edits-by-hand/try --after-ci --some 12", after=[CI], always=True),
+    Command("tools/c/emit --check driver", **OVER),
+    Command("tools/c/emit --check port", **OVER | {"after": [CODE_OF_C]}),
+    Command("tools/c/compare driver", **BESIDE | {"without": OF_C_FILES}),
+    Command("tools/c/compare port", **OVER | {"after": [C, CODE_OF_C], "nice": 19}),
+    # Nothing waits for these, and they take all cores.
+    Command(".ci/wrong-bodies --after-ci --in-the-gate 12", after=[CI], always=True, nice=19),
+    Command("integration/c-kernels", **BESIDE | {"without": OF_RUST}),
+    Command("integration/boot-loaders u-boot", **BESIDE | {"without": OF_RUST}),
+    Command("integration/c", **BESIDE | {"without": OF_USERS_OF_C, "but": ["docs/C.md", "integration/apt", "integration/c", "bench/callbacks.c"]}),
     # It waits for the libraries below alone, and so runs beside what `rt ci` does last: that proves this crate too, and does not build it.
     Command(C, after=OF_C, always=True),
+    # This one waits for all of `rt ci`, which removes what it finds of a library for C.
+    Command(CODE_OF_C, after=[CI], always=True),
     Command("integration/library", **OVER | {"after": [C], "nice": 19}),
     Command("integration/rust compare", **OVER | {"after": [C], "nice": 19}),
     # These wait for other machines as a person would. Each takes less than a core, so they run side by side, and nothing else beside them.
     Command("integration/monitor", **OVER | {"without": OF_RUST}),
     Command("integration/linux", **OVER | {"without": OF_RUST}),
-    # This one waits for nothing, and takes a core.
+    # These wait for nothing, and take a core.
+    Command("integration/c-monitor", **BESIDE | {"without": OF_RUST}),
     Command("integration/guest", **OVER | {"without": OF_RUST}),
 ]
-ALONE = 3
+ALONE = 4
 for alone in COMMANDS[-ALONE:]:
     alone.after = [one.words for one in COMMANDS[:-ALONE]]
 
@@ -133,7 +146,7 @@ def run(command, found, machine, logs):
     if is_ci:
         clear_libraries()
     say(f"runs: {command.words}")
-    command.run(told_by_ci if is_ci else None, counts=command.words != C)
+    command.run(told_by_ci if is_ci else None, counts=command.words not in (C, CODE_OF_C))
     (logs / re.sub(r"\W+", "-", command.words)).write_text("\n".join(command.lines) + "\n", encoding="utf-8")
     say(f"ran: {command.words}: {command.wall:.0f} s, {command.cpu:.0f} cpu s", *([] if is_ci else command.lines))
     # What was changed meanwhile may have been read before or after.
@@ -166,8 +179,8 @@ def run_all(left, found, machine, logs):
             for ended in concurrent.futures.wait(running, timeout=1, return_when=concurrent.futures.FIRST_COMPLETED).done:
                 ended.result()
                 one = running.pop(ended)
-                # The others say more on their own. Without these two there is nothing to look at, or it is of some time ago.
-                failed |= {one.words} if one.failed and one.words in (CI, C) else set()
+                # The others say more on their own. Without these there is nothing to look at, or it is of some time ago.
+                failed |= {one.words} if one.failed and one.words in (CI, C, CODE_OF_C) else set()
 
 
 def main():

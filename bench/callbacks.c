@@ -63,6 +63,32 @@ static int service(size_t count)
     return status;
 }
 
+static int handle(size_t count)
+{
+    int status = u16550_ring_new(&uart, rings, sizeof rings, RING, RING);
+    struct u16550_handled handled;
+    while (count-- > 0 && status == U16550_OK)
+        status = u16550_ring_try_handle(&uart, 8, 100, &handled);
+    return status;
+}
+
+static int try_send(size_t count)
+{
+    int status = U16550_OK;
+    while (count-- > 0 && status == U16550_OK)
+        status = u16550_try_send_byte(&uart, 'a');
+    return status;
+}
+
+static int try_receive(size_t count)
+{
+    int status = U16550_OK;
+    uint8_t byte;
+    while (count-- > 0 && status == U16550_OK)
+        status = u16550_try_receive_byte(&uart, &byte);
+    return status;
+}
+
 static int send(size_t count)
 {
     return u16550_send_bytes_exact(&uart, bytes, count, NULL);
@@ -95,6 +121,12 @@ int main(int argc, char **argv)
         status = status || lsr(count);
     else if (!strcmp(body, "service"))
         status = status || service(count);
+    else if (!strcmp(body, "handle"))
+        status = status || handle(count);
+    else if (!strcmp(body, "try_send"))
+        status = status || try_send(count);
+    else if (!strcmp(body, "try_receive"))
+        status = status || try_receive(count);
     else
         status = 1;
     if (status)

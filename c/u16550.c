@@ -902,28 +902,6 @@ uart_make_lowered(struct uart_handled_or_stuck_error handled, uint8_t enabled)
     return made;
 }
 
-static inline struct uart_pair_of_driver_ring_error
-uart_make_pair_of_driver_ring_error(struct u16550_core_driver first, enum uart_ring_error second)
-{
-    struct uart_pair_of_driver_ring_error made = { first, second };
-    return made;
-}
-
-static inline struct uart_ring_or_pair_of_driver_ring_error
-uart_bad_ring_or_pair_of_driver_ring_error(struct uart_pair_of_driver_ring_error error)
-{
-    struct uart_ring_or_pair_of_driver_ring_error made =
-        { true, error,
-        { { { { NULL, NULL, NULL }, 0, 0 },
-        { 0, 0, { false, 0 }, { false, U16550_CORE_FIFO_TRIGGER_LEVEL_ONE },
-        { U16550_CORE_BAUD_RATE_BAUD115200, 0 }, U16550_CORE_WORD_LENGTH_FIVE_BITS, false,
-        U16550_CORE_PARITY_DISABLED, false }, false, 0, 0, 0 }, { { NULL, 0, 0 }, 0, 0 },
-        { { NULL, 0, 0 }, 0, 0 }, 0, 0, false, { false, 0 }, false, 0, false, 0,
-        { false,
-        { U16550_CORE_STUCK_ERROR_NONE, 0, U16550_CORE_INTERRUPT_TYPE_RECEIVER_LINE_STATUS } } } };
-    return made;
-}
-
 static inline struct uart_maybe_byte_queue uart_no_byte_queue(void)
 {
     struct uart_maybe_byte_queue made = { false, { { NULL, 0, 0 }, 0, 0 } };
@@ -940,18 +918,6 @@ uart_make_byte_queue(struct u16550_core_vec_u8 cells, size_t front, size_t len)
 static inline struct uart_maybe_byte_queue uart_some_byte_queue(struct u16550_core_byte_queue value)
 {
     struct uart_maybe_byte_queue made = { true, value };
-    return made;
-}
-
-static inline struct uart_ring_or_pair_of_driver_ring_error
-uart_good_ring_or_pair_of_driver_ring_error(struct u16550_core_ring value)
-{
-    struct uart_ring_or_pair_of_driver_ring_error made =
-        { false,
-        { { { { NULL, NULL, NULL }, 0, 0 },
-        { 0, 0, { false, 0 }, { false, U16550_CORE_FIFO_TRIGGER_LEVEL_ONE },
-        { U16550_CORE_BAUD_RATE_BAUD115200, 0 }, U16550_CORE_WORD_LENGTH_FIVE_BITS, false,
-        U16550_CORE_PARITY_DISABLED, false }, false, 0, 0, 0 }, UART_RING_ERROR_NONE }, value };
     return made;
 }
 
@@ -1094,25 +1060,26 @@ uart_good_baud_rate_or_non_integer_baud_rate_error(struct u16550_core_baud_rate 
 }
 
 /* Reads a register of which no bits are saved. */
-static uint8_t uart_read_register(struct u16550_core_driver *uart, size_t offset)
+static inline uint8_t uart_read_register(struct u16550_core_driver *uart, size_t offset)
 {
     return uart_device_read(&uart->backend, (uint8_t)offset);
 }
 
 /* Reads and returns the line control register (LCR). Reading it changes nothing. */
-static uint8_t uart_lcr(struct u16550_core_driver *uart)
+static inline uint8_t uart_lcr(struct u16550_core_driver *uart)
 {
     return uart_read_register(uart, UART_LCR);
 }
 
 /* Reads and returns the modem control register (MCR). Reading it changes nothing. */
-static uint8_t uart_mcr(struct u16550_core_driver *uart)
+static inline uint8_t uart_mcr(struct u16550_core_driver *uart)
 {
     return uart_read_register(uart, UART_MCR);
 }
 
 /* Writes a register. */
-static void uart_write_register(struct u16550_core_driver *uart, size_t offset, uint8_t value)
+static inline void
+uart_write_register(struct u16550_core_driver *uart, size_t offset, uint8_t value)
 {
     uart_device_write(&uart->backend, (uint8_t)offset, value);
 }
@@ -1126,7 +1093,7 @@ static void uart_write_register(struct u16550_core_driver *uart, size_t offset, 
  * Proved: LCR is read, and written with DLAB; the divisor latch is read, its low byte first;
  * and LCR is written back.
  */
-static struct uart_pair_of_u8 uart_dll_dlm(struct u16550_core_driver *uart)
+static inline struct uart_pair_of_u8 uart_dll_dlm(struct u16550_core_driver *uart)
 {
     uint8_t lcr = uart_read_register(uart, UART_LCR);
     uart_write_register(uart, UART_LCR, lcr | U16550_LCR_DLAB);
@@ -1141,13 +1108,13 @@ static struct uart_pair_of_u8 uart_dll_dlm(struct u16550_core_driver *uart)
  *
  * A read that shows a THR_EMPTY interrupt acknowledges it.
  */
-static uint8_t uart_isr(struct u16550_core_driver *uart)
+static inline uint8_t uart_isr(struct u16550_core_driver *uart)
 {
     return uart_read_register(uart, UART_ISR);
 }
 
 /* Returns whether the FIFOs are on and work: bits 6 and 7 are both set then. */
-static bool uart_isr_fifo_enabled(uint8_t isr)
+static inline bool uart_isr_fifo_enabled(uint8_t isr)
 {
     return (isr & (U16550_ISR_FIFOS_ENABLED0 | U16550_ISR_FIFOS_ENABLED1)) ==
         (U16550_ISR_FIFOS_ENABLED0 | U16550_ISR_FIFOS_ENABLED1);
@@ -1191,7 +1158,7 @@ static struct uart_pair_of_u8_or_attach_error uart_attach(struct u16550_core_dri
 }
 
 /* Returns the backend, to read its state. Makes no access. */
-static const struct u16550_device *uart_backend(const struct u16550_core_driver *uart)
+static inline const struct u16550_device *uart_backend(const struct u16550_core_driver *uart)
 {
     return &uart->backend;
 }
@@ -1203,7 +1170,7 @@ static const struct u16550_device *uart_backend(const struct u16550_core_driver 
  * does not notice what they change. After raw accesses that changed the setup of the chip,
  * call init again with a configuration that matches.
  */
-static struct u16550_device *uart_backend_mut(struct u16550_core_driver *uart)
+static inline struct u16550_device *uart_backend_mut(struct u16550_core_driver *uart)
 {
     return &uart->backend;
 }
@@ -1240,7 +1207,7 @@ static uint32_t uart_baud_rate_to_integer(struct u16550_core_baud_rate baud_rate
     }
 }
 
-static bool uart_option_is_none_or_u32_is_none_or_self(struct u16550_core_maybe_u32 part1)
+static inline bool uart_option_is_none_or_u32_is_none_or_self(struct u16550_core_maybe_u32 part1)
 {
     return !part1.is_some || (part1.value <= 15);
 }
@@ -1253,7 +1220,7 @@ static bool uart_option_is_none_or_u32_is_none_or_self(struct u16550_core_maybe_
  * init may still refuse the baud rate, if its divisor is not a whole number or does not fit
  * into the divisor latch.
  */
-static bool uart_config_is_computable(const struct u16550_core_config *config)
+static inline bool uart_config_is_computable(const struct u16550_core_config *config)
 {
     bool is_so = config->frequency != 0 && uart_baud_rate_to_integer(config->baud_rate) != 0;
     return is_so && uart_option_is_none_or_u32_is_none_or_self(config->prescaler_division_factor);
@@ -1264,7 +1231,7 @@ static bool uart_config_is_computable(const struct u16550_core_config *config)
  *
  * Proved: the one value that has the property, or none if no value has it.
  */
-static struct u16550_core_maybe_u32 uart_whole_quotient(uint32_t dividend, uint64_t divisor)
+static inline struct u16550_core_maybe_u32 uart_whole_quotient(uint32_t dividend, uint64_t divisor)
 {
     uint64_t dividend2 = (uint64_t)dividend;
     if (dividend2 % divisor == 0)
@@ -1281,7 +1248,7 @@ static struct u16550_core_maybe_u32 uart_whole_quotient(uint32_t dividend, uint6
  *
  * Proved: the one value that has the property, or none if no value has it.
  */
-static struct u16550_core_maybe_u32
+static inline struct u16550_core_maybe_u32
 uart_other_factor(uint32_t frequency, uint32_t factor,
     struct u16550_core_maybe_u32 prescaler_division_factor)
 {
@@ -1366,7 +1333,7 @@ static uint8_t uart_word_length_to_raw_bits(enum u16550_core_word_length word_le
  * Proved: the two bits from the lowest on are the code of this word length.
  * Proved: the eight bits are the same in both values, except those of a field.
  */
-static uint8_t uart_lcr_set_word_length(uint8_t lcr, enum u16550_core_word_length length)
+static inline uint8_t uart_lcr_set_word_length(uint8_t lcr, enum u16550_core_word_length length)
 {
     return (lcr & 252) | uart_word_length_to_raw_bits(length);
 }
@@ -1399,13 +1366,13 @@ static uint8_t uart_parity_to_raw_bits(enum u16550_core_parity parity)
  * Proved: the three bits from the lowest on are a code of this parity.
  * Proved: the eight bits are the same in both values, except those of a field.
  */
-static uint8_t uart_lcr_set_parity(uint8_t lcr, enum u16550_core_parity parity)
+static inline uint8_t uart_lcr_set_parity(uint8_t lcr, enum u16550_core_parity parity)
 {
     return (lcr & 199) | (uint8_t)(uart_parity_to_raw_bits(parity) << 3);
 }
 
 /* Returns LCR for a configuration. */
-static uint8_t uart_frame_of(const struct u16550_core_config *config)
+static inline uint8_t uart_frame_of(const struct u16550_core_config *config)
 {
     uint8_t lcr_set_word_length = uart_lcr_set_word_length(0, config->data_bits);
     uint8_t frame = uart_lcr_set_parity(lcr_set_word_length, config->parity);
@@ -1419,7 +1386,7 @@ static uint8_t uart_frame_of(const struct u16550_core_config *config)
  *
  * Proved: LCR shows this frame, with or without a break.
  */
-static struct uart_configuration_error
+static inline struct uart_configuration_error
 uart_check_frame(struct u16550_core_driver *uart, uint8_t expected)
 {
     uint8_t lcr = uart_lcr(uart);
@@ -1433,7 +1400,7 @@ uart_check_frame(struct u16550_core_driver *uart, uint8_t expected)
  *
  * Proved: MCR shows these outputs.
  */
-static struct uart_configuration_error
+static inline struct uart_configuration_error
 uart_check_outputs(struct u16550_core_driver *uart, uint8_t expected)
 {
     uint8_t mcr = uart_mcr(uart);
@@ -1443,7 +1410,7 @@ uart_check_outputs(struct u16550_core_driver *uart, uint8_t expected)
 }
 
 /* Reads and returns the interrupt enable register (IER). Reading it changes nothing. */
-static uint8_t uart_ier(struct u16550_core_driver *uart)
+static inline uint8_t uart_ier(struct u16550_core_driver *uart)
 {
     return uart_read_register(uart, UART_IER);
 }
@@ -1453,7 +1420,7 @@ static uint8_t uart_ier(struct u16550_core_driver *uart)
  *
  * Proved: IER shows these interrupts.
  */
-static struct uart_configuration_error
+static inline struct uart_configuration_error
 uart_check_interrupts(struct u16550_core_driver *uart, uint8_t expected)
 {
     uint8_t ier = uart_ier(uart);
@@ -1467,7 +1434,7 @@ uart_check_interrupts(struct u16550_core_driver *uart, uint8_t expected)
  *
  * Proved: LCR is written with this value, and shows it.
  */
-static struct uart_configuration_error
+static inline struct uart_configuration_error
 uart_keep_line(struct u16550_core_driver *uart, uint8_t expected)
 {
     uart_write_register(uart, UART_LCR, expected);
@@ -1583,7 +1550,7 @@ uart_check_registers(struct u16550_core_driver *uart, uint8_t frame, uint8_t out
  * does not, and the error has what was asked for and what it shows; or the configuration has
  * no divisor, and no access was made.
  */
-static struct uart_configuration_error
+static inline struct uart_configuration_error
 uart_check_configured(struct u16550_core_driver *uart, uint8_t outputs)
 {
     struct uart_maybe_u16 found = uart_configured_divisor(uart);
@@ -1595,7 +1562,7 @@ uart_check_configured(struct u16550_core_driver *uart, uint8_t outputs)
 }
 
 /* Reads MSR, and saves the changes that the read clears in the chip. */
-static uint8_t uart_read_msr(struct u16550_core_driver *uart)
+static inline uint8_t uart_read_msr(struct u16550_core_driver *uart)
 {
     uint8_t msr = uart_device_read(&uart->backend, UART_MSR);
     uart->saved_msr |= msr & (U16550_MSR_DELTA_CTS | U16550_MSR_DELTA_DSR |
@@ -1620,7 +1587,8 @@ static uint8_t uart_read_msr(struct u16550_core_driver *uart)
  * Proved: one read of MSR, which shows DSR and CTS; or which does not show the one that the
  * error names.
  */
-static enum uart_remote_ready_to_receive_error uart_check_connected(struct u16550_core_driver *uart)
+static inline enum uart_remote_ready_to_receive_error
+uart_check_connected(struct u16550_core_driver *uart)
 {
     uint8_t msr = uart_read_msr(uart);
     if ((msr & U16550_MSR_DSR) == 0)
@@ -1635,7 +1603,7 @@ static enum uart_remote_ready_to_receive_error uart_check_connected(struct u1655
  *
  * Proved: the scratch register is written with a pattern and keeps it, or not.
  */
-static bool uart_keeps(struct u16550_core_driver *uart, uint8_t pattern)
+static inline bool uart_keeps(struct u16550_core_driver *uart, uint8_t pattern)
 {
     uart_write_register(uart, UART_SPR, pattern);
     return uart_read_register(uart, UART_SPR) == pattern;
@@ -1645,7 +1613,7 @@ static bool uart_keeps(struct u16550_core_driver *uart, uint8_t pattern)
  * Proved: the scratch register keeps both patterns; or it does not keep the first; or it
  * keeps the first and not the second.
  */
-static bool uart_keeps_patterns(struct u16550_core_driver *uart)
+static inline bool uart_keeps_patterns(struct u16550_core_driver *uart)
 {
     if (!uart_keeps(uart, 66))
         return false;
@@ -1662,7 +1630,7 @@ static bool uart_keeps_patterns(struct u16550_core_driver *uart)
  *
  * Proved: the scratch register is read, tested with the patterns, and restored.
  */
-static bool uart_check_present(struct u16550_core_driver *uart)
+static inline bool uart_check_present(struct u16550_core_driver *uart)
 {
     uint8_t old = uart_read_register(uart, UART_SPR);
     bool present = uart_keeps_patterns(uart);
@@ -1678,13 +1646,13 @@ static bool uart_check_present(struct u16550_core_driver *uart)
  * If that init failed with InvalidBaudRate, it is the configuration before it. If it
  * failed with DeviceNotPresent or Stalled, it is the new one.
  */
-static const struct u16550_core_config *uart_config(const struct u16550_core_driver *uart)
+static inline const struct u16550_core_config *uart_config(const struct u16550_core_driver *uart)
 {
     return &uart->config;
 }
 
 /* Reads LSR, and saves the errors that the read clears in the chip. */
-static uint8_t uart_read_lsr(struct u16550_core_driver *uart)
+static inline uint8_t uart_read_lsr(struct u16550_core_driver *uart)
 {
     uint8_t lsr = uart_device_read(&uart->backend, UART_LSR);
     uart->saved_lsr |= lsr & (U16550_LSR_OVERRUN_ERROR | U16550_LSR_PARITY_ERROR |
@@ -1693,7 +1661,7 @@ static uint8_t uart_read_lsr(struct u16550_core_driver *uart)
 }
 
 /* Reads and returns the scratch register (SPR), which the chip does not use. */
-static uint8_t uart_spr(struct u16550_core_driver *uart)
+static inline uint8_t uart_spr(struct u16550_core_driver *uart)
 {
     return uart_read_register(uart, UART_SPR);
 }
@@ -1739,7 +1707,7 @@ static struct u16550_dump uart_config_register_dump(struct u16550_core_driver *u
  *
  * Proved: the interrupts are stored in the configuration and written to IER.
  */
-static void uart_store_interrupts(struct u16550_core_driver *uart, uint8_t enabled)
+static inline void uart_store_interrupts(struct u16550_core_driver *uart, uint8_t enabled)
 {
     uart->config.interrupts = enabled;
     uart_write_register(uart, UART_IER, enabled);
@@ -1752,7 +1720,7 @@ static void uart_store_interrupts(struct u16550_core_driver *uart, uint8_t enabl
  * Proved: IER is read; what it shows, without these bits, is stored in the configuration and
  * written.
  */
-static void uart_disable_interrupts(struct u16550_core_driver *uart, uint8_t interrupts)
+static inline void uart_disable_interrupts(struct u16550_core_driver *uart, uint8_t interrupts)
 {
     uart_store_interrupts(uart, uart_ier(uart) & (uint8_t)~interrupts);
 }
@@ -1768,7 +1736,7 @@ static void uart_disable_interrupts(struct u16550_core_driver *uart, uint8_t int
  * Proved: IER is read; what it shows, with these bits added, is stored in the configuration
  * and written.
  */
-static void uart_enable_interrupts(struct u16550_core_driver *uart, uint8_t interrupts)
+static inline void uart_enable_interrupts(struct u16550_core_driver *uart, uint8_t interrupts)
 {
     uart_store_interrupts(uart, uart_ier(uart) | interrupts);
 }
@@ -1781,7 +1749,7 @@ static void uart_enable_interrupts(struct u16550_core_driver *uart, uint8_t inte
  * A driver that was never initialised takes the FIFO to be on. If it is on, a send check is
  * followed by up to 16 bytes, else by one.
  */
-static bool uart_fifo_enabled(const struct u16550_core_driver *uart)
+static inline bool uart_fifo_enabled(const struct u16550_core_driver *uart)
 {
     return uart->fifo_enabled;
 }
@@ -1853,14 +1821,14 @@ uart_fifo_trigger_level_to_raw_bits(enum u16550_core_fifo_trigger_level fifo_tri
  * Proved: the two bits from the lowest on are the code of this trigger level.
  * Proved: the eight bits are the same in both values, except those of a field.
  */
-static uint8_t
+static inline uint8_t
 uart_fcr_set_fifo_trigger_level(uint8_t fcr, enum u16550_core_fifo_trigger_level level)
 {
     return (fcr & 63) | (uint8_t)(uart_fifo_trigger_level_to_raw_bits(level) << 6);
 }
 
 /* Returns FCR for a trigger level. */
-static uint8_t uart_fifo_control_of(struct u16550_core_maybe_fifo_trigger_level level)
+static inline uint8_t uart_fifo_control_of(struct u16550_core_maybe_fifo_trigger_level level)
 {
     uint8_t resets = U16550_FCR_RX_FIFO_RESET | U16550_FCR_TX_FIFO_RESET;
     if (level.is_some)
@@ -1874,7 +1842,7 @@ static uint8_t uart_fifo_control_of(struct u16550_core_maybe_fifo_trigger_level 
  * Proved: the FIFO step: FCR is written and, if a level is configured, ISR shows whether the
  * FIFO is on.
  */
-static bool
+static inline bool
 uart_set_fifo(struct u16550_core_driver *uart, struct u16550_core_maybe_fifo_trigger_level level)
 {
     uart_write_register(uart, UART_FCR, uart_fifo_control_of(level));
@@ -1886,7 +1854,7 @@ uart_set_fifo(struct u16550_core_driver *uart, struct u16550_core_maybe_fifo_tri
  *
  * Proved: a list of the language whose reads are not saved.
  */
-static uint8_t uart_read_plain(struct u16550_core_driver *uart, size_t offset)
+static inline uint8_t uart_read_plain(struct u16550_core_driver *uart, size_t offset)
 {
     return uart_device_read(&uart->backend, (uint8_t)offset);
 }
@@ -1900,7 +1868,7 @@ static uint8_t uart_read_plain(struct u16550_core_driver *uart, size_t offset)
  * Proved: received bytes are discarded until none is available, or as many as the receiver
  * can hold.
  */
-static void uart_drain(struct u16550_core_driver *uart)
+static inline void uart_drain(struct u16550_core_driver *uart)
 {
     for (uint64_t turn = 0; turn < 17; turn++) {
         if ((uart_read_plain(uart, 5) & U16550_LSR_DATA_READY) == 0)
@@ -1916,7 +1884,7 @@ static void uart_drain(struct u16550_core_driver *uart)
  * Proved: a wait for these bits of LSR: fewer reads without them than the limit and then one
  * with them; or as many without them.
  */
-static bool uart_wait_for(struct u16550_core_driver *uart, uint8_t bits)
+static inline bool uart_wait_for(struct u16550_core_driver *uart, uint8_t bits)
 {
     uint64_t number = uart->spin_limit;
     for (uint64_t turn = 0; turn < number; turn++) {
@@ -1931,7 +1899,7 @@ static bool uart_wait_for(struct u16550_core_driver *uart, uint8_t bits)
  *
  * Proved: the statuses are read without being saved, and the interrupts enabled.
  */
-static void uart_finish_init(struct u16550_core_driver *uart)
+static inline void uart_finish_init(struct u16550_core_driver *uart)
 {
     uart_read_plain(uart, 5);
     uart_read_plain(uart, 2);
@@ -2011,7 +1979,7 @@ uart_set_up(struct u16550_core_driver *uart, struct u16550_core_config config, u
  * transmitter the statuses are read, and IER is written. Or nothing is done, if there is no
  * divisor; or all up to the test that fails, or to the wait that reaches the limit.
  */
-static struct uart_init_error
+static inline struct uart_init_error
 uart_init(struct u16550_core_driver *uart, struct u16550_core_config config)
 {
     struct uart_u16_or_invalid_divisor_error outcome =
@@ -2028,12 +1996,12 @@ uart_init(struct u16550_core_driver *uart, struct u16550_core_config config)
  * Proved: the presence check, if it is asked for; without it a device is taken to be
  * present.
  */
-static bool uart_is_present(struct u16550_core_driver *uart, bool asked)
+static inline bool uart_is_present(struct u16550_core_driver *uart, bool asked)
 {
     return !asked || uart_check_present(uart);
 }
 
-static bool uart_is_first(enum uart_transmitter_wait wait)
+static inline bool uart_is_first(enum uart_transmitter_wait wait)
 {
     return wait == UART_TRANSMITTER_WAIT_FIRST;
 }
@@ -2044,7 +2012,7 @@ static bool uart_is_first(enum uart_transmitter_wait wait)
  * Proved: the wait for an empty transmitter, if it is asked for; without it the transmitter
  * is taken to be empty.
  */
-static bool uart_is_emptied(struct u16550_core_driver *uart, bool asked)
+static inline bool uart_is_emptied(struct u16550_core_driver *uart, bool asked)
 {
     return !asked || uart_wait_for(uart, U16550_LSR_TRANSMITTER_EMPTY);
 }
@@ -2057,12 +2025,12 @@ static bool uart_is_emptied(struct u16550_core_driver *uart, bool asked)
  *
  * Proved: these bits are written to MCR, without loopback.
  */
-static void uart_set_modem_control(struct u16550_core_driver *uart, uint8_t outputs)
+static inline void uart_set_modem_control(struct u16550_core_driver *uart, uint8_t outputs)
 {
     uart_write_register(uart, UART_MCR, outputs & (uint8_t)~U16550_MCR_LOOP_BACK);
 }
 
-static bool uart_is_last(enum uart_transmitter_wait wait)
+static inline bool uart_is_last(enum uart_transmitter_wait wait)
 {
     return wait == UART_TRANSMITTER_WAIT_LAST;
 }
@@ -2121,7 +2089,7 @@ uart_set_up_with(struct u16550_core_driver *uart, struct u16550_core_config conf
  * statuses are read, and IER is written. Or nothing is done, if there is no divisor; or all
  * up to the test that fails, or to the wait that reaches the limit.
  */
-static struct uart_init_error
+static inline struct uart_init_error
 uart_init_with(struct u16550_core_driver *uart, struct u16550_core_config config,
     const struct uart_setup *setup)
 {
@@ -2149,7 +2117,7 @@ uart_init_with(struct u16550_core_driver *uart, struct u16550_core_config config
  * Proved: one read of MCR, which shows all bits set, as a bus does that nobody drives,
  * exactly if the result is true.
  */
-static bool uart_is_gone(struct u16550_core_driver *uart)
+static inline bool uart_is_gone(struct u16550_core_driver *uart)
 {
     return uart_mcr(uart) == 255;
 }
@@ -2163,7 +2131,7 @@ static bool uart_is_gone(struct u16550_core_driver *uart)
  *
  * Proved: one read of LSR, which shows whether the transmitter is empty.
  */
-static bool uart_is_idle(struct u16550_core_driver *uart)
+static inline bool uart_is_idle(struct u16550_core_driver *uart)
 {
     return (uart_read_lsr(uart) & U16550_LSR_TRANSMITTER_EMPTY) != 0;
 }
@@ -2180,7 +2148,7 @@ static bool uart_is_idle(struct u16550_core_driver *uart)
  * Proved: one read of LSR, which is returned joined with the saved bits, of which none are
  * left.
  */
-static uint8_t uart_lsr(struct u16550_core_driver *uart)
+static inline uint8_t uart_lsr(struct u16550_core_driver *uart)
 {
     uint8_t lsr = uart_read_lsr(uart);
     uint8_t lsr2 = uart->saved_lsr;
@@ -2197,7 +2165,7 @@ static uint8_t uart_lsr(struct u16550_core_driver *uart)
  * Proved: one read of MSR, which is returned joined with the saved bits, of which none are
  * left.
  */
-static uint8_t uart_msr(struct u16550_core_driver *uart)
+static inline uint8_t uart_msr(struct u16550_core_driver *uart)
 {
     uint8_t msr = uart_read_msr(uart);
     uint8_t msr2 = uart->saved_msr;
@@ -2243,7 +2211,7 @@ static struct u16550_core_driver uart_new_with_backend(struct u16550_device back
  * a modem status interrupt that is pending, so no handler is called for it any more: call
  * msr afterwards, which tells the change.
  */
-static uint8_t uart_peek_modem(struct u16550_core_driver *uart)
+static inline uint8_t uart_peek_modem(struct u16550_core_driver *uart)
 {
     return uart_read_msr(uart);
 }
@@ -2252,7 +2220,7 @@ static uint8_t uart_peek_modem(struct u16550_core_driver *uart)
  * Returns the trigger level for FIFOs that are on: the configured one, or one byte if none is
  * configured, as on a port that was taken by attach.
  */
-static struct u16550_core_maybe_fifo_trigger_level
+static inline struct u16550_core_maybe_fifo_trigger_level
 uart_level_of(const struct u16550_core_driver *uart, bool on)
 {
     if (on) {
@@ -2291,7 +2259,7 @@ static bool uart_change_fifos(struct u16550_core_driver *uart, enum uart_fifo_ac
  * Proved: all interrupts are disabled, the outputs are written to MCR, without loopback, and
  * then FCR, if the FIFOs are to be reset or disabled.
  */
-static void
+static inline void
 uart_quiesce(struct u16550_core_driver *uart, uint8_t outputs, enum uart_fifo_action fifos)
 {
     uart->config.interrupts = 0;
@@ -2311,7 +2279,7 @@ uart_quiesce(struct u16550_core_driver *uart, uint8_t outputs, enum uart_fifo_ac
  *
  * Proved: one read of LSR, which shows a received byte exactly if the result is Ok.
  */
-static bool uart_ready_to_receive(struct u16550_core_driver *uart)
+static inline bool uart_ready_to_receive(struct u16550_core_driver *uart)
 {
     if ((uart_read_lsr(uart) & U16550_LSR_DATA_READY) == 0)
         return false;
@@ -2325,7 +2293,7 @@ static bool uart_ready_to_receive(struct u16550_core_driver *uart)
  * Proved: whether the modem lines allow sending: they do if MCR shows loopback, in which
  * they mean nothing, or if MSR shows CTS.
  */
-static bool uart_is_clear_to_send(struct u16550_core_driver *uart)
+static inline bool uart_is_clear_to_send(struct u16550_core_driver *uart)
 {
     if ((uart_read_register(uart, UART_MCR) & U16550_MCR_LOOP_BACK) != 0)
         return true;
@@ -2348,7 +2316,7 @@ static bool uart_is_clear_to_send(struct u16550_core_driver *uart)
  * Proved: one send check: LSR shows THR_EMPTY and, if CTS is checked, the modem lines allow
  * sending; or the error names which of these is not so.
  */
-static enum uart_byte_send_error uart_ready_to_send(struct u16550_core_driver *uart)
+static inline enum uart_byte_send_error uart_ready_to_send(struct u16550_core_driver *uart)
 {
     if ((uart_read_lsr(uart) & U16550_LSR_THR_EMPTY) == 0)
         return UART_BYTE_SEND_ERROR_NO_CAPACITY;
@@ -2372,7 +2340,7 @@ static enum uart_byte_send_error uart_ready_to_send(struct u16550_core_driver *u
  * Proved: LSR shows a received byte, which is read from DATA and returned; or LSR shows
  * none.
  */
-static struct u16550_core_maybe_u8 uart_try_receive_byte(struct u16550_core_driver *uart)
+static inline struct u16550_core_maybe_u8 uart_try_receive_byte(struct u16550_core_driver *uart)
 {
     if (!uart_ready_to_receive(uart))
         return uart_no_u8();
@@ -2390,7 +2358,7 @@ static struct u16550_core_maybe_u8 uart_try_receive_byte(struct u16550_core_driv
  * Proved: bytes are read from DATA, each after LSR shows it, until the slots are full, or
  * LSR shows none.
  */
-static size_t
+static inline size_t
 uart_receive_bytes(struct u16550_core_driver *uart, uint8_t *buffer, size_t buffer_len)
 {
     for (size_t count = 0; count < buffer_len; count++) {
@@ -2408,7 +2376,7 @@ uart_receive_bytes(struct u16550_core_driver *uart, uint8_t *buffer, size_t buff
  *
  * Proved: a wait for one byte: it was received, or there were as many misses as the limit.
  */
-static struct u16550_core_maybe_u8 uart_receive_one(struct u16550_core_driver *uart)
+static inline struct u16550_core_maybe_u8 uart_receive_one(struct u16550_core_driver *uart)
 {
     struct u16550_core_maybe_u8 found = uart_try_receive_byte(uart);
     if (found.is_some)
@@ -2464,7 +2432,8 @@ uart_receive_bytes_exact(struct u16550_core_driver *uart, uint8_t *buffer, size_
  * Proved: LSR shows a received byte, which is read from DATA and returned with the errors
  * that LSR shows; or LSR shows none.
  */
-static struct uart_maybe_received uart_try_receive_with_errors(struct u16550_core_driver *uart)
+static inline struct uart_maybe_received
+uart_try_receive_with_errors(struct u16550_core_driver *uart)
 {
     uint8_t lsr = uart_read_lsr(uart);
     if ((lsr & U16550_LSR_DATA_READY) == 0)
@@ -2509,7 +2478,8 @@ uart_receive_with_errors(struct u16550_core_driver *uart, struct u16550_received
 }
 
 /* Returns the divisor in the divisor latch, 0 to 65535. */
-static uint16_t uart_config_register_dump_divisor(const struct u16550_dump *config_register_dump)
+static inline uint16_t
+uart_config_register_dump_divisor(const struct u16550_dump *config_register_dump)
 {
     return (uint16_t)((uint16_t)(256 * (uint16_t)config_register_dump->dlm) +
         (uint16_t)config_register_dump->dll);
@@ -2555,7 +2525,7 @@ static void uart_restore(struct u16550_core_driver *uart, const struct u16550_du
  *
  * Proved: IER is read, and written with 0 and then with what was read.
  */
-static void uart_retrigger_interrupts(struct u16550_core_driver *uart)
+static inline void uart_retrigger_interrupts(struct u16550_core_driver *uart)
 {
     uint8_t enabled = uart_read_register(uart, UART_IER);
     uart_write_register(uart, UART_IER, 0);
@@ -2581,7 +2551,7 @@ static size_t uart_fifo_size_characters(enum uart_fifo_size fifo_size)
 }
 
 /* Returns how many bytes certainly fit once LSR has shown THR_EMPTY. */
-static size_t uart_room(const struct u16550_core_driver *uart, enum uart_fifo_size size)
+static inline size_t uart_room(const struct u16550_core_driver *uart, enum uart_fifo_size size)
 {
     if (uart->fifo_enabled)
         return uart_fifo_size_characters(size);
@@ -2589,13 +2559,14 @@ static size_t uart_room(const struct u16550_core_driver *uart, enum uart_fifo_si
 }
 
 /* Writes a byte to DATA. */
-static void uart_write_byte(struct u16550_core_driver *uart, uint8_t byte)
+static inline void uart_write_byte(struct u16550_core_driver *uart, uint8_t byte)
 {
     uart_device_write(&uart->backend, UART_DATA, byte);
 }
 
 /* Writes the bytes to DATA in order. */
-static void uart_write_data(struct u16550_core_driver *uart, const uint8_t *bytes, size_t bytes_len)
+static inline void
+uart_write_data(struct u16550_core_driver *uart, const uint8_t *bytes, size_t bytes_len)
 {
     for (size_t byte = 0; byte < bytes_len; byte++)
         uart_write_byte(uart, bytes[byte]);
@@ -2663,7 +2634,7 @@ uart_write_burst(struct u16550_core_driver *uart, const uint8_t *bytes, size_t b
  * the front are written to DATA: as many as the FIFO holds, or one if it is off. The result
  * is how many.
  */
-static size_t
+static inline size_t
 uart_send_bytes(struct u16550_core_driver *uart, const uint8_t *buffer, size_t buffer_len)
 {
     if (buffer_len == 0)
@@ -2681,7 +2652,7 @@ uart_send_bytes(struct u16550_core_driver *uart, const uint8_t *buffer, size_t b
  * Proved: a wait for room: a check succeeded after fewer misses in a row than the limit, or
  * there were as many misses.
  */
-static bool uart_wait_to_send(struct u16550_core_driver *uart)
+static inline bool uart_wait_to_send(struct u16550_core_driver *uart)
 {
     if (uart_ready_to_send(uart) == UART_BYTE_SEND_ERROR_NONE)
         return true;
@@ -2699,7 +2670,7 @@ static bool uart_wait_to_send(struct u16550_core_driver *uart)
  * Proved: a wait for one burst: k of the bytes were sent, or there were as many misses as
  * the limit.
  */
-static struct uart_maybe_u64
+static inline struct uart_maybe_u64
 uart_send_some(struct u16550_core_driver *uart, const uint8_t *bytes, size_t bytes_len)
 {
     if (!uart_wait_to_send(uart))
@@ -2760,7 +2731,7 @@ uart_send_singly(struct u16550_core_driver *uart, const uint8_t *bytes, size_t b
  * Proved: all bytes, burst by burst, each burst after its own wait; or those before the
  * burst whose wait reaches the limit, as many as the error reports.
  */
-static struct uart_maybe_stalled_error
+static inline struct uart_maybe_stalled_error
 uart_send_bytes_exact(struct u16550_core_driver *uart, const uint8_t *bytes, size_t bytes_len)
 {
     if (uart->fifo_enabled)
@@ -2769,7 +2740,7 @@ uart_send_bytes_exact(struct u16550_core_driver *uart, const uint8_t *bytes, siz
 }
 
 /* Returns LCR with a break or without. */
-static uint8_t uart_break_of(uint8_t lcr, bool on)
+static inline uint8_t uart_break_of(uint8_t lcr, bool on)
 {
     if (on)
         return lcr | U16550_LCR_SET_BREAK;
@@ -2786,13 +2757,13 @@ static uint8_t uart_break_of(uint8_t lcr, bool on)
  *
  * Proved: LCR is read, and written with the break set or cleared.
  */
-static void uart_set_break(struct u16550_core_driver *uart, bool on)
+static inline void uart_set_break(struct u16550_core_driver *uart, bool on)
 {
     uart_write_register(uart, UART_LCR, uart_break_of(uart_lcr(uart), on));
 }
 
 /* Returns MCR with an output asserted or clear. */
-static uint8_t uart_outputs_of(uint8_t mcr, uint8_t output, bool on)
+static inline uint8_t uart_outputs_of(uint8_t mcr, uint8_t output, bool on)
 {
     if (on)
         return mcr | output;
@@ -2805,7 +2776,7 @@ static uint8_t uart_outputs_of(uint8_t mcr, uint8_t output, bool on)
  * Proved: set_rts, set_dtr: MCR is read, and written with this bit set or cleared, without
  * loopback.
  */
-static void uart_set_output(struct u16550_core_driver *uart, uint8_t output, bool on)
+static inline void uart_set_output(struct u16550_core_driver *uart, uint8_t output, bool on)
 {
     uart_set_modem_control(uart, uart_outputs_of(uart_mcr(uart), output, on));
 }
@@ -2817,7 +2788,7 @@ static void uart_set_output(struct u16550_core_driver *uart, uint8_t output, boo
  * Proved: set_rts, set_dtr: MCR is read, and written with this bit set or cleared, without
  * loopback.
  */
-static void uart_set_dtr(struct u16550_core_driver *uart, bool on)
+static inline void uart_set_dtr(struct u16550_core_driver *uart, bool on)
 {
     uart_set_output(uart, U16550_MCR_DTR, on);
 }
@@ -2828,7 +2799,7 @@ static void uart_set_dtr(struct u16550_core_driver *uart, bool on)
  *
  * Proved: no access, and this change to the fields.
  */
-static void
+static inline void
 uart_store_frame(struct u16550_core_driver *uart, const struct u16550_core_config *config)
 {
     uart->config.frequency = config->frequency;
@@ -2840,7 +2811,8 @@ uart_store_frame(struct u16550_core_driver *uart, const struct u16550_core_confi
 }
 
 /* Sets the divisor and the frame. */
-static void uart_write_frame(struct u16550_core_driver *uart, uint16_t divisor, uint8_t frame)
+static inline void
+uart_write_frame(struct u16550_core_driver *uart, uint16_t divisor, uint8_t frame)
 {
     uart_write_register(uart, UART_LCR, frame | U16550_LCR_DLAB);
     uart_write_register(uart, UART_DATA, (uint8_t)(uint16_t)(divisor % 256));
@@ -2926,7 +2898,7 @@ uart_set_frame_when_idle(struct u16550_core_driver *uart, const struct u16550_co
  * Proved: set_rts, set_dtr: MCR is read, and written with this bit set or cleared, without
  * loopback.
  */
-static void uart_set_rts(struct u16550_core_driver *uart, bool on)
+static inline void uart_set_rts(struct u16550_core_driver *uart, bool on)
 {
     uart_set_output(uart, U16550_MCR_RTS, on);
 }
@@ -2941,7 +2913,7 @@ static void uart_set_rts(struct u16550_core_driver *uart, bool on)
  *
  * Proved: no access, and this change to the fields.
  */
-static void uart_set_spin_limit(struct u16550_core_driver *uart, uint64_t limit)
+static inline void uart_set_spin_limit(struct u16550_core_driver *uart, uint64_t limit)
 {
     uart->spin_limit = limit;
 }
@@ -2949,7 +2921,7 @@ static void uart_set_spin_limit(struct u16550_core_driver *uart, uint64_t limit)
 /*
  * Returns FCR for FIFOs that are on and stay on. Without the reset bits the bytes in them stay.
  */
-static uint8_t uart_level_control_of(enum u16550_core_fifo_trigger_level level)
+static inline uint8_t uart_level_control_of(enum u16550_core_fifo_trigger_level level)
 {
     return uart_fcr_set_fifo_trigger_level(U16550_FCR_FIFO_ENABLE, level);
 }
@@ -2967,7 +2939,7 @@ static uint8_t uart_level_control_of(enum u16550_core_fifo_trigger_level level)
  * Proved: with the FIFOs on, the level is stored and written to FCR; with them off, nothing
  * is done, and the result is the error.
  */
-static bool
+static inline bool
 uart_set_trigger_level(struct u16550_core_driver *uart, enum u16550_core_fifo_trigger_level level)
 {
     if (!uart->fifo_enabled)
@@ -2981,7 +2953,7 @@ uart_set_trigger_level(struct u16550_core_driver *uart, enum u16550_core_fifo_tr
  * Returns how many unsuccessful polls in a row a wait makes before it returns an error. Makes
  * no access.
  */
-static uint64_t uart_spin_limit(const struct u16550_core_driver *uart)
+static inline uint64_t uart_spin_limit(const struct u16550_core_driver *uart)
 {
     return uart->spin_limit;
 }
@@ -3014,7 +2986,7 @@ static struct uart_driver_state uart_state(const struct u16550_core_driver *uart
  * Proved: MSR is read, interrupts are switched off, loopback is switched on, and the FIFO
  * step is made.
  */
-static uint8_t uart_enter_loopback(struct u16550_core_driver *uart)
+static inline uint8_t uart_enter_loopback(struct u16550_core_driver *uart)
 {
     uint8_t before = uart_read_msr(uart);
     uart_write_register(uart, UART_IER, 0);
@@ -3031,7 +3003,7 @@ static uint8_t uart_enter_loopback(struct u16550_core_driver *uart)
  * Proved: bytes that were received before the test are taken until none is available; or as
  * many as the limit were taken.
  */
-static bool uart_drain_received(struct u16550_core_driver *uart)
+static inline bool uart_drain_received(struct u16550_core_driver *uart)
 {
     uint64_t number = uart->spin_limit;
     for (uint64_t turn = 0; turn < number; turn++) {
@@ -3054,7 +3026,8 @@ static bool uart_drain_received(struct u16550_core_driver *uart)
  * Proved: the accesses of send_bytes for this one byte, which is sent exactly if the result
  * is Ok; the only error is NoCapacity.
  */
-static enum uart_byte_send_error uart_try_send_byte(struct u16550_core_driver *uart, uint8_t byte)
+static inline enum uart_byte_send_error
+uart_try_send_byte(struct u16550_core_driver *uart, uint8_t byte)
 {
     struct uart_bytes1 bytes;
     bytes.bytes[0] = byte;
@@ -3105,7 +3078,7 @@ static struct uart_maybe_bytes16 uart_echo_whole(struct u16550_core_driver *uart
  *
  * Proved: what came back for a byte, or nothing if a wait was unsuccessful.
  */
-static struct u16550_core_maybe_u8 uart_echo(struct u16550_core_driver *uart, uint8_t byte)
+static inline struct u16550_core_maybe_u8 uart_echo(struct u16550_core_driver *uart, uint8_t byte)
 {
     struct uart_bytes1 bytes;
     bytes.bytes[0] = byte;
@@ -3132,7 +3105,7 @@ static struct uart_maybe_bytes16 uart_echo_each(struct u16550_core_driver *uart)
 }
 
 /* Sends and receives the test message: as a whole if the FIFO is on, else byte by byte. */
-static struct uart_maybe_bytes16 uart_echo_message(struct u16550_core_driver *uart)
+static inline struct uart_maybe_bytes16 uart_echo_message(struct u16550_core_driver *uart)
 {
     if (uart->fifo_enabled)
         return uart_echo_whole(uart);
@@ -3180,7 +3153,7 @@ static struct uart_loopback_error uart_exchange_message(struct u16550_core_drive
  * Proved: in loopback: bytes from before the test taken, the byte, the message, up to the
  * first error.
  */
-static struct uart_loopback_error uart_exchange(struct u16550_core_driver *uart)
+static inline struct uart_loopback_error uart_exchange(struct u16550_core_driver *uart)
 {
     if (!uart_drain_received(uart))
         return uart_loopback_error_stalled();
@@ -3191,13 +3164,13 @@ static struct uart_loopback_error uart_exchange(struct u16550_core_driver *uart)
 }
 
 /* Returns whether this line has changed. */
-static bool uart_msr_is_changed(uint8_t msr, uint8_t before, uint8_t line)
+static inline bool uart_msr_is_changed(uint8_t msr, uint8_t before, uint8_t line)
 {
     return (before & line) != (msr & line);
 }
 
 /* Returns these bits if the condition holds, else none. */
-static uint8_t uart_flag(bool on, uint8_t bits)
+static inline uint8_t uart_flag(bool on, uint8_t bits)
 {
     return on ? bits : 0;
 }
@@ -3309,7 +3282,7 @@ uart_receive_some(struct u16550_core_driver *uart, uint8_t *buffer, size_t buffe
  *
  * Slots beyond this number are unchanged. If the call fails, all slots are unchanged.
  */
-static struct uart_u64_or_stalled_error
+static inline struct uart_u64_or_stalled_error
 uart_read(struct u16550_core_driver *uart, uint8_t *buf, size_t buf_len)
 {
     if (buf_len == 0)
@@ -3321,13 +3294,13 @@ uart_read(struct u16550_core_driver *uart, uint8_t *buf, size_t buf_len)
 }
 
 /* Returns whether a read would find a byte without waiting. */
-static struct uart_bool_or_stalled_error uart_read_ready(struct u16550_core_driver *uart)
+static inline struct uart_bool_or_stalled_error uart_read_ready(struct u16550_core_driver *uart)
 {
     return uart_good_bool_or_stalled_error(uart_ready_to_receive(uart));
 }
 
 /* Waits until everything that was written has been sent. */
-static struct uart_maybe_stalled_error uart_flush(struct u16550_core_driver *uart)
+static inline struct uart_maybe_stalled_error uart_flush(struct u16550_core_driver *uart)
 {
     if (uart_wait_for(uart, U16550_LSR_TRANSMITTER_EMPTY))
         return uart_no_stalled_error();
@@ -3338,7 +3311,7 @@ static struct uart_maybe_stalled_error uart_flush(struct u16550_core_driver *uar
  * Writes at least one byte from the front, waits for room if necessary, and returns how many
  * were written: 0 only if there are no bytes.
  */
-static struct uart_u64_or_stalled_error
+static inline struct uart_u64_or_stalled_error
 uart_write(struct u16550_core_driver *uart, const uint8_t *buf, size_t buf_len)
 {
     if (buf_len == 0)
@@ -3350,10 +3323,9 @@ uart_write(struct u16550_core_driver *uart, const uint8_t *buf, size_t buf_len)
 }
 
 /* Returns whether a write would find room without waiting. */
-static struct uart_bool_or_stalled_error uart_write_ready(struct u16550_core_driver *uart)
+static inline struct uart_bool_or_stalled_error uart_write_ready(struct u16550_core_driver *uart)
 {
-    return uart_good_bool_or_stalled_error(uart_ready_to_send(uart) ==
-        UART_BYTE_SEND_ERROR_NONE && true);
+    return uart_good_bool_or_stalled_error(uart_ready_to_send(uart) == UART_BYTE_SEND_ERROR_NONE);
 }
 
 /* Returns what is sent for a byte of a text. */
@@ -3468,13 +3440,13 @@ static bool uart_handle_line(struct uart_line_ports *ports, size_t limit, uint32
 }
 
 /* Returns the largest number of bytes. */
-static size_t uart_byte_queue_capacity(const struct u16550_core_byte_queue *byte_queue)
+static inline size_t uart_byte_queue_capacity(const struct u16550_core_byte_queue *byte_queue)
 {
     return byte_queue->cells.len;
 }
 
 /* Returns MCR with RTS asserted or clear. */
-static uint8_t uart_with_rts(uint8_t mcr, bool on)
+static inline uint8_t uart_with_rts(uint8_t mcr, bool on)
 {
     if (on)
         return mcr | U16550_MCR_RTS;
@@ -3486,7 +3458,7 @@ static uint8_t uart_with_rts(uint8_t mcr, bool on)
  *
  * Proved: this is made of RTS, or it stays as it is.
  */
-static void uart_ring_make_rts(struct u16550_core_ring *ring, bool on)
+static inline void uart_ring_make_rts(struct u16550_core_ring *ring, bool on)
 {
     uint8_t mcr = uart_mcr(&ring->uart);
     if (((mcr & U16550_MCR_RTS) != 0) != on) {
@@ -3515,7 +3487,8 @@ static void uart_ring_make_rts(struct u16550_core_ring *ring, bool on)
  * room for release or more, and else stays. For this MCR is read, and written only if it
  * shows RTS otherwise.
  */
-static void uart_ring_adjust_rts(struct u16550_core_ring *ring, struct uart_receive_marks marks)
+static inline void
+uart_ring_adjust_rts(struct u16550_core_ring *ring, struct uart_receive_marks marks)
 {
     size_t byte_queue_capacity = uart_byte_queue_capacity(&ring->receive);
     size_t room = byte_queue_capacity - ring->receive.len;
@@ -3531,14 +3504,15 @@ static void uart_ring_adjust_rts(struct u16550_core_ring *ring, struct uart_rece
  * Proved: this is the cell that is count behind cell, of so many cells: behind the last one
  * is the first.
  */
-static size_t uart_cell_behind(size_t cell, size_t count, size_t cells)
+static inline size_t uart_cell_behind(size_t cell, size_t count, size_t cells)
 {
     size_t to_end = cells - cell;
     return count < to_end ? cell + count : count - to_end;
 }
 
 /* Drops this number of bytes from the front. */
-static void uart_byte_queue_drop_front(struct u16550_core_byte_queue *byte_queue, size_t count)
+static inline void
+uart_byte_queue_drop_front(struct u16550_core_byte_queue *byte_queue, size_t count)
 {
     size_t number = byte_queue->front;
     byte_queue->front = uart_cell_behind(number, count, uart_byte_queue_capacity(byte_queue));
@@ -3551,7 +3525,7 @@ static void uart_byte_queue_drop_front(struct u16550_core_byte_queue *byte_queue
  * Proved: this if the count is more than 0, else nothing at all.
  * Proved: if receiving is paused, DATA_READY is enabled, and the pause ends.
  */
-static void uart_ring_end_pause(struct u16550_core_ring *ring, size_t count)
+static inline void uart_ring_end_pause(struct u16550_core_ring *ring, size_t count)
 {
     if (0 < count && ring->is_paused) {
         uart_enable_interrupts(&ring->uart, U16550_IER_DATA_READY);
@@ -3568,7 +3542,7 @@ static void uart_ring_end_pause(struct u16550_core_ring *ring, size_t count)
  * Proved: the receive ring is emptied, and the result is how many bytes it had; if it had
  * any, a pause of receiving ends.
  */
-static size_t uart_ring_clear_receive(struct u16550_core_ring *ring)
+static inline size_t uart_ring_clear_receive(struct u16550_core_ring *ring)
 {
     size_t number = ring->receive.len;
     uart_byte_queue_drop_front(&ring->receive, number);
@@ -3580,7 +3554,7 @@ static size_t uart_ring_clear_receive(struct u16550_core_ring *ring)
  * Drops bytes from the front of the transmit ring, and notes it if the ring falls to the low
  * mark.
  */
-static void uart_ring_drop_queued(struct u16550_core_ring *ring, size_t count)
+static inline void uart_ring_drop_queued(struct u16550_core_ring *ring, size_t count)
 {
     bool was_above = ring->low_mark < ring->transmit.len;
     uart_byte_queue_drop_front(&ring->transmit, count);
@@ -3597,7 +3571,7 @@ static void uart_ring_drop_queued(struct u16550_core_ring *ring, size_t count)
  * Proved: the transmit ring is emptied without an access, and the result is how many bytes
  * it had.
  */
-static size_t uart_ring_clear_transmit(struct u16550_core_ring *ring)
+static inline size_t uart_ring_clear_transmit(struct u16550_core_ring *ring)
 {
     size_t number = ring->transmit.len;
     uart_ring_drop_queued(ring, number);
@@ -3605,7 +3579,7 @@ static size_t uart_ring_clear_transmit(struct u16550_core_ring *ring)
 }
 
 /* Returns whether there is no byte. */
-static bool uart_byte_queue_is_empty(const struct u16550_core_byte_queue *byte_queue)
+static inline bool uart_byte_queue_is_empty(const struct u16550_core_byte_queue *byte_queue)
 {
     return byte_queue->len == 0;
 }
@@ -3624,7 +3598,7 @@ uart_byte_queue_as_slices(const struct u16550_core_byte_queue *byte_queue)
 }
 
 /* Copies bytes to the slots from place on, as many as both have, and returns how many. */
-static size_t
+static inline size_t
 uart_copy(const uint8_t *bytes, size_t bytes_len, uint8_t *slots, size_t slots_len, size_t place)
 {
     size_t number = slots_len - place;
@@ -3638,7 +3612,7 @@ uart_copy(const uint8_t *bytes, size_t bytes_len, uint8_t *slots, size_t slots_l
  * Copies bytes from the front, as many as there are slots, and returns how many. Leaves the
  * other slots unchanged.
  */
-static size_t
+static inline size_t
 uart_byte_queue_copy_front(const struct u16550_core_byte_queue *byte_queue, uint8_t *slots,
     size_t slots_len)
 {
@@ -3652,7 +3626,7 @@ uart_byte_queue_copy_front(const struct u16550_core_byte_queue *byte_queue, uint
  * Copies bytes of the transmit ring, as many as there are slots, and returns how many: none
  * while it is held. Leaves the other slots unchanged.
  */
-static size_t
+static inline size_t
 uart_ring_copy_queued(const struct u16550_core_ring *ring, uint8_t *slots, size_t slots_len)
 {
     if (ring->is_held)
@@ -3690,7 +3664,7 @@ static void uart_ring_drop_sent(struct u16550_core_ring *ring, size_t count)
 }
 
 /* Returns whether a byte waits that may be sent. */
-static bool uart_ring_has_sendable(const struct u16550_core_ring *ring)
+static inline bool uart_ring_has_sendable(const struct u16550_core_ring *ring)
 {
     if (ring->stuck.is_some)
         return false;
@@ -3744,7 +3718,7 @@ static void uart_ring_pump(struct u16550_core_ring *ring)
  * Proved: if bytes wait, what the chip takes at once is sent, and THR_EMPTY is enabled if
  * some are left, else disabled.
  */
-static void uart_ring_resume_transmit(struct u16550_core_ring *ring)
+static inline void uart_ring_resume_transmit(struct u16550_core_ring *ring)
 {
     bool is_so = ring->urgent.is_some;
     if (is_so || !uart_byte_queue_is_empty(&ring->transmit))
@@ -3767,7 +3741,7 @@ static void uart_ring_resume_transmit(struct u16550_core_ring *ring)
  * Proved: the dump of the driver, whose read of ISR may acknowledge THR_EMPTY; and then
  * sending resumes.
  */
-static struct u16550_dump uart_ring_config_register_dump(struct u16550_core_ring *ring)
+static inline struct u16550_dump uart_ring_config_register_dump(struct u16550_core_ring *ring)
 {
     struct u16550_dump dump = uart_config_register_dump(&ring->uart);
     uart_ring_resume_transmit(ring);
@@ -3815,13 +3789,13 @@ static struct uart_maybe_interrupt_type uart_interrupt_type_from_bits(uint8_t is
  * Proved: bit 0 is clear, so an interrupt is pending, and the code is that of this
  * interrupt.
  */
-static struct uart_maybe_interrupt_type uart_isr_interrupt_type(uint8_t isr)
+static inline struct uart_maybe_interrupt_type uart_isr_interrupt_type(uint8_t isr)
 {
     return uart_interrupt_type_from_bits(isr);
 }
 
 /* Returns whether an interrupt is pending: bit 0 is clear then. */
-static bool uart_isr_has_pending_interrupt(uint8_t isr)
+static inline bool uart_isr_has_pending_interrupt(uint8_t isr)
 {
     return (isr & U16550_ISR_INTERRUPT_STATUS) == 0;
 }
@@ -3831,7 +3805,7 @@ static bool uart_isr_has_pending_interrupt(uint8_t isr)
  *
  * Proved: lsr, of which the line errors are noted.
  */
-static void uart_ring_note_line(struct u16550_core_ring *ring)
+static inline void uart_ring_note_line(struct u16550_core_ring *ring)
 {
     uint8_t lsr =
         uart_lsr(&ring->uart) & (U16550_LSR_OVERRUN_ERROR | U16550_LSR_PARITY_ERROR |
@@ -3862,7 +3836,7 @@ uart_byte_queue_fill_from_slice(struct u16550_core_byte_queue *byte_queue, const
 }
 
 /* Returns whether there is no room for another byte. */
-static bool uart_byte_queue_is_full(const struct u16550_core_byte_queue *byte_queue)
+static inline bool uart_byte_queue_is_full(const struct u16550_core_byte_queue *byte_queue)
 {
     size_t number = byte_queue->len;
     return number == uart_byte_queue_capacity(byte_queue);
@@ -3874,7 +3848,7 @@ static bool uart_byte_queue_is_full(const struct u16550_core_byte_queue *byte_qu
  *
  * Proved: if the receive ring is full, DATA_READY is disabled and receiving is paused.
  */
-static void uart_ring_pause_if_full(struct u16550_core_ring *ring)
+static inline void uart_ring_pause_if_full(struct u16550_core_ring *ring)
 {
     if (uart_byte_queue_is_full(&ring->receive)) {
         uart_disable_interrupts(&ring->uart, U16550_IER_DATA_READY);
@@ -3904,7 +3878,7 @@ static void uart_ring_fill_receive_ring(struct u16550_core_ring *ring)
  *
  * Proved: msr, of which the changes are noted.
  */
-static void uart_ring_note_modem(struct u16550_core_ring *ring)
+static inline void uart_ring_note_modem(struct u16550_core_ring *ring)
 {
     uint8_t msr =
         uart_msr(&ring->uart) & (U16550_MSR_DELTA_CTS | U16550_MSR_DELTA_DSR |
@@ -3983,7 +3957,7 @@ static struct uart_handled uart_ring_serve_up_to(struct u16550_core_ring *ring, 
  *
  * Proved: IER is read, and written with 0 and then with what was read.
  */
-static void uart_ring_retrigger(struct u16550_core_ring *ring)
+static inline void uart_ring_retrigger(struct u16550_core_ring *ring)
 {
     uart_retrigger_interrupts(&ring->uart);
 }
@@ -4010,7 +3984,7 @@ static void uart_ring_retrigger(struct u16550_core_ring *ring)
  * unless ISR has shown that none is pending, IER is read, and written with 0 and with what
  * was read: what is left is triggered again.
  */
-static struct uart_handled uart_ring_handle(struct u16550_core_ring *ring, size_t limit)
+static inline struct uart_handled uart_ring_handle(struct u16550_core_ring *ring, size_t limit)
 {
     struct uart_handled handled = uart_ring_serve_up_to(ring, limit);
     if (handled.end != UART_HANDLE_END_IDLE)
@@ -4029,13 +4003,13 @@ static struct uart_handled uart_ring_handle(struct u16550_core_ring *ring, size_
  *
  * Proved: the ring is held, and no access is made.
  */
-static void uart_ring_hold_transmit(struct u16550_core_ring *ring)
+static inline void uart_ring_hold_transmit(struct u16550_core_ring *ring)
 {
     ring->is_held = true;
 }
 
 /* Returns whether the transmit ring is held. Makes no access. */
-static bool uart_ring_is_held(const struct u16550_core_ring *ring)
+static inline bool uart_ring_is_held(const struct u16550_core_ring *ring)
 {
     return ring->is_held;
 }
@@ -4047,7 +4021,7 @@ static bool uart_ring_is_held(const struct u16550_core_ring *ring)
  * some if there are more than it has room for. The next take of at least one byte ends the
  * pause.
  */
-static bool uart_ring_is_paused(const struct u16550_core_ring *ring)
+static inline bool uart_ring_is_paused(const struct u16550_core_ring *ring)
 {
     return ring->is_paused;
 }
@@ -4056,7 +4030,7 @@ static bool uart_ring_is_paused(const struct u16550_core_ring *ring)
  * Returns whether a byte has moved between the rings and the chip since there were so many in
  * the rings.
  */
-static bool
+static inline bool
 uart_ring_has_moved(const struct u16550_core_ring *ring, size_t transmit, bool is_urgent,
     size_t receive)
 {
@@ -4065,7 +4039,7 @@ uart_ring_has_moved(const struct u16550_core_ring *ring, size_t transmit, bool i
 }
 
 /* Returns how a round counts that ended so: as idle if a byte moved. */
-static enum uart_handle_end uart_counted_as(bool has_moved, enum uart_handle_end end)
+static inline enum uart_handle_end uart_counted_as(bool has_moved, enum uart_handle_end end)
 {
     return has_moved ? UART_HANDLE_END_IDLE : end;
 }
@@ -4075,7 +4049,7 @@ static enum uart_handle_end uart_counted_as(bool has_moved, enum uart_handle_end
  *
  * Proved: this is why, or no interrupt is pending.
  */
-static struct u16550_core_maybe_stuck_error uart_shown_by(uint8_t isr)
+static inline struct u16550_core_maybe_stuck_error uart_shown_by(uint8_t isr)
 {
     struct uart_maybe_interrupt_type found = uart_isr_interrupt_type(isr);
     if (found.is_some)
@@ -4109,7 +4083,7 @@ static struct u16550_core_maybe_stuck_error uart_ring_look_once_more(struct u165
  *
  * Proved: a round was left unfinished. It is counted, if there may be more in a row.
  */
-static struct u16550_core_maybe_stuck_error
+static inline struct u16550_core_maybe_stuck_error
 uart_ring_count_unfinished(struct u16550_core_ring *ring, uint32_t rounds)
 {
     if (ring->rounds < (1 <= rounds ? rounds - 1 : 0)) {
@@ -4124,7 +4098,7 @@ uart_ring_count_unfinished(struct u16550_core_ring *ring, uint32_t rounds)
  *
  * Proved: how a round ended: if no interrupt is pending, the count of rounds begins again.
  */
-static struct u16550_core_maybe_stuck_error
+static inline struct u16550_core_maybe_stuck_error
 uart_ring_count_round(struct u16550_core_ring *ring, uint32_t rounds, enum uart_handle_end end)
 {
     if (end == UART_HANDLE_END_IDLE) {
@@ -4197,7 +4171,7 @@ uart_ring_handle_round(struct u16550_core_ring *ring, size_t limit, uint32_t rou
  * if the chip is stuck already, all interrupts are disabled again. The error is why it is
  * stuck.
  */
-static struct uart_handled_or_stuck_error
+static inline struct uart_handled_or_stuck_error
 uart_ring_try_handle(struct u16550_core_ring *ring, size_t limit, uint32_t rounds)
 {
     if (ring->stuck.is_some) {
@@ -4220,7 +4194,7 @@ uart_ring_try_handle(struct u16550_core_ring *ring, size_t limit, uint32_t round
  *
  * Proved: a try_handle; then IER is read, and all interrupts are disabled.
  */
-static struct uart_lowered
+static inline struct uart_lowered
 uart_ring_lower_line(struct u16550_core_ring *ring, size_t limit, uint32_t rounds)
 {
     struct uart_handled_or_stuck_error handled = uart_ring_try_handle(ring, limit, rounds);
@@ -4234,13 +4208,13 @@ uart_ring_lower_line(struct u16550_core_ring *ring, size_t limit, uint32_t round
  *
  * Proved: how many bytes a ring can be made for: 1 to 4096.
  */
-static bool uart_is_capacity(size_t capacity)
+static inline bool uart_is_capacity(size_t capacity)
 {
     return 1 <= capacity && capacity <= 4096;
 }
 
 /* Returns an empty queue with room for this number of bytes. */
-static struct uart_maybe_byte_queue
+static inline struct uart_maybe_byte_queue
 uart_byte_queue_with_capacity(struct uart_memory *alloc, size_t capacity)
 {
     struct uart_maybe_vec_u8 found = uart_cells_in_memory(alloc, 0, capacity);
@@ -4268,34 +4242,41 @@ static struct uart_ring_or_pair_of_driver_ring_error
 uart_ring_new(struct uart_memory *alloc, struct u16550_core_driver uart, size_t tx_capacity,
     size_t rx_capacity)
 {
+    struct uart_ring_or_pair_of_driver_ring_error made;
     if (!uart_is_capacity(tx_capacity) || !uart_is_capacity(rx_capacity)) {
-        return uart_bad_ring_or_pair_of_driver_ring_error(
-            uart_make_pair_of_driver_ring_error(uart, UART_RING_ERROR_BAD_CAPACITY));
+        made.is_error = true;
+        made.error.first = uart;
+        made.error.second = UART_RING_ERROR_BAD_CAPACITY;
+        return made;
     }
     struct uart_maybe_byte_queue found = uart_byte_queue_with_capacity(alloc, tx_capacity);
     if (!found.is_some) {
-        return uart_bad_ring_or_pair_of_driver_ring_error(
-            uart_make_pair_of_driver_ring_error(uart, UART_RING_ERROR_OUT_OF_MEMORY));
+        made.is_error = true;
+        made.error.first = uart;
+        made.error.second = UART_RING_ERROR_OUT_OF_MEMORY;
+        return made;
     }
     struct uart_maybe_byte_queue found2 = uart_byte_queue_with_capacity(alloc, rx_capacity);
     if (!found2.is_some) {
-        return uart_bad_ring_or_pair_of_driver_ring_error(
-            uart_make_pair_of_driver_ring_error(uart, UART_RING_ERROR_OUT_OF_MEMORY));
+        made.is_error = true;
+        made.error.first = uart;
+        made.error.second = UART_RING_ERROR_OUT_OF_MEMORY;
+        return made;
     }
-    struct u16550_core_ring ring;
-    ring.uart = uart;
-    ring.transmit = found.value;
-    ring.receive = found2.value;
-    ring.line = 0;
-    ring.modem = 0;
-    ring.is_paused = false;
-    ring.urgent = uart_no_u8();
-    ring.is_held = false;
-    ring.low_mark = 0;
-    ring.is_low = false;
-    ring.rounds = 0;
-    ring.stuck = uart_no_stuck_error();
-    return uart_good_ring_or_pair_of_driver_ring_error(ring);
+    made.value.uart = uart;
+    made.value.transmit = found.value;
+    made.value.receive = found2.value;
+    made.value.line = 0;
+    made.value.modem = 0;
+    made.value.is_paused = false;
+    made.value.urgent = uart_no_u8();
+    made.value.is_held = false;
+    made.value.low_mark = 0;
+    made.value.is_low = false;
+    made.value.rounds = 0;
+    made.value.stuck = uart_no_stuck_error();
+    made.is_error = false;
+    return made;
 }
 
 /*
@@ -4313,7 +4294,8 @@ uart_ring_new(struct uart_memory *alloc, struct u16550_core_driver uart, size_t 
  * Proved: bytes from the front of the input are added at the end of the transmit ring, as
  * many as it has room for; if there are any, what the chip takes at once is sent.
  */
-static size_t uart_ring_queue(struct u16550_core_ring *ring, const uint8_t *bytes, size_t bytes_len)
+static inline size_t
+uart_ring_queue(struct u16550_core_ring *ring, const uint8_t *bytes, size_t bytes_len)
 {
     size_t count = uart_byte_queue_fill_from_slice(&ring->transmit, bytes, bytes_len);
     if (0 < count)
@@ -4334,7 +4316,7 @@ static size_t uart_ring_queue(struct u16550_core_ring *ring, const uint8_t *byte
  * Proved: the byte is the urgent one, in place of one that waited, which is returned; and
  * what the chip takes at once is sent.
  */
-static struct u16550_core_maybe_u8
+static inline struct u16550_core_maybe_u8
 uart_ring_queue_urgent(struct u16550_core_ring *ring, uint8_t byte)
 {
     struct u16550_core_maybe_u8 found = ring->urgent;
@@ -4351,7 +4333,7 @@ uart_ring_queue_urgent(struct u16550_core_ring *ring, uint8_t byte)
  *
  * Proved: these interrupts are enabled; of a chip that is stuck none.
  */
-static void uart_ring_raise_line(struct u16550_core_ring *ring, uint8_t enabled)
+static inline void uart_ring_raise_line(struct u16550_core_ring *ring, uint8_t enabled)
 {
     if (!ring->stuck.is_some)
         uart_enable_interrupts(&ring->uart, enabled);
@@ -4361,7 +4343,7 @@ static void uart_ring_raise_line(struct u16550_core_ring *ring, uint8_t enabled)
  * Returns the number of bytes in the receive ring: those that were received and not yet taken.
  * Makes no access.
  */
-static size_t uart_ring_receive_len(const struct u16550_core_ring *ring)
+static inline size_t uart_ring_receive_len(const struct u16550_core_ring *ring)
 {
     return ring->receive.len;
 }
@@ -4374,14 +4356,14 @@ static size_t uart_ring_receive_len(const struct u16550_core_ring *ring)
  *
  * Proved: the ring is no longer held, and sending resumes.
  */
-static void uart_ring_release_transmit(struct u16550_core_ring *ring)
+static inline void uart_ring_release_transmit(struct u16550_core_ring *ring)
 {
     ring->is_held = false;
     uart_ring_resume_transmit(ring);
 }
 
 /* Returns these interrupts, without DATA_READY while receiving is paused. */
-static uint8_t uart_ring_not_paused(const struct u16550_core_ring *ring, uint8_t interrupts)
+static inline uint8_t uart_ring_not_paused(const struct u16550_core_ring *ring, uint8_t interrupts)
 {
     if (ring->is_paused)
         return interrupts & (uint8_t)~U16550_IER_DATA_READY;
@@ -4401,7 +4383,7 @@ static uint8_t uart_ring_not_paused(const struct u16550_core_ring *ring, uint8_t
  * Proved: these interrupts are enabled, without DATA_READY while receiving is paused; the
  * chip is not stuck any more, and sending resumes.
  */
-static void uart_ring_restart(struct u16550_core_ring *ring, uint8_t interrupts)
+static inline void uart_ring_restart(struct u16550_core_ring *ring, uint8_t interrupts)
 {
     uint8_t enabled = uart_ring_not_paused(ring, interrupts);
     uart_enable_interrupts(&ring->uart, enabled);
@@ -4435,7 +4417,7 @@ static void uart_ring_restart(struct u16550_core_ring *ring, uint8_t interrupts)
  *
  * Proved: at most 8 interrupts are served. It tells how many, and not why it ended.
  */
-static size_t uart_ring_service(struct u16550_core_ring *ring)
+static inline size_t uart_ring_service(struct u16550_core_ring *ring)
 {
     return uart_ring_serve_up_to(ring, 8).served;
 }
@@ -4446,7 +4428,7 @@ static size_t uart_ring_service(struct u16550_core_ring *ring)
  *
  * Proved: the low mark is stored, and no access is made.
  */
-static void uart_ring_set_low_mark(struct u16550_core_ring *ring, size_t mark)
+static inline void uart_ring_set_low_mark(struct u16550_core_ring *ring, size_t mark)
 {
     ring->low_mark = mark;
 }
@@ -4455,7 +4437,8 @@ static void uart_ring_set_low_mark(struct u16550_core_ring *ring, size_t mark)
  * Returns why the chip is stuck, or None if it is not: try_handle has disabled its
  * interrupts since the last restart. Makes no access.
  */
-static struct u16550_core_maybe_stuck_error uart_ring_stuck(const struct u16550_core_ring *ring)
+static inline struct u16550_core_maybe_stuck_error
+uart_ring_stuck(const struct u16550_core_ring *ring)
 {
     return ring->stuck;
 }
@@ -4464,7 +4447,7 @@ static struct u16550_core_maybe_stuck_error uart_ring_stuck(const struct u16550_
  * Takes bytes from the front, as many as there are slots, and returns how many. Leaves the
  * other slots unchanged.
  */
-static size_t
+static inline size_t
 uart_byte_queue_read_into(struct u16550_core_byte_queue *byte_queue, uint8_t *slots,
     size_t slots_len)
 {
@@ -4484,7 +4467,7 @@ uart_byte_queue_read_into(struct u16550_core_byte_queue *byte_queue, uint8_t *sl
  * Proved: the bytes are from the front of the receive ring, as many as there are slots and
  * bytes; if there are any, a pause of receiving ends.
  */
-static size_t uart_ring_take(struct u16550_core_ring *ring, uint8_t *slots, size_t slots_len)
+static inline size_t uart_ring_take(struct u16550_core_ring *ring, uint8_t *slots, size_t slots_len)
 {
     size_t count = uart_byte_queue_read_into(&ring->receive, slots, slots_len);
     uart_ring_end_pause(ring, count);
@@ -4497,7 +4480,7 @@ static size_t uart_ring_take(struct u16550_core_ring *ring, uint8_t *slots, size
  *
  * Proved: lsr, joined with what was noted, after which nothing is noted.
  */
-static uint8_t uart_ring_take_line(struct u16550_core_ring *ring)
+static inline uint8_t uart_ring_take_line(struct u16550_core_ring *ring)
 {
     uint8_t lsr = uart_lsr(&ring->uart);
     uint8_t lsr2 = ring->line;
@@ -4516,7 +4499,7 @@ static uint8_t uart_ring_take_line(struct u16550_core_ring *ring)
  *
  * Proved: whether a fall to the low mark was noted, which is then forgotten.
  */
-static bool uart_ring_take_low(struct u16550_core_ring *ring)
+static inline bool uart_ring_take_low(struct u16550_core_ring *ring)
 {
     bool low = ring->is_low;
     ring->is_low = false;
@@ -4529,7 +4512,7 @@ static bool uart_ring_take_low(struct u16550_core_ring *ring)
  *
  * Proved: msr, joined with what was noted, after which nothing is noted.
  */
-static uint8_t uart_ring_take_modem(struct u16550_core_ring *ring)
+static inline uint8_t uart_ring_take_modem(struct u16550_core_ring *ring)
 {
     uint8_t msr = uart_msr(&ring->uart);
     uint8_t msr2 = ring->modem;
@@ -4541,20 +4524,20 @@ static uint8_t uart_ring_take_modem(struct u16550_core_ring *ring)
  * Returns the number of bytes in the transmit ring: those that are queued and not yet written
  * to the chip. Makes no access.
  */
-static size_t uart_ring_transmit_len(const struct u16550_core_ring *ring)
+static inline size_t uart_ring_transmit_len(const struct u16550_core_ring *ring)
 {
     return ring->transmit.len;
 }
 
 /* Returns how many more bytes the transmit ring has room for. Makes no access. */
-static size_t uart_ring_transmit_room(const struct u16550_core_ring *ring)
+static inline size_t uart_ring_transmit_room(const struct u16550_core_ring *ring)
 {
     size_t byte_queue_capacity = uart_byte_queue_capacity(&ring->transmit);
     return byte_queue_capacity - ring->transmit.len;
 }
 
 /* Returns the urgent byte that still waits to be sent. Makes no access. */
-static struct u16550_core_maybe_u8 uart_ring_urgent(const struct u16550_core_ring *ring)
+static inline struct u16550_core_maybe_u8 uart_ring_urgent(const struct u16550_core_ring *ring)
 {
     return ring->urgent;
 }
@@ -4596,7 +4579,7 @@ static struct u16550_core_baud_rate uart_baud_rate_from_integer(uint32_t value)
 }
 
 /* Returns how many clock ticks a bit has at divisor 1. */
-static uint64_t
+static inline uint64_t
 uart_ticks_of(uint32_t baud_rate, struct u16550_core_maybe_u32 prescaler_division_factor)
 {
     return 16 * ((uint64_t)(prescaler_division_factor.is_some ? prescaler_division_factor.value
@@ -4612,7 +4595,7 @@ uart_ticks_of(uint32_t baud_rate, struct u16550_core_maybe_u32 prescaler_divisio
  * as their factors are: between two neighbours the rates are equally far off where the frequency
  * divided by the ticks is the harmonic mean of the two, which is below the middle.
  */
-static uint64_t uart_nearest_factor(uint64_t frequency, uint64_t ticks)
+static inline uint64_t uart_nearest_factor(uint64_t frequency, uint64_t ticks)
 {
     uint64_t below = frequency / ticks;
     uint64_t above = below + 1;
@@ -4687,7 +4670,7 @@ uart_config_nearest(struct u16550_core_config config, uint32_t per_mille)
  * Proved: the baud rate that this divisor gives exactly; or an error with the arguments, if
  * it gives no whole one.
  */
-static struct uart_u32_or_non_integer_baud_rate_error
+static inline struct uart_u32_or_non_integer_baud_rate_error
 uart_calc_baud_rate(uint32_t frequency, uint32_t divisor,
     struct u16550_core_maybe_u32 prescaler_division_factor)
 {
@@ -4759,7 +4742,7 @@ static uint8_t uart_interrupt_type_to_bits(enum u16550_core_interrupt_type inter
     }
 }
 
-/* --------------------------------------------------------------- what is by hand: memory and numbers of the caller */
+/* --------------------------------------------------------------- what is by hand: memory of the caller, and calls that are not done */
 
 /* Takes so many cells from the front of the memory, if there are so many. */
 static struct uart_maybe_vec_u8
@@ -4798,6 +4781,7 @@ UART_ALIGNMENT(state, struct u16550_state);
 UART_ALIGNMENT(difference, struct u16550_difference);
 UART_ALIGNMENT(handled, struct u16550_handled);
 UART_ALIGNMENT(port, struct u16550_line_port);
+UART_ALIGNMENT(chip, struct u16550_design_ware);
 UART_ALIGNMENT(size, size_t);
 UART_ALIGNMENT(u64, uint64_t);
 UART_ALIGNMENT(u32, uint32_t);
@@ -4886,34 +4870,29 @@ static int uart_check_flag(uint8_t byte)
     return uart_unless(byte <= 1, U16550_BAD_CODE);
 }
 
-/* Reads the trigger level of so many characters, or none for 0. */
-static int uart_decode_level(uint8_t characters, struct u16550_core_maybe_fifo_trigger_level *level)
+static int uart_decode_fifo_trigger_level(uint8_t from, enum u16550_core_fifo_trigger_level *to)
 {
-    level->is_some = characters != 0;
-    level->value = U16550_CORE_FIFO_TRIGGER_LEVEL_ONE;
-    switch (characters) {
-    case 0:
+    switch (from) {
     case 1:
+        *to = U16550_CORE_FIFO_TRIGGER_LEVEL_ONE;
         return U16550_OK;
     case 4:
-        level->value = U16550_CORE_FIFO_TRIGGER_LEVEL_FOUR;
+        *to = U16550_CORE_FIFO_TRIGGER_LEVEL_FOUR;
         return U16550_OK;
     case 8:
-        level->value = U16550_CORE_FIFO_TRIGGER_LEVEL_EIGHT;
+        *to = U16550_CORE_FIFO_TRIGGER_LEVEL_EIGHT;
         return U16550_OK;
     case 14:
-        level->value = U16550_CORE_FIFO_TRIGGER_LEVEL_FOURTEEN;
+        *to = U16550_CORE_FIFO_TRIGGER_LEVEL_FOURTEEN;
         return U16550_OK;
     default:
         return U16550_BAD_CODE;
     }
 }
 
-static uint8_t uart_encode_level(struct u16550_core_maybe_fifo_trigger_level level)
+static uint8_t uart_encode_fifo_trigger_level(enum u16550_core_fifo_trigger_level from)
 {
-    if (!level.is_some)
-        return 0;
-    switch (level.value) {
+    switch (from) {
     case U16550_CORE_FIFO_TRIGGER_LEVEL_ONE:
         return 1;
     case U16550_CORE_FIFO_TRIGGER_LEVEL_FOUR:
@@ -4926,30 +4905,347 @@ static uint8_t uart_encode_level(struct u16550_core_maybe_fifo_trigger_level lev
     }
 }
 
+static int uart_decode_word_length(uint8_t from, enum u16550_core_word_length *to)
+{
+    switch (from) {
+    case 5:
+        *to = U16550_CORE_WORD_LENGTH_FIVE_BITS;
+        return U16550_OK;
+    case 6:
+        *to = U16550_CORE_WORD_LENGTH_SIX_BITS;
+        return U16550_OK;
+    case 7:
+        *to = U16550_CORE_WORD_LENGTH_SEVEN_BITS;
+        return U16550_OK;
+    case 8:
+        *to = U16550_CORE_WORD_LENGTH_EIGHT_BITS;
+        return U16550_OK;
+    default:
+        return U16550_BAD_CODE;
+    }
+}
+
+static uint8_t uart_encode_word_length(enum u16550_core_word_length from)
+{
+    switch (from) {
+    case U16550_CORE_WORD_LENGTH_FIVE_BITS:
+        return 5;
+    case U16550_CORE_WORD_LENGTH_SIX_BITS:
+        return 6;
+    case U16550_CORE_WORD_LENGTH_SEVEN_BITS:
+        return 7;
+    case U16550_CORE_WORD_LENGTH_EIGHT_BITS:
+    default:
+        return 8;
+    }
+}
+
+static int uart_decode_parity(uint8_t from, enum u16550_core_parity *to)
+{
+    switch (from) {
+    case U16550_PARITY_NONE:
+        *to = U16550_CORE_PARITY_DISABLED;
+        return U16550_OK;
+    case U16550_PARITY_ODD:
+        *to = U16550_CORE_PARITY_ODD;
+        return U16550_OK;
+    case U16550_PARITY_EVEN:
+        *to = U16550_CORE_PARITY_EVEN;
+        return U16550_OK;
+    case U16550_PARITY_FORCED_1:
+        *to = U16550_CORE_PARITY_FORCED1;
+        return U16550_OK;
+    case U16550_PARITY_FORCED_0:
+        *to = U16550_CORE_PARITY_FORCED0;
+        return U16550_OK;
+    default:
+        return U16550_BAD_CODE;
+    }
+}
+
+static uint8_t uart_encode_parity(enum u16550_core_parity from)
+{
+    switch (from) {
+    case U16550_CORE_PARITY_DISABLED:
+        return U16550_PARITY_NONE;
+    case U16550_CORE_PARITY_ODD:
+        return U16550_PARITY_ODD;
+    case U16550_CORE_PARITY_EVEN:
+        return U16550_PARITY_EVEN;
+    case U16550_CORE_PARITY_FORCED1:
+        return U16550_PARITY_FORCED_1;
+    case U16550_CORE_PARITY_FORCED0:
+    default:
+        return U16550_PARITY_FORCED_0;
+    }
+}
+
+static int uart_decode_transmitter_wait(uint8_t from, enum uart_transmitter_wait *to)
+{
+    switch (from) {
+    case U16550_WAIT_FIRST:
+        *to = UART_TRANSMITTER_WAIT_FIRST;
+        return U16550_OK;
+    case U16550_WAIT_LAST:
+        *to = UART_TRANSMITTER_WAIT_LAST;
+        return U16550_OK;
+    case U16550_WAIT_NEVER:
+        *to = UART_TRANSMITTER_WAIT_NEVER;
+        return U16550_OK;
+    default:
+        return U16550_BAD_CODE;
+    }
+}
+
+static int uart_decode_fifo_action(uint8_t from, enum uart_fifo_action *to)
+{
+    switch (from) {
+    case U16550_FIFOS_KEEP:
+        *to = UART_FIFO_ACTION_KEEP;
+        return U16550_OK;
+    case U16550_FIFOS_RESET:
+        *to = UART_FIFO_ACTION_RESET;
+        return U16550_OK;
+    case U16550_FIFOS_DISABLE:
+        *to = UART_FIFO_ACTION_DISABLE;
+        return U16550_OK;
+    default:
+        return U16550_BAD_CODE;
+    }
+}
+
+static int uart_decode_fifo_size(uint16_t from, enum uart_fifo_size *to)
+{
+    switch (from) {
+    case 16:
+        *to = UART_FIFO_SIZE_SIXTEEN;
+        return U16550_OK;
+    case 32:
+        *to = UART_FIFO_SIZE_THIRTY_TWO;
+        return U16550_OK;
+    case 64:
+        *to = UART_FIFO_SIZE_SIXTY_FOUR;
+        return U16550_OK;
+    case 128:
+        *to = UART_FIFO_SIZE_ONE_HUNDRED_TWENTY_EIGHT;
+        return U16550_OK;
+    case 256:
+        *to = UART_FIFO_SIZE_TWO_HUNDRED_FIFTY_SIX;
+        return U16550_OK;
+    default:
+        return U16550_BAD_CODE;
+    }
+}
+
+static uint8_t uart_encode_handle_end(enum uart_handle_end from)
+{
+    switch (from) {
+    case UART_HANDLE_END_IDLE:
+        return U16550_HANDLE_IDLE;
+    case UART_HANDLE_END_UNKNOWN:
+        return U16550_HANDLE_UNKNOWN;
+    case UART_HANDLE_END_LIMIT:
+    default:
+        return U16550_HANDLE_LIMIT;
+    }
+}
+
+static int uart_status_of_attach_error(const enum uart_attach_error *error)
+{
+    switch (*error) {
+    case UART_ATTACH_ERROR_NONE:
+        return U16550_OK;
+    case UART_ATTACH_ERROR_DIVISOR_LATCH_OPEN:
+        return U16550_ATTACH_DIVISOR_LATCH_OPEN;
+    case UART_ATTACH_ERROR_LOOPBACK:
+        return U16550_ATTACH_LOOPBACK;
+    case UART_ATTACH_ERROR_NO_DIVISOR:
+    default:
+        return U16550_ATTACH_NO_DIVISOR;
+    }
+}
+
+static int uart_status_of_byte_send_error(const enum uart_byte_send_error *error)
+{
+    switch (*error) {
+    case UART_BYTE_SEND_ERROR_NONE:
+        return U16550_OK;
+    case UART_BYTE_SEND_ERROR_NO_CAPACITY:
+        return U16550_SEND_NO_CAPACITY;
+    case UART_BYTE_SEND_ERROR_REMOTE_NOT_CLEAR_TO_SEND:
+    default:
+        return U16550_SEND_NOT_CLEAR_TO_SEND;
+    }
+}
+
+static int uart_status_of_configuration_error(const struct uart_configuration_error *error)
+{
+    switch (error->kind) {
+    case UART_CONFIGURATION_ERROR_NONE:
+        return U16550_OK;
+    case UART_CONFIGURATION_ERROR_NO_DIVISOR:
+        return U16550_CONFIGURATION_NO_DIVISOR;
+    case UART_CONFIGURATION_ERROR_LINE_CONTROL:
+        return U16550_CONFIGURATION_LINE_CONTROL;
+    case UART_CONFIGURATION_ERROR_MODEM_CONTROL:
+        return U16550_CONFIGURATION_MODEM_CONTROL;
+    case UART_CONFIGURATION_ERROR_INTERRUPTS:
+        return U16550_CONFIGURATION_INTERRUPTS;
+    case UART_CONFIGURATION_ERROR_DIVISOR:
+        return U16550_CONFIGURATION_DIVISOR;
+    case UART_CONFIGURATION_ERROR_FIFOS:
+    default:
+        return U16550_CONFIGURATION_FIFOS;
+    }
+}
+
+static int uart_status_of_frame_error(const struct uart_frame_error *error)
+{
+    switch (error->kind) {
+    case UART_FRAME_ERROR_NONE:
+        return U16550_OK;
+    case UART_FRAME_ERROR_INVALID_BAUD_RATE:
+        return error->invalid_baud_rate.kind == UART_INVALID_DIVISOR_ERROR_NON_INTEGER ? U16550_FRAME_NON_INTEGER_DIVISOR :
+            U16550_FRAME_DIVISOR_OUT_OF_RANGE;
+    case UART_FRAME_ERROR_STALLED:
+    default:
+        return U16550_FRAME_STALLED;
+    }
+}
+
+static int uart_status_of_init_error(const struct uart_init_error *error)
+{
+    switch (error->kind) {
+    case UART_INIT_ERROR_NONE:
+        return U16550_OK;
+    case UART_INIT_ERROR_DEVICE_NOT_PRESENT:
+        return U16550_INIT_DEVICE_NOT_PRESENT;
+    case UART_INIT_ERROR_INVALID_BAUD_RATE:
+        return error->invalid_baud_rate.kind == UART_INVALID_DIVISOR_ERROR_NON_INTEGER ? U16550_INIT_NON_INTEGER_DIVISOR :
+            U16550_INIT_DIVISOR_OUT_OF_RANGE;
+    case UART_INIT_ERROR_STALLED:
+    default:
+        return U16550_INIT_STALLED;
+    }
+}
+
+static int uart_status_of_invalid_divisor_error(const struct uart_invalid_divisor_error *error)
+{
+    switch (error->kind) {
+    case UART_INVALID_DIVISOR_ERROR_NONE:
+        return U16550_OK;
+    case UART_INVALID_DIVISOR_ERROR_NON_INTEGER:
+        return U16550_FRAME_NON_INTEGER_DIVISOR;
+    case UART_INVALID_DIVISOR_ERROR_OUT_OF_RANGE:
+    default:
+        return U16550_FRAME_DIVISOR_OUT_OF_RANGE;
+    }
+}
+
+static int uart_status_of_loopback_error(const struct uart_loopback_error *error)
+{
+    switch (error->kind) {
+    case UART_LOOPBACK_ERROR_NONE:
+        return U16550_OK;
+    case UART_LOOPBACK_ERROR_SEND_ERROR:
+        return error->send_error == UART_BYTE_SEND_ERROR_NO_CAPACITY ? U16550_LOOPBACK_NO_CAPACITY :
+            U16550_LOOPBACK_NOT_CLEAR_TO_SEND;
+    case UART_LOOPBACK_ERROR_UNEXPECTED_LOOPBACK_BYTE:
+        return U16550_LOOPBACK_UNEXPECTED_BYTE;
+    case UART_LOOPBACK_ERROR_UNEXPECTED_LOOPBACK_MSG:
+        return U16550_LOOPBACK_UNEXPECTED_MSG;
+    case UART_LOOPBACK_ERROR_STALLED:
+    default:
+        return U16550_LOOPBACK_STALLED;
+    }
+}
+
+static int uart_status_of_nearest_divisor_error(const struct uart_nearest_divisor_error *error)
+{
+    switch (error->kind) {
+    case UART_NEAREST_DIVISOR_ERROR_NONE:
+        return U16550_OK;
+    case UART_NEAREST_DIVISOR_ERROR_TOO_FAR:
+        return U16550_NEAREST_TOO_FAR;
+    case UART_NEAREST_DIVISOR_ERROR_OUT_OF_RANGE:
+    default:
+        return U16550_NEAREST_OUT_OF_RANGE;
+    }
+}
+
+static int uart_status_of_remote_ready_to_receive_error(const enum uart_remote_ready_to_receive_error *error)
+{
+    switch (*error) {
+    case UART_REMOTE_READY_TO_RECEIVE_ERROR_NONE:
+        return U16550_OK;
+    case UART_REMOTE_READY_TO_RECEIVE_ERROR_NO_REMOTE_CONNECTED_NO_DSR:
+        return U16550_REMOTE_NO_DSR;
+    case UART_REMOTE_READY_TO_RECEIVE_ERROR_NO_REMOTE_CONNECTED_NO_CD:
+        return U16550_REMOTE_NO_CD;
+    case UART_REMOTE_READY_TO_RECEIVE_ERROR_REMOTE_NOT_CLEAR_TO_SEND:
+    default:
+        return U16550_REMOTE_NOT_CLEAR_TO_SEND;
+    }
+}
+
+static int uart_status_of_ring_error(const enum uart_ring_error *error)
+{
+    switch (*error) {
+    case UART_RING_ERROR_NONE:
+        return U16550_OK;
+    case UART_RING_ERROR_BAD_CAPACITY:
+        return U16550_RING_BAD_CAPACITY;
+    case UART_RING_ERROR_OUT_OF_MEMORY:
+    default:
+        return U16550_RING_OUT_OF_MEMORY;
+    }
+}
+
+static int uart_status_of_stuck_error(const struct u16550_core_stuck_error *error)
+{
+    switch (error->kind) {
+    case U16550_CORE_STUCK_ERROR_NONE:
+        return U16550_OK;
+    case U16550_CORE_STUCK_ERROR_UNKNOWN:
+        return U16550_RING_STUCK_UNKNOWN;
+    case U16550_CORE_STUCK_ERROR_PENDING:
+    default:
+        return U16550_RING_STUCK_PENDING;
+    }
+}
+
+/* --------------------------------------------------------------- data of the header as those of the driver, and back */
+
+/* Reads a trigger level, or none for 0. */
+static int uart_decode_level(uint8_t from, struct u16550_core_maybe_fifo_trigger_level *to)
+{
+    to->is_some = from != 0;
+    to->value = U16550_CORE_FIFO_TRIGGER_LEVEL_ONE;
+    return to->is_some ? uart_decode_fifo_trigger_level(from, &to->value) : U16550_OK;
+}
+
 /* Reads a configuration, of which perhaps no divisor can be computed. */
 static int uart_decode_config(const struct u16550_config *from, struct u16550_core_config *to)
 {
-    static const enum u16550_core_word_length lengths[] = {
-        U16550_CORE_WORD_LENGTH_FIVE_BITS, U16550_CORE_WORD_LENGTH_SIX_BITS,
-        U16550_CORE_WORD_LENGTH_SEVEN_BITS, U16550_CORE_WORD_LENGTH_EIGHT_BITS };
-    static const enum u16550_core_parity parities[] = {
-        U16550_CORE_PARITY_DISABLED, U16550_CORE_PARITY_ODD, U16550_CORE_PARITY_EVEN,
-        U16550_CORE_PARITY_FORCED1, U16550_CORE_PARITY_FORCED0 };
-    if (uart_check_flag(from->has_prescaler) != U16550_OK || uart_check_flag(from->extra_stop_bits) != U16550_OK ||
-        uart_check_flag(from->check_cts_before_sending) != U16550_OK || from->data_bits < 5 ||
-        from->data_bits > 8 || from->parity > 4 ||
-        uart_decode_level(from->fifo_trigger_level, &to->fifo_trigger_level) != U16550_OK)
-        return U16550_BAD_CODE;
+    int status = uart_check_flag(from->has_prescaler);
+    if (status == U16550_OK)
+        status = uart_check_flag(from->extra_stop_bits);
+    if (status == U16550_OK)
+        status = uart_check_flag(from->check_cts_before_sending);
+    if (status == U16550_OK)
+        status = uart_decode_level(from->fifo_trigger_level, &to->fifo_trigger_level);
+    if (status == U16550_OK)
+        status = uart_decode_word_length(from->data_bits, &to->data_bits);
+    if (status == U16550_OK)
+        status = uart_decode_parity(from->parity, &to->parity);
     to->interrupts = from->interrupts;
     to->frequency = from->frequency;
     to->prescaler_division_factor.is_some = from->has_prescaler == 1;
     to->prescaler_division_factor.value = from->prescaler_division_factor;
     to->baud_rate = uart_baud_rate_from_integer(from->baud_rate);
-    to->data_bits = lengths[from->data_bits - 5];
     to->extra_stop_bits = from->extra_stop_bits == 1;
-    to->parity = parities[from->parity];
     to->check_cts_before_sending = from->check_cts_before_sending == 1;
-    return U16550_OK;
+    return status;
 }
 
 /* The same, if a divisor can be computed. */
@@ -4971,10 +5267,10 @@ static void uart_encode_config(const struct u16550_core_config *from, struct u16
     to->prescaler_division_factor = has_prescaler ? from->prescaler_division_factor.value : 0;
     to->has_prescaler = has_prescaler;
     to->interrupts = from->interrupts;
-    to->fifo_trigger_level = uart_encode_level(from->fifo_trigger_level);
-    to->data_bits = (uint8_t)(5 + (int)from->data_bits);
+    to->fifo_trigger_level = (uint8_t)(from->fifo_trigger_level.is_some ? uart_encode_fifo_trigger_level(from->fifo_trigger_level.value) : 0);
+    to->data_bits = uart_encode_word_length(from->data_bits);
     to->extra_stop_bits = from->extra_stop_bits;
-    to->parity = (uint8_t)from->parity;
+    to->parity = uart_encode_parity(from->parity);
     to->check_cts_before_sending = from->check_cts_before_sending;
 }
 
@@ -4994,146 +5290,33 @@ static int uart_decode_state(const struct u16550_state *from, struct uart_driver
     return U16550_OK;
 }
 
+static void uart_encode_state(struct uart_driver_state from, struct u16550_state *to)
+{
+    to->spin_limit = from.spin_limit;
+    uart_encode_config(&from.config, &to->config);
+    to->fifo_enabled = from.fifo_enabled;
+    to->saved_lsr = from.saved_lsr;
+    to->saved_msr = from.saved_msr;
+}
+
 static int uart_decode_setup(const struct u16550_setup *from, struct uart_setup *to)
 {
-    static const enum uart_transmitter_wait waits[] = {
-        UART_TRANSMITTER_WAIT_FIRST, UART_TRANSMITTER_WAIT_LAST, UART_TRANSMITTER_WAIT_NEVER };
-    if (from == NULL)
-        return U16550_NULL_POINTER;
-    if (uart_check_flag(from->checks_presence) != U16550_OK || from->wait > 2)
-        return U16550_BAD_CODE;
+    int status = from == NULL ? U16550_NULL_POINTER : uart_check_flag(from->checks_presence);
+    if (status == U16550_OK)
+        status = uart_decode_transmitter_wait(from->wait, &to->wait);
+    if (status != U16550_OK)
+        return status;
     to->checks_presence = from->checks_presence == 1;
-    to->wait = waits[from->wait];
     to->outputs = from->outputs;
     return U16550_OK;
 }
 
-static int uart_decode_size(uint16_t characters, enum uart_fifo_size *size)
+static struct uart_receive_marks uart_marks(size_t hold, size_t release)
 {
-    static const enum uart_fifo_size sizes[] = {
-        UART_FIFO_SIZE_SIXTEEN, UART_FIFO_SIZE_THIRTY_TWO, UART_FIFO_SIZE_SIXTY_FOUR,
-        UART_FIFO_SIZE_ONE_HUNDRED_TWENTY_EIGHT, UART_FIFO_SIZE_TWO_HUNDRED_FIFTY_SIX };
-    for (unsigned order = 0; order < 5; order++) {
-        if (characters == 16u << order) {
-            *size = sizes[order];
-            return U16550_OK;
-        }
-    }
-    return U16550_BAD_CODE;
-}
-
-/* --------------------------------------------------------------- errors as numbers */
-
-static int uart_status_of_divisor(struct uart_invalid_divisor_error error, int non_integer, int out_of_range)
-{
-    return error.kind == UART_INVALID_DIVISOR_ERROR_NON_INTEGER ? non_integer : out_of_range;
-}
-
-static int uart_status_of_init(struct uart_init_error error)
-{
-    switch (error.kind) {
-    case UART_INIT_ERROR_NONE:
-        return U16550_OK;
-    case UART_INIT_ERROR_DEVICE_NOT_PRESENT:
-        return U16550_INIT_DEVICE_NOT_PRESENT;
-    case UART_INIT_ERROR_INVALID_BAUD_RATE:
-        return uart_status_of_divisor(error.invalid_baud_rate, U16550_INIT_NON_INTEGER_DIVISOR,
-            U16550_INIT_DIVISOR_OUT_OF_RANGE);
-    case UART_INIT_ERROR_STALLED:
-    default:
-        return U16550_INIT_STALLED;
-    }
-}
-
-static int uart_status_of_frame(struct uart_invalid_divisor_error error)
-{
-    if (error.kind == UART_INVALID_DIVISOR_ERROR_NONE)
-        return U16550_OK;
-    return uart_status_of_divisor(error, U16550_FRAME_NON_INTEGER_DIVISOR,
-        U16550_FRAME_DIVISOR_OUT_OF_RANGE);
-}
-
-static int uart_status_of_frame_when_idle(struct uart_frame_error error)
-{
-    if (error.kind == UART_FRAME_ERROR_NONE)
-        return U16550_OK;
-    if (error.kind == UART_FRAME_ERROR_STALLED)
-        return U16550_FRAME_STALLED;
-    return uart_status_of_frame(error.invalid_baud_rate);
-}
-
-static int uart_status_of_send(enum uart_byte_send_error error)
-{
-    switch (error) {
-    case UART_BYTE_SEND_ERROR_NONE:
-        return U16550_OK;
-    case UART_BYTE_SEND_ERROR_NO_CAPACITY:
-        return U16550_SEND_NO_CAPACITY;
-    case UART_BYTE_SEND_ERROR_REMOTE_NOT_CLEAR_TO_SEND:
-    default:
-        return U16550_SEND_NOT_CLEAR_TO_SEND;
-    }
-}
-
-static int uart_status_of_remote(enum uart_remote_ready_to_receive_error error)
-{
-    switch (error) {
-    case UART_REMOTE_READY_TO_RECEIVE_ERROR_NONE:
-        return U16550_OK;
-    case UART_REMOTE_READY_TO_RECEIVE_ERROR_NO_REMOTE_CONNECTED_NO_DSR:
-        return U16550_REMOTE_NO_DSR;
-    case UART_REMOTE_READY_TO_RECEIVE_ERROR_NO_REMOTE_CONNECTED_NO_CD:
-        return U16550_REMOTE_NO_CD;
-    case UART_REMOTE_READY_TO_RECEIVE_ERROR_REMOTE_NOT_CLEAR_TO_SEND:
-    default:
-        return U16550_REMOTE_NOT_CLEAR_TO_SEND;
-    }
-}
-
-static int uart_status_of_attach(enum uart_attach_error error)
-{
-    switch (error) {
-    case UART_ATTACH_ERROR_NONE:
-        return U16550_OK;
-    case UART_ATTACH_ERROR_DIVISOR_LATCH_OPEN:
-        return U16550_ATTACH_DIVISOR_LATCH_OPEN;
-    case UART_ATTACH_ERROR_LOOPBACK:
-        return U16550_ATTACH_LOOPBACK;
-    case UART_ATTACH_ERROR_NO_DIVISOR:
-    default:
-        return U16550_ATTACH_NO_DIVISOR;
-    }
-}
-
-static int uart_status_of_stuck(struct u16550_core_stuck_error error)
-{
-    switch (error.kind) {
-    case U16550_CORE_STUCK_ERROR_NONE:
-        return U16550_OK;
-    case U16550_CORE_STUCK_ERROR_UNKNOWN:
-        return U16550_RING_STUCK_UNKNOWN;
-    case U16550_CORE_STUCK_ERROR_PENDING:
-    default:
-        return U16550_RING_STUCK_PENDING;
-    }
-}
-
-static int uart_status_of_loopback(const struct uart_loopback_error *error)
-{
-    switch (error->kind) {
-    case UART_LOOPBACK_ERROR_NONE:
-        return U16550_OK;
-    case UART_LOOPBACK_ERROR_SEND_ERROR:
-        return error->send_error == UART_BYTE_SEND_ERROR_NO_CAPACITY ?
-            U16550_LOOPBACK_NO_CAPACITY : U16550_LOOPBACK_NOT_CLEAR_TO_SEND;
-    case UART_LOOPBACK_ERROR_UNEXPECTED_LOOPBACK_BYTE:
-        return U16550_LOOPBACK_UNEXPECTED_BYTE;
-    case UART_LOOPBACK_ERROR_UNEXPECTED_LOOPBACK_MSG:
-        return U16550_LOOPBACK_UNEXPECTED_MSG;
-    case UART_LOOPBACK_ERROR_STALLED:
-    default:
-        return U16550_LOOPBACK_STALLED;
-    }
+    struct uart_receive_marks marks;
+    marks.hold = hold;
+    marks.release = release;
+    return marks;
 }
 
 static void uart_encode_failure(const struct uart_loopback_error *error, struct u16550_loopback_failure *to)
@@ -5144,47 +5327,35 @@ static void uart_encode_failure(const struct uart_loopback_error *error, struct 
     uart_copy_bytes(to->actual_msg, error->unexpected_loopback_msg_actual.bytes, 16);
 }
 
-/* Writes what was expected and shown, and returns the number of the error. */
-static int uart_encode_difference(const struct uart_configuration_error *error, struct u16550_difference *to)
+static struct u16550_difference uart_difference(unsigned expected, unsigned shown)
+{
+    struct u16550_difference made = { (uint16_t)expected, (uint16_t)shown };
+    return made;
+}
+
+static struct u16550_difference uart_encode_difference(const struct uart_configuration_error *error)
 {
     switch (error->kind) {
-    case UART_CONFIGURATION_ERROR_NONE:
-        return U16550_OK;
-    case UART_CONFIGURATION_ERROR_NO_DIVISOR:
-        to->expected = 0;
-        to->shown = 0;
-        return U16550_CONFIGURATION_NO_DIVISOR;
     case UART_CONFIGURATION_ERROR_LINE_CONTROL:
-        to->expected = error->line_control_expected;
-        to->shown = error->line_control_shown;
-        return U16550_CONFIGURATION_LINE_CONTROL;
+        return uart_difference(error->line_control_expected, error->line_control_shown);
     case UART_CONFIGURATION_ERROR_MODEM_CONTROL:
-        to->expected = error->modem_control_expected;
-        to->shown = error->modem_control_shown;
-        return U16550_CONFIGURATION_MODEM_CONTROL;
+        return uart_difference(error->modem_control_expected, error->modem_control_shown);
     case UART_CONFIGURATION_ERROR_INTERRUPTS:
-        to->expected = error->interrupts_expected;
-        to->shown = error->interrupts_shown;
-        return U16550_CONFIGURATION_INTERRUPTS;
+        return uart_difference(error->interrupts_expected, error->interrupts_shown);
     case UART_CONFIGURATION_ERROR_DIVISOR:
-        to->expected = error->divisor_expected;
-        to->shown = error->divisor_shown;
-        return U16550_CONFIGURATION_DIVISOR;
+        return uart_difference(error->divisor_expected, error->divisor_shown);
     case UART_CONFIGURATION_ERROR_FIFOS:
+        return uart_difference(error->fifos_expected, error->fifos_shown);
+    case UART_CONFIGURATION_ERROR_NO_DIVISOR:
+    case UART_CONFIGURATION_ERROR_NONE:
     default:
-        to->expected = error->fifos_expected;
-        to->shown = error->fifos_shown;
-        return U16550_CONFIGURATION_FIFOS;
+        return uart_difference(0, 0);
     }
 }
 
-static struct u16550_handled uart_encode_handled(struct uart_handled handled)
+static struct u16550_handled uart_encode_handled(struct uart_handled from)
 {
-    struct u16550_handled made = { handled.served, U16550_HANDLE_IDLE };
-    if (handled.end == UART_HANDLE_END_UNKNOWN)
-        made.end = U16550_HANDLE_UNKNOWN;
-    else if (handled.end == UART_HANDLE_END_LIMIT)
-        made.end = U16550_HANDLE_LIMIT;
+    struct u16550_handled made = { from.served, uart_encode_handle_end(from.end) };
     return made;
 }
 
@@ -5196,66 +5367,100 @@ static struct u16550_urgent uart_encode_urgent(struct u16550_core_maybe_u8 urgen
 
 /* --------------------------------------------------------------- making and ending a driver */
 
-/* Makes a driver, if its memory and its functions are there, and no call over one that is there is not done. */
-static int uart_make(struct u16550 *uart, const struct u16550_io *io, uintptr_t base, uint8_t stride, int refused,
-                     const struct uart_driver_state *state)
+/* Refuses functions that are not there. */
+static int uart_check_io(const struct u16550_io *io)
 {
-    struct u16550_device device = { { NULL, NULL, NULL }, 0, 0 };
+    int status = UART_USABLE(io, io);
+    return status == U16550_OK && (io->read == NULL || io->write == NULL) ? U16550_NULL_POINTER : status;
+}
+
+/* Refuses memory of a driver in which a call is not done. */
+static int uart_check_memory(struct u16550 *uart)
+{
     int status = UART_USABLE(uart, handle);
-    if (status != U16550_OK)
-        return status;
-    if (uart->is_busy == UART_BUSY)
-        return U16550_BUSY;
-    status = UART_USABLE(io, io);
-    if (status == U16550_OK)
-        status = refused;
-    if (status == U16550_OK && (io->read == NULL || io->write == NULL))
-        status = U16550_NULL_POINTER;
-    if (status != U16550_OK)
-        return status;
+    return status == U16550_OK && uart->is_busy == UART_BUSY ? U16550_BUSY : status;
+}
+
+/*
+ * Begins to make a driver in memory that was looked at. A handler that comes from now on finds a call that is not done, and never a part of
+ * the old driver with one of the new.
+ */
+static void uart_begin(struct u16550 *uart)
+{
+    uart->is_busy = UART_BUSY;
+    UART_FENCE();
+}
+
+/* Makes a driver whose functions get addresses from base on, and ends what was begun. */
+static int uart_put(struct u16550 *uart, const struct u16550_io *io, uintptr_t base, uint8_t stride, const struct uart_driver_state *state)
+{
+    struct u16550_device device;
     device.io = *io;
     device.base = base;
     device.stride = stride;
-    /* A handler that comes now finds a call that is not done, and never a part of the old driver with one of the new. */
-    uart->is_busy = UART_BUSY;
-    UART_FENCE();
     uart->mark = UART_MARK;
     uart->has_rings = false;
     uart->ring.uart = state == NULL ? uart_new_with_backend(device) : uart_from_state(device, state);
     return uart_leave(uart, U16550_OK);
 }
 
+/* Makes a driver, unless it is refused, or its memory or its functions are not there. */
+static int uart_make(struct u16550 *uart, const struct u16550_io *io, uintptr_t base, uint8_t stride, int refused)
+{
+    int status = uart_check_memory(uart);
+    if (status == U16550_OK)
+        status = UART_USABLE(io, io);
+    if (status == U16550_OK)
+        status = refused;
+    if (status == U16550_OK)
+        status = uart_check_io(io);
+    if (status != U16550_OK)
+        return status;
+    uart_begin(uart);
+    return uart_put(uart, io, base, stride, NULL);
+}
+
+/* Refuses registers in memory that cannot be there. */
+static int uart_check_place(uintptr_t base, uint8_t stride)
+{
+    if (base == 0)
+        return U16550_BAD_BASE;
+    if (stride == 0 || (stride & (stride - 1)) != 0)
+        return U16550_BAD_STRIDE;
+    return uart_if(base > UINTPTR_MAX - (uintptr_t)UART_SPR * stride, U16550_BAD_BASE);
+}
+
 int u16550_new(struct u16550 *uart, const struct u16550_io *io)
 {
-    return uart_make(uart, io, 0, 1, U16550_OK, NULL);
+    return uart_make(uart, io, 0, 1, U16550_OK);
 }
 
 int u16550_new_port(struct u16550 *uart, const struct u16550_io *io, uint16_t base)
 {
-    return uart_make(uart, io, base, 1,uart_if(base > 0xfff8, U16550_BAD_BASE), NULL);
+    return uart_make(uart, io, base, 1, uart_if(base > UINT16_MAX - UART_SPR, U16550_BAD_BASE));
 }
 
 int u16550_new_mmio(struct u16550 *uart, const struct u16550_io *io, uintptr_t base, uint8_t stride)
 {
-    int refused = U16550_OK;
-    if (base == 0)
-        refused = U16550_BAD_BASE;
-    else if (stride == 0 || (stride & (stride - 1)) != 0)
-        refused = U16550_BAD_STRIDE;
-    else if (base > UINTPTR_MAX - (uintptr_t)7 * stride)
-        refused = U16550_BAD_BASE;
-    return uart_make(uart, io, base, stride, refused, NULL);
+    return uart_make(uart, io, base, stride, uart_check_place(base, stride));
 }
 
 int u16550_from_state(struct u16550 *uart, const struct u16550_io *io, const struct u16550_state *state)
 {
     struct uart_driver_state decoded;
-    int refused = UART_USABLE(state, state);
-    if (refused == U16550_OK && UART_USABLE(io, io) == U16550_OK && (io->read == NULL || io->write == NULL))
-        refused = U16550_NULL_POINTER;
-    if (refused == U16550_OK)
-        refused = uart_decode_state(state, &decoded);
-    return uart_make(uart, io, 0, 1, refused, &decoded);
+    int status = uart_check_memory(uart);
+    if (status == U16550_OK)
+        status = UART_USABLE(io, io);
+    if (status == U16550_OK)
+        status = UART_USABLE(state, state);
+    if (status == U16550_OK)
+        status = uart_check_io(io);
+    if (status == U16550_OK)
+        status = uart_decode_state(state, &decoded);
+    if (status != U16550_OK)
+        return status;
+    uart_begin(uart);
+    return uart_put(uart, io, 0, 1, &decoded);
 }
 
 int u16550_end(struct u16550 *uart)
@@ -5286,12 +5491,78 @@ int u16550_set_io(struct u16550 *uart, const struct u16550_io *io)
     int status = uart_enter(uart);
     if (status != U16550_OK)
         return status;
-    status = UART_USABLE(io, io);
-    if (status == U16550_OK && (io->read == NULL || io->write == NULL))
-        status = U16550_NULL_POINTER;
+    status = uart_check_io(io);
     if (status == U16550_OK)
         uart_backend_mut(&uart->ring.uart)->io = *io;
     return uart_leave(uart, status);
+}
+
+int u16550_test_loopback(struct u16550 *uart, struct u16550_loopback_failure *failure)
+{
+    struct uart_loopback_error error;
+    int status = uart_enter(uart);
+    if (status != U16550_OK)
+        return status;
+    error = uart_test_loopback(&uart->ring.uart);
+    status = uart_status_of_loopback_error(&error);
+    if (status != U16550_OK && failure != NULL)
+        uart_encode_failure(&error, failure);
+    return uart_leave(uart, status);
+}
+
+int u16550_check_configured(struct u16550 *uart, uint8_t outputs, struct u16550_difference *difference)
+{
+    struct uart_configuration_error error;
+    int status = uart_enter(uart);
+    if (status != U16550_OK)
+        return status;
+    status = UART_ALIGNED(difference, difference);
+    if (status != U16550_OK)
+        return uart_leave(uart, status);
+    error = uart_check_configured(&uart->ring.uart, outputs);
+    status = uart_status_of_configuration_error(&error);
+    if (status != U16550_OK && difference != NULL)
+        *difference = uart_encode_difference(&error);
+    return uart_leave(uart, status);
+}
+
+/* Brings the chip into a state in which text goes out, as the emergency console of the Rust crate does. */
+static int uart_take_over(struct u16550_core_driver *uart)
+{
+    const uint8_t no_text = U16550_LCR_DLAB | U16550_LCR_SET_BREAK;
+    uint8_t kept, lcr = uart_lcr(uart);
+    for (uint64_t writes = 0; writes < uart->spin_limit && (lcr & no_text) != 0; writes++) {
+        uart_device_write(&uart->backend, UART_LCR, (uint8_t)(lcr & ~no_text));
+        lcr = uart_lcr(uart);
+    }
+    if ((lcr & no_text) != 0)
+        return U16550_ATTACH_DIVISOR_LATCH_OPEN;
+    uart_device_write(&uart->backend, UART_IER, 0);
+    /* The other outputs stay: loopback and a flow control by the chip would hold text back. */
+    kept = uart_mcr(uart) & (U16550_MCR_OUT_1 | U16550_MCR_OUT_2_INT_ENABLE);
+    uart_set_modem_control(uart, kept | U16550_MCR_DTR | U16550_MCR_RTS);
+    return uart_if((uart_mcr(uart) & U16550_MCR_LOOP_BACK) != 0, U16550_ATTACH_LOOPBACK);
+}
+
+int u16550_emergency(struct u16550 *uart)
+{
+    struct u16550_core_driver console;
+    int status = uart_enter(uart);
+    if (status != U16550_OK)
+        return status;
+    if (uart->has_rings)
+        return uart_leave(uart, U16550_HAS_RINGS);
+    console = uart_new_with_backend(uart->ring.uart.backend);
+    uart_set_spin_limit(&console, uart->ring.uart.spin_limit);
+    status = uart_take_over(&console);
+    if (status == U16550_OK)
+        uart->ring.uart = console;
+    return uart_leave(uart, status);
+}
+
+const char *u16550_version(void)
+{
+    return U16550_VERSION;
 }
 
 int u16550_default_config(struct u16550_config *config)
@@ -5316,12 +5587,10 @@ int u16550_nearest(const struct u16550_config *config, uint32_t per_mille, struc
     if (status != U16550_OK)
         return status;
     found = uart_config_nearest(decoded, per_mille);
-    if (found.error.kind == UART_NEAREST_DIVISOR_ERROR_TOO_FAR)
-        return U16550_NEAREST_TOO_FAR;
-    if (found.error.kind != UART_NEAREST_DIVISOR_ERROR_NONE)
-        return U16550_NEAREST_OUT_OF_RANGE;
-    uart_encode_config(&found.value, nearest);
-    return U16550_OK;
+    status = uart_status_of_nearest_divisor_error(&found.error);
+    if (status == U16550_OK)
+        uart_encode_config(&found.value, nearest);
+    return status;
 }
 
 int u16550_dump_divisor(const struct u16550_dump *dump, uint16_t *divisor)
@@ -5369,10 +5638,8 @@ int u16550_ring_new(struct u16550 *uart, uint8_t *memory, size_t size, size_t tx
     if (status != U16550_OK)
         return uart_leave(uart, status);
     made = uart_ring_new(&cells, uart->ring.uart, tx_capacity, rx_capacity);
-    if (made.is_error) {
-        return uart_leave(uart, made.error.second == UART_RING_ERROR_BAD_CAPACITY ? U16550_RING_BAD_CAPACITY
-                                                                                  : U16550_RING_OUT_OF_MEMORY);
-    }
+    if (made.is_error)
+        return uart_leave(uart, uart_status_of_ring_error(&made.error.second));
     uart->ring = made.value;
     uart->has_rings = true;
     return uart_leave(uart, U16550_OK);
@@ -5422,7 +5689,7 @@ uart_line_ports_lower(struct uart_line_ports *ports, size_t port, size_t limit, 
     lowered = uart_ring_lower_line(&at->uart->ring, limit, rounds);
     uart_leave(at->uart, U16550_OK);
     at->enabled = lowered.enabled;
-    at->status = uart_status_of_stuck(lowered.handled.error);
+    at->status = uart_status_of_stuck_error(&lowered.handled.error);
     if (at->status != U16550_OK)
         return false;
     at->handled = uart_encode_handled(lowered.handled.value);
@@ -5520,6 +5787,428 @@ int u16550_write_raw_text(struct u16550 *uart, const char *text, size_t len, siz
     return uart_send_text(uart, text, len, done, false);
 }
 
+/* --------------------------------------------------------------- registers in memory that the library accesses itself */
+
+/*
+ * Makes the processor finish the accesses before this, to devices and to memory, before it begins those behind it, where its architecture
+ * does not do so by itself. On x86 and on Arm accesses to one device are made in the order of the program, if its memory is mapped as a
+ * device's. On the others the order depends on the memory's attributes, or a load may pass a store, and barriers of locks are not for
+ * devices.
+ */
+#ifndef U16550_BARRIER
+#if defined(__riscv)
+#define U16550_BARRIER() __asm__ __volatile__("fence iorw, iorw" : : : "memory")
+#elif defined(__loongarch__)
+#define U16550_BARRIER() __asm__ __volatile__("dbar 0" : : : "memory")
+#elif defined(__powerpc__) || defined(__PPC__)
+#define U16550_BARRIER() __asm__ __volatile__("sync" : : : "memory")
+#elif defined(__mips__)
+#define U16550_BARRIER() __asm__ __volatile__(".set push\n\t.set mips2\n\tsync\n\t.set pop" : : : "memory")
+#elif defined(__s390x__)
+#define U16550_BARRIER() __asm__ __volatile__("bcr 15, 0" : : : "memory")
+#elif defined(__i386__) || defined(__x86_64__) || defined(__arm__) || defined(__aarch64__) || defined(__AVR__) || defined(__MSP430__) || \
+    defined(_M_IX86) || defined(_M_X64)
+#define U16550_BARRIER() UART_FENCE()
+#elif defined(__GNUC__)
+#define U16550_BARRIER() __sync_synchronize()
+#else
+#error "define U16550_BARRIER() as what orders accesses to devices on this processor, or as ((void)0) if nothing is needed"
+#endif
+#endif
+
+/*
+ * One load and one store of a register, between barriers. On Arm they are instructions that a hypervisor can emulate: such as change no
+ * address register. A compiler may make others of a volatile access.
+ */
+#if defined(__GNUC__) && defined(__aarch64__)
+#define UART_LOAD(bits, name) __asm__ __volatile__(name " %w0, [%1]" : "=r"(loaded) : "r"(address) : "memory")
+#define UART_STORE(bits, name) __asm__ __volatile__(name " %w0, [%1]" : : "r"(value), "r"(address) : "memory")
+#elif defined(__GNUC__) && defined(__arm__)
+#define UART_LOAD(bits, name) __asm__ __volatile__(name " %0, [%1]" : "=l"(loaded) : "l"(address) : "memory")
+#define UART_STORE(bits, name) __asm__ __volatile__(name " %0, [%1]" : : "l"(value), "l"(address) : "memory")
+#else
+#define UART_LOAD(bits, name) (loaded = *(const volatile uint##bits##_t *)address)
+#define UART_STORE(bits, name) (*(volatile uint##bits##_t *)address = (uint##bits##_t)value)
+#endif
+#define UART_WORD(bits, load, store)                                        \
+    static inline uint32_t uart_load_##bits(uintptr_t address)              \
+    {                                                                       \
+        uint32_t loaded;                                                    \
+        U16550_BARRIER();                                                   \
+        UART_LOAD(bits, load);                                              \
+        U16550_BARRIER();                                                   \
+        return loaded;                                                      \
+    }                                                                       \
+    static inline void uart_store_##bits(uintptr_t address, uint32_t value) \
+    {                                                                       \
+        U16550_BARRIER();                                                   \
+        UART_STORE(bits, store);                                            \
+        U16550_BARRIER();                                                   \
+    }
+UART_WORD(8, "ldrb", "strb")
+UART_WORD(16, "ldrh", "strh")
+UART_WORD(32, "ldr", "str")
+
+/*
+ * The functions of a driver for such registers. The eight bits of a register are in its lowest byte: in a register of `bits` bits whose
+ * bytes are the other way round than those of the processor, they are `up` bits further up.
+ */
+#define UART_REGISTERS(name, bits, up)                                                        \
+    static uint8_t uart_read_##name(void *context, uintptr_t address)                         \
+    {                                                                                         \
+        (void)context;                                                                        \
+        return (uint8_t)(uart_load_##bits(address) >> (up));                                  \
+    }                                                                                         \
+    static void uart_write_##name(void *context, uintptr_t address, uint8_t value)            \
+    {                                                                                         \
+        (void)context;                                                                        \
+        uart_store_##bits(address, (uint32_t)value << (up));                                  \
+    }                                                                                         \
+    static struct u16550_io uart_io_of_##name(void)                                           \
+    {                                                                                         \
+        struct u16550_io io = { NULL, uart_read_##name, uart_write_##name };                  \
+        return io;                                                                            \
+    }
+UART_REGISTERS(bytes, 8, 0)
+UART_REGISTERS(half_words, 16, 0)
+UART_REGISTERS(swapped_half_words, 16, 8)
+UART_REGISTERS(words, 32, 0)
+UART_REGISTERS(swapped_words, 32, 24)
+
+/* Returns whether the first byte of a number is the highest, as this processor has it. */
+static bool uart_is_big_endian(void)
+{
+    const uint16_t one = 1;
+    return *(const uint8_t *)&one == 0;
+}
+
+/* Returns the functions for registers of a layout that was looked at. */
+static struct u16550_io uart_io_of_layout(const struct u16550_layout *layout)
+{
+    bool is_swapped = layout->byte_order == (uart_is_big_endian() ? U16550_LITTLE_ENDIAN : U16550_BIG_ENDIAN);
+    if (layout->width == 8)
+        return uart_io_of_bytes();
+    if (layout->width == 16)
+        return is_swapped ? uart_io_of_swapped_half_words() : uart_io_of_half_words();
+    return is_swapped ? uart_io_of_swapped_words() : uart_io_of_words();
+}
+
+/* Refuses registers that cannot lie so: `last` is the offset of the last one. */
+static int uart_check_layout(uintptr_t base, const struct u16550_layout *layout, uint8_t last)
+{
+    uint8_t bytes;
+    int status;
+    if (layout == NULL)
+        return U16550_NULL_POINTER;
+    if (layout->width != 8 && layout->width != 16 && layout->width != 32)
+        return U16550_BAD_WIDTH;
+    if (layout->byte_order > U16550_BIG_ENDIAN)
+        return U16550_BAD_CODE;
+    bytes = layout->width / 8;
+    status = uart_check_place(base, layout->stride);
+    if (status != U16550_OK)
+        return status;
+    if (layout->stride < bytes)
+        return U16550_STRIDE_TOO_SMALL;
+    if (base % bytes != 0)
+        return U16550_MISALIGNED_BASE;
+    return uart_if(base > UINTPTR_MAX - (uintptr_t)last * layout->stride, U16550_BAD_BASE);
+}
+
+int u16550_new_mmio_wide(struct u16550 *uart, uintptr_t base, const struct u16550_layout *layout)
+{
+    struct u16550_io io;
+    int status = uart_check_memory(uart);
+    if (status == U16550_OK)
+        status = uart_check_layout(base, layout, UART_SPR);
+    if (status != U16550_OK)
+        return status;
+    io = uart_io_of_layout(layout);
+    uart_begin(uart);
+    return uart_put(uart, &io, base, layout->stride, NULL);
+}
+
+
+/* --------------------------------------------------------------- UARTs of DesignWare
+ *
+ * What design_ware.rs of the Rust crate does, in the same steps: it has the reasons.
+ */
+
+enum {
+    UART_USR = 31,
+    UART_USR_BUSY = 0x01,
+    /* The low four bits of ISR. */
+    UART_CAUSE = 0x0f,
+    UART_CAUSE_NONE = 0x01,
+    UART_CAUSE_DATA = 0x04,
+    UART_CAUSE_BUSY_DETECT = 0x07,
+    UART_CAUSE_TIMEOUT = 0x0c,
+    /* How often in one read of ISR an interrupt is ended that the driver cannot serve. */
+    UART_MOST_ENDED = 4,
+    /* Some versions do not keep the bit of stick parity. */
+    UART_LCR_STICK_PARITY = 0x20,
+    UART_LINE_ERRORS = U16550_LSR_OVERRUN_ERROR | U16550_LSR_PARITY_ERROR | U16550_LSR_FRAMING_ERROR | U16550_LSR_BREAK_INTERRUPT,
+    UART_FCR_RESETS = U16550_FCR_RX_FIFO_RESET | U16550_FCR_TX_FIFO_RESET
+};
+
+static uint8_t uart_chip_load(struct u16550_design_ware *chip, uint8_t offset)
+{
+    return uart_device_read(&chip->registers, offset);
+}
+
+static void uart_chip_store(struct u16550_design_ware *chip, uint8_t offset, unsigned value)
+{
+    uart_device_write(&chip->registers, offset, (uint8_t)value);
+}
+
+static bool uart_chip_shows_latch(struct u16550_design_ware *chip)
+{
+    return (uart_chip_load(chip, UART_LCR) & U16550_LCR_DLAB) != 0;
+}
+
+/* Reads LSR, and saves the errors that this clears. */
+static uint8_t uart_chip_look(struct u16550_design_ware *chip)
+{
+    uint8_t lsr = uart_chip_load(chip, UART_LSR);
+    chip->cleared |= lsr & UART_LINE_ERRORS;
+    return lsr;
+}
+
+static bool uart_chip_is_busy(struct u16550_design_ware *chip)
+{
+    return (uart_chip_load(chip, UART_USR) & UART_USR_BUSY) != 0;
+}
+
+/* Writes LCR, and returns whether the chip took it. */
+static bool uart_chip_takes(struct u16550_design_ware *chip, uint8_t line)
+{
+    uart_chip_store(chip, UART_LCR, line);
+    return ((uart_chip_load(chip, UART_LCR) ^ line) & ~UART_LCR_STICK_PARITY & 0xff) == 0;
+}
+
+/* Takes received data out of the way, which keep the chip busy. Those that find no room stay. */
+static void uart_chip_make_room(struct u16550_design_ware *chip)
+{
+    if (uart_chip_shows_latch(chip)) {
+        /* Offset 0 is the latch. What is there cannot be read, and must not be lost in silence. */
+        if ((uart_chip_look(chip) & U16550_LSR_DATA_READY) != 0) {
+            chip->cleared |= U16550_LSR_OVERRUN_ERROR;
+            uart_chip_store(chip, UART_FCR, (unsigned)chip->fifo_control | U16550_FCR_RX_FIFO_RESET);
+        }
+        return;
+    }
+    while (chip->count < U16550_DESIGN_WARE_KEPT && (uart_chip_look(chip) & U16550_LSR_DATA_READY) != 0) {
+        struct u16550_received *behind = &chip->kept[(chip->first + chip->count) % U16550_DESIGN_WARE_KEPT];
+        behind->errors = chip->cleared;
+        chip->cleared = 0;
+        behind->byte = uart_chip_load(chip, UART_DATA);
+        chip->count++;
+    }
+}
+
+/* Turns the chip's interrupts off, until LCR was written and taken. While DLAB is set, IER cannot be reached. */
+static void uart_chip_begin_fault(struct u16550_design_ware *chip, uint8_t fault)
+{
+    chip->fault = fault;
+    if (!uart_chip_shows_latch(chip))
+        uart_chip_store(chip, UART_IER, 0);
+}
+
+static bool uart_chip_is_latch_open(const struct u16550_design_ware *chip)
+{
+    return (chip->line & U16550_LCR_DLAB) != 0;
+}
+
+static void uart_chip_write_line(struct u16550_design_ware *chip, uint8_t line)
+{
+    chip->line = line;
+    for (uint64_t looks = 0; looks < chip->patience; looks++) {
+        /* A character may begin after the look at USR, and then the write is ignored. */
+        if (!uart_chip_is_busy(chip) && uart_chip_takes(chip, line)) {
+            if (chip->fault != U16550_OK && !uart_chip_is_latch_open(chip)) {
+                chip->fault = U16550_OK;
+                uart_chip_store(chip, UART_IER, chip->interrupts);
+            }
+            return;
+        }
+        uart_chip_make_room(chip);
+    }
+    uart_chip_begin_fault(chip, U16550_DESIGN_WARE_LINE_CONTROL);
+    /* The last write may have been ignored, which interrupts. */
+    uart_chip_load(chip, UART_USR);
+}
+
+/* Whether the chip has DLAB otherwise than the driver takes it to have, so that offsets 0 and 1 are something else than it means. */
+static bool uart_chip_is_mistaken(struct u16550_design_ware *chip)
+{
+    return chip->fault == U16550_DESIGN_WARE_LINE_CONTROL && uart_chip_shows_latch(chip) != uart_chip_is_latch_open(chip);
+}
+
+static uint8_t uart_chip_read_data(struct u16550_design_ware *chip)
+{
+    struct u16550_received front;
+    if (chip->count == 0)
+        return uart_chip_load(chip, UART_DATA);
+    front = chip->kept[chip->first];
+    chip->first = (uint8_t)((chip->first + 1) % U16550_DESIGN_WARE_KEPT);
+    chip->count--;
+    /* What LSR has not shown of it is shown next. */
+    chip->cleared |= front.errors;
+    return front.byte;
+}
+
+/* Returns LSR for the character that the driver reads next. */
+static uint8_t uart_chip_read_lsr(struct u16550_design_ware *chip)
+{
+    /* The errors are in what was cleared now. */
+    uint8_t lsr = uart_chip_look(chip) & (uint8_t)~UART_LINE_ERRORS, told = chip->cleared;
+    if (uart_chip_is_mistaken(chip)) {
+        /* Neither data nor THR can be reached, so there is none and no room. */
+        lsr &= (uint8_t)~(U16550_LSR_DATA_READY | U16550_LSR_THR_EMPTY | U16550_LSR_TRANSMITTER_EMPTY);
+    }
+    if (chip->count == 0) {
+        chip->cleared = 0;
+        return lsr | told;
+    }
+    /* The chip shows the errors of a character behind those that are kept. An overrun is of none. */
+    chip->cleared &= (uint8_t)~U16550_LSR_OVERRUN_ERROR;
+    told = (uint8_t)((told & U16550_LSR_OVERRUN_ERROR) | chip->kept[chip->first].errors);
+    chip->kept[chip->first].errors = 0;
+    return lsr | U16550_LSR_DATA_READY | told;
+}
+
+static bool uart_chip_is_without_data(struct u16550_design_ware *chip)
+{
+    return chip->count == 0 && !uart_chip_is_mistaken(chip) &&
+        (uart_chip_look(chip) & (U16550_LSR_DATA_READY | U16550_LSR_BREAK_INTERRUPT)) == 0;
+}
+
+/* Returns ISR once it shows what the driver can serve. */
+static uint8_t uart_chip_read_isr(struct u16550_design_ware *chip)
+{
+    uint8_t isr = UART_CAUSE_NONE;
+    for (unsigned ended = 0; ended < UART_MOST_ENDED; ended++) {
+        uint8_t cause;
+        isr = uart_chip_load(chip, UART_ISR);
+        cause = isr & UART_CAUSE;
+        if (cause == UART_CAUSE_BUSY_DETECT)
+            uart_chip_load(chip, UART_USR);
+        else if (cause == UART_CAUSE_TIMEOUT && uart_chip_is_without_data(chip))
+            uart_chip_load(chip, UART_DATA);
+        else if (cause == UART_CAUSE_NONE && chip->count > 0 && (chip->interrupts & U16550_IER_DATA_READY) != 0)
+            /* Nothing is pending in the chip for data that are kept here. */
+            return (uint8_t)((isr & ~UART_CAUSE) | UART_CAUSE_DATA);
+        else
+            return isr;
+    }
+    uart_chip_begin_fault(chip, U16550_DESIGN_WARE_INTERRUPT);
+    return (uint8_t)((isr & ~UART_CAUSE) | UART_CAUSE_NONE);
+}
+
+static void uart_chip_write_fifo_control(struct u16550_design_ware *chip, uint8_t control)
+{
+    /* What empties the chip's receiver empties this one: a reset, and a change of the FIFOs' switch. */
+    bool is_switched = ((control ^ chip->fifo_control) & U16550_FCR_FIFO_ENABLE) != 0;
+    if (is_switched || (control & U16550_FCR_RX_FIFO_RESET) != 0)
+        chip->count = 0;
+    chip->fifo_control = control & (uint8_t)~UART_FCR_RESETS;
+    uart_chip_store(chip, UART_FCR, control);
+}
+
+/* The functions by which a driver reaches a chip in its context. */
+static uint8_t uart_chip_read(void *context, uintptr_t offset)
+{
+    struct u16550_design_ware *chip = (struct u16550_design_ware *)context;
+    if (offset <= UART_IER && uart_chip_is_mistaken(chip))
+        return 0;
+    if (offset <= UART_IER && uart_chip_is_latch_open(chip))
+        return uart_chip_load(chip, (uint8_t)offset);
+    switch (offset) {
+    case UART_DATA:
+        return uart_chip_read_data(chip);
+    case UART_LSR:
+        return uart_chip_read_lsr(chip);
+    case UART_ISR:
+        return uart_chip_read_isr(chip);
+    default:
+        return uart_chip_load(chip, (uint8_t)offset);
+    }
+}
+
+static void uart_chip_write(void *context, uintptr_t offset, uint8_t value)
+{
+    struct u16550_design_ware *chip = (struct u16550_design_ware *)context;
+    if (offset == UART_IER && !uart_chip_is_latch_open(chip)) {
+        chip->interrupts = value;
+        if (chip->fault == U16550_OK)
+            uart_chip_store(chip, UART_IER, value);
+    } else if (offset <= UART_IER && uart_chip_is_mistaken(chip)) {
+        return;
+    } else if (offset == UART_FCR) {
+        uart_chip_write_fifo_control(chip, value);
+    } else if (offset == UART_LCR) {
+        uart_chip_write_line(chip, value);
+    } else {
+        uart_chip_store(chip, (uint8_t)offset, value);
+    }
+}
+
+/* Makes a driver over a chip in its own memory, over these registers, unless they are refused. */
+static int uart_make_chip(struct u16550 *uart, struct u16550_design_ware *chip, const struct u16550_io *io, uintptr_t base, uint8_t stride,
+                          int refused, uint64_t patience)
+{
+    struct u16550_io functions = { chip, uart_chip_read, uart_chip_write };
+    int status = uart_check_memory(uart);
+    if (status == U16550_OK)
+        status = UART_USABLE(chip, chip);
+    if (status == U16550_OK && patience == 0)
+        status = U16550_ZERO_LIMIT;
+    if (status == U16550_OK)
+        status = refused;
+    if (status != U16550_OK)
+        return status;
+    /* The driver that was there may have this chip: no handler is to use it from now on. */
+    uart_begin(uart);
+    chip->registers.io = *io;
+    chip->registers.base = base;
+    chip->registers.stride = stride;
+    chip->patience = patience;
+    chip->first = chip->count = chip->cleared = chip->line = chip->interrupts = chip->fifo_control = 0;
+    chip->fault = U16550_OK;
+    return uart_put(uart, &functions, 0, 1, NULL);
+}
+
+int u16550_new_design_ware(struct u16550 *uart, struct u16550_design_ware *chip, const struct u16550_io *io, uint64_t patience)
+{
+    return uart_make_chip(uart, chip, io, 0, 1, uart_check_io(io), patience);
+}
+
+int u16550_new_mmio_design_ware(struct u16550 *uart, struct u16550_design_ware *chip, uintptr_t base, const struct u16550_layout *layout,
+                                uint64_t patience)
+{
+    struct u16550_io io = { NULL, NULL, NULL };
+    uint8_t stride = 0;
+    int refused = uart_check_layout(base, layout, UART_USR);
+    if (refused == U16550_OK) {
+        io = uart_io_of_layout(layout);
+        stride = layout->stride;
+    }
+    return uart_make_chip(uart, chip, &io, base, stride, refused, patience);
+}
+
+int u16550_design_ware_fault(struct u16550 *uart, struct u16550_design_ware *chip)
+{
+    int status = UART_USABLE(chip, chip);
+    if (status == U16550_OK)
+        status = uart_enter(uart);
+    if (status != U16550_OK)
+        return status;
+    if (uart->ring.uart.backend.io.context != (void *)chip)
+        return uart_leave(uart, U16550_NOT_MADE);
+    return uart_leave(uart, chip->fault);
+}
+
+
 int u16550_get_config(struct u16550 *uart, struct u16550_config *config)
 {
     struct u16550_config found;
@@ -5536,19 +6225,13 @@ int u16550_get_config(struct u16550 *uart, struct u16550_config *config)
 
 int u16550_get_state(struct u16550 *uart, struct u16550_state *state)
 {
-    struct uart_driver_state state_of;
     struct u16550_state found;
     int status = UART_USABLE(state, state);
     if (status == U16550_OK)
         status = uart_enter(uart);
     if (status != U16550_OK)
         return status;
-    state_of = uart_state(&uart->ring.uart);
-    found.spin_limit = state_of.spin_limit;
-    uart_encode_config(&state_of.config, &found.config);
-    found.fifo_enabled = state_of.fifo_enabled;
-    found.saved_lsr = state_of.saved_lsr;
-    found.saved_msr = state_of.saved_msr;
+    uart_encode_state(uart_state(&uart->ring.uart), &found);
     uart_leave(uart, U16550_OK);
     *state = found;
     return U16550_OK;
@@ -5611,14 +6294,15 @@ int u16550_check_present(struct u16550 *uart, uint8_t *present)
 int u16550_init(struct u16550 *uart, const struct u16550_config *config)
 {
     struct u16550_core_config decoded;
+    struct uart_init_error error;
     int status = uart_enter(uart);
     if (status != U16550_OK)
         return status;
     status = uart_decode_computable(config, &decoded);
     if (status != U16550_OK)
         return uart_leave(uart, status);
-    status = uart_status_of_init(uart_init(&uart->ring.uart, decoded));
-    return uart_leave(uart, status);
+    error = uart_init(&uart->ring.uart, decoded);
+    return uart_leave(uart, uart_status_of_init_error(&error));
 }
 
 int u16550_init_with(struct u16550 *uart, const struct u16550_config *config,
@@ -5626,6 +6310,7 @@ int u16550_init_with(struct u16550 *uart, const struct u16550_config *config,
 {
     struct u16550_core_config decoded;
     struct uart_setup setup_of;
+    struct uart_init_error error;
     int status = uart_enter(uart);
     if (status != U16550_OK)
         return status;
@@ -5634,61 +6319,71 @@ int u16550_init_with(struct u16550 *uart, const struct u16550_config *config,
         status = uart_decode_setup(setup, &setup_of);
     if (status != U16550_OK)
         return uart_leave(uart, status);
-    status = uart_status_of_init(uart_init_with(&uart->ring.uart, decoded, &setup_of));
-    return uart_leave(uart, status);
+    error = uart_init_with(&uart->ring.uart, decoded, &setup_of);
+    return uart_leave(uart, uart_status_of_init_error(&error));
+}
+
+int u16550_check_connected(struct u16550 *uart)
+{
+    enum uart_remote_ready_to_receive_error error;
+    int status = uart_enter(uart);
+    if (status != U16550_OK)
+        return status;
+    error = uart_check_connected(&uart->ring.uart);
+    return uart_leave(uart, uart_status_of_remote_ready_to_receive_error(&error));
 }
 
 int u16550_set_frame(struct u16550 *uart, const struct u16550_config *config)
 {
     struct u16550_core_config decoded;
+    struct uart_invalid_divisor_error error;
     int status = uart_enter(uart);
     if (status != U16550_OK)
         return status;
     status = uart_decode_computable(config, &decoded);
     if (status != U16550_OK)
         return uart_leave(uart, status);
-    status = uart_status_of_frame(uart_set_frame(&uart->ring.uart, &decoded));
-    return uart_leave(uart, status);
+    error = uart_set_frame(&uart->ring.uart, &decoded);
+    return uart_leave(uart, uart_status_of_invalid_divisor_error(&error));
 }
 
 int u16550_set_frame_when_idle(struct u16550 *uart, const struct u16550_config *config)
 {
     struct u16550_core_config decoded;
+    struct uart_frame_error error;
     int status = uart_enter(uart);
     if (status != U16550_OK)
         return status;
     status = uart_decode_computable(config, &decoded);
     if (status != U16550_OK)
         return uart_leave(uart, status);
-    status = uart_status_of_frame_when_idle(uart_set_frame_when_idle(&uart->ring.uart, &decoded));
-    return uart_leave(uart, status);
+    error = uart_set_frame_when_idle(&uart->ring.uart, &decoded);
+    return uart_leave(uart, uart_status_of_frame_error(&error));
 }
 
 int u16550_set_trigger_level(struct u16550 *uart, uint8_t characters)
 {
-    struct u16550_core_maybe_fifo_trigger_level level;
+    enum u16550_core_fifo_trigger_level level;
     int status = uart_enter(uart);
     if (status != U16550_OK)
         return status;
-    status = uart_decode_level(characters, &level);
-    if (status == U16550_OK)
-        status = uart_unless(level.is_some, U16550_BAD_CODE);
+    status = uart_decode_fifo_trigger_level(characters, &level);
     if (status != U16550_OK)
         return uart_leave(uart, status);
-    status = uart_unless(uart_set_trigger_level(&uart->ring.uart, level.value), U16550_FIFOS_OFF);
+    status = uart_unless(uart_set_trigger_level(&uart->ring.uart, level), U16550_FIFOS_OFF);
     return uart_leave(uart, status);
 }
 
 int u16550_quiesce(struct u16550 *uart, uint8_t outputs, uint8_t fifos)
 {
+    enum uart_fifo_action action;
     int status = uart_enter(uart);
     if (status != U16550_OK)
         return status;
-    status = uart_unless(fifos <= U16550_FIFOS_DISABLE, U16550_BAD_CODE);
+    status = uart_decode_fifo_action(fifos, &action);
     if (status != U16550_OK)
         return uart_leave(uart, status);
-    uart_quiesce(&uart->ring.uart, outputs, fifos == U16550_FIFOS_KEEP ? UART_FIFO_ACTION_KEEP :
-        fifos == U16550_FIFOS_RESET ? UART_FIFO_ACTION_RESET : UART_FIFO_ACTION_DISABLE);
+    uart_quiesce(&uart->ring.uart, outputs, action);
     return uart_leave(uart, U16550_OK);
 }
 
@@ -5702,6 +6397,21 @@ int u16550_restore(struct u16550 *uart, const struct u16550_dump *dump)
         return uart_leave(uart, status);
     uart_restore(&uart->ring.uart, dump);
     return uart_leave(uart, U16550_OK);
+}
+
+int u16550_attach(struct u16550 *uart, uint8_t *dll, uint8_t *dlm)
+{
+    struct uart_pair_of_u8_or_attach_error found;
+    int status = dll == NULL || dlm == NULL ? U16550_NULL_POINTER : uart_enter(uart);
+    if (status != U16550_OK)
+        return status;
+    found = uart_attach(&uart->ring.uart);
+    status = uart_leave(uart, uart_status_of_attach_error(&found.error));
+    if (status == U16550_OK) {
+        *dll = found.value.first;
+        *dlm = found.value.second;
+    }
+    return status;
 }
 
 int u16550_set_modem_control(struct u16550 *uart, uint8_t outputs)
@@ -5749,15 +6459,6 @@ int u16550_set_break(struct u16550 *uart, uint8_t on)
     return uart_leave(uart, U16550_OK);
 }
 
-int u16550_check_connected(struct u16550 *uart)
-{
-    int status = uart_enter(uart);
-    if (status != U16550_OK)
-        return status;
-    status = uart_status_of_remote(uart_check_connected(&uart->ring.uart));
-    return uart_leave(uart, status);
-}
-
 int u16550_ready_to_receive(struct u16550 *uart)
 {
     int status = uart_enter(uart);
@@ -5769,11 +6470,12 @@ int u16550_ready_to_receive(struct u16550 *uart)
 
 int u16550_ready_to_send(struct u16550 *uart)
 {
+    enum uart_byte_send_error error;
     int status = uart_enter(uart);
     if (status != U16550_OK)
         return status;
-    status = uart_status_of_send(uart_ready_to_send(&uart->ring.uart));
-    return uart_leave(uart, status);
+    error = uart_ready_to_send(&uart->ring.uart);
+    return uart_leave(uart, uart_status_of_byte_send_error(&error));
 }
 
 int u16550_try_receive_byte(struct u16550 *uart, uint8_t *byte)
@@ -5793,11 +6495,12 @@ int u16550_try_receive_byte(struct u16550 *uart, uint8_t *byte)
 
 int u16550_try_send_byte(struct u16550 *uart, uint8_t byte)
 {
+    enum uart_byte_send_error error;
     int status = uart_enter(uart);
     if (status != U16550_OK)
         return status;
-    status = uart_status_of_send(uart_try_send_byte(&uart->ring.uart, byte));
-    return uart_leave(uart, status);
+    error = uart_try_send_byte(&uart->ring.uart, byte);
+    return uart_leave(uart, uart_status_of_byte_send_error(&error));
 }
 
 int u16550_receive_bytes(struct u16550 *uart, uint8_t *buffer, size_t len, size_t *count)
@@ -5844,7 +6547,7 @@ int u16550_send_burst(struct u16550 *uart, const uint8_t *buffer, size_t len, ui
         status = uart_enter(uart);
     if (status != U16550_OK)
         return status;
-    status = uart_decode_size(fifo_size, &size);
+    status = uart_decode_fifo_size(fifo_size, &size);
     if (status == U16550_OK)
         status = uart_array(buffer, len, 1, 1);
     if (status != U16550_OK)
@@ -6125,6 +6828,21 @@ int u16550_spr(struct u16550 *uart, uint8_t *value)
     return U16550_OK;
 }
 
+int u16550_dll_dlm(struct u16550 *uart, uint8_t *dll, uint8_t *dlm)
+{
+    struct uart_pair_of_u8 found;
+    int status = dll == NULL || dlm == NULL ? U16550_NULL_POINTER : uart_enter(uart);
+    if (status != U16550_OK)
+        return status;
+    found = uart_dll_dlm(&uart->ring.uart);
+    status = uart_leave(uart, U16550_OK);
+    if (status == U16550_OK) {
+        *dll = found.first;
+        *dlm = found.second;
+    }
+    return status;
+}
+
 int u16550_peek_modem(struct u16550 *uart, uint8_t *msr)
 {
     uint8_t found;
@@ -6383,13 +7101,10 @@ int u16550_ring_take(struct u16550 *uart, uint8_t *buffer, size_t len, size_t *c
 
 int u16550_ring_adjust_rts(struct u16550 *uart, size_t hold, size_t release)
 {
-    struct uart_receive_marks marks;
     int status = uart_enter_rings(uart);
     if (status != U16550_OK)
         return status;
-    marks.hold = hold;
-    marks.release = release;
-    uart_ring_adjust_rts(&uart->ring, marks);
+    uart_ring_adjust_rts(&uart->ring, uart_marks(hold, release));
     return uart_leave(uart, U16550_OK);
 }
 
@@ -6419,16 +7134,16 @@ int u16550_ring_handle(struct u16550 *uart, size_t limit, struct u16550_handled 
 int u16550_ring_try_handle(struct u16550 *uart, size_t limit, uint32_t rounds,
     struct u16550_handled *handled)
 {
-    struct uart_handled_or_stuck_error outcome;
+    struct uart_handled_or_stuck_error found;
     int status = UART_USABLE(handled, handled);
     if (status == U16550_OK)
         status = uart_enter_rings(uart);
     if (status != U16550_OK)
         return status;
-    outcome = uart_ring_try_handle(&uart->ring, limit, rounds);
-    status = uart_leave(uart, uart_status_of_stuck(outcome.error));
+    found = uart_ring_try_handle(&uart->ring, limit, rounds);
+    status = uart_leave(uart, uart_status_of_stuck_error(&found.error));
     if (status == U16550_OK)
-        *handled = uart_encode_handled(outcome.value);
+        *handled = uart_encode_handled(found.value);
     return status;
 }
 
@@ -6506,176 +7221,119 @@ int u16550_ring_config_register_dump(struct u16550 *uart, struct u16550_dump *du
     return U16550_OK;
 }
 
-int u16550_test_loopback(struct u16550 *uart, struct u16550_loopback_failure *failure)
-{
-    struct uart_loopback_error error;
-    int status = uart_enter(uart);
-    if (status != U16550_OK)
-        return status;
-    error = uart_test_loopback(&uart->ring.uart);
-    status = uart_status_of_loopback(&error);
-    if (status != U16550_OK && failure != NULL)
-        uart_encode_failure(&error, failure);
-    return uart_leave(uart, status);
-}
-
-int u16550_check_configured(struct u16550 *uart, uint8_t outputs,
-    struct u16550_difference *difference)
-{
-    struct uart_configuration_error error;
-    struct u16550_difference shown;
-    int status = uart_enter(uart);
-    if (status != U16550_OK)
-        return status;
-    status = UART_ALIGNED(difference, difference);
-    if (status != U16550_OK)
-        return uart_leave(uart, status);
-    error = uart_check_configured(&uart->ring.uart, outputs);
-    status = uart_encode_difference(&error, &shown);
-    if (status != U16550_OK && difference != NULL)
-        *difference = shown;
-    return uart_leave(uart, status);
-}
-
-int u16550_dll_dlm(struct u16550 *uart, uint8_t *dll, uint8_t *dlm)
-{
-    struct uart_pair_of_u8 latch;
-    int status = dll == NULL || dlm == NULL ? U16550_NULL_POINTER : uart_enter(uart);
-    if (status != U16550_OK)
-        return status;
-    latch = uart_dll_dlm(&uart->ring.uart);
-    status = uart_leave(uart, U16550_OK);
-    if (status == U16550_OK) {
-        *dll = latch.first;
-        *dlm = latch.second;
-    }
-    return status;
-}
-
-int u16550_attach(struct u16550 *uart, uint8_t *dll, uint8_t *dlm)
-{
-    struct uart_pair_of_u8_or_attach_error taken;
-    int status = dll == NULL || dlm == NULL ? U16550_NULL_POINTER : uart_enter(uart);
-    if (status != U16550_OK)
-        return status;
-    taken = uart_attach(&uart->ring.uart);
-    status = uart_leave(uart, uart_status_of_attach(taken.error));
-    if (status == U16550_OK) {
-        *dll = taken.value.first;
-        *dlm = taken.value.second;
-    }
-    return status;
-}
-
 const char *u16550_text(int status)
 {
     switch (status) {
-    case 0:
+    case U16550_OK:
         return "no error";
-    case -1:
+    case U16550_NULL_POINTER:
         return "a pointer is null";
-    case -2:
+    case U16550_MISALIGNED:
         return "a pointer is not aligned";
-    case -3:
+    case U16550_NOT_MADE:
         return "there is no driver in this memory";
-    case -4:
+    case U16550_BUSY:
         return "another call over this driver is not done";
-    case -5:
+    case U16550_BAD_LENGTH:
         return "a length is larger than any array";
-    case -6:
+    case U16550_BAD_CODE:
         return "a number stands for nothing";
-    case -7:
+    case U16550_NOT_COMPUTABLE:
         return "no divisor can be computed for the configuration";
-    case -8:
+    case U16550_ZERO_LIMIT:
         return "the spin limit is 0";
-    case -9:
+    case U16550_NOT_UTF8:
         return "the text is not UTF-8";
-    case -10:
+    case U16550_NO_RINGS:
         return "the driver has no rings";
-    case -11:
+    case U16550_HAS_RINGS:
         return "the driver has rings already";
-    case 10:
+    case U16550_BAD_BASE:
         return "the registers do not fit behind the base address";
-    case 11:
+    case U16550_BAD_STRIDE:
         return "the stride is not a power of two";
-    case 12:
+    case U16550_BAD_WIDTH:
         return "a register has 8, 16 or 32 bits";
-    case 13:
+    case U16550_STRIDE_TOO_SMALL:
         return "the registers overlap: the stride is less than their width";
-    case 14:
+    case U16550_MISALIGNED_BASE:
         return "the base address is not aligned for the registers";
-    case 20:
+    case U16550_INIT_DEVICE_NOT_PRESENT:
         return "there is no device";
-    case 21:
+    case U16550_INIT_NON_INTEGER_DIVISOR:
         return "no whole divisor gives the baud rate";
-    case 22:
+    case U16550_INIT_DIVISOR_OUT_OF_RANGE:
         return "the divisor for the baud rate does not fit";
-    case 23:
+    case U16550_INIT_STALLED:
         return "the transmitter did not become empty";
-    case 30:
+    case U16550_LOOPBACK_NO_CAPACITY:
         return "loopback: the device took no byte";
-    case 31:
+    case U16550_LOOPBACK_NOT_CLEAR_TO_SEND:
         return "loopback: the remote is not clear to send";
-    case 32:
+    case U16550_LOOPBACK_UNEXPECTED_BYTE:
         return "loopback: another byte came back";
-    case 33:
+    case U16550_LOOPBACK_UNEXPECTED_MSG:
         return "loopback: another message came back";
-    case 34:
+    case U16550_LOOPBACK_STALLED:
         return "loopback: the device did not respond in time";
-    case 40:
+    case U16550_REMOTE_NO_DSR:
         return "no remote is connected: DSR is clear";
-    case 41:
+    case U16550_REMOTE_NO_CD:
         return "no remote is connected: CD is clear";
-    case 42:
+    case U16550_REMOTE_NOT_CLEAR_TO_SEND:
         return "the remote is not clear to send";
-    case 50:
+    case U16550_SEND_NO_CAPACITY:
         return "the transmitter has no room";
-    case 51:
+    case U16550_SEND_NOT_CLEAR_TO_SEND:
         return "nothing is sent, because CTS is clear";
-    case 60:
+    case U16550_RECEIVE_NO_DATA:
         return "no byte was received";
-    case 70:
+    case U16550_STALLED:
         return "a wait came to the spin limit";
-    case 80:
+    case U16550_NON_INTEGER_BAUD_RATE:
         return "the divisor gives no whole baud rate";
-    case 90:
+    case U16550_RING_BAD_CAPACITY:
         return "a ring has room for 1 to 4096 bytes";
-    case 91:
+    case U16550_RING_OUT_OF_MEMORY:
         return "the memory is too small for the rings";
-    case 92:
+    case U16550_RING_STUCK_UNKNOWN:
         return "the chip shows an unknown interrupt for ever";
-    case 93:
+    case U16550_RING_STUCK_PENDING:
         return "an interrupt does not go away";
-    case 100:
+    case U16550_FRAME_NON_INTEGER_DIVISOR:
         return "frame: no whole divisor gives the baud rate";
-    case 101:
+    case U16550_FRAME_DIVISOR_OUT_OF_RANGE:
         return "frame: the divisor for the baud rate does not fit";
-    case 102:
+    case U16550_FRAME_STALLED:
         return "frame: the transmitter did not become empty";
-    case 110:
+    case U16550_NEAREST_TOO_FAR:
         return "the nearest divisor is not near enough";
-    case 111:
+    case U16550_NEAREST_OUT_OF_RANGE:
         return "the nearest divisor does not fit";
-    case 120:
+    case U16550_ATTACH_DIVISOR_LATCH_OPEN:
         return "attach: the divisor latch was left open";
-    case 121:
+    case U16550_ATTACH_LOOPBACK:
         return "attach: the chip was left in loopback";
-    case 122:
+    case U16550_ATTACH_NO_DIVISOR:
         return "attach: the port has no divisor";
-    case 130:
+    case U16550_FIFOS_OFF:
         return "the FIFOs are off";
-    case 140:
+    case U16550_CONFIGURATION_NO_DIVISOR:
         return "configured: there is no divisor for the baud rate";
-    case 141:
+    case U16550_CONFIGURATION_LINE_CONTROL:
         return "configured: LCR does not show what was written";
-    case 142:
+    case U16550_CONFIGURATION_MODEM_CONTROL:
         return "configured: MCR does not show what was written";
-    case 143:
+    case U16550_CONFIGURATION_INTERRUPTS:
         return "configured: IER does not show what was written";
-    case 144:
+    case U16550_CONFIGURATION_DIVISOR:
         return "configured: the divisor latch has another divisor";
-    case 145:
+    case U16550_CONFIGURATION_FIFOS:
         return "configured: the FIFOs are not as the driver takes them to be";
+    case U16550_DESIGN_WARE_LINE_CONTROL:
+        return "the UART stayed busy, and ignored LCR";
+    case U16550_DESIGN_WARE_INTERRUPT:
+        return "an interrupt of the UART does not end";
     default:
         return "no known status";
     }

@@ -1,12 +1,13 @@
 /*
  * u16550.h - a driver for serial chips of the 16550 family, for kernels and firmware.
  *
- * Made by tools/c/emit from the code that is proved, and from the header of the library that is made of Rust. Do not edit.
+ * Made by tools/c/emit from the code that is proved, and from the table of the interface. Do not edit.
  *
  * This is u16550.c and u16550.h alone: C99 that needs stddef.h, stdint.h and stdbool.h, and nothing else. It allocates nothing, has
  * no variables and calls no function but those that it is given. Compile u16550.c as the rest of the program is compiled.
  *
- * The device is reached by two functions of the caller, and the driver is in memory of the caller.
+ * The device is reached by two functions of the caller, or by the library itself if it is in memory. The driver is in memory of the
+ * caller.
  *
  * 'Proved' says which accesses a call makes and what it leaves, for every device, in the words of the definitions. It is proved of the
  * code that this is made from, which the C is compared with.
@@ -22,15 +23,17 @@
 #ifndef U16550_H
 #define U16550_H
 
-/* A kernel without these headers defines U16550_HAS_TYPES, and has bool, size_t, offsetof, uintptr_t and uint8_t to uint64_t with
- * their limits itself. */
+/*
+ * A kernel without these headers defines U16550_HAS_TYPES, and has bool, size_t, offsetof, uintptr_t and uint8_t to uint64_t with
+ * their limits itself.
+ */
 #ifndef U16550_HAS_TYPES
 #include <stdbool.h>
 #include <stddef.h>
 #include <stdint.h>
 #endif
 
-/* The library that is made of Rust has a calling convention. This one has that of the program, whatever it is. */
+/* Nothing here. The library that is made of Rust has a calling convention, and programs over both have this in front of their functions. */
 #ifndef U16550_CALL
 #define U16550_CALL
 #endif
@@ -38,6 +41,10 @@
 #if defined(__cplusplus)
 extern "C" {
 #endif
+
+/* The version of this header. u16550_version returns that of the library. */
+#define U16550_VERSION "0.9.0"
+#define U16550_VERSION_NUMBER 900
 
 enum u16550_status { U16550_OK = 0 };
 
@@ -145,22 +152,35 @@ enum u16550_configuration_error {
     U16550_CONFIGURATION_FIFOS = 145 /* ISR shows otherwise than u16550_fifo_enabled whether they are on */
 };
 
-/* Returns a text for what a function returned, for a log. Never null. */
-const char *u16550_text(int status);
-
-/* --------------------------------------------------------------- the device and the memory of a driver */
+/* What a DesignWare UART did that could not be mended. */
+enum u16550_design_ware_fault {
+    U16550_DESIGN_WARE_LINE_CONTROL = 150, /* it was busy for longer than the patience, and LCR does not have what was written */
+    U16550_DESIGN_WARE_INTERRUPT = 151 /* busy detect, or a reception timeout without data, does not end */
+};
 
 /*
  * How the device is reached. The functions get the context and an address: the offset of a register, 0 to 7, or after
  * u16550_new_port a port, or after u16550_new_mmio an address of memory. They must return, and must not throw. If one of
  * them calls a function over the same driver, that function returns U16550_BUSY.
  */
-struct u16550;
-
 struct u16550_io {
     void *context;
     uint8_t (*read)(void *context, uintptr_t address);
     void (*write)(void *context, uintptr_t address, uint8_t value);
+};
+
+/* Which byte of a register of several bytes is the first in memory. The chip's eight bits are in the lowest byte. */
+enum u16550_byte_order {
+    U16550_NATIVE_ENDIAN = 0,     /* that of the processor: no byte is moved */
+    U16550_LITTLE_ENDIAN = 1,     /* the lowest */
+    U16550_BIG_ENDIAN = 2         /* the highest */
+};
+
+/* How the registers of a device lie in memory, from the first one on. */
+struct u16550_layout {
+    uint8_t stride;                     /* the distance between two registers in bytes: a power of two, and at least the width */
+    uint8_t width;                      /* how many bits each access has: 8, 16 or 32 */
+    uint8_t byte_order;                 /* an enum u16550_byte_order; it means nothing if the width is 8 */
 };
 
 enum u16550_parity {
@@ -227,7 +247,9 @@ struct u16550_loopback_failure {
 };
 
 /* What was expected of a register, and what it shows. For FIFOs 1 says that they are on. */
-struct u16550_difference { uint16_t expected, shown; };
+struct u16550_difference {
+    uint16_t expected, shown;
+};
 
 /*
  * A received byte, and the line errors that LSR showed with it. Parity, framing and break are of this byte. An overrun tells that
@@ -269,6 +291,44 @@ struct u16550_urgent {
 struct u16550_stuck {
     uint8_t is_stuck;
     uint8_t isr;                        /* bits 3 to 0 of ISR, which showed why; 0 if it is not stuck */
+};
+
+/* Bits of registers. */
+enum u16550_ier_bits {
+    U16550_IER_DATA_READY = 0x01,
+    U16550_IER_THR_EMPTY = 0x02,
+    U16550_IER_RECEIVER_LINE_STATUS = 0x04,
+    U16550_IER_MODEM_STATUS = 0x08
+};
+
+enum u16550_mcr_bits {
+    U16550_MCR_DTR = 0x01,
+    U16550_MCR_RTS = 0x02,
+    U16550_MCR_OUT_1 = 0x04,
+    U16550_MCR_OUT_2_INT_ENABLE = 0x08, /* on a PC the interrupt line is connected only with this */
+    U16550_MCR_LOOP_BACK = 0x10
+};
+
+enum u16550_lsr_bits {
+    U16550_LSR_DATA_READY = 0x01,
+    U16550_LSR_OVERRUN_ERROR = 0x02,
+    U16550_LSR_PARITY_ERROR = 0x04,
+    U16550_LSR_FRAMING_ERROR = 0x08,
+    U16550_LSR_BREAK_INTERRUPT = 0x10,
+    U16550_LSR_THR_EMPTY = 0x20,
+    U16550_LSR_TRANSMITTER_EMPTY = 0x40,
+    U16550_LSR_FIFO_DATA_ERROR = 0x80
+};
+
+enum u16550_msr_bits {
+    U16550_MSR_DELTA_CTS = 0x01,
+    U16550_MSR_DELTA_DSR = 0x02,
+    U16550_MSR_TRAILING_EDGE_RI = 0x04,
+    U16550_MSR_DELTA_CD = 0x08,
+    U16550_MSR_CTS = 0x10,
+    U16550_MSR_DSR = 0x20,
+    U16550_MSR_RI = 0x40,
+    U16550_MSR_CD = 0x80
 };
 
 /* What a driver keeps of its device: its functions, the first address, and how far apart the registers are. */
@@ -464,8 +524,8 @@ struct u16550_core_ring {
 };
 
 /*
- * The memory of a driver. What is in it is the library's: it is here so that a C compiler knows how much it is. It may be copied
- * to another place between two calls, if only one of the copies is used from then on. One thread at a time may use a driver;
+ * The memory of a driver. What is in it is the library's: it is here so that a C compiler knows how much it is. Leave it alone. It may be
+ * copied to another place between two calls, if only one of the copies is used from then on. One thread at a time may use a driver;
  * different drivers are independent.
  *
  * Set it to zero before a first driver is made in it, unless it is static, and so zero from the start. What was left in it
@@ -477,6 +537,25 @@ struct u16550 {
     bool has_rings;
     struct u16550_core_ring ring;
 };
+
+/* How many received characters a DesignWare UART keeps while LCR is written. */
+#define U16550_DESIGN_WARE_KEPT 64
+
+/* The memory of a DesignWare UART: what the library keeps of it. It stays where it is as long as the driver is used. */
+struct u16550_design_ware {
+    struct u16550_device registers;
+    uint64_t patience;
+    struct u16550_received kept[U16550_DESIGN_WARE_KEPT];
+    uint8_t first, count, cleared, line, interrupts, fifo_control, fault;
+};
+
+/* --------------------------------------------------------------- numbers and the version as texts */
+
+/* Returns a text for what a function returned, for a log. Never null. */
+const char *u16550_text(int status);
+
+/* Returns the version of the library, as U16550_VERSION was when it was compiled. Never null. */
+const char *u16550_version(void);
 
 /* --------------------------------------------------------------- making a driver
  *
@@ -496,6 +575,34 @@ int u16550_new_port(struct u16550 *uart, const struct u16550_io *io, uint16_t ba
  * is no power of two, else by U16550_BAD_BASE if base is 0 or base + 7 * stride is too large.
  */
 int u16550_new_mmio(struct u16550 *uart, const struct u16550_io *io, uintptr_t base, uint8_t stride);
+
+/*
+ * A driver for registers in memory that the library accesses itself, by functions of its own, which u16550_get_io returns.
+ * Each access is one load or store of the width of the layout, in order: with a barrier before and behind it on architectures that need
+ * one. A read gives the lowest eight bits of a register, and a write sets the others to 0. Refused by U16550_BAD_WIDTH, by
+ * U16550_BAD_CODE if the byte order is none, else as u16550_new_mmio, else by U16550_STRIDE_TOO_SMALL or U16550_MISALIGNED_BASE.
+ */
+int u16550_new_mmio_wide(struct u16550 *uart, uintptr_t base, const struct u16550_layout *layout);
+
+/*
+ * A driver for a UART of Synopsys' DesignWare, as Rockchip, Allwinner, StarFive, Intel and others have it. Such a chip ignores a write of
+ * LCR while it is busy, and interrupts for that and for reception timeouts without data. Here each write of LCR waits until the chip is not
+ * busy, is read back, and loses none of what is received meanwhile, up to 64 characters; and these interrupts are ended. patience is how
+ * many looks in a row a write of LCR waits; 0 is refused by U16550_ZERO_LIMIT.
+ *
+ * The functions get the offset of a register, 0 to 7, or 31 for the register USR. With mmio there are none, and the registers lie in
+ * memory as for u16550_new_mmio_wide. Each driver has its own chip, which is in no other use as long as the driver is used.
+ */
+int u16550_new_design_ware(struct u16550 *uart, struct u16550_design_ware *chip, const struct u16550_io *io, uint64_t patience);
+int u16550_new_mmio_design_ware(struct u16550 *uart, struct u16550_design_ware *chip, uintptr_t base,
+                                const struct u16550_layout *layout, uint64_t patience);
+
+/*
+ * What went wrong since the last write of LCR that the chip took, as an enum u16550_design_ware_fault, or U16550_OK. After a fault the
+ * chip's interrupts are off, whatever is written to IER. The calls return no error for it: u16550_check_configured does. Makes no access.
+ * U16550_NOT_MADE if the driver has another chip.
+ */
+int u16550_design_ware_fault(struct u16550 *uart, struct u16550_design_ware *chip);
 
 /* A driver in this state, whose functions get offsets. */
 int u16550_from_state(struct u16550 *uart, const struct u16550_io *io, const struct u16550_state *state);
@@ -649,6 +756,21 @@ int u16550_restore(struct u16550 *uart, const struct u16550_dump *dump);
  * to the one that the error is about, and the driver stays as it was.
  */
 int u16550_attach(struct u16550 *uart, uint8_t *dll, uint8_t *dlm);
+
+/*
+ * For last words, in a panic. The call that the panic came into is never done, and every function over its driver returns
+ * U16550_BUSY from then on. So make a driver for the same device in other memory, by u16550_new, u16550_new_port or
+ * u16550_new_mmio, give it a spin limit, and call this over it. It takes the device over, whatever state that is in, so that text
+ * goes out: it clears DLAB and the break, writes 0 to IER, and clears loopback and flow control in MCR, with DTR and RTS set. FIFOs,
+ * baud rate and frame stay as they are. If the panic may have come into u16550_init or u16550_set_frame, call u16550_flush and
+ * u16550_set_frame next. Then send: one byte at a time goes out, and each wait ends after the spin limit.
+ *
+ * Whoever accessed the device before must not go on: mask the interrupts, and stop the other processors before.
+ *
+ * Returns U16550_ATTACH_DIVISOR_LATCH_OPEN if DLAB or the break stays set after as many writes as the spin limit, as where no
+ * device is, and U16550_ATTACH_LOOPBACK if the chip stays in loopback. Refused by U16550_HAS_RINGS if the driver has rings.
+ */
+int u16550_emergency(struct u16550 *uart);
 
 /* --------------------------------------------------------------- outputs
  *
@@ -833,41 +955,6 @@ int u16550_config_register_dump(struct u16550 *uart, struct u16550_dump *dump);
 /* The divisor of a dump, and the baud rate that it gives with the frequency and the prescaler of a configuration. */
 int u16550_dump_divisor(const struct u16550_dump *dump, uint16_t *divisor);
 int u16550_dump_baud_rate(const struct u16550_dump *dump, const struct u16550_config *config, uint32_t *baud_rate);
-
-/* Bits of registers. */
-enum u16550_ier_bits {
-    U16550_IER_DATA_READY = 0x01,
-    U16550_IER_THR_EMPTY = 0x02,
-    U16550_IER_RECEIVER_LINE_STATUS = 0x04,
-    U16550_IER_MODEM_STATUS = 0x08
-};
-enum u16550_mcr_bits {
-    U16550_MCR_DTR = 0x01,
-    U16550_MCR_RTS = 0x02,
-    U16550_MCR_OUT_1 = 0x04,
-    U16550_MCR_OUT_2_INT_ENABLE = 0x08, /* on a PC the interrupt line is connected only with this */
-    U16550_MCR_LOOP_BACK = 0x10
-};
-enum u16550_lsr_bits {
-    U16550_LSR_DATA_READY = 0x01,
-    U16550_LSR_OVERRUN_ERROR = 0x02,
-    U16550_LSR_PARITY_ERROR = 0x04,
-    U16550_LSR_FRAMING_ERROR = 0x08,
-    U16550_LSR_BREAK_INTERRUPT = 0x10,
-    U16550_LSR_THR_EMPTY = 0x20,
-    U16550_LSR_TRANSMITTER_EMPTY = 0x40,
-    U16550_LSR_FIFO_DATA_ERROR = 0x80
-};
-enum u16550_msr_bits {
-    U16550_MSR_DELTA_CTS = 0x01,
-    U16550_MSR_DELTA_DSR = 0x02,
-    U16550_MSR_TRAILING_EDGE_RI = 0x04,
-    U16550_MSR_DELTA_CD = 0x08,
-    U16550_MSR_CTS = 0x10,
-    U16550_MSR_DSR = 0x20,
-    U16550_MSR_RI = 0x40,
-    U16550_MSR_CD = 0x80
-};
 
 /* --------------------------------------------------------------- rings, for use with interrupts
  *
@@ -1071,7 +1158,7 @@ int u16550_ring_take_modem(struct u16550 *uart, uint8_t *msr);
  */
 int u16550_ring_config_register_dump(struct u16550 *uart, struct u16550_dump *dump);
 
-#ifdef __cplusplus
+#if defined(__cplusplus)
 }
 #endif
 

@@ -7,8 +7,8 @@ use core::fmt::{self, Write as _};
 use uart_16550_chip::registers::{LSR, MSR};
 use uart_16550_chip::serial::{BadState, Error, FromStateError, TriggerError};
 use uart_16550_chip::{
-    Answer, ArrayVec, Character, Chip, ChipData, ChipError, InputError, LiveChip, NoEvents, Output,
-    Received, Restored, RestoreError, Serial, SerialState, Todo, Trigger, VirtualPort,
+    Answer, ArrayVec, Character, Chip, ChipData, ChipError, Clock, InputError, LiveChip, NoEvents,
+    Output, Received, RestoreError, Restored, Serial, SerialState, Todo, Trigger, VirtualPort,
 };
 
 unsafe extern "Rust" {
@@ -118,6 +118,11 @@ calls! {
     port_chip(port: &VirtualPort) -> &LiveChip { port.chip() }
     port_data(port: &VirtualPort) -> ChipData { port.data() }
     port_from_data(data: &ChipData, output: &[u8]) -> Result<Restored, RestoreError> { VirtualPort::from_data(data, output) }
+    clock_new() -> Clock { Clock::new() }
+    clock_after_read(clock: &mut Clock, offset: u8, todo: &mut Todo) -> bool { clock.after_read(offset, todo) }
+    clock_after_write(clock: &mut Clock, offset: u8, todo: &mut Todo) -> bool { clock.after_write(offset, todo) }
+    clock_after_host(clock: &mut Clock, todo: Todo) { clock.after_host(todo) }
+    clock_pass_time(clock: &mut Clock) -> bool { clock.pass_time() }
 
     serial_new() -> Console { Serial::new(Device, Device) }
     serial_with_events() -> Console { Serial::with_events(Device, NoEvents, Device) }
@@ -143,6 +148,7 @@ calls! {
     serial_read(serial: &mut Console, offset: u8) -> u8 { serial.read(offset) }
     serial_write(serial: &mut Console, offset: u8, value: u8) -> Result<(), Failed> { serial.write(offset, value) }
     serial_write_bytes(serial: &mut Console, offset: u8, values: &[u8]) -> Result<(), Failed> { serial.write_bytes(offset, values) }
+    serial_set_bursts(serial: &mut Console, has_bursts: bool) -> Result<(), Failed> { serial.set_bursts(has_bursts) }
     serial_set_clock(serial: &mut Console, has_clock: bool) { serial.set_clock(has_clock) }
     serial_is_timeout_to_come(serial: &Console) -> bool { serial.is_timeout_to_come() }
     serial_timeout_passed(serial: &mut Console) -> Result<(), Failed> { serial.timeout_passed() }

@@ -5,7 +5,6 @@ TASKS = 'rust/uart_16550/src/shared/asynchronous.rs'
 BLOCKING = 'rust/uart_16550/src/shared/blocking.rs'
 EXCLUSIVE = 'rust/uart_16550/src/shared/exclusive.rs'
 EMERGENCY = 'rust/uart_16550/src/emergency.rs'
-DESIGN_WARE = 'rust/uart_16550/src/design_ware.rs'
 ACCESS = 'rust/uart_16550/src/access.rs'
 SERIAL = 'rust/uart_16550_chip/src/serial.rs'
 BYTES = 'rust/uart_16550_chip/src/serial/bytes.rs'
@@ -28,34 +27,37 @@ BARRIER = '    barrier();\n'
 # What is wrong, the file, the text, what stands in its place, and what finds it: the packages' tests, the thread sanitiser, or a look
 # at the assembly for a target that needs barriers.
 NAMED = [
-    ('the second of two due tasks is not woken', SHARED, 'for waiter in due.into_iter().flatten() {', 'if let Some(waiter) = due.into_iter().flatten().next() {', 'tests'),
-    ('a flush waits in the place of the reader', TASKS, 'Self::ReceivedByte => Side::Receive,\n            Self::TransmitRoom | Self::EmptyTransmitRing => Side::Transmit,', 'Self::ReceivedByte | Self::EmptyTransmitRing => Side::Receive,\n            Self::TransmitRoom => Side::Transmit,', 'tests'),
+    ('the second of two due tasks is not woken', SHARED, 'for waiter in [due.receive, due.transmit].into_iter().flatten() {', 'if let Some(waiter) = [due.receive, due.transmit].into_iter().flatten().next() {', 'tests'),
     ('what was done before is not seen in the next call', EXCLUSIVE, 'Ordering::Acquire', 'Ordering::Relaxed', 'races'),
     ('what is done in a call is not seen after it', EXCLUSIVE, 'Ordering::Release', 'Ordering::Relaxed', 'races'),
     ('the sign is cleared before the call', EXCLUSIVE, 'let _in_use = InUse(', 'let _ = InUse(', 'tests'),
-    ('a task whose place is taken is forgotten', TASKS, '            other.wake();\n', '            drop(other);\n', 'tests'),
+    ('a task whose place is taken is forgotten', TASKS, '            other.waker.wake();\n', '            drop(other);\n', 'tests'),
     ('a task that is polled again wakes itself', TASKS, '.filter(|other| !other.waker.will_wake(context.waker()))', '', 'tests'),
-    ('a task waits for a chip that is stuck', SHARED, 'self.has(awaited) || self.ring.stuck().is_some()', 'self.has(awaited)', 'tests'),
-    ('a task waits for rings that are gone', TASKS, 'rings.is_none_or(|rings| rings.ends_wait(waiter.awaited))', 'rings.is_some_and(|rings| rings.ends_wait(waiter.awaited))', 'tests'),
-    ('a writer waits for an empty ring', SHARED, 'self.ring.transmit_len() < self.transmit_capacity', 'self.ring.transmit_len() == 0', 'tests'),
+    ('a task waits for a chip that is stuck', SHARED, 'is_stuck: self.ring.stuck().is_some(),', 'is_stuck: false,', 'tests'),
+    ('a writer waits for an empty ring', SHARED, 'capacity: self.transmit_capacity,', 'capacity: self.transmit_capacity.min(1),', 'tests'),
     ('a flush does not wait for the chip', SHARED, 'ring.transmit_len() == 0 && ring.inner_mut().is_idle()', 'ring.transmit_len() == 0', 'tests'),
     ('a flush of a task looks at the chip once', TASKS, 'for _look in 0..limit.get() {', 'for _look in 0..limit.get().min(1) {', 'tests'),
     ('a flush of a thread looks at the chip once', BLOCKING, 'for _look in 0..limit.get() {', 'for _look in 0..limit.get().min(1) {', 'tests'),
     ('after a failed output one byte is taken, and all are told as lost', SERIAL, 'let todo = self.port.take_output(offered);', 'let todo = self.port.take_output(1);', 'tests'),
     ('a failed trigger is not tried again at a read of DATA', SERIAL, 'if !self.is_owed && !self.port.chip().is_dlab_set() {', 'if !self.port.chip().is_dlab_set() {', 'tests'),
     ('a failed trigger is not tried again at a read of LSR', SERIAL, 'if offset == LSR_OFFSET && !self.is_owed {', 'if offset == LSR_OFFSET {', 'tests'),
-    ('a failed trigger is not tried again at a write of DATA', SERIAL, 'if offset == DATA && !self.is_owed {', 'if offset == DATA {', 'tests'),
+    ('a failed trigger is not tried again at a write of DATA', SERIAL, 'if offset == DATA && !self.is_owed && !self.has_bursts {', 'if offset == DATA && !self.has_bursts {', 'tests'),
     ('a failed trigger is not tried again at input', SERIAL, 'if !self.is_owed && self.port.receive_polled(*byte) {', 'if self.port.receive_polled(*byte) {', 'tests'),
     ('a failed trigger is not tried again at a look for output', SERIAL, 'let mut raised = self.tell_owed();', 'let mut raised = Ok(());', 'tests'),
     ('a failed trigger is forgotten', SERIAL, '        self.is_owed = true;\n', '', 'tests'),
-    ('a signal that is put off is forgotten', SERIAL, '            self.is_put_off = true;\n', '', 'tests'),
-    ('a signal that is put off is given too', SERIAL, '            answer.todo.signal = false;\n', '', 'tests'),
-    ('each signal in a read of DATA is put off', SERIAL, 'answer.todo.signal && !answer.todo.has_moved && !self.is_owed', 'answer.todo.signal && !self.is_owed', 'tests'),
-    ('what is put off stays when the line falls', SERIAL, 'self.is_put_off &= level && !signal;', 'self.is_put_off &= !signal;', 'tests'),
-    ('what is put off stays when the guest is interrupted', SERIAL, 'self.is_put_off &= level && !signal;', 'self.is_put_off &= level;', 'tests'),
+    ('what the trigger failed to tell is put off', SERIAL, '            _ if self.is_owed => false,\n', '', 'tests'),
+    ('a signal that is put off is given too', SERIAL, 'self.events.timeout_to_come();\n            return Ok(());\n', 'self.events.timeout_to_come();\n', 'tests'),
+    ('a clock puts off nothing after a read', SERIAL, 'Caller::Reader(offset) => self.clock.after_read(offset, &mut todo),', 'Caller::Reader(_) => false,', 'tests'),
+    ('a clock puts off nothing after a write', SERIAL, 'Caller::Writer(offset) => self.clock.after_write(offset, &mut todo),', 'Caller::Writer(_) => false,', 'tests'),
+    ('what is put off stays when the guest is interrupted', SERIAL, 'self.clock.is_owed &= level && !signal;', 'self.clock.is_owed &= level;', 'tests'),
     ('many bytes of one exit are offered one by one', SERIAL, 'if !is_held && self.port.output().len() == WIRE_ROOM {', 'if !is_held && !self.port.output().is_empty() {', 'tests'),
     ('an output that is held is asked for each byte', SERIAL, 'is_held = self.port.output().len() == WIRE_ROOM;', 'is_held = false;', 'tests'),
-    ('of many bytes the last are not offered', SERIAL, 'result.and(self.write_output_if_any())\n', 'result\n', 'tests'),
+    ('of many bytes the last are not offered', SERIAL, 'result.and(self.offer_output())\n', 'result\n', 'tests'),
+    ('a burst is written byte by byte', SERIAL, 'let is_held = self.has_bursts && ready < WIRE_ROOM;', 'let is_held = false;', 'tests'),
+    ('a burst has no bound', SERIAL, 'let is_held = self.has_bursts && ready < WIRE_ROOM;', 'let is_held = self.has_bursts;', 'tests'),
+    ('what is held stays when bursts end', SERIAL, '        } else {\n            self.offer_output()\n        }\n', '        } else {\n            Ok(())\n        }\n', 'tests'),
+    ('what is held goes behind a break', SERIAL, '                written = self.write_output().map(drop);\n', '', 'tests'),
+    ('what is held is lost with the device', SERIAL, '            let _ = self.write_output();\n', '', 'tests'),
     ('a restored device owes nothing', SERIAL, 'is_owed: true,', 'is_owed: false,', 'tests'),
     ('a signal is ignored after a byte that passes', SERIAL, 'Some(todo) if todo.signal => self.obey_passed(todo)', 'Some(todo) if todo.has_room => self.obey_passed(todo)', 'tests'),
     ('a line that moved is ignored', SERIAL, 'if todo.signal || todo.has_moved || self.is_owed {', 'if todo.signal || self.is_owed {', 'tests'),
@@ -71,17 +73,10 @@ NAMED = [
     ('a general output is cleared', EMERGENCY, 'MCR::OUT_1.union(MCR::OUT_2_INT_ENABLE)', 'MCR::OUT_2_INT_ENABLE', 'tests'),
     ('interrupts are left enabled', EMERGENCY, '        uart.backend_mut().write(offset_of(offsets::IER), 0);\n', '', 'tests'),
     ('a stuck chip is waited for again and again', EMERGENCY, '            NonZeroU64::MIN\n', '            self.patience\n', 'tests'),
-    ('a timeout with a break is taken for one without data', DESIGN_WARE, 'let shown = LSR::DATA_READY | LSR::BREAK_INTERRUPT;', 'let shown = LSR::DATA_READY;', 'tests'),
-    ('an interrupt that comes again is given up earlier', DESIGN_WARE, 'const ROUNDS: usize = 4;', 'const ROUNDS: usize = 3;', 'tests'),
-    ('an interrupt that comes again is given up later', DESIGN_WARE, 'const ROUNDS: usize = 4;', 'const ROUNDS: usize = 5;', 'tests'),
-    ('errors of a kept character are lost', DESIGN_WARE, '        self.cleared |= character.errors;\n', '', 'tests'),
-    ('an overrun is told twice', DESIGN_WARE, '        self.cleared -= overrun;\n', '', 'tests'),
-    ('the last ignored write goes on interrupting', DESIGN_WARE, '        // The last write may have been ignored, which interrupts.\n        self.registers.read_usr();\n', '', 'tests'),
     ('a load without its first barrier', ACCESS, LOAD, LOAD.replace(BARRIER, '', 1), 'barriers'),
     ('a load without its last barrier', ACCESS, LOAD, LOAD.removesuffix(BARRIER), 'barriers'),
     ('a store without its first barrier', ACCESS, STORE, STORE.replace(BARRIER, '', 1), 'barriers'),
     ('a store without its last barrier', ACCESS, STORE, STORE.removesuffix(BARRIER), 'barriers'),
-    ('USR is one register too low', ACCESS, 'const USR: usize = 0x1f;', 'const USR: usize = 0x1e;', 'tests'),
 ]
 
 # Functions that the packages' tests do not run, from a text to the next one, and what looks at them.
@@ -97,11 +92,6 @@ ELSEWHERE = [
 
 # Lines that no test can find: the file, a part of the line, what stands in its place or None for anything, and why.
 KNOWN = [
-    (TASKS, 'Self::ReceivedByte => Side::Receive,', None, 'two places whose names are swapped are two places'),
-    (DESIGN_WARE, 'byte: 0,', '1', 'a cell is written before it is read'),
-    (DESIGN_WARE, 'errors: LSR::from_bits_retain(0),', '1', 'a cell is written before it is read'),
-    (DESIGN_WARE, 'first: 0,', '1', 'an empty queue may begin anywhere'),
-    (DESIGN_WARE, 'line: LCR::from_bits_retain(0),', '1', 'before LCR is written, DLAB alone counts of it'),
     (AROUND, 'const CLOSE_ON_EXEC: c_int = if IS_SPARC', '4194305', 'no test runs on SPARC'),
     (AROUND, '    0x4000', '16385', 'no test runs on SPARC'),
     (INPUT, 'bytes: [0; CHUNK],', '1', 'bytes are written before they are read'),

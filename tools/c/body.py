@@ -26,8 +26,14 @@ OF_C = {
 }
 SIZES = {"uart_line_ports_lower": (1, 2), "uart_line_ports_raise": (1,)}
 FILLED = "std_alloc::vec::Vec::from_elem"
-NATIVE = {*BRANCH, FILLED, NO_RESIDUAL, FIRST_CHUNK, COPY_SLICE, SAME_ARRAYS, ALL_BITS}
+# The libraries of slices, in which each number of 64 bits is an index or a length.
+OVER_SLICES = ("std_alloc::shifts::", "std::slices::")
+# Returns the range that it is given, if that is within: it is proved to be, where this is called.
+RANGE_WITHIN = "core::slice::ranges::range"
+NATIVE = {*BRANCH, RANGE_WITHIN, FILLED, NO_RESIDUAL, FIRST_CHUNK, COPY_SLICE, SAME_ARRAYS, ALL_BITS}
 U64 = c.Width(False)
+# The parameters of functions of libraries whose sources are not read.
+PARAMETERS = {"std_alloc::shifts::copy_down": ("items", "from", "to", "count"), "std_alloc::shifts::copy_up": ("items", "from", "to", "count")}
 
 
 class Pair:
@@ -42,6 +48,13 @@ class ArrayAt:
 
     def __init__(self, pointer, of):
         self.pointer, self.meaning = pointer, of
+
+
+def is_const(one):
+    """Whether a place is behind a pointer through which nothing is written."""
+    while isinstance(one, c.Field):
+        one = one.base
+    return isinstance(one, (c.Deref, c.Index)) and one.pointer.of.is_const
 
 
 class Tag:
@@ -59,7 +72,7 @@ class Body:
         Webs(self.tree).run()
         self.information = library.source.find(key[0])
         self.variables, self.labels = {}, 0
-        self.single = self.defined_once()
+        self.single, self.changing = self.defined_once(), self.changed_in_part()
         self.result = self.declared_type(self.tree.locals[0], self.information.result if self.information else key[0])
         self.parameters = [self.parameter(order) for order in range(1, self.tree.params + 1)]
         self.statements = self.list(self.tree.body, [])
@@ -72,11 +85,23 @@ class Body:
                 found.setdefault(one.place.local, []).append(one.value if isinstance(one, Assign) else None)
         return {local: values[0] for local, values in found.items() if len(values) == 1}
 
+    def changed_in_part(self):
+        """The locals of which a part is written, or that have an address by which one can be."""
+        out = set()
+        for one in walk(self.tree.body):
+            if isinstance(one, (Assign, Call)) and one.place.steps:
+                out.add(one.place.local)
+            if isinstance(one, Assign) and isinstance(one.value, Address):
+                of = None if one.place.steps else self.tree.locals[one.place.local]
+                if not (isinstance(of, tuple) and of[0] == "Ref" and not of[2]):
+                    out.add(one.value.place.local)
+        return out
+
     # Variables.
 
     def declared_type(self, of, text):
         """The type of a parameter or a result, of which this is the text in the source, or the name of the library's function."""
-        is_size = re.search(r"\busize\b", text or "") is not None and not re.search(r"\bu64\b", text or "")
+        is_size = re.search(r"\busize\b", text or "") is not None and not re.search(r"\bu64\b", text or "") or (text or "").startswith(OVER_SLICES)
         made = self.types.c(of, is_size)
         if isinstance(made, c.Number) and made.bits == 64 and made.width.root().decided is None:
             made.width = c.SIZE if is_size else U64
@@ -85,7 +110,10 @@ class Body:
     def parameter(self, order):
         of = self.tree.locals[order]
         info = self.information
-        name, text = info.parameters[order - 1] if info and order <= len(info.parameters) else (f"part{order}", self.key[0])
+        given = PARAMETERS.get(self.key[0], ())
+        name, text = given[order - 1] if order <= len(given) else f"part{order}", self.key[0]
+        if info and order <= len(info.parameters):
+            name, text = info.parameters[order - 1]
         if name == "self":
             name = self.name_of_self(of)
         name = safe(name.lstrip("_"))
@@ -128,7 +156,10 @@ class Body:
             return self.operand(value.first).of.to
         if isinstance(value, Place):
             return self.load(value).of.to
-        return c.BYTE
+        if isinstance(value, Address):
+            of = self.walk(self.start(value.place.local), self.tree.locals[value.place.local], value.place.steps)[1]
+            return self.types.c(of[1] if of[0] == "Array" else of)
+        raise Unknown("a bare pointer that comes from nowhere")
 
     # Operands.
 
@@ -141,6 +172,8 @@ class Body:
             return c.Word("true" if one.value else "false", c.BOOL)
         if isinstance(one, Nothing):
             return None
+        if isinstance(one, SizeOf):
+            return c.Word(f"sizeof({self.types.c(one.of).text()})", c.Number(64, c.SIZE))
         raise Unknown(f"an operand {one}")
 
     def load(self, place):
@@ -183,6 +216,8 @@ class Body:
 
     def part(self, one, of, order):
         kind = self.types.kind(of)
+        if kind.kind == "slice" and len(kind.parts) > 1:
+            return one, kind.parts[1]
         if kind.kind == "slice":
             return (one.pointer, kind.parts[0]) if order == 0 else (one.length, ("Int", 64))
         if kind.kind == "unit":
@@ -192,9 +227,11 @@ class Body:
             return None, inner
         if kind.kind == "wrapper":
             return one, inner
+        if self.types.is_array_of_header(of, inner):
+            return ArrayAt(c.Field(one, name, c.Pointer(self.types.c(inner[1]), is_const(one))), inner), inner
         made = self.types.c(inner, self.types.is_size(of, order))
-        if isinstance(made, c.Number) and made.bits == 64:
-            made.width = c.SIZE if self.types.is_size(of, order) else U64
+        if isinstance(made, c.Number) and made.bits == 64 and kind.kind != "wrapper":
+            made.width = None if self.types.is_of_library(of) else c.SIZE if self.types.is_size(of, order) else U64
         if inner == "Ptr":
             made = c.Pointer(c.BYTE)
         return self.with_slice(c.Field(one, name, made), inner), inner
@@ -303,6 +340,8 @@ class Body:
         """The number of the item whose offset in bytes this is."""
         if isinstance(index, Int) and index.value == 0:
             return index
+        if isinstance(index, Int) and self.library.size_of(item) and index.value % self.library.size_of(item) == 0:
+            return Int(index.value // self.library.size_of(item), index.bits)
         product = self.single.get(index.local) if isinstance(index, Place) and not index.steps else None
         if isinstance(product, Two) and product.operation == "Mul":
             factor = product.second
@@ -327,7 +366,7 @@ class Body:
             return None
         parts = [self.operand(one) for one in operands]
         if word == "slice":
-            return Pair(*parts)
+            return parts[0] if len(kind.parts) > 1 else Pair(*parts)
         if word == "wrapper":
             return self.named(parts[kind.parts[0]], of)
         if word == "array":
@@ -416,7 +455,7 @@ class Body:
             return self.filled(to, value)
         if isinstance(value, Aggregate) and self.types.kind(of).kind == "struct":
             parts = [one for one in self.types.fields(of) if not self.types.is_unit(one[1])]
-            if len(parts) > FEW:
+            if len(parts) > FEW or any(self.types.is_array_of_header(of, inner) for _, inner in parts):
                 return self.part_by_part(to, of, value)
         if isinstance(value, Aggregate) and of[0] == "Array":
             start = to.pointer if isinstance(to, ArrayAt) else c.Field(to, "bytes", c.Pointer(self.types.c(of[1])))
@@ -432,6 +471,8 @@ class Body:
         if isinstance(value, ArrayAt):
             count = c.Literal(value.meaning[2], c.Number(64, c.SIZE))
             start = to.pointer if isinstance(to, ArrayAt) else c.Field(to, "bytes", c.Pointer(c.BYTE))
+            if value.meaning[1] != ("Int", 8):
+                raise Unknown(f"an array of {value.meaning[1]} that is copied")
             return [c.Do(self.library.helper("uart_copy_bytes", [start, value.pointer, count], c.VOID))]
         if isinstance(to, ArrayAt):
             raise Unknown("an array behind a pointer is written")
@@ -441,19 +482,39 @@ class Body:
     def part_by_part(self, to, of, value):
         """A struct of many parts: first a variable of its own, since a part may be made of what is there before."""
         made = c.Variable(self.types.c(of), None, False, -1, of, hint=self.name_of_self(of))
-        out = []
+        start = self.mostly_of(value.parts, of)
+        out = [] if start is None else [c.Set(c.Var(made), self.load(start))]
         for order, ((name, inner), one) in enumerate(zip(self.types.fields(of), value.parts)):
-            if not self.types.is_unit(inner):
+            if not self.types.is_unit(inner) and (start is None or self.first_place(one) != Place(start.local, (*start.steps, ("Field", order)))):
                 into, _ = self.part(c.Var(made), of, order)
-                out += self.set(into, self.named(self.operand(one), inner))
+                out += self.filled(into, one) if isinstance(one, Repeat) else self.set(into, self.named(self.operand(one), inner))
         return [*out, c.Set(to, c.Var(made))]
+
+    def first_place(self, one):
+        """The part of a struct that never changes which an operand was copied from, or the operand itself."""
+        value = self.single.get(one.local) if isinstance(one, Place) and not one.steps else None
+        is_part = isinstance(value, Place) and value.steps and all(word == "Field" for word, _ in value.steps)
+        return value if is_part and value.local in self.single and value.local not in self.changing else one
+
+    def mostly_of(self, parts, of):
+        """Another struct of this type of which most parts are, or None."""
+        parts = [self.first_place(one) for one in parts]
+        found = [Place(one.local, one.steps[:-1]) for order, one in enumerate(parts) if isinstance(one, Place) and one.steps[-1:] == (("Field", order),)]
+        most = max(found, key=found.count, default=None)
+        if most is None or 2 * found.count(most) <= len(parts):
+            return None
+        return most if self.walk(self.start(most.local), self.tree.locals[most.local], most.steps)[1] == of else None
 
     def filled(self, to, value):
         item = self.operand(value.item)
-        if not isinstance(to, c.Var) or not isinstance(item, c.Literal):
-            raise Unknown("a repetition that is no variable, or of no number")
-        return [c.Do(self.library.helper("uart_fill_bytes", [c.Field(to, "bytes", c.Pointer(c.BYTE)), item,
-                                                             c.Literal(value.count, c.Number(64, c.SIZE))], c.VOID))]
+        start = to.pointer if isinstance(to, ArrayAt) else c.Field(to, "bytes", c.Pointer(c.BYTE))
+        count = c.Literal(value.count, c.Number(64, c.SIZE))
+        if isinstance(item.of, c.Number) and item.of.bits == 8:
+            return [c.Do(self.library.helper("uart_fill_bytes", [start, item, count], c.VOID))]
+        turn = c.Variable(c.Number(64, c.SIZE), hint="place")
+        step = c.Set(c.Var(turn), c.Binary("+", c.Var(turn), c.Literal(1, c.Number(64, c.SIZE)), turn.of))
+        return [c.For(c.Set(c.Var(turn), c.Literal(0, c.Number(64, c.SIZE))), c.Binary("<", c.Var(turn), count, c.BOOL), step,
+                      [c.Set(c.Index(start, c.Var(turn)), item)])]
 
     def call(self, one):
         to, of = self.place(one.place)
@@ -475,7 +536,7 @@ class Body:
     def called(self, one, of):
         """The value of a call."""
         name = one.function[0]
-        if name in BRANCH:
+        if name in BRANCH or name == RANGE_WITHIN and one.function[1][0][1].endswith("::Range"):
             return self.operand(one.arguments[0])
         if name == NO_RESIDUAL:
             return self.aggregate((Int(0, 8),), of)

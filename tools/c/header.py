@@ -1,120 +1,128 @@
-"""The header of the C, from that of today's library: the same names, numbers and comments, with a driver that the C compiler sees."""
-import re
+"""The headers, from the table of the interface: that of the C, and that of the library that is made of Rust. What the two do not share is in
+header_c.h and header_rust.h."""
+import calls
+import syntax as c
 
-# What the library made of Rust has, and this one has not.
-LEFT_OUT = ["u16550_new_mmio_wide", "u16550_new_design_ware", "u16550_new_mmio_design_ware", "u16550_design_ware_fault", "u16550_emergency",
-            "u16550_panic"]
-LEFT_OUT_TYPES = ["u16550_design_ware_fault", "u16550_byte_order", "u16550_layout", "u16550_design_ware"]
-INTRODUCTION = """/*
- * u16550.h - a driver for serial chips of the 16550 family, for kernels and firmware.
- *
- * Made by tools/c/emit from the code that is proved, and from the header of the library that is made of Rust. Do not edit.
- *
- * This is u16550.c and u16550.h alone: C99 that needs stddef.h, stdint.h and stdbool.h, and nothing else. It allocates nothing, has
- * no variables and calls no function but those that it is given. Compile u16550.c as the rest of the program is compiled.
- *
- * The device is reached by two functions of the caller, and the driver is in memory of the caller.
- *
- * 'Proved' says which accesses a call makes and what it leaves, for every device, in the words of the definitions. It is proved of the
- * code that this is made from, which the C is compared with.
- *
- * Every function that returns an int returns U16550_OK, or a number of the enums below: a negative one if the call was a
- * misuse, which made no access and changed nothing, or a positive one, which is the error of the call. What a call reports
- * through a pointer is written only if it returns U16550_OK, unless the function says otherwise.
- *
- * A pointer must point to what its type says, or be null. Null is refused, unless the function says otherwise. An array of
- * length 0 may be null. Arrays and structs of one call must not overlap, and nobody else changes them until the call has
- * returned.
- */
-"""
-HANDLE = """/*
- * The memory of a driver. What is in it is the library's: it is here so that a C compiler knows how much it is. It may be copied
- * to another place between two calls, if only one of the copies is used from then on. One thread at a time may use a driver;
- * different drivers are independent.
- *
- * Set it to zero before a first driver is made in it, unless it is static, and so zero from the start. What was left in it
- * may look like a driver, or like a call that is not done.
- */
-struct u16550 {
-    volatile uint32_t mark;
-    volatile uint32_t is_busy;
-    bool has_rings;
-    struct u16550_core_ring ring;
-};
-"""
-CONVENTION = """/* The library that is made of Rust has a calling convention. This one has that of the program, whatever it is. */
-#ifndef U16550_CALL
-#define U16550_CALL
-#endif
-
-"""
-DEVICE = """/* What a driver keeps of its device: its functions, the first address, and how far apart the registers are. */
-struct u16550_device {
-    struct u16550_io io;
-    uintptr_t base;
-    uint8_t stride;
-};
-"""
+# How far to the right the remarks of numbers and of fields begin, and how long a line is.
+NUMBER, FIELD, WIDTH = 33, 39, 128
+CONVENTION = "U16550_CALL "
 
 
-class Header:
-    def __init__(self, text):
-        self.text = text
-        self.prototypes = {}
-
-    def made(self, core):
-        """The header, with the types that a driver is made of."""
-        text = re.sub(r"\A/\*.*?\*/\n", INTRODUCTION, self.text, count=1, flags=re.S)
-        text = text.replace("#include <stddef.h>\n#include <stdint.h>\n", "#include <stdbool.h>\n#include <stddef.h>\n#include <stdint.h>\n")
-        text = text.replace("has size_t, offsetof, uintptr_t and uint8_t to uint64_t itself",
-                            "has bool, size_t, offsetof, uintptr_t and uint8_t to uint64_t with\n * their limits itself")
-        text = self.without_convention(text)
-        for name in LEFT_OUT:
-            text = without_function(text, name)
-        for name in LEFT_OUT_TYPES:
-            text = without_type(text, name)
-        text = re.sub(r"U16550_ASSERT\([^;]*\);\n", "", text)
-        handle = re.search(r"/\*(?:(?!\*/).)*\*/\nstruct u16550 \{.*?\n\};\n", text, flags=re.S)
-        text = text.replace(handle[0], "")
-        text = re.sub(r"\n{3,}", "\n\n", text)
-        first = text.index("/* --------------------------------------------------------------- making a driver")
-        # The struct of a line's ports names the handle by a pointer alone.
-        text = f"{text[:first]}{DEVICE}\n/* ---- what a driver keeps */\n\n{core}\n{HANDLE}\n{text[first:]}"
-        text = text.replace("struct u16550_io {", "struct u16550;\n\nstruct u16550_io {", 1) if "struct u16550;" not in text else text
-        self.read(text)
-        return text
-
-    @staticmethod
-    def without_convention(text):
-        """Without a calling convention: the C has that of the program."""
-        start = text.index("/*\n * How the library calls and is called.")
-        end = text.index("#if defined(__cplusplus)\nextern")
-        return (text[:start] + CONVENTION + text[end:]).replace("U16550_CALL *", "*").replace("U16550_CALL ", "")
-
-    def read(self, text):
-        for found in re.finditer(r"(?m)^int (u16550_\w+)\(((?:[^()]|\([^()]*\))*)\);", text):
-            self.prototypes[found[1]] = re.sub(r"\s+", " ", found[2])
-
-    def texts(self, rust):
-        """The texts of the numbers, from the source of the library for Rust."""
-        numbers = dict(re.findall(r"(?m)^    (\w+) = (-?\d+),", rust))
-        return [(int(numbers[name]), text) for name, text in re.findall(r'Self::(\w+) => c"([^"]*)"', rust) if name in numbers]
+def comment(text):
+    """A text as a comment, on one line if it fits."""
+    lines = text.strip("\n").split("\n") if text else []
+    if not lines:
+        return ""
+    if len(lines) == 1 and len(lines[0]) <= WIDTH:
+        return f"/* {lines[0]} */\n"
+    return "/*\n" + "".join(f" * {one}".rstrip() + "\n" for one in lines) + " */\n"
 
 
-def without_function(text, name):
-    """Without a function, and without its comment if that is of no other one."""
-    found = re.search(rf"(?m)^[^\n/*;]*\b{name}\((?:[^()]|\([^()]*\))*\);\n", text)
-    before, behind = text[:found.start()], text[found.end():]
-    comment = re.search(r"\n(/\*(?:(?!\*/).)*\*/\n)\Z", before, flags=re.S)
-    if comment and behind.startswith("\n"):
-        before = before[:comment.start(1)]
-    return before + behind
+def remarked(line, remark, column):
+    """A line with a remark behind it."""
+    return f"{line.ljust(column)} /* {remark} */" if remark else line
 
 
-def without_type(text, name):
-    found = re.search(rf"(?m)^(?:/\*(?:(?!\*/).)*\*/\n)?(?:enum|struct) {name} \{{.*?^\}};\n", text, flags=re.S | re.M)
-    if not found:
-        raise ValueError(f"the header has no type {name}")
-    start = found.start()
-    comment = re.search(rf"/\*(?:(?!\*/).)*\*/\n(?:enum|struct) {name} \{{", text, flags=re.S)
-    return text[:comment.start() if comment else start] + text[found.end():]
+def enum_of(name, about, members):
+    """An enum. `members` are names, numbers and remarks."""
+    if len(members) == 1:
+        only, number, remark = members[0]
+        whole = f"enum u16550_{name} {{ U16550_{only} = {number} }};"
+        return comment(about) + (f"{whole} /* {remark} */" if remark else whole) + "\n"
+    lines = [remarked(f"    U16550_{one} = {number}" + ("" if at == len(members) - 1 else ","), remark, NUMBER)
+             for at, (one, number, remark) in enumerate(members)]
+    return comment(about) + f"enum u16550_{name} {{\n" + "\n".join(lines) + "\n};\n"
+
+
+def numbers():
+    """What functions return, and the functions that tell it."""
+    enums = [enum_of(one.enum, one.about, [(member.name, member.value, member.told()) for member in one.members]) for one in calls.NUMBERS]
+    return "\n".join(enums)
+
+
+def bits(one):
+    return [(member.name, f"{member.value:#04x}" if one in calls.BITS else member.value, member.note) for member in one.members]
+
+
+def types(convention):
+    """The data."""
+    out = []
+    for one in [*calls.TYPES, *calls.BITS]:
+        if isinstance(one, calls.Enum):
+            out.append(enum_of(one.name, one.about, bits(one)))
+            continue
+        lines = [remarked(f"    {field.declared};", field.note, FIELD) for field in one.members]
+        lines = [line.replace("(*", f"({convention}*") for line in lines]
+        out.append(comment(one.about) + f"struct u16550_{one.name} {{\n" + "\n".join(lines) + "\n};\n")
+    return "\n".join(out)
+
+
+def declared(call, convention):
+    """The declaration of a function."""
+    result = f"{getattr(call, 'returns', 'int')} "
+    first = f"{result.replace('* ', '*')}{convention}u16550_{call.name}("
+    whole = f"{first}{call.takes});"
+    if len(whole) <= WIDTH:
+        return whole
+    cut = whole.rindex(", ", 0, WIDTH)
+    return whole[:cut + 1] + "\n" + " " * len(first) + whole[cut + 2:]
+
+
+def functions(convention, proved):
+    """The functions, each with what is proved of it."""
+    out = []
+    for section in calls.SECTIONS:
+        head = f"/* --------------------------------------------------------------- {section.title}"
+        out.append(head + (" */\n" if not section.about else "\n *\n" + "".join(f" * {one}".rstrip() + "\n" for one in
+                                                                               section.about.strip().split("\n")) + " */\n"))
+        if section.lines:
+            out.append(section.lines.strip() + "\n")
+        out += [comment(group.about) + "".join(proved(one) + declared(one, convention) + "\n" for one in group.calls) for group in section.groups]
+    return "\n".join(out)
+
+
+def version(number):
+    """The version as a text, and as a number that grows."""
+    major, minor, patch = map(int, number.split("."))
+    return (f'/* The version of this header. u16550_version returns that of the library. */\n#define U16550_VERSION "{number}"\n'
+            f"#define U16550_VERSION_NUMBER {major * 10000 + minor * 100 + patch}\n")
+
+
+def filled(template, number, convention, kept="", proved=lambda call: ""):
+    """A template with what the table says."""
+    parts = {"RULES": "".join(f" * {one}".rstrip() + "\n" for one in calls.RULES.strip().split("\n")), "VERSION": version(number),
+             "NUMBERS": numbers(), "TYPES": types(convention), "KEPT": kept, "HANDLE": comment(calls.HANDLE), "CHIP": comment(calls.CHIP),
+             "CALLS": functions(convention, proved)}
+    for name, text in parts.items():
+        template = template.replace(f"@{name}@", text)
+    return template
+
+
+def of_c(template, number, kept, proved):
+    """The header of the C. `kept` are the types that a driver is made of, and `proved` the words on a function, by its name."""
+    def told(call):
+        lines = proved.get(call.name) or []
+        return comment("\n".join(lines)) if lines else ""
+    return filled(template, number, "", kept, told)
+
+
+def of_rust(template, number):
+    """The header of the library that is made of Rust."""
+    return filled(template, number, CONVENTION)
+
+
+def numbers_in_rust(version):
+    """The numbers and their texts as the library of Rust has them, and its version: that of the package, which rustc alone does not know."""
+    members = [one for group in calls.NUMBERS for one in group.members if one.value]
+    names = ["".join(word.capitalize() for word in one.name.split("_")) for one in members]
+    lines = ["//! What the functions return: one number for each error of the driver, and for each misuse of a function.", "//!",
+             "//! Made by `tools/c/emit` from the table of the interface. Do not edit.", "", "use core::ffi::CStr;", "",
+             "/// The version of this package, as the header's `U16550_VERSION`.", f'pub const VERSION: &CStr = c"{version}";', "",
+             "/// Why a call did not do what it is for. Numbers of misuses are negative.", "#[derive(Clone, Copy)]", "#[repr(i32)]",
+             "pub enum Failure {", *(f"    {name} = {one.value}," for name, one in zip(names, members)), "}", "", "impl Failure {",
+             f"    pub const ALL: [Self; {len(names)}] = [", *(f"        Self::{name}," for name in names), "    ];", "",
+             "    pub const fn text(self) -> &'static CStr {", "        match self {"]
+    for name, one in zip(names, members):
+        line = f'            Self::{name} => c"{one.text}",'
+        lines += [line] if len(line) <= c.WIDTH else [f"            Self::{name} => {{", f'                c"{one.text}"', "            }"]
+    return "\n".join([*lines, "        }", "    }", "}", ""])

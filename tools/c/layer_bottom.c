@@ -1,194 +1,35 @@
-/* --------------------------------------------------------------- what is by hand: memory and numbers of the caller */
+/* --------------------------------------------------------------- data of the header as those of the driver, and back */
 
-/* Takes so many cells from the front of the memory, if there are so many. */
-static struct uart_maybe_vec_u8
-uart_cells_in_memory(struct uart_memory *memory, uint8_t value, size_t count)
+/* Reads a trigger level, or none for 0. */
+static int uart_decode_level(uint8_t from, struct u16550_core_maybe_fifo_trigger_level *to)
 {
-    struct uart_maybe_vec_u8 made = { false, { NULL, 0, 0 } };
-    if (count > memory->len)
-        return made;
-    made.is_some = true;
-    made.value.data = memory->data;
-    made.value.len = count;
-    made.value.capacity = count;
-    memory->data += count;
-    memory->len -= count;
-    for (size_t i = 0; i < count; i++)
-        made.value.data[i] = value;
-    return made;
-}
-
-/* Marks memory with a driver in it, and a call that is not done. Either is unlikely in other memory. */
-#define UART_MARK UINT32_C(0x16550a5e)
-#define UART_BUSY UINT32_C(0x16550b5b)
-
-/* What is before this in the text is done before what is behind it, as an interrupt handler of the same processor sees it. */
-#if defined(__GNUC__)
-#define UART_FENCE() __asm__ __volatile__("" : : : "memory")
-#else
-#define UART_FENCE() ((void)0)
-#endif
-
-#define UART_ALIGNMENT(name, type) struct uart_aligned_##name { char first; type value; }
-UART_ALIGNMENT(handle, struct u16550);
-UART_ALIGNMENT(io, struct u16550_io);
-UART_ALIGNMENT(config, struct u16550_config);
-UART_ALIGNMENT(state, struct u16550_state);
-UART_ALIGNMENT(difference, struct u16550_difference);
-UART_ALIGNMENT(handled, struct u16550_handled);
-UART_ALIGNMENT(port, struct u16550_line_port);
-UART_ALIGNMENT(size, size_t);
-UART_ALIGNMENT(u64, uint64_t);
-UART_ALIGNMENT(u32, uint32_t);
-UART_ALIGNMENT(u16, uint16_t);
-#define UART_USABLE(at, name) uart_usable(at, offsetof(struct uart_aligned_##name, value))
-#define UART_ALIGNED(at, name) uart_aligned(at, offsetof(struct uart_aligned_##name, value))
-
-/* This number if something holds, else that of no error. */
-static inline int uart_if(bool holds, int status)
-{
-    return holds ? status : U16550_OK;
-}
-
-static inline int uart_unless(bool holds, int status)
-{
-    return holds ? U16550_OK : status;
-}
-
-static inline int uart_aligned(const void *at, size_t alignment)
-{
-    return uart_unless((uintptr_t)at % alignment == 0, U16550_MISALIGNED);
-}
-
-/* Refuses a pointer that is null or not aligned. */
-static int uart_usable(const void *at, size_t alignment)
-{
-    return at == NULL ? U16550_NULL_POINTER : uart_aligned(at, alignment);
-}
-
-/* Refuses an array that cannot be: of items of this size. One of none may be anywhere. */
-static int uart_array(const void *at, size_t len, size_t item, size_t alignment)
-{
-    uintptr_t start = (uintptr_t)at;
-    int status;
-    if (len == 0)
-        return U16550_OK;
-    status = uart_usable(at, alignment);
-    if (status != U16550_OK)
-        return status;
-    if (len > (SIZE_MAX / 2) / item || start > UINTPTR_MAX - len * item)
-        return U16550_BAD_LENGTH;
-    return U16550_OK;
-}
-
-/* Begins a call over a driver, unless there is none or a call over it is not done. */
-static int uart_enter(struct u16550 *uart)
-{
-    int status = UART_USABLE(uart, handle);
-    if (status != U16550_OK)
-        return status;
-    if (uart->mark != UART_MARK)
-        return U16550_NOT_MADE;
-    if (uart->is_busy != 0)
-        return U16550_BUSY;
-    uart->is_busy = UART_BUSY;
-    UART_FENCE();
-    /* A handler that came before the sign was set may have ended the driver. */
-    if (uart->mark != UART_MARK) {
-        uart->is_busy = 0;
-        return U16550_NOT_MADE;
-    }
-    return U16550_OK;
-}
-
-/* The same for a call over the rings. */
-static int uart_enter_rings(struct u16550 *uart)
-{
-    int status = uart_enter(uart);
-    if (status == U16550_OK && !uart->has_rings) {
-        uart->is_busy = 0;
-        return U16550_NO_RINGS;
-    }
-    return status;
-}
-
-/* Ends a call, and returns its status. */
-static inline int uart_leave(struct u16550 *uart, int status)
-{
-    UART_FENCE();
-    uart->is_busy = 0;
-    return status;
-}
-
-static int uart_check_flag(uint8_t byte)
-{
-    return uart_unless(byte <= 1, U16550_BAD_CODE);
-}
-
-/* Reads the trigger level of so many characters, or none for 0. */
-static int uart_decode_level(uint8_t characters, struct u16550_core_maybe_fifo_trigger_level *level)
-{
-    level->is_some = characters != 0;
-    level->value = U16550_CORE_FIFO_TRIGGER_LEVEL_ONE;
-    switch (characters) {
-    case 0:
-    case 1:
-        return U16550_OK;
-    case 4:
-        level->value = U16550_CORE_FIFO_TRIGGER_LEVEL_FOUR;
-        return U16550_OK;
-    case 8:
-        level->value = U16550_CORE_FIFO_TRIGGER_LEVEL_EIGHT;
-        return U16550_OK;
-    case 14:
-        level->value = U16550_CORE_FIFO_TRIGGER_LEVEL_FOURTEEN;
-        return U16550_OK;
-    default:
-        return U16550_BAD_CODE;
-    }
-}
-
-static uint8_t uart_encode_level(struct u16550_core_maybe_fifo_trigger_level level)
-{
-    if (!level.is_some)
-        return 0;
-    switch (level.value) {
-    case U16550_CORE_FIFO_TRIGGER_LEVEL_ONE:
-        return 1;
-    case U16550_CORE_FIFO_TRIGGER_LEVEL_FOUR:
-        return 4;
-    case U16550_CORE_FIFO_TRIGGER_LEVEL_EIGHT:
-        return 8;
-    case U16550_CORE_FIFO_TRIGGER_LEVEL_FOURTEEN:
-    default:
-        return 14;
-    }
+    to->is_some = from != 0;
+    to->value = U16550_CORE_FIFO_TRIGGER_LEVEL_ONE;
+    return to->is_some ? uart_decode_fifo_trigger_level(from, &to->value) : U16550_OK;
 }
 
 /* Reads a configuration, of which perhaps no divisor can be computed. */
 static int uart_decode_config(const struct u16550_config *from, struct u16550_core_config *to)
 {
-    static const enum u16550_core_word_length lengths[] = {
-        U16550_CORE_WORD_LENGTH_FIVE_BITS, U16550_CORE_WORD_LENGTH_SIX_BITS,
-        U16550_CORE_WORD_LENGTH_SEVEN_BITS, U16550_CORE_WORD_LENGTH_EIGHT_BITS };
-    static const enum u16550_core_parity parities[] = {
-        U16550_CORE_PARITY_DISABLED, U16550_CORE_PARITY_ODD, U16550_CORE_PARITY_EVEN,
-        U16550_CORE_PARITY_FORCED1, U16550_CORE_PARITY_FORCED0 };
-    if (uart_check_flag(from->has_prescaler) != U16550_OK || uart_check_flag(from->extra_stop_bits) != U16550_OK ||
-        uart_check_flag(from->check_cts_before_sending) != U16550_OK || from->data_bits < 5 ||
-        from->data_bits > 8 || from->parity > 4 ||
-        uart_decode_level(from->fifo_trigger_level, &to->fifo_trigger_level) != U16550_OK)
-        return U16550_BAD_CODE;
+    int status = uart_check_flag(from->has_prescaler);
+    if (status == U16550_OK)
+        status = uart_check_flag(from->extra_stop_bits);
+    if (status == U16550_OK)
+        status = uart_check_flag(from->check_cts_before_sending);
+    if (status == U16550_OK)
+        status = uart_decode_level(from->fifo_trigger_level, &to->fifo_trigger_level);
+    if (status == U16550_OK)
+        status = uart_decode_word_length(from->data_bits, &to->data_bits);
+    if (status == U16550_OK)
+        status = uart_decode_parity(from->parity, &to->parity);
     to->interrupts = from->interrupts;
     to->frequency = from->frequency;
     to->prescaler_division_factor.is_some = from->has_prescaler == 1;
     to->prescaler_division_factor.value = from->prescaler_division_factor;
     to->baud_rate = uart_baud_rate_from_integer(from->baud_rate);
-    to->data_bits = lengths[from->data_bits - 5];
     to->extra_stop_bits = from->extra_stop_bits == 1;
-    to->parity = parities[from->parity];
     to->check_cts_before_sending = from->check_cts_before_sending == 1;
-    return U16550_OK;
+    return status;
 }
 
 /* The same, if a divisor can be computed. */
@@ -210,10 +51,10 @@ static void uart_encode_config(const struct u16550_core_config *from, struct u16
     to->prescaler_division_factor = has_prescaler ? from->prescaler_division_factor.value : 0;
     to->has_prescaler = has_prescaler;
     to->interrupts = from->interrupts;
-    to->fifo_trigger_level = uart_encode_level(from->fifo_trigger_level);
-    to->data_bits = (uint8_t)(5 + (int)from->data_bits);
+    to->fifo_trigger_level = (uint8_t)(from->fifo_trigger_level.is_some ? uart_encode_fifo_trigger_level(from->fifo_trigger_level.value) : 0);
+    to->data_bits = uart_encode_word_length(from->data_bits);
     to->extra_stop_bits = from->extra_stop_bits;
-    to->parity = (uint8_t)from->parity;
+    to->parity = uart_encode_parity(from->parity);
     to->check_cts_before_sending = from->check_cts_before_sending;
 }
 
@@ -233,146 +74,33 @@ static int uart_decode_state(const struct u16550_state *from, struct uart_driver
     return U16550_OK;
 }
 
+static void uart_encode_state(struct uart_driver_state from, struct u16550_state *to)
+{
+    to->spin_limit = from.spin_limit;
+    uart_encode_config(&from.config, &to->config);
+    to->fifo_enabled = from.fifo_enabled;
+    to->saved_lsr = from.saved_lsr;
+    to->saved_msr = from.saved_msr;
+}
+
 static int uart_decode_setup(const struct u16550_setup *from, struct uart_setup *to)
 {
-    static const enum uart_transmitter_wait waits[] = {
-        UART_TRANSMITTER_WAIT_FIRST, UART_TRANSMITTER_WAIT_LAST, UART_TRANSMITTER_WAIT_NEVER };
-    if (from == NULL)
-        return U16550_NULL_POINTER;
-    if (uart_check_flag(from->checks_presence) != U16550_OK || from->wait > 2)
-        return U16550_BAD_CODE;
+    int status = from == NULL ? U16550_NULL_POINTER : uart_check_flag(from->checks_presence);
+    if (status == U16550_OK)
+        status = uart_decode_transmitter_wait(from->wait, &to->wait);
+    if (status != U16550_OK)
+        return status;
     to->checks_presence = from->checks_presence == 1;
-    to->wait = waits[from->wait];
     to->outputs = from->outputs;
     return U16550_OK;
 }
 
-static int uart_decode_size(uint16_t characters, enum uart_fifo_size *size)
+static struct uart_receive_marks uart_marks(size_t hold, size_t release)
 {
-    static const enum uart_fifo_size sizes[] = {
-        UART_FIFO_SIZE_SIXTEEN, UART_FIFO_SIZE_THIRTY_TWO, UART_FIFO_SIZE_SIXTY_FOUR,
-        UART_FIFO_SIZE_ONE_HUNDRED_TWENTY_EIGHT, UART_FIFO_SIZE_TWO_HUNDRED_FIFTY_SIX };
-    for (unsigned order = 0; order < 5; order++) {
-        if (characters == 16u << order) {
-            *size = sizes[order];
-            return U16550_OK;
-        }
-    }
-    return U16550_BAD_CODE;
-}
-
-/* --------------------------------------------------------------- errors as numbers */
-
-static int uart_status_of_divisor(struct uart_invalid_divisor_error error, int non_integer, int out_of_range)
-{
-    return error.kind == UART_INVALID_DIVISOR_ERROR_NON_INTEGER ? non_integer : out_of_range;
-}
-
-static int uart_status_of_init(struct uart_init_error error)
-{
-    switch (error.kind) {
-    case UART_INIT_ERROR_NONE:
-        return U16550_OK;
-    case UART_INIT_ERROR_DEVICE_NOT_PRESENT:
-        return U16550_INIT_DEVICE_NOT_PRESENT;
-    case UART_INIT_ERROR_INVALID_BAUD_RATE:
-        return uart_status_of_divisor(error.invalid_baud_rate, U16550_INIT_NON_INTEGER_DIVISOR,
-            U16550_INIT_DIVISOR_OUT_OF_RANGE);
-    case UART_INIT_ERROR_STALLED:
-    default:
-        return U16550_INIT_STALLED;
-    }
-}
-
-static int uart_status_of_frame(struct uart_invalid_divisor_error error)
-{
-    if (error.kind == UART_INVALID_DIVISOR_ERROR_NONE)
-        return U16550_OK;
-    return uart_status_of_divisor(error, U16550_FRAME_NON_INTEGER_DIVISOR,
-        U16550_FRAME_DIVISOR_OUT_OF_RANGE);
-}
-
-static int uart_status_of_frame_when_idle(struct uart_frame_error error)
-{
-    if (error.kind == UART_FRAME_ERROR_NONE)
-        return U16550_OK;
-    if (error.kind == UART_FRAME_ERROR_STALLED)
-        return U16550_FRAME_STALLED;
-    return uart_status_of_frame(error.invalid_baud_rate);
-}
-
-static int uart_status_of_send(enum uart_byte_send_error error)
-{
-    switch (error) {
-    case UART_BYTE_SEND_ERROR_NONE:
-        return U16550_OK;
-    case UART_BYTE_SEND_ERROR_NO_CAPACITY:
-        return U16550_SEND_NO_CAPACITY;
-    case UART_BYTE_SEND_ERROR_REMOTE_NOT_CLEAR_TO_SEND:
-    default:
-        return U16550_SEND_NOT_CLEAR_TO_SEND;
-    }
-}
-
-static int uart_status_of_remote(enum uart_remote_ready_to_receive_error error)
-{
-    switch (error) {
-    case UART_REMOTE_READY_TO_RECEIVE_ERROR_NONE:
-        return U16550_OK;
-    case UART_REMOTE_READY_TO_RECEIVE_ERROR_NO_REMOTE_CONNECTED_NO_DSR:
-        return U16550_REMOTE_NO_DSR;
-    case UART_REMOTE_READY_TO_RECEIVE_ERROR_NO_REMOTE_CONNECTED_NO_CD:
-        return U16550_REMOTE_NO_CD;
-    case UART_REMOTE_READY_TO_RECEIVE_ERROR_REMOTE_NOT_CLEAR_TO_SEND:
-    default:
-        return U16550_REMOTE_NOT_CLEAR_TO_SEND;
-    }
-}
-
-static int uart_status_of_attach(enum uart_attach_error error)
-{
-    switch (error) {
-    case UART_ATTACH_ERROR_NONE:
-        return U16550_OK;
-    case UART_ATTACH_ERROR_DIVISOR_LATCH_OPEN:
-        return U16550_ATTACH_DIVISOR_LATCH_OPEN;
-    case UART_ATTACH_ERROR_LOOPBACK:
-        return U16550_ATTACH_LOOPBACK;
-    case UART_ATTACH_ERROR_NO_DIVISOR:
-    default:
-        return U16550_ATTACH_NO_DIVISOR;
-    }
-}
-
-static int uart_status_of_stuck(struct u16550_core_stuck_error error)
-{
-    switch (error.kind) {
-    case U16550_CORE_STUCK_ERROR_NONE:
-        return U16550_OK;
-    case U16550_CORE_STUCK_ERROR_UNKNOWN:
-        return U16550_RING_STUCK_UNKNOWN;
-    case U16550_CORE_STUCK_ERROR_PENDING:
-    default:
-        return U16550_RING_STUCK_PENDING;
-    }
-}
-
-static int uart_status_of_loopback(const struct uart_loopback_error *error)
-{
-    switch (error->kind) {
-    case UART_LOOPBACK_ERROR_NONE:
-        return U16550_OK;
-    case UART_LOOPBACK_ERROR_SEND_ERROR:
-        return error->send_error == UART_BYTE_SEND_ERROR_NO_CAPACITY ?
-            U16550_LOOPBACK_NO_CAPACITY : U16550_LOOPBACK_NOT_CLEAR_TO_SEND;
-    case UART_LOOPBACK_ERROR_UNEXPECTED_LOOPBACK_BYTE:
-        return U16550_LOOPBACK_UNEXPECTED_BYTE;
-    case UART_LOOPBACK_ERROR_UNEXPECTED_LOOPBACK_MSG:
-        return U16550_LOOPBACK_UNEXPECTED_MSG;
-    case UART_LOOPBACK_ERROR_STALLED:
-    default:
-        return U16550_LOOPBACK_STALLED;
-    }
+    struct uart_receive_marks marks;
+    marks.hold = hold;
+    marks.release = release;
+    return marks;
 }
 
 static void uart_encode_failure(const struct uart_loopback_error *error, struct u16550_loopback_failure *to)
@@ -383,47 +111,35 @@ static void uart_encode_failure(const struct uart_loopback_error *error, struct 
     uart_copy_bytes(to->actual_msg, error->unexpected_loopback_msg_actual.bytes, 16);
 }
 
-/* Writes what was expected and shown, and returns the number of the error. */
-static int uart_encode_difference(const struct uart_configuration_error *error, struct u16550_difference *to)
+static struct u16550_difference uart_difference(unsigned expected, unsigned shown)
+{
+    struct u16550_difference made = { (uint16_t)expected, (uint16_t)shown };
+    return made;
+}
+
+static struct u16550_difference uart_encode_difference(const struct uart_configuration_error *error)
 {
     switch (error->kind) {
-    case UART_CONFIGURATION_ERROR_NONE:
-        return U16550_OK;
-    case UART_CONFIGURATION_ERROR_NO_DIVISOR:
-        to->expected = 0;
-        to->shown = 0;
-        return U16550_CONFIGURATION_NO_DIVISOR;
     case UART_CONFIGURATION_ERROR_LINE_CONTROL:
-        to->expected = error->line_control_expected;
-        to->shown = error->line_control_shown;
-        return U16550_CONFIGURATION_LINE_CONTROL;
+        return uart_difference(error->line_control_expected, error->line_control_shown);
     case UART_CONFIGURATION_ERROR_MODEM_CONTROL:
-        to->expected = error->modem_control_expected;
-        to->shown = error->modem_control_shown;
-        return U16550_CONFIGURATION_MODEM_CONTROL;
+        return uart_difference(error->modem_control_expected, error->modem_control_shown);
     case UART_CONFIGURATION_ERROR_INTERRUPTS:
-        to->expected = error->interrupts_expected;
-        to->shown = error->interrupts_shown;
-        return U16550_CONFIGURATION_INTERRUPTS;
+        return uart_difference(error->interrupts_expected, error->interrupts_shown);
     case UART_CONFIGURATION_ERROR_DIVISOR:
-        to->expected = error->divisor_expected;
-        to->shown = error->divisor_shown;
-        return U16550_CONFIGURATION_DIVISOR;
+        return uart_difference(error->divisor_expected, error->divisor_shown);
     case UART_CONFIGURATION_ERROR_FIFOS:
+        return uart_difference(error->fifos_expected, error->fifos_shown);
+    case UART_CONFIGURATION_ERROR_NO_DIVISOR:
+    case UART_CONFIGURATION_ERROR_NONE:
     default:
-        to->expected = error->fifos_expected;
-        to->shown = error->fifos_shown;
-        return U16550_CONFIGURATION_FIFOS;
+        return uart_difference(0, 0);
     }
 }
 
-static struct u16550_handled uart_encode_handled(struct uart_handled handled)
+static struct u16550_handled uart_encode_handled(struct uart_handled from)
 {
-    struct u16550_handled made = { handled.served, U16550_HANDLE_IDLE };
-    if (handled.end == UART_HANDLE_END_UNKNOWN)
-        made.end = U16550_HANDLE_UNKNOWN;
-    else if (handled.end == UART_HANDLE_END_LIMIT)
-        made.end = U16550_HANDLE_LIMIT;
+    struct u16550_handled made = { from.served, uart_encode_handle_end(from.end) };
     return made;
 }
 
@@ -435,66 +151,100 @@ static struct u16550_urgent uart_encode_urgent(struct u16550_core_maybe_u8 urgen
 
 /* --------------------------------------------------------------- making and ending a driver */
 
-/* Makes a driver, if its memory and its functions are there, and no call over one that is there is not done. */
-static int uart_make(struct u16550 *uart, const struct u16550_io *io, uintptr_t base, uint8_t stride, int refused,
-                     const struct uart_driver_state *state)
+/* Refuses functions that are not there. */
+static int uart_check_io(const struct u16550_io *io)
 {
-    struct u16550_device device = { { NULL, NULL, NULL }, 0, 0 };
+    int status = UART_USABLE(io, io);
+    return status == U16550_OK && (io->read == NULL || io->write == NULL) ? U16550_NULL_POINTER : status;
+}
+
+/* Refuses memory of a driver in which a call is not done. */
+static int uart_check_memory(struct u16550 *uart)
+{
     int status = UART_USABLE(uart, handle);
-    if (status != U16550_OK)
-        return status;
-    if (uart->is_busy == UART_BUSY)
-        return U16550_BUSY;
-    status = UART_USABLE(io, io);
-    if (status == U16550_OK)
-        status = refused;
-    if (status == U16550_OK && (io->read == NULL || io->write == NULL))
-        status = U16550_NULL_POINTER;
-    if (status != U16550_OK)
-        return status;
+    return status == U16550_OK && uart->is_busy == UART_BUSY ? U16550_BUSY : status;
+}
+
+/*
+ * Begins to make a driver in memory that was looked at. A handler that comes from now on finds a call that is not done, and never a part of
+ * the old driver with one of the new.
+ */
+static void uart_begin(struct u16550 *uart)
+{
+    uart->is_busy = UART_BUSY;
+    UART_FENCE();
+}
+
+/* Makes a driver whose functions get addresses from base on, and ends what was begun. */
+static int uart_put(struct u16550 *uart, const struct u16550_io *io, uintptr_t base, uint8_t stride, const struct uart_driver_state *state)
+{
+    struct u16550_device device;
     device.io = *io;
     device.base = base;
     device.stride = stride;
-    /* A handler that comes now finds a call that is not done, and never a part of the old driver with one of the new. */
-    uart->is_busy = UART_BUSY;
-    UART_FENCE();
     uart->mark = UART_MARK;
     uart->has_rings = false;
     uart->ring.uart = state == NULL ? uart_new_with_backend(device) : uart_from_state(device, state);
     return uart_leave(uart, U16550_OK);
 }
 
+/* Makes a driver, unless it is refused, or its memory or its functions are not there. */
+static int uart_make(struct u16550 *uart, const struct u16550_io *io, uintptr_t base, uint8_t stride, int refused)
+{
+    int status = uart_check_memory(uart);
+    if (status == U16550_OK)
+        status = UART_USABLE(io, io);
+    if (status == U16550_OK)
+        status = refused;
+    if (status == U16550_OK)
+        status = uart_check_io(io);
+    if (status != U16550_OK)
+        return status;
+    uart_begin(uart);
+    return uart_put(uart, io, base, stride, NULL);
+}
+
+/* Refuses registers in memory that cannot be there. */
+static int uart_check_place(uintptr_t base, uint8_t stride)
+{
+    if (base == 0)
+        return U16550_BAD_BASE;
+    if (stride == 0 || (stride & (stride - 1)) != 0)
+        return U16550_BAD_STRIDE;
+    return uart_if(base > UINTPTR_MAX - (uintptr_t)UART_SPR * stride, U16550_BAD_BASE);
+}
+
 int u16550_new(struct u16550 *uart, const struct u16550_io *io)
 {
-    return uart_make(uart, io, 0, 1, U16550_OK, NULL);
+    return uart_make(uart, io, 0, 1, U16550_OK);
 }
 
 int u16550_new_port(struct u16550 *uart, const struct u16550_io *io, uint16_t base)
 {
-    return uart_make(uart, io, base, 1,uart_if(base > 0xfff8, U16550_BAD_BASE), NULL);
+    return uart_make(uart, io, base, 1, uart_if(base > UINT16_MAX - UART_SPR, U16550_BAD_BASE));
 }
 
 int u16550_new_mmio(struct u16550 *uart, const struct u16550_io *io, uintptr_t base, uint8_t stride)
 {
-    int refused = U16550_OK;
-    if (base == 0)
-        refused = U16550_BAD_BASE;
-    else if (stride == 0 || (stride & (stride - 1)) != 0)
-        refused = U16550_BAD_STRIDE;
-    else if (base > UINTPTR_MAX - (uintptr_t)7 * stride)
-        refused = U16550_BAD_BASE;
-    return uart_make(uart, io, base, stride, refused, NULL);
+    return uart_make(uart, io, base, stride, uart_check_place(base, stride));
 }
 
 int u16550_from_state(struct u16550 *uart, const struct u16550_io *io, const struct u16550_state *state)
 {
     struct uart_driver_state decoded;
-    int refused = UART_USABLE(state, state);
-    if (refused == U16550_OK && UART_USABLE(io, io) == U16550_OK && (io->read == NULL || io->write == NULL))
-        refused = U16550_NULL_POINTER;
-    if (refused == U16550_OK)
-        refused = uart_decode_state(state, &decoded);
-    return uart_make(uart, io, 0, 1, refused, &decoded);
+    int status = uart_check_memory(uart);
+    if (status == U16550_OK)
+        status = UART_USABLE(io, io);
+    if (status == U16550_OK)
+        status = UART_USABLE(state, state);
+    if (status == U16550_OK)
+        status = uart_check_io(io);
+    if (status == U16550_OK)
+        status = uart_decode_state(state, &decoded);
+    if (status != U16550_OK)
+        return status;
+    uart_begin(uart);
+    return uart_put(uart, io, 0, 1, &decoded);
 }
 
 int u16550_end(struct u16550 *uart)
@@ -525,12 +275,78 @@ int u16550_set_io(struct u16550 *uart, const struct u16550_io *io)
     int status = uart_enter(uart);
     if (status != U16550_OK)
         return status;
-    status = UART_USABLE(io, io);
-    if (status == U16550_OK && (io->read == NULL || io->write == NULL))
-        status = U16550_NULL_POINTER;
+    status = uart_check_io(io);
     if (status == U16550_OK)
         uart_backend_mut(&uart->ring.uart)->io = *io;
     return uart_leave(uart, status);
+}
+
+int u16550_test_loopback(struct u16550 *uart, struct u16550_loopback_failure *failure)
+{
+    struct uart_loopback_error error;
+    int status = uart_enter(uart);
+    if (status != U16550_OK)
+        return status;
+    error = uart_test_loopback(&uart->ring.uart);
+    status = uart_status_of_loopback_error(&error);
+    if (status != U16550_OK && failure != NULL)
+        uart_encode_failure(&error, failure);
+    return uart_leave(uart, status);
+}
+
+int u16550_check_configured(struct u16550 *uart, uint8_t outputs, struct u16550_difference *difference)
+{
+    struct uart_configuration_error error;
+    int status = uart_enter(uart);
+    if (status != U16550_OK)
+        return status;
+    status = UART_ALIGNED(difference, difference);
+    if (status != U16550_OK)
+        return uart_leave(uart, status);
+    error = uart_check_configured(&uart->ring.uart, outputs);
+    status = uart_status_of_configuration_error(&error);
+    if (status != U16550_OK && difference != NULL)
+        *difference = uart_encode_difference(&error);
+    return uart_leave(uart, status);
+}
+
+/* Brings the chip into a state in which text goes out, as the emergency console of the Rust crate does. */
+static int uart_take_over(struct u16550_core_driver *uart)
+{
+    const uint8_t no_text = U16550_LCR_DLAB | U16550_LCR_SET_BREAK;
+    uint8_t kept, lcr = uart_lcr(uart);
+    for (uint64_t writes = 0; writes < uart->spin_limit && (lcr & no_text) != 0; writes++) {
+        uart_device_write(&uart->backend, UART_LCR, (uint8_t)(lcr & ~no_text));
+        lcr = uart_lcr(uart);
+    }
+    if ((lcr & no_text) != 0)
+        return U16550_ATTACH_DIVISOR_LATCH_OPEN;
+    uart_device_write(&uart->backend, UART_IER, 0);
+    /* The other outputs stay: loopback and a flow control by the chip would hold text back. */
+    kept = uart_mcr(uart) & (U16550_MCR_OUT_1 | U16550_MCR_OUT_2_INT_ENABLE);
+    uart_set_modem_control(uart, kept | U16550_MCR_DTR | U16550_MCR_RTS);
+    return uart_if((uart_mcr(uart) & U16550_MCR_LOOP_BACK) != 0, U16550_ATTACH_LOOPBACK);
+}
+
+int u16550_emergency(struct u16550 *uart)
+{
+    struct u16550_core_driver console;
+    int status = uart_enter(uart);
+    if (status != U16550_OK)
+        return status;
+    if (uart->has_rings)
+        return uart_leave(uart, U16550_HAS_RINGS);
+    console = uart_new_with_backend(uart->ring.uart.backend);
+    uart_set_spin_limit(&console, uart->ring.uart.spin_limit);
+    status = uart_take_over(&console);
+    if (status == U16550_OK)
+        uart->ring.uart = console;
+    return uart_leave(uart, status);
+}
+
+const char *u16550_version(void)
+{
+    return U16550_VERSION;
 }
 
 int u16550_default_config(struct u16550_config *config)
@@ -555,12 +371,10 @@ int u16550_nearest(const struct u16550_config *config, uint32_t per_mille, struc
     if (status != U16550_OK)
         return status;
     found = uart_config_nearest(decoded, per_mille);
-    if (found.error.kind == UART_NEAREST_DIVISOR_ERROR_TOO_FAR)
-        return U16550_NEAREST_TOO_FAR;
-    if (found.error.kind != UART_NEAREST_DIVISOR_ERROR_NONE)
-        return U16550_NEAREST_OUT_OF_RANGE;
-    uart_encode_config(&found.value, nearest);
-    return U16550_OK;
+    status = uart_status_of_nearest_divisor_error(&found.error);
+    if (status == U16550_OK)
+        uart_encode_config(&found.value, nearest);
+    return status;
 }
 
 int u16550_dump_divisor(const struct u16550_dump *dump, uint16_t *divisor)
@@ -608,10 +422,8 @@ int u16550_ring_new(struct u16550 *uart, uint8_t *memory, size_t size, size_t tx
     if (status != U16550_OK)
         return uart_leave(uart, status);
     made = uart_ring_new(&cells, uart->ring.uart, tx_capacity, rx_capacity);
-    if (made.is_error) {
-        return uart_leave(uart, made.error.second == UART_RING_ERROR_BAD_CAPACITY ? U16550_RING_BAD_CAPACITY
-                                                                                  : U16550_RING_OUT_OF_MEMORY);
-    }
+    if (made.is_error)
+        return uart_leave(uart, uart_status_of_ring_error(&made.error.second));
     uart->ring = made.value;
     uart->has_rings = true;
     return uart_leave(uart, U16550_OK);
@@ -661,7 +473,7 @@ uart_line_ports_lower(struct uart_line_ports *ports, size_t port, size_t limit, 
     lowered = uart_ring_lower_line(&at->uart->ring, limit, rounds);
     uart_leave(at->uart, U16550_OK);
     at->enabled = lowered.enabled;
-    at->status = uart_status_of_stuck(lowered.handled.error);
+    at->status = uart_status_of_stuck_error(&lowered.handled.error);
     if (at->status != U16550_OK)
         return false;
     at->handled = uart_encode_handled(lowered.handled.value);

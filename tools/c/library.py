@@ -1,13 +1,14 @@
 """All functions that are asked for, and what they need, as one file of C."""
 import re
 
+import in_place
 import passes
 import syntax as c
 from body import NATIVE, OF_C, Body, Pair
 from names import snake
 from representation import NO_DEVICE, Representation, comment_of, safe
 from translate import Unknown, head
-from tree import DEVICE, OF_CALLER, OWN, PORTS, Forest, SizeOf
+from tree import DEVICE, OF_CALLER, PORTS, Forest, SizeOf
 
 # What C has for a type that has to have a trait.
 OF_TRAITS = {
@@ -16,6 +17,8 @@ OF_TRAITS = {
     "uart_16550::backend::ByteAccess": DEVICE,
     "uart_ring::line::LinePorts": PORTS,
 }
+# The structs of C that are large, as are those that have one of them.
+HOLD_A_DRIVER = {"u16550_core_driver"}
 HELPERS = {
     "uart_copy_bytes": """/* Copies so many bytes between two places that do not overlap. */
 static inline void uart_copy_bytes(uint8_t *to, const uint8_t *from, size_t count)
@@ -48,37 +51,73 @@ WRITTEN = {**READ, 2: "FCR"}
 OFFSETS = {"uart_device_read": READ, "uart_read_register": READ, "uart_device_write": WRITTEN, "uart_write_register": WRITTEN}
 
 
+# A compiler is told to put a function in the place of its calls up to so many lines, and up to so many if one of the calls is in a loop: it
+# would not by itself, and then a byte that is received takes twice as many instructions.
+SHORT, SHORT_IN_LOOP = 6, 12
+
+
 class Written:
     """A function in C."""
 
-    def __init__(self, name, parameters, result, comment):
-        self.name, self.parameters, self.result, self.comment = name, parameters, result, comment
-        self.statements, self.proved = [], []
+    def __init__(self, name, parameters, result, comment, proved):
+        self.name, self.parameters, self.result, self.comment, self.proved = name, parameters, result, comment, proved
+        self.statements, self.is_public = [], False
 
-    def top(self):
-        return top("static", self.result, self.name, [c.declared(one.of, one.name) for one in self.parameters])
+    def publish(self, names):
+        """Makes it one of the header, whose parameters have the names that they have there."""
+        self.is_public = True
+        if len(names) != len(self.parameters):
+            raise Unknown(f"{self.name} has {len(self.parameters)} parameters, and {len(names)} in the header")
+        for one, name in zip(self.parameters, names):
+            one.name = name
 
-    def text(self):
+    def called_in_loops(self):
+        """The names of the functions that it calls in a loop."""
+        loops = [one for one in c.all_statements(self.statements) if isinstance(one, (c.For, c.While, c.Loop))]
+        inside = [statement for loop in loops for statement in c.all_statements([loop])]
+        return {part.name for one in inside for whole in c.expressions(one) for part in c.every(whole) if isinstance(part, c.CallOf)}
+
+    def text(self, in_loops):
+        """Its text. `in_loops` are the functions that are called in loops."""
         body = c.lines(self.statements)
-        return "\n".join([self.comment + "\n".join(self.top()), "{", *body, "}", ""])
+        is_short = len(body) <= (SHORT_IN_LOOP if self.name in in_loops else SHORT)
+        word = "" if self.is_public else "static inline" if is_short else "static"
+        first = top(word, self.result, self.name, [c.declared(one.of, one.name) for one in self.parameters])
+        return "\n".join([self.comment + "\n".join(first), "{", *body, "}", ""])
+
+
+def without_destructors(key):
+    """A key without what says of types that nothing is to be done at their end: each crate says it by a name of its own."""
+    return (*key[:2], tuple(one for one in key[2] if not one[0].endswith("::Destruct++none")))
 
 
 def top(word, result, name, parameters):
     """The lines of the top of a function."""
     given = ", ".join(parameters) or "void"
-    whole = f"{word} {c.declared(result, name)}({given})"
+    whole = f"{word} {c.declared(result, name)}({given})".lstrip()
     if len(whole) <= c.WIDTH:
         return [whole]
-    return [f"{word} {result.text()}".rstrip(), *c.wrapped(f"{name}({given})")]
+    return [f"{word} {result.text()}".strip(), *c.wrapped(f"{name}({given})")]
 
 
 class Library:
-    def __init__(self, program, source, public, device_methods=None):
-        self.forest = Forest(program, lambda name: name in NATIVE or name in OF_C)
-        self.source = source
+    """`public` has the C names of types that the header has, `prefix` is that of its bits, and `names` those of functions that would have
+    that of another one."""
+
+    def __init__(self, program, source, public, own, prefix, names=None):
+        self.forest = Forest(program, lambda name: name in NATIVE or name in OF_C, own)
+        self.source, self.prefix, self.names = source, prefix, names or {}
         self.types = Representation(self.forest, source, public)
-        self.functions, self.order, self.failed = {}, [], []
+        self.functions, self.order, self.failed, self.exports = {}, [], [], {}
         self.makers, self.helpers, self.bits, self.offsets, self.statics = {}, set(), {}, {}, {}
+        # What the header calls the offsets of registers that are read, and of those that are written; and the numbers that functions return.
+        self.registers, self.returned = None, {}
+        # Keys of one function by what they have in common, and the functions that only compute.
+        self.same, self.quiet = {}, set()
+
+    def export(self, function, name, parameters):
+        """A function of the header: its name there, and those of its parameters."""
+        self.exports[function] = (name, parameters)
 
     # What is asked for.
 
@@ -103,18 +142,32 @@ class Library:
 
     def function(self, key):
         """The function of a key, which is translated with all that it calls, before it."""
+        key = self.same.setdefault(without_destructors(key), key)
         if key not in self.functions:
             self.functions[key] = None
             body = Body(self, key)
             parameters = [one for item in body.parameters if item is not None
                           for one in ([item.pointer, item.length] if isinstance(item, Pair) else [item])]
             info = body.information
-            written = Written(self.name_of(key), parameters, body.result, comment_of(info.comment, proved=self.source.proved(info)) if info else "")
-            written.proved = self.source.proved(info)
-            written.statements = passes.run(body.statements, body.result, self.with_names)
+            is_public = key[0] in self.exports
+            # What is proved of a function of the header is said there.
+            proved = [] if is_public else self.source.proved(info)
+            written = Written(self.name_of(key), parameters, body.result, comment_of(info.comment, proved=proved) if info else "", proved)
+            if is_public:
+                written.publish(self.exports[key[0]][1])
+            written.statements = in_place.run(passes.run(body.statements, body.result, self.with_names), self.is_large)
+            if self.exports:
+                written.statements = passes.without_quiet(written.statements, self.quiet)
+                while passes.remove_dead(written.statements):
+                    pass
+                if all(passes.is_quiet(one, self.quiet) for one in written.statements):
+                    self.quiet.add(written.name)
             passes.on_expressions(written.statements, self.with_register)
             name_variables(body, written)
+            if self.registers:
+                self.name_registers(written)
             passes.declare(written.statements, parameters)
+            written.statements[:0] = passes.unread(written.statements, parameters)
             self.functions[key] = written
             self.order.append(written)
         if self.functions[key] is None:
@@ -122,16 +175,58 @@ class Library:
         return self.functions[key]
 
     def name_of(self, key):
+        if key[0] in self.exports:
+            return self.exports[key[0]][0]
+        return self.names.get(key) or self.plain_name_of(key)
+
+    def plain_name_of(self, key):
         path = key[0].split("::")
         name = snake(path[-1].replace("+", "_"))
-        of = snake(re.sub(r"[+].*", "", path[-2])) if path[-2][:1].isupper() else ""
-        of = re.sub("^uart16550_?", "", of)
+        of = self.name_of_type(path[0], path[-2]) if path[-2][:1].isupper() else ""
         if len(path) > 2 and path[-3] == "embedded_io":
             of = ""
-        if path[0] in OWN:
+        if len(path) > 2 and path[-3] == "fn":
+            # What is written within a function, without a name.
+            of = snake(path[-2])
+        if path[0] in self.forest.own:
             return "_".join(one for one in ("uart", of, name) if one)
         inner = [self.types.bare_name(one) for one in key[1] if one not in (DEVICE, PORTS) and one[0] != "Num"]
         return re.sub(r"\W", "_", "_".join(["uart", of or path[-2], name, *inner]))
+
+    def name_of_type(self, crate, name):
+        """The name of the type of an implementation."""
+        of = self.source.type_of(crate, name)
+        is_of_trait = of and of != name and name[len(of):] in self.source.traits
+        return re.sub("^uart(16550)?_?", "", snake(of if is_of_trait else re.sub(r"[+].*", "", name)))
+
+    def clashes(self):
+        """Names for the functions that would have one with another: a method has its name before that of its type, another function has that
+        of its module, and where that is not enough the types that it is over."""
+        plain, out = {}, {}
+        for key in self.functions:
+            name = self.exports[key[0]][0] if key[0] in self.exports else self.plain_name_of(key)
+            plain.setdefault(name, []).append(key)
+        for name, keys in plain.items():
+            for key in keys:
+                if len(keys) > 1 and key[0] not in self.exports:
+                    out[key] = self.longer_name(key, name, keys)
+                # In C++ a function would hide a struct of its name.
+                if out.get(key, name) in self.types.names:
+                    out[key] = f"{out.get(key, name)}_of"
+        return out
+
+    def longer_name(self, key, name, keys):
+        """A name for a function that has this one with others."""
+        crate, *_, module, method = key[0].split("::")
+        if module[:1].isupper():
+            if any(other[0] in self.exports for other in keys):
+                return f"uart_{snake(method)}_{self.name_of_type(crate, module)}"
+            return name if crate == self.forest.own[-1] else f"{crate}_{name.removeprefix('uart_')}"
+        same = [other for other in keys if other[0] == key[0]]
+        differing = [order for order, of in enumerate(key[1]) if any(other[1][order] != of for other in same)]
+        types = "".join(f"_{self.types.bare_name(key[1][order])}" for order in differing)
+        is_alone = len({other[0] for other in keys}) == 1
+        return f"{name}{types}" if is_alone else f"uart_{snake(module)}_{name.removeprefix('uart_')}{types}"
 
     # What bodies ask for.
 
@@ -157,6 +252,37 @@ class Library:
             return c.CallOf(one.name, [one.arguments[0], offset, *one.arguments[2:]], one.of, one.is_pure, one.expects, one.fields)
         return one
 
+    def is_large(self, of):
+        """Whether a type of C is a struct that has a driver in it."""
+        structs = in_place.large(self.types.declarations, HOLD_A_DRIVER)
+        return isinstance(of, c.Named) and of.name.removeprefix("struct ") in structs
+
+    def name_registers(self, written):
+        """Names the registers with which an offset is compared."""
+        is_written = any(one.name == "value" for one in written.parameters)
+        names = self.registers[1 if is_written else 0]
+
+        def is_offset(one):
+            while isinstance(one, c.Cast):
+                one = one.operand
+            return isinstance(one, c.Var) and one.variable.name == "offset"
+
+        def named(one):
+            return c.Literal(one.value, one.of, (names[one.value],)) if isinstance(one, c.Literal) and one.value in names else one
+
+        def change(one):
+            if isinstance(one, c.Binary) and one.operator in ("==", "!=") and is_offset(one.left):
+                return c.Binary(one.operator, one.left, named(one.right), one.of)
+            return one
+
+        passes.on_expressions(written.statements, change)
+        for one in c.all_statements(written.statements):
+            if isinstance(one, c.Switch) and is_offset(one.on):
+                one.cases = [(numbers and list(map(named, numbers)), body) for numbers, body in one.cases]
+            if isinstance(one, c.Return) and isinstance(one.value, c.Literal) and written.is_public and one.value.value in self.returned \
+                    and written.result.text() == "uint32_t":
+                one.value = c.Literal(one.value.value, one.value.of, (self.returned[one.value.value],))
+
     def helper(self, name, arguments, of):
         self.helpers.add(name)
         return c.CallOf(name, arguments, of)
@@ -181,8 +307,8 @@ class Library:
         if not names or sum(bits[name] for name in names) != literal.value:
             return literal
         for name in names:
-            self.bits[f"U16550_{register}_{name}"] = bits[name]
-        return c.Literal(literal.value, literal.of, tuple(f"U16550_{register}_{name}" for name in names))
+            self.bits[f"{self.prefix}_{register}_{name}"] = bits[name]
+        return c.Literal(literal.value, literal.of, tuple(f"{self.prefix}_{register}_{name}" for name in names))
 
     def size_of(self, item):
         """How many bytes a struct of bytes has."""
@@ -329,6 +455,8 @@ class Library:
     def slice_of(self, pair):
         """A slice as the struct of C."""
         inner = pair.pointer.of
+        if not (isinstance(inner.to, c.Number) and inner.to.bits == 8):
+            raise Unknown(f"a slice of {inner.to.text()} in a struct")
         of = ("Struct", "&[]", (("Ref", ("Int", 8), not inner.is_const), ("Int", 64)))
         return self.made(of, None, [("data", pair.pointer), ("len", pair.length)])
 
@@ -347,6 +475,19 @@ class Library:
 
     # Text.
 
+    def called(self):
+        """The functions without those whose calls have gone on the way."""
+        in_loops, out, text = self.called_in_loops(), [], "" if self.exports else None
+        for one in reversed(self.order):
+            if text is None or one.is_public or re.search(rf"\b{one.name}\(", text):
+                out.insert(0, one)
+                text = None if text is None else text + one.text(in_loops)
+        return out
+
+    def called_in_loops(self):
+        """The names of the functions that are called in loops."""
+        return {name for one in self.order for name in one.called_in_loops()}
+
     def declarations(self):
         return [text for _, text in self.types.declarations]
 
@@ -356,7 +497,8 @@ class Library:
         for values, name in self.statics.items():
             shown = ", ".join(map(str, values))
             out.append("\n".join(c.wrapped(f"static const uint8_t {name}[{len(values)}] = {{ {shown} }};")) + "\n")
-        functions = "\n".join(one.text() for one in self.order)
+        in_loops = self.called_in_loops()
+        functions = "\n".join(one.text(in_loops) for one in self.called())
         # What was made on the way and is gone again has left makers that nobody calls.
         makers, called = [], functions
         for text in reversed(list(self.makers.values())):

@@ -59,19 +59,27 @@ class Function:
         self.parameters, self.result, self.is_public, self.comment, self.bindings = parameters, result, is_public, comment, bindings
         # The definitions that its contract says what it does by.
         self.cited = cited
+        # Its clauses, with their names, and where the definitions are that its file uses.
+        self.ensures, self.uses = [], {}
+
+    def with_comment(self, other):
+        """The same with the comment of another one, if there is such a one."""
+        return Function(self.parameters, self.result, self.is_public, other.comment, self.bindings, self.cited) if other else self
 
 
 class Source:
     def __init__(self, root, crates):
         self.fields, self.types_of_fields, self.variants, self.functions, self.bits, self.comments = {}, {}, {}, {}, {}, {}
-        self.definitions = {}
+        # Definitions by their names, and by crate, module and name.
+        self.definitions, self.defined, self.traits = {}, {}, {}
         for crate in crates:
             for file in sorted((root / "crates" / crate / "specs").glob("*.antt")):
-                self.define(file.read_text(encoding="utf-8").split("\n"))
+                self.define(crate, file.stem, file.read_text(encoding="utf-8").split("\n"))
             for file in sorted((root / "crates" / crate / "src").rglob("*.rt")):
-                self.read(crate, re.sub(r"(?m)^\s*ghost use [^;]*;\n", "", file.read_text(encoding="utf-8")))
+                text = file.read_text(encoding="utf-8")
+                self.read(crate, file.stem, re.sub(r"(?m)^\s*ghost use [^;]*;\n", "", text), used(text))
 
-    def define(self, lines):
+    def define(self, crate, module, lines):
         """The comments in front of the definitions of a file."""
         for order, line in enumerate(lines):
             found = re.match(r"(?:abbrev|data|record)\s+(?:pub\s+)?(\w+)", line)
@@ -83,7 +91,7 @@ class Source:
                     break
                 comment.insert(0, before[2:].strip())
             if comment:
-                self.definitions[found[1]] = " ".join(comment)
+                self.definitions[found[1]] = self.defined[crate, module, found[1]] = " ".join(comment)
 
     def proved(self, function):
         """What is proved of a function, in the words of the definitions that its contract cites."""
@@ -94,13 +102,32 @@ class Source:
                 out.append(words)
         return out
 
-    def read(self, crate, text):
+    def clauses(self, function, are_plain):
+        """What is proved of a function: each clause by its name, in the words of the definition that something then is, or as it is where it has
+        conditions or says it by no definition. Definitions that are plain say only how C has a value."""
+        out = []
+        for name, clause in function.ensures:
+            value = [one for one in re.findall(r"[\w.]+", clause.split("\u2261")[-1]) if not are_plain(function.uses.get(one))]
+            words = self.defined.get(function.uses.get(value[0])) if value and "\u2192" not in clause else None
+            shown = re.sub(r"^`\w+`: ", "", words) if words and words.isascii() else in_ascii(clause)
+            out.append((name, shown if name or shown.startswith("result ") else f"the result is {shown}"))
+        return out
+
+    def read(self, crate, module, text, uses):
         for found in re.finditer(r"(?m)^(?:pub(?:\([a-z]+\))? )?(struct|enum) (\w+)[^;{(]*([;{(])", text):
             self.read_type(crate, text, found)
-        blocks = [(found.start(), found[1]) for found in re.finditer(r"(?m)^impl(?:<[^{]*?>)? (?:[\w:<>]+ for )?(\w+)", text)]
-        for found in re.finditer(r"(?m)^( *)(pub(?:\([a-z]+\))? )?(?:const )?fn (\w+)(?:<[^(]*>)?\(", text):
-            of = next((name for at, name in reversed(blocks) if at < found.start()), None) if found[1] else None
-            self.functions[crate, of, found[3]] = self.function(text, found)
+        blocks = [(found.start(), found[1] or found[2]) for found in
+                  re.finditer(r"(?m)^impl(?:<[^{]*?>)? (?:[\w:<>]+ for )?(\w+)|^(?:pub )?trait (\w+)", text)]
+        for found in re.finditer(r"(?m)^( *)(pub(?:\([a-z]+\))? )?(?:const |extern \"C\" )?fn (\w+)(?:<[^(]*>)?\(", text):
+            at, of = next((block for block in reversed(blocks) if block[0] < found.start()), (0, None)) if found[1] else (0, None)
+            function = self.functions[crate, of, found[3]] = self.function(text, found)
+            function.uses = uses
+            if of is None:
+                self.functions[crate, f"module {module}", found[3]] = function
+            if re.match(r"(pub )?trait", text[at:]):
+                # An implementation says less of it.
+                self.functions[crate, None, found[3]] = function
+                self.traits.setdefault(of, (crate, {}))[1][found[3]] = function
         for found in re.finditer(r"const (\w+): (\w+) = \w+\(([^;]*?)\);", text):
             value = number(found[3])
             if value is not None:
@@ -133,17 +160,29 @@ class Source:
             parameters.append(("self" if "self" in name else re.sub(r"^mut ", "", name.strip()).strip("&"), of.strip()))
         result = re.match(r"\)\s*->\s*([^\n{]+)", text[end:])
         body = bare(text[opened:closing(text, opened)]) if has_body else ""
-        return Function(parameters, (result[1] if result else "").strip(), found[2] == "pub ",
+        made = Function(parameters, (result[1] if result else "").strip(), found[2] == "pub ",
                         documentation(text, found.start()), bindings(body), cited(text[end:opened]) if has_body else [])
+        made.ensures = ensured(text[end:opened]) if has_body else []
+        return made
 
     def find(self, name):
         """What the source says of a function of the MIR, or None."""
         path = name.split("::")
-        for of in (path[-2], None, re.sub(r"(Default|Clone|PartialEq|Flags|Backend|Read|Write|ReadReady|WriteReady)$", "", path[-2])):
+        of = self.type_of(path[0], path[-2])
+        crate, trait = self.traits.get(path[-2][len(of or ""):], (path[0], {}))
+        if crate != path[0] and (path[0], of, path[-1]) in self.functions:
+            found = self.functions[path[0], of, path[-1]]
+            return found if found.comment else found.with_comment(trait.get(path[-1]))
+        for of in (f"module {path[-2]}", path[-2], None, re.sub(r"(Default|Clone|PartialEq|Flags|Backend|Read|Write|ReadReady|WriteReady)$", "", path[-2])):
             found = self.functions.get((path[0], of, path[-1]))
             if found:
                 return found
         return None
+
+    def type_of(self, crate, name):
+        """The type of a crate with whose name the name of an implementation begins, or None."""
+        types = [of for known in (self.fields, self.variants) for its, of in known if its == crate and name.startswith(of)]
+        return max(types, key=len, default=None)
 
 
 def number(text):
@@ -156,6 +195,34 @@ def cited(contract):
     """The definitions that the `ensures` of a contract name, in order."""
     clauses = "".join(re.findall(r"(?s)\bensures\b(.*?)(?=\bensures\b|\brequires\b|\Z)", contract))
     return list(dict.fromkeys(re.findall(r"(?<![\w.])([A-Z]\w+)", clauses)))
+
+
+def ensured(contract):
+    """The clauses of a contract that say what is so afterwards: the name, if there is one, and the text."""
+    out = []
+    for found in re.finditer(r"\bensures\b *(\w*) *\{", contract):
+        text = contract[found.end():closing(contract, found.end() - 1)]
+        out.append((found[1], re.sub(r"\s+", " ", text).strip()))
+    return out
+
+
+def used(text):
+    """The definitions that a file uses, by how it writes them: a crate, a module and a name."""
+    out = {}
+    for crate, module, name in re.findall(r"(?m)^ghost use Rattle\.(\w+)\.specs\.(\w+) as (\w+);", text):
+        for one in set(re.findall(rf"\b{name}\.(\w+)", text)):
+            out[f"{name}.{one}"] = (crate, module, one)
+    for crate, module, names in re.findall(r"(?m)^ghost use Rattle\.(\w+)\.specs\.(\w+)\.\{([^}]*)\};", text):
+        for one in names.split(","):
+            out[one.strip()] = (crate, module, one.strip())
+    return out
+
+
+SIGNS = {"\u2261": "=", "\u2262": "!=", "\u2192": "->", "\u22a5": "false", "\u00d7": "and", "\u2264": "<=", "\u2237": "::"}
+
+
+def in_ascii(clause):
+    return "".join(SIGNS.get(one, one) for one in clause)
 
 
 def bindings(body):

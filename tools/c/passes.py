@@ -120,6 +120,9 @@ def if_else(block):
     if not isinstance(inner, c.Block) or not inner.body or not any(has_exit(one, inner.label) for one in inner.body):
         return None
     body = with_last_test(inner.body, inner.label)
+    if has_exit(body[-1], inner.label):
+        # A pattern with a condition of its own.
+        body = with_last_test(body, inner.label)
     last = max(order for order, one in enumerate(body) if has_exit(one, inner.label))
     condition, then = body[:last + 1], body[last + 1:]
     ends = bool(then) and isinstance(then[-1], c.Exit) and then[-1].label == block.label
@@ -133,6 +136,63 @@ def if_else(block):
     except Unknown:
         return None
     return [*first, c.Block(block.label, [c.If(c.Var(holds), then[:-1] if ends else then, block.body[1:])])]
+
+
+# Where a block has another one in front, and little behind it: as of `matches!` with several patterns.
+
+def with_short_rests(statements):
+    """The same, where what is behind an inner block is done at each of its exits."""
+    out = []
+    for one in statements:
+        if isinstance(one, c.Block):
+            body = with_short_rests(one.body)
+            rest = body[1:]
+            if rest and len(rest) <= 2 and isinstance(body[0], c.Block) and all(isinstance(each, c.Set) for each in rest):
+                body = ended(body[0].body, body[0].label, rest, one.label)
+            out.append(c.Block(one.label, body))
+        elif isinstance(one, c.Loop):
+            out.append(c.Loop(one.label, with_short_rests(one.body)))
+        elif isinstance(one, (c.If, c.Switch)):
+            out.append(with_branches(one, list(map(with_short_rests, branches(one)))))
+        else:
+            out.append(one)
+    return out
+
+
+def ended(statements, label, rest, outer, is_end=True):
+    """Statements of an inner block that do the rest where they leave it, and then leave the outer one."""
+    out = []
+    for one in statements:
+        if isinstance(one, c.Exit) and one.label == label:
+            return [*out, *(c.Set(each.to, each.value) for each in rest), c.Exit(outer)]
+        if isinstance(one, (c.If, c.Switch)):
+            out.append(with_branches(one, [ended(body, label, rest, outer, False) for body in branches(one)]))
+        elif isinstance(one, (c.Block, c.Loop)):
+            out.append(type(one)(one.label, ended(one.body, label, rest, outer, False)))
+        else:
+            out.append(one)
+    if is_end and not c.leaves(out):
+        out += [*(c.Set(each.to, each.value) for each in rest), c.Exit(outer)]
+    return out
+
+
+def with_joined_cases(one):
+    """The same, with one case for those that only set a variable to the same constant."""
+    if isinstance(one, c.If):
+        return c.If(one.condition, [with_joined_cases(each) for each in one.yes], [with_joined_cases(each) for each in one.no])
+    if not isinstance(one, c.Switch):
+        return one
+    cases, found = [], {}
+    for labels, body in one.cases:
+        body = [with_joined_cases(each) for each in body]
+        key = (body[0].to.variable, body[0].value.name) if len(body) == 1 and isinstance(body[0], c.Set) and isinstance(body[0].to, c.Var) \
+            and isinstance(body[0].value, c.Word) else None
+        if key and key in found and labels is not None and cases[found[key]][0] is not None:
+            cases[found[key]] = ([*cases[found[key]][0], *labels], cases[found[key]][1])
+            continue
+        found.setdefault(key, len(cases))
+        cases.append((labels, body))
+    return c.Switch(one.on, cases)
 
 
 def structured_choice(one, follow, leave, again):
@@ -197,7 +257,11 @@ def simpler_binary(one):
             return c.Binary("!=" if one.operator == "==" else "==", left, c.Literal(0, right.of), c.BOOL)
         if isinstance(left, c.Literal) and isinstance(right, c.Literal):
             return c.Word("true" if (left.value == right.value) == (one.operator == "==") else "false", c.BOOL)
+    if one.operator in ("<", "<=") and isinstance(left, c.Literal) and isinstance(right, c.Literal):
+        return c.Word("true" if left.value < right.value or one.operator == "<=" and left.value == right.value else "false", c.BOOL)
     if one.operator == "+" and isinstance(right, c.Literal) and right.value == 0:
+        return left
+    if one.operator == "&&" and isinstance(right, c.Word) and right.name == "true":
         return left
     if one.operator == "&" and isinstance(right, c.Literal) and right.value == (1 << right.of.bits) - 1:
         return left
@@ -215,6 +279,19 @@ def on_expressions(statements, change):
 
 def simplify(statements):
     on_expressions(statements, simpler)
+    for one in c.all_statements(statements):
+        if isinstance(one, c.Switch):
+            narrow(one)
+
+
+def narrow(switch):
+    """A choice over a number as it is, and not over a wider one."""
+    on = switch.on
+    labels = [label for numbers, _ in switch.cases for label in numbers or []]
+    is_widened = isinstance(on, c.Cast) and all(isinstance(one.of, c.Number) for one in (on, on.operand)) and on.operand.of.bits < on.of.bits
+    if is_widened and all(isinstance(one, c.Literal) and one.value < 1 << on.operand.of.bits for one in labels):
+        switch.on = on.operand
+        switch.cases = [(numbers and [c.Literal(one.value, on.operand.of, one.names) for one in numbers], body) for numbers, body in switch.cases]
 
 
 # What an expression depends on, and what a statement does.
@@ -465,6 +542,8 @@ def goes_into(facts, one, variable, value, with_names):
         return False
     calls, memory, _ = facts.depends(value)
     path = path_to(c.expressions(one), variable)
+    if path and is_complement(value) and len(path) > 1 and isinstance(path[-2], c.Binary) and path[-2].operator in c.COMPARISONS:
+        return False
     if path is None or isinstance(path[0], c.Var) and path[0].variable is variable and isinstance(one, c.Set) and path[0] is one.to:
         return False
     if calls or memory:
@@ -483,6 +562,12 @@ def goes_into(facts, one, variable, value, with_names):
         if getattr(one, name) is not None:
             setattr(one, name, c.rebuilt(getattr(one, name), change))
     return True
+
+
+def is_complement(one):
+    """Whether a small number is all ones less something. gcc takes that for a mistake in a comparison, so it stays a variable."""
+    inner = one.operand if isinstance(one, c.Cast) else None
+    return isinstance(inner, c.Binary) and inner.operator == "-" and isinstance(inner.left, c.Literal) and inner.left.value == (1 << inner.left.of.bits) - 1
 
 
 def path_to(expressions, variable):
@@ -752,7 +837,7 @@ def settle(statements, result):
         if isinstance(one, c.Binary) and one.operator not in c.LOGICAL | {"<<", ">>"}:
             sized = next((side.of for side in (one.left, one.right) if isinstance(side.of, c.Number) and side.of.text() == "size_t"), None)
             if sized:
-                return c.Binary(one.operator, fit(one.left, sized), fit(one.right, sized), one.of)
+                return compared_widely(c.Binary(one.operator, fit(one.left, sized), fit(one.right, sized), one.of))
         if isinstance(one, c.CallOf) and one.expects:
             fitted = [fit(argument, to) for argument, to in zip(one.arguments, one.expects)]
             return c.CallOf(one.name, fitted, one.of, one.is_pure, one.expects, one.fields)
@@ -766,6 +851,47 @@ def settle(statements, result):
             one.value = fit(one.value, one.to.of)
         if isinstance(one, c.Return) and one.value is not None:
             one.value = fit(one.value, result)
+
+
+def is_quiet(one, quiet):
+    """Whether a statement or an expression only computes: it writes nothing but variables, and calls what does the same."""
+    for each in c.all_statements([one]):
+        if isinstance(each, c.Set) and root(each.to) is None or isinstance(each, c.Do) and not calls_quietly(each.call, quiet):
+            return False
+        if not all(calls_quietly(expression, quiet) for expression in c.expressions(each)):
+            return False
+    return True
+
+
+def calls_quietly(expression, quiet):
+    return all(part.is_pure or part.name in quiet for part in c.every(expression) if isinstance(part, c.CallOf))
+
+
+def without_quiet(statements, quiet):
+    """The same without calls that only compute what nobody reads."""
+    out = []
+    for one in statements:
+        for body in c.lists(one):
+            body[:] = without_quiet(body, quiet)
+        is_empty = isinstance(one, c.Do) or isinstance(one, c.If) and not one.yes and not one.no
+        if not (is_empty and is_quiet(one, quiet)):
+            out.append(one)
+    return out
+
+
+def compared_widely(one):
+    """A comparison of a size of memory with a number that has more than 16 bits, as one of numbers that have them on each processor."""
+    if one.operator in c.COMPARISONS and isinstance(one.right, c.Literal) and 0xFFFF < one.right.value < 1 << 32:
+        wide = c.Number(64, c.Width(False))
+        return c.Binary(one.operator, c.Cast(wide, one.left), c.Literal(one.right.value, wide), one.of)
+    return one
+
+
+def unread(statements, parameters):
+    """Statements that name the parameters which nothing reads, so that no compiler warns."""
+    read = {part.variable for one in c.all_statements(statements) for expression in c.expressions(one) for part in c.every(expression)
+            if isinstance(part, c.Var)}
+    return [c.Do(c.Cast(c.VOID, c.Var(one))) for one in parameters if one not in read]
 
 
 def declare(statements, parameters):
@@ -801,7 +927,10 @@ def declare_one(statements, variable):
 
 def run(statements, result, with_names):
     """All steps."""
-    statements = structured(statements)
+    try:
+        statements = structured(statements)
+    except Unknown:
+        statements = [with_joined_cases(one) for one in structured(with_short_rests(statements))]
     for _ in range(200):
         simplify(statements)
         changed = propagate(statements, with_names)

@@ -1,7 +1,7 @@
 """Wrong lines that the comparison has to find: in the C, and in what makes it. Each old text stands in its file once."""
 
 # Of u16550.c.
-IN_C = [
+IN_DRIVER = [
     ("a burst of 15 of 16", "uart_write_data(uart, found, 16);\n        return 16;", "uart_write_data(uart, found, 16);\n        return 15;"),
     ("a whole burst from 12 on", "bytes_len >= 16 ? bytes : NULL", "bytes_len >= 12 ? bytes : NULL"),
     ("LSR forgets what was saved", "uart->saved_lsr |= lsr &", "uart->saved_lsr = lsr &"),
@@ -24,14 +24,20 @@ IN_C = [
     ("a frame without a divisor", "    if (outcome.error.kind != UART_INVALID_DIVISOR_ERROR_NONE)\n        return outcome.error;\n", ""),
     ("a call in the middle of another", "    if (uart->is_busy != 0)\n        return U16550_BUSY;\n", ""),
     ("a spin limit of 0", "uart_if(limit == 0, U16550_ZERO_LIMIT)", "U16550_OK"),
-    ("a parity that is none", "from->parity > 4", "from->parity > 5"),
+    ("a parity that is another", "*to = U16550_CORE_PARITY_FORCED0;", "*to = U16550_CORE_PARITY_FORCED1;"),
     ("the wrong error", "return U16550_ATTACH_LOOPBACK;", "return U16550_ATTACH_NO_DIVISOR;"),
     ("a length of all memory", "if (len > (SIZE_MAX / 2) / item", "if (len > SIZE_MAX / item"),
     ("a surrogate in UTF-8", "high = 0x9f;", "high = 0xbf;"),
+    ("a register with its bytes the other way round", "UART_REGISTERS(swapped_half_words, 16, 8)", "UART_REGISTERS(swapped_half_words, 16, 0)"),
+    ("registers that overlap", "    if (layout->stride < bytes)\n        return U16550_STRIDE_TOO_SMALL;\n", ""),
+    ("a busy DesignWare is taken to be free", "if (!uart_chip_is_busy(chip) && uart_chip_takes(chip, line))", "if (uart_chip_takes(chip, line))"),
+    ("an overrun is told twice", "    chip->cleared &= (uint8_t)~U16550_LSR_OVERRUN_ERROR;\n", ""),
+    ("a fault does not end", "                chip->fault = U16550_OK;\n", ""),
+    ("last words in loopback", "kept | U16550_MCR_DTR | U16550_MCR_RTS);", "kept | U16550_MCR_DTR);"),
 ]
 
-# Of what makes it: the file, the old text and the new one.
-IN_TRANSLATOR = [
+# Of what makes u16550.c: the file, the old text and the new one.
+IN_TRANSLATOR_OF_DRIVER = [
     ("the other variant of an option", "representation.py", 'Kind("option", inner, 1, "is_some", "value")', 'Kind("option", inner, 0, "is_some", "value")'),
     ("a comparison that takes one more", "body.py", '"Lt": "<", "Le": "<="', '"Lt": "<=", "Le": "<="'),
     ("a product in place of a sum", "body.py", '"Add": "+"', '"Add": "*"'),
@@ -49,5 +55,55 @@ IN_TRANSLATOR = [
     ("what is to be skipped is done", "passes.py", "[body[:-1] if skips else", "[[*body[:-1], *rest] if skips else"),
     ("a local is one variable for two purposes", "tree.py", "        return {local: one.get(local, frozenset()) | other.get(local, frozenset())",
      "        return {local: one.get(local, frozenset()) or other.get(local, frozenset())"),
+    ("another number for a trigger level", "calls.py", '"Four": 4, "Eight": 8', '"Four": 8, "Eight": 4'),
+    ("an error has another's number", "calls.py", 'of=("StuckError.Unknown",)', 'of=("StuckError.Pending",)'),
+    ("a variant of an error has no number", "calls.py", 'of=("AttachError.Loopback",)', "of=()"),
+    ("two numbers are the same", "calls.py", 'Number("BUSY", -4,', 'Number("BUSY", -3,'),
+    ("a value is not tested", "calls.py", 'Value("uint8_t on", "uart_check_flag(on)", "on == 1")', 'Value("uint8_t on", "U16550_OK", "on == 1")'),
     ("a bit of a register", "library.py", 'for one in found:\n        bits |= one', 'for one in found[1:]:\n        bits |= one'),
 ]
+
+# Of uart_port.c.
+IN_PORT = [
+    ("another register", "return uart_read(chip, (uint8_t)(offset % 8));", "return uart_read(chip, (uint8_t)(offset % 7));"),
+    ("an overrun is not told", "        parts->is_overrun = (uint8_t)true;\n    }\n", "    }\n"),
+    ("a call lets less time pass", "uart_advance(&port->chip, 22);", "uart_advance(&port->chip, 16);"),
+    ("input that leaves no room is no signal", "(kind.brings && !seen.has_room)", "(kind.brings && seen.has_room)"),
+    ("a signal covers one access less", "number = 15;", "number = 14;"),
+    ("a port that is not still is taken", "if (!uart_is_sound(saved) || !uart_is_settled(saved))", "if (!uart_is_sound(saved))"),
+    ("any chip is taken", "    if (!uart_is_sound(saved))\n        return UART_BAD_CHIP;\n", ""),
+    ("the errors of the front are told twice", "uart_some_has_errors(&uart_receiver->queue.items[1], len - 1);",
+     "uart_some_has_errors(&uart_receiver->queue.items[0], len - 1);"),
+    ("a byte more than the output has room for", "return wire_len < uart_wire_capacity(&uart_transmitter->wire);",
+     "return wire_len <= uart_wire_capacity(&uart_transmitter->wire);"),
+    ("a wire of 65 bytes", "if (64 < (uint64_t)wire_capacity)", "if (65 < (uint64_t)wire_capacity)"),
+    ("any write of FCR is an interrupt", "uart_held_len(&chip->transmitter) < held)", "uart_held_len(&chip->transmitter) <= held)"),
+    ("the last byte of a queue stays", "uart_shifts_copy_down_u8(items, items_len, 1, 0, items_len - 1);",
+     "uart_shifts_copy_down_u8(items, items_len, 1, 0, items_len - 2);"),
+    ("five bits are six", "(uint8_t)(1 << 5)", "(uint8_t)(1 << 6)"),
+    ("a tick too many", "return uart_some_u16(1 < found.value.ticks_left ? found.value.ticks_left : 1);",
+     "return uart_some_u16(2 < found.value.ticks_left ? found.value.ticks_left : 2);"),
+    ("a status that is another", "return UART_BAD_PORT;", "return UART_BAD_CHIP;"),
+    ("a looped character is one that arrived", "queue->items[i].is_looped = looped >> i & 1;", "queue->items[i].is_looped = 0;"),
+    ("a byte of a state that its field cannot have", "    if (byte <= most)\n", "    if (byte <= most + 1)\n"),
+]
+
+# Of what makes uart_port.c.
+IN_TRANSLATOR_OF_PORT = [
+    ("what is behind a branch that returns is lost", "tree.py", "without_returns(body if returns(body) else [*body, *rest])",
+     "without_returns(body)"),
+    ("the branches of a variant change places", "tree.py", "for (numbers, body), copy, tag in zip(first.cases, copies, tags)]",
+     "for (numbers, body), copy, tag in zip(first.cases, copies, tags[::-1])]"),
+    ("the next item of a slice is a call of its own", "tree.py", 'NEXT = "core::iter::slices::IterIterator::next"', 'NEXT = "core::iter::slices::IterIterator"'),
+    ("a struct is that of which most parts are", "body.py",
+     'if not self.types.is_unit(inner) and (start is None or self.first_place(one) != Place(start.local, (*start.steps, ("Field", order)))):',
+     "if not self.types.is_unit(inner) and start is None:"),
+    ("an array of the header is filled with one item less", "body.py", "        count = c.Literal(value.count, c.Number(64, c.SIZE))",
+     "        count = c.Literal(value.count - 1, c.Number(64, c.SIZE))"),
+    ("the second half of a comparison", "body.py", '"Lt": "<", "Le": "<="', '"Lt": "<=", "Le": "<="'),
+    ("a choice over a narrower number", "passes.py", "switch.on = on.operand\n", "switch.on = c.Binary(\"&\", on.operand, c.Literal(3, on.operand.of), on.operand.of)\n"),
+    ("an item of three bytes is one of one", "body.py", "return Int(index.value // self.library.size_of(item), index.bits)", "return index"),
+]
+
+IN_C = {"driver": IN_DRIVER, "port": IN_PORT}
+IN_TRANSLATOR = {"driver": IN_TRANSLATOR_OF_DRIVER, "port": IN_TRANSLATOR_OF_PORT}

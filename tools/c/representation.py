@@ -17,6 +17,10 @@ OPTION, RESULT = "core::option::Option", "core::result::Result"
 FEW = 3
 
 
+def is_closure(of):
+    return isinstance(of, tuple) and of[0] == "Named" and of[1].endswith("+Self")
+
+
 class Kind:
     """What a type is in C: `kind` is a word, and `parts` what belongs to it."""
 
@@ -71,6 +75,8 @@ class Representation:
             return Kind("unit")
         if of == "Bool":
             return Kind("bool")
+        if of[0] == "Ref" and is_closure(of[1]) and self.is_unit(of[1]):
+            return Kind("unit")
         if of == "Ptr" or of[0] == "Ref":
             return Kind("pointer")
         if of[0] == "Int":
@@ -100,7 +106,11 @@ class Representation:
         full = [order for order, one in enumerate(parts[0]) if not self.is_unit(one)]
         if not full:
             return Kind("unit")
-        if len(full) == 1 and self.kind(parts[0][full[0]]).kind in ("number", "bool"):
+        if len(full) == 1 and self.kind(parts[0][full[0]]).kind == "slice":
+            # As an iterator: what it is around is a slice, and so is it.
+            return Kind("slice", self.kind(parts[0][full[0]]).parts[0], parts[0][full[0]])
+        # One of the header is the struct that it is there.
+        if len(full) == 1 and of not in self.public and self.kind(parts[0][full[0]]).kind in ("number", "bool"):
             return Kind("wrapper", full[0], parts[0][full[0]])
         return Kind("struct")
 
@@ -137,6 +147,9 @@ class Representation:
             return self.public[of]
         of = self.canonical(of)
         name = self.other_name(of)
+        if name in self.public.values():
+            # The header has another type of this name.
+            name = f"{self.own(of)[0]}_{name.removeprefix('uart_')}"
         return re.sub("^uart_", "u16550_core_", name) if of in self.in_header else name
 
     def canonical(self, of):
@@ -206,6 +219,10 @@ class Representation:
         types = self.source.types_of_fields.get(self.own(of)) if of[0] == "Named" else None
         return bool(types) and re.search(r"\b(usize|NonZeroUsize)\b", types[order]) is not None
 
+    def is_of_library(self, of):
+        """Whether a struct is one of a library that any type may be a part of: nobody says there what its numbers count."""
+        return of[0] == "Named" and of[1] != VECTOR and "NonZero" not in of[1] and self.own(of) not in self.source.types_of_fields
+
     def is_error(self, of):
         return of[1].endswith("Error")
 
@@ -233,7 +250,7 @@ class Representation:
         if word == "number":
             return Number(of[1], (Width(is_size) if of[1] == 64 else None))
         if word == "wrapper":
-            return self.c(kind.parts[1], self.is_size(of, kind.parts[0]))
+            return self.c(kind.parts[1], None if self.is_of_library(of) else self.is_size(of, kind.parts[0]))
         if word == "pointer":
             return self.pointer(of)
         if word in ("nullable", "status"):
@@ -263,6 +280,10 @@ class Representation:
             if of not in self.public:
                 self.declarations.append((name, self.declaration(of, name)))
         return self.names[name]
+
+    def is_array_of_header(self, of, inner):
+        """Whether a part of a struct is an array in C: only in a struct of the header, since an array cannot be assigned."""
+        return of in self.public and inner[0] == "Array"
 
     def member(self, of, name, is_size=None):
         if of == "Ptr":

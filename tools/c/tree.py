@@ -5,8 +5,6 @@ import typing
 
 from translate import Translation, Unknown, head
 
-# The crates whose functions stay functions in C.
-OWN = ("uart_spec", "uart_16550", "uart_ring")
 # A function of a library that has no loop is put in place of its call up to so many statements.
 SMALL = 14
 # One of ours only if it is no more than this, and calls nothing.
@@ -18,6 +16,12 @@ PORTS = ("Named", "Ports", ())
 MEMORY = ("Named", "std_heap::Global", ())
 # How the name of a method of theirs begins.
 OF_CALLER = "of the caller: "
+# What goes over a slice item by item. Its functions are put in place of their calls, so that C has a loop.
+ITEMS = "core::iter::slices::Iter"
+NEXT = "core::iter::slices::IterIterator::next"
+OVER_ITEMS = ("core::iter::base::Iterator::all", "core::iter::base::Iterator::any")
+# Put in place of their calls though they are not small: most of what they do depends on arguments that are numbers.
+IN_PLACE = (NEXT, "std::slices::slice+T::copy_within", "std_alloc::shifts::shift")
 
 
 # Operands and values.
@@ -222,6 +226,11 @@ class Tree:
         self.body = self.statement()
         if self.at != len(self.nodes):
             raise Unknown("a body with more than one tree")
+        self.body = self.with_loops(self.body)
+        if any(is_items(of) for of in self.locals):
+            self.body = with_known_variants(self.body)
+            forward_items(self)
+        forward_repetitions(self)
 
     def statement(self):
         """The next statement of the body, as a list of statements."""
@@ -327,12 +336,60 @@ class Tree:
 
     def in_place(self, callee, arguments, place):
         """The body of a function in place of its call."""
+        given, body, result = self.taken_over(callee, arguments)
+        return [*given, *without_returns(body), Assign(place, Place(result))]
+
+    def taken_over(self, callee, arguments):
+        """The assignments of the arguments, the body of a function with locals of this one, and the local of its result."""
         shift = len(self.locals)
         self.locals += callee.locals
         self.origin += [None] * len(callee.locals)
         given = [Assign(Place(shift + order), one) for order, one in enumerate(arguments, 1)]
-        body = renamed(callee.body, lambda number: number + shift)
-        return [*given, *without_last_return(body), Assign(place, Place(shift))]
+        return given, renamed(callee.body, lambda number: number + shift), shift
+
+    def with_loops(self, statements):
+        """The same, with what goes over a slice in place of its call where that is the last that is done."""
+        out = []
+        for order, one in enumerate(statements):
+            for body in bodies(one):
+                body[:] = self.with_loops(body)
+            is_last = order + 1 < len(statements) and isinstance(statements[order + 1], Return)
+            if isinstance(one, Call) and one.function[0] in OVER_ITEMS and one.place == Place(0) and is_last:
+                given, body, result = self.taken_over(self.forest.tree(one.function), one.arguments)
+                return [*out, *given, *renamed(body, lambda number, its=result: 0 if number == its else number)]
+            out.append(one)
+        return out
+
+
+def forward_repetitions(tree):
+    """Puts an array of one item many times into the one struct that it is made for."""
+    made, used = {}, {}
+    for one in walk(tree.body):
+        if isinstance(one, (Assign, Call)) and not one.place.steps:
+            made.setdefault(one.place.local, []).append(one)
+        values = [one.value] if isinstance(one, Assign) else one.arguments if isinstance(one, Call) else [one.on] if isinstance(one, Switch) else []
+        for value in values:
+            for place in places_of(value):
+                used.setdefault(place.local, []).append((one, place))
+        if isinstance(one, (Assign, Call)) and one.place.steps:
+            used.setdefault(one.place.local, []).append((one, one.place))
+    for local, statements in made.items():
+        first, uses = statements[0], used.get(local, [])
+        is_repeated = isinstance(first, Assign) and isinstance(first.value, Repeat) and len(statements) == len(uses) == 1
+        if not is_repeated or not isinstance(uses[0][0], Assign) or not isinstance(uses[0][0].value, Aggregate) or uses[0][1].steps:
+            continue
+        if any(len(made.get(place.local, [])) != 1 for place in places_of(first.value)):
+            continue
+        into = uses[0][0]
+        into.value = Aggregate(tuple(first.value if one == Place(local) else one for one in into.value.parts))
+        remove(tree.body, first)
+
+
+def remove(statements, which):
+    statements[:] = [one for one in statements if one is not which]
+    for one in statements:
+        for body in bodies(one):
+            remove(body, which)
 
 
 # The cells of a queue are memory of the caller, which nobody frees.
@@ -340,16 +397,124 @@ FREES = "std_alloc::vec::Vec::drop"
 NEVER_RETURN = {"core::assertions::unreachable"}
 
 
-def without_last_return(body):
-    """A body that ends with the one return that it has, without it."""
-    return body[:-1] if body and isinstance(body[-1], Return) else body
+def returns(body):
+    return bool(body) and isinstance(body[-1], Return)
+
+
+def without_returns(statements):
+    """A body without its returns: what is behind a branch that returns goes into the other one."""
+    out = []
+    for order, one in enumerate(statements):
+        if isinstance(one, Return):
+            return out
+        if any(isinstance(inner, Return) for inner in walk([one])):
+            if not isinstance(one, Switch) or sum(not returns(body) for _, body in one.cases) > 1:
+                raise Unknown("a return in the middle of a function of a library")
+            rest = statements[order + 1:]
+            return [*out, Switch(one.on, [(numbers, without_returns(body if returns(body) else [*body, *rest])) for numbers, body in one.cases])]
+        out.append(one)
+    return out
+
+
+def is_items(of):
+    return isinstance(of, tuple) and of[:2] == ("Named", ITEMS)
+
+
+def with_known_variants(statements):
+    """The same, where a choice between variants comes behind another one that has made them: the branches of the second go into those of the
+    first."""
+    out, rest = [], list(statements)
+    while rest:
+        one = rest.pop(0)
+        joined = joined_choices(one, rest) if isinstance(one, Switch) else None
+        if joined:
+            one, count = joined
+            del rest[:count]
+        for body in bodies(one):
+            body[:] = with_known_variants(body)
+        out.append(one)
+    return out
+
+
+def joined_choices(first, rest):
+    """The choice that the first and one behind it are, and how many statements of the rest are in it; or None."""
+    made = [body[-1] if body else None for _, body in first.cases]
+    if not all(isinstance(one, Assign) and isinstance(one.value, Aggregate) and one.value.parts and isinstance(one.value.parts[0], Int) for one in made):
+        return None
+    names, count = {made[0].place}, 0
+    if any(one.place != made[0].place or one.place.steps for one in made):
+        return None
+    while count < len(rest) and isinstance(rest[count], Assign) and rest[count].value in names and not rest[count].place.steps:
+        names.add(rest[count].place)
+        count += 1
+    second = rest[count] if count < len(rest) else None
+    if not isinstance(second, Switch) or not isinstance(second.on, Place) or Place(second.on.local) not in names:
+        return None
+    if [word for word, _ in second.on.steps] != ["Variant", "Field"] or second.on.steps[1][1] != 0:
+        return None
+    tags = [one.value.parts[0].value for one in made]
+    bodies_of = {tag: next((body for numbers, body in second.cases if numbers is None or tag in numbers), None) for tag in tags}
+    if len(set(tags)) < len(tags) or None in bodies_of.values() or len({id(body) for body in bodies_of.values()}) < len(tags):
+        return None
+    copies = [renamed(rest[:count], lambda number: number) for _ in tags]
+    cases = [(numbers, [*body, *copy, *bodies_of[tag]]) for (numbers, body), copy, tag in zip(first.cases, copies, tags)]
+    return Switch(first.on, cases), count + 1
+
+
+def forward_items(tree):
+    """Names what goes over a slice itself where it is reached by its address, which is one place for ever."""
+    made = {}
+    for one in walk(tree.body):
+        if isinstance(one, (Assign, Call)) and not one.place.steps:
+            made.setdefault(one.place.local, []).append(one.value if isinstance(one, Assign) else None)
+
+    def target(local):
+        """The local whose address this one has."""
+        values = made.get(local, [])
+        if len(values) != 1 or 0 < local <= tree.params:
+            return None
+        value = values[0]
+        if isinstance(value, Place) and not value.steps:
+            return target(value.local)
+        if isinstance(value, Address) and not value.place.steps:
+            return value.place.local if is_items(tree.locals[value.place.local]) else None
+        if isinstance(value, Address) and [word for word, _ in value.place.steps] == ["Deref"]:
+            return target(value.place.local)
+        return None
+
+    targets = {local: target(local) for local in made}
+
+    def direct(place):
+        to = targets.get(place.local)
+        return Place(to, place.steps[1:]) if to is not None and place.steps and place.steps[0][0] == "Deref" else place
+
+    def go(statements):
+        out = []
+        for one in statements:
+            if isinstance(one, Assign) and not one.place.steps and targets.get(one.place.local) is not None:
+                continue
+            if isinstance(one, (Assign, Call)):
+                one.place = direct(one.place)
+            if isinstance(one, Assign):
+                one.value = with_places(one.value, direct)
+            elif isinstance(one, Call):
+                one.arguments = [with_places(argument, direct) for argument in one.arguments]
+            elif isinstance(one, Switch):
+                one.on = with_places(one.on, direct)
+            for body in bodies(one):
+                body[:] = go(body)
+            out.append(one)
+        return out
+
+    tree.body = go(tree.body)
 
 
 class Forest(Translation):
-    """All trees that are asked for. `natives` are the functions that C has in another way."""
+    """All trees that are asked for. `natives` are the functions that C has in another way, and `own` the crates whose functions stay
+    functions in C."""
 
-    def __init__(self, program, natives):
-        super().__init__(program, {}, OWN)
+    def __init__(self, program, natives, own):
+        super().__init__(program, {}, own)
         self.trees, self.is_native = {}, natives
         for _, name, _ in (DEVICE, PORTS):
             program.types[name] = {"name": name, "shape": {"Fields": []}}
@@ -392,17 +557,18 @@ class Forest(Translation):
         if self.is_native(key[0]) or key[0] not in self.program.functions:
             return None
         tree = self.tree(key)
+        if key[0] in IN_PLACE:
+            return tree
         found = list(walk(tree.body))
-        returns = [one for one in found if isinstance(one, Return)]
-        if len(returns) > 1 or any(isinstance(one, Loop) for one in found):
+        if sum(isinstance(one, Return) for one in found) > 1 or any(isinstance(one, Loop) for one in found):
             return None
         is_flat = not any(isinstance(one, (Switch, Exit)) for one in found)
         size = sum(isinstance(one, (Assign, Call, Switch)) for one in found)
         calls = [one for one in found if isinstance(one, Call)]
-        if key[0].split("::")[0] not in OWN:
+        if key[0].split("::")[0] not in self.own:
             return tree if is_flat or size <= SMALL else None
         touches_device = any(one.function[0].startswith(OF_CALLER) for one in calls)
-        if is_flat and not touches_device and key[0].endswith(("PartialEq::eq", "Default::default", "FnOnce::call_once")):
+        if is_flat and not touches_device and key[0].endswith(("PartialEq::eq", "Default::default", "FnOnce::call_once", "FnMut::call_mut")):
             return tree
         return tree if is_flat and not calls and size <= TINY else None
 

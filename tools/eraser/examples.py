@@ -94,6 +94,16 @@ PORT = [
 LINE = ["use facade::ring::{self, *};", "const MAX_UNFINISHED_ROUNDS: u32 = 100;"]
 
 SPEC = "use facade::native::{*, spec::*};"
+# The registers of a DesignWare UART in memory in place of a device, and a backend over them.
+REGISTERS = [
+    "use core::num::NonZeroU64;",
+    "use core::ptr::NonNull;",
+    "use facade::native::backend::{Backend, DesignWare, DesignWareMemory, RegisterLayout};",
+    "let mut cells = [0_u32; 32];",
+    "// SAFETY: nothing else accesses these bytes while the object lives.",
+    "let registers = unsafe { DesignWareMemory::new(NonNull::from(&mut cells).cast(), RegisterLayout::WORDS) }.unwrap();",
+]
+DESIGN_WARE = [*REGISTERS, "let mut uart = DesignWare::new(registers, NonZeroU64::MIN);"]
 
 
 def in_port():
@@ -212,6 +222,13 @@ EXAMPLES = {
     "uart_spec::config::Config::nearest": compiles(UART),
     "uart_spec::setup::Setup": runs(SPEC, "use uart_16550::spec::registers::MCR;"),
     "uart_spec::setup::FifoSize": runs(SPEC),
+    "uart_design_ware::state::DesignWare": compiles(
+        "registers: DesignWareMemory",
+        items=["use facade::native::backend::{DesignWare, DesignWareMemory};"],
+    ),
+    "uart_design_ware::state::DesignWare::new": runs(*REGISTERS),
+    "uart_design_ware::state::DesignWare::fault": runs(*DESIGN_WARE),
+    "uart_design_ware::state::DesignWare::registers_mut": runs(*DESIGN_WARE),
     "uart_ring::ring::receive::Uart16550Ring::take": compiles(RING + ", mut slots: [u8; 2]", items=["use facade::ring;"]),
     "uart_ring::ring::receive::Uart16550Ring::adjust_rts": compiles(
         RING + ", mut slots: [u8; 2]",
@@ -389,7 +406,7 @@ EXAMPLES |= {
 # The package of the users that the examples of a crate name, under which name, and the shared file. The rings have a crate `uart_16550`.
 SHARED = {
     **{name: ("uart_16550", "uart_16550", FOR_DRIVER) for name in ("uart_spec", "uart_16550")},
-    "uart_ring": ("uart_16550", "facade", FOR_DRIVER),
+    **{name: ("uart_16550", "facade", FOR_DRIVER) for name in ("uart_design_ware", "uart_ring")},
     **{name: ("uart_16550_chip", "uart_16550_chip", FOR_CHIP) for name in ("uart_live", "uart_virtual")},
 }
 

@@ -58,6 +58,7 @@ MEANINGS = {
 PROMISES = {
     "uart_spec::backend::Backend::read": ["ensures { step self.old (Read register_offset result) self.new }"],
     "uart_spec::backend::Backend::write": ["ensures { step self.old (Write register_offset value) self.new }"],
+    "uart_design_ware::registers::DesignWareRegisters::read_usr": ["ensures { Self.step self.old (Read USR result) self.new }"],
     "uart_16550::backend::PortAccess::port_in": ["ensures { step self.old (Read port result) self.new }"],
     "uart_16550::backend::PortAccess::port_out": ["ensures { step self.old (Write port value) self.new }"],
     "uart_16550::backend::ByteAccess::load": ["ensures { step self.old (Read address result) self.new }"],

@@ -1,6 +1,7 @@
 """The tables of tools/eraser/README.md, which are the tables of the program."""
 import re
 
+import attacks
 import table
 
 NAME = "tools/eraser/README.md"
@@ -46,6 +47,7 @@ def blocks():
             ],
         ),
         "guards": rows(["function", "requires", "in Rust", "why"], [guard(*one) for one in table.GUARDS.items()]),
+        "attacks": rows(["attack", "found by"], attacks.table()),
         "constant": rows(["type", "`const fn` in Rust"], constant),
         "let through": rows(
             ["of its kind, only"],

@@ -36,7 +36,7 @@ RULES = [
 
 # The crates that become packages. What ships is part of a program of a user, on any target. The others are parts of this repository's
 # programs, and of targets of 64 bits.
-SHIPS = "uart_spec uart_16550 uart_ring uart_events uart_chip uart_live uart_virtual".split()
+SHIPS = "uart_spec uart_16550 uart_design_ware uart_ring uart_waits uart_events uart_chip uart_live uart_virtual".split()
 OF_PROGRAMS = "uart_calls uart_run uart_ring_runs uart_link uart_language uart_play uart_judges uart_trace uart_port uart_machine".split()
 CRATES = SHIPS + OF_PROGRAMS
 OUTPUT = "rust/proved"
@@ -77,12 +77,13 @@ IN_ORDER = ["uart_16550::driver::Uart16550"]
 # With the feature `exhaustive` a match of this repository's own packages names each case, and rustc tells them of a new one.
 MAY_GROW = [
     *(f"uart_spec::errors::{name}Error" for name in "Init InvalidDivisor Loopback Uart16550Tty Attach Configuration Frame NearestDivisor".split()),
+    "uart_design_ware::fault::DesignWareFault",
     "uart_ring::ring::RingError",
     "uart_ring::ring::service::HandleEnd",
     "uart_ring::ring::storm::StuckError",
 ]
 # Of these, the crates that others match, and the crates that do.
-GROWING = ["uart_spec", "uart_ring"]
+GROWING = ["uart_spec", "uart_design_ware", "uart_ring"]
 NAME_EACH = ["uart_language"]
 
 # The functions that are `const fn`, so that callers can make a driver or a configuration in a `static`.
@@ -126,6 +127,11 @@ uart_16550::pio::PioBackend::base
 uart_16550::tty::Uart16550Tty::from_inner
 uart_16550::tty::Uart16550Tty::inner
 uart_16550::tty::Uart16550Tty::inner_mut
+uart_design_ware::kept::KeptCharacters::new
+uart_waits::waits::Waits::new
+uart_design_ware::state::DesignWare::new
+uart_design_ware::state::DesignWare::fault
+uart_design_ware::state::DesignWare::registers_mut
 """.split()
 
 # A guard: the clauses that it is for, word by word; the test that the function begins with, or None; the function that it
@@ -383,6 +389,18 @@ GUARDS |= {
         ["requires { length (state self.old).wire < (state self.old).capacity }"], reason=NO_BODY
     ),
 }
+# The backend for UARTs of DesignWare: what makes an access tests the offset.
+GUARDS["uart_design_ware::kept::KeptCharacters::keep"] = Guard(["requires { length self.old < KEPT }"], reason=INSIDE)
+for access in ("load", "store"):
+    GUARDS[f"uart_design_ware::state::DesignWare::{access}"] = Guard(
+        OFFSET,
+        test='assert!(offset < 8, "no register has this offset");',
+        reason="private, but reached by `Backend::read` and `Backend::write`",
+    )
+for caller, access in (("read_plain", "load"), ("read_meant", "load"), ("write_plain", "store"), ("write_meant", "write_plain")):
+    GUARDS[f"uart_design_ware::serving::DesignWare::{caller}"] = Guard(
+        OFFSET, tested_by=access, reason="of each offset that has no call of its own"
+    )
 # A byte that goes onto the wire at once.
 SENDS_AT_ONCE = "requires { sending_spec.sends_at_once self.old ≡ true }"
 GUARDS["uart_chip::sending::put_on_wire"] = Guard(["requires { spec.is_ready (T.state parts.old) ≡ true }"], reason=INSIDE)
@@ -473,6 +491,8 @@ IMPLEMENTED = {
     "uart_16550::pio::PioBackend::write": "port",
     "uart_16550::mmio::MmioBackend::read": "address",
     "uart_16550::mmio::MmioBackend::write": "address",
+    "uart_design_ware::serving::DesignWare::read": "read_meant",
+    "uart_design_ware::serving::DesignWare::write": "write_meant",
     # of types in no interface, so nothing tests what the trait requires
     **{f"uart_chip::device::Device16550::{name}": None for name in ("read", "write")},
     **{f"uart_chip::{name}::push": None for name in ("fifo::HeapFifo", "wire::HeapWire")},
@@ -500,6 +520,7 @@ CASTS = {
     "uart_16550::pio::PioBackend::new": ["base"],
     "uart_16550::mmio::MmioBackend::new": ["stride . get ( )"],
     "uart_16550::mmio::MmioBackend::address": ["register_offset", "self . stride . get ( )"],
+    **{f"uart_design_ware::serving::DesignWare::{name}": ["register_offset"] for name in ("read", "write")},
     **{f"uart_chip::controlling::{name}": ["offset"] for name in ("read_register", "write_register")},
     "uart_chip::receiving::is_data_pending": ["characters_of ( parts . trigger ( ) )"],
     **{f"uart_virtual::port::{name}": ["offset"] for name in ("kind_of_read", "kind_of_write", "is_quiet", "is_fast", "write_and_raise")},

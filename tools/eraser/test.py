@@ -8,12 +8,14 @@ import sys
 import tempfile
 
 import around
+import attacks
 import crate
 import deceptions
 import guards
 import packages
 import promised
 import promises
+import second
 import table
 import words
 
@@ -21,6 +23,7 @@ ROOT = pathlib.Path(__file__).resolve().parent.parent.parent
 sys.path.append(str(ROOT / "tools" / "eraser" / "mir"))
 
 import interface  # noqa: E402
+import planted  # noqa: E402
 
 # Forms behind the code of uart_spec/src/backend.rt that are accepted, so that the refusals below have their own causes.
 ACCEPTED = [
@@ -307,39 +310,61 @@ AROUND = [
     ),
     ("rust/uart_16550/Cargo.toml", "[package]\n", 'cargo-features = ["x"]\n[package]\n', "the section [cargo-features]"),
     ("rust/uart_16550/Cargo.toml", "[lib]\n", "[lib\n", "cannot be read"),
-    # what the emitted code is compiled with: another macro, method, module, file, package, or something that is kept between calls
-    (KIT_ROOT, "/// `format_args!`, as", "/// A.\n#[macro_export]\nmacro_rules! assert {\n    ($($t:tt)*) => {};\n}\n\n/// `format_args!`, as", "a macro `assert`"),
-    (KIT_ROOT, "/// `format_args!`, as", "/// A.\n#[macro_export]\nmacro_rules! other {\n    () => {};\n}\n\n/// `format_args!`, as", "exports other macros"),
-    (KIT_ROOT, "#[cfg(not(feature = \"alloc\"))]\nmod absent;", "macro_rules! matches { ($($t:tt)*) => { true }; }\nmod absent;", "a macro `matches`"),
-    (KIT_ROOT, "pub use core::{cmp, convert, error, fmt, mem, num};", "mod fmt;\npub use core::{cmp, convert, error, mem, num};", "`mod fmt`, which it does not have"),
+    # what the emitted code is compiled with: with those of attacks.py
     (KIT_ROOT, "#![forbid(unsafe_code)]\n", "", "other attributes of the file"),
-    (KIT_ROOT, "extern crate alloc as heap;", "extern crate other as heap;", "`extern crate other as heap`, which it does not have"),
-    (KIT_ROOT, "mod bits;", "#[path = \"other.rs\"]\nmod bits;", "the attribute `path"),
-    (KIT_ROOT, "mod bits;", "include!(\"other.rs\");\nmod bits;", "the word `include`"),
-    ("rust/kit/src/bits.rs", "self.bits() == Self::Bits::EMPTY", "cfg!(unix) || self.bits() == Self::Bits::EMPTY", "the macro `cfg`"),
-    ("rust/kit/src/bits.rs", "    /// Clears all bits.\n", "    #[cfg(unix)]\n    /// Clears all bits.\n", "the condition `unix`"),
     ("rust/kit/src/bits.rs", "    fn clear(&mut self)", "    fn eq(&self, _: &Self) -> bool {\n        true\n    }\n\n    fn clear(&mut self)", "`eq` of the trait `Flags`"),
     ("rust/kit/src/bits.rs", "pub trait Bits:", "pub trait More {}\n\npub trait Bits:", "a trait `More`"),
-    ("rust/kit/src/array.rs", "        self.len += 1;", "        static COUNT: u8 = 1;\n        self.len += 1;", "the word `static`"),
-    ("rust/kit/src/array.rs", "use core::ops::Deref;", "use core::ops::*;", "all names of a module"),
     ("rust/kit/src/array.rs", "    pub const fn is_full", "    pub fn eq(&self, _: &Self) -> bool {\n        true\n    }\n\n    pub const fn is_full", "`eq` of a type"),
     ("rust/kit_of_rings/src/memory.rs", "#[cfg(test)]\nmod tests;", "mod tests;", "tests that are compiled for users"),
-    ("rust/kit_of_rings/src/memory.rs", "use core::fmt;", "use core::fmt;\nuse core::sync::atomic::AtomicU8;", "the word `AtomicU8`"),
     ("rust/kit_of_rings/src/lib.rs", "pub use memory::{Vec, filled};", "pub use memory::{Vec, filled};\npub use other::fmt;", "`pub use other :: fmt`"),
-    (REGISTERS, "            /// Returns the byte.\n", "            pub const fn eq(&self, _: &Self) -> bool { true }\n            /// Returns the byte.\n", "`eq` of a type"),
-    (REGISTERS, "            /// Returns the byte.\n", "            pub const fn clone(&self) -> Self { Self(0) }\n            /// Returns the byte.\n", "`clone` of a type"),
-    (REGISTERS, "register!(PSD);", "register!(PSD);\nimpl Drop for PSD {\n    fn drop(&mut self) {}\n}", "the trait `Drop`"),
-    (REGISTERS, "register!(PSD);", "register!(PSD);\nimpl core::ops::Deref for PSD {\n}", "the trait `Deref`"),
-    (REGISTERS, "self.0 & other.0 == other.0", "cfg!(unix) || self.0 & other.0 == other.0", "the macro `cfg`"),
-    (REGISTERS, "register!(PSD);", "register!(PSD);\ninclude!(\"more.rs\");", "the word `include`"),
     (CHECKED, "impl PSD {", "pub trait More {}\nimpl PSD {", "a trait `More`"),
-    ("rust/uart_16550/Cargo.toml", 'package = "geesetrunk-proved-uart_spec", path', 'package = "other", path', "the dependency uart_spec is another package"),
     ("rust/uart_16550/Cargo.toml", '"../proved/uart_ring", version', '"../other", version', "the dependency uart_ring is another package"),
-    ("rust/uart_16550/Cargo.toml", "[dependencies]\n", '[dependencies]\nx = { path = "../x", version = "=0.9.0" }\n', "the dependency x is another package"),
     ("rust/kit/Cargo.toml", "[features]\n", '[dependencies]\nx = { path = "../x", version = "=0.9.0" }\n[features]\n', "the dependency x is another package"),
-    ("Cargo.toml", "[profile.release]\n", "[profile.release]\noverflow-checks = true\n", "`overflow-checks` of the profile release"),
-    ("Cargo.toml", "[patch.crates-io]\n", '[patch.crates-io]\nx = { path = "x" }\n', "more than the stand-in"),
 ]
+
+# An edit of an emitted file, and the first tokens that the second reader takes for no source's.
+BAUD = "uart_spec/src/baud.rs"
+SECOND = [
+    # a condition on a product of two arguments, which no case at random takes
+    (
+        BAUD,
+        "    whole_quotient(frequency, ticks)",
+        "    if frequency as u64 * factor as u64 == 1 << 41 {\n        return None;\n    }\n    whole_quotient(frequency, ticks)",
+        "`if frequency as u64 * factor",
+    ),
+    (BAUD, "dividend % divisor == 0", "dividend % divisor != 1", "`!= 1 { Some"),
+    (BAUD, "        None\n", "", "`} } pub ( crate"),
+    (
+        BAUD,
+        "assert!(\n        frequency != 0\n            && divisor",
+        "assert!(\n        frequency != 1\n            && divisor",
+        "`assert ! ( frequency",
+    ),
+    (
+        BAUD,
+        "    whole_quotient(frequency, ticks)",
+        '    assert!(factor <= 15, "a prescaler division factor above 15");\n    whole_quotient(frequency, ticks)',
+        "`assert ! ( factor",
+    ),
+    (BAUD, "// Returns the quotient", "use core::cmp;\n// Returns the quotient", "`use core :: cmp"),
+    (BAUD, "\nfn other_factor(", "\npub fn other_factor(", "`pub fn other_factor"),
+    ("uart_spec/src/dump.rs", "    pub fn baud_rate", "    #[inline]\n    pub fn baud_rate", "`# [ inline"),
+    ("uart_spec/src/registers/line_status.rs", "#[derive(Clone, ", "#[derive(Copy, Clone, ", "`Copy , Clone"),
+    ("uart_ring/src/ring.rs", "    urgent: Option<u8>,", "    pub urgent: Option<u8>,", "`pub urgent"),
+    ("uart_judges/src/traces/parsing.rs", ".to_vec_with(alloc)", ".to_vec(alloc)", "`to_vec ( alloc"),
+]
+# A source in which a comment of the logic hides where a clause ends, and the text that the eraser once made of it.
+HIDDEN_END = """fn go() -> u8
+    ensures { result ≡ 1 {- } }
+{
+    2
+}
+fn other() -> u8
+    ensures { 3 ≡ 3 { -} }
+{
+    1
+}
+"""
 
 # A crate as it is emitted and as the kit leaves it, what the first may export otherwise, and edits of it with the cause.
 EMITTED_CRATE = """//! A crate.
@@ -557,6 +582,28 @@ class Tests:
             found = around.causes({**by_hand, name: text.replace(old, new, 1) if old else new})
             self.count(old in text and any(cause in one for one in found), f"{name}: {old!r} to {new!r}: {found}")
 
+    def second(self, edits):
+        """What the second reader finds in an emitted file, and that it reads no clause whose end is hidden."""
+        count, causes = second.read_all(ROOT, table.CRATES, crate.expanded)
+        self.count(count > 0 and not causes, f"second reader: {causes}")
+        for name, old, new, cause in edits:
+            source, text = self.texts[name.replace(".rs", ".rt")], self.there[name].decode()
+            found = second.differences(name.replace(".rs", ".rt"), source, text.replace(old, new, 1))
+            self.count(old in text and found and cause in found[0], f"second reader: {name}: {old!r} to {new!r}: {found}, and not: {cause}")
+        found = second.differences("one/src/lib.rt", HIDDEN_END, "fn go() -> u8 {\n    2\n}\nfn other() -> u8 {\n    1\n}\n")
+        self.count(found and "hides where a clause ends" in found[0], f"second reader: a comment in a clause: {found}")
+
+    def planted(self):
+        """The second reader finds what is planted in emitted text to test the comparison, but for what only the other can find."""
+        for one in planted.every():
+            crate_name, _, path = one.file.partition("/")
+            name = f"{crate_name}/src/{path}"
+            source, text = self.texts[name.replace(".rs", ".rt")], self.there[name].decode()
+            found = second.differences(name.replace(".rs", ".rt"), source, text.replace(one.old, one.new, 1))
+            self.count(one.old in text and bool(found) == one.is_read, f"{one.name}: the second reader: {found}")
+        names = [name for name, _ in attacks.table()]
+        self.count(len(names) == len(set(names)), "two attacks with one name")
+
     def exported(self):
         """What a crate exports beside its library: nothing more, and nothing less."""
         with tempfile.TemporaryDirectory() as folder:
@@ -576,7 +623,7 @@ class Tests:
         for what, name, value, cause in (
             ("GUARDS", "uart_spec::baud::no_function", guard, "no_function: listed, and there are 0 of it"),
             ("IMPLEMENTED", "uart_16550::mmio::MmioBackend::reads", "address", "reads: listed, and there are 0 of it"),
-            ("IMPLEMENTED", "uart_16550::mmio::MmioBackend::read", "load", "MmioBackend::read: load tests nothing"),
+            ("IMPLEMENTED", "uart_16550::mmio::MmioBackend::read", "store_frame", "MmioBackend::read: store_frame tests nothing"),
             ("CASTS", "uart_spec::baud::cast", ["x"], "cast: listed, and there are 0 of it"),
         ):
             with changed(getattr(table, what), name, value):
@@ -638,6 +685,10 @@ def run():
     tests.manifests()
     tests.promises()
     tests.around(AROUND)
+    tests.second(SECOND)
+    tests.forms([one[1:] for one in attacks.FORMS])
+    tests.around([one[1:] for one in attacks.AROUND])
+    tests.planted()
     tests.exported()
     tests.tables()
     print(f"{tests.passed} passed, {tests.failed} failed")

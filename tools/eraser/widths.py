@@ -39,6 +39,7 @@ LISTED = {
     },
     "uart_16550/src/pio.rt": {"base . checked_add": U16},
     "uart_16550/src/tty.rt": {"done . saturating_add": OF_A_SLICE},
+    "uart_design_ware/src/kept.rt": {"cells . rotate_left": "of a slice: moves its cells, by one"},
     "uart_chip/src/controlling.rt": {"u16 * 256": U16},
     "uart_chip/src/receiver.rt": {"4 * char_ticks": U16},
     "uart_chip/src/receiving.rt": {"ticks . saturating_add": U32, ") . saturating_sub": AT_MOST},

@@ -17,10 +17,6 @@ pub built_at : {B : Type 0} (step : B → Access → B → Type 0) (Lies : B →
     (result : Result (Uart16550Tty B) Uart16550TtyError) →
     IsFresh driver (backend_of driver) DEFAULT → Lies (backend_of driver) → IsStarted step config driver result →
     BuildsTerminalAt step Lies Refuses config result
-built_at step Lies Refuses config driver (Ok terminal) fresh lies started =
-    (backend_of driver, lies, record { driver = driver; fresh = fresh; started = started })
 built_at step Lies Refuses config driver (Err (AddressError e)) fresh lies started = absurd started.does.does
-built_at step Lies Refuses config driver (Err (InitError e)) fresh lies started =
-    (backend_of driver, lies, record { driver = driver; fresh = fresh; started = started })
-built_at step Lies Refuses config driver (Err (TestError e)) fresh lies started =
+built_at step Lies Refuses config driver _ fresh lies started =
     (backend_of driver, lies, record { driver = driver; fresh = fresh; started = started })

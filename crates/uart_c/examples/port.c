@@ -1,4 +1,4 @@
-/* A monitor's serial port over libuart_c.a: a guest with interrupts, input that waits, a slow host, breaks, and snapshots. */
+/* A monitor's serial port over libuart_c.a: a guest with interrupts, input that waits, a slow host, breaks, snapshots, and a clock. */
 #include "uart_16550.h"
 
 #include <inttypes.h>
@@ -18,6 +18,9 @@ struct host {
 struct serial {
     struct uart_port port;
     struct host host;
+    struct uart_clock clock;
+    int has_clock;     /* the monitor can count time */
+    int time_is_set;   /* it does: a monitor sets a timer of four characters */
 };
 
 static void offer_input(struct serial *serial);
@@ -62,6 +65,7 @@ static void offer_input(struct serial *serial)
     size_t count = uart_port_receive(&serial->port, bytes, length_of(serial->host.input), &todo);
 
     serial->host.input += count;
+    uart_clock_after_host(&serial->clock, &todo);
     obey(serial, &todo);
 }
 
@@ -75,6 +79,7 @@ static void give_output(struct serial *serial)
     for (size_t i = 0; i < count; i++)
         putchar(uart_port_output(&serial->port)[i]);
     uart_port_take_output(&serial->port, count, &todo);
+    uart_clock_after_host(&serial->clock, &todo);
     obey(serial, &todo);
 }
 
@@ -84,6 +89,8 @@ static uint8_t guest_reads(struct serial *serial, uint8_t offset)
     struct uart_todo todo;
     uint8_t value = uart_port_read(&serial->port, offset, &todo);
 
+    if (serial->has_clock && uart_clock_after_read(&serial->clock, offset, &todo))
+        serial->time_is_set = 1;
     obey(serial, &todo);
     return value;
 }
@@ -93,9 +100,19 @@ static void guest_writes(struct serial *serial, uint8_t offset, uint8_t value)
     struct uart_todo todo;
 
     uart_port_write(&serial->port, offset, value, &todo);
+    if (serial->has_clock && uart_clock_after_write(&serial->clock, offset, &todo))
+        serial->time_is_set = 1;
     obey(serial, &todo);
     if (todo.ready > 0)
         give_output(serial);
+}
+
+/* The monitor's timer ran out. */
+static void time_passes(struct serial *serial)
+{
+    serial->time_is_set = 0;
+    if (uart_clock_pass_time(&serial->clock))
+        serial->host.signals++;
 }
 
 /* Says what the monitor did since the last time. */
@@ -231,10 +248,52 @@ static void save(struct serial *serial)
     printf("line %d and %d\n", serial->host.line, uart_port_level(&serial->port));
 }
 
+/* A handler that leaves early is called again, and one that goes on is not interrupted for nothing. */
+static void count_time(struct serial *serial)
+{
+    static const char text[] = "sixteen bytes...";
+
+    guest_writes(serial, UART_OFFSET_FCR, FIFO_ON | 0x80); /* trigger level 8 */
+    guest_writes(serial, UART_OFFSET_IER, UART_IER_DATA_READY);
+    serial->host.input = "twelve bytes";
+    offer_input(serial);
+    guest_reads(serial, UART_OFFSET_ISR);
+    for (unsigned i = 0; i < 8; i++)
+        putchar(guest_reads(serial, UART_OFFSET_DATA));
+    printf("\ntime is set: %d\n", serial->time_is_set);
+    tell(serial, "it left early");
+    time_passes(serial);
+    tell(serial, "time passed");
+    handle(serial);
+    guest_writes(serial, UART_OFFSET_IER, UART_IER_THR_EMPTY);
+    tell(serial, "it wants to send");
+    printf("ISR %02x\n", guest_reads(serial, UART_OFFSET_ISR));
+    guest_sends(serial, text);
+    printf("\ntime is set: %d\n", serial->time_is_set);
+    guest_writes(serial, UART_OFFSET_IER, 0);
+    time_passes(serial);
+    tell(serial, "it has sent all");
+}
+
+static void use_a_clock(struct serial *serial)
+{
+    for (int has_clock = 0; has_clock <= 1; has_clock++) {
+        uart_port_new(&serial->port, UART_16550A);
+        serial->clock = (struct uart_clock){ 0 };
+        serial->has_clock = has_clock;
+        serial->time_is_set = 0;
+        serial->host.takes = UART_WIRE_ROOM;
+        serial->host.signals = serial->host.rises = serial->host.line = 0;
+        printf("%s a clock\n", has_clock ? "with" : "without");
+        count_time(serial);
+    }
+}
+
 /* Any bytes at all are legal. */
 static void survive(struct uart_port *port)
 {
     unsigned char *bytes = (unsigned char *)port;
+    struct uart_clock clock = { 255 };
     struct uart_todo todo;
     uint8_t text[3] = { 1, 2, 3 };
 
@@ -242,7 +301,9 @@ static void survive(struct uart_port *port)
         bytes[i] = (unsigned char)(i * 167 + 255);
     for (unsigned i = 0; i < 1000; i++) {
         uart_port_write(port, (uint8_t)i, (uint8_t)(i * 7), &todo);
+        uart_clock_after_write(&clock, (uint8_t)i, &todo);
         uart_port_read(port, (uint8_t)(i * 3), &todo);
+        uart_clock_after_read(&clock, (uint8_t)(i * 3), &todo);
         uart_port_receive(port, text, sizeof text, &todo);
         uart_port_receive_one(port, (uint8_t)i, UART_LSR_PARITY_ERROR, &todo);
         uart_port_set_lines(port, (uint8_t)(i & UART_MSR_LINES), &todo);
@@ -266,6 +327,7 @@ int main(void)
     be_slow(&serial);
     bring_errors(&serial);
     save(&serial);
+    use_a_clock(&serial);
     survive(&serial.port);
     return 0;
 }

@@ -420,6 +420,35 @@ void uart_port_save(const struct uart_port *port, struct uart_chip *saved);
  */
 uint32_t uart_port_load(struct uart_port *port, const struct uart_chip *saved, struct uart_todo *todo);
 
+/*
+ * A monitor with a clock. An access of DATA can take the interrupt line up before a real one would rise: a reception timeout is
+ * due at once for what is left in the FIFO, and a transmitter is empty again. Most guests go on with their handler, have done by
+ * then what they would be called for, and find nothing. A monitor that has a clock may put such a signal off for the time of four
+ * characters. It passes the *todo of each call of the port through one of the functions below, before it does what *todo says,
+ * and nobody waits for ever. It is for monitors that obey signal: the level is told as it is.
+ *
+ * The struct of a port that is new or loaded is { 0 }. It is not saved: a port that is loaded tells anew.
+ */
+struct uart_clock {
+    uint8_t is_owed;         /* a signal is put off, and the line is up since */
+};
+
+/*
+ * After uart_port_read and uart_port_write, with the same offset: takes the signal from *todo if it can wait. Returns 1 if that is
+ * so, and the time begins anew, after which uart_clock_pass_time is to be called; else 0.
+ */
+uint8_t uart_clock_after_read(struct uart_clock *clock, uint8_t offset, struct uart_todo *todo);
+uint8_t uart_clock_after_write(struct uart_clock *clock, uint8_t offset, struct uart_todo *todo);
+
+/* After each other call of the port that writes *todo: nothing of it can wait. */
+void uart_clock_after_host(struct uart_clock *clock, const struct uart_todo *todo);
+
+/*
+ * The time has passed. Returns 1 if the guest's interrupt is to be signalled now, since a signal was put off and is still owed,
+ * else 0. A call that comes early, late, or for nothing, does no harm.
+ */
+uint8_t uart_clock_pass_time(struct uart_clock *clock);
+
 /* ---------------------------------------------------------------- the driver
  *
  * The driver never reaches a device itself: uart_step says which access it makes next in a call, the caller makes it,

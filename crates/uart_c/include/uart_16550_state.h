@@ -259,13 +259,13 @@ static inline void uart_state_characters(struct uart_state_reader *from, struct 
     uint8_t bytes[UART_FIFO_SIZE] = { 0 };
     uint8_t errors[UART_FIFO_SIZE] = { 0 };
     size_t offset;
-    unsigned looped;
+    uint32_t looped; /* it is shifted by up to 16 bits, which are all that unsigned may have */
     uint8_t i;
 
     queue->len = uart_state_list(from, bytes, UART_FIFO_SIZE);
     uart_state_items(from, errors, queue->len, UART_FIFO_SIZE);
     offset = from->offset;
-    looped = (unsigned)uart_state_number(from, 2);
+    looped = (uint32_t)uart_state_number(from, 2);
     if (looped >> queue->len)
         uart_state_refuse(from, UART_STATE_BAD_VALUE, offset);
     for (i = 0; i < UART_FIFO_SIZE; i++) {

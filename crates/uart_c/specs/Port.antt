@@ -42,6 +42,17 @@ shown t =
       has_room = flag t.has_room 1;
     }
 
+-- what the monitor has to do, as a struct of C says it, whatever bytes it holds
+abbrev pub asked : UartTodo → Todo
+asked t =
+    record {
+      signal = is_on t.signal;
+      level = is_on t.level;
+      has_moved = is_on t.has_moved;
+      has_room = is_on t.has_room;
+      ready = t.ready;
+    }
+
 -- a port whose data are the one value for their meaning, but for bytes of its chip that mean nothing
 abbrev pub IsCanonicalPort : UartPort → Type 0
 IsCanonicalPort p = IsCanonical p.chip × (p.told ≡ kept (told_of p.told))

@@ -9,6 +9,7 @@ mod access;
 mod answer;
 mod call;
 mod chip;
+mod clock;
 mod codes;
 mod driver;
 mod exports;

@@ -117,7 +117,7 @@ impl UartTold {
 }
 
 // Returns what the monitor has to do as C has it.
-fn shown(todo: Todo) -> UartTodo
+pub fn shown(todo: Todo) -> UartTodo
     ensures { result ≡ port_spec.shown todo }
 {
     UartTodo {
@@ -126,6 +126,19 @@ fn shown(todo: Todo) -> UartTodo
         level: todo.level as u8,
         has_moved: todo.has_moved as u8,
         has_room: todo.has_room as u8,
+    }
+}
+
+// Returns what the monitor has to do as a port of `uart_virtual` asks for it.
+pub fn asked(todo: UartTodo) -> Todo
+    ensures { result ≡ port_spec.asked todo }
+{
+    Todo {
+        signal: is_on(todo.signal),
+        level: is_on(todo.level),
+        has_moved: is_on(todo.has_moved),
+        has_room: is_on(todo.has_room),
+        ready: todo.ready,
     }
 }
 

@@ -1,6 +1,6 @@
 -- What a tape shows of the calls over it.
-use Rattle.std.proofs.Common.{◌≡◌, Bool, true, false, ◌&&◌, List, [], ◌∷◌, ◌++◌, refl, sym, ◌∙◌, ap, append_assoc, append-nil, nat_lt}
-use Rattle.std.proofs.Common.{length}
+use Rattle.std.proofs.Common.{◌≡◌, true, List, [], ◌∷◌, ◌++◌, sym, ◌∙◌, ap, append_assoc, append-nil, nat_lt, length}
+use Rattle.std.proofs.lemmas.Bool.{and_parts}
 use Rattle.uart_spec.specs.Access.{Path}
 use Rattle.uart_spec.specs.declared.access.Access.{Access}
 use Rattle.uart_16550.specs.Grammar.{Language}
@@ -10,14 +10,10 @@ use Rattle.uart_calls.specs.Replay.{Replay, ReplayStep, FedBy, ReplaysShow, Repl
 use Rattle.uart_16550.specs.declared.driver.Uart16550.{Uart16550}
 use Rattle.uart_16550.proofs.Doings.{did_made}
 
-pub whole_before : (b c : Bool) → (b && c) ≡ true → b ≡ true
-whole_before true c h = refl
-whole_before false c h = h
-
 pub still_whole : (a b : Replay) (l : List Access) → Path ReplayStep a l b → b.whole ≡ true → a.whole ≡ true
 still_whole a b [] p h = sym (ap (λ (t : Replay). t.whole) p) ∙ h
 still_whole a b (access ∷ accesses) p h =
-    whole_before a.whole (nat_lt (length a.made) REPLAY_ROOM) (sym p.1.whole ∙ still_whole p.0 b accesses p.2 h)
+    (and_parts a.whole (nat_lt (length a.made) REPLAY_ROOM) (sym p.1.whole ∙ still_whole p.0 b accesses p.2 h)).0
 
 -- its reads returned the answers of the first replay, in turn
 pub fed_path : (a b : Replay) (l : List Access) → Path ReplayStep a l b → FedBy a.answers l b.answers

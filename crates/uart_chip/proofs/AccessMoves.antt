@@ -2,7 +2,7 @@
 --
 -- A move says of which register it is. So who matches on it compares no offset, and a catch-all takes the moves that leave a property
 -- alone.
-use Rattle.std.proofs.Common.{◌≡◌, ◌≢◌, ℕ, Bool, true, false, not, ◌&&◌, ◌==◌, [], refl, if◌then◌else◌}
+use Rattle.std.proofs.Common.{◌≡◌, ◌≢◌, ℕ, Bool, true, false, not, ◌&&◌, ◌==◌, [], refl, if◌then◌else◌, bit_and, arith}
 use Rattle.uart_events.specs.declared.event.Chip.{Chip}
 use Rattle.uart_events.specs.declared.event.Chip.TheVariants.{Uart16550A, Uart16450}
 use Rattle.uart_spec.specs.Bits.{has_any}
@@ -15,7 +15,6 @@ use Rattle.uart_chip.specs.Transmitter.{load}
 use Rattle.uart_chip.specs.Chip.{ChipState, cut_of, is_dlab_set, interrupt, is_thr_empty, with_thr_pending, with_latches, enable}
 use Rattle.uart_chip.specs.Chip.{after_read, after_write, trigger_level, switch, reset_receiver, reset_transmitter, set_trigger}
 use Rattle.uart_chip.specs.Chip.{is_same, control, control_modem}
-use Rattle.std.proofs.Common.{bit_and, arith}
 use Rattle.std.proofs.lemmas.Grind.{common_steps}
 
 -- ---- either of two

@@ -16,20 +16,11 @@ use Rattle.uart_chip.specs.Chip.{word_length, cut_to, level_of, trigger_level}
 -- ---- joins
 
 pub or_assoc : (a b c : ℕ) → bit_or (bit_or a b) c ≡ bit_or a (bit_or b c)
-or_assoc a b c =
-    same_from_bits _ _ (λ i. rw (bit_at_or (bit_or a b) c i, bit_at_or a b i, bit_at_or a (bit_or b c) i, bit_at_or b c i) (omega arith))
+or_assoc a b c = same_from_bits _ _ (λ i. simp bit_at_or (omega arith))
 
 -- a mask of a join
 pub and_or : (a b mask : ℕ) → bit_and (bit_or a b) mask ≡ bit_or (bit_and a mask) (bit_and b mask)
-and_or a b mask =
-    same_from_bits _ _
-    (λ i. rw (
-      bit_at_and (bit_or a b) mask i,
-      bit_at_or a b i,
-      bit_at_or (bit_and a mask) (bit_and b mask) i,
-      bit_at_and a mask i,
-      bit_at_and b mask i,
-    ) (omega arith))
+and_or a b mask = same_from_bits _ _ (λ i. simp (bit_at_and, bit_at_or) (omega arith))
 
 -- the divisor latch has nothing to do with the word length
 pub word_same : (lcr : ℕ) → word_length (bit_or lcr LCR.DLAB.0) ≡ word_length lcr
@@ -112,11 +103,8 @@ cut_with cuts lcr code byte on e =
 -- ---- the trigger level
 
 coded : (code : ℕ) → code < 4 → code ≡ trigger_code (level_of code)
-coded zero h = refl
-coded (suc zero) h = refl
-coded (suc (suc zero)) h = refl
-coded (suc (suc (suc zero))) h = refl
 coded (suc (suc (suc (suc n)))) h = absurd (omega arith)
+coded _ h = refl
 
 -- the only level whose code is in FCR
 pub only_level : (fcr : ℕ) (level : FifoTriggerLevel) → IsOnly (HasTrigger 6 fcr) level → level ≡ trigger_level fcr

@@ -1,7 +1,6 @@
 -- How many characters of a queue have errors.
-use Rattle.std.proofs.Common.{◌≡◌, ℕ, zero, suc, ◌+◌, ◌<◌, ◌≤◌, Bool, true, false, ◌||◌, List, [], ◌∷◌, ◌++◌, length, nat_lt}
-use Rattle.std.proofs.Common.{if◌then◌else◌, refl, sym}
-use Rattle.std.proofs.Common.{ap, ◌∙◌, arith, drop, Some, slice_get}
+use Rattle.std.proofs.Common.{◌≡◌, ℕ, zero, suc, ◌+◌, ◌<◌, ◌≤◌, Bool, true, false, ◌||◌, List, [], ◌∷◌, ◌++◌, length, nat_lt, if◌then◌else◌}
+use Rattle.std.proofs.Common.{refl, sym, ap, ◌∙◌, arith, drop, Some, slice_get}
 use Rattle.uart_events.specs.declared.event.ArrivalMark.{ArrivalMark}
 use Rattle.uart_events.specs.declared.event.ArrivalMark.TheVariants.{Discarded}
 use Rattle.std.proofs.lemmas.Grind.{common_steps}

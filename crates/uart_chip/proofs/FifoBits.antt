@@ -1,5 +1,5 @@
 -- What the bits of ISR that show the FIFO say, beside the code of any interrupt.
-use Rattle.std.proofs.Common.{◌≡◌, ℕ, Bool, true, false, not, ◌==◌, Option, Some, None, refl, ◌∙◌, ap, bit_and, bit_or}
+use Rattle.std.proofs.Common.{◌≡◌, ℕ, Bool, true, false, not, ◌==◌, Option, Some, refl, ◌∙◌, ap, bit_and, bit_or}
 use Rattle.uart_spec.specs.Bits.{has, has_any, flag}
 use Rattle.uart_spec.specs.declared.registers.interrupt_status.TheConstants.ISR
 use Rattle.uart_spec.specs.declared.registers.interrupt_type.InterruptType.{InterruptType}
@@ -9,12 +9,9 @@ use Rattle.uart_chip.specs.Chip.{identification}
 -- no code of an interrupt has one of these bits
 pub fifo_bits : (on : Bool) (pending : Option InterruptType) →
     bit_and (bit_or (identification pending) (flag on ISR.FIFOS_ENABLED.0)) ISR.FIFOS_ENABLED.0 ≡ flag on ISR.FIFOS_ENABLED.0
-fifo_bits true None = refl
 fifo_bits true (Some ReceiverLineStatus) = refl
-fifo_bits true (Some _) = refl
-fifo_bits false None = refl
 fifo_bits false (Some ReceiverLineStatus) = refl
-fifo_bits false (Some _) = refl
+fifo_bits _ _ = refl
 
 pub all_shown : (on : Bool) (pending : Option InterruptType) →
     has (bit_or (identification pending) (flag on ISR.FIFOS_ENABLED.0)) ISR.FIFOS_ENABLED.0 ≡ on

@@ -134,9 +134,8 @@ ticks-add (suc j) k c = ap (λ (n : ℕ). ticks n c) (one_more j k) ∙ ap tick 
     one_more j k = omega arith
 
 freed : (queue : List ℕ) (t : TransmitterState) → moves (refill None queue (with_place None queue t)) ≡ length queue
-freed [] t = refl
 freed (x ∷ []) t = refl
-freed (x ∷ y ∷ xs) t = refl
+freed _ t = refl
 
 moved-tick : (loopback : Bool) (k : ℕ) (place : Option Shifting) (queue : List ℕ) (t : TransmitterState) →
     next_move_of (leaves loopback t) place queue ≡ Some (suc k) →

@@ -1,8 +1,7 @@
 -- After a read nothing more is learnt from the same read with the same value.
 use Rattle.std.proofs.Common.{◌≡◌, ◌∙◌, ℕ, Bool, true, false, ◌==◌, refl, ap, sym, arith, suc, zero, List, [], ◌∷◌, ◌++◌}
 use Rattle.std.proofs.Common.{Option, Some, None, is_some, subst, ◌≤◌}
-use Rattle.std.specs.Prelude.{IsSome}
-use Rattle.std.specs.Prelude.{if◌then◌else◌, replicate}
+use Rattle.std.specs.Prelude.{IsSome, if◌then◌else◌, replicate}
 use Rattle.uart_spec.specs.Bits.{has_any}
 use Rattle.uart_spec.specs.declared.registers.interrupt_status.TheConstants.ISR
 use Rattle.uart_spec.specs.declared.registers.line_status.TheConstants.LSR
@@ -30,15 +29,13 @@ use Rattle.uart_judges.proofs.LatchesHold.{by_number}
 -- the same read again teaches nothing, and no such read shows DLAB
 data_again : (d : Option Bool) (value : ℕ) (l : KnownLatches) →
     (data_read d value (data_read d value l) ≡ data_read d value l) × (dlab (data_read d value l) ≡ dlab l)
-data_again None value l = (refl, refl)
 data_again (Some true) value l = (refl, refl)
-data_again (Some false) value l = (refl, refl)
+data_again _ value l = (refl, refl)
 
 ier_again : (d : Option Bool) (value : ℕ) (l : KnownLatches) →
     (ier_read d value (ier_read d value l) ≡ ier_read d value l) × (dlab (ier_read d value l) ≡ dlab l)
-ier_again None value l = (refl, refl)
 ier_again (Some true) value l = (refl, refl)
-ier_again (Some false) value l = (refl, refl)
+ier_again _ value l = (refl, refl)
 
 if_twice : (b : Bool) (f g : KnownLatches → KnownLatches) → ((l : KnownLatches) → f (f l) ≡ f l) →
     ((l : KnownLatches) → g (g l) ≡ g l) → (l : KnownLatches) →
@@ -96,9 +93,8 @@ if_sender true f s e = e
 if_sender false f s e = refl
 
 waits_twice : (d : Option Bool) (waits : Bool) → waits_after d (waits_after d waits) ≡ waits_after d waits
-waits_twice None waits = refl
 waits_twice (Some true) waits = refl
-waits_twice (Some false) waits = refl
+waits_twice _ waits = refl
 
 waits_then : (value : ℕ) (l : KnownLatches) (waits : Bool) →
     waits_after (dlab (after_read_data l value)) (waits_after (dlab l) waits) ≡ waits_after (dlab l) waits

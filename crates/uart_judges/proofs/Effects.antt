@@ -13,9 +13,8 @@ use Rattle.uart_chip.specs.declared.transmitter.Shifting.{Shifting}
 use Rattle.uart_chip.specs.Transmitter.{TransmitterState}
 use Rattle.uart_chip.specs.Receiver.{ReceiverState, clear}
 use Rattle.uart_chip.specs.Chip as chip
-use Rattle.uart_chip.specs.Chip.{ChipState, answer, interrupt, is_dlab_set, is_thr_empty, is_transmitter_empty}
-use Rattle.uart_chip.specs.Chip.{line_status, trigger_level, switch, reset_receiver, reset_transmitter, set_trigger, is_same}
-use Rattle.uart_chip.specs.Chip.{set_fifo, control}
+use Rattle.uart_chip.specs.Chip.{ChipState, answer, interrupt, is_dlab_set, is_thr_empty, is_transmitter_empty, line_status, trigger_level}
+use Rattle.uart_chip.specs.Chip.{switch, reset_receiver, reset_transmitter, set_trigger, is_same, set_fifo, control}
 use Rattle.uart_chip.proofs.FifoBits.{any_shown}
 use Rattle.uart_chip.proofs.lasting.Lasting.{lasts-read, lasts-write, lasts-latch}
 use Rattle.uart_chip.proofs.statuses.Status.{status_data, status_room, status_empty}

@@ -1,19 +1,14 @@
 -- Where a line of a trace ends: before its remark, and before the spaces at its end.
-use Rattle.std.proofs.Common.{◌≡◌, ◌≢◌, ℕ, ◌≤◌, Bool, true, false, cond, ltb}
-use Rattle.std.proofs.Common.{eqb, ◌&&◌, List, [], ◌∷◌, ◌++◌, length, Option, Some, None, refl}
-use Rattle.std.proofs.Common.{sym, ap, ◌∙◌, arith, inl, inr}
+use Rattle.std.proofs.Common.{◌≡◌, ◌≢◌, ℕ, ◌≤◌, Bool, true, false, cond, ltb, eqb, ◌&&◌, List, [], ◌∷◌, ◌++◌, length, Option, Some, None}
+use Rattle.std.proofs.Common.{refl, sym, ap, ◌∙◌, arith, inl, inr}
 use Rattle.std.specs.Prelude.{unwrap_or}
 use Rattle.std.specs.List.{list_all, position_or_len}
 use Rattle.std.proofs.lemmas.Bool.{cases_lt, lt-ltb, le-ltb, ne_eqb}
 use Rattle.std.proofs.lemmas.List.{nil_from_length}
 use Rattle.std.proofs.lemmas.List.Folds.{list_all-append}
 use Rattle.std.proofs.lemmas.List.Sums.{prefix_len-le-length}
+use Rattle.std.proofs.Math.Bool.{and-false}
 use Rattle.uart_judges.specs.TraceLines.{is_space, without_end}
-
--- a space at the end makes no difference
-and_false : (b : Bool) → (b && false) ≡ false
-and_false true = refl
-and_false false = refl
 
 and_true : (b : Bool) → (b && (true && true)) ≡ b
 and_true true = refl
@@ -25,7 +20,7 @@ spaces_more xs b is =
 
 no_spaces : (xs : List ℕ) (b : ℕ) → is_space b ≡ false → list_all is_space (xs ++ b ∷ []) ≡ false
 no_spaces xs b is =
-    list_all-append is_space xs (b ∷ []) ∙ ap (λ t. list_all is_space xs && (t && true)) is ∙ and_false (list_all is_space xs)
+    list_all-append is_space xs (b ∷ []) ∙ ap (λ t. list_all is_space xs && (t && true)) is ∙ and-false (list_all is_space xs)
 
 pub end_space : (xs : List ℕ) (b : ℕ) → is_space b ≡ true → without_end (xs ++ b ∷ []) ≡ without_end xs
 unfolding without_end

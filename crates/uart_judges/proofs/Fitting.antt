@@ -3,20 +3,18 @@ use Rattle.std.proofs.Common.{◌≡◌, ℕ, Bool, true, false, not, ◌&&◌, 
 use Rattle.std.proofs.Common.{refl, arith, sym, ◌∙◌, ap, bit_and, bit_or, if◌then◌else◌}
 use Rattle.std.specs.List.{list_any}
 use Rattle.std.proofs.lemmas.Grind.{common_steps}
+use Rattle.std.proofs.lemmas.Bool.{and_from, and_parts, and_right}
 use Rattle.std.proofs.lemmas.Nat.{and_assoc}
 use Rattle.std.specs.Int.Bits.{and_zero_r}
 use lib.Bits.{or_zero_r}
-use Rattle.std.proofs.Math.Bool.{or-true}
+use Rattle.std.proofs.Math.Bool.{and-false, or-true}
 use Rattle.uart_spec.specs.Bits.{IsWithin, flag, has_any}
 use Rattle.uart_spec.specs.declared.registers.interrupt_enable.TheConstants.IER
 use Rattle.uart_spec.specs.declared.registers.interrupt_status.TheConstants.ISR
 use Rattle.uart_spec.specs.declared.registers.interrupt_type.InterruptType.{InterruptType}
-use Rattle.uart_spec.specs.declared.registers.interrupt_type.InterruptType.TheVariants.{ReceiverLineStatus}
-use Rattle.uart_spec.specs.declared.registers.interrupt_type.InterruptType.TheVariants.{ReceivedDataReady}
-use Rattle.uart_spec.specs.declared.registers.interrupt_type.InterruptType.TheVariants.{ReceptionTimeout}
-use Rattle.uart_spec.specs.declared.registers.interrupt_type.InterruptType.TheVariants.{TransmitterHoldingRegisterEmpty}
-use Rattle.uart_spec.specs.declared.registers.interrupt_type.InterruptType.TheVariants.{ModemStatus}
-use Rattle.uart_spec.specs.declared.registers.interrupt_type.InterruptType.TheVariants.{DmaReceptionEndOfTransfer}
+use Rattle.uart_spec.specs.declared.registers.interrupt_type.InterruptType.TheVariants.{ReceiverLineStatus, ReceivedDataReady}
+use Rattle.uart_spec.specs.declared.registers.interrupt_type.InterruptType.TheVariants.{ReceptionTimeout, TransmitterHoldingRegisterEmpty}
+use Rattle.uart_spec.specs.declared.registers.interrupt_type.InterruptType.TheVariants.{ModemStatus, DmaReceptionEndOfTransfer}
 use Rattle.uart_spec.specs.declared.registers.interrupt_type.InterruptType.TheVariants.{DmaTransmissionEndOfTransfer}
 use Rattle.uart_spec.specs.declared.registers.line_status.TheConstants.LSR
 use Rattle.uart_spec.specs.declared.registers.modem_control.TheConstants.MCR
@@ -80,14 +78,6 @@ has_fifo : (o : Option Bool) (fifo : Bool) → Agrees o fifo → fifo ≡ true �
 has_fifo None fifo a e = refl
 has_fifo (Some b) fifo a e = sym a ∙ e
 
-first_true : (a b : Bool) → (a && b) ≡ true → a ≡ true
-first_true true b e = refl
-first_true false b e = e
-
-both_true : (a b : Bool) → a ≡ true → b ≡ true → (a && b) ≡ true
-both_true true b e f = f
-both_true false b e f = e
-
 pending_if : (P : Option InterruptType → Type 0) (a b : Bool) (first others : Option InterruptType) → (a ≡ true → b ≡ true → P first) →
     P others → P (if a && b then first else others)
 pending_if P true true first others p q = p refl refl
@@ -105,8 +95,8 @@ module _ (k : Known) (c : ChipState) (h : Holds k c) where
       (λ e _. enabled k.latches.ier c.latches.ier IER.DATA_READY.0 h.latches.ier e)
       (pending_if (λ i. may_be_pending i k ≡ true) (has_any c.latches.ier IER.DATA_READY.0)
       (is_timed_out c.fifo c.receiver) (Some ReceptionTimeout) _
-      (λ e f. both_true _ _ (enabled k.latches.ier c.latches.ier IER.DATA_READY.0 h.latches.ier e)
-      (has_fifo k.fifo c.fifo h.fifo (first_true c.fifo _ f)))
+      (λ e f. and_from _ _ (enabled k.latches.ier c.latches.ier IER.DATA_READY.0 h.latches.ier e)
+      (has_fifo k.fifo c.fifo h.fifo (and_parts c.fifo _ f).0))
       (pending_if (λ i. may_be_pending i k ≡ true) (has_any c.latches.ier IER.THR_EMPTY.0)
       c.transmitter.is_thr_pending (Some TransmitterHoldingRegisterEmpty) _
       (λ e _. enabled k.latches.ier c.latches.ier IER.THR_EMPTY.0 h.latches.ier e)
@@ -119,19 +109,15 @@ module _ (k : Known) (c : ChipState) (h : Holds k c) where
   shows pending e =
       let same : (bit_or (identification pending) (flag c.fifo ISR.FIFOS_ENABLED.0) ==
       bit_or (identification pending) (flag c.fifo ISR.FIFOS_ENABLED.0)) ≡ true = grind (arith, common_steps) in
-      rw (any_shown c.fifo pending) (both_true _ _ same e)
+      rw (any_shown c.fifo pending) (and_from _ _ same e)
 
 -- one of the interrupts explains the value
 one_explains : (value : ℕ) (k : Known) (pending : Option InterruptType) → may_show value pending k ≡ true →
     may_be_pending pending k ≡ true → is_explained value k ≡ true
 one_explains value k None e p = rw e refl
-one_explains value k (Some ReceiverLineStatus) e p = rw (e, or-true) refl
-one_explains value k (Some ReceivedDataReady) e p = rw (e, or-true) refl
-one_explains value k (Some ReceptionTimeout) e p = rw (e, or-true) refl
-one_explains value k (Some TransmitterHoldingRegisterEmpty) e p = rw (e, or-true) refl
-one_explains value k (Some ModemStatus) e p = rw (e, or-true) refl
 one_explains value k (Some DmaReceptionEndOfTransfer) e p = absurd (cc)
 one_explains value k (Some DmaTransmissionEndOfTransfer) e p = absurd (cc)
+one_explains value k _ e p = rw (e, or-true) refl
 
 isr_kept : (k : Known) (c : ChipState) → Holds k c → broken_isr (answer offsets.ISR c) k ≡ None
 isr_kept k c h =
@@ -168,10 +154,6 @@ no_bits false true false = refl
 no_bits false false true = refl
 no_bits false false false = refl
 
-second_false : (a b : Bool) → b ≡ false → (a && b) ≡ false
-second_false true b e = e
-second_false false b e = refl
-
 module _ (c : ChipState) where
   alone : (queue : List Character) → c.receiver.queue ≡ queue →
       (not (has_any (line_status c) LSR.DATA_READY.0) && has_any (line_status c) character_bits) ≡ false
@@ -188,7 +170,7 @@ module _ (c : ChipState) where
       rw (e, no_errors c.fifo c.receiver.is_front_reported)
       (no_bits c.receiver.is_overrun (length c.transmitter.queue == 0)
       (is_transmitter_empty c.transmitter.queue c.transmitter.shift_register)) in
-      second_false _ _ none
+      and_right _ _ none
 
 -- the transmitter is empty only with THR
 empty_both : (queue : List ℕ) (place : Option Shifting) → (is_transmitter_empty queue place && not (length queue == 0)) ≡ false
@@ -198,11 +180,7 @@ empty_both (x ∷ xs) place = refl
 
 module _ (k : Known) (c : ChipState) (h : Holds k c) where
   fifo_quiet : (o : Option Bool) → Agrees o c.fifo → (has_any (line_status c) LSR.FIFO_DATA_ERROR.0 && not (known_or o true)) ≡ false
-  fifo_quiet None a = off _
-    where
-      off : (b : Bool) → (b && false) ≡ false
-      off true = refl
-      off false = refl
+  fifo_quiet None a = and-false _
   fifo_quiet (Some on) a =
       rw (status_fifo c, a) (off on (list_any has_errors (unreported c.receiver.queue c.receiver.is_front_reported)))
     where
@@ -218,7 +196,7 @@ module _ (k : Known) (c : ChipState) (h : Holds k c) where
 
   receiver_kept : broken_receiver (line_status c) k ≡ None
   receiver_kept =
-      quiet _ _ _ (second_false k.is_looked _ (alone c c.receiver.queue refl)) (fifo_quiet k.fifo h.fifo)
+      quiet _ _ _ (and_right k.is_looked _ (alone c c.receiver.queue refl)) (fifo_quiet k.fifo h.fifo)
       (still_waits k.waits h.waits)
     where
       quiet : (a b d : Bool) → a ≡ false → b ≡ false → d ≡ false →

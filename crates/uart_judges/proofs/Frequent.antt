@@ -1,6 +1,7 @@
 -- What is not found at the accesses that drivers make most.
 use Rattle.std.proofs.Common.{◌≡◌, refl, sym, ℕ, Bool, true, false, not, ◌&&◌, ◌||◌, ◌==◌, if◌then◌else◌, nat_lt}
 use Rattle.std.proofs.Common.{Option, Some, None, List, [], ◌∷◌}
+use Rattle.std.proofs.Math.Bool.{and-false}
 use Rattle.uart_spec.specs.declared.registers.fifo_control.TheConstants.FCR as fcr_bits
 use Rattle.uart_spec.specs.declared.registers.line_status.LSR.{LSR}
 use Rattle.uart_judges.specs.Findings.{all_found, arrival, arrived_at, change, chip, discard, empty, flow, gate, is_at_rest, latch}
@@ -20,10 +21,6 @@ nothing = None
 neither : (b : Bool) → (if b then nothing else nothing) ≡ nothing
 neither true = refl
 neither false = refl
-
-and_false : (b : Bool) → (b && false) ≡ false
-and_false true = refl
-and_false false = refl
 
 not_served : (o : Option Identified) → served_by o None ≡ nothing
 not_served None = refl
@@ -50,7 +47,7 @@ looked a s lsr n r o e is pn pr po pe =
     let no_latch : latch a s ≡ nothing = rw is refl in
     let no_change : change a s ≡ nothing = rw is (neither (s.has_rested || (a.going_out == 0))) in
     let kept : step_empties fcr_bits.RX_FIFO_RESET.0 s ≡ false = rw is refl in
-    let no_discard : discard a s ≡ nothing = rw (kept, and_false (nat_lt 0 a.waiting && not (is_at_rest a s.setup))) refl in
+    let no_discard : discard a s ≡ nothing = rw (kept, and-false (nat_lt 0 a.waiting && not (is_at_rest a s.setup))) refl in
     let no_service : service a s ≡ nothing = rw is (not_served a.unserved) in
     let no_chip : chip a s ≡ nothing = rw is refl in
     let no_level : level a s ≡ nothing = rw is refl in
@@ -74,7 +71,7 @@ sent_one a s byte n r o f g is pn pr po pf pg =
     let no_latch : latch a s ≡ nothing = rw is refl in
     let no_change : change a s ≡ nothing = rw is (neither (s.has_rested || (a.going_out == 0))) in
     let kept : step_empties fcr_bits.RX_FIFO_RESET.0 s ≡ false = rw is refl in
-    let no_discard : discard a s ≡ nothing = rw (kept, and_false (nat_lt 0 a.waiting && not (is_at_rest a s.setup))) refl in
+    let no_discard : discard a s ≡ nothing = rw (kept, and-false (nat_lt 0 a.waiting && not (is_at_rest a s.setup))) refl in
     let no_service : service a s ≡ nothing = rw is (not_served a.unserved) in
     let no_chip : chip a s ≡ nothing = rw is refl in
     let no_level : level a s ≡ nothing = rw is refl in
@@ -97,7 +94,7 @@ received_one a s byte n g t r is pn pg pt pr =
     let no_latch : latch a s ≡ nothing = rw is refl in
     let no_change : change a s ≡ nothing = rw is (neither (s.has_rested || (a.going_out == 0))) in
     let kept : step_empties fcr_bits.RX_FIFO_RESET.0 s ≡ false = rw is refl in
-    let no_discard : discard a s ≡ nothing = rw (kept, and_false (nat_lt 0 a.waiting && not (is_at_rest a s.setup))) refl in
+    let no_discard : discard a s ≡ nothing = rw (kept, and-false (nat_lt 0 a.waiting && not (is_at_rest a s.setup))) refl in
     let no_service : service a s ≡ nothing = rw is (not_served a.unserved) in
     let no_chip : chip a s ≡ nothing = rw is refl in
     let no_level : level a s ≡ nothing = rw is refl in

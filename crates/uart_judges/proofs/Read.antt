@@ -1,6 +1,5 @@
 -- What the reader has read of a trace, and what is left to it.
-use Rattle.std.proofs.Common.{◌≡◌, ℕ, ◌+◌, Bool, true, false, List, [], ◌∷◌, ◌++◌}
-use Rattle.std.proofs.Common.{Option, Some, None, Ok, Err, refl, sym, subst, ap, ◌∙◌}
+use Rattle.std.proofs.Common.{◌≡◌, ℕ, ◌+◌, Bool, true, false, List, [], ◌∷◌, ◌++◌, Option, Some, None, Ok, Err, refl, sym, subst, ap, ◌∙◌}
 use Rattle.std.proofs.Common.{append_assoc, append-nil, arith, eqb, length}
 use Rattle.std.proofs.lemmas.Bool.{eqb-true}
 use Rattle.uart_spec.specs.declared.access.Access.{Access}
@@ -8,9 +7,8 @@ use Rattle.uart_events.specs.declared.call.Call.{Call}
 use Rattle.uart_language.specs.Sayings.{plain}
 use Rattle.uart_language.specs.Text.{lines_of}
 use Rattle.uart_judges.specs.TraceLines.{Saying, Nothing, Fresh, Calls, Makes, Returns, says}
-use Rattle.uart_judges.specs.Reading.{Goes, AreExchanges, Faulty, fault_at, fault_at_end, first_fault, open_after, or_else}
-use Rattle.uart_judges.specs.Reading.{ReadsExchange, ReadsLine, Refuses, RefusesLine}
-use Rattle.uart_judges.specs.Reading.{skip, makes, returns, ended, blank, renews, calls}
+use Rattle.uart_judges.specs.Reading.{Goes, AreExchanges, Faulty, fault_at, fault_at_end, first_fault, open_after, or_else, ReadsExchange}
+use Rattle.uart_judges.specs.Reading.{ReadsLine, Refuses, RefusesLine, skip, makes, returns, ended, blank, renews, calls}
 use Rattle.uart_judges.specs.declared.traces.cause.TraceFault.TheVariants.{NoAnswer, NoCallBefore}
 use Rattle.uart_judges.specs.declared.traces.cause.TraceError.{TraceError}
 use Rattle.uart_judges.specs.declared.traces.exchange.Exchange.{Exchange}

@@ -110,12 +110,10 @@ one_arrives n fifo new r h = go (nat_lt (length r.queue) (room fifo)) refl
     go false e = rw e (in_full fifo _ _ (min (n + 1) (room fifo)) (full fifo e))
 
 least_fits : (o : Option Bool) (on : Bool) → IsSo o (λ b. on ≡ b) → least_depth o ≤ room on
-least_fits None true so = omega arith
-least_fits None false so = omega arith
 least_fits (Some true) true so = omega arith
 least_fits (Some true) false so = absurd (cc)
-least_fits (Some false) true so = omega arith
-least_fits (Some false) false so = omega arith
+least_fits _ true so = omega arith
+least_fits _ false so = omega arith
 
 smaller : (n a b k : ℕ) → a ≤ b → min n b ≤ k → min n a ≤ k
 smaller n a b k p q = omega (arith, p, q)

@@ -6,7 +6,7 @@ use Rattle.uart_spec.specs.declared.errors.FifosOffError.{FifosOffError}
 use Rattle.uart_spec.specs.declared.errors.ByteSendError.{ByteSendError}
 use Rattle.uart_spec.specs.declared.errors.StalledError.{StalledError}
 use Rattle.uart_spec.specs.declared.registers.fifo_trigger_level.FifoTriggerLevel.{FifoTriggerLevel}
-use Rattle.uart_spec.specs.declared.registers.fifo_trigger_level.FifoTriggerLevel.TheVariants.{One, Four, Eight, Fourteen}
+use Rattle.uart_spec.specs.declared.registers.fifo_trigger_level.FifoTriggerLevel.TheVariants.{One}
 use Rattle.uart_spec.specs.declared.registers.line_status.TheConstants.LSR
 use Rattle.uart_spec.specs.declared.registers.offsets.TheConstants as offsets
 use Rattle.uart_16550.specs.Driver.{Fields, settings_of}
@@ -45,9 +45,7 @@ none_made fifo l is = blocks [] [] (subst (λ (l : List RegisterAccess). InBlock
 
 level_is : (level : FifoTriggerLevel) → IsLevel (level_bits level)
 level_is One = record { on = refl; keeps_received = refl; keeps_queued = refl }
-level_is Four = record { on = refl; keeps_received = refl; keeps_queued = refl }
-level_is Eight = record { on = refl; keeps_received = refl; keeps_queued = refl }
-level_is Fourteen = record { on = refl; keeps_received = refl; keeps_queued = refl }
+level_is _ = record { on = refl; keeps_received = refl; keeps_queued = refl }
 
 level_list : (v : FifoTriggerLevel) (r : Result (Unit {0}) FifosOffError) (f after : Fields) (l : List RegisterAccess) →
     SetsTrigger v r f l after → IsOfSession f.fifo l
@@ -79,21 +77,9 @@ receives_exact_list slots s bytes (Err e) l t = blocks _ _ (receives_exact_block
 pub list_of : (c : Call) (f after : Fields) (l : List RegisterAccess) (a : Answer) → IsSteady c → IsListOf c f l a after →
     IsOfSession f.fifo l
 list_of call.Next f after l a i h = none_made f.fifo l h.does.0
-list_of (call.Init config) f after l a i h = absurd i
-list_of (call.InitWith config setup) f after l a i h = absurd i
-list_of (call.SetFrame config) f after l a i h = absurd i
-list_of (call.SetFrameWhenIdle config) f after l a i h = absurd i
 list_of (call.SetTriggerLevel v) f after l a i h = level_list v h.outcome f after l h.does
-list_of call.Attach f after l a i h = absurd i
-list_of (call.SetBreak on) f after l a i h = absurd i
-list_of (call.SetModemControl outputs) f after l a i h = absurd i
-list_of (call.SetRts on) f after l a i h = absurd i
-list_of (call.SetDtr on) f after l a i h = absurd i
-list_of (call.Quiesce outputs fifos) f after l a i h = absurd i
-list_of (call.Restore dump) f after l a i h = absurd i
 list_of (call.CheckConfigured outputs) f after l a i h =
     check (check_list (settings_of f) f.config outputs.0 h.outcome l h.does.0)
-list_of call.TestLoopback f after l a i h = absurd i
 list_of call.CheckPresent f after l a i h = blocks _ _ (checks_presence_blocks (settings_of f) h.outcome l h.does.0)
 list_of call.CheckConnected f after l a i h = blocks _ _ (connects_blocks (settings_of f) h.outcome l h.does.0)
 list_of call.ReadyToReceive f after l a i h = blocks _ _ (ready_to_receive_blocks (settings_of f) h.outcome l h.does.0)
@@ -126,6 +112,7 @@ list_of (call.Send bytes) f after l a i h = blocks _ _ (sends_blocks (settings_o
 list_of (call.SendExact bytes) f after l a i h = sends_exact_list bytes.items (settings_of f) h.outcome l h.does.0
 list_of (call.Write bytes) f after l a i h = blocks _ _ (writes_blocks (settings_of f) bytes.items h.outcome l h.does.0)
 list_of (call.Text text) f after l a i h = text_list text.bytes (settings_of f) h.outcome l h.does.0
+list_of _ f after l a i h = absurd i
 
 -- and so is each list of a session
 pub goes_list : (fifo : Bool) (l : List RegisterAccess) → IsOfSession fifo l → AreTaken fifo l →

@@ -29,12 +29,10 @@ taken_back fifo b (x ∷ xs) ys t = taken_back fifo (opened_by x b) xs ys t.1
 -- ---- accesses that leave DLAB
 
 quiet_write_leaves : (n value : ℕ) (b : Bool) → is_quiet (Write n value) ≡ true → opened_by (Write n value) b ≡ b
-quiet_write_leaves zero value b q = absurd (cc)
 quiet_write_leaves (suc zero) value b q = refl
-quiet_write_leaves (suc (suc zero)) value b q = absurd (cc)
-quiet_write_leaves (suc (suc (suc zero))) value b q = absurd (cc)
 quiet_write_leaves (suc (suc (suc (suc n)))) value b q =
     let e : (suc (suc (suc (suc n))) == offsets.LCR) ≡ false = grind (arith, common_steps) in rw e refl
+quiet_write_leaves _ value b q = absurd (cc)
 
 pub quiet_leaves : (x : RegisterAccess) (b : Bool) → is_quiet x ≡ true → opened_by x b ≡ b
 quiet_leaves (Read n value) b q = refl

@@ -218,9 +218,8 @@ reads_data c value (Some on) b e =
     e (reads_known c value b)
 
 reads_ier : (c : ChipState) (value : ℕ) (o : Option Bool) → Does (ier_read o value) c c
-reads_ier c value None = (alike_refl c, tt)
 reads_ier c value (Some true) = (alike_refl c, tt)
-reads_ier c value (Some false) = (alike_refl c, tt)
+reads_ier c value _ = (alike_refl c, tt)
 
 pub does_read : (c : ChipState) (n value : ℕ) (o : Option Bool) → IsSo o (λ on. is_dlab_set c.latches ≡ on) → value ≡ answer n c →
     Does (read_action o n value) c (after_read n c)
@@ -303,9 +302,8 @@ alike_ier c value false = record { model = refl; lcr = refl; mcr = refl; fifo = 
 
 writes_ier : (c : ChipState) (value : ℕ) (o : Option Bool) (b : Bool) → Does (ier_written o value) c
     (if b then with_latches (record c.latches { dlm = value }) c else enable value c)
-writes_ier c value None b = (alike_ier c value b, tt)
 writes_ier c value (Some true) b = (alike_ier c value b, tt)
-writes_ier c value (Some false) b = (alike_ier c value b, tt)
+writes_ier c value _ b = (alike_ier c value b, tt)
 
 controls : (model : Chip) (value : ℕ) (c : ChipState) → model ≡ Uart16550A → Controlled value c (control model value c)
 controls Uart16450 value c e = absurd (cc)
@@ -346,11 +344,9 @@ no_write_looks o offset value =
     (λ n b. rw (b.not_data, b.not_ier, b.not_isr, b.not_lcr, b.not_mcr) refl) offset
   where
     writes_zero : (o : Option Bool) → looks_at_line (data_written o value) ≡ false
-    writes_zero None = refl
     writes_zero (Some true) = refl
-    writes_zero (Some false) = refl
+    writes_zero _ = refl
 
     writes_one : (o : Option Bool) → looks_at_line (ier_written o value) ≡ false
-    writes_one None = refl
     writes_one (Some true) = refl
-    writes_one (Some false) = refl
+    writes_one _ = refl

@@ -1,7 +1,6 @@
 -- At one step: which of the findings have a cause, or are none that the caller can be the cause of.
-use Rattle.std.proofs.Common.{◌≡◌, ℕ, Bool, true, false, not, ◌&&◌, ◌||◌, ◌==◌, [], ◌∷◌, Option, Some, None, refl, ap}
-use Rattle.std.proofs.Common.{if◌then◌else◌}
-use Rattle.std.proofs.lemmas.Bool.{and_left, and_right}
+use Rattle.std.proofs.Common.{◌≡◌, ℕ, Bool, true, false, not, ◌&&◌, ◌||◌, ◌==◌, [], ◌∷◌, Option, Some, None, refl, ap, if◌then◌else◌}
+use Rattle.std.proofs.lemmas.Bool.{and_left, and_right, not-true}
 use Rattle.uart_spec.specs.Bits.{has}
 use Rattle.uart_spec.specs.declared.registers.interrupt_status.ISR.{ISR}
 use Rattle.uart_spec.specs.declared.registers.interrupt_type.InterruptType.{InterruptType}
@@ -14,8 +13,7 @@ use Rattle.uart_judges.specs.Findings.{all_found, arrival, arrived_at, asks_for_
 use Rattle.uart_judges.specs.Findings.{discard, empty, empty_in, enables_bytes, flow, from_nothing, gate, given, has_low_alone, ignored}
 use Rattle.uart_judges.specs.Findings.{is_cut_off, is_held, is_in_break, is_next, is_other_frame, is_zero, latch, latched, left_up, level}
 use Rattle.uart_judges.specs.Findings.{level_as, level_at, line_up, lines_as, loops_again, missing, noted, output, overrun, overrun_in}
-use Rattle.uart_judges.specs.Findings.{room, served_by, service, set_up, taken, taken_from, transfers, when}
-use Rattle.uart_judges.specs.Findings.{are_off, is_long_since}
+use Rattle.uart_judges.specs.Findings.{room, served_by, service, set_up, taken, taken_from, transfers, when, are_off, is_long_since}
 use Rattle.uart_judges.specs.Shows.{identified, receives, sends}
 use Rattle.uart_judges.specs.Steps.{is_line_up, loops_back}
 use Rattle.uart_judges.specs.Unread.{front, second}
@@ -50,10 +48,6 @@ is_of_caller c _ = false
 -- it is no such finding
 pub record Founded (c : Causes) (o : Option Finding) : Type 0 where
   pub is : IsNot (is_of_caller c) o
-
-pub not_true : (b : Bool) → not b ≡ true → b ≡ false
-not_true true e = absurd (cc)
-not_true false e = refl
 
 -- the frame stays as it is
 abbrev pub StaysFrame : Step → Action → Type 0
@@ -168,9 +162,9 @@ module _ (c : Causes) where
   pub given_founded : (a : Auditor) (now : Setup) (byte : ℕ) → (c.break_is_sent ≡ false → is_in_break now.line ≡ false) →
       (c.bytes_are_cut ≡ false → cuts now.line byte ≡ false) → Founded c (given a now byte)
   given_founded a now byte not_broken whole =
-      with_cause (is_in_break now.line) (found.SentInBreak byte) _ (λ e. not_broken (not_true c.break_is_sent e))
+      with_cause (is_in_break now.line) (found.SentInBreak byte) _ (λ e. not_broken (not-true c.break_is_sent e))
       (founded_if (loops_again a now) _ _ (another {f = found.SentInLoopback byte} refl)
-      (with_cause (cuts now.line byte) (found.WordTooShort byte) None (λ e. whole (not_true c.bytes_are_cut e)) nothing))
+      (with_cause (cuts now.line byte) (found.WordTooShort byte) None (λ e. whole (not-true c.bytes_are_cut e)) nothing))
 
   -- CTS is not known to be clear
   pub flow_founded : (a : Auditor) (s : Step) (b : Bool) →
@@ -182,7 +176,7 @@ module _ (c : Causes) where
       founded_if b _ _ nothing (founded_if (loops_back s.setup.modem) _ _ nothing
       (with_cause ((is_held a.cts && a.was_cts_set) && asks_for_cts a s.setup) found.SentWithoutCts None
       (λ e. and_left (is_held a.cts && a.was_cts_set) (asks_for_cts a s.setup)
-      (free (not_true (c.cts_is_unchecked && c.msr_is_read) e))) nothing))
+      (free (not-true (c.cts_is_unchecked && c.msr_is_read) e))) nothing))
 
   -- no interrupt is enabled, or OUT2 is on
   uncut : (on off x y : Bool) → not (on && off) ≡ true → (on ≡ false → x ≡ false) → (off ≡ false → y ≡ false) → (x && y) ≡ false
@@ -204,7 +198,7 @@ module _ (c : Causes) where
   read_founded a oldest byte seen =
       founded_if (oldest.byte == byte) _ _
       (with_cause (not (oldest.errors.0 == 0) && not a.unread.is_front_seen) (found.ErrorsLost oldest) None
-      (λ e. and_right (not (oldest.errors.0 == 0)) (not a.unread.is_front_seen) (ap not (seen (not_true c.fifos_are_off e)))) nothing)
+      (λ e. and_right (not (oldest.errors.0 == 0)) (not a.unread.is_front_seen) (ap not (seen (not-true c.fifos_are_off e)))) nothing)
       (founded_if (is_next (second a.unread) byte) _ _ (another {f = found.ArrivalSkipped oldest.byte} refl)
       (another {f = found.OtherByte oldest.byte byte} refl))
 
@@ -222,7 +216,7 @@ module _ (c : Causes) where
       Founded c (closed a s)
   closed_founded a s some =
       with_cause (is_zero s.setup.divisor.low && is_zero s.setup.divisor.high) found.ZeroDivisor _
-      (λ e. some (not_true c.divisor_is_zero e)) (founded_when (has_low_alone a.latch) found.HighByteNotSet refl)
+      (λ e. some (not-true c.divisor_is_zero e)) (founded_when (has_low_alone a.latch) found.HighByteNotSet refl)
 
   pub latched_founded : (a : Auditor) (s : Step) (x : Action) →
       (c.divisor_is_zero ≡ false → (is_zero s.setup.divisor.low && is_zero s.setup.divisor.high) ≡ false) →
@@ -248,7 +242,7 @@ module _ (c : Causes) where
   served_founded (Some before) None none = nothing
   served_founded (Some before) (Some now) none =
       with_cause _ (found.NotServed before) None (λ e. absurd
-      (let g : Some now ≡ None = none (not_true (c.interrupts_are_on && c.isr_is_read) e) in cc)) nothing
+      (let g : Some now ≡ None = none (not-true (c.interrupts_are_on && c.isr_is_read) e) in cc)) nothing
 
   -- no handler is at work
   pub left_up_founded : (a : Auditor) (s : Step) (up : Option Mark) (now : Option ℕ) →
@@ -257,7 +251,7 @@ module _ (c : Causes) where
   left_up_founded a s (Some mark) (Some now) none =
       founded_if (are_off s.setup.interrupts) _ _ nothing
       (with_cause (a.is_handling && is_long_since mark now) (found.LeftWithLineUp mark.line) None
-      (λ e. and_left a.is_handling (is_long_since mark now) (none (not_true (c.interrupts_are_on && c.isr_is_read) e))) nothing)
+      (λ e. and_left a.is_handling (is_long_since mark now) (none (not-true (c.interrupts_are_on && c.isr_is_read) e))) nothing)
   left_up_founded a s (Some mark) None none = nothing
   left_up_founded a s None now none = nothing
 

@@ -10,7 +10,7 @@ use Rattle.uart_spec.specs.declared.errors.FifosOffError.{FifosOffError}
 use Rattle.uart_spec.specs.declared.errors.StalledError.{StalledError}
 use Rattle.uart_spec.specs.declared.registers.fifo_control.TheConstants.FCR as fcr_bits
 use Rattle.uart_spec.specs.declared.registers.fifo_trigger_level.FifoTriggerLevel.{FifoTriggerLevel}
-use Rattle.uart_spec.specs.declared.registers.fifo_trigger_level.FifoTriggerLevel.TheVariants.{One, Four, Eight, Fourteen}
+use Rattle.uart_spec.specs.declared.registers.fifo_trigger_level.FifoTriggerLevel.TheVariants.{One}
 use Rattle.uart_spec.specs.declared.registers.line_status.TheConstants.LSR as lsr_bits
 use Rattle.uart_spec.specs.declared.registers.offsets.TheConstants as offsets
 use Rattle.uart_16550.specs.Driver.{Fields, settings_of}
@@ -42,9 +42,7 @@ module _ (c : Causes) (line : ℕ) (f : Fields) (set : IsSetUpFor c line f) wher
 
   level_on : (level : FifoTriggerLevel) → has (level_bits level) fcr_bits.FIFO_ENABLE.0 ≡ true
   level_on One = refl
-  level_on Four = refl
-  level_on Eight = refl
-  level_on Fourteen = refl
+  level_on _ = refl
 
   level_list : (v : FifoTriggerLevel) (r : Result (Unit {0}) FifosOffError) (after : Fields) (l : List RegisterAccess) →
       SetsTrigger v r f l after → Leading l
@@ -112,22 +110,10 @@ module _ (c : Causes) (line : ℕ) (f : Fields) (set : IsSetUpFor c line f) wher
   pub good_list : (x : Call) (after : Fields) (l : List RegisterAccess) (a : Answer) → IsSteady x → AsksFor c line x →
       IsListOf x f l a after → Leads c line f.fifo s.checks false false l
   good_list call.Next after l a i k h = none_made l h.does.0
-  good_list (call.Init config) after l a i k h = absurd i
-  good_list (call.InitWith config setup) after l a i k h = absurd i
-  good_list (call.SetFrame config) after l a i k h = absurd i
-  good_list (call.SetFrameWhenIdle config) after l a i k h = absurd i
   good_list (call.SetTriggerLevel v) after l a i k h = level_list v h.outcome after l h.does
-  good_list call.Attach after l a i k h = absurd i
-  good_list (call.SetBreak on) after l a i k h = absurd i
-  good_list (call.SetModemControl outputs) after l a i k h = absurd i
-  good_list (call.SetRts on) after l a i k h = absurd i
-  good_list (call.SetDtr on) after l a i k h = absurd i
-  good_list (call.Quiesce outputs fifos) after l a i k h = absurd i
-  good_list (call.Restore dump) after l a i k h = absurd i
   good_list (call.CheckConfigured outputs) after l a i k h =
       good.leads_check c line f.fifo s.checks set.dlab set.fifos s
       (may_read c.isr_is_read k.isr) f.config outputs.0 h.outcome l h.does.0
-  good_list call.TestLoopback after l a i k h = absurd i
   good_list call.CheckPresent after l a i k h = good.leads_presence c line f.fifo s.checks set.dlab set.fifos s h.outcome l h.does.0
   good_list call.CheckConnected after l a i k h = let t = h.does.0 in one_list offsets.MSR t.0 refl refl
       (differ offsets.MSR offsets.ISR refl) (λ is. may_ask c.cts_is_unchecked s.checks c.msr_is_read set.checks k.msr) l t.2
@@ -189,3 +175,4 @@ module _ (c : Causes) (line : ℕ) (f : Fields) (set : IsSetUpFor c line f) wher
   good_list (call.Write bytes) after l a i k h =
       good.leads_writes_some c line f.fifo s.checks set.dlab set.fifos s refl bytes.items h.outcome k.bytes l h.does.0
   good_list (call.Text text) after l a i k h = text_list text.bytes h.outcome l k.bytes h.does.0
+  good_list _ after l a i k h = absurd i

@@ -5,6 +5,7 @@ use Rattle.std.specs.Prelude.{nat_lt, ◌+◌, ◌*◌}
 use Rattle.std.specs.List.{AllByRecursion}
 use Rattle.std.proofs.lemmas.Grind.{common_steps}
 use Rattle.std.proofs.lemmas.Nat.{and_assoc, and_comm}
+use Rattle.std.proofs.Math.Bool.{and-true}
 use Rattle.uart_spec.specs.Bits.{has}
 use Rattle.uart_spec.specs.declared.access.Access.{Access as RegisterAccess}
 use Rattle.uart_spec.specs.declared.access.Access.TheVariants.{Read, Write}
@@ -55,10 +56,6 @@ all-drop : (P : ℕ → Type 0) (n : ℕ) (bytes : List ℕ) → AllByRecursion 
 all-drop P zero bytes p = p
 all-drop P (suc n) [] p = tt
 all-drop P (suc n) (byte ∷ bytes) p = all-drop P n bytes p.1
-
-and_true : (b : Bool) → (b && true) ≡ b
-and_true true = refl
-and_true false = refl
 
 -- no interrupt is enabled by values that enable none
 pub zero_of : (v : ℕ) → not (v == 0) ≡ false → v ≡ 0
@@ -145,7 +142,7 @@ module _ (c : Causes) (line : ℕ) (fifo checks : Bool) where
     idle_read : (answer : ℕ) → c.isr_is_read ≡ true → (c.interrupts_are_on ≡ false → has answer isr_bits.INTERRUPT_STATUS.0 ≡ true) →
         (c.interrupts_are_on && c.isr_is_read) ≡ false → has answer isr_bits.INTERRUPT_STATUS.0 ≡ true
     idle_read answer may none e =
-        none (sym (and_true c.interrupts_are_on) ∙ (ap (λ (b : Bool). c.interrupts_are_on && b) (sym may) ∙ e))
+        none (sym (and-true c.interrupts_are_on) ∙ (ap (λ (b : Bool). c.interrupts_are_on && b) (sym may) ∙ e))
 
     -- a read, but not of DATA, nor of LSR while DLAB is on, nor of ISR if it is not to be read
     good_read : (f : Stage) (register answer : ℕ) → nat_lt register 8 ≡ true → (register == offsets.DATA) ≡ false →

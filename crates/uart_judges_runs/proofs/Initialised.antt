@@ -8,9 +8,9 @@ use Rattle.uart_spec.specs.Bits.{has}
 use Rattle.uart_spec.specs.Fields.{parity_code, word_length_code}
 use Rattle.uart_spec.specs.declared.config.Config.{Config}
 use Rattle.uart_spec.specs.declared.registers.frame.Parity.{Parity}
-use Rattle.uart_spec.specs.declared.registers.frame.Parity.TheVariants.{Disabled, Even, Forced0, Forced1, Odd}
+use Rattle.uart_spec.specs.declared.registers.frame.Parity.TheVariants.{Disabled}
 use Rattle.uart_spec.specs.declared.registers.frame.WordLength.{WordLength}
-use Rattle.uart_spec.specs.declared.registers.frame.WordLength.TheVariants.{EightBits, FiveBits, SevenBits, SixBits}
+use Rattle.uart_spec.specs.declared.registers.frame.WordLength.TheVariants.{EightBits, FiveBits}
 use Rattle.uart_spec.specs.declared.registers.line_control.TheConstants.LCR as lcr_bits
 use Rattle.uart_16550.specs.Driver.{Fields, fields}
 use Rattle.uart_16550.specs.Init.{frame_bits}
@@ -27,16 +27,11 @@ use Rattle.uart_judges_runs.proofs.GoodLists.{part_off}
 -- a frame has no break, and no bit above it
 length_code : (length : WordLength) → word_length_code length ≤ 3
 length_code FiveBits = omega arith
-length_code SixBits = omega arith
-length_code SevenBits = omega arith
-length_code EightBits = omega arith
+length_code _ = omega arith
 
 parity_few : (parity : Parity) → parity_code parity ≤ 7
 parity_few Disabled = omega arith
-parity_few Odd = omega arith
-parity_few Even = omega arith
-parity_few Forced1 = omega arith
-parity_few Forced0 = omega arith
+parity_few _ = omega arith
 
 stop_few : (stop : Bool) → (if stop then lcr_bits.MORE_STOP_BITS.0 else 0) ≤ 4
 stop_few true = omega arith
@@ -59,15 +54,8 @@ eight_cut : (stop : Bool) (parity : Parity) (byte : ℕ) → nat_le 256 byte ≡
       0 = word_length_code EightBits + (if stop then lcr_bits.MORE_STOP_BITS.0 else 0) + lcr_bits.PARITY0.0 * parity_code parity;
     }) byte ≡ false
 eight_cut true Disabled byte e = e
-eight_cut true Odd byte e = e
-eight_cut true Even byte e = e
-eight_cut true Forced1 byte e = e
-eight_cut true Forced0 byte e = e
 eight_cut false Disabled byte e = e
-eight_cut false Odd byte e = e
-eight_cut false Even byte e = e
-eight_cut false Forced1 byte e = e
-eight_cut false Forced0 byte e = e
+eight_cut _ _ byte e = e
 
 pub eight_fit : (config : Config) (byte : ℕ) → config.data_bits ≡ EightBits → byte < 256 → Fits (frame_bits config) byte
 eight_fit config byte eight few =

@@ -142,9 +142,7 @@ spared_still fifo a s i = six_at a s s.action refl (still_at fifo a s s.action i
 -- an entry that is no access is still
 pub other_still : (fifo : Bool) (o : Option Bool) (h : Happening) → IsOther h → IsStill fifo (action o h)
 other_still fifo o (Access x) i = absurd i
-other_still fifo o (Arrive byte errors) i = tt
-other_still fifo o (Interrupt is_raised) i = tt
-other_still fifo o (Lines inputs) i = tt
+other_still fifo o _ i = tt
 
 pub stays_knows : (fifo : Bool) → Stays (KnowsAsTaken fifo)
 stays_knows fifo e i a k =
@@ -187,13 +185,12 @@ pub record Reading (fifo : Bool) (a : Auditor) : Type 0 where
   pub waiting : 1 ≤ a.waiting
   pub looked_for_errors : a.has_taken ≡ false
 
-since_none : (b r h : Bool) → b ≡ false → h ≡ false → next_since b r h ≡ false
+pub since_none : (b r h : Bool) → b ≡ false → h ≡ false → next_since b r h ≡ false
 since_none b r h e f = rw (e, f) refl
 
 one_more : (n : ℕ) (h : Option Bool) → 1 ≤ n → 1 ≤ min (n + 1) (least_depth h)
-one_more n None few = omega arith
 one_more n (Some true) few = omega arith
-one_more n (Some false) few = omega arith
+one_more n _ few = omega arith
 
 still_waits : (b : Bool) (n m : ℕ) → 1 ≤ n → 1 ≤ m → 1 ≤ (if b then n else m)
 still_waits true n m p q = p
@@ -231,9 +228,7 @@ pub record Opened (fifo : Bool) (a : Auditor) : Type 0 where
 -- beside accesses DLAB stays as it is, and so does the divisor
 other_open : (o : Option Bool) (h : Happening) → IsOther h → next_is_open o (action o h) ≡ o
 other_open o (Access x) i = absurd i
-other_open o (Arrive byte errors) i = refl
-other_open o (Interrupt is_raised) i = refl
-other_open o (Lines inputs) i = refl
+other_open o _ i = refl
 
 pub record LatchKept (a : Auditor) (x : Action) : Type 0 where
   pub looked : (next_latch a.latch x).has_looked ≡ false
@@ -242,11 +237,7 @@ pub record LatchKept (a : Auditor) (x : Action) : Type 0 where
 other_latch : (o : Option Bool) (a : Auditor) (h : Happening) → IsOther h → a.latch.has_looked ≡ false → a.latch.has_low ≡ false →
     LatchKept a (action o h)
 other_latch o a (Access x) i p q = absurd i
-other_latch o a (Arrive byte errors) i p q =
-    record { looked = since_none a.latch.has_looked false false p refl; low = since_none a.latch.has_low false false q refl }
-other_latch o a (Interrupt is_raised) i p q =
-    record { looked = since_none a.latch.has_looked false false p refl; low = since_none a.latch.has_low false false q refl }
-other_latch o a (Lines inputs) i p q =
+other_latch o a _ i p q =
     record { looked = since_none a.latch.has_looked false false p refl; low = since_none a.latch.has_low false false q refl }
 
 pub stays_opened : (fifo : Bool) → Stays (Opened fifo)

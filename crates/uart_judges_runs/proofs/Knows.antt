@@ -1,16 +1,14 @@
 -- What the judge knows of the software chip stays so.
-use Rattle.std.proofs.Common.{◌≡◌, ◌≤◌, ◌<◌, ℕ, ◌+◌, ◌-◌, ◌^◌, Bool, true, false, not, ◌&&◌, ◌||◌, ◌==◌, List, [], ◌∷◌}
-use Rattle.std.proofs.Common.{length, max, min, nat_lt, refl, sym, ◌∙◌, ap, subst, arith, if◌then◌else◌, inl, inr, ◌⊎◌}
-use Rattle.std.proofs.Common.{Option, Some, None, bit_or}
-use Rattle.std.specs.Prelude.{nat_le, is_some}
+use Rattle.std.proofs.Common.{◌≡◌, ◌≤◌, ◌<◌, ℕ, ◌+◌, ◌-◌, ◌^◌, Bool, true, false, not, ◌&&◌, ◌||◌, ◌==◌, List, [], ◌∷◌, length, max, min}
+use Rattle.std.proofs.Common.{nat_lt, refl, sym, ◌∙◌, ap, subst, arith, if◌then◌else◌, inl, inr, ◌⊎◌, Option, Some, None, bit_or}
+use Rattle.std.specs.Prelude.{is_some}
 use Rattle.std.specs.Option.{option_or}
-use Rattle.std.proofs.lemmas.Grind.{common_steps}
-use Rattle.std.proofs.lemmas.Bool.{or_right}
+use Rattle.std.proofs.lemmas.Bool.{and_parts, or_right, leb-true, ltb-true}
 use Rattle.uart_spec.specs.Bits.{flag, has, has_any}
 use Rattle.uart_spec.specs.declared.registers.fifo_control.FCR.{FCR}
 use Rattle.uart_spec.specs.declared.registers.fifo_control.TheConstants.FCR as fcr_bits
 use Rattle.uart_spec.specs.declared.registers.fifo_trigger_level.FifoTriggerLevel.{FifoTriggerLevel}
-use Rattle.uart_spec.specs.declared.registers.fifo_trigger_level.FifoTriggerLevel.TheVariants.{One, Four, Eight, Fourteen}
+use Rattle.uart_spec.specs.declared.registers.fifo_trigger_level.FifoTriggerLevel.TheVariants.{One}
 use Rattle.uart_spec.specs.declared.registers.interrupt_enable.TheConstants.IER as ier_bits
 use Rattle.uart_spec.specs.declared.registers.interrupt_status.TheConstants.ISR as isr_bits
 use Rattle.uart_spec.specs.declared.registers.interrupt_type.InterruptType.{InterruptType}
@@ -22,14 +20,14 @@ use Rattle.uart_spec.specs.declared.registers.line_status.TheConstants.LSR as ls
 use Rattle.uart_spec.specs.declared.registers.modem_control.MCR.{MCR}
 use Rattle.uart_spec.specs.declared.registers.modem_control.TheConstants.MCR as mcr_bits
 use Rattle.uart_chip.specs.declared.receiver.Character.{Character}
-use Rattle.uart_chip.specs.Chip.{ChipState, identification, interrupt, is_dlab_set, is_loopback, is_same}
-use Rattle.uart_chip.specs.Chip.{line_status, trigger_level}
+use Rattle.uart_chip.specs.Chip.{ChipState, identification, interrupt, is_dlab_set, is_loopback, is_same, line_status, trigger_level}
 use Rattle.uart_chip.specs.Masks as masks
 use Rattle.uart_chip.specs.Receiver.{ReceiverState, characters_of, is_data_pending, is_timed_out, take_front}
 use Rattle.uart_chip.specs.Transmitter.{room}
 use Rattle.uart_chip.proofs.Bits.{has_and, has_one}
 use Rattle.uart_chip.proofs.FifoBits.{all_shown}
 use Rattle.uart_chip.proofs.statuses.Status.{status_data}
+use Rattle.uart_run.proofs.CallKeeps.{one_fits}
 use Rattle.uart_judges.specs.History.{level, next, next_count, shown_by, waiting_after}
 use Rattle.uart_judges.specs.Setups.{next_is_open, or_closed}
 use Rattle.uart_judges.specs.Shows.{fifo_of, identified, level_of, looks_at_line, modem_of, sends, shows_thr_empty, trigger_of}
@@ -207,12 +205,9 @@ is_cleared k None fcr c so e =
 
 identify : (on : Bool) (o : Option InterruptType) →
     identified (record { 0 = bit_or (identification o) (flag on isr_bits.FIFOS_ENABLED.0) }) ≡ o
-identify true None = refl
 identify true (Some ReceiverLineStatus) = refl
-identify true (Some _) = refl
-identify false None = refl
 identify false (Some ReceiverLineStatus) = refl
-identify false (Some _) = refl
+identify _ _ = refl
 
 -- the first of these five
 abbrev first : (line ready late empty modem : Bool) → Option InterruptType
@@ -256,58 +251,41 @@ module _ (c : ChipState) where
   abbrev modem_on : Bool
   modem_on = has_any c.latches.ier ier_bits.MODEM_STATUS.0 && not (c.modem.deltas == 0)
 
-right_of : (b c : Bool) → (b && c) ≡ true → c ≡ true
-right_of true c e = e
-right_of false c e = absurd (cc)
-
-left_of : (b c : Bool) → (b && c) ≡ true → b ≡ true
-left_of true c e = refl
-left_of false c e = absurd (cc)
-
-le_of : (n m : ℕ) → nat_le n m ≡ true → n ≤ m
-le_of n m e = grind (arith, common_steps)
-
-lt_of : (n m : ℕ) → nat_lt n m ≡ true → n < m
-lt_of n m e = grind (arith, common_steps)
-
 some_characters : (level : FifoTriggerLevel) (n : ℕ) → characters_of level ≤ n → 1 ≤ n
 some_characters One n h = h
-some_characters Four n h = omega (arith, h)
-some_characters Eight n h = omega (arith, h)
-some_characters Fourteen n h = omega (arith, h)
+some_characters _ n h = omega (arith, h)
 
 one_at_least : (r : ReceiverState) (fifo : Bool) → is_data_pending fifo r ≡ true → 1 ≤ length r.queue
-one_at_least r true e = some_characters r.trigger (length r.queue) (le_of (characters_of r.trigger) (length r.queue) e)
-one_at_least r false e = let some : 0 < length r.queue = lt_of 0 (length r.queue) e in omega (arith, some)
+one_at_least r true e = some_characters r.trigger (length r.queue) (leb-true (characters_of r.trigger) (length r.queue) e)
+one_at_least r false e = let some : 0 < length r.queue = ltb-true 0 (length r.queue) e in omega (arith, some)
 
 shown_data : (fifo : Option Bool) (trigger : Option FifoTriggerLevel) (on : Bool) (r : ReceiverState) → IsSo fifo (λ b. on ≡ b) →
     IsSo trigger (λ level. r.trigger ≡ level) → is_data_pending on r ≡ true → level fifo trigger ≤ length r.queue
 shown_data (Some true) (Some t) on r f k e =
     let wide : is_data_pending true r ≡ true = sym (ap (λ (b : Bool). is_data_pending b r) f) ∙ e in
-    subst (λ (t : FifoTriggerLevel). characters_of t ≤ length r.queue) k (le_of (characters_of r.trigger) (length r.queue) wide)
+    subst (λ (t : FifoTriggerLevel). characters_of t ≤ length r.queue) k (leb-true (characters_of r.trigger) (length r.queue) wide)
 shown_data (Some true) None on r f k e = one_at_least r on e
 shown_data (Some false) trigger on r f k e = one_at_least r on e
 shown_data None trigger on r f k e = one_at_least r on e
 
 late_some : (fifo : Bool) (r : ReceiverState) → is_timed_out fifo r ≡ true → 1 ≤ length r.queue
 late_some fifo r e =
-    let late = right_of fifo (nat_lt 0 (length r.queue) && (r.timeout_ticks == r.timeout_limit)) e in
+    let late = (and_parts fifo (nat_lt 0 (length r.queue) && (r.timeout_ticks == r.timeout_limit)) e).1 in
     let some : 0 < length r.queue =
-    lt_of 0 (length r.queue) (left_of (nat_lt 0 (length r.queue)) (r.timeout_ticks == r.timeout_limit) late) in omega (arith, some)
+    ltb-true 0 (length r.queue) (and_parts (nat_lt 0 (length r.queue)) (r.timeout_ticks == r.timeout_limit) late).0 in omega (arith, some)
 
 shown_enough : (o : Option InterruptType) (c : ChipState) (fifo : Option Bool) (trigger : Option FifoTriggerLevel) → interrupt c ≡ o →
     IsSo fifo (λ on. c.fifo ≡ on) → IsSo trigger (λ level. c.receiver.trigger ≡ level) →
     shown_by o (level fifo trigger) ≤ length c.receiver.queue
 shown_enough (Some ReceivedDataReady) c fifo trigger e f k =
     shown_data fifo trigger c.fifo c.receiver f k
-    (right_of (has_any c.latches.ier ier_bits.DATA_READY.0) (is_data_pending c.fifo c.receiver)
-    (first_ready (line_on c) (ready_on c) (late_on c) (empty_on c) (modem_on c) e))
+    (and_parts (has_any c.latches.ier ier_bits.DATA_READY.0) (is_data_pending c.fifo c.receiver)
+    (first_ready (line_on c) (ready_on c) (late_on c) (empty_on c) (modem_on c) e)).1
 shown_enough (Some ReceptionTimeout) c fifo trigger e f k =
     late_some c.fifo c.receiver
-    (right_of (has_any c.latches.ier ier_bits.DATA_READY.0) (is_timed_out c.fifo c.receiver)
-    (first_late (line_on c) (ready_on c) (late_on c) (empty_on c) (modem_on c) e))
-shown_enough None c fifo trigger e f k = omega arith
-shown_enough (Some _) c fifo trigger e f k = omega arith
+    (and_parts (has_any c.latches.ier ier_bits.DATA_READY.0) (is_timed_out c.fifo c.receiver)
+    (first_late (line_on c) (ready_on c) (late_on c) (empty_on c) (modem_on c) e)).1
+shown_enough _ c fifo trigger e f k = omega arith
 
 one_less : (n : ℕ) (queue : List Character) (r : ReceiverState) → r.queue ≡ queue → n ≤ length queue →
     n - 1 ≤ length (take_front queue r).queue
@@ -315,7 +293,7 @@ one_less n [] r e h = rw e (omega (arith, h))
 one_less n (x ∷ xs) r e h = omega (arith, h)
 
 shown_ready : (b : Bool) (n m : ℕ) → b ≡ nat_lt 0 m → n ≤ m → (if b then max n 1 else 0) ≤ m
-shown_ready true n m e h = let some : 0 < m = lt_of 0 m (sym e) in omega (arith, some, h)
+shown_ready true n m e h = let some : 0 < m = ltb-true 0 m (sym e) in omega (arith, some, h)
 shown_ready false n m e h = omega arith
 
 left_waiting : (a b : Bool) (n : ℕ) (queue after : List Character) → (a ≡ false → b ≡ false) → after ≡ (if b then [] else queue) →
@@ -379,10 +357,6 @@ still_sent : (n left : ℕ) (rests : Bool) (c d : ChipState) → d.fifo ≡ c.fi
 still_sent n left true c d e f h = none_sent (room d.fifo) (length d.transmitter.queue + 0)
 still_sent n left false c d e f h = rw (e, f) h
 
-some_room : (fifo : Bool) → 1 ≤ room fifo
-some_room true = omega arith
-some_room false = omega arith
-
 one_sent : (n left before after space : ℕ) (rests : Bool) → (after ≡ before + 1) ⊎ (space ≤ after) → 1 ≤ space →
     min n space ≤ before + left → min (next_count n rests true) space ≤ after + (if rests then 0 else left)
 one_sent n left before after space true (inl e) one h = omega (arith, e, one)
@@ -420,7 +394,7 @@ pub after_sent : (n left : ℕ) (c d : ChipState) (s : Step) (x : Action) → s.
     IsSent (next_count n (shows_room s) (sends x)) (if shows_room s then 0 else left) d
 after_sent n left c d s (Sends byte) is h f w =
     subst (λ (d : ChipState). IsSent (next_count n (shows_room s) true) (if shows_room s then 0 else left) d) (sym h)
-    (one_sent n left (length c.transmitter.queue) _ (room c.fifo) (shows_room s) (loaded c.fifo _ c.transmitter) (some_room c.fifo) w)
+    (one_sent n left (length c.transmitter.queue) _ (room c.fifo) (shows_room s) (loaded c.fifo _ c.transmitter) (one_fits c.fifo) w)
 after_sent n left c d s (Receives byte) is h f w =
     still_sent n left (shows_room s) c d (ap (λ (c : ChipState). c.fifo) h) (ap (λ (c : ChipState). c.transmitter.queue) h) w
 after_sent n left c d s (ControlsFifo fcr) is h f w =

@@ -3,6 +3,7 @@ use Rattle.std.proofs.Common.{◌≡◌, ◌≤◌, ◌<◌, ℕ, ◌+◌, ◌-�
 use Rattle.std.proofs.Common.{Option, Some, None, refl, sym, ◌∙◌, ap, subst, arith, if◌then◌else◌}
 use Rattle.std.specs.Prelude.{nat_le}
 use Rattle.std.proofs.lemmas.Grind.{common_steps}
+use Rattle.std.proofs.lemmas.Bool.{and_parts, leb-true}
 use Rattle.uart_spec.specs.declared.access.Access.{Access as RegisterAccess}
 use Rattle.uart_spec.specs.declared.access.Access.TheVariants.{Read, Write}
 use Rattle.uart_spec.specs.declared.registers.fifo_control.FCR.{FCR}
@@ -30,9 +31,8 @@ use Rattle.uart_judges.specs.Shows.{looks_at_line, receives, sends}
 use Rattle.uart_judges.specs.Steps.{action_empties, depth, loops_back, shows_room}
 use Rattle.uart_judges.specs.Unread.{front}
 use Rattle.uart_judges.specs.declared.audit.action.Action.{Action}
-use Rattle.uart_judges.specs.declared.audit.action.Action.TheVariants.{Sends, ReadsDivisor, SetsDivisorLow, SetsDivisorHigh}
-use Rattle.uart_judges.specs.declared.audit.action.Action.TheVariants.{ControlsFifo, ReadsLine, SetsLine, LooksAtLine}
-use Rattle.uart_judges.specs.declared.audit.action.Action.TheVariants.{Arrives, ChangesLines, Other}
+use Rattle.uart_judges.specs.declared.audit.action.Action.TheVariants.{Sends, ReadsDivisor, SetsDivisorLow, SetsDivisorHigh, ControlsFifo}
+use Rattle.uart_judges.specs.declared.audit.action.Action.TheVariants.{ReadsLine, SetsLine, LooksAtLine, Arrives, ChangesLines, Other}
 use Rattle.uart_judges.specs.declared.audit.auditor.Auditor.{Auditor}
 use Rattle.uart_judges.specs.declared.audit.finding.Finding.{Finding}
 use Rattle.uart_judges.specs.declared.audit.finding.Finding.TheVariants as found
@@ -81,14 +81,6 @@ module _ (a : Auditor) (left : ℕ) (c : ChipState) (n : MachineState) where
   lost_when true f p = record { is = p refl }
   lost_when false f p = none_lost
 
-both_left : (b c : Bool) → (b && c) ≡ true → b ≡ true
-both_left true c e = refl
-both_left false c e = absurd (cc)
-
-both_right : (b c : Bool) → (b && c) ≡ true → c ≡ true
-both_right true c e = e
-both_right false c e = absurd (cc)
-
 -- bytes wait, and the driver is not at rest
 abbrev has_to_lose : Auditor → Step → Bool
 has_to_lose a s = nat_lt 0 a.waiting && not (is_at_rest a s.setup)
@@ -107,9 +99,8 @@ room_known (Some false) true so = absurd (cc)
 room_known (Some false) false so = omega arith
 
 some_depth : (o : Option Bool) → 1 ≤ depth o
-some_depth None = omega arith
 some_depth (Some true) = omega arith
-some_depth (Some false) = omega arith
+some_depth _ = omega arith
 
 -- a byte has gone by time, or it counts
 counted_sent : (rested : Bool) (sent least : ℕ) → 1 ≤ least → least ≤ (if rested then 0 else sent) → least ≤ sent
@@ -146,9 +137,6 @@ dropped c byte fits full =
 no_bytes_left : (space queued left : ℕ) → space ≤ queued + left → left ≡ 0 → space ≤ queued
 no_bytes_left space queued left h e = omega (arith, h, e)
 
-le_of : (n m : ℕ) → nat_le n m ≡ true → n ≤ m
-le_of n m e = grind (arith, common_steps)
-
 module _ (a : Auditor) (left : ℕ) (c : ChipState) (n : MachineState) (s : Step) (same : s.setup ≡ a.setup) (k : KnowsWhatIs a left c)
     (fits : length c.transmitter.queue ≤ room_of c.fifo) where
   fifos : IsSo s.setup.has_fifo (λ on. c.fifo ≡ on)
@@ -158,7 +146,7 @@ module _ (a : Auditor) (left : ℕ) (c : ChipState) (n : MachineState) (s : Step
       (room_of c.fifo ≤ length c.transmitter.queue + left) × (left ≡ 0 → IsDropped c n.chip)
   beyond byte h e =
       let most : depth s.setup.has_fifo ≤ a.sent =
-      counted_sent s.has_rested a.sent (depth s.setup.has_fifo) (some_depth s.setup.has_fifo) (le_of _ (sent_before a s) e) in
+      counted_sent s.has_rested a.sent (depth s.setup.has_fifo) (some_depth s.setup.has_fifo) (leb-true _ (sent_before a s) e) in
       let full : room_of c.fifo ≤ length c.transmitter.queue + left =
       is_full (room_of c.fifo) (depth s.setup.has_fifo) a.sent _ left (room_known s.setup.has_fifo c.fifo fifos) most k.sent in (
         full,
@@ -189,7 +177,7 @@ module _ (a : Auditor) (left : ℕ) (c : ChipState) (n : MachineState) (s : Step
 
   in_loopback : (byte : ℕ) → Does (Sends byte) c n.chip → loops_again a s.setup ≡ true → Loses (found.SentInLoopback byte) a left c n
   in_loopback byte h e =
-      let on : is_loopback c.latches ≡ true = is_looping s.setup.modem loopback (both_left _ _ e) in
+      let on : is_loopback c.latches ≡ true = is_looping s.setup.modem loopback (and_parts _ _ e).0 in
       stays_inside c.transmitter.wire n (ap (λ (c : ChipState). is_loopback c.latches) h ∙ on)
       (ap (λ (c : ChipState). c.transmitter.wire) h
       ∙ wire_load (nat_lt (length c.transmitter.queue) (room_of c.fifo)) c.transmitter _ _ refl refl)
@@ -228,8 +216,8 @@ module _ (a : Auditor) (left : ℕ) (c : ChipState) (n : MachineState) (s : Step
       (nat_lt 0 a.sent && action_empties fcr_bits.TX_FIFO_RESET.0 s.setup.has_fifo (ControlsFifo fcr)) ≡ true →
       Loses found.ResetWhileSending a left c n
   reset fcr h e = (
-    one (length c.transmitter.queue) (room_of c.fifo) a.sent (positive a.sent (both_left _ _ e)) some_room k.sent,
-    queue_gone c.transmitter.queue n.chip.transmitter.queue _ (is_cleared 2 s.setup.has_fifo fcr c fifos (both_right _ _ e)) h.queued,
+    one (length c.transmitter.queue) (room_of c.fifo) a.sent (positive a.sent (and_parts _ _ e).0) some_room k.sent,
+    queue_gone c.transmitter.queue n.chip.transmitter.queue _ (is_cleared 2 s.setup.has_fifo fcr c fifos (and_parts _ _ e).1) h.queued,
   )
     where
       one : (queued space sent : ℕ) → 1 ≤ sent → 1 ≤ space → min sent space ≤ queued + left → 1 ≤ queued + left
@@ -257,15 +245,15 @@ module _ (a : Auditor) (left : ℕ) (c : ChipState) (n : MachineState) (s : Step
       (has_to_lose a s && action_empties fcr_bits.RX_FIFO_RESET.0 s.setup.has_fifo (ControlsFifo fcr)) ≡ true →
       Loses found.WaitingDiscarded a left c n
   discarded fcr h e = (
-    positive a.waiting (both_left _ _ (both_left _ _ e)),
+    positive a.waiting (and_parts _ _ (and_parts _ _ e).0).0,
     k.waiting,
-    queue_gone c.receiver.queue n.chip.receiver.queue _ (is_cleared 1 s.setup.has_fifo fcr c fifos (both_right _ _ e)) h.waiting,
+    queue_gone c.receiver.queue n.chip.receiver.queue _ (is_cleared 1 s.setup.has_fifo fcr c fifos (and_parts _ _ e).1) h.waiting,
   )
 
   discard_lost : (x : Action) → Does x c n.chip → Lost a left c n
       (when (has_to_lose a s && action_empties fcr_bits.RX_FIFO_RESET.0 s.setup.has_fifo x) found.WaitingDiscarded)
   discard_lost (ControlsFifo fcr) h = lost_when a left c n _ found.WaitingDiscarded (λ e. discarded fcr h e)
-  discard_lost _ h = lost_when a left c n _ found.WaitingDiscarded (λ e. absurd (let f : false ≡ true = both_right _ _ e in cc))
+  discard_lost _ h = lost_when a left c n _ found.WaitingDiscarded (λ e. absurd (let f : false ≡ true = (and_parts _ _ e).1 in cc))
 
 -- ---- a read of DATA, which loses nothing
 
@@ -438,11 +426,11 @@ quiet_lost a left c n s x is quiet =
 
     discard_none : (x : Action) → IsNoAccess x → Lost a left c n
         (when (has_to_lose a s && action_empties fcr_bits.RX_FIFO_RESET.0 s.setup.has_fifo x) found.WaitingDiscarded)
-    discard_none Other q = lost_when a left c n _ found.WaitingDiscarded (λ e. absurd (let f : false ≡ true = both_right _ _ e in cc))
+    discard_none Other q = lost_when a left c n _ found.WaitingDiscarded (λ e. absurd (let f : false ≡ true = (and_parts _ _ e).1 in cc))
     discard_none (ChangesLines inputs) q =
-        lost_when a left c n _ found.WaitingDiscarded (λ e. absurd (let f : false ≡ true = both_right _ _ e in cc))
+        lost_when a left c n _ found.WaitingDiscarded (λ e. absurd (let f : false ≡ true = (and_parts _ _ e).1 in cc))
     discard_none (Arrives byte errors) q =
-        lost_when a left c n _ found.WaitingDiscarded (λ e. absurd (let f : false ≡ true = both_right _ _ e in cc))
+        lost_when a left c n _ found.WaitingDiscarded (λ e. absurd (let f : false ≡ true = (and_parts _ _ e).1 in cc))
     discard_none _ q = absurd q
 
 -- ---- a recording

@@ -6,7 +6,7 @@ use Rattle.uart_judges.specs.History.{known, next, step_from}
 use Rattle.uart_judges.specs.declared.audit.auditor.Auditor.{Auditor}
 use Rattle.uart_judges.specs.declared.recording.entry.Entry.{Entry}
 use Rattle.uart_judges.specs.declared.recording.entry.Happening.{Happening}
-use Rattle.uart_judges.specs.declared.recording.entry.Happening.TheVariants.{Access, Arrive, Interrupt, Lines}
+use Rattle.uart_judges.specs.declared.recording.entry.Happening.TheVariants.{Access}
 use Rattle.uart_judges_runs.specs.Recorded.{HasNone, NoneIs, access_in, accesses_in, behind, is_of_calls}
 
 -- ---- one entry
@@ -46,9 +46,7 @@ pub data IsEither (h : Happening) : Type 0 where
 
 pub either : (h : Happening) → IsEither h
 either (Access x) = access x refl
-either (Arrive byte errors) = other tt refl
-either (Interrupt is_raised) = other tt refl
-either (Lines inputs) = other tt refl
+either _ = other tt refl
 
 first_is : (x y : RegisterAccess) (l m : List RegisterAccess) → x ∷ l ≡ y ∷ m → x ≡ y
 first_is x y l m e = cc

@@ -25,7 +25,6 @@ level_fifo v (Err e) f after l (off, is, same) = ap (λ (g : Fields). g.fifo) sa
 -- the driver takes the FIFOs to be as before
 pub same_fifo : (c : Call) (f after : Fields) (l : List RegisterAccess) (a : Answer) → IsSteady c → IsListOf c f l a after →
     after.fifo ≡ f.fifo
-same_fifo call.Next f after l a i h = ap (λ (g : Fields). g.fifo) h.does.1
 same_fifo (call.Init config) f after l a i h = absurd i
 same_fifo (call.InitWith config setup) f after l a i h = absurd i
 same_fifo (call.SetFrame config) f after l a i h = absurd i

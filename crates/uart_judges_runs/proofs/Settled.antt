@@ -1,5 +1,5 @@
 -- What the judge knows while nothing gives another cause, and that a harmless step leaves it so and has no warning without a cause.
-use Rattle.std.proofs.Common.{◌≡◌, ℕ, Bool, true, false, not, ◌&&◌, ◌||◌, ◌==◌, ◌⊎◌, inl, inr, Option, Some, None, refl, sym}
+use Rattle.std.proofs.Common.{◌≡◌, ℕ, Bool, true, false, not, ◌&&◌, ◌==◌, ◌⊎◌, inl, inr, Option, Some, None, refl, sym}
 use Rattle.std.proofs.Common.{◌∙◌, ap, arith, if◌then◌else◌, bit_and, bit_or, is_some}
 use Rattle.std.specs.Prelude.{nat_lt, find}
 use Rattle.std.specs.Option.{option_or}
@@ -7,6 +7,7 @@ use Rattle.std.specs.Int.{bit_at}
 use Rattle.std.proofs.lemmas.Bool.{and_left, and_right}
 use Rattle.std.proofs.lemmas.Grind.{common_steps}
 use Rattle.std.proofs.lemmas.Nat.{and_assoc}
+use Rattle.std.proofs.Math.Bool.{or-false}
 use lib.Bits.{or_zero_r}
 use Rattle.uart_spec.specs.Bits.{field, has, has_any}
 use Rattle.uart_spec.specs.Fields.{interrupt_code}
@@ -47,7 +48,7 @@ use Rattle.uart_judges_runs.specs.Causes.{Causes, Fits, line_while}
 use Rattle.uart_judges_runs.specs.Lost.{IsSo}
 use Rattle.uart_judges_runs.specs.Recorded.{NoneIs}
 use Rattle.uart_judges_runs.proofs.Founded as founded
-use Rattle.uart_judges_runs.proofs.Founded.{EightFounded, Founded, StaysFrame, all_founded, is_of_caller}
+use Rattle.uart_judges_runs.proofs.Founded.{Founded, StaysFrame, all_founded, is_of_caller}
 use Rattle.uart_judges_runs.proofs.Steps.{opens_latch}
 
 -- ---- LCR
@@ -59,15 +60,11 @@ dlab_while false line e = e
 same_if : (b d : Bool) (x y v w : ℕ) → b ≡ d → x ≡ v → y ≡ w → (if b then x else y) ≡ (if d then v else w)
 same_if b d x y v w p q r = rw (p, q, r) refl
 
-or_none : (b : Bool) → (b || false) ≡ b
-or_none true = refl
-or_none false = refl
-
 -- the divisor latch has nothing to do with the frame
 frame_opened : (line : ℕ) → frame (record { 0 = bit_or line lcr_bits.DLAB.0 }) ≡ frame (record { 0 = line })
 frame_opened line =
     same_if _ _ _ _ _ _
-    (has_one 3 (bit_or line 128) ∙ (has_or 3 line 128 ∙ (or_none (has_any line 8) ∙ sym (has_one 3 line))))
+    (has_one 3 (bit_or line 128) ∙ (has_or 3 line 128 ∙ (or-false (has_any line 8) ∙ sym (has_one 3 line))))
     (and_or line 128 127 ∙ or_zero_r (bit_and line 127)) (and_or line 128 71 ∙ or_zero_r (bit_and line 71))
 
 frame_while : (opened : Bool) (line : ℕ) → frame (record { 0 = line_while opened line }) ≡ frame (record { 0 = line })

@@ -1,7 +1,6 @@
 -- Over the software chip, good accesses show the latches as they are, and leave them so.
 use Rattle.std.proofs.Common.{◌≡◌, ℕ, zero, suc, Bool, true, false, not, ◌&&◌, ◌==◌, List, [], ◌∷◌, ◌++◌, Option, Some, None, refl, sym}
-use Rattle.std.proofs.Common.{◌∙◌}
-use Rattle.std.proofs.Common.{ap, subst, arith, if◌then◌else◌, bit_and, bit_or}
+use Rattle.std.proofs.Common.{◌∙◌, ap, subst, arith, if◌then◌else◌, bit_and, bit_or}
 use Rattle.std.specs.Prelude.{nat_lt}
 use Rattle.std.proofs.lemmas.Grind.{common_steps}
 use Rattle.std.proofs.lemmas.Nat.{and_assoc}

@@ -7,13 +7,12 @@ use Rattle.uart_spec.specs.declared.registers.line_control.LCR.{LCR}
 use Rattle.uart_spec.specs.declared.registers.line_status.TheConstants.LSR as lsr_bits
 use Rattle.uart_spec.specs.declared.registers.modem_control.MCR.{MCR}
 use Rattle.uart_spec.specs.declared.registers.modem_status.MSR.{MSR}
-use Rattle.uart_judges.specs.Findings.{all_found, arrival, arrived_at, change, chip, chip_at, discard}
-use Rattle.uart_judges.specs.Findings.{empty, empty_in, flow, gate, ignored, latch, left_up, level, level_as, level_at}
-use Rattle.uart_judges.specs.Findings.{line_up, lines_as, missing, note, noted, output, overrun, overrun_in, room}
-use Rattle.uart_judges.specs.Findings.{asks_for_cts, enables_bytes, is_cut_off, is_held, served_by, service, transfers}
+use Rattle.uart_judges.specs.Findings.{all_found, arrival, arrived_at, change, chip, chip_at, discard, empty, empty_in, flow, gate, ignored}
+use Rattle.uart_judges.specs.Findings.{latch, left_up, level, level_as, level_at, line_up, lines_as, missing, note, noted, output, overrun}
+use Rattle.uart_judges.specs.Findings.{overrun_in, room, asks_for_cts, enables_bytes, is_cut_off, is_held, served_by, service, transfers}
+use Rattle.uart_judges.specs.Findings.{set_up, taken, when}
 use Rattle.uart_judges.specs.Shows.{sends}
 use Rattle.uart_judges.specs.Steps.{is_line_up, loops_back}
-use Rattle.uart_judges.specs.Findings.{set_up, taken, when}
 use Rattle.uart_judges.specs.declared.audit.action.Action.{Action}
 use Rattle.uart_judges.specs.declared.audit.action.Action.TheVariants.{Receives, Sends, ReadsLine}
 use Rattle.uart_judges.specs.declared.audit.action.Action.TheVariants.{IdentifiesInterrupt, LooksAtLine, LooksAtModem}

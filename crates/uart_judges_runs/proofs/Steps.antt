@@ -19,9 +19,8 @@ use Rattle.uart_chip.proofs.Bits.{has_one, has_or}
 use Rattle.uart_chip.proofs.conservation.Blocks.{is_quiet}
 use Rattle.uart_judges.specs.Actions.{action, data_read, data_written, ier_read}
 use Rattle.std.specs.Option.{option_or}
-use Rattle.uart_judges.specs.Findings.{all_found, closed, closes, cuts, given, has_low_alone, is_in_break, is_open, is_zero}
-use Rattle.uart_judges.specs.Findings.{loops_again, sent_before}
-use Rattle.uart_judges.specs.Findings.{taken_from, taken_from_nothing, when}
+use Rattle.uart_judges.specs.Findings.{all_found, closed, closes, cuts, given, has_low_alone, is_in_break, is_open, is_zero, loops_again}
+use Rattle.uart_judges.specs.Findings.{sent_before, taken_from, taken_from_nothing, when}
 use Rattle.uart_judges.specs.History.{next, next_count, next_since, step_from, waiting_after}
 use Rattle.uart_judges.specs.Setups.{next_is_open}
 use Rattle.uart_judges.specs.Shows.{fifo_of, looks_at_line, modem_of, opens as opens_action, receives, sends, sets_low, shows_thr_empty}
@@ -41,7 +40,7 @@ use Rattle.uart_judges.specs.declared.recording.entry.Happening.TheVariants.{Acc
 use Rattle.uart_judges_runs.specs.Calls.{IsTaken, KnowsAsTaken, Shows}
 use Rattle.uart_judges_runs.specs.Recorded.{NoneIs, is_of_calls}
 use Rattle.uart_judges_runs.proofs.Recordings.{Moves}
-use Rattle.uart_judges_runs.proofs.Kept.{IsStill, Opened, Reading, Sending, knows_still, sending_still, six_at, spared_still}
+use Rattle.uart_judges_runs.proofs.Kept.{IsStill, Opened, Reading, Sending, knows_still, sending_still, since_none, six_at, spared_still}
 use Rattle.uart_judges_runs.proofs.Spared.{Spared, all_spared, another, nothing, spared_if, spared_when}
 
 -- ---- still accesses
@@ -50,32 +49,24 @@ use Rattle.uart_judges_runs.proofs.Spared.{Spared, all_spared, another, nothing,
 quiet_read : (fifo : Bool) (o : Option Bool) (n value : ℕ) → is_quiet (Read n value) ≡ true → Shows fifo false n value → is_open o ≡ false →
     IsStill fifo (action o (Access (Read n value)))
 quiet_read fifo o zero value q t c = absurd (cc)
-quiet_read fifo None (suc zero) value q t c = tt
 quiet_read fifo (Some true) (suc zero) value q t c = absurd (cc)
-quiet_read fifo (Some false) (suc zero) value q t c = tt
 quiet_read fifo o (suc (suc zero)) value q t c = t.fifos refl
 quiet_read fifo o (suc (suc (suc zero))) value q t c = t.dlab refl refl
 quiet_read fifo o (suc (suc (suc (suc zero)))) value q t c = t.loopback refl
-quiet_read fifo o (suc (suc (suc (suc (suc zero))))) value q t c = tt
-quiet_read fifo o (suc (suc (suc (suc (suc (suc zero)))))) value q t c = tt
-quiet_read fifo o (suc (suc (suc (suc (suc (suc (suc zero))))))) value q t c = tt
 quiet_read fifo o (suc (suc (suc (suc (suc (suc (suc (suc n)))))))) value q t c =
     absurd (grind (arith, common_steps))
+quiet_read fifo o _ value q t c = tt
 
 quiet_write : (fifo : Bool) (o : Option Bool) (n value : ℕ) → is_quiet (Write n value) ≡ true → is_open o ≡ false →
     IsStill fifo (action o (Access (Write n value)))
-quiet_write fifo o zero value q c = absurd (cc)
 quiet_write fifo None (suc zero) value q c = tt
-quiet_write fifo (Some true) (suc zero) value q c = absurd (cc)
 quiet_write fifo (Some false) (suc zero) value q c = tt
-quiet_write fifo o (suc (suc zero)) value q c = absurd (cc)
-quiet_write fifo o (suc (suc (suc zero))) value q c = absurd (cc)
-quiet_write fifo o (suc (suc (suc (suc zero)))) value q c = absurd (cc)
 quiet_write fifo o (suc (suc (suc (suc (suc zero))))) value q c = tt
 quiet_write fifo o (suc (suc (suc (suc (suc (suc zero)))))) value q c = tt
 quiet_write fifo o (suc (suc (suc (suc (suc (suc (suc zero))))))) value q c = tt
 quiet_write fifo o (suc (suc (suc (suc (suc (suc (suc (suc n)))))))) value q c =
     absurd (grind (arith, common_steps))
+quiet_write fifo o _ value q c = absurd (cc)
 
 quiet_still : (fifo : Bool) (o : Option Bool) (x : RegisterAccess) → is_quiet x ≡ true → IsTaken fifo false x → is_open o ≡ false →
     IsStill fifo (action o (Access x))
@@ -275,9 +266,6 @@ opens fifo lcr e is a k =
       },
     )
 
-since_kept : (b r h : Bool) → b ≡ false → h ≡ false → next_since b r h ≡ false
-since_kept b r h e f = rw (e, f) refl
-
 from_latch : (a : Auditor) → a.latch.has_looked ≡ false → Spared (when a.latch.has_looked found.ReceivedFromLatch)
 from_latch a e = rw e nothing
 
@@ -297,8 +285,8 @@ reads_divisor fifo e a x w =
         opened = ap (next_is_open a.setup.is_open) x ∙ w.opened;
         loopback = subst (λ (x : Action). loops_back (option_or (modem_of x) a.setup.modem) ≡ false) (sym x) w.loopback;
         room = subst (λ (x : Action). room_of fifo ≤ depth (option_or (fifo_of x) a.setup.has_fifo)) (sym x) w.room;
-        not_looked = since_kept a.latch.has_looked _ _ w.not_looked (ap looks_at_line x);
-        not_low = since_kept a.latch.has_low _ _ w.not_low (ap sets_low x);
+        not_looked = since_none a.latch.has_looked _ _ w.not_looked (ap looks_at_line x);
+        not_low = since_none a.latch.has_low _ _ w.not_low (ap sets_low x);
       },
     )
 
@@ -363,8 +351,8 @@ shows_open fifo shown on e is a w =
         opened = ap (next_is_open a.setup.is_open) x ∙ ap Some on;
         loopback = subst (λ (x : Action). loops_back (option_or (modem_of x) a.setup.modem) ≡ false) (sym x) w.loopback;
         room = subst (λ (x : Action). room_of fifo ≤ depth (option_or (fifo_of x) a.setup.has_fifo)) (sym x) w.room;
-        not_looked = since_kept a.latch.has_looked _ _ w.not_looked (ap looks_at_line x);
-        not_low = since_kept a.latch.has_low _ _ w.not_low (ap sets_low x);
+        not_looked = since_none a.latch.has_looked _ _ w.not_looked (ap looks_at_line x);
+        not_low = since_none a.latch.has_low _ _ w.not_low (ap sets_low x);
       },
     )
 

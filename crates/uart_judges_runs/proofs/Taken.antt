@@ -86,18 +86,13 @@ shown_line fifo opened value k o = record { dlab = sym (has_one 7 value); loopba
 
 shown_quiet : (fifo opened : Bool) (n value : ℕ) (k : Kept) → is_quiet (Write n value) ≡ true → IsShown fifo opened k →
     IsShown fifo opened (keep_write n value k)
-shown_quiet fifo opened zero value k q o = absurd (cc)
 shown_quiet fifo opened (suc zero) value k q o =
     shown_if fifo opened (is_dlab_set k.latches) _ _ (record { dlab = o.dlab; loopback = o.loopback; fifos = o.fifos })
     (record { dlab = o.dlab; loopback = o.loopback; fifos = o.fifos })
-shown_quiet fifo opened (suc (suc zero)) value k q o = absurd (cc)
-shown_quiet fifo opened (suc (suc (suc zero))) value k q o = absurd (cc)
-shown_quiet fifo opened (suc (suc (suc (suc zero)))) value k q o = absurd (cc)
-shown_quiet fifo opened (suc (suc (suc (suc (suc zero))))) value k q o = absurd (cc)
-shown_quiet fifo opened (suc (suc (suc (suc (suc (suc zero)))))) value k q o = absurd (cc)
 shown_quiet fifo opened (suc (suc (suc (suc (suc (suc (suc zero))))))) value k q o =
     record { dlab = o.dlab; loopback = o.loopback; fifos = o.fifos }
 shown_quiet fifo opened (suc (suc (suc (suc (suc (suc (suc (suc n)))))))) value k q o = absurd (grind (arith, common_steps))
+shown_quiet fifo opened _ value k q o = absurd (cc)
 
 shown_keep : (fifo opened : Bool) (x : RegisterAccess) (k : Kept) → IsPlain x → IsShown fifo opened k →
     IsShown fifo (opened_by x opened) (keep x k)

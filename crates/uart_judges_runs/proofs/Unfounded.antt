@@ -1,6 +1,7 @@
 -- No warning of a session is without a cause: the twelve that are about how a call is made never come, and the other nine only with theirs.
 use Rattle.std.proofs.Common.{◌≡◌, ◌≤◌, ℕ, Bool, true, false, not, ◌&&◌, ◌||◌, List, [], ◌∷◌, Option, Some, None, refl, sym, ◌∙◌, subst}
 use Rattle.std.proofs.Common.{arith}
+use Rattle.std.proofs.lemmas.Bool.{or_parts}
 use Rattle.uart_spec.specs.declared.access.Access.{Access as RegisterAccess}
 use Rattle.uart_16550.specs.Driver.{Fields}
 use Rattle.uart_events.specs.declared.call.Answer.{Answer}
@@ -30,11 +31,6 @@ use Rattle.uart_judges_runs.proofs.Walks.{Walks, by, founded_walk}
 
 -- a warning is one of the twelve or of the nine
 neither : (c : Causes) (f : Finding) → is_of_calls f ≡ false → is_of_caller c f ≡ false → is_unfounded c f ≡ false
-neither c (found.SetUp setup) p q = refl
-neither c (found.LineErrorsRead lsr) p q = refl
-neither c (found.LineChangesRead msr) p q = refl
-neither c found.LatchLeftOpen p q = refl
-neither c found.LoopbackLeftOn p q = refl
 neither c (found.SentBeyondRoom sent space) p q = absurd (cc)
 neither c (found.SentIntoLatch byte) p q = absurd (cc)
 neither c (found.SentInBreak byte) p q = q
@@ -56,18 +52,7 @@ neither c found.ResetWhileSending p q = absurd (cc)
 neither c found.WaitingDiscarded p q = absurd (cc)
 neither c (found.NotServed identified) p q = q
 neither c (found.LeftWithLineUp line) p q = q
-neither c (found.OtherByte arrived read) p q = refl
-neither c (found.ArrivalSkipped byte) p q = refl
-neither c (found.ArrivalGone byte) p q = refl
-neither c (found.ErrorsHidden arrived) p q = refl
-neither c found.OverrunHidden p q = refl
-neither c (found.InterruptWithoutData interrupt) p q = refl
-neither c found.GoneAtFcr p q = refl
-neither c found.ThrEmptyNotRaised p q = refl
-neither c found.ThrEmptyNotRaisedAgain p q = refl
-neither c (found.LineIgnored written read) p q = refl
-neither c (found.LinesDiffer inputs shown) p q = refl
-neither c (found.LevelDiffers up) p q = refl
+neither c _ p q = refl
 
 -- what is none of the first and none of the second is none of the third
 abbrev Joins : (P Q R : Finding → Bool) → Type 0
@@ -91,27 +76,19 @@ pub unfounded : (c : Causes) (past entries : List Entry) → HasNone is_of_calls
 unfounded c past entries p q = has_none is_of_calls (is_of_caller c) (is_unfounded c) past entries (neither c) p q
 
 -- without a cause there is no warning at all
-none_left : (b d : Bool) → (b || d) ≡ false → b ≡ false
-none_left true d e = absurd (cc)
-none_left false d e = refl
-
-none_right : (b d : Bool) → (b || d) ≡ false → d ≡ false
-none_right true d e = absurd (cc)
-none_right false d e = e
-
 both_off : (on b d : Bool) → (on && (b || d)) ≡ false → ((on && b) ≡ false) × ((on && d) ≡ false)
-both_off true b d e = (none_left b d e, none_right b d e)
+both_off true b d e = or_parts b d e
 both_off false b d e = (refl, refl)
 
 none_of : (c : Causes) → cause_some c ≡ false → (f : Finding) → has_cause c f ≡ false
 none_of c e f =
-    let cuts = none_right c.break_is_sent _ e in
-    let unchecked = none_right c.bytes_are_cut _ cuts in
-    let interrupts = none_right (c.cts_is_unchecked && c.msr_is_read) _ unchecked in
-    let fifos = none_right (c.interrupts_are_on && (c.isr_is_read || c.out2_is_off)) _ interrupts in
-    let off = both_off c.interrupts_are_on c.isr_is_read c.out2_is_off (none_left _ (c.fifos_are_off || c.divisor_is_zero) interrupts) in
-    go f (none_left c.break_is_sent _ e) (none_left c.bytes_are_cut _ cuts) (none_left (c.cts_is_unchecked && c.msr_is_read) _ unchecked)
-    off.0 off.1 (none_left c.fifos_are_off _ fifos) (none_right c.fifos_are_off _ fifos)
+    let cuts = (or_parts c.break_is_sent _ e).1 in
+    let unchecked = (or_parts c.bytes_are_cut _ cuts).1 in
+    let interrupts = (or_parts (c.cts_is_unchecked && c.msr_is_read) _ unchecked).1 in
+    let fifos = (or_parts (c.interrupts_are_on && (c.isr_is_read || c.out2_is_off)) _ interrupts).1 in
+    let off = both_off c.interrupts_are_on c.isr_is_read c.out2_is_off (or_parts _ (c.fifos_are_off || c.divisor_is_zero) interrupts).0 in
+    go f (or_parts c.break_is_sent _ e).0 (or_parts c.bytes_are_cut _ cuts).0 (or_parts (c.cts_is_unchecked && c.msr_is_read) _ unchecked).0
+    off.0 off.1 (or_parts c.fifos_are_off _ fifos).0 (or_parts c.fifos_are_off _ fifos).1
   where
     go : (f : Finding) → c.break_is_sent ≡ false → c.bytes_are_cut ≡ false → (c.cts_is_unchecked && c.msr_is_read) ≡ false →
         (c.interrupts_are_on && c.isr_is_read) ≡ false → (c.interrupts_are_on && c.out2_is_off) ≡ false → c.fifos_are_off ≡ false →

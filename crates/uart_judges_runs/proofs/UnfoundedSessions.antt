@@ -39,7 +39,6 @@ module _ (c : Causes) (line : ℕ) where
 
   same_checks : (x : Call) (f after : Fields) (l : List RegisterAccess) (a : Answer) → IsSteady x → IsListOf x f l a after →
       Checks after ≡ Checks f
-  same_checks call.Next f after l a i h = ap Checks h.does.1
   same_checks (call.Init config) f after l a i h = absurd i
   same_checks (call.InitWith config setup) f after l a i h = absurd i
   same_checks (call.SetFrame config) f after l a i h = absurd i

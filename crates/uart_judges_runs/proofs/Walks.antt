@@ -18,7 +18,7 @@ use Rattle.uart_judges.specs.History.{known, next, step_from}
 use Rattle.uart_judges.specs.declared.audit.auditor.Auditor.{Auditor}
 use Rattle.uart_judges.specs.declared.recording.entry.Entry.{Entry}
 use Rattle.uart_judges.specs.declared.recording.entry.Happening.{Happening}
-use Rattle.uart_judges.specs.declared.recording.entry.Happening.TheVariants.{Access, Arrive, Interrupt, Lines}
+use Rattle.uart_judges.specs.declared.recording.entry.Happening.TheVariants.{Access}
 use Rattle.uart_judges_runs.specs.Calls.{opened_by}
 use Rattle.uart_judges_runs.specs.Causes.{Causes, Fits, ShowsFor, line_while}
 use Rattle.uart_judges_runs.specs.Lost.{IsSo}
@@ -95,20 +95,16 @@ module _ (c : Causes) (line : ℕ) (f : Stage) where
 
   write_harmless : (o : Option Bool) (register value : ℕ) → GoodWrite c line f register value → IsSo o (λ on. on ≡ f.opened) →
       Harmless c line f (action o (Access (Write register value)))
-  write_harmless None zero value g so = tt
   write_harmless (Some true) zero value g so = absurd (true_is f.opened so (g.shut refl))
   write_harmless (Some false) zero value g so = (g.shut refl, g.fits refl, g.clear refl)
-  write_harmless None (suc zero) value g so = tt
   write_harmless (Some true) (suc zero) value g so = absurd (true_is f.opened so (g.shut_too refl))
   write_harmless (Some false) (suc zero) value g so = g.off refl
   write_harmless o (suc (suc zero)) value g so = g.fifos refl
   write_harmless o (suc (suc (suc zero))) value g so = g.lcr refl
   write_harmless o (suc (suc (suc (suc zero)))) value g so = absurd (let e : (4 == offsets.MCR) ≡ false = g.no_mcr in cc)
-  write_harmless o (suc (suc (suc (suc (suc zero))))) value g so = tt
-  write_harmless o (suc (suc (suc (suc (suc (suc zero)))))) value g so = tt
-  write_harmless o (suc (suc (suc (suc (suc (suc (suc zero))))))) value g so = tt
   write_harmless o (suc (suc (suc (suc (suc (suc (suc (suc n)))))))) value g so =
       absurd (let r : nat_lt (suc (suc (suc (suc (suc (suc (suc (suc n)))))))) 8 ≡ true = g.real in grind (arith, common_steps))
+  write_harmless o _ value g so = tt
 
   harmless : (o : Option Bool) (x : RegisterAccess) → IsGood c line f x → IsSo o (λ on. on ≡ f.opened) →
       Harmless c line f (action o (Access x))
@@ -133,33 +129,16 @@ module _ (c : Causes) (line : ℕ) (f : Stage) where
       Settled c line (at (action o (Access (Read register answer))) f) a → Settled c line (by (Read register answer) f) a
   read_moved None zero answer a r k = unlooked a k
   read_moved (Some true) zero answer a r k = unlooked a k
-  read_moved (Some false) zero answer a r k = k
-  read_moved None (suc zero) answer a r k = k
   read_moved (Some true) (suc zero) answer a r k = k
-  read_moved (Some false) (suc zero) answer a r k = k
-  read_moved o (suc (suc zero)) answer a r k = k
-  read_moved o (suc (suc (suc zero))) answer a r k = k
-  read_moved o (suc (suc (suc (suc zero)))) answer a r k = k
-  read_moved o (suc (suc (suc (suc (suc zero))))) answer a r k = k
-  read_moved o (suc (suc (suc (suc (suc (suc zero)))))) answer a r k = k
-  read_moved o (suc (suc (suc (suc (suc (suc (suc zero))))))) answer a r k = k
   read_moved o (suc (suc (suc (suc (suc (suc (suc (suc n)))))))) answer a r k = absurd (grind (arith, common_steps))
+  read_moved o _ answer a r k = k
 
   write_moved : (o : Option Bool) (register value : ℕ) (a : Auditor) → nat_lt register 8 ≡ true →
       Settled c line (at (action o (Access (Write register value))) f) a → Settled c line (by (Write register value) f) a
-  write_moved None zero value a r k = k
   write_moved (Some true) zero value a r k = k
-  write_moved (Some false) zero value a r k = k
-  write_moved None (suc zero) value a r k = k
   write_moved (Some true) (suc zero) value a r k = k
-  write_moved (Some false) (suc zero) value a r k = k
-  write_moved o (suc (suc zero)) value a r k = k
-  write_moved o (suc (suc (suc zero))) value a r k = k
-  write_moved o (suc (suc (suc (suc zero)))) value a r k = k
-  write_moved o (suc (suc (suc (suc (suc zero))))) value a r k = k
-  write_moved o (suc (suc (suc (suc (suc (suc zero)))))) value a r k = k
-  write_moved o (suc (suc (suc (suc (suc (suc (suc zero))))))) value a r k = k
   write_moved o (suc (suc (suc (suc (suc (suc (suc (suc n)))))))) value a r k = absurd (grind (arith, common_steps))
+  write_moved o _ value a r k = k
 
   moved : (o : Option Bool) (x : RegisterAccess) (a : Auditor) → IsGood c line f x → Settled c line (at (action o (Access x)) f) a →
       Settled c line (by x f) a
@@ -169,15 +148,11 @@ module _ (c : Causes) (line : ℕ) (f : Stage) where
   -- an entry that is no access
   other_harmless : (o : Option Bool) (h : Happening) → IsOther h → Harmless c line f (action o h)
   other_harmless o (Access x) i = absurd i
-  other_harmless o (Arrive byte errors) i = tt
-  other_harmless o (Interrupt is_raised) i = tt
-  other_harmless o (Lines inputs) i = tt
+  other_harmless o _ i = tt
 
   other_moved : (o : Option Bool) (h : Happening) (a : Auditor) → IsOther h → Settled c line (at (action o h) f) a → Settled c line f a
   other_moved o (Access x) a i k = absurd i
-  other_moved o (Arrive byte errors) a i k = k
-  other_moved o (Interrupt is_raised) a i k = k
-  other_moved o (Lines inputs) a i k = k
+  other_moved o _ a i k = k
 
 -- ---- some accesses
 

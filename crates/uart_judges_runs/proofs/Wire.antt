@@ -31,10 +31,8 @@ wire_shift true (Some s) t e = wire_if t _ _ (nat_lt 1 s.ticks_left) refl refl
 wire_shift false place t e = absurd (cc)
 
 wire_refill : (place : Option Shifting) (queue : List ℕ) (t : TransmitterState) → (refill place queue t).wire ≡ t.wire
-wire_refill (Some s) queue t = refl
-wire_refill None [] t = refl
 wire_refill None (x ∷ []) t = refl
-wire_refill None (x ∷ y ∷ xs) t = refl
+wire_refill _ _ t = refl
 
 wire_tick : (loopback : Bool) (t : TransmitterState) → loopback ≡ true → (tick loopback t).wire ≡ t.wire
 wire_tick loopback t e =

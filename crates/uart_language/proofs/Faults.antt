@@ -97,17 +97,13 @@ arrival_fault name (HH ∷ E ∷ X ∷ rest) c = absurd (neither (suc (suc (suc 
 config_fault : (name : List ℕ) (rest : List (List ℕ)) → has_count word.Init (suc (length rest)) ≡ true
     → fault_of (item_of word.Init (name ∷ rest)) ≡ first_of (field_faults (fields_of word.Init) rest)
 unfolding item_of call_of config_in
-config_fault name [] c = absurd cc
-config_fault name (F ∷ []) c = absurd cc
-config_fault name (F ∷ BAUD ∷ []) c = absurd cc
-config_fault name (F ∷ BAUD ∷ C ∷ []) c = absurd cc
-config_fault name (F ∷ BAUD ∷ C ∷ HH ∷ []) c = absurd cc
 config_fault name (F ∷ BAUD ∷ C ∷ HH ∷ BITS ∷ []) c =
     call_made_fault (level_in F >>= (λ level. rate_in BAUD
     >>= (λ rate. cts_in C >>= (λ cts. interrupts_in HH >>= (λ i. word_length_in BITS >>= (λ l. Ok (configured level rate cts i l)))))))
     call.Init
     ∙ five_fault (level_in F) (rate_in BAUD) (cts_in C) (interrupts_in HH) (word_length_in BITS) configured
 config_fault name (F ∷ BAUD ∷ C ∷ HH ∷ BITS ∷ X ∷ rest) c = absurd (omega (arith, eqb-true _ _ c))
+config_fault name _ c = absurd cc
 
 -- faults in two parts
 first_parts : (xs ys : List (Option Cause)) → first_of (first_of xs ∷ first_of ys ∷ []) ≡ first_of (xs ++ ys)
@@ -118,14 +114,6 @@ first_parts (Some c ∷ xs) ys = refl
 set_up_fault : (name : List ℕ) (rest : List (List ℕ)) → has_count word.InitWith (suc (length rest)) ≡ true
     → fault_of (item_of word.InitWith (name ∷ rest)) ≡ first_of (field_faults (fields_of word.InitWith) rest)
 unfolding item_of call_of config_in setup_in
-set_up_fault name [] c = absurd cc
-set_up_fault name (F ∷ []) c = absurd cc
-set_up_fault name (F ∷ BAUD ∷ []) c = absurd cc
-set_up_fault name (F ∷ BAUD ∷ C ∷ []) c = absurd cc
-set_up_fault name (F ∷ BAUD ∷ C ∷ HH ∷ []) c = absurd cc
-set_up_fault name (F ∷ BAUD ∷ C ∷ HH ∷ BITS ∷ []) c = absurd cc
-set_up_fault name (F ∷ BAUD ∷ C ∷ HH ∷ BITS ∷ P ∷ []) c = absurd cc
-set_up_fault name (F ∷ BAUD ∷ C ∷ HH ∷ BITS ∷ P ∷ W ∷ []) c = absurd cc
 set_up_fault name (F ∷ BAUD ∷ C ∷ HH ∷ BITS ∷ P ∷ W ∷ OUT ∷ []) c =
     let config = level_in F >>= (λ level. rate_in BAUD
     >>= (λ rate. cts_in C >>= (λ cts. interrupts_in HH >>= (λ i. word_length_in BITS >>= (λ l. Ok (configured level rate cts i l)))))) in
@@ -140,6 +128,7 @@ set_up_fault name (F ∷ BAUD ∷ C ∷ HH ∷ BITS ∷ P ∷ W ∷ OUT ∷ []) 
     ∙ (ap (λ fault. first_of (first_of five ∷ fault ∷ [])) (three_fault (check_in P) (wait_in W) (outputs_in OUT) arranged)
     ∙ first_parts five three)))
 set_up_fault name (F ∷ BAUD ∷ C ∷ HH ∷ BITS ∷ P ∷ W ∷ OUT ∷ X ∷ rest) c = absurd (omega (arith, eqb-true _ _ c))
+set_up_fault name _ c = absurd cc
 
 -- a word that two fields follow
 call_fields_fault : {A B : Type 0} (first : List ℕ → Result A Cause) (second : List ℕ → Result B Cause) (make : A → B → Call)
@@ -246,14 +235,11 @@ more_words n c = neither (suc (suc (suc (suc (suc (suc n)))))) 4 5 (omega arith)
 header_words_fault : (ws : List (List ℕ)) → has_count word.Chip (length ws) ≡ true
     → fault_of (header_in ws) ≡ first_of (field_faults (fields_of word.Chip) (drop 1 ws))
 unfolding header_in
-header_words_fault [] c = absurd cc
-header_words_fault (name ∷ []) c = absurd cc
-header_words_fault (name ∷ NAME ∷ []) c = absurd cc
-header_words_fault (name ∷ NAME ∷ T ∷ []) c = absurd cc
 header_words_fault (name ∷ NAME ∷ T ∷ W ∷ []) c =
     three_fault (chip_in NAME) (char_ticks_in T) (wire_capacity_in W) (λ chip ticks capacity. header_of chip ticks capacity false)
 header_words_fault (name ∷ NAME ∷ T ∷ W ∷ C ∷ []) c = four_fault (chip_in NAME) (char_ticks_in T) (wire_capacity_in W) (cut_in C) header_of
 header_words_fault (name ∷ NAME ∷ T ∷ W ∷ C ∷ X ∷ rest) c = absurd (more_words (length rest) c)
+header_words_fault _ c = absurd cc
 
 first_word_fault : (first : Option Word) (ws : List (List ℕ))
     → fault_of (placed_word 1 ws first >>= (λ w. header_in ws)) ≡ first_of (word_faults 1 first ws)
@@ -309,10 +295,6 @@ words_are_header : (line : List ℕ) (ws : List (List ℕ)) (h : Header) → wor
     → name_of word.Chip ≡ word_at 0 ws → has_count word.Chip (length ws) ≡ true → header_in ws ≡ Ok h
     → IsHeader line h.chip h.ticks h.wire_capacity h.cuts
 unfolding header_in
-words_are_header line [] h w b n c e = absurd cc
-words_are_header line (name ∷ []) h w b n c e = absurd cc
-words_are_header line (name ∷ NAME ∷ []) h w b n c e = absurd cc
-words_are_header line (name ∷ NAME ∷ T ∷ []) h w b n c e = absurd cc
 words_are_header line (name ∷ NAME ∷ T ∷ W ∷ []) h w b n c e =
     let make : Chip → ℕ → ℕ → Header = λ chip ticks capacity. header_of chip ticks capacity false in
     let r = three_ok (chip_in NAME) (char_ticks_in T) (wire_capacity_in W) make h e in
@@ -342,6 +324,7 @@ words_are_header line (name ∷ NAME ∷ T ∷ W ∷ C ∷ []) h w b n c e =
       wire_capacity_is = r.6;
     })
 words_are_header line (name ∷ NAME ∷ T ∷ W ∷ C ∷ X ∷ rest) h w b n c e = absurd (more_words (length rest) c)
+words_are_header line _ h w b n c e = absurd cc
 
 counted : {A : Type 0} (c : Bool) (r : Result A Cause) (x : A) → (cond c (Ok word.Chip) (Err WrongCount) >>= (λ w. r)) ≡ Ok x
     → (c ≡ true) × (r ≡ Ok x)

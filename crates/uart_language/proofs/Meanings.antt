@@ -175,15 +175,11 @@ init_meant number F BAUD C HH BITS (Ok level) (Ok rate) (Ok cts) (Ok i) (Err x) 
 config : (number : ℕ) (rest : List (List ℕ)) (s : Saying) → has_count word.Init (suc (length rest)) ≡ true
     → item_of word.Init (codes "init" ∷ rest) ≡ Ok s → Means number (codes "init" ∷ rest) s
 unfolding item_of call_of config_in
-config number [] s c e = absurd cc
-config number (F ∷ []) s c e = absurd cc
-config number (F ∷ BAUD ∷ []) s c e = absurd cc
-config number (F ∷ BAUD ∷ C ∷ []) s c e = absurd cc
-config number (F ∷ BAUD ∷ C ∷ HH ∷ []) s c e = absurd cc
 config number (F ∷ BAUD ∷ C ∷ HH ∷ BITS ∷ []) s c e =
     init_meant number F BAUD C HH BITS (level_in F) (rate_in BAUD) (cts_in C) (interrupts_in HH) (word_length_in BITS)
     s refl refl refl refl refl e
 config number (F ∷ BAUD ∷ C ∷ HH ∷ BITS ∷ X ∷ rest) s c e = absurd (omega (arith, eqb-true _ _ c))
+config number _ s c e = absurd cc
 
 -- init-with F BAUD C HH BITS P W HH, from the eight fields
 init_with_meant : (number : ℕ) (F BAUD C HH BITS P W OUT : List ℕ) (f : Result (Option FifoTriggerLevel) Cause) (b : Result BaudRate Cause)
@@ -212,18 +208,11 @@ init_with_meant number F BAUD C HH BITS P W OUT (Ok level) (Ok rate) (Ok cts) (O
 set_up : (number : ℕ) (rest : List (List ℕ)) (s : Saying) → has_count word.InitWith (suc (length rest)) ≡ true
     → item_of word.InitWith (codes "init-with" ∷ rest) ≡ Ok s → Means number (codes "init-with" ∷ rest) s
 unfolding item_of call_of config_in setup_in
-set_up number [] s c e = absurd cc
-set_up number (F ∷ []) s c e = absurd cc
-set_up number (F ∷ BAUD ∷ []) s c e = absurd cc
-set_up number (F ∷ BAUD ∷ C ∷ []) s c e = absurd cc
-set_up number (F ∷ BAUD ∷ C ∷ HH ∷ []) s c e = absurd cc
-set_up number (F ∷ BAUD ∷ C ∷ HH ∷ BITS ∷ []) s c e = absurd cc
-set_up number (F ∷ BAUD ∷ C ∷ HH ∷ BITS ∷ P ∷ []) s c e = absurd cc
-set_up number (F ∷ BAUD ∷ C ∷ HH ∷ BITS ∷ P ∷ W ∷ []) s c e = absurd cc
 set_up number (F ∷ BAUD ∷ C ∷ HH ∷ BITS ∷ P ∷ W ∷ OUT ∷ []) s c e =
     init_with_meant number F BAUD C HH BITS P W OUT (level_in F) (rate_in BAUD) (cts_in C) (interrupts_in HH) (word_length_in BITS)
     (check_in P) (wait_in W) (outputs_in OUT) s refl refl refl refl refl refl refl refl e
 set_up number (F ∷ BAUD ∷ C ∷ HH ∷ BITS ∷ P ∷ W ∷ OUT ∷ X ∷ rest) s c e = absurd (omega (arith, eqb-true _ _ c))
+set_up number _ s c e = absurd cc
 
 -- a line that begins with a word and says something means that
 pub is_meant : (number : ℕ) (w : Word) (rest : List (List ℕ)) (s : Saying) → 2 ≤ number → is_placed number (Some w) ≡ true

@@ -17,7 +17,7 @@ use Rattle.uart_language.specs.declared.limits.TheConstants.{MOST_BYTES, MOST_LI
 use Rattle.uart_language.specs.declared.parsing.Script.{Script}
 use Rattle.uart_language.specs.Text.{lines_of}
 use Rattle.uart_language.specs.Words.{fault_of}
-use Rattle.uart_language.specs.Sayings.{Saying, Nothing, Limit, Happens, Calls, Marks, events_said, calls_said}
+use Rattle.uart_language.specs.Sayings.{Saying, Nothing, events_said, calls_said}
 use Rattle.uart_language.specs.Script.{Plan, limit_from}
 use Rattle.uart_language.specs.Items.{item_at, header_at}
 use Rattle.uart_language.specs.Reading.{Fault, sayings_from, with_saying, planned, from_lines, script_of, Refuses, BuildsPlan, Parses}
@@ -86,10 +86,7 @@ ends_in plan (Err e) = Err e
 limit_after : (limit : ℕ) (s : Saying) (sayings : List Saying)
     → limit_from limit (s ∷ sayings) ≡ limit_from (limit_from limit (s ∷ [])) sayings
 limit_after limit Nothing sayings = refl
-limit_after limit (Limit n) sayings = refl
-limit_after limit (Happens e) sayings = refl
-limit_after limit (Calls c) sayings = refl
-limit_after limit Marks sayings = refl
+limit_after limit _ sayings = refl
 
 pub grows : (plan : Plan) (s : Saying) (sayings : Result (List Saying) Fault)
     → ends_in plan (with_saying s sayings) ≡ ends_in (added plan s) sayings

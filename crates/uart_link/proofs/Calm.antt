@@ -1,10 +1,10 @@
 -- What a chip keeps while nobody resets its FIFO or writes MCR: its outputs, and each character for which there is room.
-use Rattle.std.proofs.Common.{◌≡◌, ℕ, zero, suc, ◌+◌, ◌≤◌, ◌<◌, ◌==◌, ◌||◌, Bool, true, false, nat_lt, List, [], ◌∷◌}
-use Rattle.std.proofs.Common.{length}
-use Rattle.std.proofs.Common.{map, refl, sym, ◌∙◌, ap, subst, arith, if◌then◌else◌, bit_and, bit_or, ◌⊎◌, inl, inr, length-append}
+use Rattle.std.proofs.Common.{◌≡◌, ℕ, zero, suc, ◌+◌, ◌≤◌, ◌<◌, ◌==◌, ◌||◌, Bool, true, false, nat_lt, List, [], ◌∷◌, length, map, refl}
+use Rattle.std.proofs.Common.{sym, ◌∙◌, ap, subst, arith, if◌then◌else◌, bit_and, bit_or, ◌⊎◌, inl, inr, length-append}
 use Rattle.std.specs.List.{AllByRecursion}
 use Rattle.std.proofs.lemmas.Grind.{common_steps}
 use Rattle.std.proofs.lemmas.Bool.Decides.{nat_tests}
+use Rattle.std.proofs.Math.Bool.{or-false}
 use Rattle.uart_events.specs.declared.event.ArrivalMark.TheVariants as marks
 use Rattle.uart_events.specs.declared.event.Event.{Event}
 use Rattle.uart_events.specs.declared.event.Event.TheVariants.{Ticks, Arrive, Lines, Access as Gate, Mark}
@@ -160,10 +160,6 @@ face_ticks : (n : ℕ) (c : ChipState) → SameFace c (ticks n c)
 face_ticks zero c = record { mcr = refl; lines = refl }
 face_ticks (suc n) c = let f = face_ticks n c in record { mcr = f.mcr; lines = f.lines }
 
-or_false : (b : Bool) → (b || false) ≡ b
-or_false true = refl
-or_false false = refl
-
 module _ (cts : Bool) where
   cts_face : (c d : ChipState) → SameFace c d → HasCts cts c → HasCts cts d
   cts_face c d f h = record {
@@ -201,7 +197,7 @@ module _ (cts : Bool) where
           let low : has_any c.modem.deltas MSR.CTS.0 ≡ false =
           ap (λ v. has_any v MSR.CTS.0) (sym w) ∙ has_not 4 c.modem.deltas MSR.CHANGES.0 refl in
           has_one 4 value ∙ (ap (λ v. has_any v MSR.CTS.0) shown ∙ (has_or 4 c.modem.lines c.modem.deltas ∙
-          (ap (λ b. has_any c.modem.lines MSR.CTS.0 || b) low ∙ (or_false (has_any c.modem.lines MSR.CTS.0) ∙ h.line))))
+          (ap (λ b. has_any c.modem.lines MSR.CTS.0 || b) low ∙ (or-false (has_any c.modem.lines MSR.CTS.0) ∙ h.line))))
 
       loop : offset ≡ offsets.MCR → has value MCR.LOOP_BACK.0 ≡ false
       loop is = has_one 4 value ∙ (ap (λ v. has_any v MCR.LOOP_BACK.0) (e ∙ ap (λ o. answer o c) is) ∙ h.loopback)

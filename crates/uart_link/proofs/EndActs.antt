@@ -28,8 +28,7 @@ use Rattle.uart_link.specs.Cable.{unknown, to_come, with_ahead, settled, on_cabl
 use Rattle.uart_link.specs.Known.{IsUnmarked, AllUnmarked}
 use Rattle.uart_link.specs.Link.{CabledCallStep, EndStep, LetsPass}
 use Rattle.uart_link.proofs.Arranges.{lines_within, arranged_events}
-use Rattle.uart_link.proofs.Crossings.{brought-append, arriving_count, events_first, clean_events, Crosses, crosses-trans}
-use Rattle.uart_link.proofs.Crossings.{crosses_next}
+use Rattle.uart_link.proofs.Crossings.{brought-append, arriving_count, events_first, clean_events, Crosses, crosses-trans, crosses_next}
 use Rattle.uart_link.proofs.Lefts.{Left, left_path, left_settled, Grown, path_grows, settled_grows}
 use Rattle.uart_link.proofs.Schedules.{arrivals-known, few_arrivals, legal_events, legal_unknown, unmarked_events}
 use Rattle.uart_link.proofs.EndPasses.{InEnd, EndPasses, passes-trans, in_session-passed, call_passes, settle_passes}

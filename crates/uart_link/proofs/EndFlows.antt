@@ -5,6 +5,7 @@ use Rattle.std.proofs.Common.{take, refl, replicate, sym, ◌∙◌, ap, subst, 
 use Rattle.std.proofs.lemmas.Grind.{common_steps}
 use Rattle.std.proofs.lemmas.List.{length-map}
 use Rattle.std.proofs.lemmas.List.Sums.{length-filter, count_by-le-length}
+use Rattle.std.proofs.Math.Bool.{or-false, or-true}
 use Rattle.uart_events.specs.declared.event.Event.TheVariants.{Arrive}
 use Rattle.uart_spec.specs.Access.{Path}
 use Rattle.uart_spec.specs.Bits.{has, has_any, flag}
@@ -58,9 +59,8 @@ use Rattle.uart_link.specs.Carried.{receiver_at}
 use Rattle.uart_link.specs.Flow.{receive_room, hold_of}
 use Rattle.uart_link.specs.Link.{CabledCallStep, EndStep}
 use Rattle.uart_link.proofs.Arranges.{arranged_events}
-use Rattle.uart_link.proofs.Calm.{AllLeaveMcr, AllMild, all_mild, blocks_leave, mcr_settled, mcr_path, LeavesCts}
-use Rattle.uart_link.proofs.Calm.{AllLeaveCts, HasCts, cts_path, cts_first}
-use Rattle.uart_link.proofs.Calm.{HasRoomTo, room_path, room_settled, room_first}
+use Rattle.uart_link.proofs.Calm.{AllLeaveMcr, AllMild, all_mild, blocks_leave, mcr_settled, mcr_path, LeavesCts, AllLeaveCts, HasCts}
+use Rattle.uart_link.proofs.Calm.{cts_path, cts_first, HasRoomTo, room_path, room_settled, room_first}
 use Rattle.uart_link.proofs.EndActs.{sound_arranged}
 use Rattle.uart_link.proofs.EndPasses.{InEnd}
 use Rattle.uart_link.proofs.Held.{HoldsBack, HeldBack, in_held}
@@ -463,7 +463,7 @@ cts_is_rts mcr =
     let on : Bool = has_any mcr MCR.DTR.0 in
     has_or 4 (flag rts MSR.CTS.0) (bit_or (flag on MSR.DSR.0) (flag on MSR.CD.0)) ∙
     (ap (λ b. b || has_any (bit_or (flag on MSR.DSR.0) (flag on MSR.CD.0)) MSR.CTS.0) (its rts) ∙
-    (ap (λ b. rts || b) (others on) ∙ no_other rts))
+    (ap (λ b. rts || b) (others on) ∙ or-false rts))
   where
     its : (b : Bool) → has_any (flag b MSR.CTS.0) MSR.CTS.0 ≡ b
     its true = refl
@@ -472,10 +472,6 @@ cts_is_rts mcr =
     others : (b : Bool) → has_any (bit_or (flag b MSR.DSR.0) (flag b MSR.CD.0)) MSR.CTS.0 ≡ false
     others true = refl
     others false = refl
-
-    no_other : (b : Bool) → (b || false) ≡ b
-    no_other true = refl
-    no_other false = refl
 
 rts_off : (s : RingState) → has_any (ring_machine s).chip.latches.mcr MCR.RTS.0 ≡ false → IsRtsOff s
 rts_off s off = go (is_loopback (ring_machine s).chip.latches)
@@ -535,11 +531,7 @@ now_rts true false mcr m n e (mid, read, (last, write, same)) =
 now_rts false true mcr m n e (mid, read, (last, write, same)) =
     let high = switched true MCR.RTS.0 mcr in
     written_rts high mid last n write same ∙ (has_and 1 (unlooped high) mcr_bits refl ∙ (has_and 1 high 239 refl ∙
-    (has_or 1 mcr MCR.RTS.0 ∙ or_true (has_any mcr MCR.RTS.0))))
-  where
-    or_true : (b : Bool) → (b || true) ≡ true
-    or_true true = refl
-    or_true false = refl
+    (has_or 1 mcr MCR.RTS.0 ∙ or-true (has_any mcr MCR.RTS.0))))
 
 -- below the mark RTS is made off
 below_mark : (marks : ReceiveMarks) (room : ℕ) → room < marks.hold → rts_at marks room ≡ Some false

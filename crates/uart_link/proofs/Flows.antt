@@ -26,8 +26,7 @@ use Rattle.uart_link.specs.declared.call.Side.TheVariants.{Left, Right}
 use Rattle.uart_link.specs.declared.link.Link.{Link}
 use Rattle.uart_link.specs.Cable.{on_cable, lines_joined}
 use Rattle.uart_link.specs.Carried.{receiver_at, IsJoined, OfEnd}
-use Rattle.uart_link.specs.Flow.{Pace, receive_room, hold_of, AdjustsIfAny, SeesLines, IsPacedStep, arrived_in, since_call}
-use Rattle.uart_link.specs.Flow.{since_at}
+use Rattle.uart_link.specs.Flow.{Pace, receive_room, hold_of, AdjustsIfAny, SeesLines, IsPacedStep, arrived_in, since_call, since_at}
 use Rattle.uart_link.specs.Flow.{AllInTime, BeginsPaced, IsPaced, DropsNothing}
 use Rattle.uart_link.specs.Link.{at_end, other, EndStep, Step, LinkChain}
 use Rattle.uart_link.proofs.Calm.{no_drop_same}

@@ -1,7 +1,6 @@
 -- What accesses leave of a schedule of which a part is known, and what they leave on the wire.
-use Rattle.std.proofs.Common.{◌≡◌, ℕ, Bool, true, false, ◌==◌, nat_lt, List, [], ◌∷◌, ◌++◌, length}
-use Rattle.std.proofs.Common.{replicate, Option, Some}
-use Rattle.std.proofs.Common.{None, append_assoc, append-nil, refl, sym, ◌∙◌, ap, if◌then◌else◌}
+use Rattle.std.proofs.Common.{◌≡◌, ℕ, Bool, true, false, ◌==◌, nat_lt, List, [], ◌∷◌, ◌++◌, length, replicate, Option, Some, None}
+use Rattle.std.proofs.Common.{append_assoc, append-nil, refl, sym, ◌∙◌, ap, if◌then◌else◌}
 use Rattle.uart_events.specs.declared.event.Event.{Event}
 use Rattle.uart_events.specs.declared.event.Event.TheVariants.{Arrive, Access as Gate, Mark}
 use Rattle.uart_spec.specs.Access.{Path}
@@ -76,10 +75,8 @@ module _ (bytes : List ℕ) where
       (p.0 ++ s.byte ∷ [], ap (λ zs. zs ++ s.byte ∷ []) p.1 ∙ append_assoc bytes p.0 (s.byte ∷ [])) p))
 
   refill_grown : (place : Option Shifting) (queue : List ℕ) (u : TransmitterState) → Grown bytes u → Grown bytes (refill place queue u)
-  refill_grown (Some s) queue u p = p
-  refill_grown None [] u p = p
   refill_grown None (x ∷ []) u p = p
-  refill_grown None (x ∷ y ∷ xs) u p = p
+  refill_grown _ _ u p = p
 
   grown_lasts : Lasts (Grown bytes)
   grown_lasts = record {

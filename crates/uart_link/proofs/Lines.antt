@@ -1,5 +1,6 @@
 -- The outputs of one end are the lines of the other.
-use Rattle.std.proofs.Common.{◌≡◌, ℕ, ◌||◌, Bool, true, false, [], ◌∷◌, refl, ◌∙◌, ap, bit_and, bit_or, if◌then◌else◌}
+use Rattle.std.proofs.Common.{◌≡◌, ℕ, Bool, true, false, [], ◌∷◌, refl, ◌∙◌, ap, bit_and, bit_or, if◌then◌else◌}
+use Rattle.std.proofs.Math.Bool.{or-true}
 use Rattle.uart_spec.specs.Bits.{has_any, flag}
 use Rattle.uart_spec.specs.declared.access.Access.TheVariants.{Read, Write}
 use Rattle.uart_spec.specs.declared.registers.modem_control.TheConstants.MCR
@@ -69,16 +70,12 @@ output_lines output on before after made =
     (backend_of after) made.fits.1 made.path in
     lines_out (backend_of after).chip (switched on output mcr) (ap (λ (k : Kept). k.latches.mcr) kept)
 
-or_true : (b : Bool) → (b || true) ≡ true
-or_true true = refl
-or_true false = refl
-
 rts_switched : (on : Bool) (mcr : ℕ) → has_any (switched on MCR.RTS.0 mcr) MCR.RTS.0 ≡ on
-rts_switched true mcr = has_or 1 mcr MCR.RTS.0 ∙ or_true (has_any mcr MCR.RTS.0)
+rts_switched true mcr = has_or 1 mcr MCR.RTS.0 ∙ or-true (has_any mcr MCR.RTS.0)
 rts_switched false mcr = has_not 1 mcr 253 refl
 
 dtr_switched : (on : Bool) (mcr : ℕ) → has_any (switched on MCR.DTR.0 mcr) MCR.DTR.0 ≡ on
-dtr_switched true mcr = has_or 0 mcr MCR.DTR.0 ∙ or_true (has_any mcr MCR.DTR.0)
+dtr_switched true mcr = has_or 0 mcr MCR.DTR.0 ∙ or-true (has_any mcr MCR.DTR.0)
 dtr_switched false mcr = has_not 0 mcr 254 refl
 
 pub rts_line : (on : Bool) (before after : Uart16550 MachineState) → Made MachineStep (SetsOutput MCR.RTS.0 on) before after →

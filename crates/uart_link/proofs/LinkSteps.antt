@@ -1,7 +1,6 @@
 -- What calls of a link do at both ends, and to the bytes that cross the cable.
-use Rattle.std.proofs.Common.{◌≡◌, ◌≢◌, ℕ, List, [], ◌∷◌, ◌++◌, map, length-append, append_assoc, append-nil, refl, sym}
-use Rattle.std.proofs.Common.{◌∙◌}
-use Rattle.std.proofs.Common.{ap, subst, arith}
+use Rattle.std.proofs.Common.{◌≡◌, ◌≢◌, ℕ, List, [], ◌∷◌, ◌++◌, map, length-append, append_assoc, append-nil, refl, sym, ◌∙◌, ap, subst}
+use Rattle.std.proofs.Common.{arith}
 use Rattle.std.proofs.lemmas.List.{drop-append-le, map-append}
 use Rattle.uart_events.specs.declared.event.Event.{Event}
 use Rattle.uart_chip.specs.Machine.{MachineState}

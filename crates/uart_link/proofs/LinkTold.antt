@@ -1,8 +1,8 @@
 -- That a `take_line` tells of a drop.
-use Rattle.std.proofs.Common.{◌≡◌, ◌⊎◌, inl, inr, ℕ, Bool, true, false, not, ◌||◌, ◌==◌, List, [], ◌∷◌, refl, sym, ◌∙◌, ap}
-use Rattle.std.proofs.Common.{subst}
-use Rattle.std.proofs.Common.{bit_and, bit_or}
+use Rattle.std.proofs.Common.{◌≡◌, ◌⊎◌, inl, inr, ℕ, Bool, true, false, not, ◌||◌, ◌==◌, List, [], ◌∷◌, refl, sym, ◌∙◌, ap, subst, bit_and}
+use Rattle.std.proofs.Common.{bit_or}
 use Rattle.std.proofs.lemmas.Nat.{and_assoc}
+use Rattle.std.proofs.lemmas.Bool.{or_right}
 use Rattle.uart_spec.specs.Access.{Path, saved_lsr}
 use Rattle.uart_spec.specs.declared.access.Access.TheVariants.{Read}
 use Rattle.uart_spec.specs.Bits.{has_any}
@@ -46,11 +46,7 @@ in_first : (a b : ℕ) → has_any a LSR.OVERRUN_ERROR.0 ≡ true → has_any (b
 in_first a b e = has_or 1 a b ∙ (rw e refl)
 
 in_second : (a b : ℕ) → has_any b LSR.OVERRUN_ERROR.0 ≡ true → has_any (bit_or a b) LSR.OVERRUN_ERROR.0 ≡ true
-in_second a b e = has_or 1 a b ∙ either (has_any a LSR.OVERRUN_ERROR.0) (has_any b LSR.OVERRUN_ERROR.0) e
-  where
-    either : (x y : Bool) → y ≡ true → (x || y) ≡ true
-    either true y e = refl
-    either false y e = e
+in_second a b e = has_or 1 a b ∙ or_right (has_any a LSR.OVERRUN_ERROR.0) (has_any b LSR.OVERRUN_ERROR.0) e
 
 of_either : (a b : ℕ) → has_any (bit_or a b) LSR.OVERRUN_ERROR.0 ≡ true →
     (has_any a LSR.OVERRUN_ERROR.0 ≡ true) ⊎ (has_any b LSR.OVERRUN_ERROR.0 ≡ true)

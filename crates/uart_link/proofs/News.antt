@@ -1,17 +1,15 @@
 -- A chip that was just made, at a cable on which nothing has been sent yet.
-use Rattle.std.proofs.Common.{◌≤◌, ◌≡◌, ℕ, zero, suc, ◌+◌, Bool, true, false, not, nat_lt, List, [], ◌∷◌, ◌++◌, length, drop, replicate}
-use Rattle.std.proofs.Common.{Option, Some, None}
-use Rattle.std.proofs.Common.{refl, arith, sym, ◌∙◌, ap, subst, if◌then◌else◌}
+use Rattle.std.proofs.Common.{◌≤◌, ◌≡◌, ℕ, zero, suc, ◌+◌, Bool, true, false, not, nat_lt, List, [], ◌++◌, length, drop, replicate}
+use Rattle.std.proofs.Common.{Some, None, refl, arith, sym, ◌∙◌, ap, subst, if◌then◌else◌}
 use Rattle.std.specs.List.{position, prefix_len}
 use Rattle.std.proofs.lemmas.Grind.{common_steps}
 use Rattle.uart_events.specs.declared.event.Chip.{Chip}
 use Rattle.uart_events.specs.declared.event.Event.{Event}
-use Rattle.uart_events.specs.declared.event.Event.TheVariants.{Arrive, Mark}
+use Rattle.uart_events.specs.declared.event.Event.TheVariants.{Arrive}
 use Rattle.uart_events.specs.Build.{has_bad_errors, has_bad_lines, refusal}
 use Rattle.uart_chip.specs.Chip as chip
 use Rattle.uart_chip.specs.Chip.{ChipState}
 use Rattle.uart_chip.specs.Machine.{MachineState, fresh}
-use Rattle.uart_chip.specs.Sound.{IsWhole}
 use Rattle.uart_chip.proofs.soundness.Builds.{whole_fresh}
 use Rattle.std.proofs.lemmas.List.{drop_all}
 use Rattle.uart_link.specs.Brought.{IsBrought}

@@ -2,7 +2,7 @@
 use Rattle.std.proofs.Common.{◌≡◌, ℕ, zero, suc, ◌+◌, ◌-◌, ◌<◌, ◌≤◌, Bool, true, false, List, [], ◌∷◌, ◌++◌, length, take, drop}
 use Rattle.std.proofs.Common.{append_assoc, length-append, refl, sym, ◌∙◌, ap, subst, arith, nat_lt, filter, map, None, ◌*◌, inl, inr}
 use Rattle.std.proofs.lemmas.Grind.{common_steps}
-use Rattle.std.proofs.lemmas.List.{length-drop, length-map, take-append-le, take-append-drop, map-append}
+use Rattle.std.proofs.lemmas.List.{length-drop, length-map, nil_from_length, take-append-le, take-append-drop, map-append}
 use Rattle.std.proofs.Math.Seq.{take-append_seam}
 use Rattle.std.proofs.lemmas.List.Sums.{length-filter, count_by-le-length}
 use Rattle.uart_events.specs.declared.event.Event.{Event}
@@ -736,11 +736,7 @@ empties_receiver x y end steps a b w v joined chain comes =
     waits (at_end z b) + come_in (at_end z f.step.after) ≤ waits (at_end z f.step.after) + come_in (at_end z b) in
     let more : W end = subst W (other_other end) n in
     let empty = handled_time end f.step f.does f.such in
-    nothing (chip_at end b).receiver.queue (omega (arith, none, more, empty))
-  where
-    nothing : (queue : List Character) → length queue ≤ 0 → queue ≡ []
-    nothing [] h = refl
-    nothing (x ∷ queue) h = absurd (omega (arith, h))
+    nil_from_length (chip_at end b).receiver.queue (omega (arith, none, more, empty))
 
 -- ---- the interrupt of THR
 

@@ -1,6 +1,5 @@
 -- The schedule of a chip at a cable: what is known of it, and behind that what nobody knows yet.
-use Rattle.std.proofs.Common.{◌≡◌, ◌≢◌, ℕ, zero, suc, ◌+◌, ◌-◌, ◌<◌, ◌≤◌, List, [], ◌∷◌, ◌++◌, length, drop, replicate, refl}
-use Rattle.std.proofs.Common.{sym, ◌∙◌, ap}
+use Rattle.std.proofs.Common.{◌≡◌, ◌≢◌, ℕ, zero, suc, ◌+◌, ◌-◌, ◌<◌, ◌≤◌, List, [], ◌∷◌, ◌++◌, length, drop, replicate, refl, sym, ◌∙◌, ap}
 use Rattle.std.proofs.Common.{slice_index_or, drop-cons, add-one, arith, zero-le}
 use Rattle.std.proofs.lemmas.List.{drop_all}
 use Rattle.uart_events.specs.declared.event.Event.{Event}

@@ -11,8 +11,6 @@ mod device;
 pub mod laws;
 mod link;
 mod ring_call;
-#[cfg(test)]
-mod tests;
 
 pub use call::{CALL_MOMENTS, LinkCall, Moment, Side};
 pub use device::CabledChip;

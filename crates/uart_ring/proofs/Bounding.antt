@@ -189,8 +189,7 @@ stops_size limit served Limit within f l after t = omega (arith, within, ap leng
 
 within_limit : (limit served : ℕ) (end : HandleEnd) → IsWithin limit served end → served ≤ limit
 within_limit limit served Idle within = omega (arith, within)
-within_limit limit served Unknown within = omega (arith, within)
-within_limit limit served Limit within = omega (arith, within)
+within_limit limit served _ within = omega (arith, within)
 
 serves_up_to_size : (limit : ℕ) (handled : Handled) → Implies (ServesUpTo limit handled) (MakesAtMost (limit * (1 + most_of_receiving)))
 serves_up_to_size limit handled f l after (within, t) =

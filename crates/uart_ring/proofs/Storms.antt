@@ -45,13 +45,11 @@ fills_keep : Implies FillsReceiveRing KeepsRounds
 fills_keep f l after (bytes, t) = pauses_keep t.mid t.back after t.second ∙ ap (λ (g : RingFields). g.rounds) t.first.1
 
 serves_keep : (interrupt : InterruptType) → Implies (ServesInterrupt interrupt) KeepsRounds
-serves_keep interrupts.ReceiverLineStatus f l after t = ap (λ (g : RingFields). g.rounds) t.1.1
 serves_keep interrupts.ReceivedDataReady f l after t = fills_keep f l after t
 serves_keep interrupts.ReceptionTimeout f l after t = fills_keep f l after t
-serves_keep interrupts.TransmitterHoldingRegisterEmpty f l after t = ap (λ (g : RingFields). g.rounds) t.1.1
-serves_keep interrupts.ModemStatus f l after t = ap (λ (g : RingFields). g.rounds) t.1.1
 serves_keep interrupts.DmaReceptionEndOfTransfer f l after t = ap (λ (g : RingFields). g.rounds) t.1
 serves_keep interrupts.DmaTransmissionEndOfTransfer f l after t = ap (λ (g : RingFields). g.rounds) t.1
+serves_keep _ f l after t = ap (λ (g : RingFields). g.rounds) t.1.1
 
 serves_one_keeps : Implies ServesOne KeepsRounds
 serves_one_keeps f l after (interrupt, t) =
@@ -63,13 +61,11 @@ times_keep (suc n) f l after t = times_keep n t.mid t.back after t.second ∙ se
 
 stops_keep : (end : HandleEnd) → Implies (Stops end) KeepsRounds
 stops_keep Idle f l after t = ap (λ (g : RingFields). g.rounds) t.1
-stops_keep Unknown f l after t = ap (λ (g : RingFields). g.rounds) t.1
-stops_keep Limit f l after t = ap (λ (g : RingFields). g.rounds) t.1
+stops_keep _ f l after t = ap (λ (g : RingFields). g.rounds) t.1
 
 unless_idle_keep : (end : HandleEnd) → Implies (RetriggersUnlessIdle end) KeepsRounds
 unless_idle_keep Idle f l after t = ap (λ (g : RingFields). g.rounds) t.1
-unless_idle_keep Unknown f l after t = ap (λ (g : RingFields). g.rounds) t.1
-unless_idle_keep Limit f l after t = ap (λ (g : RingFields). g.rounds) t.1
+unless_idle_keep _ f l after t = ap (λ (g : RingFields). g.rounds) t.1
 
 pub handles_keep : (limit : ℕ) (handled : Handled) → Implies (Handles limit handled) KeepsRounds
 handles_keep limit handled f l after t =

@@ -13,8 +13,7 @@ use Rattle.uart_spec.specs.declared.registers.interrupt_enable.TheConstants.IER
 use Rattle.uart_spec.specs.declared.registers.line_control.TheConstants.LCR
 use Rattle.uart_spec.specs.declared.registers.offsets.TheConstants as offsets
 use Rattle.uart_16550.specs.Configured.{Verdict, Shows, InTurn, ShowsFrame, ShowsOutputs, ShowsInterrupts, ShowsDivisor, ShowsFifos}
-use Rattle.uart_16550.specs.Configured.{ShowsAll}
-use Rattle.uart_16550.specs.Configured.{ChecksConfigured, fifo_look}
+use Rattle.uart_16550.specs.Configured.{ShowsAll, ChecksConfigured, fifo_look}
 use Rattle.uart_16550.specs.Frame.{unlooped}
 use Rattle.uart_16550.specs.Grammar.{Language, Settings}
 use Rattle.uart_16550.specs.Init.{frame_bits}

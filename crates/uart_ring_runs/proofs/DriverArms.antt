@@ -181,14 +181,6 @@ pub driver_arms : (s t : State) (c : Call) (a : Answer) → Ready s → LeavesTh
 driver_arms s t driver.Next a ready k h armed =
     let lasts = chip_lasts-before_mark IsToCome in_events (machine_of s).ahead (machine_of s).chip (to_come (machine_of s) armed) in
     comes (machine_of t) (rw h.machine lasts)
-driver_arms s t driver.Isr a ready k h armed = absurd k
-driver_arms s t driver.Dump a ready k h armed = absurd k
-driver_arms s t driver.Attach a ready k h armed = absurd k
-driver_arms s t (driver.Quiesce outputs fifos) a ready k h armed = absurd k
-driver_arms s t (driver.Restore dump) a ready k h armed = absurd k
-driver_arms s t driver.TestLoopback a ready k h armed = absurd k
-driver_arms s t (driver.Init config) a ready k h armed = absurd k
-driver_arms s t (driver.InitWith config setup) a ready k h armed = absurd k
 driver_arms s t (driver.CheckConfigured outputs) a ready k h armed =
     checks_arm (fields (inner_of s)).config outputs.0 h.outcome (settings_of (fields (inner_of s))) h.did.list
     (machine_of s) (machine_of t) h.did.does.0 ready.dlab h.did.path armed
@@ -253,3 +245,4 @@ driver_arms s t (driver.SendExact bytes) a ready k h armed =
     spared_call _ exact_answer s t a (λ v r. spare_sends_exact v bytes.items r) h armed
 driver_arms s t (driver.Write bytes) a ready k h armed = spared_call _ count_answer s t a (λ v r. spare_writes v bytes.items r) h armed
 driver_arms s t (driver.Text text) a ready k h armed = spared_call _ exact_answer s t a (λ v r. spare_text v text.bytes r) h armed
+driver_arms s t _ a ready k h armed = absurd k

@@ -1,13 +1,11 @@
 -- How many interrupts a chip may still show without news from outside, and what events and accesses do to that.
-use Rattle.std.proofs.Common.{◌≡◌, ℕ, ◌+◌, ◌≤◌, ◌<◌, ◌==◌, ◌-◌, ◌||◌, zero, suc, Bool, true, false, not, nat_lt, List}
-use Rattle.std.proofs.Common.{[], ◌∷◌}
-use Rattle.std.proofs.Common.{◌++◌, length, length-append, Option, Some, None, refl, sym, ◌∙◌, ap, subst, arith}
+use Rattle.std.proofs.Common.{◌≡◌, ℕ, ◌+◌, ◌≤◌, ◌<◌, ◌==◌, ◌-◌, ◌||◌, zero, suc, Bool, true, false, not, nat_lt, List, [], ◌∷◌, ◌++◌}
+use Rattle.std.proofs.Common.{length, length-append, Option, Some, None, refl, sym, ◌∙◌, ap, subst, arith}
 use Rattle.std.proofs.lemmas.Bool.Decides.{nat_tests}
 use Rattle.uart_spec.specs.Bits.{has_any}
 use Rattle.uart_spec.specs.declared.registers.interrupt_enable.TheConstants.IER
 use Rattle.uart_events.specs.declared.event.Event.{Event}
-use Rattle.uart_events.specs.declared.event.Event.TheVariants.{Ticks, Arrive, Lines, Mark}
-use Rattle.uart_events.specs.declared.event.Event.TheVariants.{Access as Gate}
+use Rattle.uart_events.specs.declared.event.Event.TheVariants.{Ticks, Arrive, Lines, Mark, Access as Gate}
 use Rattle.uart_chip.specs.declared.receiver.Character.{Character}
 use Rattle.uart_chip.specs.declared.transmitter.Shifting.{Shifting}
 use Rattle.uart_chip.specs.Transmitter as transmitter

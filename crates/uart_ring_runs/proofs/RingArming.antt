@@ -6,13 +6,11 @@ use Rattle.uart_chip.proofs.conservation.Went.{Modes, dlab-in, loopback-in}
 use Rattle.uart_run.specs.Progress.{IsUnchecked}
 use Rattle.uart_run.specs.Ready.{Ready}
 use Rattle.uart_run.proofs.CallLaws.{InSession}
-use Rattle.uart_ring.specs.Ring.{RingDoing, RingDid, RingFields, ring_fields}
+use Rattle.uart_ring.specs.Ring.{RingDoing, RingDid, RingFields, ring_fields, free}
 use Rattle.uart_ring.specs.Armed.{ThrEmpty, known_after_all, IsArmed, LeavesArmed, Arms}
-use Rattle.uart_ring.proofs.Arming.{queues_leave, queues_arm, resumes_arm, takes_leave, services_leave, takes_line_leave}
-use Rattle.uart_ring.proofs.Arming.{takes_modem_leave}
+use Rattle.uart_ring.proofs.Arming.{queues_leave, queues_arm, resumes_arm, takes_leave, services_leave, takes_line_leave, takes_modem_leave}
 use Rattle.uart_ring.proofs.Arming.{handles_leave, retriggers_leave, holds_leave, releases_arm, queues_urgent_arm, clears_transmit_leave}
 use Rattle.uart_ring.proofs.Arming.{clears_receive_leave, sets_low_mark_leave, takes_low_leave, tries_leave, restarts_arm, adjusts_leave}
-use Rattle.uart_ring.specs.Ring.{free}
 use Rattle.uart_ring.specs.Receive.{rts_at}
 use Rattle.uart_ring_runs.specs.declared.call.RingCall.{RingCall}
 use Rattle.uart_ring_runs.specs.declared.call.RingCall.TheVariants as call

@@ -2,8 +2,7 @@
 --
 -- This is all that is shown anew over the chip. That nothing is lost between the rings and DATA is the law over any
 -- backend, and what the chip does with DATA is the law of blocks.
-use Rattle.std.proofs.Common.{◌≡◌, ◌==◌, ℕ, Bool, true, false, inl, inr, MatchBool, List, [], ◌∷◌, ◌++◌, take}
-use Rattle.std.proofs.Common.{refl, ◌∙◌, ap, subst}
+use Rattle.std.proofs.Common.{◌≡◌, ◌==◌, ℕ, Bool, true, false, inl, inr, MatchBool, List, [], ◌∷◌, ◌++◌, take, refl, ◌∙◌, ap, subst}
 use Rattle.std.specs.List.{AllByRecursion}
 use Rattle.uart_spec.specs.declared.access.Access.{Access}
 use Rattle.uart_spec.specs.declared.access.Access.TheVariants.{Read, Write}

@@ -1,8 +1,9 @@
 -- The THR-empty interrupt of the chip: what accesses tell of it holds.
 use Rattle.std.proofs.Common.{◌≡◌, ℕ, ◌-◌, ◌<◌, ◌==◌, ◌⊎◌, ◌||◌, ◌&&◌, Bool, true, false, not, nat_lt, inl, inr, List, [], ◌∷◌}
 use Rattle.std.proofs.Common.{◌++◌, length, length-append, Option, Some, None, refl, sym, ◌∙◌, ap, arith, bit_and, bit_or, if◌then◌else◌}
-use Rattle.std.proofs.lemmas.Bool.{false≢true}
+use Rattle.std.proofs.lemmas.Bool.{and_parts, or_cases, not-true, false≢true}
 use Rattle.std.proofs.lemmas.Bool.Decides.{nat_tests}
+use Rattle.std.proofs.Math.Bool.{or-true}
 use Rattle.uart_spec.specs.Access.{Path}
 use Rattle.uart_spec.specs.declared.access.Access.{Access}
 use Rattle.uart_spec.specs.declared.access.Access.TheVariants.{Read, Write}
@@ -38,10 +39,6 @@ use Rattle.uart_ring_runs.proofs.RingBlocks.{LeavesLcr, AllLeaveLcr}
 abbrev pub IsDue : TransmitterState → Type 0
 IsDue t = (0 < length t.queue) ⊎ (t.is_thr_pending ≡ true)
 
-or_true : (b : Bool) → (b || true) ≡ true
-or_true true = refl
-or_true false = refl
-
 pub due_says : (t : TransmitterState) → is_due t ≡ true → IsDue t
 due_says t h = go (length t.queue == 0) refl h
   where
@@ -50,7 +47,7 @@ due_says t h = go (length t.queue == 0) refl h
     go false e h = inl (grind (arith, nat_tests))
 
 pub says_due : (t : TransmitterState) → IsDue t → is_due t ≡ true
-says_due t (inr pending) = rw pending (or_true (not (length t.queue == 0)))
+says_due t (inr pending) = rw pending (or-true (not (length t.queue == 0)))
 says_due t (inl some) =
     let none : (length t.queue == 0) ≡ false = grind (arith, nat_tests) in
     rw none refl
@@ -121,15 +118,9 @@ due-enable value c (inr pending) =
 -- ISR shows it if it is the interrupt of the chip
 silent : (i : Option InterruptType) (fifo : Bool) →
     shows_thr_empty (bit_or (identification i) (flag fifo ISR.FIFOS_ENABLED.0)) ≡ false → is_thr_empty i ≡ false
-silent None fifo h = refl
-silent (Some interrupts.ReceiverLineStatus) fifo h = refl
-silent (Some interrupts.ReceivedDataReady) fifo h = refl
-silent (Some interrupts.ReceptionTimeout) fifo h = refl
 silent (Some interrupts.TransmitterHoldingRegisterEmpty) true h = h
 silent (Some interrupts.TransmitterHoldingRegisterEmpty) false h = h
-silent (Some interrupts.ModemStatus) fifo h = refl
-silent (Some interrupts.DmaReceptionEndOfTransfer) fifo h = refl
-silent (Some interrupts.DmaTransmissionEndOfTransfer) fifo h = refl
+silent _ fifo h = refl
 
 -- ---- what is known
 
@@ -143,22 +134,6 @@ IsDlabOff m = is_dlab_set m.chip.latches ≡ false
 
 pub off_access : (m : MachineState) → IsDlabOff m → IsDlabOff (at_access m)
 off_access m off = ap (λ (k : Kept). is_dlab_set k.latches) (kept_access m) ∙ off
-
-not_true : (b : Bool) → not b ≡ true → b ≡ false
-not_true true h = absurd (false≢true h)
-not_true false h = refl
-
-and_left : (a b : Bool) → (a && b) ≡ true → a ≡ true
-and_left true b h = refl
-and_left false b h = absurd (false≢true h)
-
-and_right : (a b : Bool) → (a && b) ≡ true → b ≡ true
-and_right true b h = h
-and_right false b h = absurd (false≢true h)
-
-either_true : (a b : Bool) → (a || b) ≡ true → (a ≡ true) ⊎ (b ≡ true)
-either_true true b h = inl refl
-either_true false b h = inr h
 
 -- what is due after a read is
 read_due : (offset value : ℕ) (due : Bool) (m n : MachineState) → (due ≡ true → is_due m.chip.transmitter ≡ true) →
@@ -179,19 +154,19 @@ read_due offset value due m n was s h = go (offset == offsets.LSR) (offset == of
         rw some refl
 
     look : (offset == offsets.LSR) ≡ true → (not (has value LSR.THR_EMPTY.0) ≡ true) ⊎ (due ≡ true) → is_due n.chip.transmitter ≡ true
-    look e (inl none) = room_shown e (not_true (has value LSR.THR_EMPTY.0) none)
+    look e (inl none) = room_shown e (not-true (has value LSR.THR_EMPTY.0) none)
     look e (inr is) = lasts (λ isr. let at : offset ≡ offsets.LSR = grind (arith, nat_tests) in absurd (false≢true (rw at at isr))) is
 
     go : (lsr isr : Bool) → (offset == offsets.LSR) ≡ lsr → (offset == offsets.ISR) ≡ isr →
         (if lsr then not (has value LSR.THR_EMPTY.0) || due else if isr then not (shows_thr_empty value) && due else due) ≡ true →
         is_due n.chip.transmitter ≡ true
-    go true isr e f h = look e (either_true (not (has value LSR.THR_EMPTY.0)) due h)
+    go true isr e f h = look e (or_cases (not (has value LSR.THR_EMPTY.0)) due h)
     go false true e f h =
         let at : offset ≡ offsets.ISR = grind (arith, nat_tests) in
         let step : MachineStep m (Read offsets.ISR value) n = rw at at s in
         let c = (at_access m).chip in
-        let hidden : shows_thr_empty value ≡ false = not_true (shows_thr_empty value) (and_left (not (shows_thr_empty value)) due h) in
-        lasts (λ isr. silent (interrupt c) c.fifo (rw step.1 at hidden)) (and_right (not (shows_thr_empty value)) due h)
+        let hidden : shows_thr_empty value ≡ false = not-true (shows_thr_empty value) (and_parts (not (shows_thr_empty value)) due h).0 in
+        lasts (λ isr. silent (interrupt c) c.fifo (rw step.1 at hidden)) (and_parts (not (shows_thr_empty value)) due h).1
     go false false e f h = lasts (λ isr. absurd (false≢true (sym f ∙ isr))) h
 
 -- what is kept of IER by a read, and by writes with DLAB off

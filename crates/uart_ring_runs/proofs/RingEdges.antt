@@ -1,6 +1,5 @@
 -- That `handle` and `retrigger` lose no edge of the interrupt line.
-use Rattle.std.proofs.Common.{◌≡◌, ◌⊎◌, ◌<◌, arith, ℕ, Bool, true, false, List, [], ◌∷◌, ◌++◌, inl, inr, refl, sym, ◌∙◌, ap, subst}
-use Rattle.std.proofs.Common.{bit_or}
+use Rattle.std.proofs.Common.{◌≡◌, ◌⊎◌, ◌<◌, arith, ℕ, Bool, true, false, List, [], ◌∷◌, ◌++◌, inl, inr, refl, sym, ◌∙◌, ap, subst, bit_or}
 use Rattle.std.proofs.Common.{Option, Some, None, Result, Ok, Err, MatchBool, suc, nat_lt}
 use Rattle.std.specs.Prelude.{is_some, MatchOption}
 use lib.Bits.{and_zero_r}
@@ -88,19 +87,9 @@ idle_none : (i : Option InterruptType) (fifo : Bool) →
     has (bit_or (identification i) (flag fifo ISR.FIFOS_ENABLED.0)) ISR.INTERRUPT_STATUS.0 ≡ true → i ≡ None
 idle_none None fifo h = refl
 idle_none (Some interrupts.ReceiverLineStatus) true h = absurd (false≢true h)
+idle_none _ true h = absurd (false≢true h)
 idle_none (Some interrupts.ReceiverLineStatus) false h = absurd (false≢true h)
-idle_none (Some interrupts.ReceivedDataReady) true h = absurd (false≢true h)
-idle_none (Some interrupts.ReceivedDataReady) false h = absurd (false≢true h)
-idle_none (Some interrupts.ReceptionTimeout) true h = absurd (false≢true h)
-idle_none (Some interrupts.ReceptionTimeout) false h = absurd (false≢true h)
-idle_none (Some interrupts.TransmitterHoldingRegisterEmpty) true h = absurd (false≢true h)
-idle_none (Some interrupts.TransmitterHoldingRegisterEmpty) false h = absurd (false≢true h)
-idle_none (Some interrupts.ModemStatus) true h = absurd (false≢true h)
-idle_none (Some interrupts.ModemStatus) false h = absurd (false≢true h)
-idle_none (Some interrupts.DmaReceptionEndOfTransfer) true h = absurd (false≢true h)
-idle_none (Some interrupts.DmaReceptionEndOfTransfer) false h = absurd (false≢true h)
-idle_none (Some interrupts.DmaTransmissionEndOfTransfer) true h = absurd (false≢true h)
-idle_none (Some interrupts.DmaTransmissionEndOfTransfer) false h = absurd (false≢true h)
+idle_none _ false h = absurd (false≢true h)
 
 idle_read : (isr : ℕ) (m n : MachineState) → has isr ISR.INTERRUPT_STATUS.0 ≡ true → MachineStep m (Read offsets.ISR isr) n →
     is_line_up n ≡ false
@@ -145,19 +134,9 @@ idle_list f l after t =
 -- ISR of the chip names each interrupt that is pending
 pub named : (i : InterruptType) (fifo : Bool) → Identifies (bit_or (identification (Some i)) (flag fifo ISR.FIFOS_ENABLED.0)) i
 named interrupts.ReceiverLineStatus true = (refl, refl)
+named _ true = (refl, refl)
 named interrupts.ReceiverLineStatus false = (refl, refl)
-named interrupts.ReceivedDataReady true = (refl, refl)
-named interrupts.ReceivedDataReady false = (refl, refl)
-named interrupts.ReceptionTimeout true = (refl, refl)
-named interrupts.ReceptionTimeout false = (refl, refl)
-named interrupts.TransmitterHoldingRegisterEmpty true = (refl, refl)
-named interrupts.TransmitterHoldingRegisterEmpty false = (refl, refl)
-named interrupts.ModemStatus true = (refl, refl)
-named interrupts.ModemStatus false = (refl, refl)
-named interrupts.DmaReceptionEndOfTransfer true = (refl, refl)
-named interrupts.DmaReceptionEndOfTransfer false = (refl, refl)
-named interrupts.DmaTransmissionEndOfTransfer true = (refl, refl)
-named interrupts.DmaTransmissionEndOfTransfer false = (refl, refl)
+named _ false = (refl, refl)
 
 -- so it never shows one without a name
 pub none_unknown : (isr : ℕ) (m n : MachineState) → IsOnlyIfAny (Identifies isr) None → has isr ISR.INTERRUPT_STATUS.0 ≡ false →

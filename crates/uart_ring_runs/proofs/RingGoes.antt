@@ -5,7 +5,7 @@ use lib.Bits.{or_zero_r}
 use Rattle.uart_spec.specs.Access.{saved_lsr, saved_msr}
 use Rattle.uart_spec.specs.declared.access.Access.{Access}
 use Rattle.uart_spec.specs.declared.errors.AttachError.{AttachError}
-use Rattle.uart_spec.specs.declared.errors.AttachError.TheVariants.{DivisorLatchOpen, Loopback, NoDivisor}
+use Rattle.uart_spec.specs.declared.errors.AttachError.TheVariants.{DivisorLatchOpen}
 use Rattle.uart_spec.specs.declared.errors.FifosOffError.{FifosOffError}
 use Rattle.uart_spec.specs.declared.registers.fifo_trigger_level.FifoTriggerLevel.{FifoTriggerLevel}
 use Rattle.uart_spec.specs.declared.registers.line_status.TheConstants.LSR
@@ -121,8 +121,7 @@ checks_attached : (result : Result (ℕ × ℕ) AttachError) (f after : Fields) 
 checks_attached (Ok latch) f after l d =
     ap (λ (g : Fields). checks_of g) d.2.second.1 ∙ ap (λ (g : Fields). checks_of g) d.2.first.1
 checks_attached (Err DivisorLatchOpen) f after l d = ap (λ (g : Fields). checks_of g) d.1
-checks_attached (Err Loopback) f after l d = ap (λ (g : Fields). checks_of g) d.1
-checks_attached (Err NoDivisor) f after l d = ap (λ (g : Fields). checks_of g) d.1
+checks_attached _ f after l d = ap (λ (g : Fields). checks_of g) d.1
 
 driver_checks : (W : Type 0) (s t : State) (c : Call) (a : Answer) → GoesOn W c → CallStep s c a t →
     checks_of (fields (inner_of t)) ≡ checks_of (fields (inner_of s))

@@ -1,6 +1,5 @@
 -- What each call of the rings themselves does in a session.
-use Rattle.std.proofs.Common.{◌≡◌, ◌≢◌, ℕ, List, [], ◌++◌, append-nil, take, refl, sym, ◌∙◌, ap}
-use Rattle.std.proofs.Common.{bit_and, bit_or}
+use Rattle.std.proofs.Common.{◌≡◌, ◌≢◌, ℕ, List, [], ◌++◌, append-nil, take, refl, sym, ◌∙◌, ap, bit_and, bit_or}
 use lib.Bits.{or_zero_r}
 use Rattle.uart_spec.specs.Access.{saved_lsr, saved_msr}
 use Rattle.uart_spec.specs.declared.access.Access.{Access}
@@ -11,17 +10,15 @@ use Rattle.uart_chip.specs.Machine.{MachineStep}
 use Rattle.uart_chip.proofs.conservation.Went.{Modes}
 use Rattle.uart_chip.proofs.conservation.Passed.{passed-mark}
 use Rattle.uart_chip.proofs.conservation.BlockLaws.{IsOpen, PassedBlocks}
-use Rattle.uart_ring.specs.Ring.{RingDoing, RingDid, RingFields, ring_fields}
-use Rattle.uart_ring.specs.Ring.{free, waiting}
+use Rattle.uart_ring.specs.Ring.{RingDoing, RingDid, RingFields, ring_fields, free, waiting}
 use Rattle.uart_ring.specs.Receive.{rts_at}
 use Rattle.uart_ring.specs.Lossless.{data_written, data_read, untold_line, untold_modem, LosesOnly, with_accepted, overtaken_by}
 use Rattle.uart_ring.specs.Lossless.{without_dropped}
-use Rattle.uart_ring.proofs.Losses.{queues_lose_nothing, takes_lose_nothing, services_lose_nothing}
-use Rattle.uart_ring.proofs.Losses.{resumes_lose_nothing, takes_line_loses_nothing, takes_modem_loses_nothing}
-use Rattle.uart_ring.proofs.Losses.{handles_lose_nothing, retriggers_lose_nothing, holds_lose_nothing, releases_lose_nothing}
-use Rattle.uart_ring.proofs.Losses.{queues_urgent_loses_only, clears_transmit_loses_only, clears_receive_loses_nothing}
-use Rattle.uart_ring.proofs.Losses.{sets_low_mark_loses_nothing, takes_low_loses_nothing, tries_lose_nothing, restarts_lose_nothing}
-use Rattle.uart_ring.proofs.Losses.{adjusts_lose_nothing}
+use Rattle.uart_ring.proofs.Losses.{queues_lose_nothing, takes_lose_nothing, services_lose_nothing, resumes_lose_nothing}
+use Rattle.uart_ring.proofs.Losses.{takes_line_loses_nothing, takes_modem_loses_nothing, handles_lose_nothing, retriggers_lose_nothing}
+use Rattle.uart_ring.proofs.Losses.{holds_lose_nothing, releases_lose_nothing, queues_urgent_loses_only, clears_transmit_loses_only}
+use Rattle.uart_ring.proofs.Losses.{clears_receive_loses_nothing, sets_low_mark_loses_nothing, takes_low_loses_nothing, tries_lose_nothing}
+use Rattle.uart_ring.proofs.Losses.{restarts_lose_nothing, adjusts_lose_nothing}
 use Rattle.uart_ring_runs.specs.declared.call.RingCall.{RingCall}
 use Rattle.uart_ring_runs.specs.declared.call.RingCall.TheVariants as call
 use Rattle.uart_ring_runs.specs.declared.call.RingAnswer.{RingAnswer}

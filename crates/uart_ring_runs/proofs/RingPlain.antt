@@ -10,12 +10,11 @@ use Rattle.uart_chip.specs.Chip.{cut_of}
 use Rattle.uart_chip.specs.Conserved.{out, waiting}
 use Rattle.uart_chip.specs.Machine.{MachineState}
 use Rattle.uart_run.specs.Chains.{NoneIs}
-use Rattle.uart_ring.specs.Ring.{RingDoing, RingFields, RingTimes, IfAny, AreEmpty, ring_fields, is_full}
-use Rattle.uart_ring.specs.Ring.{urgent_left, allowed, unless_held, sendable, with_queued, with_hold, without_taken}
+use Rattle.uart_ring.specs.Ring.{RingDoing, RingFields, RingTimes, IfAny, AreEmpty, ring_fields, is_full, urgent_left, allowed, unless_held}
+use Rattle.uart_ring.specs.Ring.{sendable, with_queued, with_hold, without_taken, free}
 use Rattle.uart_ring.specs.Ring as ring
 use Rattle.uart_ring.specs.Transmit.{Pumps, Queues, ResumesTransmit, Releases, SetsLowMark, TakesLow}
 use Rattle.uart_ring.specs.Receive.{PausesIfFull, FillsReceiveRing, EndsPause, TakesBytes, rts_at, MakesRtsIfAny, AdjustsRts}
-use Rattle.uart_ring.specs.Ring.{free}
 use Rattle.uart_ring.specs.declared.ring.receive.ReceiveMarks.{ReceiveMarks}
 use Rattle.uart_ring.specs.Service.{ServesInterrupt, ServesOne, Stops, ServesUpTo, Services}
 use Rattle.uart_ring.specs.Handle.{Retriggers, RetriggersUnlessIdle, Handles}
@@ -159,20 +158,16 @@ call_keeps s t (call.Handle limit) a plain h w =
 call_keeps s t call.Retrigger a plain h w = retriggers_keep (ring_fields s) h.did.list (ring_fields t) h.did.does w
 call_keeps s t call.TakeLine a plain h w = takes_line_keep h.outcome (ring_fields s) h.did.list (ring_fields t) h.did.does w
 call_keeps s t call.TakeModem a plain h w = takes_modem_keep h.outcome (ring_fields s) h.did.list (ring_fields t) h.did.does w
-call_keeps s t call.HoldTransmit a plain h w = absurd plain
 call_keeps s t call.ReleaseTransmit a plain h w = releases_keep (ring_fields s) h.did.list (ring_fields t) h.did.does w
-call_keeps s t (call.QueueUrgent byte) a plain h w = absurd plain
-call_keeps s t call.ClearTransmit a plain h w = absurd plain
-call_keeps s t call.ClearReceive a plain h w = absurd plain
 call_keeps s t (call.SetLowMark mark) a plain h w = sets_low_mark_keep mark (ring_fields s) h.did.list (ring_fields t) h.did.does w
 call_keeps s t call.TakeLow a plain h w = takes_low_keep h.outcome (ring_fields s) h.did.list (ring_fields t) h.did.does w
-call_keeps s t (call.TryHandle limit rounds) a plain h w = absurd plain
 call_keeps s t (call.Restart interrupts) a plain h w =
     restarts_keep interrupts.0 (ring_fields s) h.did.list (ring_fields t) h.did.does w
 call_keeps s t (call.AdjustRts marks) a plain h w =
     adjusts_keep marks (ring_fields s) h.did.list (ring_fields t) h.did.does w
 call_keeps s t (call.Driver c) a plain h w = as_before _ (ring_fields t) h.rings w
 call_keeps s t call.Next a plain h w = as_before (ring_fields s) (ring_fields t) h.rings w
+call_keeps s t _ a plain h w = absurd plain
 
 -- the rings are untold before each call, and after it
 abbrev AllUntold : List RingLink → Type 0

@@ -20,8 +20,7 @@ use Rattle.uart_ring_runs.specs.declared.call.RingCall.{RingCall}
 use Rattle.uart_ring_runs.specs.declared.call.RingAnswer.{RingAnswer}
 use Rattle.uart_ring_runs.specs.RingRun.{RingState, under, ring_machine, RingCallStep, RingLink, RingChain}
 use Rattle.uart_ring_runs.specs.RingBytes.{to_send, to_take, queued, gone, to_send_with, AllKeepOrder, AllTakeInTurn}
-use Rattle.uart_ring_runs.specs.RingSession.{ConservesBytesUncut, RingConserves, RanRing, AllSendInLine}
-use Rattle.uart_ring_runs.specs.RingSession.{AllWithinRingSession}
+use Rattle.uart_ring_runs.specs.RingSession.{ConservesBytesUncut, RingConserves, RanRing, AllSendInLine, AllWithinRingSession}
 use Rattle.uart_ring_runs.proofs.RingLasts.{first_within, ring_lasts_chain, wired_chain}
 use Rattle.uart_ring_runs.proofs.RingPasses.{InLine}
 use Rattle.uart_ring_runs.proofs.RingGoes.{RingGoes, ring_goes_call, ring_goes_chain, in_session-gone, gone_taken}

@@ -1,10 +1,9 @@
 -- What serving one interrupt does to what is left to be shown, if no byte moves.
-use Rattle.std.proofs.Common.{◌≡◌, ◌⊎◌, ℕ, ◌+◌, ◌≤◌, ◌<◌, ◌==◌, ◌||◌, ◌&&◌, Bool, true, false, not, nat_lt, nat_le, MatchBool, List}
-use Rattle.std.proofs.Common.{[], ◌∷◌, ◌++◌, length}
-use Rattle.std.proofs.Common.{append_assoc, Option, Some, None, inl, inr, refl, sym, ◌∙◌, ap, subst, arith, bit_and, bit_or}
-use Rattle.std.proofs.Common.{if◌then◌else◌}
-use Rattle.std.proofs.lemmas.Bool.{false≢true}
-use Rattle.std.specs.List.{AllByRecursion}
+use Rattle.std.proofs.Common.{◌≡◌, ◌⊎◌, ℕ, ◌+◌, ◌≤◌, ◌<◌, ◌==◌, ◌||◌, ◌&&◌, Bool, true, false, not, nat_lt, nat_le, MatchBool, List, []}
+use Rattle.std.proofs.Common.{◌∷◌, ◌++◌, length, append_assoc, Option, Some, None, inl, inr, refl, sym, ◌∙◌, ap, subst, arith, bit_and}
+use Rattle.std.proofs.Common.{bit_or, if◌then◌else◌}
+use Rattle.std.proofs.lemmas.Bool.{and_parts, false≢true}
+use Rattle.std.specs.List.{AllByRecursion, list_any}
 use Rattle.std.proofs.lemmas.Bool.Decides.{nat_tests}
 use Rattle.bitflags.specs.Sets.{without}
 use Rattle.uart_spec.specs.Access.{Path}
@@ -14,7 +13,7 @@ use Rattle.uart_spec.specs.declared.access.Access.{Access}
 use Rattle.uart_spec.specs.declared.access.Access.TheVariants.{Read, Write}
 use Rattle.uart_spec.specs.declared.errors.ByteSendError.TheVariants.{NoCapacity, RemoteNotClearToSend}
 use Rattle.uart_spec.specs.declared.registers.fifo_trigger_level.FifoTriggerLevel.{FifoTriggerLevel}
-use Rattle.uart_spec.specs.declared.registers.fifo_trigger_level.FifoTriggerLevel.TheVariants.{One, Four, Eight, Fourteen}
+use Rattle.uart_spec.specs.declared.registers.fifo_trigger_level.FifoTriggerLevel.TheVariants.{One}
 use Rattle.uart_spec.specs.declared.registers.interrupt_enable.TheConstants.IER
 use Rattle.uart_spec.specs.declared.registers.interrupt_status.TheConstants.ISR
 use Rattle.uart_spec.specs.declared.registers.interrupt_type.InterruptType.{InterruptType}
@@ -28,18 +27,15 @@ use Rattle.uart_chip.specs.declared.receiver.Character.{Character}
 use Rattle.uart_chip.specs.Masks.{ier_bits}
 use Rattle.uart_chip.specs.Receiver.{ReceiverState, report, front_errors, has_errors, unreported, is_data_pending, is_timed_out}
 use Rattle.uart_chip.specs.Receiver.{characters_of}
-use Rattle.std.specs.List.{list_any}
 use Rattle.uart_chip.specs.Chip.{ChipState, LatchesState, interrupt, identification, is_thr_empty, after_read, enable, is_dlab_set}
-use Rattle.uart_chip.specs.Chip.{is_loopback}
-use Rattle.uart_chip.specs.Chip.{line_status, is_transmitter_empty}
+use Rattle.uart_chip.specs.Chip.{is_loopback, line_status, is_transmitter_empty}
 use Rattle.uart_chip.specs.Machine.{MachineState, MachineStep, at_access}
 use Rattle.uart_chip.proofs.AccessMoves.{ReadMove, read_move}
 use Rattle.uart_chip.proofs.AccessMoves as move
 use Rattle.uart_chip.proofs.Bits.{has_and, has_not, has_one, has_or}
 use Rattle.uart_chip.proofs.conservation.BlockLaws.{path_as, look_data}
 use Rattle.uart_ring_runs.specs.Healthy.{news}
-use Rattle.uart_ring_runs.proofs.Pending.{Drifts, one_if, line_left, sent_left, data_left, modem_left, left, waited}
-use Rattle.uart_ring_runs.proofs.Pending.{news-append}
+use Rattle.uart_ring_runs.proofs.Pending.{Drifts, one_if, line_left, sent_left, data_left, modem_left, left, waited, news-append}
 use Rattle.uart_ring_runs.proofs.RingEdges.{named}
 
 -- ---- an access
@@ -279,11 +275,6 @@ TellsOf c i =
 pub told_by : (c : ChipState) (i : InterruptType) → interrupt c ≡ Some i → TellsOf c i
 told_by c i e = tells _ _ _ _ _ i e
 
-pub both_true : (a b : Bool) → (a && b) ≡ true → (a ≡ true) × (b ≡ true)
-both_true true true e = (refl, refl)
-both_true true false e = absurd (false≢true e)
-both_true false b e = absurd (false≢true e)
-
 -- ---- one interrupt
 
 -- without an overrun and without an error in front LSR shows none, whatever else it shows
@@ -350,7 +341,7 @@ pub line_served : (m o n : MachineState) (isr status : ℕ) → IsOpenAt m → i
     MachineStep m (Read offsets.ISR isr) o → Path MachineStep o (Read offsets.LSR status ∷ []) n → Leaves m n 1
 line_served m o n isr status open_at is s p =
     let c = (at_access m).chip in
-    let told = both_true (has_any c.latches.ier IER.RECEIVER_LINE_STATUS.0) (has_any (line_status c) LSR.LINE_ERRORS.0)
+    let told = and_parts (has_any c.latches.ier IER.RECEIVER_LINE_STATUS.0) (has_any (line_status c) LSR.LINE_ERRORS.0)
     (told_by c interrupts.ReceiverLineStatus is) in
     let chip = kept_isr m o isr (not_thr c interrupts.ReceiverLineStatus is refl) s in
     let one : line_left o.chip.receiver ≡ 1 = ap (λ (k : ChipState). line_left k.receiver) chip ∙ line_counts c told.1 in
@@ -367,7 +358,7 @@ pub modem_served : (m o n : MachineState) (isr status : ℕ) → IsOpenAt m → 
     MachineStep m (Read offsets.ISR isr) o → Path MachineStep o (Read offsets.MSR status ∷ []) n → Leaves m n 1
 modem_served m o n isr status open_at is s p =
     let c = (at_access m).chip in
-    let told = both_true (has_any c.latches.ier IER.MODEM_STATUS.0) (not (c.modem.deltas == 0))
+    let told = and_parts (has_any c.latches.ier IER.MODEM_STATUS.0) (not (c.modem.deltas == 0))
     (told_by c interrupts.ModemStatus is) in
     let chip = kept_isr m o isr (not_thr c interrupts.ModemStatus is refl) s in
     let one : modem_left o.chip ≡ 1 = ap modem_left chip ∙ ap one_if told.1 in
@@ -386,7 +377,7 @@ pub thr_served : (m o : MachineState) (isr : ℕ) → IsOpenAt m →
     interrupt (at_access m).chip ≡ Some interrupts.TransmitterHoldingRegisterEmpty → MachineStep m (Read offsets.ISR isr) o → ThrServed m o
 thr_served m o isr open_at is s =
     let c = (at_access m).chip in
-    let told = both_true _ _ (told_by c interrupts.TransmitterHoldingRegisterEmpty is) in
+    let told = and_parts _ _ (told_by c interrupts.TransmitterHoldingRegisterEmpty is) in
     let acknowledged : after_read offsets.ISR c ≡ record c { transmitter = record c.transmitter { is_thr_pending = false } } =
     let thr : is_thr_empty (interrupt c) ≡ true = ap is_thr_empty is in rw thr refl in
     let at_end : left (after_read offsets.ISR c) ≡
@@ -437,16 +428,14 @@ waits_shown c (inl pending) = go c.fifo pending
   where
     some : (level : FifoTriggerLevel) → nat_le (characters_of level) (length c.receiver.queue) ≡ true → 0 < length c.receiver.queue
     some One e = grind (arith, nat_tests)
-    some Four e = grind (arith, nat_tests)
-    some Eight e = grind (arith, nat_tests)
-    some Fourteen e = grind (arith, nat_tests)
+    some _ e = grind (arith, nat_tests)
 
     go : (fifo : Bool) → is_data_pending fifo c.receiver ≡ true → 0 < length c.receiver.queue
     go true e = some c.receiver.trigger e
     go false e = grind (arith, nat_tests)
 waits_shown c (inr out) =
-    let some = both_true c.fifo (nat_lt 0 (length c.receiver.queue) && (c.receiver.timeout_ticks == c.receiver.timeout_limit)) out in
-    let long = both_true (nat_lt 0 (length c.receiver.queue)) (c.receiver.timeout_ticks == c.receiver.timeout_limit) some.1 in
+    let some = and_parts c.fifo (nat_lt 0 (length c.receiver.queue) && (c.receiver.timeout_ticks == c.receiver.timeout_limit)) out in
+    let long = and_parts (nat_lt 0 (length c.receiver.queue)) (c.receiver.timeout_ticks == c.receiver.timeout_limit) some.1 in
     let more = long.0 in grind (arith, nat_tests)
 
 -- so a look shows data: not that there is none

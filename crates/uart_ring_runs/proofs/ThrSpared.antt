@@ -25,8 +25,7 @@ use Rattle.uart_16550.specs.Io.{Reads, Writes, Flushes, AnswersRead, AnswersWrit
 use Rattle.uart_16550.specs.Receive.{Hit, Miss, Awaited, ReadyToReceive, TryReceive, Receives, HitWithErrors, ReceivesWithErrors}
 use Rattle.uart_16550.specs.Receive.{ReceivesSome, ReceivesExact}
 use Rattle.uart_16550.specs.Status.{Connects, ReadsDivisor}
-use Rattle.uart_16550.specs.Transmit.{LinesAllow, SendHit, SendRefused, SendMiss, ReadyToSend, data_writes, Burst, Sends, Round}
-use Rattle.uart_16550.specs.Transmit.{SendsSome}
+use Rattle.uart_16550.specs.Transmit.{LinesAllow, SendHit, SendRefused, SendMiss, ReadyToSend, data_writes, Burst, Sends, Round, SendsSome}
 use Rattle.uart_16550.specs.Transmit.{SendsExact, TrySends, WaitsFor}
 use Rattle.uart_calls.specs.Meaning.{SendsShortText}
 use Rattle.uart_chip.specs.Chip.{ChipState, cut_of}

@@ -1,12 +1,10 @@
 -- A round in which no byte moves: each interrupt that it serves was left to be shown at its start, or was brought by the schedule.
 use Rattle.std.proofs.Common.{◌≡◌, ◌≢◌, ◌⊎◌, ℕ, ◌+◌, ◌≤◌, ◌<◌, ◌==◌, ◌-◌, ◌||◌, ◌&&◌, zero, suc, Bool, true, false, not, MatchBool, List}
-use Rattle.std.proofs.Common.{[], ◌∷◌}
-use Rattle.std.proofs.Common.{◌++◌, length, length-append, length-take, append_assoc, append-nil, Option, Some, None, inl, inr, refl, sym}
-use Rattle.std.proofs.Common.{◌∙◌, ap, subst, arith}
-use Rattle.std.proofs.Common.{take, drop, min, Result, Ok, Err}
-use Rattle.std.proofs.lemmas.Bool.{false≢true}
+use Rattle.std.proofs.Common.{[], ◌∷◌, ◌++◌, length, length-append, length-take, append_assoc, append-nil, Option, Some, None, inl, inr}
+use Rattle.std.proofs.Common.{refl, sym, ◌∙◌, ap, subst, arith, take, drop, min, Result, Ok, Err}
+use Rattle.std.proofs.lemmas.Bool.{and_parts, false≢true}
 use Rattle.std.proofs.lemmas.Bool.Decides.{nat_tests}
-use Rattle.std.proofs.lemmas.List.{length-drop}
+use Rattle.std.proofs.lemmas.List.{length-drop, nil_from_length}
 use Rattle.std.proofs.Math.Seq.{take-append_seam}
 use Rattle.std.specs.Option.{is_some}
 use Rattle.std.specs.Prelude.{MatchOption, option_to_list}
@@ -20,8 +18,7 @@ use Rattle.uart_spec.specs.declared.registers.interrupt_type.InterruptType.{Inte
 use Rattle.uart_spec.specs.declared.registers.interrupt_type.InterruptType.TheVariants as interrupts
 use Rattle.uart_spec.specs.declared.registers.offsets.TheConstants as offsets
 use Rattle.uart_events.specs.declared.event.Event.{Event}
-use Rattle.uart_events.specs.declared.event.Event.TheVariants.{Mark}
-use Rattle.uart_events.specs.declared.event.Event.TheVariants.{Access as Gate}
+use Rattle.uart_events.specs.declared.event.Event.TheVariants.{Mark, Access as Gate}
 use Rattle.uart_16550.specs.Grammar.{Settings}
 use Rattle.uart_16550.specs.Driver.{Fields, settings_of}
 use Rattle.uart_16550.specs.Receive.{Receives}
@@ -32,16 +29,13 @@ use Rattle.uart_chip.specs.Machine.{MachineState, MachineStep, at_access, after_
 use Rattle.uart_chip.proofs.conservation.BlockLaws.{path_as, path_split}
 use Rattle.uart_run.specs.Ready.{Ready}
 use Rattle.uart_ring.specs.Queue.{Queue}
-use Rattle.uart_ring.specs.Ring.{RingFields, RingDid, OnDriver, RingTimes, ring_fields, free, is_full}
-use Rattle.uart_ring.specs.Ring.{with_driver}
-use Rattle.uart_ring.specs.Ring.{sendable, allowed, without_sent, with_received, with_paused}
+use Rattle.uart_ring.specs.Ring.{RingFields, RingDid, OnDriver, RingTimes, ring_fields, free, is_full, with_driver, sendable, allowed}
+use Rattle.uart_ring.specs.Ring.{without_sent, with_received, with_paused, Stays, urgent_left}
 use Rattle.uart_ring.specs.Transmit.{ArmsIfLeft, Pumps}
 use Rattle.uart_ring.specs.Receive.{PausesIfFull, FillsReceiveRing}
-use Rattle.uart_ring.specs.Service.{ServesInterrupt, ServesOne, Stops}
+use Rattle.uart_ring.specs.Service.{ServesInterrupt, ServesOne, Stops, IsWithin}
 use Rattle.uart_ring.specs.Handle.{Handles, RetriggersUnlessIdle}
-use Rattle.uart_ring.specs.Storm.{has_moved, counts_as, CountsRound, HandlesRound}
-use Rattle.uart_ring.specs.Storm.{StaysStuck}
-use Rattle.uart_ring.specs.Storm.{TriesToHandle, unless_stuck}
+use Rattle.uart_ring.specs.Storm.{has_moved, counts_as, CountsRound, HandlesRound, StaysStuck, TriesToHandle, unless_stuck}
 use Rattle.uart_ring.specs.declared.ring.service.HandleEnd.{HandleEnd}
 use Rattle.uart_ring.specs.declared.ring.service.HandleEnd.TheVariants.{Idle, Unknown, Limit}
 use Rattle.uart_ring.specs.declared.ring.service.Handled.{Handled}
@@ -50,18 +44,13 @@ use Rattle.uart_ring_runs.specs.RingRun.{RingState, under, ring_machine}
 use Rattle.uart_ring_runs.specs.Healthy.{news, news_between, most_without_news, IsInRoom}
 use Rattle.uart_ring_runs.proofs.Pending.{left_most, news-append}
 use Rattle.uart_ring_runs.proofs.RingEdges.{none_unknown}
-use Rattle.uart_ring_runs.proofs.Served.{IsOpenAt, Leaves, leaves-trans, leaves-none, looks_left, shown, told_by, both_true}
-use Rattle.uart_ring_runs.proofs.Served.{line_served}
-use Rattle.uart_ring_runs.proofs.Served.{modem_served, thr_served, unsent_looks, data_shown, data_served, armed_left}
-use Rattle.uart_ring_runs.proofs.Served.{disarmed_left}
-use Rattle.uart_ring_runs.proofs.Served.{not_thr, AllLooks}
+use Rattle.uart_ring_runs.proofs.Served.{IsOpenAt, Leaves, leaves-trans, leaves-none, looks_left, shown, told_by, line_served, modem_served}
+use Rattle.uart_ring_runs.proofs.Served.{thr_served, unsent_looks, data_shown, data_served, armed_left, disarmed_left, not_thr, AllLooks}
 use Rattle.uart_ring.proofs.Storms.{handles_keep}
-use Rattle.uart_ring.specs.Ring.{Stays, urgent_left}
 use Rattle.uart_16550.specs.Status.{Disables}
 use Rattle.uart_chip.specs.Receiver.{is_data_pending, is_timed_out}
 use Rattle.bitflags.specs.Sets.{without}
 use Rattle.uart_run.proofs.Latches.{Kept, kept_step}
-use Rattle.uart_ring.specs.Service.{IsWithin}
 
 -- ---- what moved
 
@@ -226,10 +215,6 @@ fills_moves f l after (bytes, t) =
     (moves_as f g t.mid t.first.1 (moves_with f (with_received bytes f) t.mid.driver (received_moves bytes f)))
     (pauses_moves (is_full t.mid.receive) t.mid t.back after t.second)
 
-none_long : (xs : List ℕ) → length xs ≡ 0 → xs ≡ []
-none_long [] e = refl
-none_long (x ∷ xs) e = absurd (omega (arith, e))
-
 -- data has been shown
 record DataShown (m o : MachineState) (isr : ℕ) : Type 0 where
   pub open_at : IsOpenAt m
@@ -260,7 +245,7 @@ fills_left f after l m o n isr d (bytes, t) still room path =
     let size : length t.mid.receive.items ≡ length (f.receive.items ++ bytes) = ap (λ (k : RingFields). length k.receive.items) mid in
     let few : length bytes ≡ 0 =
     omega (arith, later.receive, size, length-append f.receive.items bytes, still.receive) in
-    let none = none_long bytes few in
+    let none = nil_from_length bytes few in
     let p = path_split MachineStep o n t.front t.back (subst (λ k. Path MachineStep o k n) t.whole path) in
     by (rw none at t.first.0.0) mid none p.0 p.1 p.2
   where
@@ -310,12 +295,12 @@ interrupt_left : (i : InterruptType) (f after : RingFields) (l : List Access) (m
 interrupt_left interrupts.ReceiverLineStatus f after l m o n isr a (status, ((line, is, told, emptied), same)) still room e s path =
     line_served m o n isr line a e s (path_as o n l (Read offsets.LSR line ∷ []) is path)
 interrupt_left interrupts.ReceivedDataReady f after l m o n isr a t still room e s path =
-    let told = both_true _ _ (told_by (at_access m).chip interrupts.ReceivedDataReady e) in
+    let told = and_parts _ _ (told_by (at_access m).chip interrupts.ReceivedDataReady e) in
     let other = not_thr (at_access m).chip interrupts.ReceivedDataReady e refl in
     fills_left f after l m o n isr
     (record { open_at = a; enabled = told.0; readable = inl told.1; other = other; step = s }) t still room path
 interrupt_left interrupts.ReceptionTimeout f after l m o n isr a t still room e s path =
-    let told = both_true _ _ (told_by (at_access m).chip interrupts.ReceptionTimeout e) in
+    let told = and_parts _ _ (told_by (at_access m).chip interrupts.ReceptionTimeout e) in
     let other = not_thr (at_access m).chip interrupts.ReceptionTimeout e refl in
     fills_left f after l m o n isr
     (record { open_at = a; enabled = told.0; readable = inr told.1; other = other; step = s }) t still room path

@@ -3,7 +3,7 @@ use Rattle.std.proofs.Common.{◌≡◌, ℕ, zero, suc, ◌+◌, ◌≤◌, Boo
 use Rattle.std.proofs.Common.{take, drop, append_assoc, append-nil, refl, arith, sym, ◌∙◌, ap, Result, Ok, Err, Some, None, MatchBool}
 use Rattle.std.specs.List.{concat}
 use Rattle.std.proofs.Math.Seq.{take-append_seam}
-use Rattle.std.proofs.lemmas.List.{length-take, take-append-drop}
+use Rattle.std.proofs.lemmas.List.{length-take, nil_from_length, take-append-drop}
 use Rattle.uart_spec.specs.declared.errors.ByteSendError.{ByteSendError}
 use Rattle.uart_spec.specs.declared.errors.ByteSendError.TheVariants.{NoCapacity, RemoteNotClearToSend}
 use Rattle.uart_spec.specs.declared.errors.StalledError.{StalledError}
@@ -307,15 +307,11 @@ pub awaited_blocks : (s : Settings) (byte : ℕ) → Makes s (Awaited byte) [] (
 awaited_blocks s byte l t =
     makes_then s (FewMisses Miss) (Hit byte) [] [] [] (byte ∷ []) (makes_few s Miss (miss_blocks s)) (hit_blocks s byte) l t
 
-pub no_bytes : (bytes : List ℕ) → length bytes ≡ 0 → bytes ≡ []
-no_bytes [] e = refl
-no_bytes (byte ∷ bytes) e = absurd (omega arith)
-
 -- `read`
 pub receives_some_blocks : (s : Settings) (n : ℕ) (bytes : List ℕ) (came : Bool) → Makes s (ReceivesSome n bytes came) [] bytes
 receives_some_blocks s n bytes true l t =
     makes_then s (FewMisses Miss) (Receives n bytes) [] [] [] bytes (makes_few s Miss (miss_blocks s)) (receives_blocks s n bytes) l t.1
-receives_some_blocks s n bytes false l t = rw (no_bytes bytes t.0) (makes_all s Miss (miss_blocks s) l t.1)
+receives_some_blocks s n bytes false l t = rw (nil_from_length bytes t.0) (makes_all s Miss (miss_blocks s) l t.1)
 
 -- `receive_bytes_exact`
 pub receives_exact_blocks : {T : Type 0} (s : Settings) (n : ℕ) (bytes : List ℕ) (result : Result T StalledError) →

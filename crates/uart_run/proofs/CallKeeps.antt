@@ -1,6 +1,7 @@
 -- What a call of a session does beside its bytes: its accesses are blocks, and what it read is saved.
 use Rattle.std.proofs.Common.{◌≡◌, ℕ, ◌≤◌, Bool, true, false, inl, inr, List, [], ◌∷◌, ◌++◌, take}
 use Rattle.std.proofs.Common.{append-nil, refl, arith, sym, ◌∙◌, ap, Result, Ok, Err, bit_or}
+use Rattle.std.proofs.lemmas.List.{nil_from_length}
 use lib.Bits.{or_zero_r}
 use Rattle.uart_spec.specs.declared.errors.RemoteReadyToReceiveError.{RemoteReadyToReceiveError}
 use Rattle.uart_spec.specs.declared.errors.StalledError.{StalledError}
@@ -20,7 +21,7 @@ use Rattle.uart_spec.specs.declared.dump.ConfigRegisterDump.{ConfigRegisterDump}
 use Rattle.uart_calls.specs.Meaning.{ShowsFifo}
 use Rattle.uart_chip.specs.Transmitter.{room}
 use Rattle.uart_chip.proofs.conservation.Blocks.{is_quiet, Look, Other, Divisor, AllQuiet}
-use Rattle.uart_run.proofs.CallBlocks.{no_bytes, InBlocks, blocks_none, blocks_one, blocks_then, Makes, makes_only_none}
+use Rattle.uart_run.proofs.CallBlocks.{InBlocks, blocks_none, blocks_one, blocks_then, Makes, makes_only_none}
 use Rattle.uart_run.proofs.CallBlocks.{makes_then, makes_all, makes_look, send_hit_blocks, send_miss_blocks, round_blocks}
 use Rattle.uart_run.proofs.CallBlocks.{sends_some_blocks, sends_some_none_blocks, waits_blocks, receives_some_blocks}
 
@@ -77,7 +78,7 @@ checks_presence_blocks s present l (old, t) =
 
 -- `read`
 pub reads_blocks : (s : Settings) (n : ℕ) (bytes : List ℕ) (result : Result ℕ StalledError) → Makes s (Reads n bytes result) [] bytes
-reads_blocks s n bytes (Ok count) l (same, inl (none, zero, is)) = rw (no_bytes bytes (same ∙ zero), is) (blocks_none s.fifo)
+reads_blocks s n bytes (Ok count) l (same, inl (none, zero, is)) = rw (nil_from_length bytes (same ∙ zero), is) (blocks_none s.fifo)
 reads_blocks s n bytes (Ok count) l (same, inr (some, t)) = receives_some_blocks s n bytes true l t
 reads_blocks s n bytes (Err e) l (some, none, t) = receives_some_blocks s n bytes false l t
 

@@ -2,6 +2,7 @@
 use Rattle.std.proofs.Common.{◌≡◌, ◌≢◌, ℕ, ◌≤◌, ◌*◌, Bool, List, [], ◌∷◌, ◌++◌, Result, Ok, Err, refl}
 use Rattle.std.proofs.Common.{sym, ◌∙◌, ap, subst, take, length, arith, length-append, bit_or}
 use Rattle.std.proofs.lemmas.Grind.{common_steps}
+use Rattle.std.proofs.lemmas.List.{nil_from_length}
 use lib.Bits.{or_zero_r}
 use Rattle.uart_spec.specs.declared.errors.ByteSendError.{ByteSendError}
 use Rattle.uart_spec.specs.declared.errors.ByteReceiveError.{ByteReceiveError}
@@ -9,7 +10,7 @@ use Rattle.uart_spec.specs.declared.errors.ConfigurationError.{ConfigurationErro
 use Rattle.uart_spec.specs.declared.errors.FifosOffError.{FifosOffError}
 use Rattle.uart_spec.specs.declared.errors.StalledError.{StalledError}
 use Rattle.uart_spec.specs.declared.registers.fifo_trigger_level.FifoTriggerLevel.{FifoTriggerLevel}
-use Rattle.uart_spec.specs.declared.registers.fifo_trigger_level.FifoTriggerLevel.TheVariants.{One, Four, Eight, Fourteen}
+use Rattle.uart_spec.specs.declared.registers.fifo_trigger_level.FifoTriggerLevel.TheVariants.{One}
 use Rattle.uart_spec.specs.declared.registers.offsets.TheConstants as offsets
 use Rattle.uart_spec.specs.declared.registers.line_status.TheConstants.LSR
 use Rattle.uart_spec.specs.Access.{Path, saved, saved_lsr, saved_msr}
@@ -39,7 +40,7 @@ use Rattle.uart_chip.proofs.conservation.Effects.{IsLevel}
 use Rattle.uart_chip.proofs.conservation.Went.{Modes, saved-append}
 use Rattle.uart_chip.proofs.conservation.Passed.{passed-refl, passed-mark}
 use Rattle.uart_chip.proofs.conservation.BlockLaws.{IsOpen, Stands, PassedBlocks, nothing_taken, path_as, passed_level}
-use Rattle.uart_run.proofs.CallBlocks.{no_bytes, InBlocks, Makes, makes_look, passed_in_blocks, ready_to_send_blocks}
+use Rattle.uart_run.proofs.CallBlocks.{InBlocks, Makes, makes_look, passed_in_blocks, ready_to_send_blocks}
 use Rattle.uart_run.proofs.CallBlocks.{ready_to_receive_blocks, sends_blocks, sends_exact_blocks, try_sends_blocks}
 use Rattle.uart_run.proofs.CallBlocks.{try_receive_blocks, receives_blocks, receives_exact_blocks, receives_with_blocks}
 use Rattle.uart_run.proofs.CallKeeps.{plain_blocks, connects_blocks, reads_divisor_blocks, retriggers_blocks, checks_presence_blocks}
@@ -135,7 +136,7 @@ receives_exact_told slots s (bytes, Err e) l t = receives_exact_blocks {T = Unit
 reads_told : (slots : ℕ) (s : Settings) (got : List ℕ × Result ℕ StalledError) →
     Makes s (Reads slots got.0 got.1) [] (bytes_of (read_answer got))
 reads_told slots s (bytes, Ok count) l t = reads_blocks s slots bytes (Ok count) l t
-reads_told slots s (bytes, Err e) l t = let made = reads_blocks s slots bytes (Err e) l t in rw (no_bytes bytes t.2.0) at made
+reads_told slots s (bytes, Err e) l t = let made = reads_blocks s slots bytes (Err e) l t in rw (nil_from_length bytes t.2.0) at made
 
 -- an expansion is at most three times as long
 length-expansion : (text : List ℕ) → length (expansion text) ≤ 3 * length text
@@ -173,9 +174,7 @@ passes_none x N M s w =
 
 pub level_bits_keep : (level : FifoTriggerLevel) → IsLevel (level_bits level)
 level_bits_keep One = record { on = refl; keeps_received = refl; keeps_queued = refl }
-level_bits_keep Four = record { on = refl; keeps_received = refl; keeps_queued = refl }
-level_bits_keep Eight = record { on = refl; keeps_received = refl; keeps_queued = refl }
-level_bits_keep Fourteen = record { on = refl; keeps_received = refl; keeps_queued = refl }
+level_bits_keep _ = record { on = refl; keeps_received = refl; keeps_queued = refl }
 
 passes_level : (x : Modes) (N M : Type 0) (s t : State) (level : FifoTriggerLevel) (result : Result (Unit {0}) FifosOffError)
     (l : List Access) → InSession x s → SetsTrigger level result (fields (inner_of s)) l (fields (inner_of t)) →
@@ -239,20 +238,8 @@ pub passes_call : (x : Modes) (s t : State) (c : Call) (a : Answer) → InSessio
 passes_call x s t call.Next a w i h =
     let p = passed-mark x (machine_of s) w.open_modes.loopback w.stands.sound w.stands.modes in
     passes_quietly x _ _ s t (record { takes = []; bytes = refl; passed = rw h.machine p }) h.driver
-passes_call x s t (call.Init config) a w i h = absurd i
-passes_call x s t (call.InitWith config setup) a w i h = absurd i
-passes_call x s t (call.SetFrame config) a w i h = absurd i
-passes_call x s t (call.SetFrameWhenIdle config) a w i h = absurd i
 passes_call x s t (call.SetTriggerLevel level) a w i h = passes_level x _ _ s t level h.outcome h.did.list w h.did.does h.did.path
-passes_call x s t call.Attach a w i h = absurd i
-passes_call x s t (call.SetBreak on) a w i h = absurd i
-passes_call x s t (call.SetModemControl outputs) a w i h = absurd i
-passes_call x s t (call.SetRts on) a w i h = absurd i
-passes_call x s t (call.SetDtr on) a w i h = absurd i
-passes_call x s t (call.Quiesce outputs fifos) a w i h = absurd i
-passes_call x s t (call.Restore dump) a w i h = absurd i
 passes_call x s t (call.CheckConfigured outputs) a w i h = passes_checked x _ _ s t outputs.0 h.outcome h.did.list w h.did.does h.did.path
-passes_call x s t call.TestLoopback a w i h = absurd i
 passes_call x s t call.CheckPresent a w i h = passes_silent x _ _ _ Flag s t a w (λ v r. checks_presence_blocks v r) h
 passes_call x s t call.CheckConnected a w i h = passes_silent x _ _ _ connected_answer s t a w (λ v r. connects_blocks v r) h
 passes_call x s t call.ReadyToReceive a w i h = passes_silent x _ _ _ receive_ready_answer s t a w (λ v r. ready_to_receive_blocks v r) h
@@ -307,3 +294,4 @@ passes_call x s t (call.Write bytes) a w i h =
     passes_called x _ _ _ count_answer (λ a. take (count_of a) bytes.items) (λ _. []) s t a w (λ v r. writes_told bytes.items v r) h
 passes_call x s t (call.Text text) a w i h =
     passes_called x _ _ _ exact_answer (sent_of (expansion text.bytes)) (λ _. []) s t a w (λ v r. sends_text_told text.bytes v r) h
+passes_call x s t _ a w i h = absurd i

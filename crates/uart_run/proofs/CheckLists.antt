@@ -1,8 +1,7 @@
 -- `check_configured` in a session: what it reads and writes moves no data, and leaves the modes as they are.
 use Rattle.std.proofs.Common.{◌≡◌, ℕ, ◌+◌, ◌*◌, true, false, inl, inr, List, [], ◌∷◌, ◌++◌, append_assoc, append-nil, refl, sym, ◌∙◌, ap}
-use Rattle.std.proofs.Common.{subst, bit_or, Ok, Err}
+use Rattle.std.proofs.Common.{subst, bit_or, Ok, Err, arith}
 use Rattle.std.proofs.lemmas.Grind.{common_steps}
-use Rattle.std.proofs.Common.{arith}
 use Rattle.uart_spec.specs.Access.{Path}
 use Rattle.uart_spec.specs.declared.access.Access.{Access}
 use Rattle.uart_spec.specs.declared.access.Access.TheVariants.{Read, Write}

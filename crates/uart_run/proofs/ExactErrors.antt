@@ -1,6 +1,5 @@
 -- That received bytes have exactly the errors that they arrived with.
-use Rattle.std.proofs.Common.{◌≡◌, ◌⊎◌, ◌<◌, ◌+◌, ℕ, Bool, true, false, inl, inr, List, [], ◌∷◌, ◌++◌, length, nat_lt, refl, arith}
-use Rattle.std.proofs.Common.{sym}
+use Rattle.std.proofs.Common.{◌≡◌, ◌⊎◌, ◌<◌, ◌+◌, ℕ, Bool, true, false, inl, inr, List, [], ◌∷◌, ◌++◌, length, nat_lt, refl, arith, sym}
 use Rattle.std.proofs.Common.{◌∙◌, ap, subst, append-nil, append_assoc, Option, None, bit_and, bit_or, if◌then◌else◌, ◌==◌, ◌&&◌}
 use Rattle.std.specs.List.{list_any}
 use Rattle.std.proofs.lemmas.Grind.{common_steps}
@@ -32,8 +31,7 @@ use Rattle.uart_chip.proofs.statuses.Reports.{Told, FrontTold}
 use Rattle.uart_chip.proofs.conservation.Went.{Modes, dlab-in, loopback-in}
 use Rattle.uart_chip.proofs.conservation.Passed.{Passed, passed-refl, passed-trans, passed-access}
 use Rattle.uart_chip.proofs.conservation.BlockLaws.{IsOpen, Stands, stands-after, path_as, path_split, passed-look, look_data}
-use Rattle.uart_chip.proofs.conservation.BlockLaws.{look_reported}
-use Rattle.uart_chip.proofs.conservation.BlockLaws.{Took, took}
+use Rattle.uart_chip.proofs.conservation.BlockLaws.{look_reported, Took, took}
 use Rattle.uart_chip.proofs.conservation.SessionLaws.{taken_entered}
 use Rattle.uart_run.specs.Ready.{Ready}
 use Rattle.uart_run.specs.Overruns.{IsLost, FlagTells, LeavesReceiver, OverrunsTell, OverrunsStand}

@@ -1,12 +1,12 @@
 -- What a call does in a session that may change its modes: a `set_frame` writes LCR, a `set_modem_control` MCR.
 use Rattle.std.proofs.Common.{◌≡◌, ◌≢◌, ℕ, Bool, true, false, List, [], ◌∷◌, ◌++◌, ◌%◌, ◌/◌, map, refl, sym, ◌∙◌, ap, subst, bit_or, arith}
-use Rattle.std.proofs.Common.{append-nil}
-use Rattle.std.proofs.Common.{Result, Ok, Err, ◌<◌, ◌+◌, ◌*◌, ◌||◌, bit_and}
+use Rattle.std.proofs.Common.{append-nil, Result, Ok, Err, ◌<◌, ◌+◌, ◌*◌, bit_and}
 use Rattle.std.proofs.lemmas.Bool.{false≢true}
 use Rattle.std.proofs.lemmas.Nat.{and_assoc}
 use Rattle.std.proofs.lemmas.List.{map-append}
 use Rattle.std.proofs.lemmas.Grind.{common_steps}
 use Rattle.std.proofs.Math.Nat.{div-add-mod}
+use Rattle.std.proofs.Math.Bool.{or-false}
 use Rattle.uart_spec.specs.Access.{Path, saved_lsr, saved_msr}
 use Rattle.uart_spec.specs.declared.access.Access.{Access}
 use Rattle.uart_spec.specs.declared.access.Access.TheVariants.{Read, Write}
@@ -22,7 +22,7 @@ use Rattle.uart_events.specs.declared.call.Call.{Call}
 use Rattle.uart_events.specs.declared.call.Call.TheVariants as call
 use Rattle.uart_events.specs.declared.call.Answer.{Answer}
 use Rattle.uart_events.specs.declared.call.Answer.TheVariants.{Latch, AttachRefused}
-use Rattle.uart_16550.specs.Grammar.{Settings, Only, Then, Asks}
+use Rattle.uart_16550.specs.Grammar.{Settings, Only, Asks}
 use Rattle.uart_16550.specs.Driver.{Did, Fields, fields, settings_of, saving, Sets, Saving, Next, with_fifo}
 use Rattle.uart_16550.specs.Init.{DivisorOf, frame_bits}
 use Rattle.uart_16550.specs.Frame.{frame_writes, with_frame, SetsFrame, switched, unlooped, SetsBreak, SetsControl, SetsOutput}
@@ -47,6 +47,7 @@ use Rattle.uart_chip.proofs.conservation.Went.{Modes, fixed}
 use Rattle.uart_chip.proofs.conservation.Passed.{passed-refl, passed-trans}
 use Rattle.uart_chip.proofs.conservation.BlockLaws.{IsOpen, PassedBlocks, nothing_taken, passed_frame, relined, path_as, stands-after}
 use Rattle.uart_chip.proofs.conservation.BlockLaws.{passed_quiet}
+use Rattle.uart_chip.proofs.conservation.Blocks.{is_quiet}
 use Rattle.uart_run.specs.Run.{State, machine_of, Link, CallStep}
 use Rattle.uart_run.specs.Ready.{Ready, Frames, IsAttached, TakesPort, latches_of}
 use Rattle.uart_run.specs.Session.{IsWithinSession, reported_by, received_by}
@@ -185,12 +186,8 @@ goes_framed_when_idle x N M s t config (Err Stalled) l w whole d path =
 break_word : (lcr : ℕ) → word_length (switched false LCR.SET_BREAK.0 lcr) ≡ word_length lcr
 break_word lcr = ap (λ (more : ℕ). 5 + more) (and_assoc LCR.WORD_LENGTH.0 lcr 191)
 
-or_off : (b : Bool) → (b || false) ≡ b
-or_off true = refl
-or_off false = refl
-
 break_dlab : (on : Bool) (lcr : ℕ) → has_any (switched on LCR.SET_BREAK.0 lcr) LCR.DLAB.0 ≡ has_any lcr LCR.DLAB.0
-break_dlab true lcr = has_or 7 lcr LCR.SET_BREAK.0 ∙ or_off (has_any lcr LCR.DLAB.0)
+break_dlab true lcr = has_or 7 lcr LCR.SET_BREAK.0 ∙ or-false (has_any lcr LCR.DLAB.0)
 break_dlab false lcr = has_and 7 lcr 191 refl
 
 -- a break that is cleared
@@ -247,21 +244,24 @@ goes_control x N M s t bits l w wired (done, saved) path =
       };
     }
 
-goes_output : (x : Modes) (N M : Type 0) (s t : State) (output : ℕ) (on : Bool) (l : List Access) → InSession x s → IsWired s →
-    Saving (SetsOutput output on) (fields (inner_of s)) l (fields (inner_of t)) → Path MachineStep (machine_of s) l (machine_of t) →
+-- the same after another access, which changes no mode
+goes_steered : (x : Modes) (N M : Type 0) (s t : State) (access : Access) (bits : ℕ) (l : List Access) → is_quiet access ≡ true →
+    InSession x s → IsWired s → l ≡ access ∷ Write offsets.MCR (unlooped bits) ∷ [] → Path MachineStep (machine_of s) l (machine_of t) →
+    (fields (inner_of t)).fifo ≡ (fields (inner_of s)).fifo →
+    (fields (inner_of t)).lsr ≡ bit_or (fields (inner_of s)).lsr (saved_lsr (access ∷ Write offsets.MCR (unlooped bits) ∷ [])) →
+    (fields (inner_of t)).msr ≡ bit_or (fields (inner_of s)).msr (saved_msr (access ∷ Write offsets.MCR (unlooped bits) ∷ [])) →
     Goes x N M s t [] []
-goes_output x N M s t output on l w wired ((mcr, is), saved) path =
-    let value = unlooped (switched on output mcr) in
-    let made : List Access = Read offsets.MCR mcr ∷ Write offsets.MCR value ∷ [] in
+goes_steered x N M s t access bits l quiet w wired is path fifo lsr msr =
+    let value = unlooped bits in
+    let made : List Access = access ∷ Write offsets.MCR value ∷ [] in
     let z : Modes = record x { mcr = bit_and value mcr_bits } in
-    let off = unlooped_off (switched on output mcr) in
+    let off = unlooped_off bits in
     let p = path_as (machine_of s) (machine_of t) l made is path in
     let q = p.2 in
-    let read = passed_quiet x (machine_of s) p.0 (Read offsets.MCR mcr) w.open_modes w.stands refl p.1 in
-    let written = passed_mcr x p.0 q.0 value w.open_modes off (stands-after x (machine_of s) p.0 (Read offsets.MCR mcr ∷ []) [] [] read)
-    (wired_step (Read offsets.MCR mcr) (machine_of s) p.0 p.1 wired) q.1 in
-    let both = passed-trans x z (machine_of s) p.0 q.0 (Read offsets.MCR mcr ∷ []) (Write offsets.MCR value ∷ []) [] [] [] [] refl
-    read written in
+    let first = passed_quiet x (machine_of s) p.0 access w.open_modes w.stands quiet p.1 in
+    let written = passed_mcr x p.0 q.0 value w.open_modes off (stands-after x (machine_of s) p.0 (access ∷ []) [] [] first)
+    (wired_step access (machine_of s) p.0 p.1 wired) q.1 in
+    let both = passed-trans x z (machine_of s) p.0 q.0 (access ∷ []) (Write offsets.MCR value ∷ []) [] [] [] [] refl first written in
     record {
       modes = z;
       same = refl;
@@ -270,11 +270,20 @@ goes_output x N M s t output on l w wired ((mcr, is), saved) path =
       passes = record {
         made = made;
         passed = nothing_taken z (machine_of s) (machine_of t) made [] (rw q.2 both);
-        fifo = ap (λ (g : Fields). g.fifo) saved;
-        lsr = λ n. ap (λ (g : Fields). g.lsr) saved ∙ ap (λ zs. bit_or (fields (inner_of s)).lsr (saved_lsr zs)) is;
-        msr = λ n. ap (λ (g : Fields). g.msr) saved ∙ ap (λ zs. bit_or (fields (inner_of s)).msr (saved_msr zs)) is;
+        fifo = fifo;
+        lsr = λ n. lsr;
+        msr = λ n. msr;
       };
     }
+
+goes_output : (x : Modes) (N M : Type 0) (s t : State) (output : ℕ) (on : Bool) (l : List Access) → InSession x s → IsWired s →
+    Saving (SetsOutput output on) (fields (inner_of s)) l (fields (inner_of t)) → Path MachineStep (machine_of s) l (machine_of t) →
+    Goes x N M s t [] []
+goes_output x N M s t output on l w wired ((mcr, is), saved) path =
+    goes_steered x N M s t (Read offsets.MCR mcr) (switched on output mcr) l refl w wired is path
+    (ap (λ (g : Fields). g.fifo) saved)
+    (ap (λ (g : Fields). g.lsr) saved ∙ ap (λ zs. bit_or (fields (inner_of s)).lsr (saved_lsr zs)) is)
+    (ap (λ (g : Fields). g.msr) saved ∙ ap (λ zs. bit_or (fields (inner_of s)).msr (saved_msr zs)) is)
 
 -- ---- whatever the machine is
 
@@ -535,12 +544,10 @@ taken_ready s t a (Err x) l e d path low high is = absurd (cc)
 refused_bare : (s t : State) (a : Answer) (result : Result (ℕ × ℕ) AttachError) (l : List Access) → a ≡ attach_answer result →
     Attaches result (fields (inner_of s)) l (fields (inner_of t)) → Path MachineStep (machine_of s) l (machine_of t) →
     a ≡ AttachRefused NoDivisor → (divisor (latches_of s) ≡ 0) × (latches_of t ≡ latches_of s)
-refused_bare s t a (Ok latch) l e d path is = absurd (cc)
-refused_bare s t a (Err DivisorLatchOpen) l e d path is = absurd (cc)
-refused_bare s t a (Err Loopback) l e d path is = absurd (cc)
 refused_bare s t a (Err NoDivisor) l e d path is =
     let look = looked (settings_of (fields (inner_of s))) 0 0 l (machine_of s) (machine_of t) d.0 path in
     (look.told, ap (λ (k : Kept). k.latches) look.still)
+refused_bare s t a _ l e d path is = absurd (cc)
 
 -- one in a ready state finds DLAB and loopback off
 shut : (s t : State) (l : List Access) → FindsLatch true (settings_of (fields (inner_of s))) l →
@@ -661,35 +668,16 @@ goes_quiet : (x : Modes) (N M : Type 0) (s t : State) (outputs : ℕ) (l : List 
     Goes x N M s t [] []
 goes_quiet x N M s t outputs l w wired does path =
     let f = fields (inner_of s) in
-    let value = unlooped outputs in
-    let made : List Access = Write offsets.IER 0 ∷ Write offsets.MCR value ∷ [] in
-    let z : Modes = record x { mcr = bit_and value mcr_bits } in
-    let off = unlooped_off outputs in
+    let made : List Access = Write offsets.IER 0 ∷ Write offsets.MCR (unlooped outputs) ∷ [] in
     let b = does.second in
     let is : l ≡ made = does.whole ∙ (ap (λ zs. zs ++ does.back) does.first.0 ∙ (b.whole ∙ (ap (λ zs. zs ++ b.back) b.first.0.is
     ∙ (ap (λ zs. made ++ zs) b.second.0 ∙ append-nil made)))) in
-    let p = path_as (machine_of s) (machine_of t) l made is path in
-    let q = p.2 in
-    let first = passed_quiet x (machine_of s) p.0 (Write offsets.IER 0) w.open_modes w.stands refl p.1 in
-    let written = passed_mcr x p.0 q.0 value w.open_modes off (stands-after x (machine_of s) p.0 (Write offsets.IER 0 ∷ []) [] [] first)
-    (wired_step (Write offsets.IER 0) (machine_of s) p.0 p.1 wired) q.1 in
-    let both = passed-trans x z (machine_of s) p.0 q.0 (Write offsets.IER 0 ∷ []) (Write offsets.MCR value ∷ []) [] [] [] [] refl
-    first written in
-    record {
-      modes = z;
-      same = refl;
-      unbroken = λ u. u;
-      open_modes = record { dlab = w.open_modes.dlab; loopback = off };
-      passes = record {
-        made = made;
-        passed = nothing_taken z (machine_of s) (machine_of t) made [] (rw q.2 both);
-        fifo = ap (λ (g : Fields). g.fifo) b.second.1;
-        lsr = λ n. ap (λ (g : Fields). g.lsr) b.second.1 ∙ (ap (λ (g : Fields). g.lsr) b.first.1
-            ∙ (ap (λ (g : Fields). bit_or g.lsr (saved_lsr b.front)) does.first.1 ∙ ap (λ zs. bit_or f.lsr (saved_lsr zs)) b.first.0.is));
-        msr = λ n. ap (λ (g : Fields). g.msr) b.second.1 ∙ (ap (λ (g : Fields). g.msr) b.first.1
-            ∙ (ap (λ (g : Fields). bit_or g.msr (saved_msr b.front)) does.first.1 ∙ ap (λ zs. bit_or f.msr (saved_msr zs)) b.first.0.is));
-      };
-    }
+    goes_steered x N M s t (Write offsets.IER 0) outputs l refl w wired is path
+    (ap (λ (g : Fields). g.fifo) b.second.1)
+    (ap (λ (g : Fields). g.lsr) b.second.1 ∙ (ap (λ (g : Fields). g.lsr) b.first.1
+    ∙ (ap (λ (g : Fields). bit_or g.lsr (saved_lsr b.front)) does.first.1 ∙ ap (λ zs. bit_or f.lsr (saved_lsr zs)) b.first.0.is)))
+    (ap (λ (g : Fields). g.msr) b.second.1 ∙ (ap (λ (g : Fields). g.msr) b.first.1
+    ∙ (ap (λ (g : Fields). bit_or g.msr (saved_msr b.front)) does.first.1 ∙ ap (λ zs. bit_or f.msr (saved_msr zs)) b.first.0.is)))
 
 -- ---- calls within a session
 

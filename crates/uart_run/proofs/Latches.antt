@@ -12,9 +12,8 @@ use Rattle.uart_spec.specs.Bits.{has_any}
 use Rattle.uart_spec.specs.declared.registers.fifo_control.TheConstants.FCR
 use Rattle.uart_spec.specs.declared.registers.offsets.TheConstants as offsets
 use Rattle.uart_chip.specs.Masks.{ier_bits, mcr_bits}
-use Rattle.uart_chip.specs.Chip.{LatchesState, ChipState, word_length, cut_to, is_dlab_set, ticks}
-use Rattle.uart_chip.specs.Chip.{after_read, after_write, switch}
-use Rattle.uart_chip.specs.Chip.{is_same, set_fifo, control}
+use Rattle.uart_chip.specs.Chip.{LatchesState, ChipState, word_length, cut_to, is_dlab_set, ticks, after_read, after_write, switch, is_same}
+use Rattle.uart_chip.specs.Chip.{set_fifo, control}
 use Rattle.uart_chip.proofs.AccessMoves.{ReadMove, takes, read_move, resets_last}
 use Rattle.uart_chip.specs.Machine.{MachineState, MachineStep, perform, before_access, at_access, before_mark, at_mark}
 

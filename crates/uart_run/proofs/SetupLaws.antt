@@ -14,7 +14,7 @@ use Rattle.uart_spec.specs.declared.errors.FifosOffError.{FifosOffError}
 use Rattle.uart_spec.specs.declared.errors.FrameError.{FrameError}
 use Rattle.uart_spec.specs.declared.errors.FrameError.TheVariants.{InvalidBaudRate, Stalled}
 use Rattle.uart_spec.specs.declared.registers.fifo_trigger_level.FifoTriggerLevel.{FifoTriggerLevel}
-use Rattle.uart_spec.specs.declared.registers.fifo_trigger_level.FifoTriggerLevel.TheVariants.{One, Four, Eight, Fourteen}
+use Rattle.uart_spec.specs.declared.registers.fifo_trigger_level.FifoTriggerLevel.TheVariants.{One}
 use Rattle.uart_spec.specs.declared.registers.interrupt_status.TheConstants.ISR
 use Rattle.uart_spec.specs.declared.registers.line_control.TheConstants.LCR
 use Rattle.uart_spec.specs.declared.registers.line_status.TheConstants.LSR
@@ -129,9 +129,7 @@ frame_when_idle_ready s t config a h ready = ready_when_idle s t config h.outcom
 
 written_level : (level : FifoTriggerLevel) → trigger_level (level_bits level) ≡ level
 written_level One = refl
-written_level Four = refl
-written_level Eight = refl
-written_level Fourteen = refl
+written_level _ = refl
 
 level_set : (c : ChipState) (level : FifoTriggerLevel) → c.model ≡ Uart16550A → c.fifo ≡ true →
     (control c.model (level_bits level) c).receiver.trigger ≡ level

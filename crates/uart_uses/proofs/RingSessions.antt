@@ -30,12 +30,9 @@ record ThreeLinks (n : ℕ) (links : List RingLink) : Type 0 where
   pub take : c.call ≡ call.Take n
 
 three_links : (n : ℕ) (links : List RingLink) → calls_of links ≡ call.Next ∷ call.Service ∷ call.Take n ∷ [] → ThreeLinks n links
-three_links n [] calls = absurd (cc (calls))
-three_links n (a ∷ []) calls = absurd (cc (calls))
-three_links n (a ∷ b ∷ []) calls = absurd (cc (calls))
 three_links n (a ∷ b ∷ c ∷ []) calls =
     record { a = a; b = b; c = c; are = refl; next = cc (calls); service = cc (calls); take = cc (calls) }
-three_links n (a ∷ b ∷ c ∷ d ∷ links) calls = absurd (cc (calls))
+three_links n _ calls = absurd (cc (calls))
 
 last_took : (n : ℕ) (answers : List RingAnswer) (other : RingAnswer) (links : List RingLink) →
     calls_of links ≡ call.Next ∷ call.Service ∷ call.Take n ∷ [] → answers_of links ≡ answers →
@@ -88,13 +85,5 @@ received s t n answers other bytes ran ready is =
 
 -- no other answer has bytes
 pub none_taken : (n : ℕ) (a : RingAnswer) → ((bytes : _) → a ≡ answer.Bytes bytes → ⊥) → [] ≡ taken_by (call.Take n) a
-none_taken n (answer.Count count) isnt = refl
 none_taken n (answer.Bytes bytes) isnt = absurd (isnt bytes refl)
-none_taken n (answer.Handled handled) isnt = refl
-none_taken n (answer.Line line) isnt = refl
-none_taken n (answer.Modem modem) isnt = refl
-none_taken n (answer.Replaced replaced) isnt = refl
-none_taken n (answer.Low low) isnt = refl
-none_taken n (answer.Tried tried) isnt = refl
-none_taken n (answer.Driver a) isnt = refl
-none_taken n answer.Done isnt = refl
+none_taken n _ isnt = refl

@@ -1,5 +1,5 @@
 -- A transmitter's queue that held bytes before a call and is empty after it interrupts a guest that has this enabled.
-use Rattle.std.proofs.Common.{◌≡◌, ◌≢◌, ℕ, zero, suc, ◌<◌, ◌≤◌, ◌==◌, nat_lt, Bool, true, false, ◌&&◌, ◌⊎◌, inl, inr}
+use Rattle.std.proofs.Common.{◌≡◌, ◌≢◌, ℕ, zero, suc, ◌≤◌, ◌==◌, nat_lt, Bool, true, false, ◌&&◌, ◌⊎◌, inl, inr}
 use Rattle.std.proofs.Common.{List, [], ◌∷◌, ◌++◌, take, length, Option, Some, None, is_some, if◌then◌else◌}
 use Rattle.std.proofs.Common.{refl, ap, sym, ◌∙◌, subst, arith}
 use Rattle.std.proofs.lemmas.Bool.{eqb-true, lt-ltb}
@@ -10,14 +10,13 @@ use Rattle.uart_spec.specs.declared.registers.interrupt_type.InterruptType.{Inte
 use Rattle.uart_spec.specs.declared.registers.line_status.TheConstants.LSR
 use Rattle.uart_spec.specs.declared.registers.offsets.TheConstants as offsets
 use Rattle.uart_chip.specs.declared.transmitter.Shifting.{Shifting}
-use Rattle.uart_chip.specs.Transmitter as transmitter
 use Rattle.uart_chip.specs.Transmitter.{TransmitterState, room, shift, refill, shift_bytes, held}
 use Rattle.uart_chip.specs.Receiver.{is_data_pending, is_timed_out}
 use Rattle.uart_chip.specs.Chip.{ChipState, ticks, is_loopback, is_dlab_set, interrupt, is_thr_empty, line_status}
-use Rattle.uart_chip.specs.Chip.{after_write, arrive_live, with_thr_pending}
+use Rattle.uart_chip.specs.Chip.{after_write, arrive_live}
 use Rattle.uart_chip.proofs.AccessMoves.{both_if, if_given}
 use Rattle.uart_chip.proofs.lasting.Lasting.{LastsInAccesses, lasts-write}
-use Rattle.uart_virtual.specs.Port.{PortState, PortCall, Read, Write, Receive, ReceiveOne, SetLines, TakeOutput, after}
+use Rattle.uart_virtual.specs.Port.{PortCall, Read, Write, Receive, ReceiveOne, SetLines, TakeOutput, after}
 use Rattle.uart_virtual.specs.Port.{happen, written, holds_less, settle_ticks, is_up, accepted, arrive_all}
 use Rattle.uart_virtual.specs.Laws.{AnEmptiedQueueInterrupts}
 

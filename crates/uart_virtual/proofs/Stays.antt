@@ -128,7 +128,7 @@ causes c =
     TransmitterHoldingRegisterEmpty ModemStatus
 
 -- the causes that time can bring stay, so the line stays up
-stays-part : (c : ChipState) (t : TransmitterState) (i : ℕ) →
+pub stays-part : (c : ChipState) (t : TransmitterState) (i : ℕ) →
     (c.transmitter.is_thr_pending ≡ true → t.is_thr_pending ≡ true) →
     ((c.receiver.timeout_ticks == c.receiver.timeout_limit) ≡ true → (i == c.receiver.timeout_limit) ≡ true) →
     is_up c ≡ true → is_up (record c { transmitter = t; receiver = record c.receiver { timeout_ticks = i } }) ≡ true

@@ -23,7 +23,6 @@ use Rattle.uart_virtual.specs.Port.{differ, arrive_all, accepted}
 use Rattle.uart_virtual.specs.Laws.{after_all, some_told, ToldStays, SignalsAreUp, EachRiseIsSignalled, ASignalCovers}
 use Rattle.uart_virtual.specs.Laws.{none_looks, NoLookCoversNothing, AFullFifoIsSignalled, NoOtherSignals}
 use Rattle.uart_virtual.specs.Laws.{acts_of, acts_of_all, BytesGoOut, FcrKeepsTheOutput}
-use Rattle.uart_virtual.specs.Laws.{can_wait, reads_data, some_at_once, EachRiseIsSignalledAtOnce, WhatCanWaitIsATimeout}
 
 -- what a call leaves was told
 pub told_holds : (kind : Kind) (was_up : Bool) (ended : ChipState) (told : Told) →
@@ -39,7 +38,7 @@ told_holds kind was_up ended told =
     kept true false false true = refl
     kept true false false false = refl
 
-told_after : (call : PortCall) (p : PortState) → IsTold (after call p)
+pub told_after : (call : PortCall) (p : PortState) → IsTold (after call p)
 told_after call p =
     let c : ChipState = happen call p.chip in
     told_holds (kind_of call p.chip) (stays_up call c) (settle c) p.told
@@ -164,50 +163,6 @@ no_other_signals call p h s =
         ((brings call p.chip ≡ true) × (has_room (settle (happen call p.chip)) ≡ false)))
     go (inl e) = inl (sym h.line ∙ e)
     go (inr e) = inr e
-
--- ---- a monitor with a clock
-
-at_once : (signal reads line : Bool) → signal ≡ true → line ≡ false → (signal && not (reads && line)) ≡ true
-at_once true true false s l = refl
-at_once true false false s l = refl
-at_once true reads true s l = absurd (cc)
-at_once false reads line s l = absurd (cc)
-
-told-at-once : (calls : List PortCall) (p : PortState) → p.told.line ≡ false → (after_all calls p).told.line ≡ true →
-    some_at_once calls p ≡ true
-told-at-once [] p down up = absurd (cc)
-told-at-once (call ∷ calls) p down up =
-    go (is_up (settle (happen call p.chip))) refl (λ e. told-at-once calls (after call p) e up)
-  where
-    go : (level : Bool) → is_up (settle (happen call p.chip)) ≡ level →
-        ((after call p).told.line ≡ false → some_at_once calls (after call p) ≡ true) →
-        some_at_once (call ∷ calls) p ≡ true
-    go true e later =
-        or_left ((todo call p).signal && not (can_wait call p)) _
-        (at_once (todo call p).signal (reads_data call) p.told.line
-        (rises_from_down (is_up (settle (happen call p.chip))) p.told.line _ down e) down)
-    go false e later = or_right ((todo call p).signal && not (can_wait call p)) _ (later e)
-
-pub rise_at_once : EachRiseIsSignalledAtOnce
-rise_at_once calls p h down up = told-at-once calls p (h.line ∙ down) ((told_stays calls p h).line ∙ up)
-
-pub what_can_wait : WhatCanWaitIsATimeout
-what_can_wait (Read offset) p h s w = (down (no_other_signals (Read offset) p h s), signals_up (Read offset) p s)
-  where
-    line : p.told.line ≡ true
-    line = (each (reads_data (Read offset)) p.told.line w).1
-
-    down : (is_up p.chip ≡ false) ⊎ ((stays_up (Read offset) (happen (Read offset) p.chip) ≡ false) ⊎
-        ((brings (Read offset) p.chip ≡ true) × (has_room (after (Read offset) p).chip ≡ false))) →
-        is_up (happen (Read offset) p.chip) ≡ false
-    down (inl e) = let no : true ≡ false = sym line ∙ (h.line ∙ e) in absurd (cc)
-    down (inr (inl e)) = e
-    down (inr (inr (b, r))) = absurd (cc)
-what_can_wait (Write offset value) p h s w = absurd (cc)
-what_can_wait (Receive bytes) p h s w = absurd (cc)
-what_can_wait (ReceiveOne byte errors) p h s w = absurd (cc)
-what_can_wait (SetLines inputs) p h s w = absurd (cc)
-what_can_wait (TakeOutput count) p h s w = absurd (cc)
 
 -- ---- output
 

@@ -141,32 +141,6 @@ RestoredIsTold =
     (c : ChipState) →
     ((todo_of renewed true c untold).has_room ≡ has_room c) × ((todo_of renewed true c untold).signal ≡ is_up c)
 
--- ---- a monitor with a clock
-
--- a signal that this call asks for can be put off until the time of a reception timeout has passed: the guest reads
--- DATA, and the line was up before
-abbrev pub can_wait : PortCall → PortState → Bool
-can_wait call p = reads_data call && p.told.line
-
--- one of these calls asks for a signal that cannot be put off
-abbrev pub some_at_once : List PortCall → PortState → Bool
-some_at_once [] p = false
-some_at_once (call ∷ calls) p = ((todo call p).signal && not (can_wait call p)) || some_at_once calls (after call p)
-
--- each rise of the line from call to call is signalled by a call whose signal cannot be put off. So what is put off is
--- owed only while the line stays up
-abbrev pub EachRiseIsSignalledAtOnce : Type 0
-EachRiseIsSignalledAtOnce =
-    (calls : List PortCall) (p : PortState) → IsTold p → is_up p.chip ≡ false → is_up (after_all calls p).chip ≡ true →
-    some_at_once calls p ≡ true
-
--- a signal that can be put off is for a reception timeout: the line was down right after the read, and it is time that
--- took it up
-abbrev pub WhatCanWaitIsATimeout : Type 0
-WhatCanWaitIsATimeout =
-    (call : PortCall) (p : PortState) → IsTold p → (todo call p).signal ≡ true → can_wait call p ≡ true →
-    (is_up (happen call p.chip) ≡ false) × (is_up (after call p).chip ≡ true)
-
 -- ---- output
 
 -- what a call does with the chip

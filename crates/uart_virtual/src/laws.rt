@@ -1,10 +1,12 @@
 //! Laws of ports. They follow from the contracts.
 //!
 //! The contract of each function is a law that callers can cite. The functions do nothing.
+ghost use Rattle.uart_virtual.specs.Clock.{NobodyWaitsForEver, EachRiseIsGiven, AFullFifoIsGiven};
+ghost use Rattle.uart_virtual.specs.Clock.{WhatCanWaitIsTime, ClockedStays, GivenWhileUp};
+ghost use Rattle.uart_virtual.specs.Clock.{ARiseIsGivenAtOnce, AClockAddsNone};
 ghost use Rattle.uart_virtual.specs.Laws.{LevelIsTold, ToldStays, SignalsAreUp, LineStays};
 ghost use Rattle.uart_virtual.specs.Laws.{EachRiseIsSignalled, EachDipIsSignalled};
 ghost use Rattle.uart_virtual.specs.Laws.{AFullFifoIsSignalled, NoOtherSignals};
-ghost use Rattle.uart_virtual.specs.Laws.{EachRiseIsSignalledAtOnce, WhatCanWaitIsATimeout};
 ghost use Rattle.uart_virtual.specs.Laws.{ASignalCovers, NoLookCoversNothing};
 ghost use Rattle.uart_virtual.specs.Laws.{RoomIsTold, RoomIsToldAtOnce, RoomIsToldOnce};
 ghost use Rattle.uart_virtual.specs.Laws.{RefusalLeavesNoRoom, RestoredIsTold};
@@ -37,13 +39,22 @@ pub fn rises_are_signalled()
     ensures stays { LineStays }
 {}
 
-/// A monitor with a clock may put off a signal that a read of DATA asks for while the line was up,
-/// until the time of a reception timeout has passed, and drop it if the line falls before: such a
-/// signal is for a reception timeout, and each rise from call to call is signalled by a call whose
-/// signal is not of this kind.
-pub fn timeouts_can_wait()
-    ensures rise { EachRiseIsSignalledAtOnce }
-    ensures waits { WhatCanWaitIsATimeout }
+/// With a clock nobody waits for ever, whichever of the signals that can wait the monitor puts off.
+///
+/// If the line was down at any moment since no signal covered others, as since the guest read ISR,
+/// and is up, then a signal was given since, or is given as soon as the time passes. A rise from
+/// call to call is signalled at once, unless a write of DATA brings it, and input that leaves no
+/// room is. What can wait is a signal for what time brings. A signal is given only while the line
+/// is up, nothing is owed after it, and a clock adds none.
+pub fn nobody_waits_for_ever()
+    ensures comes { NobodyWaitsForEver }
+    ensures rise { EachRiseIsGiven }
+    ensures at_once { ARiseIsGivenAtOnce }
+    ensures full { AFullFifoIsGiven }
+    ensures waits { WhatCanWaitIsTime }
+    ensures up { GivenWhileUp }
+    ensures stays { ClockedStays }
+    ensures most { AClockAddsNone }
 {}
 
 /// The monitor is told of room for input after there was none: by the call after which nothing

@@ -5,12 +5,14 @@
 //! the calls alone.
 #![tactic(auto)]
 
+mod clock;
 pub mod laws;
 mod port;
 #[cfg(test)]
 mod tests;
 mod told;
 
+pub use clock::Clock;
 pub use port::{
     Answer, Received, Restored, VirtualPort, kind_of_read, kind_of_write, settle, settle_ticks,
     tell,

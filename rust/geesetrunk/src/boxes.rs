@@ -86,9 +86,13 @@ pub fn bar(class: &str, count: usize, most: usize) -> String {
     rectangle(class, [4, FULL - height, 18, height]) + &words("m s", 43, count) + "\n"
 }
 
+// The room between two columns, so that what stands in them does not touch.
+const BETWEEN: usize = 1;
+
 // Returns the size of letters that are small, and small enough for a column.
 fn size_for(text: &str) -> usize {
-    (10 * SIZE * COLUMN / (LETTER * text.chars().count().max(1))).min(SMALL)
+    let width = COLUMN - BETWEEN;
+    (10 * SIZE * width / (LETTER * text.chars().count().max(1))).min(SMALL)
 }
 
 // Returns words in the middle of a moment, at this height, in letters of a size of their own.

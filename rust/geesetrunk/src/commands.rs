@@ -48,6 +48,72 @@ const SETTLED: Flag = Flag {
     help: "Leaves out what the datasheet leaves open",
 };
 
+const SARIF: Flag = Flag {
+    name: "sarif",
+    value: None,
+    help: "Prints one document of SARIF 2.1.0 with all findings, for code hosts and editors",
+};
+
+const FORMAT: Flag = Flag {
+    name: "format",
+    value: Some("KIND"),
+    help: "The kind of log: recording, kvm, memory, csv, json, sigrok or words [default: by its lines]",
+};
+
+const BASE: Flag = Flag {
+    name: "base",
+    value: Some("ADDRESS"),
+    help: "The address of the chip's first register in memory, as 0x10000000",
+};
+
+const STRIDE: Flag = Flag {
+    name: "stride",
+    value: Some("BYTES"),
+    help: "The bytes from one register to the next [default: 1]",
+};
+
+const PORT: Flag = Flag {
+    name: "port",
+    value: Some("PORT"),
+    help: "The chip's first I/O port [default of kvm and memory: 0x3f8]",
+};
+
+const IRQ: Flag = Flag {
+    name: "irq",
+    value: Some("GSI"),
+    help: "The chip's interrupt in KVM's events, as 4: its level is the interrupt line",
+};
+
+const CLOCK: Flag = Flag {
+    name: "clock",
+    value: Some("HZ"),
+    help: "The rate of the chip's clock [default: 1843200]",
+};
+
+const DIVISOR: Flag = Flag {
+    name: "divisor",
+    value: Some("N"),
+    help: "The divisor where the recording begins",
+};
+
+const FIFO: Flag = Flag {
+    name: "fifo",
+    value: Some("N"),
+    help: "The FIFOs where the recording begins: off, or how many bytes they have room for",
+};
+
+const CHIP: Flag = Flag {
+    name: "chip",
+    value: Some("CHIP"),
+    help: "The chip: 16550a, or 16450, which has no FIFOs [default: 16550a]",
+};
+
+const RECORDING: Operand = Operand {
+    name: "FILE",
+    count: Count::AtMostOne,
+    help: "The recording or log; standard input is read if it is - or left out",
+};
+
 const COLUMNS: &str = "\
 The columns of a table:
   tick, line      When it happens, in a run or in a recording
@@ -57,6 +123,28 @@ The columns of a table:
   lines           The modem inputs, as the high digit of MSR
   held, waiting   How many bytes are in the transmitter and in the receiver
   irq             The interrupt line, where it changes";
+
+const FIRST: Operand = Operand {
+    name: "FIRST",
+    count: Count::One,
+    help: "The first recording or log; standard input is read if it is -",
+};
+
+const SECOND: Operand = Operand {
+    name: "SECOND",
+    count: Count::One,
+    help: "The second one",
+};
+
+const KINDS: &str = "\
+Kinds of logs:
+  recording  The project's own, and QEMU's of serial_read and serial_write
+  kvm        KVM's events kvm_pio and kvm_mmio, by ftrace, trace-cmd or perf script
+  memory     QEMU's of memory_region_ops_read and memory_region_ops_write
+  csv        A table with names in its first line, and exports of Saleae's Logic
+  json       An object in each line
+  sigrok     What sigrok-cli prints of a serial decoder, or of two parallel ones
+  words      Words of a monitor's own, as: write addr=0x3f8 val=0x41";
 
 /// What `geesetrunk` can do.
 #[derive(Clone, Copy, Debug, PartialEq, Eq)]
@@ -71,6 +159,18 @@ pub enum Job {
     Judge(Judge),
     /// Judges a trace.
     Verify,
+    /// Prints a log as a recording.
+    Import,
+    /// Shows a recording.
+    Show,
+    /// Prints what happened in a recording in numbers.
+    Stats,
+    /// Compares two recordings.
+    Diff,
+    /// Prints the shortest piece with a finding.
+    Shrink,
+    /// Explains a name.
+    Explain,
     /// Prints the completions of a shell.
     Completions,
     /// Prints the manual page.
@@ -139,6 +239,15 @@ recording may have any length.",
                     value: Some("N"),
                     help: "FILE is a recording: draws so many events [default: 100]",
                 },
+                FORMAT,
+                BASE,
+                STRIDE,
+                PORT,
+                IRQ,
+                CLOCK,
+                DIVISOR,
+                FIFO,
+                CHIP,
             ],
             more: Some(COLUMNS),
         },
@@ -166,16 +275,21 @@ recording may have any length.",
             name: "geesetrunk audit",
             about: "Says what the driver of a recording does wrong",
             operands: &[FILES],
-            flags: &[ALL, JSON],
-            more: None,
+            flags: &[
+                ALL, JSON, SARIF, CLOCK, DIVISOR, FIFO, CHIP, FORMAT, BASE, STRIDE, PORT, IRQ,
+            ],
+            more: Some(KINDS),
         },
         Command {
             job: Job::Judge(Judge::Replay),
             name: "geesetrunk replay",
             about: "Says where its chip answers as the one defined here never does",
             operands: &[FILES],
-            flags: &[ALL, SETTLED, JSON],
-            more: None,
+            flags: &[
+                ALL, SETTLED, JSON, SARIF, CLOCK, DIVISOR, FIFO, CHIP, FORMAT, BASE, STRIDE, PORT,
+                IRQ,
+            ],
+            more: Some(KINDS),
         },
         Command {
             job: Job::Verify,
@@ -189,8 +303,107 @@ recording may have any length.",
                     help: "How many unsuccessful polls in a row end a wait [default: 1000000]",
                 },
                 JSON,
+                SARIF,
             ],
             more: None,
+        },
+        Command {
+            job: Job::Explain,
+            name: "geesetrunk explain",
+            about: "Says what a finding or an error means, what it costs, and what to do",
+            operands: &[Operand {
+                name: "NAME",
+                count: Count::AtMostOne,
+                help: "The name, as it stands in brackets behind a finding; without it all names are listed",
+            }],
+            flags: &[],
+            more: None,
+        },
+        Command {
+            job: Job::Show,
+            name: "geesetrunk show",
+            about: "Shows a recording with registers and bits by name, or its bytes as text",
+            operands: &[RECORDING],
+            flags: &[
+                Flag {
+                    name: "register",
+                    value: Some("NAMES"),
+                    help: "Only accesses of these registers, as LSR or DATA,LCR",
+                },
+                Flag {
+                    name: "writes",
+                    value: None,
+                    help: "Only writes",
+                },
+                Flag {
+                    name: "from",
+                    value: Some("LINE"),
+                    help: "Only from this line on",
+                },
+                Flag {
+                    name: "to",
+                    value: Some("LINE"),
+                    help: "Only up to this line",
+                },
+                Flag {
+                    name: "bytes",
+                    value: None,
+                    help: "The bytes that were sent and read, as text",
+                },
+                FORMAT,
+                BASE,
+                STRIDE,
+                PORT,
+                IRQ,
+            ],
+            more: None,
+        },
+        Command {
+            job: Job::Stats,
+            name: "geesetrunk stats",
+            about: "Says in numbers what happened in a recording, in all and from set-up to set-up",
+            operands: &[FILES],
+            flags: &[CLOCK, DIVISOR, FIFO, CHIP, FORMAT, BASE, STRIDE, PORT, IRQ],
+            more: None,
+        },
+        Command {
+            job: Job::Diff,
+            name: "geesetrunk diff",
+            about: "Says where two recordings differ in what they mean: times and polls do not count",
+            operands: &[FIRST, SECOND],
+            flags: &[FORMAT, BASE, STRIDE, PORT],
+            more: None,
+        },
+        Command {
+            job: Job::Shrink,
+            name: "geesetrunk shrink",
+            about: "Prints the shortest piece of a recording in which the first warning is still found",
+            operands: &[RECORDING],
+            flags: &[
+                Flag {
+                    name: "name",
+                    value: Some("NAME"),
+                    help: "What is to be found, instead of the first warning",
+                },
+                CLOCK,
+                DIVISOR,
+                FIFO,
+                CHIP,
+                FORMAT,
+                BASE,
+                STRIDE,
+                PORT,
+                IRQ,
+            ],
+            more: None,
+        },
+        Command {
+            job: Job::Import,
+            name: "geesetrunk import",
+            about: "Prints a log of another tool as a recording",
+            operands: &[RECORDING],
+            flags: &[FORMAT, BASE, STRIDE, PORT, IRQ],
+            more: Some(KINDS),
         },
         Command {
             job: Job::Completions,

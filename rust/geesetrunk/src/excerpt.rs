@@ -1,8 +1,9 @@
 //! The timeline of a recording: its accesses up to a line, and what the audit warns of there.
 
 use crate::heap;
-use crate::judging::{Audited, Stop};
+use crate::judging::{DriverJudge, Stop};
 use crate::kinds::Kind;
+use crate::known::Known;
 use crate::moments::{Arrival, Happened, Moment, Seen, parts, register_of};
 use crate::picture::picture_of_recording;
 use crate::piece::Piece;
@@ -10,7 +11,6 @@ use crate::table::table_of_recording;
 use crate::text::file_name;
 use std::collections::{BTreeSet, VecDeque};
 use std::io::Read;
-use uart_judges::audit::{Finding, Severity};
 use uart_judges::recording::{Entry, Happening, Recording, RecordingError};
 use uart_spec::access::Access;
 use uart_spec::registers::{LCR, offsets};
@@ -42,13 +42,15 @@ pub struct Excerpt<'a> {
     pub line: Option<u64>,
     /// How many entries to draw at most: the last ones.
     pub most: usize,
+    /// What is known of the chip.
+    pub known: Known,
 }
 
 // A warning, and the line that it is about, which may be before the one at which it is found.
 #[derive(Clone, Copy)]
 struct Warning {
     line: u64,
-    finding: Finding,
+    kind: Kind,
 }
 
 // An entry, and what the audit warns of at it.
@@ -59,7 +61,7 @@ struct Watched {
 
 // The last entries of a recording, as far as it is read.
 struct Watch {
-    audited: Audited,
+    driver: DriverJudge,
     is_dlab_set: bool,
     level: Option<bool>,
     most: usize,
@@ -68,28 +70,22 @@ struct Watch {
     late: Vec<Warning>,
 }
 
-// Returns the warnings of findings at a line.
-fn warnings<'a>(
-    line: u64,
-    findings: impl IntoIterator<Item = &'a Option<Finding>>,
-) -> impl Iterator<Item = Warning> {
-    let found = findings.into_iter().flatten();
-    found
-        .filter(|finding| finding.severity() == Severity::Warning)
-        .map(move |&finding| Warning {
-            line: Kind::Finding(finding).line().unwrap_or(line),
-            finding,
-        })
+// Returns what is found at a line, if it is a warning.
+fn warning(line: u64, kind: Kind) -> Option<Warning> {
+    (kind.severity() == "warning").then(|| Warning {
+        line: kind.line().unwrap_or(line),
+        kind,
+    })
 }
 
 impl Warning {
     // Returns its line and its kind. A line that is left up is found again at each byte that arrives.
     fn key(&self) -> (u64, &'static str) {
-        (self.line, Kind::Finding(self.finding).name())
+        (self.line, self.kind.name())
     }
 
     fn text(&self) -> String {
-        format!("line {}: {}", self.line, Kind::Finding(self.finding))
+        format!("line {}: {}", self.line, self.kind)
     }
 }
 
@@ -101,9 +97,9 @@ fn add(found: &mut Vec<Warning>, warning: Warning) {
 }
 
 impl Watch {
-    fn new(most: usize) -> Self {
+    fn new(most: usize, known: Known) -> Self {
         Watch {
-            audited: Audited::default(),
+            driver: DriverJudge::new(known),
             is_dlab_set: false,
             level: None,
             most,
@@ -136,8 +132,8 @@ impl Watch {
     // Returns what the audit warns of at an entry: of equal reads in turn, each kind at a line once.
     fn found(&mut self, entry: &Entry) -> Vec<Warning> {
         let mut found: Vec<Warning> = Vec::new();
-        self.audited.step(entry, |findings, times| {
-            for warning in warnings(entry.line, findings).filter(|_| times > 0) {
+        self.driver.step(entry, |kind, times| {
+            if let Some(warning) = warning(entry.line, kind).filter(|_| times > 0) {
                 add(&mut found, warning);
             }
         });
@@ -197,7 +193,7 @@ impl Watch {
     fn read_on<R: Read>(&mut self, entry: Entry, recording: &mut Recording<R>, last: u64) {
         let first = self.last.front().map_or(0, |watched| watched.moment.time);
         let mut next = Some(entry);
-        while let Some(entry) = next.filter(|_| self.audited.may_name_up_to(last)) {
+        while let Some(entry) = next.filter(|_| self.driver.may_name_up_to(last)) {
             for warning in self.found(&entry) {
                 if (first..=last).contains(&warning.line) {
                     add(&mut self.late, warning);
@@ -242,12 +238,16 @@ fn title(file: &str, moments: &[Moment]) -> String {
 ///
 /// Why the recording was not read up to that line.
 pub fn timeline_of(excerpt: &Excerpt<'_>, reader: impl Read) -> Result<String, Stop> {
-    let mut watch = Watch::new(excerpt.most);
+    let mut watch = Watch::new(excerpt.most, excerpt.known);
     let mut recording = Recording::new(heap(), Piece::new(reader))?;
     let is_end = read_up_to(&mut watch, &mut recording, excerpt.line)?;
+    let lines = recording.lines();
+    if let Some(line) = excerpt.line.filter(|&line| is_end && line > lines) {
+        return Err(Stop::NoLine { line, lines });
+    }
     let mut found: Vec<_> = watch.warnings().collect();
     if is_end {
-        found.extend(warnings(recording.lines(), &watch.audited.end()));
+        found.extend(watch.driver.end().filter_map(|kind| warning(lines, kind)));
     }
     let mut known = BTreeSet::new();
     found.retain(|warning| known.insert(warning.key()));

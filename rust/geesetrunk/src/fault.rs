@@ -1,6 +1,7 @@
 //! A refused script, explained: the place of the fault, the line, and what is accepted there.
 
-use crate::grammar::{Field, fields_after, form_of};
+use crate::grammar::{Field, fields_after, form_of, words_of_lines};
+use crate::near::nearest;
 use crate::terminal::{Paint, Style};
 use crate::text::{line_at, printable, words};
 use std::fmt;
@@ -76,11 +77,14 @@ fn misplaced(number: u32, line: &[u8]) -> &'static str {
     }
 }
 
-fn unknown_word(line: &[u8]) -> &'static str {
+fn unknown_word(line: &[u8]) -> String {
     if line.starts_with(b" ") {
-        "a line begins with a word, and not with a space"
-    } else {
-        "a word of the language, as in docs/SCRIPTS.md"
+        return "a line begins with a word, and not with a space".into();
+    }
+    let word = printable(first_word(line));
+    match nearest(&word, words_of_lines()) {
+        Some(near) => format!("a word of the language: perhaps {near}"),
+        None => "a word of the language, as in docs/SCRIPTS.md".into(),
     }
 }
 
@@ -112,7 +116,7 @@ fn place_of(number: u32, line: &[u8], cause: Cause) -> (usize, String) {
     match cause {
         Cause::BadByte => bad_byte(line),
         Cause::Misplaced => (1, misplaced(number, line).into()),
-        Cause::UnknownWord => (1, unknown_word(line).into()),
+        Cause::UnknownWord => (1, unknown_word(line)),
         Cause::WrongCount => wrong_count(line),
         Cause::TooLong => (1, "a script has at most 4096 lines".into()),
         _ => bad_field(line),

@@ -6,26 +6,46 @@
 
 use crate::end::{End, Status};
 use crate::heap;
+use crate::import::Import;
 use crate::json::Quoted;
 use crate::judging::{Found, Judge, Stop, judge_recording};
-use crate::streams::{Output, Watched, bytes_of, print, standard_output};
+use crate::known::Known;
+use crate::log::Log;
+use crate::sarif::Sarif;
+use crate::streams::{Output, bytes_of, print, standard_output};
 use crate::terminal::{Paint, Style};
 use std::cell::RefCell;
 use std::io::{self, Write};
 use std::num::NonZeroU64;
 use uart_judges::findings::{self, MOST_TRACE_BYTES, VerifyError};
-use uart_judges::recording::RecordingError;
 use uart_judges::traces::TraceError;
 
 /// How findings are printed.
-#[derive(Clone, Copy, Debug, PartialEq, Eq)]
-pub enum Format {
+#[derive(Clone, Copy, Debug)]
+pub enum Format<'a> {
     /// As lines for people, each kind once.
     Lines(Style),
     /// As lines for people, all of them.
     AllLines(Style),
     /// Each as an object of JSON, which is one line.
     Json,
+    /// Each as a result of this document, whose head is printed already.
+    Sarif(&'a Sarif),
+}
+
+/// How recordings are judged.
+#[derive(Clone, Copy, Debug)]
+pub struct Judging<'a> {
+    /// Who judges them.
+    pub judge: Judge,
+    /// How what is found is printed.
+    pub format: Format<'a>,
+    /// Whether what the datasheet leaves open is left out.
+    pub is_settled: bool,
+    /// What the command line says about the log.
+    pub import: Import,
+    /// What is known of the chip.
+    pub known: Known,
 }
 
 impl Judge {
@@ -152,7 +172,7 @@ fn json(file: &str, line: &str, kind: &str, name: &str, text: &str, times: u64) 
 struct Listing<'a, W: Write> {
     output: &'a RefCell<Output<W>>,
     file: &'a str,
-    format: Format,
+    format: Format<'a>,
     tallies: Tallies,
 }
 
@@ -165,24 +185,22 @@ impl<W: Write> Listing<'_, W> {
             Format::Lines(style) | Format::AllLines(style) => {
                 writeln!(output, "{}", line_of(self.file, found, style))
             }
-            Format::Json => {
+            Format::Json | Format::Sarif(_) => {
                 let (kind, line) = (&found.kind, found.line.to_string());
-                let text = kind.to_string();
-                let object = json(
-                    self.file,
-                    &line,
-                    kind.severity(),
-                    kind.name(),
-                    &text,
-                    found.times,
-                );
+                let (text, times) = (kind.to_string(), found.times);
+                let (severity, name) = (kind.severity(), kind.name());
+                if let Format::Sarif(sarif) = self.format {
+                    let result = sarif.result(self.file, &line, severity, name, &text, times);
+                    return write!(output, "{result}");
+                }
+                let object = json(self.file, &line, severity, name, &text, times);
                 writeln!(output, "{object}")
             }
         }
     }
 
     // Prints how often each kind was found, and how much that is.
-    fn print_end(&mut self, judge: Judge, lines: u64) -> io::Result<()> {
+    fn print_end(&mut self, judge: Judge, lines: u64, read_as: Option<String>) -> io::Result<()> {
         let mut output = self.output.borrow_mut();
         let (Format::Lines(style) | Format::AllLines(style)) = self.format else {
             // The exit status says whether anything was found.
@@ -195,22 +213,8 @@ impl<W: Write> Listing<'_, W> {
         }
         let lines = counted(lines, "line");
         let total = counted(self.tallies.total(judge.counted()), judge.counted());
-        writeln!(output, "{}: {lines}, {total}", self.file)
-    }
-}
-
-/// Returns how a program ends that could not read a recording to its end.
-pub fn stopped(file: &str, stop: Stop) -> End {
-    match stop {
-        Stop::Recording(RecordingError::Faulty { line, fault }) => {
-            End::failed(format!("{file}:{line}: {fault}"))
-        }
-        Stop::Recording(RecordingError::Unread(cause)) => End::unread(file, cause),
-        Stop::NoAccess => End::failed(format!(
-            "{file}: no line of it is an access of a driver, so nothing was judged"
-        )),
-        Stop::Output(cause) => End::unwritten(cause),
-        Stop::OutOfMemory => End::out_of_memory(),
+        let read_as = read_as.map_or(String::new(), |read_as| format!(" {read_as}"));
+        writeln!(output, "{}: {lines}{read_as}, {total}", self.file)
     }
 }
 
@@ -221,29 +225,38 @@ pub fn stopped(file: &str, stop: Stop) -> End {
 ///
 /// How the program ends: something was found that is wrong, the recording cannot be read to its end,
 /// or the output cannot be written.
-pub fn judged(judge: Judge, file: &str, format: Format, is_settled: bool) -> Result<(), End> {
+pub fn judged(file: &str, judging: &Judging<'_>) -> Result<(), End> {
+    let Judging {
+        judge,
+        format,
+        is_settled,
+        import,
+        known,
+    } = judging;
     let output = RefCell::new(Output::new(standard_output().map_err(End::unwritten)?));
-    let reader = Watched::open(file, judge.name(), &output);
-    let reader = reader.map_err(|cause| End::unread(file, cause))?;
+    let mut log = Log::open(file, judge.name(), import, &output)?;
     let mut listing = Listing {
         output: &output,
         file,
-        format,
+        format: *format,
         tallies: Tallies::default(),
     };
-    let lines = judge_recording(judge, reader, |found| {
-        if is_settled && found.kind.is_open() {
+    let lines = judge_recording(*judge, known, &mut log, |found| {
+        if *is_settled && found.kind.is_open() {
             return Ok(());
         }
         listing.print(found)
     });
     let count = lines.and_then(|lines| {
-        listing.print_end(judge, lines).map_err(Stop::Output)?;
+        let ended = listing.print_end(*judge, lines, log.read_as());
+        ended.map_err(Stop::Output)?;
         Ok(listing.tallies.total(judge.counted()))
     });
+    let count = count.map_err(|stop| log.ended(stop));
+    drop(log);
     // If the output cannot be written, nothing else is worth saying.
     output.into_inner().finish().map_err(End::unwritten)?;
-    match count.map_err(|stop| stopped(file, stop))? {
+    match count? {
         0 => Ok(()),
         _ => Err(End::told(Status::Refused)),
     }
@@ -256,19 +269,22 @@ fn stray_line(trace: &[u8], limit: NonZeroU64) -> Result<String, VerifyError> {
 }
 
 // Prints where a trace strays. For people that is an error, on standard error.
-fn print_stray(file: &str, name: &str, line: &str, format: Format) -> Result<(), End> {
+fn print_stray(file: &str, name: &str, line: &str, format: Format<'_>) -> Result<(), End> {
     match format {
         Format::Lines(_) | Format::AllLines(_) => {
             // If standard error cannot be written, the exit status still says that it strays.
             let _ = writeln!(io::stderr(), "{name}{line}");
         }
-        Format::Json => {
+        Format::Json | Format::Sarif(_) => {
             let parts = line
                 .strip_prefix("line ")
                 .and_then(|line| line.split_once(": "));
-            let (line, text) = parts.unwrap_or(("0", line));
-            let object = json(file, line, "stray", "stray", text, 1);
-            print(format!("{object}\n").as_bytes())?;
+            let (line, text) = parts.unwrap_or(("1", line));
+            let object = match format {
+                Format::Sarif(sarif) => sarif.result(file, line, "stray", "stray", text, 1),
+                _ => json(file, line, "stray", "stray", text, 1) + "\n",
+            };
+            print(object.as_bytes())?;
         }
     }
     Err(End::told(Status::Refused))
@@ -284,7 +300,7 @@ fn print_stray(file: &str, name: &str, line: &str, format: Format) -> Result<(),
 pub fn verified(
     file: &str,
     limit: NonZeroU64,
-    format: Format,
+    format: Format<'_>,
     is_one_of_several: bool,
 ) -> Result<(), End> {
     let name = if is_one_of_several {

@@ -268,6 +268,37 @@ const FORMS: [Form; 28] = [
     },
 ];
 
+// The lines that have one word and no fields.
+const ALONE: [&str; 21] = [
+    "access",
+    "attach",
+    "connected",
+    "dump",
+    "flush",
+    "ier",
+    "is-idle",
+    "isr",
+    "lcr",
+    "loopback",
+    "lsr",
+    "mcr",
+    "msr",
+    "next",
+    "peek-modem",
+    "present",
+    "read-ready",
+    "retrigger-interrupts",
+    "spr",
+    "try-receive",
+    "write-ready",
+];
+
+/// Returns the first words of all lines.
+pub fn words_of_lines() -> impl Iterator<Item = &'static str> {
+    let words = FORMS.iter().filter_map(|form| form.usage.split(' ').next());
+    words.chain(ALONE)
+}
+
 /// Returns the form of the lines with this first word, or `None` if they have no fields.
 pub fn form_of(word: &[u8]) -> Option<&'static Form> {
     FORMS
@@ -283,6 +314,15 @@ pub fn fields_after(word: &[u8]) -> &'static [Field] {
 #[cfg(test)]
 mod tests {
     use super::*;
+    use uart_language::item_at;
+
+    #[test]
+    fn a_word_without_fields_is_a_line() {
+        for word in ALONE {
+            assert!(item_at(3, word.as_bytes()).is_ok(), "{word}");
+        }
+        assert!(words_of_lines().all(|word| !word.is_empty()));
+    }
 
     #[test]
     fn a_word_with_fields_has_its_form() {

@@ -1,11 +1,12 @@
 //! Judges a recording, entry by entry, in constant memory.
 
 use crate::heap;
+use crate::hints::Hints;
 use crate::kinds::Kind;
+use crate::known::{Known, Scale};
 use crate::piece::Piece;
 use geesetrunk_kit::alloc::AllocError;
 use std::io::{self, Read};
-use uart_chip::Chip;
 use uart_judges::audit::{Answers, Auditor, ChipAuditor, Finding, Findings, Severity};
 use uart_judges::recording::{Entry, Happening, Recording, RecordingError};
 use uart_judges::replay::{Difference, Replayer, Start};
@@ -27,6 +28,13 @@ pub enum Stop {
     Recording(RecordingError),
     /// It is read to its end, and has no access to a chip.
     NoAccess,
+    /// It is read to its end, and has fewer lines than this one.
+    NoLine {
+        /// The line.
+        line: u64,
+        /// How many lines there are.
+        lines: u64,
+    },
     /// What was found could not be printed.
     Output(io::Error),
     /// Memory could not be allocated.
@@ -130,6 +138,16 @@ impl<A: Steps> Default for Audited<A> {
     }
 }
 
+impl Audited {
+    /// Returns one that knows this of the chip, and was given nothing.
+    fn knowing(known: &Known) -> Self {
+        Audited {
+            auditor: known.auditor(),
+            last: None,
+        }
+    }
+}
+
 impl<A: Steps> Audited<A> {
     /// Goes on by an entry, which is made so many times as it says, and tells what is found, with
     /// how many times in turn. A judge that an entry leaves as it was finds the same at each that
@@ -187,8 +205,8 @@ impl<A: Steps> Audited<A> {
 }
 
 impl Audited {
-    /// Returns whether a finding at an entry that follows may be about a line up to this one.
-    pub fn may_name_up_to(&self, line: u64) -> bool {
+    // Returns whether a finding at an entry that follows may be about a line up to this one.
+    fn may_name_up_to(&self, line: u64) -> bool {
         let unserved = self.auditor.unserved.map(|identified| identified.line);
         let up = self.auditor.up.map(|mark| mark.line);
         [unserved, up]
@@ -197,48 +215,126 @@ impl Audited {
             .any(|named| named <= line)
     }
 
-    /// Returns the findings after the last entry.
-    pub fn end(&self) -> [Option<Finding>; 2] {
+    // Returns the findings after the last entry.
+    fn end(&self) -> [Option<Finding>; 2] {
         self.auditor.end()
     }
 }
 
-// Goes on by an entry, and takes down what is found at it. Returns whether that was something.
-fn audit<A: Steps>(
-    audited: &mut Audited<A>,
-    entry: &Entry,
-    is_wanted: impl Fn(Finding) -> bool,
-    found: &mut Vec<Found>,
-) -> bool {
-    let before = found.len();
-    audited.step(entry, |findings, times| {
-        for &finding in findings.iter().flatten() {
-            if !is_wanted(finding) {
-                continue;
+/// The judge of a driver, with what is known of its chip.
+///
+/// The proved judge takes a divisor at 1.8432 MHz. Where the clock is another one, a second judge is given the time in which a character
+/// takes as long at that clock: what it finds counts, but for the finding that is about a time of its own.
+#[derive(Clone, Debug)]
+pub struct DriverJudge {
+    known: Known,
+    usual: Audited,
+    scaled: Option<(Audited, Scale)>,
+    hints: Hints,
+}
+
+impl DriverJudge {
+    /// Returns a judge that knows this, and was given nothing.
+    pub fn new(known: Known) -> Self {
+        let scaled = |clock| (Audited::knowing(&known), Scale::new(clock));
+        DriverJudge {
+            usual: Audited::knowing(&known),
+            scaled: known.clock.map(scaled),
+            hints: Hints::default(),
+            known,
+        }
+    }
+
+    /// Goes on by an entry, and tells what is found about the driver, with how many times in turn.
+    pub fn step(&mut self, entry: &Entry, mut tell: impl FnMut(Kind, u64)) {
+        if self.known.counts(entry) {
+            self.audit(entry, &mut tell);
+        }
+        self.hints.step(entry, |hint| tell(Kind::Hint(hint), 1));
+    }
+
+    fn audit(&mut self, entry: &Entry, tell: &mut impl FnMut(Kind, u64)) {
+        let known = self.known;
+        let mut tell_all = |findings: &[Option<Finding>], times, is_wanted: fn(Finding) -> bool| {
+            let found = findings.iter().flatten().copied();
+            for finding in found.filter(|finding| is_wanted(*finding)) {
+                if let Some(kind) = kind_of(&known, finding) {
+                    tell(kind, times);
+                }
             }
-            let kind = Kind::Finding(finding);
-            let line = kind.line().unwrap_or(entry.line);
-            // Equal reads in turn have one finding, with how often.
-            match found.last_mut() {
-                Some(last) if last.kind == kind && last.line == line => last.times += times,
-                _ => found.push(Found { line, kind, times }),
+        };
+        match &mut self.scaled {
+            None => self
+                .usual
+                .step(entry, |findings, times| tell_all(findings, times, |_| true)),
+            Some((scaled, scale)) => {
+                scaled.step(&scale.scaled(entry), |findings, times| {
+                    tell_all(findings, times, |finding| !is_about_time(finding));
+                });
+                self.usual.step(entry, |findings, times| {
+                    tell_all(findings, times, is_about_time);
+                });
             }
         }
-    });
-    found.len() > before
+    }
+
+    /// Returns whether a finding at an entry that follows may be about a line up to this one.
+    pub fn may_name_up_to(&self, line: u64) -> bool {
+        self.usual.may_name_up_to(line)
+    }
+
+    /// Returns what is found after the last entry.
+    pub fn end(&self) -> impl Iterator<Item = Kind> {
+        let findings = self.usual.end().into_iter().flatten();
+        let hints = self.hints.end().into_iter().flatten();
+        findings.map(Kind::Finding).chain(hints.map(Kind::Hint))
+    }
+}
+
+// Returns whether a finding is about a time that has nothing to do with the clock of the chip.
+fn is_about_time(finding: Finding) -> bool {
+    matches!(finding, Finding::LeftWithLineUp(_))
+}
+
+// Returns what is told of a finding about the driver, with what is known of the chip.
+fn kind_of(known: &Known, finding: Finding) -> Option<Kind> {
+    if finding.severity() == Severity::Answer {
+        return None;
+    }
+    let finding = known.adapted(finding)?;
+    Some(match (finding, known.clock) {
+        (Finding::SetUp(setup), Some(_)) => Kind::SetUp(setup, *known),
+        _ => Kind::Finding(finding),
+    })
+}
+
+// Takes down what is found at a line. Equal reads in turn have one finding, with how often.
+fn take_down(found: &mut Vec<Found>, entry: &Entry, kind: Kind, times: u64) {
+    let line = kind.line().unwrap_or(entry.line);
+    match found.last_mut() {
+        Some(last) if last.kind == kind && last.line == line => last.times += times,
+        _ => found.push(Found { line, kind, times }),
+    }
 }
 
 // The judge of a chip: what the recording contradicts, and what no chip returns.
 struct ChipJudge {
+    known: Known,
     audited: Audited<ChipAuditor>,
+    // The time at the chip's own clock, if that is not the usual one.
+    scale: Option<Scale>,
     replayer: Replayer,
 }
 
 impl ChipJudge {
-    fn new() -> Self {
+    fn new(known: &Known) -> Self {
+        let mut audited: Audited<ChipAuditor> = Audited::default();
+        audited.auditor.seen = known.auditor();
         ChipJudge {
-            audited: Audited::default(),
-            replayer: Replayer::new(Chip::Uart16550A, Start::InUse),
+            known: *known,
+            audited,
+            scale: known.clock.map(Scale::new),
+            replayer: Replayer::new(known.chip, Start::InUse),
         }
     }
 
@@ -275,14 +371,64 @@ impl ChipJudge {
         }
     }
 
+    // Returns whether the recording contradicts what the chip answers at an entry, and takes it down.
+    fn contradictions(&mut self, entry: &Entry, found: &mut Vec<Found>) -> bool {
+        let known = self.known;
+        if !known.counts(entry) {
+            return false;
+        }
+        let before = found.len();
+        let timed = match &mut self.scale {
+            Some(scale) => scale.scaled(entry),
+            None => *entry,
+        };
+        self.audited.step(&timed, |findings, times| {
+            for &finding in findings.iter().flatten() {
+                if let Some(finding) = known.adapted(finding) {
+                    take_down(found, entry, Kind::Finding(finding), times);
+                }
+            }
+        });
+        found.len() > before
+    }
+
     // Returns what is found at an entry. What the recording contradicts says more than that the
     // chip never returns it, so that comes first, and alone.
     fn step(&mut self, entry: &Entry, found: &mut Vec<Found>) {
-        let is_contradicted = audit(&mut self.audited, entry, |_| true, found);
+        let is_contradicted = self.contradictions(entry, found);
         let before = found.len();
         self.differences(entry, found);
         if is_contradicted {
             found.truncate(before);
+        }
+    }
+}
+
+/// One of the judges, by itself.
+pub struct OneJudge(Which);
+
+// A judge is as large as what it knows.
+enum Which {
+    Driver(Box<DriverJudge>),
+    Chip(Box<ChipJudge>),
+}
+
+impl OneJudge {
+    /// Returns a judge that knows this, and was given nothing.
+    pub fn new(judge: Judge, known: &Known) -> Self {
+        OneJudge(match judge {
+            Judge::Audit => Which::Driver(Box::new(DriverJudge::new(*known))),
+            Judge::Replay => Which::Chip(Box::new(ChipJudge::new(known))),
+        })
+    }
+
+    /// Goes on by an entry, and takes down what is found at it.
+    pub fn step(&mut self, entry: &Entry, found: &mut Vec<Found>) {
+        match &mut self.0 {
+            Which::Driver(driver) => {
+                driver.step(entry, |kind, times| take_down(found, entry, kind, times));
+            }
+            Which::Chip(chip) => chip.step(entry, found),
         }
     }
 }
@@ -314,6 +460,31 @@ fn judge_entries(
     }
 }
 
+/// Reads a recording to its end, and hands on each entry. Returns how many lines it has.
+///
+/// # Errors
+///
+/// Why the recording was not read to its end, or what the entry is handed to returns.
+pub fn each_entry(
+    reader: impl Read,
+    mut act: impl FnMut(&Entry) -> Result<(), Stop>,
+) -> Result<u64, Stop> {
+    let mut recording = Recording::new(heap(), Piece::new(reader))?;
+    let mut has_access = false;
+    while let Some(entry) = recording.next_entry()? {
+        has_access |= matches!(
+            entry.happening,
+            Happening::Access(_) | Happening::Arrive { .. }
+        );
+        act(&entry)?;
+    }
+    if has_access {
+        Ok(recording.lines())
+    } else {
+        Err(Stop::NoAccess)
+    }
+}
+
 /// Judges a recording, and tells what is found as soon as it is found. Returns how many lines it
 /// has.
 ///
@@ -322,28 +493,24 @@ fn judge_entries(
 /// Why the recording was not read to its end.
 pub fn judge_recording(
     judge: Judge,
+    known: &Known,
     reader: impl Read,
     mut tell: impl FnMut(&Found) -> io::Result<()>,
 ) -> Result<u64, Stop> {
     if judge == Judge::Replay {
-        let mut chip = ChipJudge::new();
+        let mut chip = ChipJudge::new(known);
         return judge_entries(reader, &mut tell, &mut |entry, found| {
             chip.step(entry, found)
         });
     }
-    let mut audited: Audited = Audited::default();
-    let is_of_driver = |finding: Finding| finding.severity() != Severity::Answer;
-    let line = judge_entries(reader, &mut tell, &mut |entry, found| {
-        audit(&mut audited, entry, is_of_driver, found);
+    let mut driver = DriverJudge::new(*known);
+    let lines = judge_entries(reader, &mut tell, &mut |entry, found| {
+        driver.step(entry, |kind, times| take_down(found, entry, kind, times));
     })?;
-    for finding in audited.end().into_iter().flatten() {
-        let kind = Kind::Finding(finding);
-        tell(&Found {
-            line,
-            kind,
-            times: 1,
-        })
-        .map_err(Stop::Output)?;
+    for kind in driver.end() {
+        let line = kind.line().unwrap_or(lines);
+        let times = 1;
+        tell(&Found { line, kind, times }).map_err(Stop::Output)?;
     }
-    Ok(line)
+    Ok(lines)
 }

@@ -1,8 +1,10 @@
 //! The kinds of findings: what each is called, and what is printed for it. docs/AUDIT.md has a section
 //! for each name.
 
+use crate::hints::Hint;
+use crate::known::Known;
 use std::fmt;
-use uart_judges::audit::{Finding, Severity};
+use uart_judges::audit::{Finding, Setup, Severity};
 use uart_judges::replay::{Difference, Rule};
 use uart_spec::registers::InterruptType;
 
@@ -13,6 +15,10 @@ pub enum Kind {
     Finding(Finding),
     /// A value that the defined chip never returns.
     Difference(Difference),
+    /// The set-up, with what else is known of the chip.
+    SetUp(Setup, Known),
+    /// What a driver does, and may not mean.
+    Hint(Hint),
 }
 
 impl Kind {
@@ -21,6 +27,8 @@ impl Kind {
         match self {
             Kind::Finding(finding) => name_of(finding),
             Kind::Difference(difference) => rule_name(difference.rule),
+            Kind::SetUp(..) => "set-up",
+            Kind::Hint(hint) => hint.name(),
         }
     }
 
@@ -33,6 +41,7 @@ impl Kind {
                 Severity::Answer => "difference",
             },
             Kind::Difference(_) => "difference",
+            Kind::SetUp(..) | Kind::Hint(_) => "note",
         }
     }
 
@@ -46,6 +55,7 @@ impl Kind {
         match self {
             Kind::Finding(Finding::NotServed(identified)) => Some(identified.line),
             Kind::Finding(Finding::LeftWithLineUp(line)) => Some(*line),
+            Kind::Hint(hint) => hint.line(),
             _ => None,
         }
     }
@@ -336,6 +346,8 @@ impl fmt::Display for Kind {
     fn fmt(&self, f: &mut fmt::Formatter<'_>) -> fmt::Result {
         let finding = match self {
             Kind::Difference(difference) => return write!(f, "{difference}"),
+            Kind::SetUp(setup, known) => return write!(f, "set-up: {}", known.setup_text(setup)),
+            Kind::Hint(hint) => return write!(f, "{hint}"),
             Kind::Finding(finding) => finding,
         };
         match finding {

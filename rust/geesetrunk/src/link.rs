@@ -304,6 +304,6 @@ pub fn link(link: &Link<'_>) -> Result<(), End> {
         moments: ends[side].history().0,
         spans: ends[side].history().1,
     };
-    let picture = picture_of_link(&[drawn(0, of_left.file), drawn(1, of_right.file)]);
+    let picture = picture_of_link(&[drawn(0, of_left.file), drawn(1, of_right.file)])?;
     print(picture.as_bytes())
 }

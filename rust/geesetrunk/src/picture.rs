@@ -353,12 +353,25 @@ fn framed(title: &str, body: &str, height: usize) -> String {
     )
 }
 
+/// The most columns of the picture of a script or of a link: it has some four megabytes then, and no viewer shows more well.
+pub const MOST_COLUMNS: usize = 5_000;
+
+// Returns how a program ends whose picture would have so many columns, if they are too many.
+fn check_columns(count: usize, instead: &str) -> Result<(), End> {
+    if count <= MOST_COLUMNS {
+        return Ok(());
+    }
+    Err(End::failed(format!(
+        "the picture would have {count} columns, and at most {MOST_COLUMNS} are drawn: {instead}"
+    )))
+}
+
 /// Returns the timeline of a script with this text as a picture: for each moment a column, in as many bands of columns
 /// as necessary.
 ///
 /// # Errors
 ///
-/// How a program ends that is out of memory.
+/// How a program ends that is out of memory, or whose picture would have more than `MOST_COLUMNS` columns.
 pub fn picture(
     script: &Script,
     text: &[u8],
@@ -374,6 +387,7 @@ pub fn picture(
         start: 0,
     };
     observe(script, text, columns)?;
+    check_columns(cells.len(), "take --text, or a shorter script")?;
     let drawing = Drawing {
         clock: "tick",
         chip: script.chip(),

@@ -394,8 +394,8 @@ fn a_recording_without_an_access_is_not_judged() {
 #[test]
 fn a_piece_may_begin_with_a_repeat() {
     assert_judged("x 3\nr 5 60\nx 2\n", 0, "-: 3 lines, 0 ", "");
-    assert_judged("x 3\nX 1\nr 5 60\nz\n", 2, "", "-:4: ");
-    assert_judged("w 0 41\nx 3\n", 2, "", "-:2: no read before it");
+    assert_judged("x 3\nX 1\nr 5 60\nz\n", 2, "", "-:4:1: unknown word\nz\n^ ");
+    assert_judged("w 0 41\nx 3\n", 2, "", "-:2:1: no read before it");
     let timeline = ["timeline", "--recording", "--text"];
     let (status, printed, told) = parts(&run(GEESETRUNK, &timeline, b"x 3\nr 5 60\n"));
     assert_eq!(status, 0, "{told}");

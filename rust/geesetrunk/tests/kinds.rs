@@ -6,6 +6,7 @@ mod common;
 use common::{EXAMPLES, examples};
 use geesetrunk::excerpt::{Excerpt, Form, USUAL_EVENTS, timeline_of};
 use geesetrunk::judging::{Found, Judge, Stop, judge_recording};
+use geesetrunk::known::Known;
 use std::collections::BTreeSet;
 use std::fs;
 use std::path::{Path, PathBuf};
@@ -20,7 +21,7 @@ fn faults(recording: &[u8]) -> Vec<(u64, &'static str)> {
             }
             Ok(())
         };
-        match judge_recording(judge, recording, tell) {
+        match judge_recording(judge, &Known::default(), recording, tell) {
             Ok(_) | Err(Stop::NoAccess) => {}
             Err(other) => panic!("{other:?}"),
         }
@@ -65,13 +66,14 @@ fn a_timeline_up_to_a_warning_shows_it() {
             }
             Ok(())
         };
-        judge_recording(Judge::Audit, &recording[..], tell).unwrap();
+        judge_recording(Judge::Audit, &Known::default(), &recording[..], tell).unwrap();
         for (line, text) in warnings {
             let excerpt = Excerpt {
                 form: Form::Table,
                 file: "-",
                 line: Some(line),
                 most: USUAL_EVENTS,
+                known: Known::default(),
             };
             let table = timeline_of(&excerpt, &recording[..]).unwrap();
             let place = format!("{}, line {line}:\n{table}", path.display());
@@ -110,12 +112,94 @@ fn a_text_says_what_is_known() {
             }
             Ok(())
         };
-        judge_recording(Judge::Audit, recording.as_bytes(), tell).unwrap();
+        judge_recording(Judge::Audit, &Known::default(), recording.as_bytes(), tell).unwrap();
         let [(found, text)] = &texts[..] else {
             panic!("{texts:?}");
         };
         assert_eq!(*found, name);
         assert!(!text.contains(untrue), "{text}");
+    }
+}
+
+// Returns the names of the notes of a recording.
+fn notes(recording: &[u8]) -> BTreeSet<&'static str> {
+    let mut names = BTreeSet::new();
+    let tell = |found: &Found| {
+        if found.kind.severity() == "note" {
+            names.insert(found.kind.name());
+        }
+        Ok(())
+    };
+    match judge_recording(Judge::Audit, &Known::default(), recording, tell) {
+        Ok(_) | Err(Stop::NoAccess) => names,
+        Err(other) => panic!("{other:?}"),
+    }
+}
+
+// What the proved judge says of any driver.
+const FACTS: [&str; 5] = [
+    "set-up",
+    "errors-read",
+    "changes-read",
+    "ends-under-dlab",
+    "ends-in-loopback",
+];
+
+// Each note has a recording in which it is found, and of hints no other. No warning and no difference is found in it.
+#[test]
+fn each_note_is_found() {
+    for path in recordings_of(&Path::new(EXAMPLES).join("recordings/notes")) {
+        let name = path.file_stem().unwrap().to_str().unwrap();
+        let recording = fs::read(&path).unwrap();
+        let found = notes(&recording);
+        assert!(found.contains(name), "{}: {found:?}", path.display());
+        let other = found
+            .iter()
+            .find(|found| **found != name && !FACTS.contains(found));
+        assert_eq!(other, None, "{}", path.display());
+        assert_eq!(faults(&recording), [], "{}", path.display());
+    }
+}
+
+// What real systems do, and a hint says of it: OpenSBI and OVMF raise neither DTR nor RTS. Of Linux there is none, wherever its
+// recordings are cut.
+#[test]
+fn hints_about_real_systems_are_true() {
+    let hints = |recording: &[u8]| {
+        let mut names = notes(recording);
+        names.retain(|name| !FACTS.contains(name));
+        names
+    };
+    for (path, _) in examples("recordings", "recording", "audit") {
+        let name = path.file_stem().unwrap().to_str().unwrap();
+        if name.starts_with("refused-") {
+            continue;
+        }
+        let wanted: BTreeSet<_> = match name {
+            "opensbi-uboot" | "ovmf" => BTreeSet::from(["dtr-rts-never-set"]),
+            _ => BTreeSet::new(),
+        };
+        assert_eq!(hints(&fs::read(&path).unwrap()), wanted, "{name}");
+    }
+    for path in recordings_of(&Path::new(EXAMPLES).join("recordings/linux")) {
+        let text = fs::read(&path).unwrap();
+        let lines: Vec<_> = text.split_inclusive(|&byte| byte == b'\n').collect();
+        for cut in (0..=lines.len()).step_by(7) {
+            let (front, back) = lines.split_at(cut);
+            for (what, piece) in [("up to", front), ("from", back)] {
+                let found = hints(&piece.concat());
+                // What such a piece shows: a line without CTS, outputs that are off, a break that goes on, and IER before a change of
+                // speed, behind which the piece begins.
+                let may_be = [
+                    "cts-never-set",
+                    "dtr-rts-never-set",
+                    "ends-in-break",
+                    "ier-before-set-up",
+                ];
+                let other = found.iter().find(|name| !may_be.contains(name));
+                assert_eq!(other, None, "{} {what} line {cut}", path.display());
+            }
+        }
     }
 }
 

@@ -3,6 +3,7 @@
 
 use geesetrunk::heap;
 use geesetrunk::judging::{Judge, judge_recording};
+use geesetrunk::known::Known;
 use geesetrunk_kit::Vec as List;
 use geesetrunk_kit::alloc::AllocError;
 use std::alloc::{GlobalAlloc, Layout, System};
@@ -152,7 +153,7 @@ fn each_request_for_memory() {
     });
     for judge in [Judge::Audit, Judge::Replay] {
         each("a recording", None, || {
-            judge_recording(judge, RECORDING, |_| Ok(())).ok()
+            judge_recording(judge, &Known::default(), RECORDING, |_| Ok(())).ok()
         });
     }
 }

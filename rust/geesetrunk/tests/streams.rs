@@ -156,7 +156,7 @@ fn input_without_end_is_refused() {
         ),
         (
             &["audit", "/dev/zero"],
-            "/dev/zero:1: more than 65535 bytes in a line\n",
+            "/dev/zero:1:65536: too long: expected is a line of at most 65535 bytes\n",
         ),
     ] {
         let (_, text, errors) = parts(&run(GEESETRUNK, words, b""));

@@ -18,6 +18,12 @@ const FIFO: usize = 16;
 /// How often the device triggers at most for so many bytes of input, and of output.
 const TRIGGERS_IN: usize = 2;
 const TRIGGERS_OUT: usize = 1;
+/// How often it triggers at most for so many bytes of input if the monitor has a clock, and for how many bytes of output it triggers once:
+/// for so many as Linux hands to its driver at a time.
+const TRIGGERS_IN_BY_A_CLOCK: usize = 1;
+const PAGE_OF_OUTPUT: usize = 2048;
+/// How many interrupts for nothing a megabyte out may take then. What is typed may come while Linux is in its handler.
+const VAIN_BY_A_CLOCK: u64 = 5;
 /// How many bytes go to a slow host.
 const SOME: usize = 20_000;
 /// How many bytes a slow host takes in each millisecond of the guest.
@@ -38,6 +44,7 @@ pub fn named(name: &str, terminal: Terminal, folder: PathBuf) -> Option<Session>
     match name {
         "whole" => Some(Box::pin(whole(terminal))),
         "resumed" => Some(Box::pin(resumed(terminal, folder))),
+        "clocked" => Some(Box::pin(clocked(terminal))),
         "measured" => Some(Box::pin(measured(terminal))),
         _ => None,
     }
@@ -134,7 +141,7 @@ async fn moved(terminal: &Terminal, way: Way, bytes: &[u8]) -> Result<(), Failed
     Ok(())
 }
 
-/// Moves bytes, compares those that come back, and looks how often the device triggered for each 16 of them.
+/// Moves bytes, compares those that come back, and looks how often the device triggered.
 async fn move_and_count(
     terminal: &Terminal,
     way: Way,
@@ -144,7 +151,6 @@ async fn move_and_count(
     let before = terminal.counts().triggers;
     moved(terminal, way, bytes).await?;
     let triggers = terminal.counts().triggers - before;
-    let most = bytes.len() / FIFO * most;
     // A tenth more for what Linux does beside: it enables interrupts for each write, and is typed to.
     check(triggers <= (most + most / 10) as u64, || {
         format!(
@@ -160,8 +166,9 @@ async fn whole(terminal: Terminal) -> Result<(), Failed> {
     log_in(&terminal).await?;
     println!("boot and login: ok");
     let megabyte = bytes(MEGABYTE);
-    move_and_count(&terminal, Way::In, &megabyte, TRIGGERS_IN).await?;
-    move_and_count(&terminal, Way::Out, &megabyte, TRIGGERS_OUT).await?;
+    let fifos = MEGABYTE / FIFO;
+    move_and_count(&terminal, Way::In, &megabyte, fifos * TRIGGERS_IN).await?;
+    move_and_count(&terminal, Way::Out, &megabyte, fifos * TRIGGERS_OUT).await?;
     println!("a megabyte in, and out again, with few interrupts: ok");
     set_speed_and_frame(&terminal).await?;
     println!("stty sets speed and frame: ok");
@@ -184,6 +191,27 @@ async fn whole(terminal: Terminal) -> Result<(), Failed> {
     // What came back by then is compared in the next session.
     terminal.request(Request::Save);
     std::future::pending().await
+}
+
+/// What a clock changes: Linux is interrupted less often, and never waits.
+async fn clocked(terminal: Terminal) -> Result<(), Failed> {
+    log_in(&terminal).await?;
+    let megabyte = bytes(MEGABYTE);
+    let before = terminal.counts();
+    let in_most = MEGABYTE / FIFO * TRIGGERS_IN_BY_A_CLOCK;
+    move_and_count(&terminal, Way::In, &megabyte, in_most).await?;
+    move_and_count(&terminal, Way::Out, &megabyte, MEGABYTE / PAGE_OF_OUTPUT).await?;
+    let vain = terminal.counts().since(&before).vain;
+    check(vain <= VAIN_BY_A_CLOCK, || {
+        format!("{vain} interrupts for nothing")
+    })?;
+    println!("a megabyte in, and out again, with a clock, and hardly an interrupt for nothing: ok");
+    print_meanwhile(&terminal, &megabyte[..SOME]).await?;
+    be_slow(&terminal, &megabyte[..SOME]).await?;
+    moved(&terminal, Way::Both, &megabyte[..SOME]).await?;
+    println!("input while the kernel prints, a slow host, and each way at once, with a clock: ok");
+    let lost = terminal.counts().lost;
+    check(lost == 0, || format!("{lost} bytes of output are lost"))
 }
 
 /// Goes on in a machine that was saved while it moved a megabyte each way.

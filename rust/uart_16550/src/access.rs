@@ -6,7 +6,6 @@
 //! else.
 #![allow(unsafe_code)]
 
-use crate::design_ware::DesignWareRegisters;
 use crate::layout::{ByteOrder, InvalidLayoutError, RegisterLayout, RegisterWidth};
 #[cfg(any(target_arch = "x86", target_arch = "x86_64"))]
 use core::cell::Cell;
@@ -14,6 +13,7 @@ use core::cell::Cell;
 use core::marker::PhantomData;
 use core::num::{NonZeroU8, NonZeroUsize};
 use core::ptr::NonNull;
+use uart_design_ware::{DesignWareRegisters, USR};
 use uart_spec::InvalidAddressError;
 use uart_spec::backend::Backend;
 use uart_spec::registers::offsets;
@@ -497,9 +497,6 @@ impl Backend for WideMemory {
 pub struct DesignWareMemory {
     registers: WideMemory,
 }
-
-// How many registers USR is behind the first one.
-const USR: usize = 0x1f;
 
 impl DesignWareMemory {
     /// Returns the access to registers that lie as `layout` says, from `base` on. Makes no access.

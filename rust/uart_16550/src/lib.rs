@@ -7,7 +7,6 @@
 mod access;
 #[cfg(feature = "compat")]
 pub mod compat;
-mod design_ware;
 pub mod emergency;
 #[cfg(all(feature = "compat", feature = "embedded-io"))]
 mod io;
@@ -33,6 +32,8 @@ pub use native::*;
 ///
 /// Start with [`spec`](proved::spec), which says how a section is read.
 pub mod proved {
+    #[doc(inline)]
+    pub use uart_design_ware::proved as design_ware;
     #[doc(inline)]
     pub use uart_driver::proved as driver;
     #[doc(inline)]

@@ -39,8 +39,8 @@ pub mod backend {
     #[cfg(any(target_arch = "x86", target_arch = "x86_64"))]
     pub use crate::access::X86Ports;
     pub use crate::access::{DesignWareMemory, WideMemory, load_register, store_register};
-    pub use crate::design_ware::{DesignWare, DesignWareFault, DesignWareRegisters};
     pub use crate::layout::{ByteOrder, InvalidLayoutError, RegisterLayout, RegisterWidth};
+    pub use uart_design_ware::{DesignWare, DesignWareFault, DesignWareRegisters};
     pub use uart_driver::backend::{Backend, ByteAccess, MmioBackend, PioBackend, PortAccess};
 }
 

@@ -23,9 +23,10 @@ pub use line::SharedLine;
 use crate::native::Uart16550;
 use crate::native::backend::Backend;
 use crate::ring::{Global, RingError, StuckError, Uart16550Ring};
-use asynchronous::{Side, Waiter};
 use core::fmt;
+use core::task::Waker;
 use exclusive::Exclusive;
+use uart_waits::{Awaited, Seen, Waits};
 
 /// How a kernel keeps everybody else out: its lock that masks interrupts.
 ///
@@ -202,8 +203,7 @@ impl<S: CriticalSection, B: Backend> fmt::Debug for Shared<S, B> {
 /// What is behind the lock.
 struct Port<B> {
     rings: Option<Rings<B>>,
-    // The tasks that wait: the one for received bytes, and the one for the transmit ring.
-    waiters: [Option<Waiter>; Side::COUNT],
+    waits: Waits<Waker>,
 }
 
 struct Rings<B> {
@@ -211,26 +211,15 @@ struct Rings<B> {
     transmit_capacity: usize,
 }
 
-/// What somebody waits for.
-#[derive(Clone, Copy)]
-enum Awaited {
-    ReceivedByte,
-    TransmitRoom,
-    EmptyTransmitRing,
-}
-
 impl<B: Backend> Rings<B> {
-    fn has(&self, awaited: Awaited) -> bool {
-        match awaited {
-            Awaited::ReceivedByte => self.ring.receive_len() > 0,
-            Awaited::TransmitRoom => self.ring.transmit_len() < self.transmit_capacity,
-            Awaited::EmptyTransmitRing => self.ring.transmit_len() == 0,
+    // What those who wait for something look at.
+    fn seen(&self) -> Seen {
+        Seen {
+            received: self.ring.receive_len(),
+            queued: self.ring.transmit_len(),
+            capacity: self.transmit_capacity,
+            is_stuck: self.ring.stuck().is_some(),
         }
-    }
-
-    // Whether to wait for this no longer: it is there, or does not come.
-    fn ends_wait(&self, awaited: Awaited) -> bool {
-        self.has(awaited) || self.ring.stuck().is_some()
     }
 }
 
@@ -242,7 +231,7 @@ impl<S, B> Shared<S, B> {
             section,
             port: Exclusive::new(Port {
                 rings: None,
-                waiters: [const { None }; Side::COUNT],
+                waits: Waits::new(),
             }),
         }
     }
@@ -361,7 +350,7 @@ impl<S: CriticalSection, B: Backend> Shared<S, B> {
     fn ends_wait(&self, awaited: Awaited) -> bool {
         let looked = self.in_section(|port| {
             let rings = port.rings.as_ref();
-            Ok(rings.is_none_or(|rings| rings.ends_wait(awaited)))
+            Ok(rings.is_none_or(|rings| rings.seen().ends_wait(awaited)))
         });
         looked.unwrap_or(true)
     }
@@ -393,12 +382,13 @@ impl<S: CriticalSection, B: Backend> Shared<S, B> {
         let entered = self.section.run(|| {
             self.port.try_with(|port| {
                 let result = call(port);
-                (result, port.due())
+                let seen = port.rings.as_ref().map(Rings::seen);
+                (result, port.waits.take_due(seen))
             })
         });
         let (result, due) = entered.ok_or(SharedError::InUse)?;
-        for waiter in due.into_iter().flatten() {
-            waiter.wake();
+        for waiter in [due.receive, due.transmit].into_iter().flatten() {
+            waiter.waker.wake();
         }
         result
     }

@@ -1,8 +1,10 @@
 /*
- * u16550.h - a driver for serial chips of the 16550 family, for kernels and firmware.
+ * u16550.h - a driver for serial chips of the 16550 family, for kernels and firmware: the header of the library that is made of Rust.
  *
- * The device is reached by two functions of the caller, and the driver is in memory of the caller. The library allocates
- * nothing and has no variables. Link with libu16550.a.
+ * Made by tools/c/emit from the table of the interface, as c/u16550.h is, which needs no Rust. Do not edit.
+ *
+ * The device is reached by two functions of the caller, or by the library itself if it is in memory. The driver is in memory of the
+ * caller. The library allocates nothing and has no variables. Link with libu16550.a.
  *
  * The program defines u16550_panic, and memcpy, memmove, memset and memcmp as for any freestanding C.
  *
@@ -63,6 +65,10 @@
 #if defined(__cplusplus)
 extern "C" {
 #endif
+
+/* The version of this header. u16550_version returns that of the library. */
+#define U16550_VERSION "0.9.0"
+#define U16550_VERSION_NUMBER 900
 
 enum u16550_status { U16550_OK = 0 };
 
@@ -176,16 +182,11 @@ enum u16550_design_ware_fault {
     U16550_DESIGN_WARE_INTERRUPT = 151 /* busy detect, or a reception timeout without data, does not end */
 };
 
-/* Returns a text for what a function returned, for a log. Never null. */
-const char *U16550_CALL u16550_text(int status);
-
 /*
  * The library calls this in a panic. The program defines it; it must not return, throw or jump back into the library. No
  * call of the library is known to panic, so a panic is a defect of the library: stop the machine, or end the program.
  */
 U16550_NORETURN void u16550_panic(void);
-
-/* --------------------------------------------------------------- the device and the memory of a driver */
 
 /*
  * How the device is reached. The functions get the context and an address: the offset of a register, 0 to 7, or after
@@ -207,25 +208,9 @@ enum u16550_byte_order {
 
 /* How the registers of a device lie in memory, from the first one on. */
 struct u16550_layout {
-    uint8_t stride;               /* the distance between two registers in bytes: a power of two, and at least the width */
-    uint8_t width;                /* how many bits each access has: 8, 16 or 32 */
-    uint8_t byte_order;           /* an enum u16550_byte_order; it means nothing if the width is 8 */
-};
-
-/*
- * The memory of a driver. What is in it is the library's. It may be copied to another place between two calls, if only one
- * of the copies is used from then on. One thread at a time may use a driver; different drivers are independent.
- *
- * Set it to zero before a first driver is made in it, unless it is static, and so zero from the start. What was left in it
- * may look like a driver, or like a call that is not done.
- */
-struct u16550 {
-    uint64_t opaque[28];
-};
-
-/* The memory of a DesignWare UART: what the library keeps of it. It stays where it is as long as the driver is used. */
-struct u16550_design_ware {
-    uint64_t opaque[28];
+    uint8_t stride;                     /* the distance between two registers in bytes: a power of two, and at least the width */
+    uint8_t width;                      /* how many bits each access has: 8, 16 or 32 */
+    uint8_t byte_order;                 /* an enum u16550_byte_order; it means nothing if the width is 8 */
 };
 
 enum u16550_parity {
@@ -292,7 +277,9 @@ struct u16550_loopback_failure {
 };
 
 /* What was expected of a register, and what it shows. For FIFOs 1 says that they are on. */
-struct u16550_difference { uint16_t expected, shown; };
+struct u16550_difference {
+    uint16_t expected, shown;
+};
 
 /*
  * A received byte, and the line errors that LSR showed with it. Parity, framing and break are of this byte. An overrun tells that
@@ -336,6 +323,61 @@ struct u16550_stuck {
     uint8_t isr;                        /* bits 3 to 0 of ISR, which showed why; 0 if it is not stuck */
 };
 
+/* Bits of registers. */
+enum u16550_ier_bits {
+    U16550_IER_DATA_READY = 0x01,
+    U16550_IER_THR_EMPTY = 0x02,
+    U16550_IER_RECEIVER_LINE_STATUS = 0x04,
+    U16550_IER_MODEM_STATUS = 0x08
+};
+
+enum u16550_mcr_bits {
+    U16550_MCR_DTR = 0x01,
+    U16550_MCR_RTS = 0x02,
+    U16550_MCR_OUT_1 = 0x04,
+    U16550_MCR_OUT_2_INT_ENABLE = 0x08, /* on a PC the interrupt line is connected only with this */
+    U16550_MCR_LOOP_BACK = 0x10
+};
+
+enum u16550_lsr_bits {
+    U16550_LSR_DATA_READY = 0x01,
+    U16550_LSR_OVERRUN_ERROR = 0x02,
+    U16550_LSR_PARITY_ERROR = 0x04,
+    U16550_LSR_FRAMING_ERROR = 0x08,
+    U16550_LSR_BREAK_INTERRUPT = 0x10,
+    U16550_LSR_THR_EMPTY = 0x20,
+    U16550_LSR_TRANSMITTER_EMPTY = 0x40,
+    U16550_LSR_FIFO_DATA_ERROR = 0x80
+};
+
+enum u16550_msr_bits {
+    U16550_MSR_DELTA_CTS = 0x01,
+    U16550_MSR_DELTA_DSR = 0x02,
+    U16550_MSR_TRAILING_EDGE_RI = 0x04,
+    U16550_MSR_DELTA_CD = 0x08,
+    U16550_MSR_CTS = 0x10,
+    U16550_MSR_DSR = 0x20,
+    U16550_MSR_RI = 0x40,
+    U16550_MSR_CD = 0x80
+};
+
+/*
+ * The memory of a driver. What is in it is the library's: it is here so that a C compiler knows how much it is. Leave it alone. It may be
+ * copied to another place between two calls, if only one of the copies is used from then on. One thread at a time may use a driver;
+ * different drivers are independent.
+ *
+ * Set it to zero before a first driver is made in it, unless it is static, and so zero from the start. What was left in it
+ * may look like a driver, or like a call that is not done.
+ */
+struct u16550 {
+    uint64_t opaque[28];
+};
+
+/* The memory of a DesignWare UART: what the library keeps of it. It stays where it is as long as the driver is used. */
+struct u16550_design_ware {
+    uint64_t opaque[28];
+};
+
 U16550_ASSERT(sizeof(struct u16550) == 224, "struct u16550");
 U16550_ASSERT(sizeof(struct u16550_design_ware) == 224, "struct u16550_design_ware");
 U16550_ASSERT(sizeof(struct u16550_io) == 3 * sizeof(void *), "struct u16550_io");
@@ -358,6 +400,14 @@ U16550_ASSERT(sizeof(struct u16550_handled) == 2 * sizeof(size_t), "struct u1655
 U16550_ASSERT(offsetof(struct u16550_handled, end) == sizeof(size_t), "struct u16550_handled");
 U16550_ASSERT(sizeof(struct u16550_line_port) == 3 * sizeof(void *) + 2 * sizeof(int), "struct u16550_line_port");
 U16550_ASSERT(offsetof(struct u16550_line_port, status) == 3 * sizeof(void *), "struct u16550_line_port");
+
+/* --------------------------------------------------------------- numbers and the version as texts */
+
+/* Returns a text for what a function returned, for a log. Never null. */
+const char *U16550_CALL u16550_text(int status);
+
+/* Returns the version of the library, as U16550_VERSION was when it was compiled. Never null. */
+const char *U16550_CALL u16550_version(void);
 
 /* --------------------------------------------------------------- making a driver
  *
@@ -395,7 +445,8 @@ int U16550_CALL u16550_new_mmio_wide(struct u16550 *uart, uintptr_t base, const 
  * The functions get the offset of a register, 0 to 7, or 31 for the register USR. With mmio there are none, and the registers lie in
  * memory as for u16550_new_mmio_wide. Each driver has its own chip, which is in no other use as long as the driver is used.
  */
-int U16550_CALL u16550_new_design_ware(struct u16550 *uart, struct u16550_design_ware *chip, const struct u16550_io *io, uint64_t patience);
+int U16550_CALL u16550_new_design_ware(struct u16550 *uart, struct u16550_design_ware *chip, const struct u16550_io *io,
+                                       uint64_t patience);
 int U16550_CALL u16550_new_mmio_design_ware(struct u16550 *uart, struct u16550_design_ware *chip, uintptr_t base,
                                             const struct u16550_layout *layout, uint64_t patience);
 
@@ -625,41 +676,6 @@ int U16550_CALL u16550_config_register_dump(struct u16550 *uart, struct u16550_d
 int U16550_CALL u16550_dump_divisor(const struct u16550_dump *dump, uint16_t *divisor);
 int U16550_CALL u16550_dump_baud_rate(const struct u16550_dump *dump, const struct u16550_config *config, uint32_t *baud_rate);
 
-/* Bits of registers. */
-enum u16550_ier_bits {
-    U16550_IER_DATA_READY = 0x01,
-    U16550_IER_THR_EMPTY = 0x02,
-    U16550_IER_RECEIVER_LINE_STATUS = 0x04,
-    U16550_IER_MODEM_STATUS = 0x08
-};
-enum u16550_mcr_bits {
-    U16550_MCR_DTR = 0x01,
-    U16550_MCR_RTS = 0x02,
-    U16550_MCR_OUT_1 = 0x04,
-    U16550_MCR_OUT_2_INT_ENABLE = 0x08, /* on a PC the interrupt line is connected only with this */
-    U16550_MCR_LOOP_BACK = 0x10
-};
-enum u16550_lsr_bits {
-    U16550_LSR_DATA_READY = 0x01,
-    U16550_LSR_OVERRUN_ERROR = 0x02,
-    U16550_LSR_PARITY_ERROR = 0x04,
-    U16550_LSR_FRAMING_ERROR = 0x08,
-    U16550_LSR_BREAK_INTERRUPT = 0x10,
-    U16550_LSR_THR_EMPTY = 0x20,
-    U16550_LSR_TRANSMITTER_EMPTY = 0x40,
-    U16550_LSR_FIFO_DATA_ERROR = 0x80
-};
-enum u16550_msr_bits {
-    U16550_MSR_DELTA_CTS = 0x01,
-    U16550_MSR_DELTA_DSR = 0x02,
-    U16550_MSR_TRAILING_EDGE_RI = 0x04,
-    U16550_MSR_DELTA_CD = 0x08,
-    U16550_MSR_CTS = 0x10,
-    U16550_MSR_DSR = 0x20,
-    U16550_MSR_RI = 0x40,
-    U16550_MSR_CD = 0x80
-};
-
 /* --------------------------------------------------------------- rings, for use with interrupts
  *
  * Rings keep bytes until the chip has room for them, and received bytes until they are taken. Initialise the driver with
@@ -794,7 +810,8 @@ int U16550_CALL u16550_ring_service(struct u16550 *uart, size_t *count);
  * If one of the ports has no driver or no rings, or a call at it is not done, the number of this is returned, and nothing was done
  * at any.
  */
-int U16550_CALL u16550_line_handle(struct u16550_line_port *ports, size_t count, size_t limit, uint32_t rounds, uint8_t *served);
+int U16550_CALL u16550_line_handle(struct u16550_line_port *ports, size_t count, size_t limit, uint32_t rounds,
+                                   uint8_t *served);
 
 /* LSR or MSR, joined with the errors or changes that were noted since the last of these calls. */
 int U16550_CALL u16550_ring_take_line(struct u16550 *uart, uint8_t *lsr);

@@ -7,6 +7,7 @@
 #![deny(unsafe_op_in_unsafe_fn)]
 
 mod bytes;
+mod codes;
 mod data;
 mod design_ware;
 mod device;

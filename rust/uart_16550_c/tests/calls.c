@@ -68,7 +68,6 @@ static void misuse(int got, int wanted, const char *what, int line)
 
 static void sizes(void)
 {
-    IS(sizeof(struct u16550), 224);
     IS(sizeof(struct u16550_io), 3 * sizeof(void *));
     IS(offsetof(struct u16550_io, read), sizeof(void *));
     IS(offsetof(struct u16550_io, write), 2 * sizeof(void *));
@@ -1818,6 +1817,7 @@ static void texts(void)
         for (j = 0; j <= i; j++)
             IS(strcmp(u16550_text(known[i]), u16550_text(known[j])) == 0, i == j);
     IS(strcmp(u16550_text(1), "no known status"), 0);
+    IS(strcmp(u16550_version(), U16550_VERSION), 0);
     IS(strcmp(u16550_text(-12), "no known status"), 0);
     IS(strcmp(u16550_text(INT32_MIN), "no known status"), 0);
     for (i = 0; i < count; i++)

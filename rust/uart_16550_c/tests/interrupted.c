@@ -374,7 +374,9 @@ static void making_a_chip_again(void)
     IS(reads > 0, 1);
     IS(once.mixed, 0);
     /* A refused one leaves the driver as it is. */
-    STEPS(u16550_new_design_ware(&uart, &design_ware, &one, 0), U16550_ZERO_LIMIT, 0, 0);
+    steps_on();
+    IS(made(u16550_new_design_ware(&uart, &design_ware, &one, 0)), U16550_ZERO_LIMIT);
+    IS(got.not_made + got.no_rings + got.else_, 0);
     IS(once.mixed, 0);
     OK(u16550_end(&uart));
 }

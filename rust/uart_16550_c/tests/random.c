@@ -311,6 +311,6 @@ int main(void)
         compute(&room);
     }
     free(rings);
-    printf("%lu calls, and %lu in the middle of others\n", made, nested);
+    printf("version %s: %lu calls, and %lu in the middle of others\n", u16550_version(), made, nested);
     return nested == 0;
 }

@@ -276,6 +276,11 @@ static void call_u16550_text(void)
     keep(u16550_text(U16550_NULL_POINTER) != NULL);
 }
 
+static void call_u16550_version(void)
+{
+    keep(u16550_version() != NULL);
+}
+
 /* The most that a call takes, whichever interrupt the chip shows. */
 static void measure(const char *name, void (*call)(void), int has_rings)
 {
@@ -299,5 +304,6 @@ int main(void)
 #define RING(name, ...) measure(#name, call_##name, 1);
     CALLS(PLAIN, RING)
     measure("u16550_text", call_u16550_text, 0);
+    measure("u16550_version", call_u16550_version, 0);
     return 0;
 }

@@ -22,7 +22,7 @@ pub use uart_live::{
 };
 pub use uart_spec::registers;
 #[doc(inline)]
-pub use uart_virtual::{Answer, Received, Restored, Todo, VirtualPort, settle};
+pub use uart_virtual::{Answer, Clock, Received, Restored, Todo, VirtualPort, settle};
 
 /// The definitions that the sections "Proved" cite: what each name there means. No code is in it.
 ///

@@ -10,13 +10,15 @@ use uart_16550_chip::{Serial, SerialEvents, Trigger};
 
 const DATA: u8 = 0;
 const IER: u8 = 1;
+const ISR: u8 = 2;
 const FCR: u8 = 2;
 const MCR: u8 = 4;
 
-/// A line, which can be broken, and how often it was triggered.
+/// A line, which can be broken, how often it was triggered, and its level.
 #[derive(Default)]
 struct Line {
     count: Cell<u32>,
+    level: Cell<bool>,
     is_broken: Cell<bool>,
 }
 
@@ -28,6 +30,14 @@ impl Trigger for &Line {
             return Err(());
         }
         self.count.set(self.count.get() + 1);
+        Ok(())
+    }
+
+    fn set_level(&self, level: bool) -> Result<(), ()> {
+        if self.is_broken.get() {
+            return Err(());
+        }
+        self.level.set(level);
         Ok(())
     }
 }
@@ -144,6 +154,50 @@ fn a_timeout_that_cannot_be_triggered_is_tried_again() {
     serial.timeout_passed().unwrap();
     serial.timeout_passed().unwrap();
     assert_eq!(line.count.get(), 2);
+}
+
+/// What could not be triggered is told in the next call, even if that asks for a signal that can wait.
+#[test]
+fn what_is_tried_again_is_not_put_off() {
+    let (line, put_off) = (Line::default(), PutOff::default());
+    let mut serial: Device = Serial::with_events(&line, &put_off, sink());
+    serial.set_clock(true);
+    serial.write(FCR, 0x81).unwrap();
+    serial.write(IER, 0x01).unwrap();
+    line.is_broken.set(true);
+    serial.enqueue_raw_bytes(&[0; 12]).unwrap_err();
+    (0..4).for_each(|_| _ = serial.read(DATA));
+    line.is_broken.set(false);
+    // This one takes the line down, and a timeout takes it up.
+    serial.read(DATA);
+    assert_eq!((line.count.get(), put_off.0.get()), (1, 0));
+    assert!(!serial.is_timeout_to_come());
+}
+
+/// A transmitter that is empty again is no news while the guest may still be in its handler. The level waits with the signal.
+#[test]
+fn what_a_write_brings_waits_too() {
+    let (line, put_off) = (Line::default(), PutOff::default());
+    let mut serial: Device = Serial::with_events(&line, &put_off, sink());
+    serial.set_clock(true);
+    serial.write(FCR, 0x81).unwrap();
+    // The guest enables the interrupt: that is no access of DATA.
+    serial.write(IER, 0x02).unwrap();
+    assert_eq!((line.count.get(), line.level.get()), (1, true));
+    assert_eq!(serial.read(ISR), 0xc2);
+    assert!(!line.level.get());
+    serial.write(DATA, b'x').unwrap();
+    assert!(serial.level() && serial.is_timeout_to_come());
+    assert_eq!((line.count.get(), line.level.get()), (1, false));
+    serial.timeout_passed().unwrap();
+    assert_eq!((line.count.get(), line.level.get()), (2, true));
+    // A second byte, after which the guest disables the interrupt: nothing is left to be told.
+    assert_eq!(serial.read(ISR), 0xc2);
+    serial.write(DATA, b'y').unwrap();
+    serial.write(IER, 0x00).unwrap();
+    assert!(!serial.is_timeout_to_come());
+    serial.timeout_passed().unwrap();
+    assert_eq!((line.count.get(), line.level.get()), (2, false));
 }
 
 /// A read of DATA that brings a character with an error to the front raises the line. That is no timeout, and not put off.

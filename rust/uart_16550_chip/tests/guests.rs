@@ -89,6 +89,9 @@ impl Guest {
     }
 }
 
+/// What a guest does when it is interrupted.
+type Handler = fn(&mut Guest);
+
 /// Linux: drains what LSR shows, then sends as many as a FIFO has room for, until ISR shows none.
 fn linux(guest: &mut Guest) {
     while guest.read(ISR) & NONE_PENDING == 0 {
@@ -98,6 +101,33 @@ fn linux(guest: &mut Guest) {
         if guest.read(LSR) & CAN_SEND != 0 {
             (0..16).for_each(|_| guest.send());
         }
+    }
+}
+
+/// FreeBSD: asks ISR for a cause at a time, drains all for it by LSR, and fills a FIFO of 16 once.
+fn bsd(guest: &mut Guest) {
+    loop {
+        match guest.read(ISR) & 0x0f {
+            0x04 | 0x0c => {
+                while guest.read(LSR) & RECEIVED != 0 {
+                    guest.receive();
+                }
+            }
+            0x02 => (0..16).for_each(|_| guest.send()),
+            _ => return,
+        }
+    }
+}
+
+/// Looks once, takes what it likes, four characters, and returns.
+fn leaves_early(guest: &mut Guest) {
+    if guest.read(ISR) & NONE_PENDING == 0 {
+        for _ in 0..4 {
+            if guest.read(LSR) & RECEIVED != 0 {
+                guest.receive();
+            }
+        }
+        (0..4).for_each(|_| guest.send());
     }
 }
 
@@ -372,19 +402,120 @@ fn with_a_clock_each_handler_reads_all_that_is_typed() {
     }
 }
 
+/// A handler that sends as long as ISR shows a cause, or as LSR shows room, needs no time for what it sends. One that sends a piece for
+/// each interrupt gets the next interrupt when the time has passed, as on a line that takes that time. In either case the last byte empties
+/// the transmitter, and a guest that does not look is interrupted for that.
 #[test]
 fn with_a_clock_each_handler_sends_its_text() {
-    for handler in [
-        linux,
-        xv6,
-        one_by_lsr,
-        one_by_isr,
-        trigger_level,
-        blind_sender,
+    for (handler, times) in [
+        (linux as Handler, 0),
+        (bsd, 0),
+        (xv6, 0),
+        (trigger_level, TEXT.len() / 16),
+        (leaves_early, TEXT.len() / 4),
+        (one_by_lsr, TEXT.len()),
+        (one_by_isr, TEXT.len()),
+        (blind_sender, TEXT.len()),
     ] {
-        let mut guest = clocked(0x87, 0x02, TEXT);
-        assert_eq!(guest.interrupts_and_time(handler), 0);
-        assert_eq!(guest.serial.writer(), TEXT);
+        for fcr in LEVELS {
+            let mut guest = clocked(fcr, 0x02, TEXT);
+            assert!(guest.interrupts_and_time(handler) as usize <= times + 1);
+            assert_eq!(guest.serial.writer(), TEXT);
+        }
+    }
+}
+
+/// One interrupt for all that is sent, and none for nothing: each byte empties the transmitter while the handler runs.
+#[test]
+fn with_a_clock_linux_is_signalled_once_for_what_it_sends() {
+    let mut guest = clocked(0x87, 0x02, &[0; 1600]);
+    let mut runs = 0;
+    while guest.edges.is_latched.take() {
+        runs += 1;
+        linux(&mut guest);
+        // Nothing is left to be sent: Linux disables the interrupt.
+        guest.serial.write(IER, 0x00).unwrap();
+    }
+    assert_eq!(guest.serial.writer().len(), 1600);
+    assert_eq!((runs, guest.edges.count.get()), (1, 1));
+    assert!(!guest.serial.is_timeout_to_come());
+}
+
+/// Pseudorandom numbers: xorshift.
+struct Random(u64);
+
+impl Random {
+    fn below(&mut self, end: usize) -> usize {
+        self.0 ^= self.0 << 13;
+        self.0 ^= self.0 >> 7;
+        self.0 ^= self.0 << 17;
+        (self.0 % end as u64) as usize
+    }
+}
+
+impl Guest {
+    /// Input comes, handlers run and time passes in a random order, until all of the input was offered and nothing is left to happen: no
+    /// edge is latched, and no interrupt is put off.
+    fn live(&mut self, handler: fn(&mut Self), input: &[u8], random: &mut Random) {
+        let mut rest = input;
+        for _ in 0..100_000 {
+            match random.below(4) {
+                0 if !rest.is_empty() => {
+                    let length = rest.len().min(1 + random.below(16));
+                    if let Ok(count) = self.serial.enqueue_raw_bytes(&rest[..length]) {
+                        rest = &rest[count..];
+                    }
+                }
+                1 if self.serial.is_timeout_to_come() => self.serial.timeout_passed().unwrap(),
+                // Most handlers run at once.
+                2 | 3 if self.edges.is_latched.take() => handler(self),
+                _ => {}
+            }
+            let is_at_rest = !self.edges.is_latched.get() && !self.serial.is_timeout_to_come();
+            if is_at_rest && (rest.is_empty() || self.serial.fifo_capacity() == 0) {
+                assert!(rest.is_empty(), "a full FIFO is no signal");
+                return;
+            }
+        }
+        panic!("it goes on for ever");
+    }
+}
+
+/// None waits for ever: once the time has passed, a guest that is at rest has read all, or it left its handler while the line was up, and
+/// that has not fallen since. None is deaf: then the FIFO fills, and it is called.
+#[test]
+fn with_a_clock_no_handler_waits_for_ever_and_none_is_deaf() {
+    let handlers: [(Handler, bool); 8] = [
+        // These read until nothing waits.
+        (linux, true),
+        (bsd, true),
+        (xv6, true),
+        // These leave while characters wait.
+        (one_by_lsr, false),
+        (one_by_isr, false),
+        (leaves_early, false),
+        (trigger_level, false),
+        (trigger_level_by_lsr, false),
+    ];
+    for (number, (handler, reads_all)) in handlers.into_iter().enumerate() {
+        for fcr in [0x01, 0x41, 0x81, 0xc1] {
+            for seed in 1..=50 {
+                let mut random = Random(seed);
+                let mut guest = clocked(fcr, 0x01, &[]);
+                let typed: Vec<u8> = (0..200).collect();
+                guest.live(handler, &typed, &mut random);
+                let case = format!("handler {number}, FCR {fcr:#04x}, seed {seed}");
+                assert!(!reads_all || guest.received == typed, "{case}");
+                // It is called as soon as there is no room, and goes on.
+                let before = guest.received.len();
+                let room = guest.serial.fifo_capacity();
+                assert!(room > 0, "{case}");
+                guest.serial.enqueue_raw_bytes(&vec![0; room]).unwrap();
+                assert!(guest.edges.is_latched.get(), "{case}");
+                guest.interrupts_and_time(handler);
+                assert!(guest.received.len() > before, "{case}");
+            }
+        }
     }
 }
 

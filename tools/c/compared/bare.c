@@ -1,8 +1,12 @@
 /*
- * The comparison where there is no library of C and no compiler's: for processors with the other byte order, in QEMU's user mode. CALLS and
- * SEED are given to the compiler.
+ * The comparison where there is no library of C, in QEMU's user mode: for processors with the other byte order, and for Arm, whose accesses
+ * to registers in memory are instructions of their own. CALLS and SEED are given to the compiler.
  */
+#if defined(OF_PORT)
+#include "port.h"
+#else
 #include "calls.h"
+#endif
 
 #if defined(__s390x__)
 static long call_system(long number, long one, long two, long three)
@@ -58,6 +62,28 @@ uint64_t __umoddi3(uint64_t number, uint64_t by)
     divide(number, by, &rest);
     return rest;
 }
+#elif defined(__aarch64__)
+static long call_system(long number, long one, long two, long three)
+{
+    register long x8 __asm__("x8") = number;
+    register long x0 __asm__("x0") = one;
+    register long x1 __asm__("x1") = two;
+    register long x2 __asm__("x2") = three;
+    __asm__ volatile("svc 0" : "+r"(x0) : "r"(x8), "r"(x1), "r"(x2) : "memory");
+    return x0;
+}
+enum { WRITE = 64, EXIT = 93 };
+#elif defined(__arm__)
+static long call_system(long number, long one, long two, long three)
+{
+    register long r7 __asm__("r7") = number;
+    register long r0 __asm__("r0") = one;
+    register long r1 __asm__("r1") = two;
+    register long r2 __asm__("r2") = three;
+    __asm__ volatile("svc 0" : "+r"(r0) : "r"(r7), "r"(r1), "r"(r2) : "memory");
+    return r0;
+}
+enum { WRITE = 4, EXIT = 1 };
 #endif
 
 void *memcpy(void *to, const void *from, size_t len);
@@ -97,4 +123,6 @@ void begin(void)
 __asm__(".globl _start\n_start: aghi %r15,-160\nbrasl %r14,begin\n");
 #elif defined(__powerpc__)
 __asm__(".globl _start\n_start: stwu 1,-64(1)\nbl begin\n");
+#elif defined(__aarch64__) || defined(__arm__)
+__asm__(".globl _start\n_start: bl begin\n");
 #endif

@@ -5,55 +5,7 @@
  */
 #include "u16550.h"
 
-#if defined(__cplusplus)
-extern "C" {
-#endif
-void print(const char *text, size_t len);
-#if defined(__cplusplus)
-}
-#endif
-
-/* ---- choices and the hash */
-
-static uint64_t choices, hash;
-
-#if defined(__clang__)
-/* These numbers are to overflow. */
-__attribute__((no_sanitize("unsigned-integer-overflow", "unsigned-shift-base")))
-#endif
-static uint64_t choose(void)
-{
-    uint64_t z = choices += UINT64_C(0x9e3779b97f4a7c15);
-    z = (z ^ z >> 30) * UINT64_C(0xbf58476d1ce4e5b9);
-    z = (z ^ z >> 27) * UINT64_C(0x94d049bb133111eb);
-    return z ^ z >> 31;
-}
-
-/* A number below this one. */
-static uint32_t below(uint32_t most)
-{
-    return (uint32_t)((choose() >> 32) % most);
-}
-
-static uint8_t any_byte(void)
-{
-    return (uint8_t)below(256);
-}
-
-#if defined(__clang__)
-__attribute__((no_sanitize("unsigned-integer-overflow")))
-#endif
-static void note(uint64_t word)
-{
-    hash = (hash ^ word) * UINT64_C(0x100000001b3);
-    hash ^= hash >> 29;
-}
-
-static void note_bytes(const uint8_t *bytes, size_t len)
-{
-    for (size_t i = 0; i < len; i++)
-        note(bytes[i]);
-}
+#include "choices.h"
 
 /* Now and then a call gets null for what it is to write. */
 static int is_null;
@@ -67,7 +19,7 @@ static int told(int status)
 
 /* ---- the device: at random, or one that works, or one that sends to itself, or one that works and seldom shows something else */
 
-enum { DATA, IER, ISR, LCR, MCR, LSR, MSR, SPR, FCR = ISR, DLAB = 0x80, LOOP_BACK = 0x10 };
+enum { DATA, IER, ISR, LCR, MCR, LSR, MSR, SPR, FCR = ISR, USR = 31, DLAB = 0x80, LOOP_BACK = 0x10 };
 
 struct device {
     uint8_t registers[8], dll, dlm, kind, idle, queue[256], first, end;
@@ -87,7 +39,7 @@ static uint8_t lines(uint8_t high)
 static uint8_t likely(unsigned offset)
 {
     static const uint8_t lsr[8] = { 0x60, 0x61, 0x00, 0x01, 0x20, 0x63, 0x9f, 0x40 };
-    static const uint8_t isr[8] = { 0x01, 0xc1, 0xc2, 0xc4, 0xc6, 0xcc, 0xc0, 0xce };
+    static const uint8_t isr[9] = { 0x01, 0xc1, 0xc2, 0xc4, 0xc6, 0xcc, 0xc0, 0xce, 0xc7 };
     if (below(4) == 0)
         return any_byte();
     switch (offset) {
@@ -98,7 +50,7 @@ static uint8_t likely(unsigned offset)
     case MCR:
         return below(2) ? 0x0b : 0x1b;
     case ISR:
-        return isr[below(8)];
+        return isr[below(9)];
     case LCR:
         return below(4) ? 0x03 : 0x83;
     default:
@@ -139,7 +91,11 @@ static uint8_t working(unsigned offset)
 static uint8_t read_register(void *context, uintptr_t address)
 {
     unsigned offset = (unsigned)address & 7;
-    uint8_t value = chip.kind == 0 || below(chip.kind == 3 ? 400 : 64) == 0 ? likely(offset) : working(offset);
+    uint8_t value;
+    if (address == USR)
+        value = below(4) ? 0 : any_byte();
+    else
+        value = chip.kind == 0 || below(chip.kind == 3 ? 400 : 64) == 0 ? likely(offset) : working(offset);
     note(0x10000u + (uint64_t)address * 256 + value);
     note(context == (void *)&chip);
     meanwhile();
@@ -173,6 +129,65 @@ static void fill(size_t len)
 {
     for (size_t i = 0; i < len; i++)
         bytes[i] = any_byte();
+}
+
+/* ---- registers in memory, which the library accesses itself: as they lie there, on a processor of each byte order */
+
+enum { REGISTERS = USR + 1, MOST_STRIDE = 128 };
+static uint32_t words[REGISTERS * MOST_STRIDE / 4 + 1];
+static struct u16550_layout layout;
+static struct u16550_design_ware chips[2];
+
+static uint8_t *register_at(unsigned offset)
+{
+    return (uint8_t *)words + (size_t)offset * layout.stride;
+}
+
+static int is_big_endian(void)
+{
+    const uint16_t one = 1;
+    return layout.byte_order == U16550_NATIVE_ENDIAN ? *(const uint8_t *)&one == 0 : layout.byte_order == U16550_BIG_ENDIAN;
+}
+
+static void put_register(unsigned offset, uint32_t value)
+{
+    unsigned bytes_of = layout.width / 8u;
+    for (unsigned i = 0; i < bytes_of; i++)
+        register_at(offset)[is_big_endian() ? bytes_of - 1 - i : i] = (uint8_t)(value >> 8 * i);
+}
+
+static uint32_t get_register(unsigned offset)
+{
+    uint32_t value = 0;
+    unsigned bytes_of = layout.width / 8u;
+    for (unsigned i = 0; i < bytes_of; i++)
+        value |= (uint32_t)register_at(offset)[is_big_endian() ? bytes_of - 1 - i : i] << 8 * i;
+    return value;
+}
+
+/* A layout: mostly one that can be. */
+static struct u16550_layout some_layout(void)
+{
+    static const uint8_t widths[3] = { 8, 16, 32 };
+    struct u16550_layout made;
+    made.stride = (uint8_t)(below(12) ? 1u << below(8) : below(256));
+    made.width = (uint8_t)(below(12) ? widths[below(3)] : below(40));
+    made.byte_order = (uint8_t)below(below(12) ? 3 : 5);
+    return made;
+}
+
+/* Something in each register, also above the lowest byte. The chip is seldom busy. */
+static void fill_registers(void)
+{
+    for (unsigned offset = 0; offset < REGISTERS; offset++)
+        put_register(offset, (uint32_t)(choose() >> 32) << 8 | likely(offset & 7));
+    put_register(USR, below(4) == 0);
+}
+
+static void note_registers(void)
+{
+    for (unsigned offset = 0; offset < REGISTERS; offset++)
+        note(get_register(offset));
 }
 
 /* A length: mostly short, and now and then that of many bursts. */
@@ -286,6 +301,43 @@ static void note_driver(struct u16550 *u)
         note(stuck.is_stuck);
         note(stuck.isr);
     }
+    told(u16550_design_ware_fault(u, &chips[0]));
+    told(u16550_design_ware_fault(u, &chips[1]));
+    note_registers();
+}
+
+/* A base for registers in memory: where they are, or where none can be. What is made there is not used. */
+static uintptr_t some_base(void)
+{
+    return below(8) ? (uintptr_t)words : below(2) ? (uintptr_t)words + below(4) : below(2) ? 0 : UINTPTR_MAX - below(500);
+}
+
+static void new_in_memory(struct u16550 *u, int is_design_ware)
+{
+    struct u16550_layout made = some_layout();
+    uintptr_t base = some_base();
+    uint64_t patience = below(20) ? 1 + below(6) : 0;
+    int status;
+    if (is_design_ware)
+        status = told(u16550_new_mmio_design_ware(u, OUT(&chips[0]), base, OUT(&made), patience));
+    else
+        status = told(u16550_new_mmio_wide(u, base, OUT(&made)));
+    if (status != U16550_OK)
+        return;
+    if (base == (uintptr_t)words) {
+        layout = made;
+        fill_registers();
+    } else {
+        told(u16550_new(u, &device_io));
+    }
+    told(u16550_set_spin_limit(u, 1 + below(20)));
+}
+
+static void new_design_ware(struct u16550 *u, const struct u16550_io *io)
+{
+    uint64_t patience = below(20) ? 1 + below(6) : 0;
+    told(u16550_new_design_ware(u, OUT(&chips[0]), below(20) ? io : NULL, patience));
+    told(u16550_set_spin_limit(u, 1 + below(20)));
 }
 
 static void new_rings(struct u16550 *u)
@@ -312,6 +364,22 @@ static void make_driver(struct u16550 *u, uint32_t which)
     base = below(8) ? 0x1000 : below(2) * 0x1001;
     stride = (uint8_t)(below(8) ? 1u : below(256));
     switch (which) {
+    case 5:
+        new_in_memory(u, 0);
+        return;
+    case 6:
+        new_in_memory(u, 1);
+        return;
+    case 7:
+    case 8:
+        new_design_ware(u, &io);
+        return;
+    case 9:
+        told(u16550_set_spin_limit(u, 1 + below(20)));
+        if (below(2))
+            told(u16550_ring_end(u));
+        told(u16550_emergency(u));
+        return;
     case 0:
         told(u16550_new(u, &io));
         break;
@@ -424,6 +492,10 @@ static void call_settings(struct u16550 *u, uint32_t which)
         told(u16550_set_spin_limit(u, below(30) ? 1 + below(20) : 0));
         break;
     case 19:
+        /* In place of functions of the library those of this program would get addresses of its memory, which are others in each build. */
+        if (u16550_get_io(u, &io) == U16550_OK && io.context == NULL)
+            break;
+        io = device_io;
         told(u16550_set_io(u, below(10) ? &io : NULL));
         if (told(u16550_get_io(u, OUT(&io))) == U16550_OK)
             note(io.read == read_register && io.write == write_register && io.context == (void *)&chip);
@@ -432,6 +504,7 @@ static void call_settings(struct u16550 *u, uint32_t which)
         if (told(u16550_default_config(OUT(&config))) == U16550_OK)
             note_config(&config);
         note_bytes((const uint8_t *)u16550_text((int)below(166) - 20), 4);
+        note_bytes((const uint8_t *)u16550_version(), sizeof U16550_VERSION);
         break;
     }
 }
@@ -678,7 +751,7 @@ static void call(struct u16550 *u)
 {
     static const uint32_t kinds[12] = { 0, 1, 1, 1, 1, 2, 2, 3, 3, 3, 3, 4 };
     uint32_t kind = kinds[below(12)];
-    uint32_t which = below(kind == 0 ? 21 : kind == 1 ? 22 : kind == 2 ? 15 : kind == 3 ? 22 : below(6) ? 1 : 6);
+    uint32_t which = below(kind == 0 ? 21 : kind == 1 ? 22 : kind == 2 ? 15 : kind == 3 ? 22 : below(4) ? 1 : 11);
     times[kind][which]++;
     is_null = below(50) == 0;
     if (below(200) == 0)
@@ -722,24 +795,10 @@ static void meanwhile(void)
     is_nested = 0;
 }
 
-static void print_number(uint64_t number, unsigned base, const char *end)
-{
-    char text[24], *at = text + sizeof text;
-    size_t len = 0;
-    do {
-        *--at = "0123456789abcdef"[number % base];
-        number /= base;
-    } while (number);
-    print(at, (size_t)(text + sizeof text - at));
-    while (end[len])
-        len++;
-    print(end, len);
-}
-
 /* Makes so many calls. Prints the hash after each thousand, and in the end how many calls were never made. */
 static void compare(uint64_t seed, uint32_t total)
 {
-    static const uint32_t counts[5] = { 21, 22, 15, 22, 6 };
+    static const uint32_t counts[5] = { 21, 22, 15, 22, 11 };
     uint32_t never = 0;
     choices = seed;
     hash = 1;
@@ -748,7 +807,10 @@ static void compare(uint64_t seed, uint32_t total)
             static const struct device none = { { 0 }, 0, 0, 0, 0x60, { 0 }, 0, 0 };
             chip = none;
             chip.kind = (uint8_t)below(4);
-            told(u16550_new(&uart, &device_io));
+            if (below(4))
+                told(u16550_new(&uart, &device_io));
+            else
+                told(u16550_new_design_ware(&uart, &chips[0], &device_io, 1 + below(6)));
             told(u16550_set_spin_limit(&uart, 1 + below(20)));
             if (below(2))
                 new_rings(&uart);

@@ -37,7 +37,8 @@ class Type:
 
 @dataclasses.dataclass
 class Function:
-    """A function. `owner` is the type of its `impl`, `trait` the trait of it, with their parameters; `is_declared` is one of a trait."""
+    """A function. `owner` is the type of its `impl`, `trait` the trait of it, with their parameters; `is_declared` is one of a trait. `body`
+    is its text with its braces, or nothing."""
 
     name: str
     module: str
@@ -49,6 +50,7 @@ class Function:
     owner: str = ""
     trait: str = ""
     is_declared: bool = False
+    body: str = ""
 
     def path(self):
         """The path that the eraser gives the function."""
@@ -157,6 +159,11 @@ def read_type(found, text, file, module):
     return Type(found[3], module, file, found[2] == "enum", parameters, variants, derives)
 
 
+def body_of(text, at):
+    """The body that begins here, or nothing."""
+    return text[at : closing(text, at) + 1] if text[at] == "{" else ""
+
+
 def read_function(found, text, file, module, owner):
     close = closing(text, found.end() - 1)
     rest = re.match(r"\s*(?:->\s*([^{;]*?))?\s*(?:where[^{;]*)?[{;]", text[close + 1 :])
@@ -168,6 +175,7 @@ def read_function(found, text, file, module, owner):
         generics=found[3] or "",
         parameters=split(text[found.end() : close]),
         result=(rest[1] or "()").strip(),
+        body=body_of(text, close + 1 + rest.end() - 1),
     )
     if owner and "trait" in owner[1]:
         function.is_declared, function.trait = True, re.match(r"\s*\w+", owner[2])[0].strip()

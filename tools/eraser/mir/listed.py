@@ -3,22 +3,34 @@
 An entry that is not needed is a failure, so that none outlives its reason.
 """
 
-# The packages: the crates of each, which have the MIR, and the features that are compiled.
+# The packages: the crates of each, which have the MIR, the features that are compiled, and which of the crates are compared there.
+OF_DRIVER = ["uart_spec", "uart_16550", "uart_ring"]
+OF_CHIP = ["uart_spec", "uart_events", "uart_chip", "uart_live", "uart_virtual"]
 PACKAGES = {
-    "uart_16550": (["uart_spec", "uart_16550", "uart_ring"], ["alloc"]),
-    "uart_16550_chip": (["uart_spec", "uart_events", "uart_chip", "uart_live", "uart_virtual"], []),
+    "uart_16550": (OF_DRIVER, ["alloc"], OF_DRIVER),
+    "uart_16550_chip": (OF_CHIP, [], OF_CHIP),
 }
 # What is not compared: a pattern of the name, and why.
 UNDER_A_SCHEDULE = "of a chip under a schedule, which allocates: scripts that are played by both sides compare it"
 UNCOMPARED = {
     r"^uart_chip::device::": UNDER_A_SCHEDULE,
     r"HeapFifo|HeapWire|\bMarks": UNDER_A_SCHEDULE,
-    r"^uart_events::call::": "calls as data, which scripts are made of: scripts that are played by both sides compare it",
     r"^\w+::laws::": "a law, which does nothing",
     r"^uart_spec::registers::(every_byte_is_a_value|masks_are_these)$": "a lemma, which does nothing",
 }
+# What is not compared in one package alone.
+UNCOMPARED_IN = {
+    "uart_16550_chip": {r"^uart_events::call::": "calls as data, which scripts are made of: scripts that are played by both sides compare it"},
+}
+
+
+def uncompared(package):
+    """The patterns of what is not compared in a package, with the reasons."""
+    return UNCOMPARED | UNCOMPARED_IN.get(package, {})
+
+
 # The crates of the kit whose MIR they reach.
-OF_KIT = ["core", "std_heap", "std_alloc", "bitflags", "arrayvec", "circular_buffer"]
+OF_KIT = ["core", "std_heap", "std_alloc", "std_io", "std", "bitflags", "arrayvec", "circular_buffer"]
 
 # Functions that differ: a pattern of the name, and why.
 SHOWS_REGISTER = "shows a register, of which `Debug` is by hand"
@@ -109,11 +121,6 @@ CONTRACTS = {
     "uart_virtual::port::write": "a1 >= 8",
     "uart_virtual::port::write_slowly": "a1 >= 8",
     "uart_virtual::port::write_and_raise": "a1 >= 8",
-}
-
-# Packages that are compared for 32 bits only if that is asked for, with the reason. They are compared as a release for this machine instead.
-NOT_YET_ON_32 = {
-    "uart_16550_chip": "1 of 15,001 cases of LiveChip::arrive, and what is built of it, differ there, and it is not known yet why",
 }
 
 # What a function adds or multiplies of type `usize`, as Rust code of type `u128` over its arguments: a pattern of the name, the code, and why

@@ -8,8 +8,16 @@ NO_MEMORY = ("Named", "core::alloc::AllocError", ())
 
 def ok(translation, value, error, text):
     """The text of `Ok`."""
-    result = translation.rust(("Named", "core::result::Result", (value, error)))
-    return result, f"{result} {{ v0: {result}v0 {{ f0: 0, f1: {text} }} }}"
+    of = ("Named", "core::result::Result", (value, error))
+    result = translation.rust(of)
+    return result, f"{result} {{ v0: {result}v0 {{ f0: 0, f1: {text}{translation.rest(of, 0)} }} }}"
+
+
+def failed(translation, value, error):
+    """The text of `Err` with an error that has no fields."""
+    of = ("Named", "core::result::Result", (value, error))
+    result = translation.rust(of)
+    return f"{result} {{ v1: {result}v1 {{ f0: 1, f1: {translation.rust(error)} {{ }}{translation.rest(of, 1)} }} }}"
 
 
 def access(bits, kind):
@@ -27,14 +35,14 @@ def access(bits, kind):
 def write_str(translation, types):
     text = translation.rust(("Struct", "&[]", (("Ref", ("Int", 8)), ("Int", 64))))
     result, done = ok(translation, "Unit", ERROR, "()")
-    failed = f"{result} {{ v1: {result}v1 {{ f0: 1, f1: {translation.rust(ERROR)} {{ }} }} }}"
-    return ["P", text], result, f"if crate::run::print_at(a2.f0, a2.f1) {{ {done} }} else {{ {failed} }}"
+    refused = failed(translation, "Unit", ERROR)
+    return ["P", text], result, f"if crate::run::print_at(a2.f0, a2.f1) {{ {done} }} else {{ {refused} }}"
 
 
 def allocate(translation, types):
     result, done = ok(translation, "Ptr", NO_MEMORY, "memory")
-    failed = f"{result} {{ v1: {result}v1 {{ f0: 1, f1: {translation.rust(NO_MEMORY)} {{ }} }} }}"
-    body = f"let memory = crate::run::allocate(a2); if memory.is_null() {{ {failed} }} else {{ {done} }}"
+    refused = failed(translation, "Ptr", NO_MEMORY)
+    body = f"let memory = crate::run::allocate(a2); if memory.is_null() {{ {refused} }} else {{ {done} }}"
     return ["P", "u64", "u64"], result, body
 
 
@@ -43,8 +51,11 @@ def free(translation, types):
 
 
 def grow(translation, types):
-    result, _ = ok(translation, "Ptr", NO_MEMORY, "a1")
-    return ["P", "P", "u64", "u64", "u64"], result, 'panic!("no list that is compared grows")'
+    """Other memory with the same items at its start."""
+    result, done = ok(translation, "Ptr", NO_MEMORY, "memory")
+    size, _ = translation.layout(types[0])
+    body = f"let memory = crate::run::memory(a5 * {size}); core::ptr::copy_nonoverlapping(a2, memory, (a3 * {size}) as usize); {done}"
+    return ["P", "P", "u64", "u64", "u64"], result, body
 
 
 def clone(translation, types):
@@ -59,8 +70,9 @@ def equal(translation, types):
 
 def partial_cmp(translation, types):
     ordering = ("Named", "core::cmp::Ordering", ())
-    result, inner = translation.rust(("Named", "core::option::Option", (ordering,))), translation.rust(ordering)
-    return ["P", "P"], result, f"{result} {{ v1: {result}v1 {{ f0: 1, f1: {inner} {{ v1: {inner}v1 {{ f0: 1 }} }} }} }}"
+    of = ("Named", "core::option::Option", (ordering,))
+    result, inner, rest = translation.rust(of), translation.rust(ordering), translation.rest(of, 1)
+    return ["P", "P"], result, f"{result} {{ v1: {result}v1 {{ f0: 1, f1: {inner} {{ v1: {inner}v1 {{ f0: 1 }} }}{rest} }} }}"
 
 
 # The traits that a device has, as a parameter of the driver: the trait, and the name of its implementation here.

@@ -30,50 +30,41 @@ class Argument:
     is_changed: bool = False
 
 
-class Pairs:
-    """The emitted functions with their MIR. `texts` has what is put behind each file, `calls` what runs it."""
+class Names:
+    """Which function of the MIR an emitted function is."""
 
-    def __init__(self, declared, translation, crates, constants):
-        self.declared, self.translation, self.crates = declared, translation, crates
-        self.texts, self.calls, self.compared, self.skipped, self.unpaired = {}, [], {}, {}, []
-        self.pairs, self.methods, self.paths = {}, {}, set()
-        self.by_end = {}
-        for name in translation.program.functions:
+    def __init__(self, functions, crates):
+        self.functions, self.by_end = functions, {}
+        for name in functions:
             if name.split("::")[0] in crates:
                 self.by_end.setdefault(name.split("::")[-1], []).append(name)
-        for function in declared.functions:
+
+    def paired(self, declared, crates):
+        """The emitted functions of crates by the names of their MIR, and those that have none."""
+        pairs, unpaired = {}, []
+        for function in declared:
+            if function.module.split("::")[0] not in crates:
+                continue
             name = self.name_in_mir(function)
-            if name is None or name in self.pairs:
-                self.unpaired.append(self.title(function))
+            if name is None or name in pairs:
+                unpaired.append(title(function))
             else:
-                self.pairs[name] = function
-        self.functions()
-        self.derived()
-        self.printed()
-        self.sequences()
-        for name, _, path, inside in constants:
-            self.constant(name, path, inside)
-
-    @staticmethod
-    def title(function):
-        owner = f"{function.trait} for {function.owner}" if function.trait and function.owner else function.trait or function.owner
-        return "::".join(one for one in (function.module, re.sub(r"\s+", " ", owner), function.name) if one)
-
-    # Names.
+                pairs[name] = function
+        return pairs, unpaired
 
     def name_in_mir(self, function):
         """The name of the MIR of an emitted function, or None."""
-        functions = self.translation.program.functions
         if not function.owner:
             name = "::".join(one for one in (function.module, function.trait, function.name) if one)
-            return next((one for one in (name, f"{name}+decl") if one in functions), None)
+            return next((one for one in (name, f"{name}+decl") if one in self.functions), None)
         owner = re.match(r"[\w:]+", re.sub(r"^&(mut )?", "", function.owner))[0].split("::")[-1]
         crate = function.module.split("::")[0] + "::"
         found = [one for one in self.by_end.get(function.name, []) if one.startswith(crate)]
         if function.trait:
             path = re.match(r"(?:::)?[\w:]+", function.trait)[0].split("::")[-1]
-            arguments = "".join(re.findall(r"\w+", function.trait[function.trait.find("<") :])) if "<" in function.trait else ""
-            ends = {f"{owner}{path}", f"{owner}{path}{arguments}"}
+            arguments = re.findall(r"\w+", function.trait[function.trait.find("<") :]) if "<" in function.trait else []
+            # A parameter of a parameter may be left out.
+            ends = {f"{owner}{path}", f"{owner}{path}{''.join(arguments)}", f"{owner}{path}{''.join(arguments[:1])}"}
             return next((one for one in found if one.split("::")[-2] in ends), None)
         found = [one for one in found if one.split("::")[-2] == owner or one.split("::")[-2].startswith(f"{owner}+")]
         inner = re.search(r"<(.*)>", function.owner)
@@ -84,6 +75,31 @@ class Pairs:
         if len(found) > 1:
             found = [one for one in found if one.startswith(function.module + "::")] or found
         return found[0] if len(found) == 1 else None
+
+
+def title(function):
+    owner = f"{function.trait} for {function.owner}" if function.trait and function.owner else function.trait or function.owner
+    return "::".join(one for one in (function.module, re.sub(r"\s+", " ", owner), function.name) if one)
+
+
+class Pairs:
+    """The emitted functions with their MIR. `texts` has what is put behind each file, `calls` what runs it. `is_wanted` tells of a title
+    whether it is compared: what is not, is not compiled."""
+
+    def __init__(self, declared, translation, crates, constants, is_wanted=lambda title: True):
+        self.declared, self.translation, self.crates = declared, translation, crates
+        self.types = [one for one in declared.types if one.module.split("::")[0] in crates]
+        self.texts, self.calls, self.compared, self.skipped = {}, [], {}, {}
+        self.methods, self.paths, self.is_wanted = {}, set(), is_wanted
+        # The rings take the memory that they are given, and others that of the program.
+        self.is_of_rings = "uart_ring" in crates
+        self.pairs, self.unpaired = Names(translation.program.functions, crates).paired(declared.functions, crates)
+        self.functions()
+        self.derived()
+        self.printed()
+        self.sequences()
+        for name, _, path, inside in constants:
+            self.constant(name, path, inside)
 
     # Arguments.
 
@@ -105,7 +121,8 @@ class Pairs:
         if slice_of:
             if of[0] != "Struct" or of[1] not in ("&[]", "&str"):
                 raise Unknown(f"{text} is {of} in the MIR")
-            pass_to = f"crate::mir::{rust(of)} {{ f0: {name}.as_mut_ptr() as *mut u8, f1: {name}.len() as u64 }}"
+            rest = self.translation.rest(of)
+            pass_to = f"crate::mir::{rust(of)} {{ f0: {name}.as_mut_ptr() as *mut u8, f1: {name}.len() as u64{rest} }}"
             is_changed = bool(slice_of[1])
             if text == "&str":
                 make = f"{slot} = choices.text();"
@@ -116,6 +133,9 @@ class Pairs:
             item = self.translation.rust_outside(of[2][0][1])
             mine, theirs = (f"{slot}: ::std::vec::Vec<{one}> = choices.list({least});" for one in (slice_of[2], item))
             return Argument(mine, theirs, f"&{'mut ' if is_changed else ''}{name}[..]", pass_to, is_changed)
+        if text.startswith("Global") and not self.is_of_rings:
+            zeroed = f"{slot}: {self.translation.rust_outside(of)} = core::mem::zeroed();"
+            return Argument(f"{slot} = crate::kit::alloc::Global::heap();", zeroed, name, name)
         if text.startswith("Global"):
             lent = "let memory = crate::kit_of_rings::alloc::Memory::new(crate::run::lent(crate::run::memory_of(choices)));"
             zeroed = f"crate::run::memory_of(choices); {slot}: {self.translation.rust_outside(of)} = core::mem::zeroed();"
@@ -159,6 +179,8 @@ class Pairs:
 
     def compare(self, title, name, file, texts, call, path=None):
         """Writes a comparison. `texts` has the types of the arguments as the signature has them, `call` gives the call of such arguments."""
+        if not self.is_wanted(title):
+            return
         function, types, result = self.instance(name)
         if len(types) != len(texts):
             raise Unknown(f"{len(types)} arguments in the MIR, {len(texts)} emitted")
@@ -214,7 +236,7 @@ class Pairs:
             self.methods.setdefault(owner, []).append((name, function, texts, path))
 
     def derived(self):
-        for one in self.declared.types:
+        for one in self.types:
             for trait in one.derives:
                 method, count = DERIVED.get(trait, (None, 0))
                 name = f"{one.module}::{one.name}{trait}::{method}"
@@ -235,7 +257,7 @@ class Pairs:
                     self.skip(name, cause)
 
     def printed(self):
-        for one in self.declared.types:
+        for one in self.types:
             for trait, form in ((trait, form) for trait, forms in PRINTED.items() for form in forms):
                 name = f"{one.module}::{one.name}{trait}::fmt"
                 title = f"{name} {form}"
@@ -249,6 +271,8 @@ class Pairs:
                     self.skip(title, cause)
 
     def print_one(self, one, name, title, form):
+        if not self.is_wanted(title):
+            return
         if one.parameters:
             raise Unknown("printed and generic")
         function, types, _ = self.instance(name)
@@ -277,8 +301,10 @@ class Pairs:
 
     def constant(self, name, path, inside):
         """Writes a comparison of a constant with the function of the witness that returns it."""
-        function, _, _ = self.instance(f"{witness.NAME}::{name}")
         title = f"the constant {inside}"
+        if not self.is_wanted(title):
+            return
+        function, _, _ = self.instance(f"{witness.NAME}::{name}")
         self.calls.append(
             f"run.compare({json.dumps(title)}, crate::run::With::Nothing, |_| crate::run::Of::Contract, "
             f"|_| {{ let mut out = {WORDS}; crate::run::Value::show(&crate::proved::{path}, &mut out); out }}, "
@@ -291,7 +317,7 @@ class Pairs:
     def sequences(self):
         """Writes a comparison of sequences of calls for each type that has a constructor in the list."""
         for constructor in listed.SEQUENCES:
-            if constructor in self.pairs:
+            if constructor in self.pairs and self.is_wanted(title_of_sequences(constructor)):
                 self.sequence(constructor)
 
     def sequence(self, constructor):
@@ -310,7 +336,7 @@ class Pairs:
             rust_steps.append(f"{len(rust_steps)} => {{ {mine} }}")
             theirs = re.sub(r"\{([\w:]+)\}", lambda found: f"crate::mir::{self.instance(found[1])[0]}", theirs)
             mir_steps.append(f"{len(mir_steps)} => {{ {theirs} }}")
-        count, title = len(rust_steps), f"sequences of {constructor.rsplit('::', 1)[0]}"
+        count, title = len(rust_steps), title_of_sequences(constructor)
         mine, theirs = (" ".join(getattr(one, side) for one in listing) for side in ("rust", "mir"))
         call = f"<{owner}>::{function.name}({', '.join(one.rust_passed for one in listing)})"
         passed = ", ".join(one.mir_passed for one in listing)
@@ -362,3 +388,7 @@ class Pairs:
         self.put(method.file, f"#[allow(warnings)] {head} {{ use crate::run::Value; unsafe {{ {made} {body} {changed} }} }}")
         state = f"{texts[0][: -len(owner)]}state" if is_rust else "&raw mut state as *mut u8"
         return f"crate::proved::{self.declared.modules[method.file]}::{order}({state}, choices, &mut out);"
+
+
+def title_of_sequences(constructor):
+    return f"sequences of {constructor.rsplit('::', 1)[0]}"

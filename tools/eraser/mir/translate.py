@@ -172,12 +172,18 @@ class Translation:
         if of[0] in ("Array", "Vector"):
             size, align = self.layout(of[1])
             return size * of[2], align
+        size, align = 0, 1
+        for fields in self.variants(of):
+            for place, count in self.places_of_fields(fields):
+                size = max(size, place + count)
+            align = max([align, *(self.layout(one)[1] for one in fields)])
+        return -(-size // align) * align, align
+
+    def variants(self, of):
+        """The types of the fields of a struct, or of each variant of an enum, whose first one is its number."""
         kind, parts = self.parts(of)
-        if kind != "fields":
-            raise Unknown("the bytes of an enum in a static")
-        end = self.places_of_fields([one for one, _ in parts[0]])[-1:]
-        align = max((self.layout(one)[1] for one, _ in parts[0]), default=1)
-        return (-(-sum(end[0]) // align) * align if end else 0), align
+        number = [("Int", 8)] if kind == "variants" else []
+        return [[*number, *(one for one, _ in part)] for part in parts]
 
     def places_of_fields(self, fields):
         """Where each field begins, and how many bytes it has."""
@@ -188,6 +194,26 @@ class Translation:
             places.append((at, size))
             at += size
         return places
+
+    def declared(self, of, order):
+        """The fields of a struct, or of the variant with this number, as Rust declares them, and whether there are bytes between them. They
+        are where the kit has them: a number of 64 bits is aligned to eight bytes on each target, and an address has eight."""
+        out, end, fields = [], 0, self.variants(of)[order]
+        for at, (one, (place, size)) in enumerate(zip(fields, self.places_of_fields(fields))):
+            if place > end:
+                out.append(f"pub b{at}: [u8; {place - end}]")
+            out.append(f"pub f{at}: {self.rust(one)}")
+            if self.rust(one) == "P":
+                out.append(f"pub a{at}: [u8; {size} - core::mem::size_of::<P>()]")
+            end = place + size
+        whole = self.layout(of)[0]
+        if whole > end:
+            out.append(f"pub e: [u8; {whole - end}]")
+        return out, len(out) > len(fields)
+
+    def rest(self, of, order=0):
+        """What a value of this struct or variant ends with behind its fields: the bytes between them."""
+        return ", ..unsafe { core::mem::zeroed() }" if self.declared(of, order)[1] else ""
 
     def at_byte(self, of, offset):
         """The text behind a value of this type that names the part which begins at this byte."""
@@ -259,17 +285,15 @@ class Translation:
     def module(self):
         """The text of the module: types, statics and functions."""
         out = [HEAD]
-        for name, (_, (kind, parts)) in self.shapes.items():
+        for name, (of, (kind, parts)) in list(self.shapes.items()):
             derive = "#[repr(C)] #[derive(Clone, Copy)] pub"
+            fields = [", ".join(self.declared(of, order)[0]) for order in range(len(parts))]
             if kind == "fields":
-                fields = ", ".join(f"pub f{order}: {one}" for order, (_, one) in enumerate(parts[0]))
-                out.append(f"{derive} struct {name} {{ {fields} }}")
+                out.append(f"{derive} struct {name} {{ {fields[0]} }}")
                 continue
-            for order, part in enumerate(parts):
-                fields = "".join(f", pub f{place}: {one}" for place, (_, one) in enumerate(part, 1))
-                out.append(f"{derive} struct {name}v{order} {{ pub f0: u8{fields} }}")
+            out += [f"{derive} struct {name}v{order} {{ {one} }}" for order, one in enumerate(fields)]
             cases = ", ".join(f"pub v{order}: {name}v{order}" for order in range(len(parts)))
-            out.append(f"{derive} union {name} {{ {cases} }}" if parts else f"{derive} struct {name} {{ none: u8 }}")
+            out.append(f"{derive} union {name} {{ {cases} }}" if parts else f"{derive} struct {name} {{ none: () }}")
         for name, (of, value) in self.statics.items():
             out.append(f"static {name}: Shared<{of}> = Shared({value});")
         return "\n".join(out + self.texts) + "\n"
@@ -429,17 +453,19 @@ class Body:
         if kind == "NumOf":
             return f"{self.of.number(value[1], self.types)}u{value[0]}", ("Int", value[0])
         if kind in ("SizeOf", "AlignOf"):
-            function = {"SizeOf": "size_of", "AlignOf": "align_of"}[kind]
-            return f"(core::mem::{function}::<{self.of.rust(self.of.type(value, self.types))}>() as u64)", ("Int", 64)
+            # What the kit has put into the MIR of concrete types as a number.
+            size, align = self.of.layout(self.of.type(value, self.types))
+            return f"{size if kind == 'SizeOf' else align}u64", ("Int", 64)
         raise Unknown(f"an operand {kind}")
 
     def made(self, of, parts, tag):
         """A struct of these parts, or the variant of this number."""
         name = self.of.rust(of)
         fields = ", ".join(f"f{order}: {one}" for order, one in enumerate(parts))
+        rest = self.of.rest(of, tag or 0)
         if tag is None:
-            return f"{name} {{ {fields} }}"
-        return f"{name} {{ v{tag}: {name}v{tag} {{ {fields} }} }}"
+            return f"{name} {{ {fields}{rest if fields else ''} }}"
+        return f"{name} {{ v{tag}: {name}v{tag} {{ {fields}{rest} }} }}"
 
     def aggregate(self, of, nodes, text):
         """An array, a struct or a variant of these nodes, each of which `text` writes, given its type."""

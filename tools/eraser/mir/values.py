@@ -8,7 +8,7 @@ MAKE = f"fn make(choices: &mut {CHOICES}) -> Self"
 ONE = f"{VALUE}::make(choices)"
 
 # Types whose values are made by hand, in run/behind and below: not each combination of their fields is a value.
-BY_HAND = {"ArrayVec", "ByteQueue", "FixedFifo", "FixedWire"}
+BY_HAND = {"ArrayVec", "ByteQueue", "Characters", "FixedFifo", "FixedWire"}
 
 
 def of_emitted(one):
@@ -40,7 +40,7 @@ def of_emitted(one):
     return f"impl{generics} {VALUE} for {target} {{ {HEAD} {{ match self {{ {' '.join(shows)} }} }} {MAKE} {{ {make} }} }}"
 
 
-# The types by hand of the MIR: how a value is shown, and how it is made.
+# The types by hand of the MIR: how a value is shown, and how it is made. `{rest}` has the bytes between its fields.
 OF_MIR = {
     "uart_ring::queue::ByteQueue": (
         "let cells = self.f0.f2; out.extend([cells, self.f2]); unsafe { for at in 0..self.f2 { "
@@ -55,13 +55,23 @@ OF_MIR = {
         "unsafe { let mut made: Self = zeroed(); made.f1 = choices.pick(made.f0.f0.len() as u64 + 1); "
         "for at in 0..made.f1 as usize { made.f0.f0[at] = Value::make(choices); } made }",
     ),
+    "arrayvec::array_string::ArrayString": (
+        "self.f0.f0[..self.f1 as usize].show(out);",
+        "unsafe { let mut made: Self = zeroed(); let text = crate::run::text_for(choices, made.f0.f0.len()); made.f1 = text.len() as u64; "
+        "made.f0.f0[..text.len()].copy_from_slice(&text); made }",
+    ),
+    # A sum of errors is no more than a queue has characters: what is above is left to no `usize` of 32 bits.
+    "uart_chip::characters::Characters": (
+        "self.f0.show(out); out.push(self.f1);",
+        "Self { f0: Value::make(choices), f1: choices.number(16){rest} }",
+    ),
     "uart_live::fixed::FixedFifo": (
         "out.extend([self.f1, self.f2]); self.f0.show(out);",
-        "let (f1, f2) = (choices.pick(16), choices.pick(17)); Self { f0: Value::make(choices), f1, f2 }",
+        "let (f1, f2) = (choices.pick(16), choices.pick(17)); Self { f0: Value::make(choices), f1, f2{rest} }",
     ),
     "uart_live::fixed::FixedWire": (
         "self.f0.show(out); out.extend([self.f1, self.f2, self.f3]);",
-        "let (f0, f1, f2, f3) = crate::run::wire(choices); Self { f0, f1, f2, f3 }",
+        "let (f0, f1, f2, f3) = crate::run::wire(choices); Self { f0, f1, f2, f3{rest} }",
     ),
 }
 
@@ -76,19 +86,31 @@ def of_mir(translation):
     return "\n".join(out) + "\n"
 
 
+# A list: where it is, how many items it has, how many it has room for.
+LIST = (
+    "unsafe {{ core::slice::from_raw_parts(self.f0 as *const {item}, self.f1 as usize).show(out) }}",
+    "unsafe {{ let items: Vec<{item}> = choices.list(0); let mut made: Self = zeroed(); let count = items.len() as u64; "
+    "made.f0 = crate::run::memory(count * {size}); made.f1 = count; made.f2 = count; "
+    "core::ptr::copy_nonoverlapping(items.as_ptr(), made.f0 as *mut {item}, items.len()); made }}",
+)
+
+
 def of_shape(translation, name):
     of, (kind, parts) = translation.shapes[name]
     by_hand = OF_MIR.get(of[1]) if of[0] == "Named" else None
     if by_hand:
-        show, make = by_hand
+        show, make = by_hand[0], by_hand[1].replace("{rest}", translation.rest(of))
+    elif of[0] == "Named" and of[1] == "std_alloc::vec::Vec":
+        show, make = (text.format(item=translation.rust(of[2][0]), size=translation.layout(of[2][0])[0]) for text in LIST)
     elif of[0] == "Struct" and of[1] in ("&[]", "&str"):
         item = translation.rust(of[2][0][1])
         show, make = f"unsafe {{ core::slice::from_raw_parts(self.f0 as *const {item}, self.f1 as usize).show(out) }}", "panic!()"
     elif kind == "fields":
         show = " ".join(field(translation, f"self.f{order}", one) for order, (one, _) in enumerate(parts[0]))
-        make = f"Self {{ {', '.join(f'f{order}: Value::make(choices)' for order in range(len(parts[0])))} }}"
+        rest = translation.rest(of)
+        make = f"Self {{ {', '.join(f'f{order}: Value::make(choices)' for order in range(len(parts[0])))}{rest} }}"
         if of[0] == "Named" and "nonzero::NonZero" in of[1]:
-            make = "Self { f0: core::cmp::max(1, Value::make(choices)) }"
+            make = f"Self {{ f0: core::cmp::max(1, Value::make(choices)){rest} }}"
     elif not parts:
         show, make = 'panic!("a value of no type")', 'panic!("a value of no type")'
     else:
@@ -97,7 +119,7 @@ def of_shape(translation, name):
             shown = " ".join(field(translation, f"self.v{tag}.f{order}", one) for order, (one, _) in enumerate(part, 1))
             fields = "".join(f", f{order}: Value::make(choices)" for order in range(1, len(part) + 1))
             shows.append(f"{tag} => {{ {shown} }}")
-            makes.append(f"{tag} => {name} {{ v{tag}: {name}v{tag} {{ f0: {tag}{fields} }} }},")
+            makes.append(f"{tag} => {name} {{ v{tag}: {name}v{tag} {{ f0: {tag}{fields}{translation.rest(of, tag)} }} }},")
         show = f"out.push(self.v0.f0 as u64); match self.v0.f0 {{ {' '.join(shows)} _ => panic!(\"no variant\") }}"
         make = f"match choices.pick({len(makes)}) {{ {' '.join(makes)} _ => panic!() }}"
     return (

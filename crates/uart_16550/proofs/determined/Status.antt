@@ -36,17 +36,15 @@ has_same a b bits same p q = not_both (sym p ∙ ap (λ (n : ℕ). has n bits) s
 connection_same : (a b : Result (Unit {0}) RemoteReadyToReceiveError) (x y : ℕ) → x ≡ y → ShowsConnection a x → ShowsConnection b y → a ≡ b
 connection_same (Ok t) (Ok w) x y same p q = refl
 connection_same (Ok t) (Err NoRemoteConnectedNoDSR) x y same p q = absurd (has_same x y MSR.DSR.0 same p.0 q)
-connection_same (Ok t) (Err NoRemoteConnectedNoCD) x y same p q = absurd q
 connection_same (Ok t) (Err RemoteNotClearToSend) x y same p q = absurd (has_same x y MSR.CTS.0 same p.1 q.1)
 connection_same (Err NoRemoteConnectedNoDSR) (Ok w) x y same p q = absurd (has_same y x MSR.DSR.0 (sym same) q.0 p)
 connection_same (Err NoRemoteConnectedNoDSR) (Err NoRemoteConnectedNoDSR) x y same p q = refl
-connection_same (Err NoRemoteConnectedNoDSR) (Err NoRemoteConnectedNoCD) x y same p q = absurd q
 connection_same (Err NoRemoteConnectedNoDSR) (Err RemoteNotClearToSend) x y same p q = absurd (has_same y x MSR.DSR.0 (sym same) q.0 p)
 connection_same (Err NoRemoteConnectedNoCD) b x y same p q = absurd p
 connection_same (Err RemoteNotClearToSend) (Ok w) x y same p q = absurd (has_same y x MSR.CTS.0 (sym same) q.1 p.1)
 connection_same (Err RemoteNotClearToSend) (Err NoRemoteConnectedNoDSR) x y same p q = absurd (has_same x y MSR.DSR.0 same p.0 q)
-connection_same (Err RemoteNotClearToSend) (Err NoRemoteConnectedNoCD) x y same p q = absurd q
 connection_same (Err RemoteNotClearToSend) (Err RemoteNotClearToSend) x y same p q = refl
+connection_same _ (Err NoRemoteConnectedNoCD) x y same p q = absurd q
 
 pub connects_determined : (s : Settings) (a b : Result (Unit {0}) RemoteReadyToReceiveError) →
     Determined (a ≡ b) (Connects a s) (Connects b s)

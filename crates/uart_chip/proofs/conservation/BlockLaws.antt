@@ -20,8 +20,7 @@ use Rattle.uart_chip.proofs.Bits.{has_or, word_same}
 use Rattle.uart_chip.proofs.statuses.Status.{status_room, status_data}
 use Rattle.uart_chip.proofs.soundness.Sounds.{sound_access, sound_read, sound_write}
 use Rattle.uart_chip.proofs.conservation.Blocks.{is_quiet, Block, Look, Hit, Burst, Other, Divisor, accesses_of, AllQuiet, IsFit, AllFit}
-use Rattle.uart_chip.proofs.conservation.Blocks.{flat}
-use Rattle.uart_chip.proofs.conservation.Blocks.{written_in, read_in, data_written, data_read}
+use Rattle.uart_chip.proofs.conservation.Blocks.{flat, written_in, read_in, data_written, data_read}
 use Rattle.uart_chip.proofs.conservation.Went.{Modes, IsIn, fixed, dlab, loopback, Went}
 use Rattle.uart_chip.proofs.statuses.Reports.{IsReported, report_reported}
 use Rattle.uart_chip.proofs.conservation.Effects.{went-look, went-send, TookFront, went-take, went-read_latch, went-write_lcr}

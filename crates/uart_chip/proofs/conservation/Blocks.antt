@@ -62,11 +62,8 @@ AllFit fifo blocks = AllByRecursion (IsFit fifo) blocks
 
 -- the bytes written to the data register
 abbrev pub written_in : Block → List ℕ
-written_in (Look line) = []
-written_in (Hit line byte) = []
 written_in (Burst line checks bytes) = bytes
-written_in (Other access) = []
-written_in (Divisor lcr low high) = []
+written_in _ = []
 
 -- the same of some blocks, in order
 abbrev pub data_written : List Block → List ℕ
@@ -75,11 +72,8 @@ data_written (block ∷ blocks) = written_in block ++ data_written blocks
 
 -- the bytes read from the data register; under DLAB none is
 abbrev pub read_in : Block → List ℕ
-read_in (Look line) = []
 read_in (Hit line byte) = byte ∷ []
-read_in (Burst line checks bytes) = []
-read_in (Other access) = []
-read_in (Divisor lcr low high) = []
+read_in _ = []
 
 -- the same of some blocks, in order
 abbrev pub data_read : List Block → List ℕ

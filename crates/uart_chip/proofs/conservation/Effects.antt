@@ -1,7 +1,6 @@
 -- What each access of a session does to the chip.
 use Rattle.std.proofs.Common.{◌≡◌, ℕ, zero, suc, ◌<◌, Bool, true, false, ◌==◌, inl, inr, List, [], ◌∷◌, length, refl, arith, sym, ◌∙◌, ap}
-use Rattle.std.proofs.Common.{if◌then◌else◌}
-use Rattle.std.proofs.Common.{subst, bit_and, bit_or, ◌^◌}
+use Rattle.std.proofs.Common.{if◌then◌else◌, subst, bit_and, bit_or, ◌^◌}
 use Rattle.std.proofs.Math.Nat.{mod_self}
 use Rattle.std.proofs.lemmas.Nat.{pow_pos}
 use Rattle.std.proofs.lemmas.Grind.{common_steps}

@@ -1,9 +1,10 @@
 -- What a stretch of a session does to the receiver: characters come in and are taken, and a drop shows in the overrun flag.
-use Rattle.std.proofs.Common.{◌≡◌, ◌≢◌, ℕ, ◌+◌, ◌≤◌, Bool, true, false, not, ◌||◌, ◌⊎◌, inl, inr, List, [], ◌++◌, length, length-append}
+use Rattle.std.proofs.Common.{◌≡◌, ◌≢◌, ℕ, ◌+◌, ◌≤◌, Bool, true, false, not, ◌⊎◌, inl, inr, List, [], ◌++◌, length, length-append}
 use Rattle.std.proofs.Common.{append-nil, refl, arith, sym, ◌∙◌, bit_or}
 use Rattle.std.specs.List.{filter}
+use Rattle.std.proofs.lemmas.Bool.{or_left, or_right, or_cases}
 use Rattle.uart_events.specs.declared.event.ArrivalMark.{ArrivalMark}
-use Rattle.uart_events.specs.declared.event.ArrivalMark.TheVariants.{Pending, Waiting, Read, Discarded, Dropped}
+use Rattle.uart_events.specs.declared.event.ArrivalMark.TheVariants.{Dropped}
 use Rattle.uart_chip.specs.declared.receiver.Character.{Character}
 use Rattle.uart_chip.specs.declared.receiver.Origin.{Origin}
 use Rattle.uart_chip.specs.declared.receiver.Origin.TheVariants.{Arrived, Looped}
@@ -46,11 +47,8 @@ no_drop-same : (r s : ReceiverState) → s.marks ≡ r.marks → s.is_unschedule
 no_drop-same r s m l d = let h : origin_stands r.marks r.is_unscheduled_lost d.origin ≡ false = rw (m, l) at d.lost in cc (d.stood)
 
 dropped_is : (m : ArrivalMark) → not (is_dropped m) ≡ false → m ≡ Dropped
-dropped_is Pending e = absurd (cc)
-dropped_is Waiting e = absurd (cc)
-dropped_is Read e = absurd (cc)
-dropped_is Discarded e = absurd (cc)
 dropped_is Dropped e = refl
+dropped_is _ e = absurd (cc)
 
 -- a mark is set that is none of a drop
 pub no_drop-set : (r s : ReceiverState) (o : Origin) (m : ArrivalMark) → m ≢ Dropped → s.marks ≡ set_mark o m r.marks →
@@ -83,17 +81,6 @@ pub record Receives (fifo : Bool) (r s : ReceiverState) (entering takes : List C
   pub moved : Moved fifo r s entering takes
   pub is_shown : Owed r s → Shows seen s
   pub was_owed : Shows seen s → Owed r s
-
-or_left : (a b : Bool) → a ≡ true → (a || b) ≡ true
-or_left a b e = rw e refl
-
-or_right : (a b : Bool) → b ≡ true → (a || b) ≡ true
-or_right true b e = refl
-or_right false b e = e
-
-or_either : (a b : Bool) → (a || b) ≡ true → (a ≡ true) ⊎ (b ≡ true)
-or_either true b e = inl refl
-or_either false b e = inr e
 
 pub shows_first : (a b : ℕ) (r : ReceiverState) → has_any a LSR.OVERRUN_ERROR.0 ≡ true → Shows (bit_or a b) r
 shows_first a b r e = inl (has_or 1 a b ∙ or_left (has_any a LSR.OVERRUN_ERROR.0) (has_any b LSR.OVERRUN_ERROR.0) e)
@@ -134,7 +121,7 @@ receives-trans fifo r s t f g xs ys a b p q = record {
     from_second (inr h) = inr (drop_second fifo r s t f xs p.moved h)
 
     owed_then : Shows (bit_or a b) t → Owed r t
-    owed_then (inl h) = either (or_either (has_any a LSR.OVERRUN_ERROR.0) (has_any b LSR.OVERRUN_ERROR.0) (sym (has_or 1 a b) ∙ h))
+    owed_then (inl h) = either (or_cases (has_any a LSR.OVERRUN_ERROR.0) (has_any b LSR.OVERRUN_ERROR.0) (sym (has_or 1 a b) ∙ h))
       where
         either : (has_any a LSR.OVERRUN_ERROR.0 ≡ true) ⊎ (has_any b LSR.OVERRUN_ERROR.0 ≡ true) → Owed r t
         either (inl h) = from_first (p.was_owed (inl h))

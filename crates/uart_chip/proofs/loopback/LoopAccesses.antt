@@ -15,8 +15,7 @@ use Rattle.uart_chip.specs.Machine.{MachineState, MachineStep, at_access}
 use Rattle.uart_chip.proofs.conservation.Blocks.{is_quiet, AllQuiet}
 use Rattle.uart_chip.proofs.conservation.Went.{Modes, IsIn, fixed_in, dlab, dlab-in, loopback}
 use Rattle.uart_chip.proofs.loopback.Loops.{line_of, line_in, Carries, carries-refl, Loops, loops-trans, loops-still, loops-refl}
-use Rattle.uart_chip.proofs.loopback.Loops.{line-length}
-use Rattle.uart_chip.proofs.loopback.Loops.{Fits, fits-after, loops_before}
+use Rattle.uart_chip.proofs.loopback.Loops.{line-length, Fits, fits-after, loops_before}
 
 -- these modes are those of a loopback test: loopback is set, and DLAB is not
 pub record IsLooped (x : Modes) : Type 0 where

@@ -17,10 +17,8 @@ use Rattle.uart_chip.specs.Receiver.{clear, enter, arrive_live, is_unscheduled}
 use Rattle.uart_chip.specs.Sound.{IsInQueue, AllInQueue, NoneIs, Distinct, AllErrorsLegal, IsSoundReceiver}
 use Rattle.uart_chip.proofs.Lists.{each-append}
 use Rattle.uart_chip.proofs.soundness.Marks.{length-set_mark, none_to_come, all_in_queue-set, all_in_queue-set_mark, all_in_queue-next}
-use Rattle.uart_chip.proofs.soundness.Marks.{all_in_queue-found, all_in_queue-append, distinct-next, distinct-unscheduled, ToCome}
-use Rattle.uart_chip.proofs.soundness.Marks.{Settled}
-use Rattle.uart_chip.proofs.soundness.Marks.{NoOther}
-use Rattle.uart_chip.proofs.soundness.Marks.{to_come-next, to_come-set, settled-next, settled-set, no_other-set, no_other-rest}
+use Rattle.uart_chip.proofs.soundness.Marks.{all_in_queue-found, all_in_queue-append, distinct-next, distinct-unscheduled, ToCome, Settled}
+use Rattle.uart_chip.proofs.soundness.Marks.{NoOther, to_come-next, to_come-set, settled-next, settled-set, no_other-set, no_other-rest}
 use Rattle.uart_chip.proofs.soundness.Marks.{no_other-next}
 
 -- the receiver is sound after a move, with the same number of arrivals, and as many to come

@@ -29,9 +29,8 @@ use Rattle.uart_chip.proofs.soundness.Within.{within_and, within-le}
 use Rattle.uart_chip.proofs.soundness.ReceiverSounds.{Safe, safe_tick, safe_arrive, safe_take_front, safe_clear, sound_report}
 use Rattle.uart_chip.proofs.soundness.ReceiverSounds.{sound_trigger}
 use Rattle.uart_chip.proofs.soundness.TransmitterSounds.{sound_tick as sound_shift_tick, sound_load, sound_clear, sound_pending}
-use Rattle.uart_chip.proofs.AccessMoves.{ReadMove, stays, takes, acknowledges, looks, sees, read_move, WriteMove}
-use Rattle.uart_chip.proofs.AccessMoves.{ignores, sets_low, sends, sets_high}
-use Rattle.uart_chip.proofs.AccessMoves.{enables, switches, clears, empties, triggers, frames, steers, notes, write_lasts}
+use Rattle.uart_chip.proofs.AccessMoves.{ReadMove, stays, takes, acknowledges, looks, sees, read_move, WriteMove, ignores, sends}
+use Rattle.uart_chip.proofs.AccessMoves.{enables, switches, clears, empties, triggers, steers, write_lasts}
 use Rattle.uart_chip.proofs.soundness.TransmitterSounds.{sound_renew}
 
 -- the chip is sound after a move, with the same number of arrivals, and as many to come
@@ -117,10 +116,8 @@ char_ticks-shift loopback (Some s) t =
 
 char_ticks-refill : (place : Option Shifting) (queue : List ℕ) (t : TransmitterState) →
     (transmitter.refill place queue t).char_ticks ≡ t.char_ticks
-char_ticks-refill (Some s) queue t = refl
-char_ticks-refill None [] t = refl
 char_ticks-refill None (x ∷ []) t = refl
-char_ticks-refill None (x ∷ y ∷ xs) t = refl
+char_ticks-refill _ _ t = refl
 
 pub char_ticks-tick : (loopback : Bool) (t : TransmitterState) → (transmitter.tick loopback t).char_ticks ≡ t.char_ticks
 char_ticks-tick loopback t =
@@ -259,11 +256,9 @@ char_ticks-load fifo byte t = either _ _ (nat_lt (length t.queue) (transmitter.r
 
 steady_writes : (offset value : ℕ) (c d : ChipState) → WriteMove offset value c d → IsSoundChip c → Steady c.receiver.arrived c d
 steady_writes offset value c d (ignores e) w = steady_refl c w
-steady_writes offset value c d (sets_low e q) w = kept_latches c _ w refl refl
 steady_writes offset value c d (sends e q) w =
     steady_transmitter c (load c.fifo (cut_of c value) c.transmitter) w
     (sound_load c.fifo (cut_of c value) c.transmitter w.transmitter) (char_ticks-load c.fifo (cut_of c value) c.transmitter)
-steady_writes offset value c d (sets_high e q) w = kept_latches c _ w refl refl
 steady_writes offset value c d (enables e q) w = steady_enable value c w
 steady_writes offset value c d (switches e has_fifo on) w = steady_switch on c w has_fifo
 steady_writes offset value c d (clears e) w = steady_receiver c.receiver.arrived c _ w (safe_clear c.fifo c.fifo c.receiver w.receiver)
@@ -271,9 +266,8 @@ steady_writes offset value c d (empties e) w = steady_transmitter c _ w (sound_c
 steady_writes offset value c d (triggers e level) w =
     steady_receiver c.receiver.arrived c _ w
     (record { sound = sound_trigger c.fifo c.receiver level w.receiver; number = refl; known = refl; limit = refl })
-steady_writes offset value c d (frames e) w = kept_latches c _ w refl refl
 steady_writes offset value c d (steers e) w = steady_modem_control value c w
-steady_writes offset value c d (notes e) w = kept_latches c _ w refl refl
+steady_writes offset value c d _ w = kept_latches c _ w refl refl
 
 pub steady_write : (offset value : ℕ) (c : ChipState) → IsSoundChip c → Steady c.receiver.arrived c (after_write offset value c)
 steady_write offset value c w =

@@ -3,7 +3,7 @@
 use Rattle.std.proofs.Common.{◌≡◌, ℕ, Bool, true, false, ◌&&◌, List, [], ◌∷◌, Option, Some, None, refl, sym, ◌∙◌, ap}
 use Rattle.uart_spec.specs.Bits.{has, has_any}
 use Rattle.uart_spec.specs.declared.registers.fifo_trigger_level.FifoTriggerLevel.{FifoTriggerLevel}
-use Rattle.uart_spec.specs.declared.registers.fifo_trigger_level.FifoTriggerLevel.TheVariants.{One, Four, Eight, Fourteen}
+use Rattle.uart_spec.specs.declared.registers.fifo_trigger_level.FifoTriggerLevel.TheVariants.{One}
 use Rattle.uart_spec.specs.declared.registers.offsets.TheConstants as offsets
 use Rattle.uart_spec.specs.declared.registers.interrupt_status.TheConstants.ISR
 use Rattle.uart_spec.specs.Access.{Path}
@@ -23,11 +23,8 @@ use Rattle.uart_run.proofs.initialising.FifoShown.{fifo_shown}
 use Rattle.uart_run.proofs.Pieces.{then_parts}
 
 enables : (level : Option FifoTriggerLevel) → has_any (fifo_bits level) FCR.FIFO_ENABLE.0 ≡ (is_level level && true)
-enables None = refl
 enables (Some One) = refl
-enables (Some Four) = refl
-enables (Some Eight) = refl
-enables (Some Fourteen) = refl
+enables _ = refl
 
 never_on : (level : Option FifoTriggerLevel) → (is_level level && false) ≡ false
 never_on None = refl

@@ -5,9 +5,9 @@ use Rattle.std.proofs.lemmas.Nat.Bits.{bit_at_above}
 use Rattle.uart_spec.specs.Fields.{word_length_code, parity_code}
 use Rattle.uart_spec.specs.declared.config.Config.{Config}
 use Rattle.uart_spec.specs.declared.registers.frame.WordLength.{WordLength}
-use Rattle.uart_spec.specs.declared.registers.frame.WordLength.TheVariants.{FiveBits, SixBits, SevenBits, EightBits}
+use Rattle.uart_spec.specs.declared.registers.frame.WordLength.TheVariants.{FiveBits}
 use Rattle.uart_spec.specs.declared.registers.frame.Parity.{Parity}
-use Rattle.uart_spec.specs.declared.registers.frame.Parity.TheVariants.{Disabled, Odd, Even, Forced1, Forced0}
+use Rattle.uart_spec.specs.declared.registers.frame.Parity.TheVariants.{Disabled}
 use Rattle.uart_spec.specs.declared.registers.offsets.TheConstants as offsets
 use Rattle.uart_spec.specs.Access.{Path}
 use Rattle.uart_spec.specs.declared.access.Access.{Access}
@@ -41,9 +41,7 @@ frame-low config =
   where
     word : (length : WordLength) → word_length_code length ≤ 3
     word FiveBits = omega arith
-    word SixBits = omega arith
-    word SevenBits = omega arith
-    word EightBits = omega arith
+    word _ = omega arith
 
     stop : (extra : Bool) → (if extra then 4 else 0) ≤ 4
     stop true = omega arith
@@ -51,10 +49,7 @@ frame-low config =
 
     parity : (p : Parity) → parity_code p ≤ 7
     parity Disabled = omega arith
-    parity Odd = omega arith
-    parity Even = omega arith
-    parity Forced1 = omega arith
-    parity Forced0 = omega arith
+    parity _ = omega arith
 
     sum : (a b c : ℕ) → a ≤ 3 → b ≤ 4 → c ≤ 7 → a + b + 8 * c < 64
     sum a b c p q r = omega arith

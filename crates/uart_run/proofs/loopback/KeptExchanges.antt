@@ -8,9 +8,8 @@ use Rattle.uart_16550.specs.Transmit.{SendMiss}
 use Rattle.uart_16550.specs.Loopback.{test_byte, test_message, TakesOne, DrainsLoopback, SendsTestByte, ExchangesByte, Echo}
 use Rattle.uart_16550.specs.Loopback.{EchoFails, HasEchoedWhole, HasEchoedEach, HasEchoedAll, ExchangesMessage, Exchanges}
 use Rattle.uart_run.proofs.ListsInTurn.{all_then, all_few, all_misses, all_in_order}
-use Rattle.uart_run.proofs.KeptLists.{AllKeep, keeping, keeps_if}
-use Rattle.uart_run.proofs.KeptLists.{keeps_miss, keeps_hit, keeps_awaited, keeps_receives_exact, keeps_send_miss}
-use Rattle.uart_run.proofs.KeptLists.{keeps_round, keeps_try_sends, keeps_sends_all, keeps_sends_exact}
+use Rattle.uart_run.proofs.KeptLists.{AllKeep, keeping, keeps_if, keeps_miss, keeps_hit, keeps_awaited, keeps_receives_exact}
+use Rattle.uart_run.proofs.KeptLists.{keeps_send_miss, keeps_round, keeps_try_sends, keeps_sends_all, keeps_sends_exact}
 
 module _ (s : Settings) where
   -- ---- the drain and the byte

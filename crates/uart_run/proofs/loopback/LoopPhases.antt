@@ -1,6 +1,7 @@
 -- The phases of a loopback test in loopback: the drain, the byte, the message.
 use Rattle.std.proofs.Common.{◌≡◌, ℕ, ◌≤◌, Bool, true, false, ◌==◌, inl, inr, List, [], ◌∷◌, ◌++◌, length, map}
 use Rattle.std.proofs.Common.{append-nil, Option, Some, None, Ok, refl, arith, sym, ◌∙◌, ap, subst, MatchBool}
+use Rattle.std.proofs.lemmas.List.{nil_from_length}
 use Rattle.uart_spec.specs.declared.errors.ByteSendError.{ByteSendError}
 use Rattle.uart_spec.specs.declared.errors.ByteSendError.TheVariants.{NoCapacity, RemoteNotClearToSend}
 use Rattle.uart_spec.specs.Bits.{has, has_any}
@@ -53,11 +54,7 @@ idle_sent x gone c i =
 
 sent_idle : (x : Modes) (gone : List ℕ) (c : ChipState) → IsIn x c → IsSent gone c.transmitter → length c.receiver.queue ≡ 0 →
     IsIdle x gone c
-sent_idle x gone c w s none = record { modes = w; line = rw (nothing c.receiver.queue none, s.place, s.queue) refl; wire = s.wire }
-  where
-    nothing : (queue : List Character) → length queue ≡ 0 → queue ≡ []
-    nothing [] e = refl
-    nothing (front ∷ others) e = absurd (omega arith)
+sent_idle x gone c w s none = record { modes = w; line = rw (nil_from_length c.receiver.queue none, s.place, s.queue) refl; wire = s.wire }
 
 -- ---- the drain
 

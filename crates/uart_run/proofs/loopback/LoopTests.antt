@@ -35,8 +35,7 @@ use Rattle.uart_run.specs.Ready.{Ready, is_narrow, test_answer, IsTested}
 use Rattle.uart_chip.proofs.conservation.Went.{Modes, IsIn}
 use Rattle.uart_run.proofs.EmptyTransmitter.{IsSent, sent_shown, shown_sent, wait_empties, sent_path}
 use Rattle.uart_run.proofs.ListsInTurn.{all_only, all_then}
-use Rattle.uart_run.proofs.SilentLists.{DoesSilently, silence, silent_sets_fifo}
-use Rattle.uart_run.proofs.SilentLists.{silent_next, silent_saving, silent_plain, silent_sets}
+use Rattle.uart_run.proofs.SilentLists.{DoesSilently, silence, silent_sets_fifo, silent_next, silent_saving, silent_plain, silent_sets}
 use Rattle.uart_chip.proofs.conservation.BlockLaws.{IsOpen, Stands}
 use Rattle.uart_run.proofs.CallBlocks.{Makes, makes_then, passed_in_blocks, waits_blocks}
 use Rattle.uart_run.proofs.CallKeeps.{quiet_blocks}

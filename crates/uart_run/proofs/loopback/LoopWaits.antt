@@ -1,7 +1,8 @@
 -- In loopback no wait of a test is in vain, where ticks come before each access and the spin limit is long enough.
-use Rattle.std.proofs.Common.{◌≡◌, ℕ, zero, suc, ◌+◌, ◌*◌, ◌≤◌, ◌<◌, Bool, true, false, nat_lt, List, [], ◌∷◌}
+use Rattle.std.proofs.Common.{◌≡◌, ℕ, zero, suc, ◌+◌, ◌*◌, ◌≤◌, ◌<◌, Bool, true, false, List, [], ◌∷◌}
 use Rattle.std.proofs.Common.{◌++◌, length, append-nil, map, Option, None, refl, arith, ◌∙◌, ap, subst}
 use Rattle.std.proofs.lemmas.Grind.{common_steps}
+use Rattle.std.proofs.lemmas.Bool.{lt-ltb}
 use Rattle.std.proofs.lemmas.List.{length-map}
 use Rattle.uart_spec.specs.Bits.{has}
 use Rattle.uart_spec.specs.declared.registers.offsets.TheConstants as offsets
@@ -79,9 +80,6 @@ data_awaited x i = record { kept = λ m n line r w step. kept m n line w step; s
         let long = line-length x m.chip n.chip [] [] a in
         record { fits = fits-after x x m.chip n.chip [] refl w.fits a; some = omega (arith, long, w.some) }
 
-    positive : (n : ℕ) → 0 < n → nat_lt 0 n ≡ true
-    positive n h = grind (arith, common_steps)
-
     shows : (m n : MachineState) (line : ℕ) → Runs n → OnItsWay x n → MachineStep m (Read offsets.LSR line) n →
         left n.chip.transmitter ≡ 0 → has line LSR.DATA_READY.0 ≡ true
     shows m n line r w step e =
@@ -89,7 +87,7 @@ data_awaited x i = record { kept = λ m n line r w step. kept m n line w step; s
         let sound = r.sound.chip.transmitter in
         let sent = sent_shown t (all_empty t.char_ticks sound.at_least_one t.shift_register t.queue sound.ticking e) in
         let waits : 0 < length n.chip.receiver.queue = omega (arith, all_waits (out t) n.chip sent, w.some) in
-        has_one 0 line ∙ (look_data m n line step ∙ positive (length n.chip.receiver.queue) waits)
+        has_one 0 line ∙ (look_data m n line step ∙ lt-ltb 0 (length n.chip.receiver.queue) waits)
 
 -- after accesses that wrote more than they read, no wait for a byte is in vain
 pub never_dry : (x : Modes) (gone : List ℕ) (s : Settings) (L : Language) (l : List Access) (m n : MachineState) (ws rs : List ℕ) →

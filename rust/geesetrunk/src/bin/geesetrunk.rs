@@ -4,12 +4,23 @@
 
 use geesetrunk::command_line::{Given, Reply, Shell, completions, manual_page, words};
 use geesetrunk::commands::{GEESETRUNK, Job};
+use geesetrunk::diff::diff;
 use geesetrunk::end::{End, Status, ended};
 use geesetrunk::excerpt::{Excerpt, Form, MOST_EVENTS, USUAL_EVENTS, timeline_of};
-use geesetrunk::findings::{Format, judged, stopped, verified};
+use geesetrunk::explain::{explained, explanations};
+use geesetrunk::findings::{Format, Judging, judged, verified};
+use geesetrunk::import::{Import, Kind, MOST_STRIDE, Window, import};
+use geesetrunk::judging::Judge;
+use geesetrunk::known::{Fifo, Known, MOST_FIFO};
 use geesetrunk::link::{Link, MOST_DELAY, USUAL_DELAY, link};
+use geesetrunk::log::Log;
+use geesetrunk::near::nearest;
+use geesetrunk::sarif::Sarif;
 use geesetrunk::script::{Task, report};
-use geesetrunk::streams::{Output, Watched, print, standard_output};
+use geesetrunk::show::{Filter, REGISTERS, show};
+use geesetrunk::shrink::{Sought, shrink};
+use geesetrunk::stats::stats;
+use geesetrunk::streams::{Output, print, standard_output};
 use geesetrunk::terminal::Style;
 use geesetrunk::text::STANDARD_INPUT;
 use std::cell::RefCell;
@@ -17,6 +28,7 @@ use std::io::{self, Write};
 use std::num::NonZeroU64;
 use std::process::ExitCode;
 use uart_16550::DEFAULT_SPIN_LIMIT;
+use uart_chip::Chip;
 
 // Returns the number that a word writes in decimal digits, without a sign.
 fn number_in(word: &str) -> Option<u64> {
@@ -25,6 +37,95 @@ fn number_in(word: &str) -> Option<u64> {
     } else {
         word.parse().ok()
     }
+}
+
+// Returns the number that a word writes in decimal digits, or in hexadecimal ones behind 0x.
+fn address_in(word: &str) -> Option<u64> {
+    let digits = word.strip_prefix("0x").or_else(|| word.strip_prefix("0X"));
+    match digits {
+        Some(digits) if !digits.starts_with('+') => u64::from_str_radix(digits, 16).ok(),
+        _ => number_in(word),
+    }
+}
+
+// Returns the value of a flag, read by a function that is `None` for what it refuses.
+fn value_of<T>(
+    given: &Given,
+    flag: &str,
+    read: impl Fn(&str) -> Option<T>,
+    wants: &str,
+) -> Result<Option<T>, End> {
+    given
+        .value(flag)
+        .map(|word| read(word).ok_or_else(|| End::failed(format!("--{flag} must be {wants}"))))
+        .transpose()
+}
+
+// Returns what the command line says about a log.
+fn import_of(given: &Given) -> Result<Import, End> {
+    let names: Vec<_> = Kind::ALL.iter().map(|kind| kind.name()).collect();
+    let kind = value_of(
+        given,
+        "format",
+        Kind::named,
+        &format!("one of {}", names.join(", ")),
+    )?;
+    let address = "an address: decimal digits, or hexadecimal ones behind 0x";
+    let base = value_of(given, "base", address_in, address)?;
+    let port = value_of(given, "port", address_in, address)?;
+    let stride = |word: &str| number_in(word).filter(|stride| (1..=MOST_STRIDE).contains(stride));
+    let wants = format!("a number of bytes from 1 to {MOST_STRIDE}");
+    let stride = value_of(given, "stride", stride, &wants)?;
+    let interrupt = value_of(given, "irq", number_in, "a number")?;
+    if stride.is_some() && base.is_none() && port.is_none() && kind == Some(Kind::Kvm) {
+        return Err(End::failed(
+            "--stride says nothing without --base: a port has one byte",
+        ));
+    }
+    Ok(Import {
+        kind,
+        window: Window {
+            base,
+            stride,
+            port,
+            interrupt,
+        },
+    })
+}
+
+// Returns what the command line says about the chip.
+fn known_of(given: &Given) -> Result<Known, End> {
+    let clock = |word: &str| number_in(word).and_then(NonZeroU64::new);
+    let divisor = |word: &str| {
+        number_in(word)?
+            .try_into()
+            .ok()
+            .filter(|divisor| *divisor > 0u16)
+    };
+    let fifo = |word: &str| match word {
+        "off" => Some(Fifo::Off),
+        word => number_in(word)?
+            .try_into()
+            .ok()
+            .filter(|size| (1..=MOST_FIFO).contains(size))
+            .map(Fifo::Bytes),
+    };
+    let chip = |word: &str| match word {
+        "16550a" => Some(Chip::Uart16550A),
+        "16450" => Some(Chip::Uart16450),
+        _ => None,
+    };
+    Ok(Known {
+        clock: value_of(given, "clock", clock, "a number of hertz, as 1843200")?,
+        divisor: value_of(given, "divisor", divisor, "a number from 1 to 65535")?,
+        fifo: value_of(
+            given,
+            "fifo",
+            fifo,
+            &format!("off, or a number of bytes from 1 to {MOST_FIFO}"),
+        )?,
+        chip: value_of(given, "chip", chip, "16550a or 16450")?.unwrap_or(Chip::Uart16550A),
+    })
 }
 
 // Returns the files of a command line.
@@ -49,14 +150,50 @@ fn each(given: &Given, mut act: impl FnMut(&str) -> Result<(), End>) -> Result<(
     worst.map_or(Ok(()), |status| Err(End::told(status)))
 }
 
-fn format_of(given: &Given) -> Format {
-    if given.has("json") {
+fn format_of<'a>(given: &Given, sarif: &'a Sarif) -> Format<'a> {
+    if given.has("sarif") {
+        Format::Sarif(sarif)
+    } else if given.has("json") {
         Format::Json
     } else if given.has("all") {
         Format::AllLines(Style::of(&io::stdout()))
     } else {
         Format::Lines(Style::of(&io::stdout()))
     }
+}
+
+// Does something whose findings are printed. Around those of SARIF is a document, also if a file is not read to its end.
+fn find(given: &Given, act: impl FnOnce(Format<'_>) -> Result<(), End>) -> Result<(), End> {
+    let sarif = Sarif::default();
+    let format = format_of(given, &sarif);
+    if !given.has("sarif") {
+        return act(format);
+    }
+    if given.has("json") {
+        return Err(End::failed("--json and --sarif are two forms: choose one"));
+    }
+    print(sarif.head().as_bytes())?;
+    let outcome = act(format);
+    let is_complete = match &outcome {
+        Ok(()) => true,
+        Err(end) => end.status() == Status::Refused,
+    };
+    print(sarif.end(is_complete).as_bytes())?;
+    outcome
+}
+
+fn judge(given: &Given, judge: Judge) -> Result<(), End> {
+    let (import, known) = (import_of(given)?, known_of(given)?);
+    find(given, |format| {
+        let judging = Judging {
+            judge,
+            format,
+            is_settled: given.has("settled"),
+            import,
+            known,
+        };
+        each(given, |file| judged(file, &judging))
+    })
 }
 
 // Returns what is to be drawn of a recording.
@@ -84,15 +221,17 @@ fn excerpt_of<'a>(given: &Given, file: &'a str, form: Form) -> Result<Excerpt<'a
         file,
         line,
         most,
+        known: known_of(given)?,
     })
 }
 
 fn draw(given: &Given, file: &str, form: Form) -> Result<(), End> {
     let excerpt = excerpt_of(given, file, form)?;
+    let import = import_of(given)?;
     let output = RefCell::new(Output::new(standard_output().map_err(End::unwritten)?));
-    let reader = Watched::open(file, "timeline", &output);
-    let reader = reader.map_err(|cause| End::unread(file, cause))?;
-    let timeline = timeline_of(&excerpt, reader).map_err(|stop| stopped(file, stop))?;
+    let mut log = Log::open(file, "timeline", &import, &output)?;
+    let timeline = timeline_of(&excerpt, &mut log).map_err(|stop| log.ended(stop))?;
+    drop(log);
     let mut output = output.into_inner();
     // The output keeps the cause of a failed write, and its end reports it.
     let _ = output.write_all(timeline.as_bytes());
@@ -105,9 +244,21 @@ fn timeline(given: &Given) -> Result<(), End> {
     } else {
         Form::Picture
     };
-    let is_of_recording = ["recording", "line", "last"]
-        .iter()
-        .any(|flag| given.has(flag));
+    let of_recording = [
+        "recording",
+        "line",
+        "last",
+        "format",
+        "base",
+        "stride",
+        "port",
+        "irq",
+        "clock",
+        "divisor",
+        "fifo",
+        "chip",
+    ];
+    let is_of_recording = of_recording.iter().any(|flag| given.has(flag));
     each(given, |file| {
         if is_of_recording {
             draw(given, file, form)
@@ -146,9 +297,85 @@ fn verify(given: &Given) -> Result<(), End> {
         )));
     };
     let is_one_of_several = files(given).len() > 1;
-    each(given, |file| {
-        verified(file, limit, format_of(given), is_one_of_several)
+    find(given, |format| {
+        each(given, |file| {
+            verified(file, limit, format, is_one_of_several)
+        })
     })
+}
+
+fn show_recording(given: &Given) -> Result<(), End> {
+    let line = |word: &str| number_in(word).filter(|line| *line > 0);
+    let wants = "the number of a line, from 1 on";
+    let mut registers = Vec::new();
+    for name in given
+        .value("register")
+        .into_iter()
+        .flat_map(|names| names.split(','))
+    {
+        // The scratch register has two names.
+        let name = if name.eq_ignore_ascii_case("SCR") {
+            "SPR"
+        } else {
+            name
+        };
+        let known = REGISTERS
+            .into_iter()
+            .find(|known| known.eq_ignore_ascii_case(name));
+        let Some(known) = known else {
+            let near = nearest(name, REGISTERS);
+            let tip = near.map_or(String::new(), |near| format!(". A similar one is {near}"));
+            let all = REGISTERS.join(", ");
+            return Err(End::failed(format!(
+                "no register is called '{name}': they are {all}{tip}"
+            )));
+        };
+        registers.push(known);
+    }
+    let filter = Filter {
+        registers,
+        writes: given.has("writes"),
+        from: value_of(given, "from", line, wants)?.unwrap_or(1),
+        to: value_of(given, "to", line, wants)?,
+        bytes: given.has("bytes"),
+    };
+    let import = import_of(given)?;
+    each(given, |file| show(file, &import, &filter))
+}
+
+fn compare(given: &Given) -> Result<(), End> {
+    let operand = |index: usize| given.operands().get(index).map_or("", String::as_str);
+    diff([operand(0), operand(1)], &import_of(given)?)
+}
+
+fn shrink_recording(given: &Given) -> Result<(), End> {
+    let sought = Sought {
+        name: given.value("name"),
+        known: known_of(given)?,
+    };
+    let import = import_of(given)?;
+    each(given, |file| shrink(file, &import, &sought))
+}
+
+// Explains a name, or lists all names.
+fn explain(given: &Given) -> Result<(), End> {
+    let Some(name) = given.operands().first() else {
+        let width = explanations().map(|row| row.name.len()).max().unwrap_or(0);
+        let rows: String = explanations()
+            .map(|row| format!("{:width$}  {}\n", row.name, row.kind))
+            .collect();
+        return print(rows.as_bytes());
+    };
+    match explained(name) {
+        Ok(row) => print(row.to_string().as_bytes()),
+        Err(near) => {
+            let tip = near.map_or(String::new(), |near| format!(". A similar name is {near}"));
+            let all = "geesetrunk explain lists all names";
+            Err(End::failed(format!(
+                "no finding and no error is called '{name}'{tip}. {all}"
+            )))
+        }
+    }
 }
 
 fn complete(given: &Given) -> Result<(), End> {
@@ -164,10 +391,20 @@ fn run(job: Job, given: &Given) -> Result<(), End> {
         Job::Report(task) => each(given, |file| report(task, file)),
         Job::Timeline => timeline(given),
         Job::Link => play_link(given),
-        Job::Judge(judge) => each(given, |file| {
-            judged(judge, file, format_of(given), given.has("settled"))
-        }),
+        Job::Judge(who) => judge(given, who),
         Job::Verify => verify(given),
+        Job::Import => {
+            let log = import_of(given)?;
+            each(given, |file| import(file, &log))
+        }
+        Job::Show => show_recording(given),
+        Job::Stats => {
+            let (log, known) = (import_of(given)?, known_of(given)?);
+            each(given, |file| stats(file, &log, &known))
+        }
+        Job::Diff => compare(given),
+        Job::Shrink => shrink_recording(given),
+        Job::Explain => explain(given),
         Job::Completions => complete(given),
         Job::Manual => print(manual_page(&GEESETRUNK).as_bytes()),
     }

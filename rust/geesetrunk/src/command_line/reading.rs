@@ -2,6 +2,7 @@
 
 use super::{Command, Count, Flag, Program};
 use crate::end::End;
+use crate::near::nearest;
 use std::ffi::OsString;
 
 const MORE: &str = "For more information, try '--help'.";
@@ -62,7 +63,13 @@ fn wrong(cause: &str, usage: &str) -> Reply {
 impl<J> Command<J> {
     fn unexpected(&self, word: &str) -> Reply {
         let mut cause = format!("unexpected argument '{word}' found");
-        if word.starts_with('-') && !self.operands.is_empty() {
+        let flags = self.flags.iter().map(|flag| flag.name);
+        if let Some(near) = word
+            .strip_prefix("--")
+            .and_then(|word| nearest(word, flags.chain(["help"])))
+        {
+            cause += &format!("\n\n  tip: a similar argument exists: '--{near}'");
+        } else if word.starts_with('-') && !self.operands.is_empty() {
             cause += &format!("\n\n  tip: to pass '{word}' as a value, use '-- {word}'");
         }
         wrong(&cause, &self.usage())
@@ -161,7 +168,11 @@ impl<J> Program<J> {
         commands
             .find(|command| command.word() == word)
             .ok_or_else(|| {
-                let cause = format!("unrecognized subcommand '{word}'");
+                let mut cause = format!("unrecognized subcommand '{word}'");
+                let commands = self.commands.iter().map(Command::word);
+                if let Some(near) = nearest(word, commands.chain(["help"])) {
+                    cause += &format!("\n\n  tip: a similar subcommand exists: '{near}'");
+                }
                 wrong(&cause, &self.usage())
             })
     }

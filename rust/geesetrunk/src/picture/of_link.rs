@@ -1,8 +1,9 @@
 //! The timelines of two ends of a cable in one picture: the ends one below the other, over the same
 //! ticks.
 
-use super::{COLUMNS, Cell, Drawing, LANES, LEFT, Lane, columns_for, framed};
+use super::{COLUMNS, Cell, Drawing, LANES, LEFT, Lane, check_columns, columns_for, framed};
 use crate::boxes::{cut, escaped, letters_in};
+use crate::end::End;
 use crate::history::History;
 use crate::link::Span;
 use crate::repeats::Shown;
@@ -177,7 +178,11 @@ fn rows(end: &DrawnEnd<'_>, drawing: &Drawing<'_>, cells: &[Cell], y: usize) -> 
 
 /// Returns the timelines of two ends as one picture: for each tick at which anything happens a
 /// column, in as many bands of columns as necessary.
-pub fn picture_of_link(ends: &[DrawnEnd<'_>; 2]) -> String {
+///
+/// # Errors
+///
+/// How a program ends whose picture would have more than `MOST_COLUMNS` columns.
+pub fn picture_of_link(ends: &[DrawnEnd<'_>; 2]) -> Result<String, End> {
     let mut columns = Columns {
         ends,
         steps: [steps_of(&ends[0]), steps_of(&ends[1])],
@@ -187,6 +192,10 @@ pub fn picture_of_link(ends: &[DrawnEnd<'_>; 2]) -> String {
         columns: Vec::new(),
     };
     columns.collect();
+    check_columns(
+        columns.columns.len(),
+        "leave --picture out, or take shorter scripts",
+    )?;
     let drawings = ends.each_ref().map(|end| Drawing {
         clock: "tick",
         chip: end.chip,
@@ -215,5 +224,9 @@ pub fn picture_of_link(ends: &[DrawnEnd<'_>; 2]) -> String {
         }
     }
     let [left, right] = ends;
-    framed(&format!("{}; {}", left.title, right.title), &body, y)
+    Ok(framed(
+        &format!("{}; {}", left.title, right.title),
+        &body,
+        y,
+    ))
 }

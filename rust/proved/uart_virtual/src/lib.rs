@@ -13,9 +13,11 @@ extern crate geesetrunk_kit as std;
 extern crate geesetrunk_kit as bitflags;
 extern crate geesetrunk_kit as arrayvec;
 
+mod clock;
 mod port;
 mod told;
 
+pub use clock::Clock;
 pub use port::{
     Answer, Received, Restored, VirtualPort, kind_of_read, kind_of_write, settle, settle_ticks,
     tell,

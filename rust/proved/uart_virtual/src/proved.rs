@@ -333,3 +333,46 @@
 /// It uses [`IsLive`](uart_live::proved::live#IsLive), [`chip_of`](uart_chip::proved::snapshot#chip_of), [`IsStill`](crate::proved::port#IsStill).
 #[doc(alias("settle_ticks", "settle", "is_up", "accepted", "told_after", "todo_after", "todo_of", "renewed", "untold", "begun", "fresh", "after", "todo", "IsTold", "IsStill", "nothing_new", "reads_polled", "receives_polled", "receives_first", "reads_last", "passes", "passing", "IsSaved"))]
 pub mod port {}
+
+/// A monitor with a clock: which signals it may put off, and that nobody waits for ever.
+///
+/// From `crates/uart_virtual/specs/Clock.antt`.
+///
+/// <span id="can_wait"></span>
+///
+/// # `can_wait`
+///
+/// The signal that this call asks for can wait: the guest reads DATA, and the line was up before; or it writes DATA.
+///
+/// ```text
+/// abbrev pub can_wait : PortCall → Todo → Bool
+/// can_wait (Read offset) t = (offset == offsets.DATA) && (t.signal && not t.has_moved)
+/// can_wait (Write offset value) t = (offset == offsets.DATA) && t.signal
+/// can_wait _ t = false
+/// ```
+///
+/// It uses `PortCall` of `crates/uart_virtual/specs/Port.antt`.
+///
+/// <span id="todo_now"></span>
+///
+/// # `todo_now`
+///
+/// What is left to be done now: all of it, but for a signal that is put off.
+///
+/// ```text
+/// abbrev pub todo_now : (waits : Bool) → Todo → Todo
+/// todo_now waits t = record t { signal = t.signal && not waits }
+/// ```
+///
+/// <span id="owed_after"></span>
+///
+/// # `owed_after`
+///
+/// The guest is owed a signal after a call: one is put off now; or none is given, one was put off before, and the line is still up.
+///
+/// ```text
+/// abbrev pub owed_after : (was_owed waits : Bool) → Todo → Bool
+/// owed_after was_owed waits t = t.level && (if t.signal then waits else was_owed)
+/// ```
+#[doc(alias("can_wait", "todo_now", "owed_after"))]
+pub mod clock {}

@@ -1,53 +1,11 @@
 //! Shared rings for tasks: futures that the handler wakes.
 
-use super::{Awaited, CriticalSection, Port, Shared, SharedError};
+use super::{CriticalSection, Shared, SharedError};
 use crate::native::backend::Backend;
 use crate::ring::Uart16550Ring;
 use core::future::poll_fn;
-use core::mem;
-use core::task::{Context, Poll, Waker};
-
-/// The rings' two ends, each of which one task waits at.
-#[derive(Clone, Copy)]
-pub(super) enum Side {
-    Receive,
-    Transmit,
-}
-
-impl Side {
-    pub(super) const COUNT: usize = 2;
-}
-
-impl Awaited {
-    const fn side(self) -> Side {
-        match self {
-            Self::ReceivedByte => Side::Receive,
-            Self::TransmitRoom | Self::EmptyTransmitRing => Side::Transmit,
-        }
-    }
-}
-
-/// A task that waits.
-pub(super) struct Waiter {
-    waker: Waker,
-    awaited: Awaited,
-}
-
-impl Waiter {
-    pub(super) fn wake(self) {
-        self.waker.wake();
-    }
-}
-
-impl<B: Backend> Port<B> {
-    // Takes the waiters whose turn it is: what they wait for is there, or does not come, since the chip is stuck or there are no rings.
-    pub(super) fn due(&mut self) -> [Option<Waiter>; Side::COUNT] {
-        let rings = self.rings.as_ref();
-        self.waiters.each_mut().map(|waiter| {
-            waiter.take_if(|waiter| rings.is_none_or(|rings| rings.ends_wait(waiter.awaited)))
-        })
-    }
-}
+use core::task::{Context, Poll};
+use uart_waits::{Awaited, Waiter};
 
 impl<S: CriticalSection, B: Backend> Shared<S, B> {
     /// Takes received bytes, at least one, as [`take`](Uart16550Ring::take) does, and returns how many. Waits until one is there. Of
@@ -214,7 +172,7 @@ impl<S: CriticalSection, B: Backend> Shared<S, B> {
             awaited,
         });
         let registered = self.in_section(|port| {
-            mem::swap(&mut port.waiters[awaited.side() as usize], &mut waiter);
+            waiter = waiter.take().and_then(|waiter| port.waits.register(waiter));
             Ok(())
         });
         if let Err(error) = registered {
@@ -222,7 +180,7 @@ impl<S: CriticalSection, B: Backend> Shared<S, B> {
         }
         // There is one place, so another task that was there looks again, and takes the place in its turn.
         if let Some(other) = waiter.filter(|other| !other.waker.will_wake(context.waker())) {
-            other.wake();
+            other.waker.wake();
         }
         Poll::Pending
     }

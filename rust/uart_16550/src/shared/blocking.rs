@@ -1,10 +1,11 @@
 //! Shared rings for threads that wait.
 
-use super::{Awaited, CriticalSection, Shared, SharedError};
+use super::{CriticalSection, Shared, SharedError};
 use crate::native::backend::Backend;
 use crate::native::embedded_io::{ErrorType, Read, ReadReady, Write, WriteReady};
 use crate::ring::Uart16550Ring;
 use core::fmt;
+use uart_waits::Awaited;
 
 /// How a thread of the kernel waits, and for how long.
 ///
@@ -316,7 +317,7 @@ impl<S: CriticalSection, B: Backend, W> WriteReady for Blocking<'_, S, B, W> {
     fn write_ready(&mut self) -> Result<bool, SharedError> {
         self.shared.in_section(|port| {
             let rings = port.rings.as_ref().ok_or(SharedError::NoRings)?;
-            Ok(rings.has(Awaited::TransmitRoom))
+            Ok(rings.seen().has(Awaited::TransmitRoom))
         })
     }
 }

@@ -385,6 +385,12 @@ pub fn queue(choices: &mut Choices) -> (usize, usize, Vec<u8>) {
     (capacity, front, (0..count).map(|_| choices.pick(256) as u8).collect())
 }
 
+/// Returns a text that can be printed, of no more than so many bytes.
+pub fn text_for(choices: &mut Choices, room: usize) -> Vec<u8> {
+    let most = choices.one_of(&[0, 1, 8, room as u64]).min(room as u64);
+    (0..choices.pick(most + 1)).map(|_| b' ' + choices.pick(95) as u8).collect()
+}
+
 /// Returns a wire of a live chip: its slots, where it starts, how many bytes it has, and the most.
 pub fn wire(choices: &mut Choices) -> ([u8; 128], u64, u64, u64) {
     let limit = choices.one_of(&[0u64, 1, 16, 64]);

@@ -7,20 +7,16 @@ use crate::{
 };
 use core::error::Error;
 
-impl Error for NonIntegerBaudRateError {}
-impl Error for NonIntegerDivisorError {}
-impl Error for InvalidAddressError {}
-impl Error for ByteReceiveError {}
-impl Error for ByteSendError {}
-impl Error for RemoteReadyToReceiveError {}
-impl Error for StalledError {}
-impl Error for AttachError {}
-impl Error for FifosOffError {}
-impl Error for ConfigurationError {}
-impl Error for NearestDivisorError {}
+// Errors without a cause of their own. The text of `InvalidDivisorError` is that of its cause, so the cause is not named again.
+macro_rules! without_cause {
+    ($($Error:ident)*) => { $(impl Error for $Error {})* };
+}
 
-// Its text is that of the cause, so the cause is not named again.
-impl Error for InvalidDivisorError {}
+without_cause! {
+    NonIntegerBaudRateError NonIntegerDivisorError InvalidAddressError ByteReceiveError ByteSendError
+    RemoteReadyToReceiveError StalledError AttachError FifosOffError ConfigurationError NearestDivisorError
+    InvalidDivisorError
+}
 
 impl Error for InitError {
     fn source(&self) -> Option<&(dyn Error + 'static)> {
@@ -62,19 +58,15 @@ impl Error for Uart16550TtyError {
     }
 }
 
-impl Copy for NonIntegerBaudRateError {}
-impl Copy for NonIntegerDivisorError {}
-impl Copy for InvalidDivisorError {}
-impl Copy for NearestDivisorError {}
-impl Copy for FrameError {}
-impl Copy for InvalidAddressError {}
-impl Copy for ByteReceiveError {}
-impl Copy for ByteSendError {}
-impl Copy for RemoteReadyToReceiveError {}
-impl Copy for InitError {}
-impl Copy for LoopbackError {}
-impl Copy for StalledError {}
-impl Copy for Uart16550TtyError {}
+macro_rules! copied {
+    ($($Error:ident)*) => { $(impl Copy for $Error {})* };
+}
+
+copied! {
+    NonIntegerBaudRateError NonIntegerDivisorError InvalidDivisorError NearestDivisorError FrameError
+    InvalidAddressError ByteReceiveError ByteSendError RemoteReadyToReceiveError InitError LoopbackError
+    StalledError Uart16550TtyError
+}
 
 #[cfg(feature = "embedded-io")]
 impl embedded_io::Error for StalledError {

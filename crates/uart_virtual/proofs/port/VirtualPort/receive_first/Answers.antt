@@ -1,4 +1,4 @@
-use Rattle.std.proofs.Common.{◌≡◌, ◌∙◌, ap, sym, subst, refl, ℕ, true, [], ◌∷◌}
+use Rattle.std.proofs.Common.{◌≡◌, ◌∙◌, ap, sym, subst, refl, [], ◌∷◌}
 use Rattle.uart_chip.specs.Chip.{ChipState, arrive_live}
 use Rattle.uart_live.proofs.Lives.{live-arrival, live-expire}
 use Rattle.uart_live.specs.Held.{expire}

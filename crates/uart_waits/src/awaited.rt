@@ -1,0 +1,47 @@
+//! What somebody waits for.
+ghost use Rattle.std.specs.Prelude.{◌≡◌};
+ghost use Rattle.uart_waits.specs.Awaited.{ends_wait, has};
+
+/// What somebody waits for.
+#[derive(Clone, Copy, Debug, PartialEq, Eq, Drop)]
+pub enum Awaited {
+    /// A received byte that can be taken.
+    ReceivedByte,
+    /// Room for a byte to be sent.
+    TransmitRoom,
+    /// That no byte waits to be sent.
+    EmptyTransmitRing,
+}
+
+/// What is to be seen of the rings.
+#[derive(Clone, Copy, Debug, PartialEq, Eq, Drop)]
+pub struct Seen {
+    /// How many received bytes can be taken.
+    pub received: usize,
+    /// How many bytes wait to be sent.
+    pub queued: usize,
+    /// How many can wait at most.
+    pub capacity: usize,
+    /// Whether the chip is stuck, and so nothing comes.
+    pub is_stuck: bool,
+}
+
+impl Seen {
+    /// Returns whether this is there.
+    pub fn has(&self, awaited: Awaited) -> bool
+        ensures { result ≡ has self.now awaited }
+    {
+        match awaited {
+            Awaited::ReceivedByte => self.received > 0,
+            Awaited::TransmitRoom => self.queued < self.capacity,
+            Awaited::EmptyTransmitRing => self.queued == 0,
+        }
+    }
+
+    /// Returns whether to wait for this no longer: it is there, or does not come.
+    pub fn ends_wait(&self, awaited: Awaited) -> bool
+        ensures { result ≡ ends_wait self.now awaited }
+    {
+        self.has(awaited) || self.is_stuck
+    }
+}

@@ -1,0 +1,13 @@
+//! Laws about tasks that wait, over sections one after another.
+//!
+//! The contract of each function is a law that callers can cite. The functions do nothing.
+ghost use Rattle.uart_waits.specs.Laws.{EachIsWokenOnce, NobodyIsForgotten};
+
+/// No wake is lost. In whatever order sections come, and whatever each of them sees of the rings:
+/// each task that came is handed out to be woken, once, or it still waits. And who still waits
+/// after a section has nothing to be woken for.
+#[tactic(auto, using(crate::proofs::Sections::waking))]
+pub fn no_wake_is_lost<W>()
+    ensures once { EachIsWokenOnce W }
+    ensures none_forgotten { NobodyIsForgotten W }
+{}

@@ -1,0 +1,14 @@
+//! Who waits at rings that a handler and tasks share, for what, and whose turn it is.
+//!
+//! [`Waits`] has a place at each end of the rings. A task that looked in vain comes into one, by
+//! [`Waits::register`]. After each call over the rings [`Waits::take_due`] takes those out whose
+//! turn it is, to be woken. What wakes a task is of any kind: it is never looked at, copied or
+//! dropped.
+#![tactic(auto)]
+
+mod awaited;
+pub mod laws;
+mod waits;
+
+pub use awaited::{Awaited, Seen};
+pub use waits::{Due, Waiter, Waits};

@@ -1,0 +1,1223 @@
+// SPDX-License-Identifier: MIT OR GPL-2.0-only
+/*
+ * A tty driver for Linux over the library: chips at I/O ports of a PC, as /dev/ttyP0, /dev/ttyP1 and so on.
+ *
+ * serial_core of Linux does what all serial ports have in common, and calls the functions in `operations`. What these do to a chip they
+ * do by calls of the library. It makes each access, through read_register and write_register: this file has no other.
+ *
+ * The library's rings are not used. serial_core keeps what waits to be sent, and the tty layer what was received. A second queue below
+ * theirs would hold bytes that a stop or a flush does not reach.
+ *
+ * Each call of the library is made with port.lock taken and interrupts off, but for last words. No call waits, but for a console's.
+ */
+#define pr_fmt(fmt) KBUILD_MODNAME ": " fmt
+#include <linux/console.h>
+#include <linux/delay.h>
+#include <linux/interrupt.h>
+#include <linux/io.h>
+#include <linux/ioport.h>
+#include <linux/module.h>
+#include <linux/platform_device.h>
+#include <linux/serial.h>
+#include <linux/serial_core.h>
+#include <linux/serial_reg.h>
+#include <linux/slab.h>
+#include <linux/sysrq.h>
+#include <linux/timer.h>
+#include <linux/tty.h>
+#include <linux/tty_flip.h>
+#include <linux/version.h>
+#include <linux/workqueue.h>
+
+#define U16550_HAS_TYPES		/* linux/types.h */
+#include "u16550.h"
+
+#define MOST_PORTS 4
+#define FREQUENCY 1843200
+#define FIFO_SIZE 16
+#define TRIGGER_LEVEL 8			/* the other half takes what arrives until the handler comes */
+#define REGISTERS 8
+#define LAST_PORT 0xffff
+#define LARGEST_DIVISOR 0xffff
+
+/* How many interrupts one run of the handler serves, and how many characters it takes for one of them. */
+#define MOST_INTERRUPTS 256
+#define MOST_CHARACTERS 256
+
+/* How many runs in a row may leave an interrupt pending and do nothing. No sound chip comes to that. */
+#define MOST_VAIN_RUNS 100
+
+/*
+ * How often a timer looks at a chip whose interrupts come, and how many looks in a row may find one that nobody has announced. That may
+ * be chance once: an interrupt was on its way.
+ */
+#define LOOK (HZ / 5)
+#define MOST_MISSED 5
+
+/* The longest time that a console waits in a panic for the lock: a thousand tenths of a millisecond. */
+#define LOCK_TRIES 1000
+#define LOCK_TRY_MICROSECONDS 100
+
+static unsigned int ports[MOST_PORTS] = { 0x2f8 };
+static unsigned int irqs[MOST_PORTS] = { 3 };
+static int port_count = 1, irq_count = 1;
+static bool with_console;
+module_param_array(ports, uint, &port_count, 0444);
+MODULE_PARM_DESC(ports, "the first I/O port of each chip; none may belong to another driver");
+module_param_array(irqs, uint, &irq_count, 0444);
+MODULE_PARM_DESC(irqs, "the interrupt of each chip, which several may share, or 0: then a timer looks at the chip");
+module_param_named(console, with_console, bool, 0444);
+MODULE_PARM_DESC(console, "console=ttyP0 on the kernel's command line makes a port a console");
+
+struct line {
+	struct uart_port port;
+	struct u16550 uart;
+	struct u16550 last_words;	/* another driver of the same chip, for a panic */
+	struct u16550 debugger;		/* another one, for a debugger */
+	struct u16550 *console;		/* the one of the first two that a console's text goes through */
+	struct u16550_config config;
+	u64 patience;			/* the spin limit of each of them */
+	unsigned long base;		/* the first port of the region that this line has; 0 without one, and then no driver is made */
+	struct u16550_dump registers;	/* before the machine slept */
+	u8 interrupts;			/* those that are enabled */
+	u8 shown;			/* the errors that LSR has shown of the character that is the next to be read */
+	u8 errors;			/* those of the character that was read last */
+	struct work_struct report;	/* says what is wrong */
+	const char *trouble, *detail;
+	char which[24];			/* the interrupt, for that */
+	unsigned int vain_runs;
+	struct timer_list timer;	/* looks at the chip, whether it interrupts or not */
+	unsigned int missed;		/* how many of its looks in a row have found an interrupt that did not come */
+	bool has_come;			/* an interrupt came since the last look */
+	bool is_polled;			/* the timer does what the interrupt should */
+	bool is_masked;			/* the chip is not to interrupt for now, so `enable` waits */
+	bool loops;			/* TIOCM_LOOP is set */
+	bool is_added;
+	bool is_open;			/* startup was called, and shutdown not yet */
+	bool is_broken;			/* the chip interrupts without end, so it may not */
+	bool is_taken_over;		/* last_words has the chip */
+	bool is_stalled;		/* the rest of a console's text is left out */
+	char name[16];
+};
+
+static struct line lines[MOST_PORTS];
+
+static struct line *line_of(struct uart_port *port)
+{
+	return container_of(port, struct line, port);
+}
+
+/* ------------------------------------------------------------------ what differs between versions of Linux */
+
+#if LINUX_VERSION_CODE < KERNEL_VERSION(6, 2, 0)
+#define timer_delete_sync del_timer_sync
+#endif
+
+#if LINUX_VERSION_CODE >= KERNEL_VERSION(6, 10, 0)
+/* How many bytes wait to be sent. */
+static unsigned int waiting(struct uart_port *port)
+{
+	return kfifo_len(&port->state->port.xmit_fifo);
+}
+
+/* Copies those that come next, and leaves them there. Returns how many. */
+static size_t peek(struct uart_port *port, u8 *burst, size_t most)
+{
+	return kfifo_out_peek(&port->state->port.xmit_fifo, burst, most);
+}
+#else
+static unsigned int waiting(struct uart_port *port)
+{
+	return uart_circ_chars_pending(&port->state->xmit);
+}
+
+static size_t peek(struct uart_port *port, u8 *burst, size_t most)
+{
+	struct circ_buf *xmit = &port->state->xmit;
+	size_t len = 0;
+	int at;
+
+	for (at = xmit->tail; at != xmit->head && len < most; at = (at + 1) & (UART_XMIT_SIZE - 1))
+		burst[len++] = xmit->buf[at];
+	return len;
+}
+#endif
+
+/* ------------------------------------------------------------------ what the library needs */
+
+/*
+ * The chip shows the errors of a character once, to the first look at LSR. That may be a look of a send, or of tx_empty. So what a look
+ * shows is kept here, until the character is read.
+ */
+static uint8_t read_register(void *context, uintptr_t address)
+{
+	struct line *line = context;
+	u8 value = inb(address);
+
+	switch (address - line->base) {
+	case UART_LSR:
+		line->shown |= value & UART_LSR_BRK_ERROR_BITS;
+		break;
+	case UART_RX:
+		line->errors = line->shown;
+		line->shown = 0;
+		break;
+	}
+	return value;
+}
+
+/* No call of the library leaves a chip in loopback, so TIOCM_LOOP is added to what it writes. */
+static void write_register(void *context, uintptr_t address, uint8_t value)
+{
+	struct line *line = context;
+
+	if (line->loops && address - line->base == UART_MCR)
+		value |= UART_MCR_LOOP;
+	outb(value, address);
+}
+
+static struct u16550_io io_of(struct line *line)
+{
+	return (struct u16550_io){ line, read_register, write_register };
+}
+
+static void report(struct work_struct *work)
+{
+	struct line *line = container_of(work, struct line, report);
+
+	pr_err_ratelimited("%s: %s: %s\n", line->name, line->trouble, line->detail);
+}
+
+/*
+ * Has the kernel's log told what is wrong, but later: the log may go to this port, whose lock is taken now. Whoever is the second before
+ * that is left out.
+ */
+static void report_later(struct line *line, const char *trouble, const char *detail)
+{
+	if (work_pending(&line->report))
+		return;
+	line->trouble = trouble;
+	line->detail = detail;
+	schedule_work(&line->report);
+}
+
+/*
+ * Whether a call has failed. None of those that are asked about here does, unless this driver is wrong; or the port has no chip, as after
+ * `setserial .. uart none`, and then there is nothing to do.
+ */
+static bool failed(struct line *line, const char *call, int status)
+{
+	if (status != U16550_OK && status != U16550_NOT_MADE)
+		report_later(line, call, u16550_text(status));
+	return status != U16550_OK;
+}
+
+static void enable(struct line *line, u8 interrupts)
+{
+	if ((line->interrupts & interrupts) == interrupts || line->is_broken)
+		return;
+	line->interrupts |= interrupts;
+	if (!line->is_masked)
+		failed(line, "enable", u16550_enable_interrupts(&line->uart, interrupts));
+}
+
+static void disable(struct line *line, u8 interrupts)
+{
+	if (!(line->interrupts & interrupts))
+		return;
+	line->interrupts &= ~interrupts;
+	failed(line, "disable", u16550_disable_interrupts(&line->uart, interrupts));
+}
+
+/* ------------------------------------------------------------------ sending */
+
+static bool has_more(struct uart_port *port)
+{
+	return port->x_char || (waiting(port) && !uart_tx_stopped(port));
+}
+
+static void send_burst(struct line *line)
+{
+	/* One array, also where the buffer ends: the chip takes one burst each time that it is empty, and half a one would cost as much. */
+	u8 burst[FIFO_SIZE];
+	size_t len = peek(&line->port, burst, sizeof(burst)), sent = 0;
+
+	if (failed(line, "send", u16550_send_bytes(&line->uart, burst, len, &sent)))
+		return;
+	uart_xmit_advance(&line->port, sent);
+	if (waiting(&line->port) < WAKEUP_CHARS)
+		uart_write_wakeup(&line->port);
+}
+
+/* Sends what the chip takes now, and lets it interrupt when it takes more, if there is more. */
+static void send(struct line *line)
+{
+	struct uart_port *port = &line->port;
+
+	if (port->x_char) {
+		/* XON or XOFF: before all that waits, and also while sending is stopped. */
+		if (u16550_try_send_byte(&line->uart, port->x_char) == U16550_OK) {
+			port->icount.tx++;
+			port->x_char = 0;
+		}
+	} else if (has_more(port)) {
+		send_burst(line);
+	}
+	if (has_more(port))
+		enable(line, U16550_IER_THR_EMPTY);
+	else
+		disable(line, U16550_IER_THR_EMPTY);
+}
+
+static void start_tx(struct uart_port *port)
+{
+	struct line *line = line_of(port);
+
+	/* With THR_EMPTY enabled the handler is on its way. Otherwise a few bytes go out without any interrupt. */
+	if (!(line->interrupts & U16550_IER_THR_EMPTY))
+		send(line);
+}
+
+static void stop_tx(struct uart_port *port)
+{
+	disable(line_of(port), U16550_IER_THR_EMPTY);
+}
+
+static unsigned int tx_empty(struct uart_port *port)
+{
+	struct line *line = line_of(port);
+	unsigned long flags;
+	u8 is_idle = 0;
+
+	spin_lock_irqsave(&port->lock, flags);
+	failed(line, "is_idle", u16550_is_idle(&line->uart, &is_idle));
+	spin_unlock_irqrestore(&port->lock, flags);
+	return is_idle ? TIOCSER_TEMT : 0;
+}
+
+/* ------------------------------------------------------------------ receiving */
+
+static void count_errors(struct uart_icount *counts, u8 errors)
+{
+	if (errors & UART_LSR_OE)
+		counts->overrun++;
+	if (errors & UART_LSR_BI)
+		counts->brk++;
+	else if (errors & UART_LSR_PE)
+		counts->parity++;
+	else if (errors & UART_LSR_FE)
+		counts->frame++;
+}
+
+static char mark_of(u8 errors)
+{
+	return errors & UART_LSR_BI ? TTY_BREAK : errors & UART_LSR_PE ? TTY_PARITY : errors & UART_LSR_FE ? TTY_FRAME : TTY_NORMAL;
+}
+
+static void give_character(struct uart_port *port, u8 byte, u8 errors)
+{
+	/* A break has no stop bit, and perhaps the wrong parity. That says nothing more. */
+	if (errors & UART_LSR_BI)
+		errors &= ~(UART_LSR_FE | UART_LSR_PE);
+	port->icount.rx++;
+	count_errors(&port->icount, errors);
+	/* A break on a console begins a command to the kernel, which the next character names. */
+	if ((errors & UART_LSR_BI) && uart_handle_break(port))
+		return;
+	if (uart_prepare_sysrq_char(port, byte))
+		return;
+	errors &= port->read_status_mask;
+	uart_insert_char(port, errors | UART_LSR_DR, UART_LSR_OE, byte, mark_of(errors));
+}
+
+/* Returns whether there was a character. */
+static bool receive(struct line *line)
+{
+	int count;
+	u8 byte;
+
+	for (count = 0; count < MOST_CHARACTERS; count++) {
+		if (u16550_try_receive_byte(&line->uart, &byte) != U16550_OK)
+			break;
+		give_character(&line->port, byte, line->errors);
+	}
+	tty_flip_buffer_push(&line->port.state->port);
+	return count > 0;
+}
+
+/* ------------------------------------------------------------------ modem lines and breaks */
+
+/*
+ * Returns MSR, and passes on what changed. Whoever reads MSR has to: the read ends the interrupt, so nobody else would hear that CTS
+ * came back.
+ */
+static u8 look_at_modem(struct line *line)
+{
+	struct uart_port *port = &line->port;
+	u8 msr = 0;
+
+	failed(line, "msr", u16550_msr(&line->uart, &msr));
+	if (!(msr & UART_MSR_ANY_DELTA) || !(line->interrupts & U16550_IER_MODEM_STATUS))
+		return msr;
+	if (msr & UART_MSR_TERI)
+		port->icount.rng++;
+	if (msr & UART_MSR_DDSR)
+		port->icount.dsr++;
+	if (msr & UART_MSR_DDCD)
+		uart_handle_dcd_change(port, msr & UART_MSR_DCD);
+	if (msr & UART_MSR_DCTS)
+		uart_handle_cts_change(port, msr & UART_MSR_CTS);
+	wake_up_interruptible(&port->state->port.delta_msr_wait);
+	return msr;
+}
+
+static unsigned int get_mctrl(struct uart_port *port)
+{
+	u8 msr = look_at_modem(line_of(port));
+
+	return (msr & UART_MSR_DCD ? TIOCM_CAR : 0) | (msr & UART_MSR_RI ? TIOCM_RNG : 0) |
+	       (msr & UART_MSR_DSR ? TIOCM_DSR : 0) | (msr & UART_MSR_CTS ? TIOCM_CTS : 0);
+}
+
+static u8 outputs_of(unsigned int mctrl)
+{
+	return (mctrl & TIOCM_DTR ? U16550_MCR_DTR : 0) | (mctrl & TIOCM_RTS ? U16550_MCR_RTS : 0) |
+	       (mctrl & TIOCM_OUT1 ? U16550_MCR_OUT_1 : 0) | (mctrl & TIOCM_OUT2 ? U16550_MCR_OUT_2_INT_ENABLE : 0);
+}
+
+static void set_mctrl(struct uart_port *port, unsigned int mctrl)
+{
+	struct line *line = line_of(port);
+
+	line->loops = mctrl & TIOCM_LOOP;
+	failed(line, "set_modem_control", u16550_set_modem_control(&line->uart, outputs_of(mctrl)));
+}
+
+static void enable_ms(struct uart_port *port)
+{
+	enable(line_of(port), U16550_IER_MODEM_STATUS);
+}
+
+static void break_ctl(struct uart_port *port, int state)
+{
+	struct line *line = line_of(port);
+	unsigned long flags;
+
+	spin_lock_irqsave(&port->lock, flags);
+	failed(line, "set_break", u16550_set_break(&line->uart, state != 0));
+	spin_unlock_irqrestore(&port->lock, flags);
+}
+
+/* serial_core asks for no more characters before it closes a port. */
+static void stop_rx(struct uart_port *port)
+{
+	disable(line_of(port), U16550_IER_DATA_READY | U16550_IER_RECEIVER_LINE_STATUS);
+}
+
+/* ------------------------------------------------------------------ the handler */
+
+/* Serves what ISR shows. Returns whether something was done. */
+static bool serve(struct line *line, u8 isr)
+{
+	u32 sent = line->port.icount.tx;
+
+	switch (isr & 0x0f) {
+	case UART_IIR_RLSI:
+	case UART_IIR_RDI:
+	case UART_IIR_RX_TIMEOUT:
+		return receive(line);
+	case UART_IIR_THRI:
+		send(line);
+		return line->port.icount.tx != sent;
+	case UART_IIR_MSI:
+		return look_at_modem(line) & UART_MSR_ANY_DELTA;
+	}
+	return false;
+}
+
+static const char *name_of(u8 isr)
+{
+	switch (isr & 0x0f) {
+	case UART_IIR_RLSI:
+		return "line status";
+	case UART_IIR_RDI:
+		return "data";
+	case UART_IIR_RX_TIMEOUT:
+		return "data that waits";
+	case UART_IIR_THRI:
+		return "transmitter empty";
+	case UART_IIR_MSI:
+		return "modem status";
+	}
+	return "an interrupt without a name";
+}
+
+/* A chip that shows an interrupt for ever would keep this processor for ever. */
+static void give_up(struct line *line, u8 isr)
+{
+	line->is_broken = true;
+	disable(line, 0x0f);
+	report_later(line, "the chip interrupts without end, and may not until the port is opened or set again", name_of(isr));
+}
+
+enum outcome { IDLE, DONE, VAIN };
+
+/* Serves what ISR shows, with the lock for that alone: meanwhile another processor may bring more to be sent. */
+static enum outcome serve_next(struct line *line, u8 *isr)
+{
+	enum outcome outcome = IDLE;
+	unsigned long flags;
+
+	spin_lock_irqsave(&line->port.lock, flags);
+	if (!failed(line, "isr", u16550_isr(&line->uart, isr)) && !(*isr & UART_IIR_NO_INT))
+		outcome = serve(line, *isr) ? DONE : VAIN;
+	else
+		line->vain_runs = 0;
+	uart_unlock_and_check_sysrq_irqrestore(&line->port, flags);
+	return outcome;
+}
+
+/* Ends a run that leaves an interrupt pending. A controller that detects edges would never call again if the chip's line stayed high. */
+static void leave(struct line *line, bool was_vain, u8 isr)
+{
+	unsigned long flags;
+
+	spin_lock_irqsave(&line->port.lock, flags);
+	failed(line, "retrigger", u16550_retrigger_interrupts(&line->uart));
+	line->vain_runs = was_vain ? line->vain_runs + 1 : 0;
+	if (line->vain_runs == MOST_VAIN_RUNS)
+		give_up(line, isr);
+	spin_unlock_irqrestore(&line->port.lock, flags);
+}
+
+/* Serves what is pending. Returns how many interrupts that was. */
+static unsigned int run(struct line *line)
+{
+	bool was_vain = true;
+	unsigned int served;
+	u8 isr = 0;
+
+	if (line->is_broken)
+		return 0;
+	for (served = 0; served < MOST_INTERRUPTS; served++) {
+		enum outcome outcome = serve_next(line, &isr);
+
+		if (outcome == IDLE)
+			return served;
+		was_vain &= outcome == VAIN;
+	}
+	leave(line, was_vain, isr);
+	return served;
+}
+
+static bool shares(struct line *line, unsigned int irq)
+{
+	return READ_ONCE(line->is_open) && line->port.irq == irq;
+}
+
+static void set_masked(struct line *line, bool is_masked)
+{
+	unsigned long flags;
+
+	spin_lock_irqsave(&line->port.lock, flags);
+	if (is_masked && line->is_open)
+		failed(line, "disable", u16550_disable_interrupts(&line->uart, 0xff));
+	if (!is_masked && line->is_masked)
+		failed(line, "enable", u16550_enable_interrupts(&line->uart, line->interrupts));
+	line->is_masked = is_masked && line->is_open;
+	spin_unlock_irqrestore(&line->port.lock, flags);
+}
+
+/*
+ * Ports that share an interrupt: while one of them is served, another one may keep their common line high, and a controller that detects
+ * edges would never call again. So the line is low here for a moment. If one of them has something then, the line rises.
+ */
+static void let_fall(unsigned int irq)
+{
+	int index, sharing = 0;
+
+	for (index = 0; index < port_count; index++)
+		sharing += shares(&lines[index], irq);
+	if (sharing < 2)
+		return;
+	for (index = 0; index < port_count; index++) {
+		if (shares(&lines[index], irq))
+			set_masked(&lines[index], true);
+	}
+	for (index = 0; index < port_count; index++)
+		set_masked(&lines[index], false);
+}
+
+static irqreturn_t handle(int irq, void *context)
+{
+	struct line *line = context;
+	unsigned int served = run(line);
+
+	if (served) {
+		WRITE_ONCE(line->has_come, true);
+		let_fall(irq);
+	}
+	return IRQ_RETVAL(served);
+}
+
+/* Whoever has named a wrong interrupt hears of it, and the port works, if slowly. */
+static void judge_interrupt(struct line *line, bool has_found)
+{
+	if (xchg(&line->has_come, false))
+		line->missed = 0;
+	else if (has_found && ++line->missed == MOST_MISSED) {
+		line->is_polled = true;
+		snprintf(line->which, sizeof(line->which), "interrupt %u", line->port.irq);
+		report_later(line, "a timer looks at the port from now on, since its interrupt does not come", line->which);
+	}
+}
+
+static void look(struct timer_list *timer)
+{
+	struct line *line = container_of(timer, struct line, timer);
+	bool has_found = run(line);
+
+	if (!line->is_polled)
+		judge_interrupt(line, has_found);
+	mod_timer(timer, jiffies + (line->is_polled ? uart_poll_timeout(&line->port) : LOOK));
+}
+
+/* ------------------------------------------------------------------ opening and closing */
+
+/* Sets the chip up, without interrupts, and does not wait: a port opens also while its other end takes nothing. */
+static int set_up(struct line *line)
+{
+	struct u16550_setup setup = { 1, U16550_WAIT_NEVER, outputs_of(line->port.mctrl) };
+
+	line->interrupts = line->shown = line->vain_runs = line->missed = 0;
+	line->is_broken = line->has_come = line->is_masked = false;
+	line->is_polled = !line->port.irq;
+	return u16550_init_with(&line->uart, &line->config, &setup);
+}
+
+/* Leaves the chip so that it interrupts nobody. */
+static void silence(struct uart_port *port)
+{
+	struct line *line = line_of(port);
+	unsigned long flags;
+
+	spin_lock_irqsave(&port->lock, flags);
+	port->mctrl &= ~TIOCM_OUT2;
+	line->is_open = false;
+	line->interrupts = 0;
+	failed(line, "set_break", u16550_set_break(&line->uart, 0));
+	failed(line, "quiesce", u16550_quiesce(&line->uart, outputs_of(port->mctrl), U16550_FIFOS_DISABLE));
+	spin_unlock_irqrestore(&port->lock, flags);
+}
+
+static int startup(struct uart_port *port)
+{
+	struct line *line = line_of(port);
+	unsigned long flags;
+	int status, error;
+
+	spin_lock_irqsave(&port->lock, flags);
+	if (port->irq)
+		port->mctrl |= TIOCM_OUT2;	/* on a PC the interrupt is connected by it */
+	status = set_up(line);
+	spin_unlock_irqrestore(&port->lock, flags);
+	if (status != U16550_OK) {
+		pr_err("%s: init: %s\n", line->name, u16550_text(status));
+		return -EIO;
+	}
+	error = port->irq ? request_irq(port->irq, handle, IRQF_SHARED, line->name, line) : 0;
+	if (error) {
+		pr_err("%s: interrupt %u cannot be had: error %d\n", line->name, port->irq, error);
+		silence(port);
+		return error;
+	}
+	/* Not before: an I/O APIC forgets an edge that comes while nobody has asked for the interrupt. */
+	spin_lock_irqsave(&port->lock, flags);
+	line->is_open = true;
+	enable(line, U16550_IER_DATA_READY | U16550_IER_RECEIVER_LINE_STATUS);
+	spin_unlock_irqrestore(&port->lock, flags);
+	mod_timer(&line->timer, jiffies + 1);
+	return 0;
+}
+
+static void shutdown(struct uart_port *port)
+{
+	struct line *line = line_of(port);
+
+	silence(port);
+	if (port->irq)
+		free_irq(port->irq, line);
+	timer_delete_sync(&line->timer);
+}
+
+/* ------------------------------------------------------------------ baud rate, frame, and what the tty layer wants to know */
+
+static u8 parity_of(const struct ktermios *termios)
+{
+	if (!(termios->c_cflag & PARENB))
+		return U16550_PARITY_NONE;
+	if (termios->c_cflag & CMSPAR)
+		return termios->c_cflag & PARODD ? U16550_PARITY_FORCED_1 : U16550_PARITY_FORCED_0;
+	return termios->c_cflag & PARODD ? U16550_PARITY_ODD : U16550_PARITY_EVEN;
+}
+
+/* Which errors make a mark, and which characters are left out. */
+static void set_masks(struct uart_port *port, const struct ktermios *termios)
+{
+	port->read_status_mask = UART_LSR_OE | UART_LSR_THRE | UART_LSR_DR;
+	if (termios->c_iflag & INPCK)
+		port->read_status_mask |= UART_LSR_FE | UART_LSR_PE;
+	if (termios->c_iflag & (IGNBRK | BRKINT | PARMRK))
+		port->read_status_mask |= UART_LSR_BI;
+	port->ignore_status_mask = 0;
+	if (termios->c_iflag & IGNPAR)
+		port->ignore_status_mask |= UART_LSR_PE | UART_LSR_FE;
+	if (termios->c_iflag & IGNBRK)
+		port->ignore_status_mask |= UART_LSR_BI | (termios->c_iflag & IGNPAR ? UART_LSR_OE : 0);
+	if (!(termios->c_cflag & CREAD))
+		port->ignore_status_mask |= UART_LSR_DR;
+}
+
+/*
+ * How many polls a console waits for room: eight times as long as the FIFO takes with the longest frame of 12 bits, if a poll takes a
+ * microsecond. An access to a port takes about that. But not less than a fifth of a second: behind an emulated chip is a program, which
+ * may have to wait for a processor.
+ */
+static u64 patience(unsigned int baud)
+{
+	return max(8 * FIFO_SIZE * 12 * 1000000u / baud, 200000u);
+}
+
+/* The divisor that the user has set for 38,400 baud by `setserial .. spd_cust`, or 0 if there is none. */
+static unsigned int own_divisor(const struct uart_port *port, unsigned int baud)
+{
+	return baud == 38400 && (port->flags & UPF_SPD_MASK) == UPF_SPD_CUST ? port->custom_divisor : 0;
+}
+
+static int set_patience(struct line *line, unsigned int baud)
+{
+	line->patience = patience(baud);
+	u16550_set_spin_limit(&line->debugger, line->patience);
+	return u16550_set_spin_limit(&line->uart, line->patience);
+}
+
+/* Sets the nearest rate that the chip has, or the user's divisor, and the frame. Returns the rate. */
+static unsigned int set_frame(struct line *line, const struct ktermios *termios, unsigned int baud)
+{
+	unsigned int divisor = own_divisor(&line->port, baud);
+	struct u16550_config config = line->config;
+
+	/* At 16 Hz for each of the divisor's, it makes one baud exactly. */
+	config.frequency = divisor ? 16 * divisor : line->port.uartclk;
+	config.baud_rate = divisor ? 1 : baud;
+	config.data_bits = tty_get_char_size(termios->c_cflag);
+	config.extra_stop_bits = !!(termios->c_cflag & CSTOPB);
+	config.parity = parity_of(termios);
+	/* However far it is: the user reads the rate back. The configuration then has the frequency at which the divisor is exact. */
+	if (failed(line, "nearest", u16550_nearest(&config, 1000, &config)))
+		return baud;
+	/* No byte is lost that is in the FIFOs, and RTS and DTR stay as they are. */
+	failed(line, "set_frame", u16550_set_frame(&line->uart, &config));
+	line->config = config;
+	return max(DIV_ROUND_CLOSEST(line->port.uartclk, config.frequency / config.baud_rate), 1u);
+}
+
+/* Lets a chip interrupt again that was given up. The port of a console is not closed, so to open it again would not help. */
+static void start_again(struct line *line)
+{
+	if (!line->is_broken)
+		return;
+	line->is_broken = false;
+	line->vain_runs = 0;
+	enable(line, U16550_IER_DATA_READY | U16550_IER_RECEIVER_LINE_STATUS);
+	send(line);
+}
+
+static void set_termios(struct uart_port *port, struct ktermios *new, const struct ktermios *old)
+{
+	struct line *line = line_of(port);
+	unsigned int slowest = DIV_ROUND_UP(port->uartclk, 16 * 0xffff), fastest = port->uartclk / 16;
+	unsigned int wanted = uart_get_baud_rate(port, new, old, slowest, fastest), baud;
+	unsigned long flags;
+
+	spin_lock_irqsave(&port->lock, flags);
+	baud = set_frame(line, new, wanted);
+	set_patience(line, baud);
+	uart_update_timeout(port, new->c_cflag, baud);
+	set_masks(port, new);
+	start_again(line);
+	if (line->interrupts && UART_ENABLE_MS(port, new->c_cflag))
+		enable(line, U16550_IER_MODEM_STATUS);
+	else
+		disable(line, U16550_IER_MODEM_STATUS);
+	/* A console has DTR raised so before anybody opens the port. */
+	set_mctrl(port, port->mctrl);
+	/* Programs go on to ask for 38,400 baud where the user has set another divisor for it. */
+	if (own_divisor(port, wanted))
+		baud = wanted;
+	spin_unlock_irqrestore(&port->lock, flags);
+	if (tty_termios_baud_rate(new))
+		tty_termios_encode_baud_rate(new, baud, baud);
+}
+
+/* ------------------------------------------------------------------ the port */
+
+static const char *type(struct uart_port *port)
+{
+	switch (port->type) {
+	case PORT_16550A:
+		return "16550A";
+	case PORT_16450:
+		return "16450";
+	}
+	return NULL;
+}
+
+/* Makes the library's drivers for the chip at these ports, without an access. The first one is made last: it is what a console looks at. */
+static int make_drivers(struct line *line)
+{
+	struct u16550_io io = io_of(line);
+	int status = u16550_new_port(&line->debugger, &io, line->port.iobase);
+
+	if (status == U16550_OK)
+		status = u16550_default_config(&line->config);
+	line->config.frequency = line->port.uartclk;
+	line->config.fifo_trigger_level = line->port.type == PORT_16450 ? 0 : TRIGGER_LEVEL;
+	/* serial_core looks at CTS, if the user wants that. */
+	line->config.check_cts_before_sending = 0;
+	line->base = line->port.iobase;
+	if (status == U16550_OK)
+		status = u16550_new_port(&line->uart, &io, line->port.iobase);
+	if (status == U16550_OK)
+		status = set_patience(line, line->config.baud_rate);
+	return status;
+}
+
+/*
+ * Takes the chip's ports, and makes the drivers for them. serial_core calls this also when a port was moved by `setserial .. port`: nobody
+ * may drive ports that he does not have.
+ */
+static int request_port(struct uart_port *port)
+{
+	struct line *line = line_of(port);
+	unsigned long flags;
+	int status;
+
+	if (!request_region(port->iobase, REGISTERS, KBUILD_MODNAME))
+		return -EBUSY;
+	spin_lock_irqsave(&port->lock, flags);
+	status = make_drivers(line);
+	spin_unlock_irqrestore(&port->lock, flags);
+	if (status == U16550_OK)
+		return 0;
+	pr_err("%s: no driver for %#lx: %s\n", line->name, port->iobase, u16550_text(status));
+	release_region(port->iobase, REGISTERS);
+	return -EINVAL;
+}
+
+/* Gives the ports back that this line has, whatever serial_core believes that they are, and ends the drivers: they can reach nothing then. */
+static void release_port(struct uart_port *port)
+{
+	struct line *line = line_of(port);
+	unsigned long flags, base;
+
+	/* Nobody closes the port of a console. */
+	if (line->is_open)
+		shutdown(port);
+	spin_lock_irqsave(&port->lock, flags);
+	u16550_end(&line->uart);
+	u16550_end(&line->debugger);
+	base = line->base;
+	line->base = 0;
+	spin_unlock_irqrestore(&port->lock, flags);
+	if (base)
+		release_region(base, REGISTERS);
+}
+
+/* Whether the FIFOs are on, once they were turned on. A 16450 has none. */
+static bool has_fifos(struct line *line)
+{
+	u8 isr = 0;
+
+	failed(line, "isr", u16550_isr(&line->uart, &isr));
+	return (isr & 0xc0) == 0xc0;
+}
+
+/* Whether there is a chip that works, and which. */
+static int find_chip(struct line *line)
+{
+	int status;
+
+	line->loops = false;
+	line->port.mctrl &= ~TIOCM_LOOP;
+	status = set_up(line);
+	if (status == U16550_OK && !has_fifos(line)) {
+		line->port.type = PORT_16450;
+		line->config.fifo_trigger_level = 0;
+		status = set_up(line);
+	}
+	if (status == U16550_OK)
+		status = u16550_test_loopback(&line->uart, NULL);
+	if (status == U16550_OK)
+		status = u16550_quiesce(&line->uart, outputs_of(line->port.mctrl), U16550_FIFOS_DISABLE);
+	return status;
+}
+
+static void config_port(struct uart_port *port, int what)
+{
+	struct line *line = line_of(port);
+	unsigned long flags;
+	int status;
+
+	if (!(what & UART_CONFIG_TYPE))
+		return;
+	port->type = PORT_16550A;
+	if (request_port(port)) {
+		port->type = PORT_UNKNOWN;
+		pr_err("%s: the ports at %#lx belong to another driver\n", line->name, port->iobase);
+		return;
+	}
+	spin_lock_irqsave(&port->lock, flags);
+	status = find_chip(line);
+	spin_unlock_irqrestore(&port->lock, flags);
+	if (status != U16550_OK) {
+		pr_err("%s: no chip at %#lx: %s\n", line->name, port->iobase, u16550_text(status));
+		release_port(port);
+		port->type = PORT_UNKNOWN;
+		return;
+	}
+	pr_info("%s: a chip at %#lx with interrupt %u has passed the loopback test\n", line->name, port->iobase, port->irq);
+}
+
+/* What a user may set by TIOCSSERIAL. What else he asks for changes nothing. */
+static int verify_port(struct uart_port *port, struct serial_struct *wanted)
+{
+	if (wanted->type != PORT_UNKNOWN && wanted->type != PORT_16450 && wanted->type != PORT_16550A)
+		return -EINVAL;
+	if (wanted->io_type != UPIO_PORT || wanted->iomem_base || wanted->iomem_reg_shift || wanted->hub6)
+		return -EINVAL;
+	if (!wanted->port || wanted->port > LAST_PORT - (REGISTERS - 1) || wanted->port_high)
+		return -EINVAL;
+	if (wanted->custom_divisor < 0 || wanted->custom_divisor > LARGEST_DIVISOR)
+		return -EINVAL;
+	/* The kernel's log goes on to come, and would find no chip, or one that nobody has set up. */
+	if (uart_console(port) && (wanted->port != port->iobase || wanted->type != port->type))
+		return -EBUSY;
+	return 0;
+}
+
+/* ------------------------------------------------------------------ a port for a debugger */
+
+#ifdef CONFIG_CONSOLE_POLL
+/*
+ * kgdb stops all processors, perhaps in the middle of a call, and lets them go on afterwards. So it has a driver of its own, which
+ * reads LSR and moves single characters. While the divisor latch is open there are no characters: it stays so until they go on.
+ */
+static bool has_characters(struct line *line)
+{
+	u8 lcr;
+
+	return u16550_lcr(&line->debugger, &lcr) == U16550_OK && !(lcr & UART_LCR_DLAB);
+}
+
+static int poll_get_char(struct uart_port *port)
+{
+	struct line *line = line_of(port);
+	u8 byte;
+
+	if (!has_characters(line) || u16550_try_receive_byte(&line->debugger, &byte) != U16550_OK)
+		return NO_POLL_CHAR;
+	return byte;
+}
+
+static void poll_put_char(struct uart_port *port, unsigned char character)
+{
+	struct line *line = line_of(port);
+
+	if (has_characters(line))
+		u16550_send_bytes_exact(&line->debugger, &character, 1, NULL);
+}
+#endif
+
+static const struct uart_ops operations = {
+	.tx_empty = tx_empty,
+	.set_mctrl = set_mctrl,
+	.get_mctrl = get_mctrl,
+	.stop_tx = stop_tx,
+	.start_tx = start_tx,
+	.stop_rx = stop_rx,
+	.enable_ms = enable_ms,
+	.break_ctl = break_ctl,
+	.startup = startup,
+	.shutdown = shutdown,
+	.set_termios = set_termios,
+	.type = type,
+	.release_port = release_port,
+	.request_port = request_port,
+	.config_port = config_port,
+	.verify_port = verify_port,
+#ifdef CONFIG_CONSOLE_POLL
+	.poll_get_char = poll_get_char,
+	.poll_put_char = poll_put_char,
+#endif
+};
+
+/* ------------------------------------------------------------------ a port as console */
+
+static struct uart_driver driver;
+
+/*
+ * Takes the lock. Returns whether it could be had: in a panic its owner may be another processor, which has stopped, or this one. Nobody
+ * else has it for so long.
+ */
+static bool lock_for_console(struct line *line, unsigned long *flags)
+{
+	int tries;
+
+	if (!oops_in_progress) {
+		spin_lock_irqsave(&line->port.lock, *flags);
+		return true;
+	}
+	for (tries = 0; tries < LOCK_TRIES && !line->is_taken_over; tries++) {
+		if (spin_trylock_irqsave(&line->port.lock, *flags))
+			return true;
+		udelay(LOCK_TRY_MICROSECONDS);
+	}
+	local_irq_save(*flags);
+	return false;
+}
+
+/*
+ * Another driver takes the chip over, from the middle of a call that will never be done. The first driver is busy for ever. What it would
+ * still have to do is lost, but for the text of the panic.
+ */
+static void take_over(struct line *line)
+{
+	struct u16550_io io = io_of(line);
+
+	if (line->is_taken_over || !line->base)
+		return;
+	line->is_taken_over = true;
+	line->loops = false;
+	u16550_new_port(&line->last_words, &io, line->base);
+	u16550_set_spin_limit(&line->last_words, line->patience);
+	u16550_emergency(&line->last_words);
+}
+
+static void put_character(struct uart_port *port, unsigned char character)
+{
+	struct line *line = line_of(port);
+
+	/* The rest of a text is left out, where the first character waited in vain: each would wait as long. */
+	if (!line->is_stalled)
+		line->is_stalled = u16550_send_bytes_exact(line->console, &character, 1, NULL) != U16550_OK;
+}
+
+static void console_write(struct console *console, const char *text, unsigned int len)
+{
+	struct line *line = &lines[console->index];
+	unsigned long flags;
+	bool is_locked = lock_for_console(line, &flags);
+
+	if (!is_locked)
+		take_over(line);
+	line->console = is_locked ? &line->uart : &line->last_words;
+	line->is_stalled = false;
+	uart_console_write(&line->port, text, len, put_character);
+	if (is_locked)
+		spin_unlock_irqrestore(&line->port.lock, flags);
+	else
+		local_irq_restore(flags);
+}
+
+static int console_setup(struct console *console, char *options)
+{
+	int baud = 115200, bits = 8, parity = 'n', flow = 'n';
+	struct line *line;
+
+	if (console->index < 0 || console->index >= port_count)
+		return -ENODEV;
+	line = &lines[console->index];
+	if (line->port.type == PORT_UNKNOWN)
+		return -ENODEV;
+	if (options)
+		uart_parse_options(options, &baud, &parity, &bits, &flow);
+	return uart_set_options(&line->port, console, baud, parity, bits, flow);
+}
+
+static struct console the_console = {
+	.name = "ttyP",
+	.write = console_write,
+	.device = uart_console_device,
+	.setup = console_setup,
+	.flags = CON_PRINTBUFFER,
+	.index = -1,
+	.data = &driver,
+};
+
+static struct uart_driver driver = {
+	.owner = THIS_MODULE,
+	.driver_name = KBUILD_MODNAME,
+	.dev_name = "ttyP",
+	.nr = MOST_PORTS,
+};
+
+/* ------------------------------------------------------------------ sleep */
+
+/* Keeps the registers of a port that does not sleep itself: that of a console with no_console_suspend. The chip loses them all the same. */
+static void keep_registers(struct line *line)
+{
+	unsigned long flags;
+
+	spin_lock_irqsave(&line->port.lock, flags);
+	failed(line, "dump", u16550_config_register_dump(&line->uart, &line->registers));
+	spin_unlock_irqrestore(&line->port.lock, flags);
+}
+
+/* Writes them back, unless the chip has kept them: that would empty its FIFOs. */
+static void restore_registers(struct line *line)
+{
+	unsigned long flags;
+	u8 ier;
+
+	spin_lock_irqsave(&line->port.lock, flags);
+	if (!failed(line, "ier", u16550_ier(&line->uart, &ier)) && ier != line->registers.ier)
+		failed(line, "restore", u16550_restore(&line->uart, &line->registers));
+	spin_unlock_irqrestore(&line->port.lock, flags);
+}
+
+/* serial_core closes the chip of a port that is open, and sets it up again afterwards. */
+static int suspend(struct device *unused)
+{
+	int index;
+
+	for (index = 0; index < port_count; index++) {
+		struct line *line = &lines[index];
+
+		uart_suspend_port(&driver, &line->port);
+		if (line->is_open)
+			keep_registers(line);
+	}
+	return 0;
+}
+
+static int resume(struct device *unused)
+{
+	int index;
+
+	for (index = 0; index < port_count; index++) {
+		struct line *line = &lines[index];
+
+		if (line->is_open)
+			restore_registers(line);
+		uart_resume_port(&driver, &line->port);
+	}
+	return 0;
+}
+
+static DEFINE_SIMPLE_DEV_PM_OPS(sleep, suspend, resume);
+
+/* The device that all ports belong to. It is there for sleep, and for what /sys shows. */
+static struct platform_driver platform_driver = {
+	.driver = {
+		.name = KBUILD_MODNAME,
+		.pm = pm_sleep_ptr(&sleep),
+	},
+};
+
+static struct platform_device *device;
+
+/* ------------------------------------------------------------------ the module */
+
+static int add_line(int index)
+{
+	struct line *line = &lines[index];
+	int error;
+
+	snprintf(line->name, sizeof(line->name), "%s%d", driver.dev_name, index);
+	spin_lock_init(&line->port.lock);
+	INIT_WORK(&line->report, report);
+	timer_setup(&line->timer, look, 0);
+	line->port.ops = &operations;
+	line->port.line = index;
+	line->port.iotype = UPIO_PORT;
+	line->port.iobase = ports[index];
+	line->port.irq = irqs[index];
+	line->port.uartclk = FREQUENCY;
+	line->port.fifosize = FIFO_SIZE;
+	line->port.flags = UPF_BOOT_AUTOCONF;
+	line->port.has_sysrq = IS_ENABLED(CONFIG_MAGIC_SYSRQ_SERIAL);
+	line->port.dev = &device->dev;
+	error = uart_add_one_port(&driver, &line->port);
+	line->is_added = !error;
+	return error;
+}
+
+static void remove_lines(void)
+{
+	int index;
+
+	for (index = 0; index < port_count; index++) {
+		if (!lines[index].is_added)
+			continue;
+		uart_remove_one_port(&driver, &lines[index].port);
+		flush_work(&lines[index].report);
+	}
+}
+
+static int __init begin(void)
+{
+	int error, index;
+
+	if (port_count != irq_count) {
+		pr_err("there are %d ports and %d interrupts\n", port_count, irq_count);
+		return -EINVAL;
+	}
+	for (index = 0; index < port_count; index++) {
+		if (!ports[index] || ports[index] > LAST_PORT - (REGISTERS - 1)) {
+			pr_err("there is no port %#x\n", ports[index]);
+			return -EINVAL;
+		}
+	}
+	error = platform_driver_register(&platform_driver);
+	if (error)
+		return error;
+	device = platform_device_register_simple(KBUILD_MODNAME, PLATFORM_DEVID_NONE, NULL, 0);
+	if (IS_ERR(device)) {
+		error = PTR_ERR(device);
+		goto without_device;
+	}
+	if (with_console)
+		driver.cons = &the_console;
+	error = uart_register_driver(&driver);
+	if (error)
+		goto without_driver;
+	for (index = 0; index < port_count; index++) {
+		error = add_line(index);
+		if (error)
+			goto without_lines;
+	}
+	return 0;
+
+without_lines:
+	remove_lines();
+	uart_unregister_driver(&driver);
+without_driver:
+	platform_device_unregister(device);
+without_device:
+	platform_driver_unregister(&platform_driver);
+	return error;
+}
+
+static void __exit end(void)
+{
+	remove_lines();
+	uart_unregister_driver(&driver);
+	platform_device_unregister(device);
+	platform_driver_unregister(&platform_driver);
+}
+
+module_init(begin);
+module_exit(end);
+MODULE_LICENSE("Dual MIT/GPL");
+MODULE_DESCRIPTION("16550 serial ports over a proved driver");

@@ -1,0 +1,157 @@
+//! A log that a command reads as a recording, and how the program ends if it cannot be read to its end.
+
+use crate::end::End;
+use crate::findings::counted;
+use crate::import::{Import, Kind, Opened, Refused, open_log};
+use crate::judging::Stop;
+use crate::refused_line::refused_line;
+use crate::streams::{Output, Watched};
+use crate::terminal::Style;
+use std::cell::RefCell;
+use std::io::{self, Read, Write};
+use uart_judges::recording::RecordingError;
+use uart_judges::recording::limits::MOST_LINE_BYTES;
+
+// How much of what was read last is kept: whoever reads a line has at most one of the longest lines ahead of it.
+const KEPT: usize = 2 * (MOST_LINE_BYTES + 1);
+
+// What was read last, to show a line of it.
+#[derive(Debug, Default)]
+struct Tail {
+    bytes: Vec<u8>,
+    // How many lines have ended in all.
+    ended: u64,
+}
+
+impl Tail {
+    fn push(&mut self, bytes: &[u8]) {
+        self.ended += ends_in(bytes);
+        let surplus = (self.bytes.len() + bytes.len()).saturating_sub(KEPT);
+        if surplus >= self.bytes.len() {
+            self.bytes.clear();
+            self.bytes
+                .extend_from_slice(&bytes[bytes.len().saturating_sub(KEPT)..]);
+        } else {
+            self.bytes.drain(..surplus);
+            self.bytes.extend_from_slice(bytes);
+        }
+    }
+
+    // Returns the line with this number, as far as it is kept.
+    fn line(&self, number: u64) -> Option<&[u8]> {
+        // The last line has no end so far.
+        let back = usize::try_from((self.ended + 1).checked_sub(number)?).ok()?;
+        self.bytes.rsplit(|&byte| byte == b'\n').nth(back)
+    }
+}
+
+// Returns how many lines end in these bytes. Of so few bytes at a time a byte can hold the count: so many are counted at once.
+fn ends_in(bytes: &[u8]) -> u64 {
+    const AT_ONCE: usize = 128;
+    let ends = |part: &[u8]| part.iter().map(|&byte| u8::from(byte == b'\n')).sum::<u8>();
+    bytes
+        .chunks(AT_ONCE)
+        .map(|part| u64::from(ends(part)))
+        .sum()
+}
+
+/// A log that is read as a recording.
+pub struct Log<'a> {
+    file: &'a str,
+    opened: Opened<'a>,
+    tail: Tail,
+}
+
+impl<'a> Log<'a> {
+    /// Opens a log of any kind, whose progress is shown behind this word.
+    ///
+    /// # Errors
+    ///
+    /// How a program ends that cannot read it.
+    pub fn open<W: Write>(
+        file: &'a str,
+        word: &str,
+        import: &Import,
+        output: &'a RefCell<Output<W>>,
+    ) -> Result<Self, End> {
+        let unread = |cause| End::unread(file, cause);
+        let reader = Watched::open(file, word, output).map_err(unread)?;
+        Ok(Log {
+            file,
+            opened: open_log(reader, import).map_err(unread)?,
+            tail: Tail::default(),
+        })
+    }
+
+    /// Returns its kind.
+    pub fn kind(&self) -> Kind {
+        self.opened.kind
+    }
+
+    /// Returns what a log of another kind was read as, for people, or `None` for a recording.
+    pub fn read_as(&self) -> Option<String> {
+        let kind = self.kind();
+        let of_chip = counted(self.opened.seen.borrow().of_chip, "line");
+        (kind != Kind::Recording).then(|| format!("read as {kind}, with {of_chip} of the chip"))
+    }
+
+    /// Returns how a program ends that could not read it to its end.
+    pub fn ended(&self, stop: Stop) -> End {
+        let file = self.file;
+        let style = Style::of(&io::stderr());
+        match stop {
+            Stop::Recording(RecordingError::Faulty { line, fault }) => {
+                let shown = self.tail.line(line).unwrap_or_default();
+                End::failed(refused_line(line, shown, fault).text(file, style))
+            }
+            Stop::Recording(RecordingError::Unread(cause)) => {
+                match cause.get_ref().and_then(|cause| cause.downcast_ref()) {
+                    Some(refused @ Refused { .. }) => End::failed(refused.text(file, style)),
+                    None => End::unread(file, cause),
+                }
+            }
+            Stop::NoAccess => {
+                let others = self.opened.seen.borrow().others();
+                End::failed(format!(
+                    "{file}: no line of it is an access of a driver, so nothing was judged{others}"
+                ))
+            }
+            Stop::NoLine { line, lines } => {
+                let lines = counted(lines, "line");
+                End::failed(format!("{file} has {lines}: line {line} is behind its end"))
+            }
+            Stop::Output(cause) => End::unwritten(cause),
+            Stop::OutOfMemory => End::out_of_memory(),
+        }
+    }
+}
+
+impl Read for Log<'_> {
+    fn read(&mut self, slots: &mut [u8]) -> io::Result<usize> {
+        let count = self.opened.reader.read(slots)?;
+        self.tail.push(&slots[..count]);
+        Ok(count)
+    }
+}
+
+#[cfg(test)]
+mod tests {
+    use super::*;
+
+    #[test]
+    fn the_lines_that_were_read_last_are_kept() {
+        let mut tail = Tail::default();
+        tail.push(b"one\ntwo\nth");
+        assert_eq!(tail.line(1), Some(&b"one"[..]));
+        assert_eq!(tail.line(3), Some(&b"th"[..]));
+        assert_eq!(tail.line(4), None);
+        tail.push(b"ree\n");
+        assert_eq!(tail.line(3), Some(&b"three"[..]));
+        for _ in 0..10 {
+            tail.push(&[b'x'; KEPT]);
+        }
+        tail.push(b"\nlast");
+        assert_eq!(tail.line(5), Some(&b"last"[..]));
+        assert_eq!(tail.line(1), None);
+    }
+}

@@ -1,0 +1,102 @@
+"""The pair u16550: the driver with its rings, and the functions of its header as a layer around them; and what the library of Rust has of the
+table of the interface."""
+import pathlib
+import re
+import sys
+import tomllib
+
+import calls
+import header
+import interface
+import names
+import table
+from kit import program_of
+from library import Library, Unknown
+from representation import proved_lines
+from tree import DEVICE
+
+FOLDER = pathlib.Path(__file__).resolve().parent
+ROOT = FOLDER.parent.parent
+# The crates whose functions stay functions in C.
+OWN = ("uart_spec", "uart_16550", "uart_ring")
+# Types of the source that the header has already, part for part.
+PUBLIC = {
+    ("Named", "uart_spec::received::Received", ()): "u16550_received",
+    ("Named", "uart_spec::dump::ConfigRegisterDump", ()): "u16550_dump",
+}
+RING = ("Named", "uart_ring::ring::Uart16550Ring", (DEVICE,))
+# What is by hand, in front of what is made of the table, and behind the first part of it.
+GUARDS, BY_HAND = ["guards"], ["bottom", "memory", "design_ware"]
+TOP = """/*
+ * u16550.c - a driver for serial chips of the 16550 family, with rings for interrupts. u16550.h says how it is used.
+ *
+ * Made by tools/c/emit from the code that is proved. Do not edit. Names and comments are those of its source, and what is computed
+ * is taken from what the proofs are about.
+ *
+ * The functions uart_* are the code that is proved. They check nothing that is proved never to happen, if their caller keeps what
+ * they ask for. The functions u16550_* at the end are that caller: they check what the program gives, and refuse what must not be.
+ */
+#include "u16550.h"
+
+"""
+
+
+def text_of(name):
+    return (FOLDER / name).read_text(encoding="ascii")
+
+
+def version():
+    """The version of the repository: that of the package of the driver."""
+    manifest = (ROOT / "rust" / "uart_16550" / "Cargo.toml").read_text(encoding="utf-8")
+    return tomllib.loads(manifest)["package"]["version"]
+
+
+def of_table():
+    """The files that need no proof, by their paths: the header and the numbers of the library that is made of Rust."""
+    table.check(calls)
+    of_rust = "rust/uart_16550_c"
+    return {f"{of_rust}/include/u16550.h": header.of_rust(text_of("header_rust.h"), version()), f"{of_rust}/src/codes.rs": header.numbers_in_rust(version())}
+
+
+def wanted(library, text):
+    """The functions of our crates that a text of C calls, by their C names."""
+    called = set(re.findall(r"\b(uart_\w+)\(", text))
+    for name in library.forest.program.functions:
+        information = library.source.find(name) if name.split("::")[0] in OWN else None
+        if information and (information.is_public or "embedded_io" in name) and library.name_of((name, (), ())) in called:
+            yield name
+
+
+def made(folder):
+    """The texts of the header and of the source, and the library that was translated."""
+    table.check(calls)
+    library = Library(program_of(OWN, folder, "./prove uart_ring"), names.Source(ROOT, OWN), PUBLIC, OWN, "U16550")
+    library.types.put_into_header(RING)
+    guards, by_hand = ("\n".join(text_of(f"layer_{one}.c") for one in which) for which in (GUARDS, BY_HAND))
+    rows = interface.layer()
+    for name in sorted(wanted(library, by_hand + rows)):
+        try:
+            library.want(name)
+        except Unknown as cause:
+            sys.exit(f"emit: {name}: {cause}")
+    library.types.c(RING)
+    in_header = [text for name, text in library.types.declarations if name.startswith("u16550_core")]
+    own = [text for name, text in library.types.declarations if not name.startswith("u16550_core")]
+    proved = {one.name.removeprefix("uart_"): proved_lines(one.proved) for one in library.order if one.proved}
+    header_text = header.of_c(text_of("header_c.h"), version(), "\n".join(in_header), proved)
+    enums = interface.Enums("\n".join(in_header + own))
+    source = [TOP + constants(library, header_text), "\n".join(own), text_of("layer_top.c"), library.text(), guards, interface.codes(enums),
+              interface.statuses(enums), by_hand, rows, interface.texts()]
+    return {"u16550.h": header_text, "u16550.c": "\n".join(source)}, library
+
+
+def constants(library, header_text):
+    """The offsets of registers, and those bits that the header has not."""
+    shown = {name: int(value, 16) for name, value in re.findall(r"\b(U16550_\w+) = (0x[0-9a-f]+)", header_text)}
+    for name, value in library.bits.items():
+        if shown.get(name, value) != value:
+            sys.exit(f"emit: {name} is {shown[name]:#x} in the header, and {value:#x} in what is proved")
+    offsets = [f"    UART_{name} = {value}" for name, value in sorted(library.offsets.items(), key=lambda one: (one[1], one[0]))]
+    bits = [f"    {name} = {value:#04x}" for name, value in sorted(library.bits.items()) if name not in shown]
+    return ("/* Where the registers are. */\nenum {\n" + ",\n".join(offsets) + "\n};\n\n/* Bits that are in no interface. */\nenum {\n" +
+            ",\n".join(bits) + "\n};\n")

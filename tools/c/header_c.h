@@ -1,0 +1,73 @@
+/*
+ * u16550.h - a driver for serial chips of the 16550 family, for kernels and firmware.
+ *
+ * Made by tools/c/emit from the code that is proved, and from the table of the interface. Do not edit.
+ *
+ * This is u16550.c and u16550.h alone: C99 that needs stddef.h, stdint.h and stdbool.h, and nothing else. It allocates nothing, has
+ * no variables and calls no function but those that it is given. Compile u16550.c as the rest of the program is compiled.
+ *
+ * The device is reached by two functions of the caller, or by the library itself if it is in memory. The driver is in memory of the
+ * caller.
+ *
+ * 'Proved' says which accesses a call makes and what it leaves, for every device, in the words of the definitions. It is proved of the
+ * code that this is made from, which the C is compared with.
+ *
+@RULES@ */
+#ifndef U16550_H
+#define U16550_H
+
+/*
+ * A kernel without these headers defines U16550_HAS_TYPES, and has bool, size_t, offsetof, uintptr_t and uint8_t to uint64_t with
+ * their limits itself.
+ */
+#ifndef U16550_HAS_TYPES
+#include <stdbool.h>
+#include <stddef.h>
+#include <stdint.h>
+#endif
+
+/* Nothing here. The library that is made of Rust has a calling convention, and programs over both have this in front of their functions. */
+#ifndef U16550_CALL
+#define U16550_CALL
+#endif
+
+#if defined(__cplusplus)
+extern "C" {
+#endif
+
+@VERSION@
+@NUMBERS@
+@TYPES@
+/* What a driver keeps of its device: its functions, the first address, and how far apart the registers are. */
+struct u16550_device {
+    struct u16550_io io;
+    uintptr_t base;
+    uint8_t stride;
+};
+
+/* ---- what a driver keeps */
+
+@KEPT@
+@HANDLE@struct u16550 {
+    volatile uint32_t mark;
+    volatile uint32_t is_busy;
+    bool has_rings;
+    struct u16550_core_ring ring;
+};
+
+/* How many received characters a DesignWare UART keeps while LCR is written. */
+#define U16550_DESIGN_WARE_KEPT 64
+
+@CHIP@struct u16550_design_ware {
+    struct u16550_device registers;
+    uint64_t patience;
+    struct u16550_received kept[U16550_DESIGN_WARE_KEPT];
+    uint8_t first, count, cleared, line, interrupts, fifo_control, fault;
+};
+
+@CALLS@
+#if defined(__cplusplus)
+}
+#endif
+
+#endif

@@ -1,0 +1,207 @@
+"""The pair uart_port: the chip and the port for monitors, with the functions of the header of the library for C that the kit builds."""
+import pathlib
+import re
+import sys
+import textwrap
+
+import names
+from kit import program_of
+from library import Library, Unknown
+from names import snake
+
+FOLDER = pathlib.Path(__file__).resolve().parent
+ROOT = FOLDER.parent.parent
+# The crates whose functions stay functions in C. The last has the functions of the header.
+OWN = ("uart_spec", "uart_events", "uart_chip", "uart_live", "uart_virtual", "uart_c")
+EXPORTS = "uart_c"
+# The registers at the eight offsets, as they are read and as they are written.
+READ, WRITTEN = "DATA IER ISR LCR MCR LSR MSR SPR".split(), "DATA IER FCR LCR MCR LSR MSR SPR".split()
+INCLUDE = ROOT / "crates" / EXPORTS / "include"
+GUARD = "UART_PORT_H"
+INTRODUCTION = """/*
+ * uart_port.h - a 16550A or 16450 serial chip in software, and a serial port for virtual machine monitors over it.
+ *
+ * Made by tools/c/emit from the code that is proved, and from the headers of the library that the kit builds. Do not edit.
+ *
+ * This is uart_port.c and uart_port.h alone: C99 that needs stddef.h and stdint.h, and in uart_port.c stdbool.h, and nothing else. It
+ * allocates nothing, has no variables, calls no function of yours, and nothing calls itself. All state is in structs of the caller, and
+ * two threads may call it at once as long as no struct is in both calls. Whatever bytes a struct holds, each function is defined and
+ * stays within it. The structs are those of the library that the kit builds, so a program changes to these files by what it is linked
+ * with.
+ *
+ * Every pointer must be valid, aligned and not null, also one to an array of length 0. Pointers that a function writes
+ * through must not overlap with its others.
+ *
+ * 'Proved' says what a call returns and leaves, by the name of the clause, in the words of the definitions. It is proved of the code that
+ * this is made from, which the C is compared with.
+ */
+"""
+TOP = """/*
+ * uart_port.c - a 16550A or 16450 serial chip in software, and a serial port for monitors. uart_port.h says how it is used.
+ *
+ * Made by tools/c/emit from the code that is proved. Do not edit. Names and comments are those of its source, and what is computed
+ * is taken from what the proofs are about.
+ *
+ * The functions of the header check all that they are given but their pointers. The others check nothing that is proved never to
+ * happen. Those that write and read a chip as bytes are by hand, and not proved.
+ */
+#include "uart_port.h"
+
+#include <stdbool.h>
+
+"""
+
+
+def exported(folder):
+    """The program, and the functions of the header by their names there."""
+    program, header = program_of(OWN, folder, f"./prove --library {EXPORTS}"), Header.read()
+    exports = {f.split("::")[-1]: f for f in program.functions if f.startswith(f"{EXPORTS}::") and f.split("::")[-1] in header.prototypes}
+    missing = sorted(set(header.prototypes) - set(exports))
+    if missing:
+        sys.exit(f"emit: the header has {', '.join(missing)}, and {EXPORTS} has not")
+    return program, exports
+
+
+def made(folder):
+    """The texts of the header and of the source."""
+    (program, exports), header, source = exported(folder), Header.read(), names.Source(ROOT, OWN)
+    public = {("Named", name, ()): snake(name.split("::")[-1]) for name in program.types
+              if name.startswith(f"{EXPORTS}::") and f"struct {snake(name.split('::')[-1])} {{" in header.text}
+    library = translated(program, source, public, exports, header, {})
+    clashes = library.clashes()
+    if clashes:
+        library = translated(program, source, public, exports, header, clashes)
+    for name, value in library.bits.items():
+        if header.numbers.get(name, value) != value:
+            sys.exit(f"emit: {name} is {header.numbers[name]:#x} in the header, and {value:#x} in what is proved")
+    own = named_in(library.types.declarations, library.text())
+    texts = [TOP + constants(library, header.numbers), "\n".join(own), library.text(), header.functions_by_hand()]
+    return {"uart_port.h": header.made(library), "uart_port.c": "\n".join(texts)}, library
+
+
+def translated(program, source, public, exports, header, clashes):
+    """The functions of the header and all that they need, with these names for those that would have one with another."""
+    library = Library(program, source, public, OWN, "UART", clashes)
+    library.registers, library.returned = header.registers, header.statuses
+    for name, function in exports.items():
+        library.export(function, name, header.prototypes[name])
+    for function in exports.values():
+        try:
+            library.want(function)
+        except Unknown as cause:
+            sys.exit(f"emit: {function}: {cause}")
+    return library
+
+
+def named_in(declarations, text):
+    """The declarations of the types that a text names, and of those that they are made of."""
+    out = []
+    for name, declaration in reversed(declarations):
+        if re.search(rf"\b(struct|enum) {name}\b", text):
+            out.insert(0, declaration)
+            text += declaration
+    return out
+
+
+def constants(library, known):
+    bits = [f"    {name} = {value:#04x}" for name, value in sorted(library.bits.items()) if name not in known]
+    return "/* Bits that are in no interface. */\nenum {\n" + ",\n".join(bits) + "\n};\n" if bits else ""
+
+
+def proved_of(library, name):
+    """What is proved of a function of the header, as lines. That a struct which has one value for each meaning keeps it is said once."""
+    function = next((library.source.find(one) for one, (its, _) in library.exports.items() if its == name), None)
+    clauses = library.source.clauses(function, is_plain) if function else []
+    told = [f"Proved{f', {clause}' if clause else ''}: {words.replace('`', '')}." for clause, words in clauses if clause != "canonical"]
+    return [line for one in told for line in textwrap.wrap(one, 110, subsequent_indent="    ", break_long_words=False)]
+
+
+def is_plain(definition):
+    """Whether a definition says only how C has a value."""
+    return definition is not None and (definition[:2] in ((EXPORTS, "State"), (EXPORTS, "Queue"), (EXPORTS, "Port")) or definition[1:] == ("Bits", "flag"))
+
+
+class Header:
+    """The header of the pair, of that of the library and of that which writes and reads a chip as bytes."""
+
+    @classmethod
+    def read(cls):
+        return cls(*((INCLUDE / f"uart_16550{one}.h").read_text(encoding="ascii") for one in ("", "_state")))
+
+    def __init__(self, library, state):
+        start = library.index("/* What most functions return.")
+        end = library.index("/* ---------------------------------------------------------------- the driver")
+        self.text, self.state = library[start:end].rstrip() + "\n", state
+        # The functions of the header, with the names of their parameters.
+        self.prototypes = {found[1]: [re.search(r"\w+$", one.strip())[0] for one in found[2].split(",")] for found in
+                           re.finditer(r"(?m)^\w[\w ]*?\*?\b(uart_\w+)\(([^()]*)\);", self.text)}
+        # The registers and bits by their names.
+        self.numbers = {found[1]: int(found[2], 0) for found in re.finditer(r"(?m)^#define (UART_\w+) (0x[0-9a-f]+|\d+)\b", self.text)}
+
+        offsets = {found[1]: int(found[2]) for found in re.finditer(r"(?m)^#define UART_OFFSET_(\w+) (\d)\b", self.text)}
+        self.registers = [{offsets[name]: f"UART_OFFSET_{name}" for name in one} for one in (READ, WRITTEN)]
+        statuses = re.search(r"enum uart_status \{(.*?)\};", self.text, re.S)[1]
+        self.statuses = {int(found[2]): found[1] for found in re.finditer(r"(\w+) = (\d+)", statuses)}
+
+    def made(self, library):
+        """The text of the header."""
+        text = "\n".join([INTRODUCTION + f"#ifndef {GUARD}\n#define {GUARD}\n", OTHER, "#include <stddef.h>\n#include <stdint.h>\n", CPLUSPLUS,
+                          self.text, self.declared_state(), CPLUSPLUS_END, "#endif\n"])
+        def told(found):
+            lines = proved_of(library, found[2])
+            if not lines:
+                return found[0]
+            comment = found[1].rstrip()
+            inner = re.fullmatch(r"/\*\s(.*?)\s*\*/", comment, flags=re.S)[1] if comment.count("\n") == 0 else None
+            if inner is not None:
+                comment = f"/*\n * {inner}\n */"
+            comment = comment[:-len(" */")].rstrip() + "\n *\n" + "".join(f" * {one}\n" for one in lines) + " */\n"
+            return comment + found[3]
+
+        return re.sub(r"(?m)((?:^/\*(?:(?!\*/)[\s\S])*\*/\n))(?=\w[^\n]*\b(uart_\w+)\()(\w[^\n]*)", told, text)
+
+    def declared_state(self):
+        """What is declared of a chip as bytes: the numbers, and the functions that are called."""
+        start = self.state.index("/* How many bytes a state is")
+        end = self.state.index("/* ------------------------------------------------------------------ the layout")
+        called = self.state[self.state.index("/* --------------------------------------------------------------- what is called"):]
+        called = re.sub(r"(?m)^static inline (\w[^{]*?)\n\{\n.*?^\}\n", r"\1;\n", called, flags=re.S | re.M)
+        called = called[:called.index("#ifdef __cplusplus")].rstrip() + "\n"
+        called = re.sub(r"/\* -+ what is called\n \*\n", "/*\n", called)
+        return STATE + self.state[start:end].rstrip() + "\n\n" + called
+
+    def functions_by_hand(self):
+        """The functions that write and read a chip as bytes."""
+        start = self.state.index("enum uart_state_layout {")
+        end = self.state.rindex("#ifdef __cplusplus")
+        text = self.state[start:end].rstrip() + "\n"
+        text = re.sub(r"(?m)^static inline (?=\w+ (?:uart_chip_to_bytes|uart_chip_from_bytes)\()", "", text)
+        text = text.replace("static inline ", "static ")
+        return BY_HAND + text
+
+
+OTHER = """#ifdef UART_16550_H
+#error "uart_16550.h declares the same: include one of the two"
+#endif
+"""
+CPLUSPLUS = """#ifdef __cplusplus
+extern "C" {
+#endif
+"""
+CPLUSPLUS_END = """#ifdef __cplusplus
+}
+#endif
+"""
+STATE = """/* ------------------------------------------------------------------ a chip as bytes
+ *
+ * For a file, for another machine, or for a monitor in Rust, whose crate uart_16550_chip reads and writes the same bytes. The layout is
+ * in STATE.md of that crate. To save a port, call uart_port_save and then uart_chip_to_bytes. To restore one, call
+ * uart_chip_from_bytes and then uart_port_load. Of a chip without a port it is uart_chip_save and uart_chip_load.
+ *
+ * These functions are by hand, not proved, and move bytes alone.
+ */
+
+"""
+BY_HAND = """/* --------------------------------------------------------------- what is by hand: a chip as bytes */
+
+"""

@@ -1,0 +1,152 @@
+"""What the table of the interface, calls.py, is made of. A row that says something twice, or leaves out what it needs, ends `emit`."""
+import dataclasses
+import re
+
+# A number is told in the header as its text tells it.
+SAME = "the same as the text"
+
+
+class Wrong(Exception):
+    """Why the table cannot be what it is for."""
+
+
+@dataclasses.dataclass(frozen=True)
+class Number:
+    """What a function returns: its name, its text for a log, what the header says of it, and the errors of the proved code that it tells."""
+    name: str
+    value: int
+    text: str
+    note: str = ""
+    of: tuple = ()
+
+    def told(self):
+        return self.text if self.note == SAME else self.note
+
+
+@dataclasses.dataclass(frozen=True)
+class Numbers:
+    enum: str
+    about: str
+    members: list
+
+
+@dataclasses.dataclass(frozen=True)
+class Member:
+    name: str
+    value: int
+    note: str = ""
+
+
+@dataclasses.dataclass(frozen=True)
+class Enum:
+    name: str
+    about: str
+    members: list
+
+
+@dataclasses.dataclass(frozen=True)
+class Field:
+    declared: str
+    note: str = ""
+
+
+@dataclasses.dataclass(frozen=True)
+class Struct:
+    name: str
+    about: str
+    members: list
+    # What the library of Rust and this one lay out in the same way: sizeof in bytes, or in C.
+    size: str = ""
+
+
+@dataclasses.dataclass(frozen=True)
+class Codes:
+    """The numbers that stand for the variants of an enum of the proved code. All others are refused by U16550_BAD_CODE."""
+    of: str
+    kind: str
+    numbers: dict
+    # Whether C gives them, gets them, or both.
+    given: bool = True
+    got: bool = True
+
+
+@dataclasses.dataclass(frozen=True)
+class Value:
+    """What a parameter of a function may be: the local that it is read into, the test, and what the proved function gets."""
+    parameter: str
+    test: str
+    passed: str
+    local: str = ""
+    is_last: bool = False
+
+
+@dataclasses.dataclass(frozen=True)
+class Call:
+    """A function of the header that makes one call of the proved code. `gives` is the parameter that what it returns is written to."""
+    name: str
+    takes: str
+    gives: str = ""
+    # How the result is an error: a type of errors; or the number that tells of false, or of none; or a wait that stalled.
+    error: str = ""
+    false: str = ""
+    none: str = ""
+    stalled: str = ""
+    # How many were done, which is written after a stall too.
+    stalls: str = ""
+    # The struct of C that is returned, if it has more than the value; or one with two bytes.
+    outcome: str = ""
+    pair: str = ""
+    # By which function the result becomes what the header has; what the proved function gets, if that is not what the values say; and what
+    # is done in place of one call.
+    encode: str = ""
+    arguments: str = ""
+    does: str = ""
+
+    def parameters(self):
+        return [one.strip() for one in self.takes.split(",")]
+
+
+@dataclasses.dataclass(frozen=True)
+class ByHand:
+    """A function of the header that is in the layer as it is."""
+    name: str
+    takes: str
+    returns: str = "int"
+
+    def parameters(self):
+        return [one.strip() for one in self.takes.split(",")]
+
+
+@dataclasses.dataclass(frozen=True)
+class Group:
+    about: str
+    calls: list
+
+
+@dataclasses.dataclass(frozen=True)
+class Section:
+    title: str
+    about: str
+    groups: list
+    # Lines of the header in front of the first function.
+    lines: str = ""
+
+
+def twice(names):
+    """The names that are there more than once."""
+    return sorted({one for one in names if names.count(one) > 1})
+
+
+def check(table):
+    """Refuses a table in which two rows have one name or one number, or a call gives what it does not take."""
+    numbers = [one for group in table.NUMBERS for one in group.members]
+    calls = [one for section in table.SECTIONS for group in section.groups for one in group.calls]
+    wrong = twice([one.name for one in numbers]) + twice([one.value for one in numbers]) + twice([one.text for one in numbers])
+    wrong += twice([one.name for one in calls]) + twice([path for one in numbers for path in one.of])
+    if wrong:
+        raise Wrong(f"calls.py has these twice: {', '.join(map(str, wrong))}")
+    for call in calls:
+        for name in (call.gives, call.stalls) if isinstance(call, Call) else ():
+            if name and not any(re.search(rf"\*{name}$", one) for one in call.parameters()):
+                raise Wrong(f"calls.py: {call.name} takes no pointer {name}")
+    return numbers, calls

@@ -1,0 +1,176 @@
+"""What the body of each emitted function does, counted beside its MIR: operations, comparisons, branches and calls.
+
+A condition that no case at random takes, as one on a product of two arguments, has an operation, a comparison and a branch, and the MIR has
+none for them. So no body may have more of a kind than its MIR and that of its closures. The MIR may have more: what a loop counts, what
+tests an index, and what a library's function is made of.
+"""
+import collections
+import re
+
+TOKEN = re.compile(r"\"\"|b?'(?:\\.|[^'\\])[^']*'|'\w+|\w+|::|->|=>|&&|\|\||\.\.=|\.\.|<<=|>>=|<<|[-+*/%&|^<>=!]=|.", re.DOTALL)
+# Words behind which no value ends.
+NO_VALUE = set("if match return in while else let mut as break loop for move ref where".split())
+OPERATIONS = {"*": "Mul", "/": "Div", "%": "Rem", "+": "Add", "-": "Sub", "&": "And", "|": "Or", "^": "Xor", "<<": "Shl", ">>": "Shr"}
+COMPARED, BRANCH, METHOD = "a comparison", "a branch", "a method"
+# A comparison in the text, but for `<` and `>`, which may be of types; in the MIR, as an operation and as a call.
+COMPARISONS, COMPARES, CALLED = ("==", "!=", "<=", ">="), ("Eq", "Ne", "Lt", "Le"), ("eq", "ne", "lt", "le", "gt", "ge")
+# Functions of slices that the kit takes apart, and what `vec![in ..]` is in the copy: in the MIR there is no call of them.
+NOT_CALLED = ("len", "iter", "iter_mut", "enumerate", "filled")
+
+
+class Text:
+    """The tokens of a body."""
+
+    def __init__(self, body):
+        self.tokens = [one for one in TOKEN.findall(without_guard(body)) if one.strip()]
+
+    def word(self, at):
+        return self.tokens[at] if 0 <= at < len(self.tokens) else ""
+
+    def ends_value(self, at):
+        """Whether a value may end here, so that a sign behind it stands between two."""
+        word = self.word(at)
+        return word in (")", "]", "}", '""') or bool(re.match(r"\w", word)) and word not in NO_VALUE
+
+    def counts(self):
+        found, parameters = collections.Counter(), self.of_closures()
+        for at, word in enumerate(self.tokens):
+            operation = word.removesuffix("=") if word not in COMPARISONS else word
+            # `>>` is two tokens here: types end so.
+            if word == ">" and self.word(at + 1) in (">", ">=") and self.is_spaced_shift(at):
+                operation = ">>"
+            if operation in OPERATIONS and self.ends_value(at - 1):
+                if operation != "|" or at not in parameters and not self.is_of_pattern(at):
+                    found[OPERATIONS[operation]] += 1
+            elif word in COMPARISONS:
+                found[COMPARED] += 1
+            elif word in ("if", "while", "?") or word in ("&&", "||") and self.ends_value(at - 1):
+                found[BRANCH] += 1
+            elif self.is_call(at):
+                found[word] += 1
+        return found
+
+    def is_spaced_shift(self, at):
+        """Whether `> >` here is a shift, and not the end of two lists of types: a value stands in front, and a value behind."""
+        return self.ends_value(at - 1) and self.word(at + 2) not in ("(", ")", ",", ";", "::", "{", ">", "=", "")
+
+    def of_closures(self):
+        """The indices of the bars around the parameters of closures."""
+        found, at = set(), 0
+        while at < len(self.tokens):
+            if self.tokens[at] == "|" and not self.ends_value(at - 1):
+                end = next((here for here in range(at + 1, len(self.tokens)) if self.tokens[here] == "|"), at)
+                found |= {at, end}
+                at = end
+            at += 1
+        return found
+
+    def is_of_pattern(self, at):
+        """Whether a bar stands between two patterns: of a case, or of `matches!`."""
+        depth, is_behind_comma = 0, False
+        for here in range(at - 1, -1, -1):
+            word = self.tokens[here]
+            if word in (")", "]", "}"):
+                depth += 1
+            elif word in ("(", "[", "{") and depth > 0:
+                depth -= 1
+            elif depth == 0 and word == "(" and self.word(here - 1) == "!":
+                return is_behind_comma and self.word(here - 2) == "matches"
+            elif depth == 0 and (word in ("{", "=>", ";") or word == "if" and not is_behind_comma):
+                break
+            elif depth == 0 and word in ("(", "["):
+                is_behind_comma = False
+            elif depth == 0 and word == ",":
+                is_behind_comma = True
+        if depth == 0 and self.word(here) in ("if", ";"):
+            return False
+        for here in range(at + 1, len(self.tokens)):
+            word, is_of_fields = self.tokens[here], self.word(here + 1) == ".."
+            if word == "=>":
+                return True
+            if word == ";" or word == "{" and not is_of_fields:
+                return False
+        return False
+
+    def is_call(self, at):
+        if not re.fullmatch(r"[a-z_]\w*", self.tokens[at]) or self.tokens[at] in NO_VALUE or self.word(at - 1) == "fn":
+            return False
+        behind = at + 1
+        if self.word(behind) == "::" and self.word(behind + 1) == "<":
+            depth, behind = 1, behind + 2
+            while depth and behind < len(self.tokens):
+                depth += {"<": 1, ">": -1}.get(self.tokens[behind], 0)
+                behind += 1
+        return self.word(behind) == "("
+
+
+def without_guard(body):
+    """A body without the guard at its start, which the source does not have: what it tests is compared where the contract is broken."""
+    found = re.match(r"\{\s*assert!\(", body)
+    if not found:
+        return body
+    depth = 0
+    for at in range(found.end() - 1, len(body)):
+        depth += {"(": 1, ")": -1}.get(body[at], 0)
+        if depth == 0:
+            return "{" + body[at + 1 :]
+    return body
+
+
+def of_mir(body):
+    """The same of a body of the MIR."""
+    found = collections.Counter()
+
+    def walk(node):
+        if isinstance(node, list):
+            for one in node:
+                walk(one)
+        elif isinstance(node, dict):
+            for kind, value in node.items():
+                count(kind, value)
+                walk(value)
+
+    def count(kind, value):
+        if kind == "Op2":
+            operation = value[0] if isinstance(value[0], str) else next(iter(value[0]))
+            found[COMPARED if operation in COMPARES else operation] += 1
+        elif kind in ("If", "Switch"):
+            found[BRANCH] += 1
+        elif kind == "Call" and "Fn" in value[0]:
+            name = value[0]["Fn"][0].split("::")[-1]
+            found[name] += 1
+            found[COMPARED] += name in CALLED
+        elif kind == "Call":
+            found[METHOD] += 1
+
+    walk(body)
+    return found
+
+
+def with_closures(functions, name):
+    """The counts of a function of the MIR, and of the closures in it."""
+    found = of_mir(functions[name]["body"])
+    module, _, last = name.rpartition("::")
+    heads = [f"{module}::fn::{last}::"]
+    if "::" in module:
+        above, _, owner = module.rpartition("::")
+        heads.append(f"{above}::fn::{owner}::{last}::")
+    for other, function in functions.items():
+        if "+Fn" not in other and other.startswith(tuple(heads)):
+            found += of_mir(function["body"])
+    return found
+
+
+def more(functions, pairs):
+    """Each pair of which the emitted body has more of a kind than its MIR, as a text. A method's name is not in a call of the MIR."""
+    known = {name.split("::")[-1] for name in functions} - set(NOT_CALLED)
+    kinds = {*OPERATIONS.values(), COMPARED, BRANCH}
+    for name, function in pairs.items():
+        if not function.body:
+            continue
+        made, proved = Text(function.body).counts(), with_closures(functions, name)
+        for kind, count in sorted(made.items()):
+            is_known = kind in kinds or kind in known
+            spare = proved[METHOD] if kind == COMPARED or kind not in kinds else 0
+            if is_known and count > proved[kind] + spare:
+                yield f"{name}: the emitted body has {kind} {count} times, and the MIR {proved[kind]} times"
