@@ -4,8 +4,8 @@ What documents say and quote, and how long lines are; whether what ships stands 
 repository makes; then every proof, every test and program of the proved crates, and beside them the tests of the eraser and of the Rust
 packages, their documentation, and the commands of the READMEs, which need no proof; and then side by side what needs what was proved:
 refused memory, uart_port on an emulated PC, the programs, the emitted Rust compared with the proved MIR, the C made of it, kernels and
-U-Boot over that, the wrong bodies of the gate and a dozen of the others, the example monitors, the tty driver in Linux, Linux on the device
-for monitors, the library for C, and the Rust packages compared with it.
+U-Boot over that, the wrong bodies of the gate, the example monitors, the tty driver in Linux, Linux on the device for monitors, the library
+for C, and the Rust packages compared with it.
 
 A command that passed on this machine with the same files, tools and kit is not run again: its line names it and says what it counted then.
 `rt ci` is always run, and decides by itself what it keeps. CI=full runs everything, as the nightly does; with WORDs only the commands
@@ -82,7 +82,7 @@ COMMANDS = [
     Command("tools/c/compare driver", **BESIDE | {"without": OF_C_FILES}),
     Command("tools/c/compare port", **OVER | {"after": [C, CODE_OF_C], "nice": 19}),
     # Nothing waits for these, and they take all cores.
-    Command(".ci/wrong-bodies --after-ci --in-the-gate 12", after=[CI], always=True, nice=19),
+    Command(".ci/wrong-bodies --after-ci --in-the-gate", after=[CI], always=True, nice=19),
     Command("integration/c-kernels", **BESIDE | {"without": OF_RUST}),
     Command("integration/boot-loaders u-boot", **BESIDE | {"without": OF_RUST}),
     Command("integration/c", **BESIDE | {"without": OF_USERS_OF_C, "but": ["docs/C.md", "integration/apt", "integration/c", "bench/callbacks.c"]}),

@@ -9,15 +9,11 @@ use Rattle.uart_spec.specs.declared.registers.frame.WordLength.TheVariants.{Five
 
 pub same_length : (length : WordLength) → word_length_of (word_length_bits length) ≡ length
 same_length FiveBits = refl
-same_length SixBits = refl
-same_length SevenBits = refl
-same_length EightBits = refl
+same_length _ = refl
 
 pub is_small : (length : WordLength) → word_length_bits length ≤ 8
 is_small FiveBits = omega arith
-is_small SixBits = omega arith
-is_small SevenBits = omega arith
-is_small EightBits = omega arith
+is_small _ = omega arith
 
 -- the length that is known of each number, and of any number beyond those
 pub length_of : (bits : ℕ) (length : WordLength) → ((known : WordLength) → word_length_bits known ≡ bits → length ≡ known) →

@@ -8,6 +8,4 @@ use Rattle.uart_spec.specs.declared.registers.fifo_trigger_level.FifoTriggerLeve
 
 pub same_level : (level : FifoTriggerLevel) → trigger_of (characters_of level) ≡ level
 same_level One = refl
-same_level Four = refl
-same_level Eight = refl
-same_level Fourteen = refl
+same_level _ = refl

@@ -9,9 +9,8 @@ use Rattle.uart_chip.specs.declared.receiver.Origin.{Origin}
 use Rattle.uart_chip.specs.declared.receiver.Origin.TheVariants.{Arrived, Looped, Live}
 
 pub none_set : (origin : Origin) (mark : ArrivalMark) → [] ≡ set_mark origin mark []
-none_set (Arrived number) mark = refl
 none_set Looped mark = refl
-none_set Live mark = refl
+none_set _ mark = refl
 
 unmarked : (looped : Bool) → set_mark (if looped then Looped else Live) Discarded [] ≡ []
 unmarked true = refl

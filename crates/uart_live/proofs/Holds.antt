@@ -95,10 +95,8 @@ shift-plain loopback (Some s) t =
 
 refill-plain : (place : Option Shifting) (queue : List ℕ) (t : TransmitterState) →
     AlikeTransmitters (refill place queue (plain_transmitter t)) (refill place queue t)
-refill-plain (Some s) queue t = refl
-refill-plain None [] t = refl
 refill-plain None (x ∷ []) t = refl
-refill-plain None (x ∷ y ∷ xs) t = refl
+refill-plain _ _ t = refl
 
 shifts-plain : (loopback : Bool) (t : TransmitterState) →
     AlikeTransmitters (transmitter.tick loopback t) (transmitter.tick loopback (plain_transmitter t))
@@ -210,11 +208,7 @@ alike-seen : (act : Act) (c d : ChipState) → Alike c d → seen (withdrawing a
 alike-seen (Read offset) c d e =
     seen-plain offset c ∙ (ap (λ (x : ChipState). seen (Read offset) x) e ∙ sym (seen-plain offset d))
 alike-seen (TakeWire count) c d e = ap (λ (x : ChipState). take count x.transmitter.wire) e
-alike-seen (Write offset value) c d e = refl
-alike-seen (Ticks count) c d e = refl
-alike-seen (Arrive byte errors) c d e = refl
-alike-seen (ArriveHolding byte errors) c d e = refl
-alike-seen (SetLines inputs) c d e = refl
+alike-seen _ c d e = refl
 
 alike-run : (acts : List Act) (c d : ChipState) → Alike c d → in_turn seen (map withdrawing acts) c ≡ in_turn seen acts d
 alike-run [] c d e = refl

@@ -8,9 +8,8 @@ use Rattle.uart_chip.specs.declared.receiver.Origin.TheVariants.{Arrived, Looped
 use Rattle.uart_chip.specs.Receiver.{set_mark, discard}
 
 pub none_set : (origin : Origin) (mark : ArrivalMark) → [] ≡ set_mark origin mark []
-none_set (Arrived number) mark = refl
 none_set Looped mark = refl
-none_set Live mark = refl
+none_set _ mark = refl
 
 pub none_discarded : (characters : List Character) → [] ≡ discard characters []
 none_discarded [] = refl

@@ -79,10 +79,8 @@ room-shift loopback (Some s) t h =
     (both_if HasRoom _ _ loopback h (both_if HasRoom _ _ (nat_lt (length t.wire) t.capacity) h h))
 
 room-refill : (place : Option Shifting) (queue : List ℕ) (t : TransmitterState) → HasRoom t → HasRoom (transmitter.refill place queue t)
-room-refill (Some s) queue t h = h
-room-refill None [] t h = h
 room-refill None (x ∷ []) t h = h
-room-refill None (x ∷ y ∷ xs) t h = h
+room-refill _ _ t h = h
 
 room-tick : (loopback : Bool) (t : TransmitterState) → HasRoom t → HasRoom (transmitter.tick loopback t)
 room-tick loopback t h =

@@ -303,10 +303,7 @@ what_can_wait (Write offset value) p h w =
     fell e true up s = dipped (Write offset value) p h refl s up
     fell e false up s =
         subst (λ (at : ℕ). stays_up (Write at value) (happen (Write at value) p.chip) ≡ false) (sym e) (fallen value p.chip up)
-what_can_wait (Receive bytes) p h w = absurd (cc)
-what_can_wait (ReceiveOne byte errors) p h w = absurd (cc)
-what_can_wait (SetLines inputs) p h w = absurd (cc)
-what_can_wait (TakeOutput count) p h w = absurd (cc)
+what_can_wait _ p h w = absurd (cc)
 
 -- ---- what is known of what is owed
 

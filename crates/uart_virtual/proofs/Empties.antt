@@ -124,9 +124,7 @@ asks-happen (Read offset) c some =
     (both_if AsksOf _ _ (offset == offsets.MSR) (inl some) (inl some))))
 asks-happen (Write offset value) c some = asks-write offset value c some
 asks-happen (Receive bytes) c some = asks-all (take (accepted bytes c) bytes) c (inl some)
-asks-happen (ReceiveOne byte errors) c some = inl some
-asks-happen (SetLines inputs) c some = inl some
-asks-happen (TakeOutput count) c some = inl some
+asks-happen _ c some = inl some
 
 -- ---- what the guest is told
 

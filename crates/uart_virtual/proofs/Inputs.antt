@@ -101,10 +101,7 @@ same_errors byte c =
 
 none_pending : (fifo : Bool) (trigger : FifoTriggerLevel) → (if fifo then nat_le (characters_of trigger) 0 else nat_lt 0 0) ≡ false
 none_pending true One = refl
-none_pending true Four = refl
-none_pending true Eight = refl
-none_pending true Fourteen = refl
-none_pending false trigger = refl
+none_pending _ _ = refl
 
 with_none : (b : Bool) → (b && false) ≡ false
 with_none true = refl

@@ -181,16 +181,13 @@ acts-call (Receive bytes) p h =
     let xs : List ℕ = take (accepted bytes p.chip) bytes in
     acts-append (map (λ (byte : ℕ). Arrive byte 0) xs) (Ticks settle_ticks ∷ []) p.chip ∙
     ap settle (acts-arrive xs p.chip)
-acts-call (Read offset) p h = refl
 acts-call (Write offset value) p h = go (offset == offsets.FCR) refl
   where
     go : (b : Bool) → (offset == offsets.FCR) ≡ b →
         live.after_all (acts_of (Write offset value) p.chip) p.chip ≡ (after (Write offset value) p).chip
     go true e = absurd (h.0.0 (eqb-true offset offsets.FCR e))
     go false e = rw e refl
-acts-call (ReceiveOne byte errors) p h = refl
-acts-call (SetLines inputs) p h = refl
-acts-call (TakeOutput count) p h = refl
+acts-call _ p h = refl
 
 -- acts in turn that are careful are so in two parts
 careful-first : (xs ys : List Act) (c : ChipState) → AllInTurn IsCareful (xs ++ ys) c → AllInTurn IsCareful xs c

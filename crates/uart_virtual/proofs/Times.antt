@@ -50,10 +50,8 @@ room-shift loopback (Some s) t =
     (both_if (SameRoom t) _ _ loopback refl (both_if (SameRoom t) _ _ (nat_lt (length t.wire) t.capacity) refl refl))
 
 room-refill : (place : Option Shifting) (queue : List ℕ) (t : TransmitterState) → SameRoom t (refill place queue t)
-room-refill (Some s) queue t = refl
-room-refill None [] t = refl
 room-refill None (x ∷ []) t = refl
-room-refill None (x ∷ y ∷ xs) t = refl
+room-refill _ _ t = refl
 
 room-ticks : (n : ℕ) (c : ChipState) → SameRoom c.transmitter (ticks n c).transmitter
 room-ticks zero c = refl
@@ -125,9 +123,8 @@ pub tick-shifted : (loopback : Bool) (t u : TransmitterState) → shift loopback
 tick-shifted loopback t u e = ap (λ (v : TransmitterState). refill v.shift_register v.queue v) e
 
 freed : (queue : List ℕ) (t : TransmitterState) → moves (refill None queue (with_place None queue t)) ≡ length queue
-freed [] t = refl
 freed (x ∷ []) t = refl
-freed (x ∷ y ∷ xs) t = refl
+freed _ t = refl
 
 unlooped-none : (loopback : Bool) → looped_byte loopback None ≡ None
 unlooped-none true = refl

@@ -26,9 +26,7 @@ put : {W : Type 0} (p : Waiter W → Bool) (awaited : Awaited) (waiter : Waiter 
     IsPut awaited waiter replaced old new → waiting p old + count p (Some waiter) ≡ count p replaced + waiting p new
 put p ReceivedByte waiter replaced old new t =
     omega (arith, ap (λ (x : _). count p x) t.0, ap (λ (x : _). count p x) t.1, ap (λ (x : _). count p x) t.2)
-put p TransmitRoom waiter replaced old new t =
-    omega (arith, ap (λ (x : _). count p x) t.0, ap (λ (x : _). count p x) t.1, ap (λ (x : _). count p x) t.2)
-put p EmptyTransmitRing waiter replaced old new t =
+put p _ waiter replaced old new t =
     omega (arith, ap (λ (x : _). count p x) t.0, ap (λ (x : _). count p x) t.1, ap (λ (x : _). count p x) t.2)
 
 puts : {W : Type 0} (p : Waiter W → Bool) (comes replaced : Option (Waiter W)) (old new : Waits W) → Puts comes replaced old new →
