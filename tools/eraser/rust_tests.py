@@ -11,7 +11,7 @@ import tokens
 OUTPUT = "rust/proved_tests/src/erased"
 
 # The crates with tests. Of `uart_uses` only these are compiled: the others are of callers, which are proved.
-CRATES = ["uart_calls", "uart_machine", "uart_uses", "uart_virtual"]
+CRATES = ["uart_calls", "uart_machine", "uart_uses"]
 OF_USES = ["rings"]
 USES = "//! The interrupt handler of the documentation, and its tests.\n\n" + "".join(f"mod {name};\n" for name in OF_USES)
 

@@ -8,8 +8,6 @@
 mod clock;
 pub mod laws;
 mod port;
-#[cfg(test)]
-mod tests;
 mod told;
 
 pub use clock::Clock;

@@ -4,4 +4,3 @@
 mod uart_calls;
 mod uart_machine;
 mod uart_uses;
-mod uart_virtual;
