@@ -11,20 +11,18 @@ import tokens
 OUTPUT = "rust/proved_tests/src/erased"
 
 # The crates with tests. Of `uart_uses` only these are compiled: the others are of callers, which are proved.
-CRATES = ["uart_calls", "uart_machine", "uart_uses"]
+CRATES = ["uart_calls", "uart_uses"]
 OF_USES = ["rings"]
 USES = "//! The interrupt handler of the documentation, and its tests.\n\n" + "".join(f"mod {name};\n" for name in OF_USES)
 
-# Heads of paths. A file of tests of the rings takes the allocator of the rings.
-KIT, KIT_OF_RINGS = "geesetrunk_kit", "geesetrunk_kit_of_rings"
+# Heads of paths. Who names an allocator makes rings, which have a kit of their own.
+KIT = "geesetrunk_kit"
 HEADS = {
     "bitflags": KIT,
     "arrayvec": KIT,
     "std::test": "crate::runtime",
     "std::process": "crate::runtime",
-    "std::alloc::AllocGlobal": "crate::runtime::AllocGlobal",
-    "std::alloc": f"{KIT}::alloc",
-    "std::io": f"{KIT}::io",
+    "std::alloc": "geesetrunk_kit_of_rings::alloc",
 }
 REPLACED = [
     (r"(?m)^ *#!?\[tactic\(.*\)\]\n", ""),
@@ -33,8 +31,6 @@ REPLACED = [
     (r", Error(?=[,)]\]?)(?=[^\n]*\)\]\n)|#\[derive\(Drop\)\]\n| *#\[error\([^\n]*\)\]\n", ""),
     (r" \+ Drop\b|: Drop\b", ""),
     (r"(fn \w+)\(rt: HostRuntime\)([^{]*)\{", r"\1()\2{\n    let rt = HostRuntime;"),
-    (r"impl AllocGlobal \+ Abort", "HostRuntime"),
-    (r"\.(collect|to_vec|to_string)\((?=(?:alloc|rt\.alloc\(\)))", r".\1_with("),
 ]
 # What a derive of the sources writes, behind the file.
 START_ERROR = """
@@ -52,7 +48,7 @@ impl std::error::Error for StartError {}
 PRELUDE = """#[allow(unused_imports)]
 use crate::runtime::{AllocGlobal, HostRuntime, assert, assert_eq};
 #[allow(unused_imports)]
-use geesetrunk_kit::{CollectWith as _, String, ToStringWith as _, ToVecWith as _, Vec, format, vec};
+use geesetrunk_kit::Vec;
 """
 
 
@@ -71,17 +67,8 @@ def erased(name, text):
         text = re.sub(pattern, to, text)
     text = re.sub(r"(?<![\w:])crate::tests(?=::)", f"crate::erased::{of}", text)
     text = re.sub(r"(?<![\w:])crate(?=::)(?!::(erased|runtime))", of, text)
-    # a law does nothing, and neither does a test of its call
-    for law in re.findall(r"(?m)^use \w+::laws::(\{[^}]*\}|\w+);\n", text):
-        for name in re.findall(r"\w+", law):
-            text = re.sub(rf"(?m)^ *{name}\(\);\n", "", text)
-    text = re.sub(r"(?m)^use \w+::laws::(?:\{[^}]*\}|\w+);\n", "", text)
-    heads = dict(HEADS)
-    if "rings" in name:
-        heads["std::alloc::Global"] = f"{KIT_OF_RINGS}::alloc::Global"
-    for head in sorted(heads, key=len, reverse=True):
-        text = re.sub(rf"(?<![\w:]){head}" + (r"\b" if "::" in head else r"(?=::)"), heads[head], text)
-    text = text.replace("use crate::runtime::AllocGlobal;\n", "")
+    for head, to in HEADS.items():
+        text = re.sub(rf"(?<![\w:]){head}" + (r"\b" if "::" in head else r"(?=::)"), to, text)
     text = re.sub(r"(?m)^( *)//[/!]", r"\1//", text)
     return re.sub(r"\n{3,}", "\n\n", PRELUDE + text) + (START_ERROR if "enum StartError" in text else "")
 

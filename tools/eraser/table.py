@@ -45,7 +45,7 @@ OUTPUT = "rust/proved"
 LIBRARIES = "bitflags arrayvec circular_buffer".split()
 OF_RINGS = "uart_ring"
 # The crates whose tests by hand make rings, with queues of the heap.
-MAKE_RINGS = ["uart_ring", "uart_link"]
+MAKE_RINGS = ["uart_ring", "uart_link", "uart_machine"]
 
 # The crates that the tests by hand of a package use beside those that the package itself uses.
 OF_TESTS = {

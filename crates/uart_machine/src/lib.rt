@@ -23,8 +23,6 @@
 
 pub mod laws;
 pub mod script;
-#[cfg(test)]
-mod tests;
 
 pub use uart_calls::{Answer, CALL_BYTES, Call, perform};
 pub use uart_chip::{ArrivalMark, BuildError, Chip, Device16550, Event};

@@ -2,5 +2,4 @@
 #![allow(warnings)]
 
 mod uart_calls;
-mod uart_machine;
 mod uart_uses;

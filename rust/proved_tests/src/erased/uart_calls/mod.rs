@@ -1,7 +1,7 @@
 #[allow(unused_imports)]
 use crate::runtime::{AllocGlobal, HostRuntime, assert, assert_eq};
 #[allow(unused_imports)]
-use geesetrunk_kit::{CollectWith as _, String, ToStringWith as _, ToVecWith as _, Vec, format, vec};
+use geesetrunk_kit::Vec;
 // What a contract says of tests: generic code over a writer, calls over a replay, and examples of
 // devices with what each access of them is. The other tests of the driver promise nothing, and are
 // plain Rust, in the package that is erased from it.

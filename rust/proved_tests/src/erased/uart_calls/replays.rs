@@ -1,7 +1,7 @@
 #[allow(unused_imports)]
 use crate::runtime::{AllocGlobal, HostRuntime, assert, assert_eq};
 #[allow(unused_imports)]
-use geesetrunk_kit::{CollectWith as _, String, ToStringWith as _, ToVecWith as _, Vec, format, vec};
+use geesetrunk_kit::Vec;
 // Calls over a replay, and what the replay then shows: a list of the call, whose reads returned
 // the bytes of the replay in turn. So over any other backend too the accesses of a call are known
 // from the driver's fields and what its reads return.

@@ -1,7 +1,7 @@
 #[allow(unused_imports)]
 use crate::runtime::{AllocGlobal, HostRuntime, assert, assert_eq};
 #[allow(unused_imports)]
-use geesetrunk_kit::{CollectWith as _, String, ToStringWith as _, ToVecWith as _, Vec, format, vec};
+use geesetrunk_kit::Vec;
 // What the reads of a chip return, and lists of accesses as tests write them.
 use super::assert_equal;
 use crate::runtime::Abort;

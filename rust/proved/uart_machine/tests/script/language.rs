@@ -1,16 +1,10 @@
-#[allow(unused_imports)]
-use crate::runtime::{AllocGlobal, HostRuntime, assert, assert_eq};
-#[allow(unused_imports)]
-use geesetrunk_kit::{CollectWith as _, String, ToStringWith as _, ToVecWith as _, Vec, format, vec};
-use super::super::assert_equal;
-use super::{HEADER, assert_told};
-use uart_machine::script::parse;
-use crate::erased::uart_machine::BARE_CALLS;
-use geesetrunk_kit::{ArrayString, ArrayVec};
-use geesetrunk_kit::Flags;
-use crate::runtime::Fail;
-use uart_calls::Call;
-use uart_chip::{Chip, Event};
+//! What each line means, and how a faulty one is told.
+
+use crate::{HEADER, assert_told};
+use geesetrunk_kit::ArrayString;
+use geesetrunk_kit::alloc::Global;
+use proved_uart_machine::script::{Script, parse};
+use proved_uart_machine::{Call, Chip, Event};
 use uart_spec::registers::{FifoTriggerLevel, IER, ISR, LCR, LSR, MCR, MSR, WordLength};
 use uart_spec::{BaudRate, Config, ConfigRegisterDump, FifoAction, Setup, TransmitterWait};
 
@@ -57,10 +51,16 @@ const FAULTS_OF_THE_FIRST_LINE: &[(&str, &str)] = &[
 ];
 
 #[test]
-fn faults_are_told() -> Result<(), Fail> {
-    let rt = HostRuntime;
-    assert_told(&rt, HEADER, FAULTS)?;
-    assert_told(&rt, "", FAULTS_OF_THE_FIRST_LINE)
+fn faults_are_told() {
+    assert_told(HEADER, FAULTS);
+    assert_told("", FAULTS_OF_THE_FIRST_LINE);
+}
+
+fn parsed(text: &[u8]) -> Script {
+    match parse(Global::heap(), text) {
+        Ok(script) => script,
+        Err(error) => panic!("{error}"),
+    }
 }
 
 const EVERY_WORD: &[u8] = b"chip 16550a 3 7
@@ -105,17 +105,13 @@ text c3a9";
 
 // One line of each kind.
 #[test]
-fn every_word_means_its_event_or_call() -> Result<(), Fail> {
-    let rt = HostRuntime;
-    let script = parse(rt.alloc(), EVERY_WORD).ok().ok_or("refused")?;
-    assert_equal(&rt, script.chip(), Chip::Uart16550A);
-    assert_equal(
-        &rt,
-        (script.ticks(), script.wire_capacity(), script.limit().get()),
-        (3, 7, 5),
-    );
-    assert_equal(
-        &rt,
+fn every_word_means_its_event_or_call() {
+    let script = parsed(EVERY_WORD);
+    assert_eq!(script.chip(), Chip::Uart16550A);
+    assert_eq!(script.ticks(), 3);
+    assert_eq!(script.wire_capacity(), 7);
+    assert_eq!(script.limit().get(), 5);
+    assert_eq!(
         script.events(),
         [
             Event::Ticks(65535),
@@ -131,48 +127,50 @@ fn every_word_means_its_event_or_call() -> Result<(), Fail> {
             Event::Access,
             Event::Mark,
         ]
-        .as_slice(),
     );
-    let calls = script.calls();
-    assert_eq!(rt; calls.len(), 31);
-    assert_equal(
-        &rt,
-        &calls[1],
-        &Call::Init(Config {
-            interrupts: IER::from_bits_retain(0x0f),
-            fifo_trigger_level: Some(FifoTriggerLevel::Eight),
-            baud_rate: BaudRate::Baud9600,
-            data_bits: WordLength::FiveBits,
-            check_cts_before_sending: true,
-            ..Config::DEFAULT
-        }),
-    );
-    assert_equal(&rt, &calls[2..21], &BARE_CALLS[..]);
-    assert_equal(
-        &rt,
-        &calls[21..],
-        &[
+    assert_eq!(
+        script.calls(),
+        [
+            Call::Next,
+            Call::Init(Config {
+                interrupts: IER::from_bits_retain(0x0f),
+                fifo_trigger_level: Some(FifoTriggerLevel::Eight),
+                baud_rate: BaudRate::Baud9600,
+                data_bits: WordLength::FiveBits,
+                check_cts_before_sending: true,
+                ..Config::DEFAULT
+            }),
+            Call::TestLoopback,
+            Call::CheckPresent,
+            Call::CheckConnected,
+            Call::ReadyToReceive,
+            Call::ReadyToSend,
+            Call::TryReceive,
+            Call::Flush,
+            Call::ReadReady,
+            Call::WriteReady,
+            Call::Ier,
+            Call::Isr,
+            Call::Lcr,
+            Call::Mcr,
+            Call::Lsr,
+            Call::Msr,
+            Call::Spr,
+            Call::DllDlm,
+            Call::FifoEnabled,
+            Call::Dump,
             Call::TrySend(0x7f),
             Call::Enable(IER::THR_EMPTY),
             Call::Disable(IER::DATA_READY),
             Call::Receive(0),
             Call::ReceiveExact(64),
             Call::Read(1),
-            Call::Send(ArrayVec::new()),
-            Call::SendExact(
-                ArrayVec::try_from([0x00, 0xff].as_slice())
-                    .ok()
-                    .ok_or("too many")?,
-            ),
-            Call::Write(
-                ArrayVec::try_from([0x41].as_slice())
-                    .ok()
-                    .ok_or("too many")?,
-            ),
-            Call::Text(ArrayString::try_from("\u{e9}").ok().ok_or("too many")?),
-        ][..],
+            Call::Send([].as_slice().try_into().unwrap()),
+            Call::SendExact([0x00, 0xff].as_slice().try_into().unwrap()),
+            Call::Write([0x41].as_slice().try_into().unwrap()),
+            Call::Text(ArrayString::try_from("\u{e9}").unwrap()),
+        ]
     );
-    Ok(())
 }
 
 const LATER_WORDS: &[u8] = b"chip 16550a 3 7
@@ -194,9 +192,7 @@ retrigger-interrupts
 receive-with-errors 64";
 
 #[test]
-fn later_words_mean_their_calls() -> Result<(), Fail> {
-    let rt = HostRuntime;
-    let script = parse(rt.alloc(), LATER_WORDS).ok().ok_or("refused")?;
+fn later_words_mean_their_calls() {
     let frame = |baud_rate, data_bits| Config {
         baud_rate,
         data_bits,
@@ -222,10 +218,9 @@ fn later_words_mean_their_calls() -> Result<(), Fail> {
         fifo_trigger_level: None,
         ..Config::DEFAULT
     };
-    assert_equal(
-        &rt,
-        script.calls(),
-        &[
+    assert_eq!(
+        parsed(LATER_WORDS).calls(),
+        [
             Call::InitWith(config, setup),
             Call::SetFrame(frame(BaudRate::Baud38400, WordLength::SevenBits)),
             Call::SetFrameWhenIdle(frame(BaudRate::Custom(2), WordLength::SixBits)),
@@ -242,7 +237,6 @@ fn later_words_mean_their_calls() -> Result<(), Fail> {
             Call::IsIdle,
             Call::RetriggerInterrupts,
             Call::ReceiveWithErrors(64),
-        ][..],
+        ]
     );
-    Ok(())
 }

@@ -1,35 +1,36 @@
 //! Time that passes outside of the schedule, and in how many jumps.
-use super::{DATA, FCR, IER, ISR, MCR, arrive, assert_equal, assert_equal_at, machine};
-use crate::{ArrivalMark, Chip, Event};
-use std::test::Fail;
+
+use crate::machines::{DATA, FCR, IER, ISR, MCR, arrive, machine};
+use proved_uart_machine::{ArrivalMark, Chip, Event};
 use uart_16550::backend::Backend;
 
-// Returns a machine to whose transmitter this many characters were written, each access behind this
-// event of the schedule: `Access` lets no tick pass, so that all characters stay in the queue.
-// Returns in how many jumps the ticks pass, and what is sent and held then.
+/// The event of the schedule before each access, and how many ticks a character takes. An access behind `Access` lets no tick pass, so all
+/// characters that are written stay in the queue.
+type Pace = (Event, u16);
+
+const UNGATED: Pace = (Event::Access, 5);
+const TICKING: Pace = (Event::Lines(0), 1000);
+
+/// Lets ticks pass on a machine to which characters were written. Returns in how many jumps they pass, and how many characters are sent
+/// and held then.
 fn idled(
-    rt: &HostRuntime,
-    (gate, char_ticks): (Event, u16),
+    (gate, char_ticks): Pace,
     (characters, wire_capacity, ticks): (usize, usize, u16),
     mcr: u8,
-) -> Result<(usize, usize, usize), Fail> {
-    let mut chip = machine(rt, Chip::Uart16550A, char_ticks, wire_capacity, &[gate; 20])?;
+) -> (usize, usize, usize) {
+    let mut chip = machine(Chip::Uart16550A, char_ticks, wire_capacity, &[gate; 20]);
     chip.write(FCR, 0x01);
     chip.write(MCR, mcr);
-    for _character in 0..characters {
+    for _ in 0..characters {
         chip.write(DATA, 0x55);
     }
     let jumps = chip.idle(ticks);
-    Ok((jumps, chip.wire().len(), chip.held_len()))
+    (jumps, chip.wire().len(), chip.held_len())
 }
 
-const UNGATED: (Event, u16) = (Event::Access, 5);
-
-const TICKING: (Event, u16) = (Event::Lines(0), 1000);
-
 #[test]
-fn jumps_pass_the_ticks(rt: HostRuntime) -> Result<(), Fail> {
-    for (gate, given, mcr, want) in [
+fn jumps_pass_the_ticks() {
+    for (pace, given, mcr, want) in [
         // Each move of a character ends a jump, and so does the last tick. A character of 5 ticks
         // enters the free shift register in the first tick and leaves it in the sixth.
         (UNGATED, (0, 64, 0), 0x00, (0, 0, 0)),
@@ -60,40 +61,32 @@ fn jumps_pass_the_ticks(rt: HostRuntime) -> Result<(), Fail> {
         (UNGATED, (1, 0, 65_535), 0x00, (2, 0, 1)),
         (UNGATED, (16, 0, 81), 0x10, (17, 0, 0)),
     ] {
-        assert_equal_at(
-            &rt,
-            idled(&rt, gate, given, mcr)?,
-            want,
-            format_args!("{given:?}"),
-        );
+        assert_eq!(idled(pace, given, mcr), want, "{given:?}");
     }
-    Ok(())
 }
 
 // A reception timeout is due after four character times, of which the read itself takes the last
 // tick.
 #[test]
-fn idle_ticks_count_towards_a_timeout(rt: HostRuntime) -> Result<(), Fail> {
+fn idle_ticks_count_towards_a_timeout() {
     for (idle, jumps, shown) in [(18, 1, 0xc1), (19, 1, 0xcc), (u16::MAX, 1, 0xcc)] {
-        let mut chip = machine(&rt, Chip::Uart16550A, 5, 64, &[Event::Mark, arrive(0x41)])?;
+        let mut chip = machine(Chip::Uart16550A, 5, 64, &[Event::Mark, arrive(0x41)]);
         chip.write(FCR, 0xc1);
         chip.write(IER, 0x01);
         chip.next();
         chip.next();
-        assert_equal(&rt, chip.idle(idle), jumps);
-        assert_equal_at(&rt, chip.read(ISR), shown, format_args!("{idle} ticks"));
+        assert_eq!(chip.idle(idle), jumps);
+        assert_eq!(chip.read(ISR), shown, "{idle} ticks");
     }
-    Ok(())
 }
 
 #[test]
-fn idle_leaves_the_schedule_alone(rt: HostRuntime) -> Result<(), Fail> {
-    let mut chip = machine(&rt, Chip::Uart16450, 5, 64, &[Event::Mark, arrive(0x41)])?;
-    assert_equal(&rt, chip.idle(100), 1);
-    assert_equal(&rt, chip.mark(0), Some(ArrivalMark::Pending));
+fn idle_leaves_the_schedule_alone() {
+    let mut chip = machine(Chip::Uart16450, 5, 64, &[Event::Mark, arrive(0x41)]);
+    assert_eq!(chip.idle(100), 1);
+    assert_eq!(chip.mark(0), Some(ArrivalMark::Pending));
     chip.next();
-    assert_equal(&rt, chip.mark(0), Some(ArrivalMark::Pending));
+    assert_eq!(chip.mark(0), Some(ArrivalMark::Pending));
     chip.next();
-    assert_equal(&rt, chip.mark(0), Some(ArrivalMark::Waiting));
-    Ok(())
+    assert_eq!(chip.mark(0), Some(ArrivalMark::Waiting));
 }

@@ -1,38 +1,24 @@
-use super::super::{assert_equal, assert_equal_at};
-use arrayvec::ArrayVec;
-use bitflags::Flags;
-use std::alloc::Global;
-use std::process::Abort;
-use std::test::Fail;
-use uart_16550::ConfigRegisterDump;
-use uart_calls::{Answer, CALL_BYTES};
-use uart_chip::ArrivalMark;
+//! What is printed for each answer, and for what is left at the end.
+
+use geesetrunk_kit::ArrayVec;
+use geesetrunk_kit::alloc::Global;
+use proved_uart_machine::{Answer, ArrivalMark, CALL_BYTES};
 use uart_language::render;
 use uart_spec::registers::{IER, ISR, LCR, LSR, MCR, MSR};
 use uart_spec::{
-    AttachError, ByteSendError, ConfigurationError, FrameError, InitError, InvalidDivisorError,
-    LoopbackError, NonIntegerDivisorError, Received, RemoteReadyToReceiveError,
+    AttachError, ByteSendError, ConfigRegisterDump, ConfigurationError, FrameError, InitError,
+    InvalidDivisorError, LoopbackError, NonIntegerDivisorError, Received,
+    RemoteReadyToReceiveError,
 };
 
 fn bytes(values: &[u8]) -> ArrayVec<u8, CALL_BYTES> {
-    let mut bytes = ArrayVec::new();
-    for value in values {
-        if !bytes.is_full() {
-            bytes.push(*value);
-        }
-    }
-    bytes
+    values.try_into().unwrap()
 }
 
 fn with_errors(items: &[(u8, LSR)]) -> ArrayVec<Received, CALL_BYTES> {
     let mut received = ArrayVec::new();
-    for (byte, errors) in items {
-        if !received.is_full() {
-            received.push(Received {
-                byte: *byte,
-                errors: *errors,
-            });
-        }
+    for &(byte, errors) in items {
+        received.push(Received { byte, errors });
     }
     received
 }
@@ -51,22 +37,16 @@ fn dump() -> ConfigRegisterDump {
     }
 }
 
-// Asserts that this line is printed for the answer.
-fn assert_line(rt: &impl Abort, alloc: Global, answer: Answer, want: &str) -> Result<(), Fail> {
-    let text = render(alloc, &[answer], &[], &[], &[], &[])?;
-    let mut wanted = want.to_string(alloc)?;
-    wanted.push_str("\nwire -\nheld -\nwaiting -\nmarks -\n")?;
-    assert_equal_at(
-        rt,
-        text.as_slice(),
-        wanted.as_bytes(),
-        format_args!("at {want}"),
-    );
-    Ok(())
+/// Asserts that this line is printed for the answer.
+#[track_caller]
+fn assert_line(answer: Answer, want: &str) {
+    let text = render(Global::heap(), &[answer], &[], &[], &[], &[]).unwrap();
+    let wanted = format!("{want}\nwire -\nheld -\nwaiting -\nmarks -\n");
+    assert_eq!(String::from_utf8_lossy(&text), wanted);
 }
 
 #[test]
-fn each_difference_has_its_line(rt: HostRuntime) -> Result<(), Fail> {
+fn each_difference_has_its_line() {
     for (error, want) in [
         (ConfigurationError::NoDivisor, "err NoDivisor"),
         (
@@ -105,13 +85,12 @@ fn each_difference_has_its_line(rt: HostRuntime) -> Result<(), Fail> {
             "err Fifos expected true shown false",
         ),
     ] {
-        assert_line(&rt, rt.alloc(), Answer::NotConfigured(error), want)?;
+        assert_line(Answer::NotConfigured(error), want);
     }
-    Ok(())
 }
 
 #[test]
-fn each_answer_has_its_line(rt: HostRuntime) -> Result<(), Fail> {
+fn each_answer_has_its_line() {
     let not_whole = NonIntegerDivisorError::default();
     for (answer, want) in [
         (Answer::Done, "ok"),
@@ -124,7 +103,7 @@ fn each_answer_has_its_line(rt: HostRuntime) -> Result<(), Fail> {
         (
             Answer::BytesWithErrors(with_errors(&[
                 (0x41, LSR::empty()),
-                (0x00, LSR::FRAMING_ERROR.union(LSR::BREAK_INTERRUPT)),
+                (0x00, LSR::FRAMING_ERROR | LSR::BREAK_INTERRUPT),
             ])),
             "ok 41/00 00/18",
         ),
@@ -168,9 +147,9 @@ fn each_answer_has_its_line(rt: HostRuntime) -> Result<(), Fail> {
             "err InvalidBaudRate NonInteger",
         ),
         (
-            Answer::InitRefused(InitError::InvalidBaudRate(InvalidDivisorError::OutOfRange {
-                divisor: 115_200,
-            })),
+            Answer::InitRefused(InitError::InvalidBaudRate(
+                InvalidDivisorError::OutOfRange { divisor: 115_200 },
+            )),
             "err InvalidBaudRate OutOfRange 115200",
         ),
         (
@@ -210,13 +189,12 @@ fn each_answer_has_its_line(rt: HostRuntime) -> Result<(), Fail> {
             "err RemoteNotClearToSend",
         ),
     ] {
-        assert_line(&rt, rt.alloc(), answer, want)?;
+        assert_line(answer, want);
     }
-    Ok(())
 }
 
 #[test]
-fn what_is_left_has_four_lines(rt: HostRuntime) -> Result<(), Fail> {
+fn what_is_left_has_four_lines() {
     let marks = [
         ArrivalMark::Pending,
         ArrivalMark::Waiting,
@@ -224,11 +202,15 @@ fn what_is_left_has_four_lines(rt: HostRuntime) -> Result<(), Fail> {
         ArrivalMark::Discarded,
         ArrivalMark::Dropped,
     ];
-    let text = render(rt.alloc(), &[], &[1, 2, 3], &[0x48], &[0x41, 0xff], &marks)?;
-    assert_equal(
-        &rt,
-        text.as_slice(),
-        b"wire 010203\nheld 48\nwaiting 41ff\nmarks pwrdx\n".as_slice(),
-    );
-    Ok(())
+    let text = render(
+        Global::heap(),
+        &[],
+        &[1, 2, 3],
+        &[0x48],
+        &[0x41, 0xff],
+        &marks,
+    )
+    .unwrap();
+    let want = "wire 010203\nheld 48\nwaiting 41ff\nmarks pwrdx\n";
+    assert_eq!(String::from_utf8_lossy(&text), want);
 }

@@ -1,0 +1,12 @@
+//! Worked examples over the chip in software: raw accesses, the driver and the rings over it, and the live chip. And what no contract
+//! says: that machines are built, and texts.
+
+mod accesses;
+mod cut;
+mod driver;
+mod idle;
+mod live;
+mod machines;
+mod paths;
+mod rings;
+mod schedules;
