@@ -1,5 +1,5 @@
-//! Each caller is run once, with what its contract says about the run. In modules are a monitor and
-//! the tests of the rings, with the handler of the documentation.
+//! Each caller is run once, with what its contract says about the run, and laws are called. In
+//! modules are a monitor and the tests of the rings, with the handler of the documentation.
 
 mod monitor;
 mod rings;
@@ -13,12 +13,18 @@ use rings::assert_equal;
 use std::num::NonZeroU64;
 use std::test::Fail;
 use uart_16550::{DEFAULT_SPIN_LIMIT, Uart16550, Uart16550Tty};
+use uart_calls::laws::meanings_leave_no_choice;
 use uart_calls::{Answer, Call};
 use uart_chip::{Chip, Device16550, Uart};
 use uart_live::LiveChip;
+use uart_live::laws::{
+    bytes_leave_in_order, characters_are_read_in_order, plain_reads_change_nothing,
+};
 use uart_play::Std;
+use uart_play::laws::{runs_have_one_outcome, scripts_have_one_output};
 use uart_ring::Uart16550Ring;
 use uart_ring_runs::{RingAnswer, RingCall};
+use uart_run::laws::idle_keeps_ready;
 use uart_spec::access::Access;
 use uart_spec::registers::{LSR, offsets};
 use uart_spec::{BaudRate, Config, NUM_REGISTERS};
@@ -184,4 +190,16 @@ fn a_script(rt: HostRuntime) -> Result<(), Fail> {
     assert!(rt; playing::is_refused(rt.alloc(), &mut Std::new(b"lsr".as_slice()), &mut writer));
     assert_equal(&rt, output.len(), 0);
     Ok(())
+}
+
+// A law asks nothing of who calls it.
+#[test]
+fn laws_are_called() {
+    bytes_leave_in_order();
+    characters_are_read_in_order();
+    idle_keeps_ready();
+    meanings_leave_no_choice();
+    plain_reads_change_nothing();
+    runs_have_one_outcome();
+    scripts_have_one_output();
 }

@@ -17,8 +17,7 @@
 //! The chip and the device are in the crate `uart_chip`, the live chip in `uart_live`, calls,
 //! answers and events in `uart_events`, what calls mean in `uart_calls`, runs in `uart_run`, runs
 //! of the rings in `uart_ring_runs`, the script language in `uart_language`, and the player of
-//! scripts in `uart_play`. This crate re-exports them, and has the worked rows that cross
-//! them.
+//! scripts in `uart_play`. This crate re-exports them.
 #![no_std]
 #![forbid(unsafe_code)]
 #![allow(unused_imports, unused_labels, unused_parens, unused_braces, dead_code, clippy::all, clippy::pedantic, reason = "the text is that of the proved source, in the forms that Rattle has")]
