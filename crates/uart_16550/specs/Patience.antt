@@ -1,9 +1,13 @@
 -- Waits that ask their caller, after each check that fails, whether to keep waiting.
 use Rattle.std.specs.Prelude.{◌≡◌, ◌<◌, ◌+◌, ℕ, zero, suc, Bool, true, false, List, [], ◌∷◌, ◌++◌, Result, Ok, Err}
 use Rattle.std.specs.Prelude.{length, map, ◌⊎◌}
+use Rattle.std.specs.List.{FoldsTo}
 use Rattle.uart_spec.specs.declared.errors.StalledError.{StalledError}
-use Rattle.uart_16550.specs.Grammar.{Language, Then, InOrder, Times, AllMisses}
-use Rattle.uart_16550.specs.Transmit.{SendHit, SendMiss, Burst, IsCut}
+use Rattle.uart_spec.specs.declared.access.Access.{Access}
+use Rattle.uart_16550.specs.Grammar.{Language, Settings, Then, InOrder, Times, AllMisses}
+use Rattle.uart_16550.specs.Transmit.{SendHit, SendMiss, Burst, IsCut, SendsExact}
+use Rattle.uart_16550.specs.Driver.{Made}
+use Rattle.uart_16550.specs.declared.driver.Uart16550.{Uart16550}
 
 -- n answers, each to keep waiting
 abbrev pub keeps_waiting : ℕ → List Bool
@@ -46,3 +50,16 @@ SendsWhile bytes said (Err e) s l =
     × (0 < length rest) × (e.done + length rest ≡ length bytes)
     × (said ≡ keeps_waiting (misses_of rounds) ++ last)
     × Then (InOrder RoundAfter rounds) (WaitsWhile last false) s l
+
+-- the caller was asked and gave some answers, from the first of its states to the second, and the call made a list of
+-- the language that goes with them, as `Made` says
+pub record MadeWhile {P B : Type 0} (answers : P → Bool → P → Type 0) (step : B → Access → B → Type 0)
+    (L : List Bool → Language) (before after : P) (old new : Uart16550 B) : Type 0 where
+  pub said : List Bool
+  pub asked : FoldsTo answers before said after
+  pub made : Made step (L said) old new
+
+-- a caller that keeps waiting each time it is asked: then `send_bytes_while` does what `send_bytes_exact` does
+abbrev pub IsExactIfEndless : Type 0
+IsExactIfEndless = (bytes : List ℕ) (n : ℕ) (result : Result (Unit {0}) StalledError) (s : Settings) (l : List Access) →
+    SendsWhile bytes (keeps_waiting n) result s l → SendsExact bytes result s l

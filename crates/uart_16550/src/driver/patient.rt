@@ -1,8 +1,6 @@
 //! Sending with waits that end when their caller says so.
-ghost use Rattle.std.specs.Prelude.{◌≡◌, ◌<◌, Bool, List, length, IfErr};
-ghost use Rattle.std.specs.List.{FoldsTo};
-ghost use Rattle.uart_16550.specs.Patience.{SendsWhile, WaitsWhile};
-ghost use Rattle.uart_16550.specs.Driver.{Made};
+ghost use Rattle.std.specs.Prelude.{◌<◌, length, IfErr};
+ghost use Rattle.uart_16550.specs.Patience.{MadeWhile, SendsWhile, WaitsWhile};
 
 use super::Uart16550;
 use crate::backend::Backend;
@@ -12,8 +10,8 @@ use uart_spec::StalledError;
 impl<B: Backend> Uart16550<B> {
     // Waits until bytes may be written, and asks after each check that fails whether to go on.
     fn wait_to_send_while<P: Patience>(&mut self, patience: &mut P) -> bool
-        ensures { (said : List Bool) × FoldsTo P.answers patience.old said patience.new
-            × Made B.step (WaitsWhile said result) self.old self.new }
+        ensures { MadeWhile P.answers B.step (λ said. WaitsWhile said result)
+            patience.old patience.new self.old self.new }
     {
         // The limit bounds the wait even if the caller never has enough.
         for _turn in 0..self.spin_limit.get() {
@@ -43,15 +41,16 @@ impl<B: Backend> Uart16550<B> {
     /// # Examples
     ///
     /// ```
-    /// uart.send_bytes_while(b"hello", &mut until(deadline))?;
+    /// // The patience ends at a time of a clock that this program has.
+    /// uart.send_bytes_while(b"hello", &mut deadline)?;
     /// ```
     pub fn send_bytes_while<P: Patience>(
         &mut self,
         bytes: &[u8],
         patience: &mut P,
     ) -> Result<(), StalledError>
-        ensures made { (said : List Bool) × FoldsTo P.answers patience.old said patience.new
-            × Made B.step (SendsWhile bytes.now said result) self.old self.new }
+        ensures made { MadeWhile P.answers B.step (λ said. SendsWhile bytes.now said result)
+            patience.old patience.new self.old self.new }
         ensures done { IfErr result (λ e. e.done < length bytes.now) }
     {
         let mut done = 0;

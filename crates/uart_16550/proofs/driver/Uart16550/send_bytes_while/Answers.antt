@@ -20,9 +20,11 @@ returns-then-not-wait_to_send_while-clause-made g c =
     let left : 0 < length rest = omega (arith, length-drop {A = ℕ}) in
     let sums : c.loop-done.done + length rest ≡ length c.args.bytes.now = omega (arith, length-drop {A = ℕ}) in
     let wait = c.if-not-wait_to_send_while.ensures in
-    (keeps_waiting (misses_of inv.rounds) ++ wait.0,
-    folds_append _ _ _ _ (keeps_waiting (misses_of inv.rounds)) wait.0 inv.asked wait.1,
-    made_among (λ l t. (inv.rounds, wait.0, rest, inv.cut, left, sums, refl, t)) (made_then inv.made wait.2))
+    record {
+      said = keeps_waiting (misses_of inv.rounds) ++ wait.said;
+      asked = folds_append _ _ _ _ (keeps_waiting (misses_of inv.rounds)) wait.said inv.asked wait.asked;
+      made = made_among (λ l t. (inv.rounds, wait.said, rest, inv.cut, left, sums, refl, t)) (made_then inv.made wait.made);
+    }
 
 pub loop-done-preserved : goal.loop-done-preserved
 loop-done-preserved g c =
@@ -31,9 +33,9 @@ loop-done-preserved g c =
     let rest = drop c.loop-done.done c.args.bytes.now in
     let left : 0 < length rest = omega (arith, length-drop {A = ℕ}) in
     let wait = c.wait_to_send_while.ensures in
-    let made : Made g.B.Backend.step (WaitsWhile wait.0 true) c.loop-done.self c.wait_to_send_while.new.self =
-    subst (λ (ready : Bool). Made g.B.Backend.step (WaitsWhile wait.0 ready) c.loop-done.self c.wait_to_send_while.new.self)
-    c.if-not-wait_to_send_while.false wait.2 in
+    let made : Made g.B.Backend.step (WaitsWhile wait.said true) c.loop-done.self c.wait_to_send_while.new.self =
+    subst (λ (ready : Bool). Made g.B.Backend.step (WaitsWhile wait.said ready) c.loop-done.self c.wait_to_send_while.new.self)
+    c.if-not-wait_to_send_while.false wait.made in
     let misses : ℕ = made.fits.0 in
     let size : c.write_burst-done.result ≡ burst_size set rest =
     (rw take_rest at c.write_burst-done.ensures.size) ∙
@@ -55,6 +57,6 @@ loop-done-preserved g c =
       asked = rw (misses_more inv.rounds round, keeps_sum (misses_of inv.rounds) misses)
           (folds_append _ _ _ _ (keeps_waiting (misses_of inv.rounds)) (keeps_waiting misses) inv.asked
           (subst (λ (said : List Bool). FoldsTo g.P.Patience.answers c.loop-done.patience said c.wait_to_send_while.new.patience)
-          made.fits.2 wait.1));
+          made.fits.2 wait.asked));
       made = made_more RoundAfter inv.rounds round inv.made sent;
     }

@@ -13,17 +13,22 @@ pub returns-in-Ok : goal.returns-in-Ok
 returns-in-Ok g c =
     let turn = c.loop-turn._turn in
     let few : turn < (settings c.args.self.now).limit = omega arith in
-    (keeps_waiting turn, c.loop-turn.invariant.asked,
-    made_among (λ l t. (turn, few, refl, t)) (made_then c.loop-turn.invariant.made c.in-Ok.ensures))
+    record {
+      said = keeps_waiting turn;
+      asked = c.loop-turn.invariant.asked;
+      made = made_among (λ l t. (turn, few, refl, t)) (made_then c.loop-turn.invariant.made c.in-Ok.ensures);
+    }
 
 pub returns-then-not-keep_waiting : goal.returns-then-not-keep_waiting
 returns-then-not-keep_waiting g c =
     let turn = c.loop-turn._turn in
     let few : turn < (settings c.args.self.now).limit = omega arith in
     let miss = made_among (λ l t. (c.in_default.field-0, t)) c.in_default.ensures in
-    (keeps_waiting turn ++ false ∷ [],
-    FoldsTo-push _ _ _ _ false _ c.loop-turn.invariant.asked c.if-not-keep_waiting.ensures,
-    made_among (λ l t. inr (turn, few, refl, t)) (made_times _ _ c.loop-turn.invariant.made miss))
+    record {
+      said = keeps_waiting turn ++ false ∷ [];
+      asked = FoldsTo-push _ _ _ _ false _ c.loop-turn.invariant.asked c.if-not-keep_waiting.ensures;
+      made = made_among (λ l t. inr (turn, few, refl, t)) (made_times _ _ c.loop-turn.invariant.made miss);
+    }
 
 pub loop-turn-preserved : goal.loop-turn-preserved
 loop-turn-preserved g c =
