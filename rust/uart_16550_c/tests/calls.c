@@ -601,6 +601,10 @@ static void setup(void)
     config.baud_rate = 110;
     accesses = d.accesses;
     MISUSE(u16550_set_frame_when_idle(&uart, &config), U16550_FRAME_NON_INTEGER_DIVISOR);
+    config.baud_rate = 0;
+    MISUSE(u16550_set_frame_when_idle(&uart, &config), U16550_NOT_COMPUTABLE);
+    unchecked.checks_presence = 0;
+    MISUSE(u16550_init_with(&uart, &config, &unchecked), U16550_NOT_COMPUTABLE);
     MISUSE(u16550_set_frame_when_idle(&uart, NULL), U16550_NULL_POINTER);
 
     ready();
@@ -865,7 +869,7 @@ struct deadline {
     int inside;
 };
 
-static uint8_t is_before(void *context)
+static uint8_t U16550_CALL is_before(void *context)
 {
     struct deadline *deadline = (struct deadline *)context;
     deadline->inside = u16550_flush(&uart);

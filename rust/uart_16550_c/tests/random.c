@@ -112,7 +112,7 @@ static int new_rings(struct u16550 *u)
 }
 
 /* A caller who keeps waiting so many times. */
-static uint8_t keep_waiting(void *context)
+static uint8_t U16550_CALL keep_waiting(void *context)
 {
     uint32_t *left = (uint32_t *)context;
     return *left > 0 && (*left)--;

@@ -131,7 +131,7 @@ static int __attribute__((noinline)) nothing(void)
     return 0;
 }
 
-static uint8_t keep_waiting(void *context)
+static uint8_t U16550_CALL keep_waiting(void *context)
 {
     return context == NULL;
 }

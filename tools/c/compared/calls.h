@@ -524,7 +524,7 @@ static size_t fill_text(void)
 }
 
 /* A caller who keeps waiting so many times, and counts them down. */
-static uint8_t keep_waiting(void *context)
+static uint8_t U16550_CALL keep_waiting(void *context)
 {
     uint32_t *left = (uint32_t *)context;
     if (*left == 0)
