@@ -1,5 +1,6 @@
 -- What the reads of a call determine.
-use Rattle.std.specs.Prelude.{◌≡◌, ◌≤◌, ℕ, Bool, List, [], ◌∷◌, ◌++◌, ◌⊎◌, Result, IfOk, IfErr, OnErr, length, take, drop}
+use Rattle.std.specs.Prelude.{◌≡◌, ◌≤◌, ℕ, Bool, List, [], ◌∷◌, ◌++◌, ◌⊎◌, Result, IfOk, IfErr, OnErr}
+use Rattle.std.specs.Prelude.{length, take, drop}
 use Rattle.uart_spec.specs.declared.errors.StalledError.{StalledError}
 use Rattle.uart_spec.specs.declared.access.Access.{Access}
 use Rattle.uart_spec.specs.declared.access.Access.TheVariants.{Read, Write}

@@ -39,8 +39,8 @@ abbrev pub misses_of : List Awaited → ℕ
 misses_of [] = 0
 misses_of (round ∷ rounds) = round.misses + misses_of rounds
 
--- `send_bytes_while`, with the answers of the caller: all bytes, burst by burst, each burst after its own wait; or those
--- before the burst whose wait ended, as many as the error reports
+-- `send_bytes_while`, with the answers of the caller: all bytes, burst by burst, each burst after its own wait; or
+-- those before the burst whose wait ended in vain, as many as the error reports
 abbrev pub SendsWhile : {T : Type 0} → List ℕ → List Bool → Result T StalledError → Language
 SendsWhile bytes said (Ok x) s l =
     (rounds : List Awaited) × IsCut s bytes (bursts_of rounds) [] × (said ≡ keeps_waiting (misses_of rounds))

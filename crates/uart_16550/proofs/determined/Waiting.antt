@@ -1,6 +1,6 @@
 -- A call whose caller is asked whether to keep waiting is determined by what it reads and by the answers.
-use Rattle.std.proofs.Common.{◌≡◌, ◌<◌, ◌≤◌, ◌+◌, ℕ, zero, suc, Bool, true, false, List, [], ◌∷◌, ◌++◌, refl, sym, ◌∙◌, ap, subst, arith}
-use Rattle.std.proofs.Common.{inl, inr, ◌⊎◌, Result, Ok, Err, length, take, drop, append_assoc}
+use Rattle.std.proofs.Common.{◌≡◌, ◌<◌, ◌≤◌, ◌+◌, ℕ, zero, suc, Bool, false, List, [], ◌∷◌, ◌++◌, refl, sym, ◌∙◌, ap, subst, arith}
+use Rattle.std.proofs.Common.{inl, inr, Result, Ok, Err, length, drop, append_assoc}
 use Rattle.uart_spec.specs.declared.access.Access.{Access}
 use Rattle.uart_spec.specs.declared.errors.StalledError.{StalledError}
 use Rattle.uart_16550.specs.Grammar.{Language, Settings, Only, Then, Times, InOrder}
@@ -9,8 +9,8 @@ use Rattle.uart_16550.specs.Patience.{keeps_waiting, WaitsWhile, Awaited, RoundA
 use Rattle.uart_16550.specs.Choice.{SendsAsAnswered}
 use Rattle.uart_16550.proofs.Languages.{then_later}
 use Rattle.uart_16550.proofs.Waiting.{keeps_sum}
-use Rattle.uart_16550.proofs.determined.Parting.{SameOrPart, Determined, so, determined_so, determined_sym, determined_then, determined_among}
-use Rattle.uart_16550.proofs.determined.Parting.{determined_front, determined_only, determined_none, not_both}
+use Rattle.uart_16550.proofs.determined.Parting.{SameOrPart, Determined, so, determined_so, determined_sym, determined_then}
+use Rattle.uart_16550.proofs.determined.Parting.{determined_among, determined_front, determined_only, determined_none, not_both}
 use Rattle.uart_16550.proofs.determined.Repeated.{Misses, times_same, times_all, same_first, same_others}
 use Rattle.uart_16550.proofs.determined.Transmit.{burst_same, refusal_same, refusals, unsent_same}
 use Rattle.uart_16550.proofs.determined.Receive.{stalled}

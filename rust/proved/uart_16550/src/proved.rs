@@ -223,7 +223,7 @@ pub mod bursts {}
 ///
 /// # `SendsWhile`
 ///
-/// `send_bytes_while`, with the answers of the caller: all bytes, burst by burst, each burst after its own wait; or those before the burst whose wait ended, as many as the error reports.
+/// `send_bytes_while`, with the answers of the caller: all bytes, burst by burst, each burst after its own wait; or those before the burst whose wait ended in vain, as many as the error reports.
 ///
 /// ```text
 /// abbrev pub SendsWhile : {T : Type 0} → List ℕ → List Bool → Result T StalledError → Language

@@ -47,7 +47,7 @@ impl<B: Backend> Uart16550<B> {
     /// # Proved
     ///
     /// - *made*: [`MadeWhile`](crate::proved::patience#MadeWhile): the caller was asked and gave some answers, from the first of its states to the second, and the call made a list of the language that goes with them, as `Made` says.
-    ///   - [`SendsWhile`](crate::proved::patience#SendsWhile): `send_bytes_while`, with the answers of the caller: all bytes, burst by burst, each burst after its own wait; or those before the burst whose wait ended, as many as the error reports.
+    ///   - [`SendsWhile`](crate::proved::patience#SendsWhile): `send_bytes_while`, with the answers of the caller: all bytes, burst by burst, each burst after its own wait; or those before the burst whose wait ended in vain, as many as the error reports.
     /// - *done*: if it returns `Err e`: `e.done < length bytes.now`.
     ///
     /// <details><summary>The clauses</summary>

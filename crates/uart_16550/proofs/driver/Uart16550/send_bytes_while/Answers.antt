@@ -1,4 +1,5 @@
-use Rattle.std.proofs.Common.{◌≡◌, ◌<◌, ◌≤◌, ◌+◌, ◌++◌, [], ◌∷◌, ℕ, Bool, true, List, subst, length, take, drop, arith, refl, length-drop, ◌∙◌, ap}
+use Rattle.std.proofs.Common.{◌≡◌, ◌<◌, ◌≤◌, ◌+◌, ◌++◌, [], ◌∷◌, ℕ, Bool, true, List, length, take, drop}
+use Rattle.std.proofs.Common.{arith, refl, length-drop, ◌∙◌, ap, subst}
 use Rattle.std.proofs.lemmas.List.{take_rest, drop-drop, map-append}
 use Rattle.std.specs.List.{FoldsTo}
 use Rattle.uart_16550.specs.Grammar.{Settings, Then, Times, Only}

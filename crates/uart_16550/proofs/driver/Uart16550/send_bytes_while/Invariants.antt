@@ -1,4 +1,4 @@
-use Rattle.std.proofs.Common.{◌≡◌, ◌-◌, ◌≤◌, List, length, drop}
+use Rattle.std.proofs.Common.{◌-◌, ◌≤◌, List, length, drop}
 use Rattle.std.specs.List.{FoldsTo}
 use Rattle.uart_16550.specs.Grammar.{InOrder}
 use Rattle.uart_16550.specs.Transmit.{IsCut}
