@@ -20,6 +20,7 @@ ALL_BITS = "bitflags::traits::Flags::all"
 OF_C = {
     f"{OF_CALLER}uart_spec::backend::Backend 0": ("uart_device_read", c.BYTE),
     f"{OF_CALLER}uart_spec::backend::Backend 1": ("uart_device_write", c.VOID),
+    f"{OF_CALLER}uart_16550::patience::Patience 0": ("uart_patience_keep_waiting", c.BOOL),
     f"{OF_CALLER}uart_ring::line::LinePorts 0": ("uart_line_ports_number", c.Number(64, c.SIZE)),
     f"{OF_CALLER}uart_ring::line::LinePorts 1": ("uart_line_ports_lower", c.BOOL),
     f"{OF_CALLER}uart_ring::line::LinePorts 2": ("uart_line_ports_raise", c.VOID),

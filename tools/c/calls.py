@@ -313,6 +313,8 @@ VALUES = [
     Value("uint64_t limit", "uart_if(limit == 0, U16550_ZERO_LIMIT)", "limit"),
     Value("const uint8_t *buffer", "uart_array(buffer, len, 1, 1)", "buffer"),
     Value("uint8_t *buffer", "uart_array(buffer, len, 1, 1)", "buffer"),
+    Value("uint8_t (*keep_waiting)(void *context), void *context", "uart_if(keep_waiting == NULL, U16550_NULL_POINTER)", "&patience",
+        "struct uart_patience patience = { keep_waiting, context }"),
     Value("struct u16550_received *received, size_t len", "uart_array(received, len, sizeof(struct u16550_received), 1)", "received, len"),
 ]
 
@@ -520,6 +522,13 @@ Receive or send all bytes, and wait for each. They return U16550_STALLED after a
 spin limit. *done is how many bytes were done, also after a stall. done may be null.""", [
             Call("receive_bytes_exact", "struct u16550 *uart, uint8_t *buffer, size_t len, size_t *done", stalls="done"),
             Call("send_bytes_exact", "struct u16550 *uart, const uint8_t *buffer, size_t len, size_t *done", stalls="done"),
+        ]),
+        Group("""
+The same as u16550_send_bytes_exact, and waits no longer than keep_waiting wants: it gets the context after each unsuccessful
+poll, and the wait ends if it returns 0. So a wait can end at a time, by whatever clock there is. The spin limit ends it too.
+keep_waiting must not be null, and a call over this driver from it returns U16550_BUSY.""", [
+            Call("send_bytes_while", "struct u16550 *uart, const uint8_t *buffer, size_t len, uint8_t (*keep_waiting)(void *context), "
+                "void *context, size_t *done", stalls="done"),
         ]),
         Group("""
 As the traits of embedded-io: some bytes, and a wait for the first. They return U16550_STALLED as the last two.""", [

@@ -61,7 +61,8 @@ def declared(call, convention):
     """The declaration of a function."""
     result = f"{getattr(call, 'returns', 'int')} "
     first = f"{result.replace('* ', '*')}{convention}u16550_{call.name}("
-    whole = f"{first}{call.takes});"
+    takes = call.takes.replace("(*", f"({convention}*")
+    whole = f"{first}{takes});"
     if len(whole) <= WIDTH:
         return whole
     cut = whole.rindex(", ", 0, WIDTH)

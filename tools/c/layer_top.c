@@ -18,6 +18,17 @@ struct uart_memory {
     size_t len;
 };
 
+/* Whoever is asked whether to keep waiting. */
+struct uart_patience {
+    uint8_t (*keep_waiting)(void *context);
+    void *context;
+};
+
+static inline bool uart_patience_keep_waiting(struct uart_patience *patience)
+{
+    return patience->keep_waiting(patience->context) != 0;
+}
+
 /* The ports of a line: see u16550_line_handle. */
 struct uart_line_ports {
     struct u16550_line_port *ports;

@@ -8,13 +8,14 @@ from body import NATIVE, OF_C, Body, Pair
 from names import snake
 from representation import NO_DEVICE, Representation, comment_of, safe
 from translate import Unknown, head
-from tree import DEVICE, OF_CALLER, PORTS, Forest, SizeOf
+from tree import DEVICE, OF_CALLER, PATIENCE, PORTS, Forest, SizeOf
 
 # What C has for a type that has to have a trait.
 OF_TRAITS = {
     "uart_spec::backend::Backend": DEVICE,
     "uart_16550::backend::PortAccess": DEVICE,
     "uart_16550::backend::ByteAccess": DEVICE,
+    "uart_16550::patience::Patience": PATIENCE,
     "uart_ring::line::LinePorts": PORTS,
 }
 # The structs of C that are large, as are those that have one of them.
@@ -190,7 +191,7 @@ class Library:
             of = snake(path[-2])
         if path[0] in self.forest.own:
             return "_".join(one for one in ("uart", of, name) if one)
-        inner = [self.types.bare_name(one) for one in key[1] if one not in (DEVICE, PORTS) and one[0] != "Num"]
+        inner = [self.types.bare_name(one) for one in key[1] if one not in (DEVICE, PATIENCE, PORTS) and one[0] != "Num"]
         return re.sub(r"\W", "_", "_".join(["uart", of or path[-2], name, *inner]))
 
     def name_of_type(self, crate, name):

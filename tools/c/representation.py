@@ -5,11 +5,11 @@ import textwrap
 from names import snake
 from syntax import BOOL, BYTE, SIZE, VOID, Named, Number, Pointer, Width, declared
 from translate import Unknown, head
-from tree import DEVICE, MEMORY, PORTS
+from tree import DEVICE, MEMORY, PATIENCE, PORTS
 
 RESERVED = set("char int short long switch default case break register if else for while do return signed unsigned float double const static "
                "auto union struct enum void bool true false class new delete this private public template typename".split())
-OF_CALLER_TYPES = {DEVICE: "struct u16550_device", PORTS: "struct uart_line_ports", MEMORY: "struct uart_memory *"}
+OF_CALLER_TYPES = {DEVICE: "struct u16550_device", PATIENCE: "struct uart_patience", PORTS: "struct uart_line_ports", MEMORY: "struct uart_memory *"}
 NO_DEVICE = "{ { NULL, NULL, NULL }, 0, 0 }"
 VECTOR = "std_alloc::vec::Vec"
 OPTION, RESULT = "core::option::Option", "core::result::Result"

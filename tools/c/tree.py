@@ -11,6 +11,7 @@ SMALL = 14
 TINY = 3
 # What C has in the place of a parameter: the device of a driver, and the ports of a line.
 DEVICE = ("Named", "Device", ())
+PATIENCE = ("Named", "Patience", ())
 PORTS = ("Named", "Ports", ())
 # Where the cells of the rings come from: memory of the caller.
 MEMORY = ("Named", "std_heap::Global", ())
@@ -516,7 +517,7 @@ class Forest(Translation):
     def __init__(self, program, natives, own):
         super().__init__(program, {}, own)
         self.trees, self.is_native = {}, natives
-        for _, name, _ in (DEVICE, PORTS):
+        for _, name, _ in (DEVICE, PATIENCE, PORTS):
             program.types[name] = {"name": name, "shape": {"Fields": []}}
 
     def type(self, node, types):

@@ -82,7 +82,7 @@ TRAITS = {
 # The traits that a type of an emitted crate has by hand: none of them is dropped, followed to another type, or compared with one.
 IMPLEMENTED = """
 Backend BitAnd BitAndAssign BitOr BitOrAssign BitXor BitXorAssign Clone Copy Eq Error Extend FromIterator IntoIterator Not PartialEq Sub
-SubAssign Binary Debug LowerHex Octal UpperHex ErrorType Read Write ReadReady WriteReady BufRead
+SubAssign Binary Debug LowerHex Octal UpperHex ErrorType Read Write ReadReady WriteReady BufRead Patience
 """.split()
 # Methods of the traits of `core` that code calls by name or by a sign. Rust takes a function of the type before them.
 OF_CORE = """

@@ -177,6 +177,7 @@ EXAMPLES = {
         + ["# enum PortError { NotSent { sent: usize } }", f"# fn example({UART}, question: &[u8]) -> Result<(), PortError> {{"],
         ["# Ok(()) }"],
     ),
+    "uart_16550::driver::patient::Uart16550::send_bytes_while": compiles(UART + ", mut deadline: impl Patience"),
     "uart_16550::driver::Uart16550": compiles(UART),
     "uart_16550::driver::Uart16550::new_with_backend": compiles(
         "",

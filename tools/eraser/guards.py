@@ -63,6 +63,7 @@ PROMISES = {
     "uart_16550::backend::PortAccess::port_out": ["ensures { step self.old (Write port value) self.new }"],
     "uart_16550::backend::ByteAccess::load": ["ensures { step self.old (Read address result) self.new }"],
     "uart_16550::backend::ByteAccess::store": ["ensures { step self.old (Write address value) self.new }"],
+    "uart_16550::patience::Patience::keep_waiting": ["ensures { answers self.old result self.new }"],
     "uart_16550::embedded_io::Read::read": [
         "ensures reads { reads self.old (length buf.old) (got result buf.new) result self.new }",
         "ensures count { IfOk result (λ count. count ≤ length buf.old) }",

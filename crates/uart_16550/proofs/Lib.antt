@@ -2,6 +2,7 @@ pub mod Paths
 pub mod Languages
 pub mod Singly
 pub mod Making
+pub mod Waiting
 pub mod Doings
 pub mod Statuses
 pub mod Inits

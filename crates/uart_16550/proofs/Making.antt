@@ -46,7 +46,7 @@ made_then {step} {M} {a} {b} {c} p q = record {
 }
 
 -- a call whose list is of another language too
-made_fits : {B : Type 0} {step : B → Access → B → Type 0} {L M : Language} {a b : Uart16550 B} (p : Made step L a b) →
+pub made_fits : {B : Type 0} {step : B → Access → B → Type 0} {L M : Language} {a b : Uart16550 B} (p : Made step L a b) →
     M (settings a) p.list → Made step M a b
 made_fits p fits =
     record { list = p.list; path = p.path; lsr = p.lsr; msr = p.msr; config = p.config; fifo = p.fifo; limit = p.limit; fits = fits }

@@ -13,5 +13,6 @@ pub mod Configured
 pub mod Io
 pub mod Loopback
 pub mod Tty
+pub mod Waiting
 pub mod Backends
 pub mod Calls

@@ -1,5 +1,6 @@
 -- What the reads of a call determine.
-use Rattle.std.specs.Prelude.{◌≡◌, ◌≤◌, ℕ, List, [], ◌∷◌, ◌++◌, ◌⊎◌, Result, IfOk, IfErr, OnErr, length, take, drop}
+use Rattle.std.specs.Prelude.{◌≡◌, ◌≤◌, ℕ, Bool, List, [], ◌∷◌, ◌++◌, ◌⊎◌, Result, IfOk, IfErr, OnErr}
+use Rattle.std.specs.Prelude.{length, take, drop}
 use Rattle.uart_spec.specs.declared.errors.StalledError.{StalledError}
 use Rattle.uart_spec.specs.declared.access.Access.{Access}
 use Rattle.uart_spec.specs.declared.access.Access.TheVariants.{Read, Write}
@@ -7,6 +8,7 @@ use Rattle.uart_16550.specs.Grammar.{Language}
 use Rattle.uart_16550.specs.Driver.{Did, Doing, Fields, Made, backend_of, fields}
 use Rattle.uart_16550.specs.Receive.{Receives, ReceivesWithErrors, ReceivesExact, filled}
 use Rattle.uart_spec.specs.declared.received.Received.{Received}
+use Rattle.uart_16550.specs.Patience.{SendsWhile}
 use Rattle.uart_16550.specs.Io.{Reads, got}
 use Rattle.uart_16550.specs.declared.driver.Uart16550.{Uart16550}
 
@@ -105,6 +107,11 @@ abbrev pub ReceivesExactInto : {T : Type 0} → (old new : List ℕ) → Result 
 ReceivesExactInto old new result s l =
     (length new ≡ length old) × IfErr result (λ e. drop e.done new ≡ drop e.done old)
     × ReceivesExact (length old) (filled result new) result s l
+
+-- what `send_bytes_while` does if its caller, asked again and again, would give these answers
+abbrev pub SendsAsAnswered : {T : Type 0} → List ℕ → (answers : List Bool) → Result T StalledError → Language
+SendsAsAnswered bytes answers result s l =
+    (said : List Bool) × (later : List Bool) × (answers ≡ said ++ later) × SendsWhile bytes said result s l
 
 -- what `read` does to its slots, with its result
 abbrev pub ReadsInto : (old new : List ℕ) → Result ℕ StalledError → Language

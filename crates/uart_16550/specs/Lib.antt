@@ -2,6 +2,7 @@ pub mod Grammar
 pub mod Receive
 pub mod Transmit
 pub mod Bursts
+pub mod Patience
 pub mod Driver
 pub mod State
 pub mod Status

@@ -15,6 +15,7 @@ mod configured;
 mod frame;
 mod init;
 mod loopback;
+mod patient;
 mod receive;
 mod setup;
 mod state;

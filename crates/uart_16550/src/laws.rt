@@ -10,6 +10,7 @@ ghost use Rattle.uart_16550.specs.DriverCalls.{ChangingCall, ChangingDoing};
 ghost use Rattle.uart_16550.specs.DriverCalls.{SavingCall, SavingLists};
 ghost use Rattle.uart_16550.specs.Frame.{ChangesOnly, ChangesOutput};
 ghost use Rattle.uart_16550.specs.Mmio.{Mapped};
+ghost use Rattle.uart_16550.specs.Patience.{IsExactIfEndless};
 ghost use Rattle.uart_16550.specs.Pio.{Ports};
 ghost use Rattle.uart_16550.specs.declared.driver.TheConstants.{DEFAULT_SPIN_LIMIT};
 ghost use Rattle.uart_spec.specs.declared.registers.line_control.TheConstants.LCR;
@@ -43,6 +44,13 @@ pub fn calls_have_one_outcome<B: Backend>()
         HasOneOutcomeSaving (SavingLists call) B.step }
     ensures changing { IsFunction B.step → (call : ChangingCall) →
         HasOneOutcome (ChangingDoing call) B.step }
+{}
+
+/// `send_bytes_while`, whose caller keeps waiting each time it is asked, does the same as
+/// `send_bytes_exact`.
+#[tactic(auto, using(crate::proofs::Waiting::endless_is_exact))]
+pub fn endless_patience_is_exact()
+    ensures { IsExactIfEndless }
 {}
 
 /// `set_rts`, `set_dtr` and `set_break` write their bit as asked, and the other bits of the

@@ -27,10 +27,12 @@ mod driver;
 pub mod embedded_io;
 pub mod laws;
 mod mmio;
+mod patience;
 mod pio;
 mod tty;
 
 pub use driver::{DEFAULT_SPIN_LIMIT, DriverState, Uart16550};
+pub use patience::Patience;
 pub use tty::Uart16550Tty;
 pub use uart_spec as spec;
 pub use uart_spec::{

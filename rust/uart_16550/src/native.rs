@@ -7,7 +7,7 @@
 pub use uart_driver::{
     BaudRate, ByteReceiveError, ByteSendError, Config, ConfigRegisterDump, DEFAULT_SPIN_LIMIT,
     DriverState, InitError, InvalidAddressError, InvalidDivisorError, LoopbackError,
-    NonIntegerBaudRateError, NonIntegerDivisorError, Received, RemoteReadyToReceiveError,
+    NonIntegerBaudRateError, NonIntegerDivisorError, Patience, Received, RemoteReadyToReceiveError,
     StalledError, Uart16550, Uart16550Tty, Uart16550TtyError, embedded_io,
 };
 pub use uart_spec::{

@@ -4,7 +4,7 @@ use crate::data::CReceived;
 use crate::memory::{Driver, Memory, bytes, slots, with};
 use crate::settings::{perform, report};
 use crate::status::{Failure, status};
-use core::ffi::{c_char, c_int};
+use core::ffi::{c_char, c_int, c_void};
 use core::mem;
 use uart_16550::native::embedded_io::{Read, ReadReady, Write, WriteReady};
 use uart_16550::native::{ByteReceiveError, StalledError, Uart16550, Uart16550Tty};
@@ -171,6 +171,25 @@ pub unsafe extern "C" fn u16550_send_bytes_exact(
     unsafe {
         exact(uart, Some(len), done, |driver| {
             Ok(driver.send_bytes_exact(bytes(buffer, len)?))
+        })
+    }
+}
+
+#[unsafe(no_mangle)]
+pub unsafe extern "C" fn u16550_send_bytes_while(
+    uart: *mut Memory,
+    buffer: *const u8,
+    len: usize,
+    keep_waiting: Option<unsafe extern "C" fn(*mut c_void) -> u8>,
+    context: *mut c_void,
+    done: *mut usize,
+) -> c_int {
+    // SAFETY: the caller promises that pointers are null or valid, and that the function takes the context.
+    unsafe {
+        exact(uart, Some(len), done, |driver| {
+            let bytes = bytes(buffer, len)?;
+            let keep_waiting = keep_waiting.ok_or(Failure::NullPointer)?;
+            Ok(driver.send_bytes_while(bytes, &mut || keep_waiting(context) != 0))
         })
     }
 }

@@ -601,6 +601,10 @@ static void setup(void)
     config.baud_rate = 110;
     accesses = d.accesses;
     MISUSE(u16550_set_frame_when_idle(&uart, &config), U16550_FRAME_NON_INTEGER_DIVISOR);
+    config.baud_rate = 0;
+    MISUSE(u16550_set_frame_when_idle(&uart, &config), U16550_NOT_COMPUTABLE);
+    unchecked.checks_presence = 0;
+    MISUSE(u16550_init_with(&uart, &config, &unchecked), U16550_NOT_COMPUTABLE);
     MISUSE(u16550_set_frame_when_idle(&uart, NULL), U16550_NULL_POINTER);
 
     ready();
@@ -857,6 +861,54 @@ static void exact(void)
     d.room = 16;
     IS(u16550_send_bytes_exact(&uart, (const uint8_t *)"0123456789abcdefghij", 20, &done), U16550_STALLED);
     IS(done, 16);
+}
+
+/* A clock that goes on by one each time it is looked at, and a time at which a wait ends. */
+struct deadline {
+    unsigned now, end;
+    int inside;
+};
+
+static uint8_t U16550_CALL is_before(void *context)
+{
+    struct deadline *deadline = (struct deadline *)context;
+    deadline->inside = u16550_flush(&uart);
+    return ++deadline->now < deadline->end ? 0xff : 0;
+}
+
+static void waits_in_time(void)
+{
+    static const uint8_t text[] = "0123456789abcdefghij";
+    struct deadline deadline = { 0, 2, 0 };
+    size_t done = 99;
+    ready();
+    OK(u16550_send_bytes_while(&uart, text, 20, is_before, &deadline, &done));
+    IS(done, 20);
+    BYTES(d.sent, "0123456789abcdefghij");
+    OK(u16550_send_bytes_while(&uart, NULL, 0, is_before, &deadline, &done));
+    IS(done, 0);
+    OK(u16550_send_bytes_while(&uart, text, 1, is_before, &deadline, NULL));
+    IS(deadline.now, 0);
+    /* The second poll is the last, and the spin limit is three. */
+    d.is_stuck = 1;
+    accesses = d.accesses;
+    IS(u16550_send_bytes_while(&uart, text, 20, is_before, &deadline, &done), U16550_STALLED);
+    IS(done, 0);
+    IS(deadline.now, 2);
+    IS(deadline.inside, U16550_BUSY);
+    IS(d.accesses, accesses + 2);
+    deadline.now = 0;
+    deadline.end = 1000;
+    IS(u16550_send_bytes_while(&uart, text, 20, is_before, &deadline, &done), U16550_STALLED);
+    IS(deadline.now, 3);
+    IS(d.accesses, accesses + 5);
+    d.is_stuck = 0;
+    d.room = 16;
+    deadline.end = 0;
+    IS(u16550_send_bytes_while(&uart, text, 20, is_before, &deadline, &done), U16550_STALLED);
+    IS(done, 16);
+    accesses = d.accesses;
+    MISUSE(u16550_send_bytes_while(&uart, text, 20, NULL, &deadline, &done), U16550_NULL_POINTER);
 }
 
 static void io_traits(void)
@@ -1458,6 +1510,7 @@ static void refused(struct u16550 *u, int wanted)
     MISUSE(u16550_send_burst(u, &byte, 1, 16, &count), wanted);
     MISUSE(u16550_receive_bytes_exact(u, &byte, 1, &count), wanted);
     MISUSE(u16550_send_bytes_exact(u, &byte, 1, &count), wanted);
+    MISUSE(u16550_send_bytes_while(u, &byte, 1, is_before, NULL, &count), wanted);
     MISUSE(u16550_read(u, &byte, 1, &count), wanted);
     MISUSE(u16550_write(u, &byte, 1, &count), wanted);
     MISUSE(u16550_flush(u), wanted);
@@ -1565,6 +1618,8 @@ static void nulls(void)
     MISUSE(u16550_send_burst(&uart, &byte, 1, 16, NULL), null);
     MISUSE(u16550_receive_bytes_exact(&uart, NULL, 1, &count), null);
     MISUSE(u16550_send_bytes_exact(&uart, NULL, 1, &count), null);
+    MISUSE(u16550_send_bytes_while(&uart, NULL, 1, is_before, NULL, &count), null);
+    MISUSE(u16550_send_bytes_while(&uart, &byte, 1, NULL, NULL, &count), null);
     MISUSE(u16550_read(&uart, NULL, 1, &count), null);
     MISUSE(u16550_read(&uart, &byte, 1, NULL), null);
     MISUSE(u16550_write(&uart, NULL, 1, &count), null);
@@ -1845,6 +1900,7 @@ int main(void)
     bursts();
     with_errors();
     exact();
+    waits_in_time();
     io_traits();
     text();
     registers();

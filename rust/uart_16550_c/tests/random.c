@@ -9,7 +9,7 @@
 
 #include "u16550.h"
 
-enum { CALLS = 40000, NESTED_IN = 16, ROOM = 64, LAST = 93 };
+enum { CALLS = 40000, NESTED_IN = 16, ROOM = 64, LAST = 94 };
 
 void u16550_panic(void)
 {
@@ -109,6 +109,13 @@ static int new_rings(struct u16550 *u)
     if (rings == NULL)
         abort();
     return u16550_ring_new(u, rings, rings_size, tx, rx);
+}
+
+/* A caller who keeps waiting so many times. */
+static uint8_t U16550_CALL keep_waiting(void *context)
+{
+    uint32_t *left = (uint32_t *)context;
+    return *left > 0 && (*left)--;
 }
 
 /* Makes one call over a driver. */
@@ -222,6 +229,10 @@ static int make(struct u16550 *u, unsigned which, struct room *r)
     case 90: return u16550_emergency(u);
     case 91: return u16550_new_design_ware(u, &chip, &device, below(20));
     case 92: return u16550_design_ware_fault(u, &chip);
+    case 93: {
+        uint32_t left = below(20);
+        return u16550_send_bytes_while(u, r->bytes, len, keep_waiting, &left, &r->count);
+    }
     default: return u16550_ring_take_modem(u, &r->value);
     }
 }

@@ -131,6 +131,11 @@ static int __attribute__((noinline)) nothing(void)
     return 0;
 }
 
+static uint8_t U16550_CALL keep_waiting(void *context)
+{
+    return context == NULL;
+}
+
 /* Everything as it is before each call: a driver with rings and queued bytes, or one without; bytes that arrived. */
 static void ready(int has_rings)
 {
@@ -209,6 +214,7 @@ static void call_nothing(void)
     PLAIN(u16550_receive_with_errors, &uart, many, 32, &len)                                          \
     PLAIN(u16550_receive_bytes_exact, &uart, bytes, sizeof bytes, &len)                               \
     PLAIN(u16550_send_bytes_exact, &uart, bytes, sizeof bytes, &len)                                  \
+    PLAIN(u16550_send_bytes_while, &uart, bytes, sizeof bytes, keep_waiting, NULL, &len)              \
     PLAIN(u16550_read, &uart, bytes, sizeof bytes, &len)                                              \
     PLAIN(u16550_write, &uart, bytes, sizeof bytes, &len)                                             \
     PLAIN(u16550_flush, &uart)                                                                        \

@@ -523,11 +523,22 @@ static size_t fill_text(void)
     return len;
 }
 
+/* A caller who keeps waiting so many times, and counts them down. */
+static uint8_t U16550_CALL keep_waiting(void *context)
+{
+    uint32_t *left = (uint32_t *)context;
+    if (*left == 0)
+        return 0;
+    (*left)--;
+    return (uint8_t)(1 + below(255));
+}
+
 static void call_bytes(struct u16550 *u, uint32_t which)
 {
     static const size_t lengths[3] = { 0, SIZE_MAX, SIZE_MAX / 2 + 1 };
     struct u16550_received received[40];
     size_t count = 77, len = some_len();
+    uint32_t left;
     uint8_t value = 0, other = 0;
     if (which < 15)
         fill(len);
@@ -569,8 +580,12 @@ static void call_bytes(struct u16550 *u, uint32_t which)
         told(u16550_receive_bytes_exact(u, bytes, len, below(4) ? &count : NULL));
         break;
     case 10:
-    case 11:
         told(u16550_send_bytes_exact(u, bytes, len, below(4) ? &count : NULL));
+        break;
+    case 11:
+        left = below(10);
+        told(u16550_send_bytes_while(u, bytes, len, below(20) ? keep_waiting : NULL, &left, below(4) ? &count : NULL));
+        note(left);
         break;
     case 12:
         told(u16550_read(u, bytes, len, OUT(&count)));

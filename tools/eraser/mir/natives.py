@@ -32,6 +32,10 @@ def access(bits, kind):
     return [read, write]
 
 
+def keep_waiting(translation, types):
+    return ["P"], "bool", "crate::run::keep_waiting()"
+
+
 def write_str(translation, types):
     text = translation.rust(("Struct", "&[]", (("Ref", ("Int", 8)), ("Int", 64))))
     result, done = ok(translation, "Unit", ERROR, "()")
@@ -80,6 +84,7 @@ TRAITS = {
     "uart_spec::backend::Backend": access(8, "REGISTERS"),
     "uart_16550::backend::PortAccess": access(16, "PORTS"),
     "uart_16550::backend::ByteAccess": access(64, "MEMORY"),
+    "uart_16550::patience::Patience": [keep_waiting],
     "core::fmt::Write": [write_str],
     "core::clone::Clone": [clone],
     "core::cmp::PartialEq": [equal],

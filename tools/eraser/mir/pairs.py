@@ -109,7 +109,8 @@ class Pairs:
     def over_device(self, function, text):
         """A type of a signature, with the device for each parameter that is a way to reach one."""
         text = without_lifetimes(text)
-        for name in re.findall(r"(\w+)\s*:\s*[\w:]*(?:Backend|PortAccess|ByteAccess)\b", function.generics):
+        of_device = "|".join(trait.split("::")[-1] for trait in natives.TRAITS if trait.startswith("uart_"))
+        for name in re.findall(rf"(\w+)\s*:\s*[\w:]*(?:{of_device})\b", function.generics):
             text = re.sub(rf"\b{name}\b", DEVICE, text)
         return text
 

@@ -99,7 +99,7 @@ pub refusal_hit : (s : Settings) → Determined ⊥ (SendMiss s) (SendHit s)
 refusal_hit s = record { at = λ l m p q. (determined_sym (hit_refused s p.0)).at l m p.1 q }
 
 -- one burst
-burst_same : (s : Settings) (xs : List ℕ) → Determined (Unit {0}) (Burst xs s) (Burst xs s)
+pub burst_same : (s : Settings) (xs : List ℕ) → Determined (Unit {0}) (Burst xs s) (Burst xs s)
 burst_same s xs = determined_then (hit_same s) (λ x. determined_only refl)
 
 refusal_burst : (s : Settings) (xs : List ℕ) → Determined ⊥ (SendMiss s) (Burst xs s)
@@ -149,7 +149,7 @@ try_send_determined s byte (Ok x) (Err RemoteNotClearToSend) = record { at = λ 
 try_send_determined s byte (Err NoCapacity) (Err RemoteNotClearToSend) = record { at = λ l m p q. absurd q }
 
 -- a wait for one burst
-refusals : (s : Settings) (xs : List ℕ) → Misses s SendMiss (Burst xs)
+pub refusals : (s : Settings) (xs : List ℕ) → Misses s SendMiss (Burst xs)
 refusals s xs = record { same = refusal_same s; apart = refusal_burst s xs }
 
 pub round_same : (s : Settings) (xs : List ℕ) → Determined (Unit {0}) (Round xs s) (Round xs s)

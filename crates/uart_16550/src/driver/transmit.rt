@@ -81,7 +81,7 @@ impl<B: Backend> Uart16550<B> {
     // could be lost, and nothing would tell.
     //
     // A whole burst is apart, since its length is known to the compiler: it then counts no bytes.
-    fn write_burst(&mut self, bytes: &[u8]) -> usize
+    pub(super) fn write_burst(&mut self, bytes: &[u8]) -> usize
         requires { 0 < length bytes.now }
         ensures made { Made B.step (Only (data_writes (take result bytes.now))) self.old self.new }
         ensures size { result ≡ burst_size (settings self.old) bytes.now }

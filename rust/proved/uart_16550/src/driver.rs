@@ -5,6 +5,7 @@ mod configured;
 mod frame;
 mod init;
 mod loopback;
+mod patient;
 mod receive;
 mod setup;
 mod state;

@@ -215,6 +215,48 @@ pub mod transmit {}
 #[doc(alias("SendsBurst"))]
 pub mod bursts {}
 
+/// Waits that ask their caller, after each check that fails, whether to keep waiting.
+///
+/// From `crates/uart_16550/specs/Patience.antt`.
+///
+/// <span id="SendsWhile"></span>
+///
+/// # `SendsWhile`
+///
+/// `send_bytes_while`, with the answers of the caller: all bytes, burst by burst, each burst after its own wait; or those before the burst whose wait ended in vain, as many as the error reports.
+///
+/// ```text
+/// abbrev pub SendsWhile : {T : Type 0} → List ℕ → List Bool → Result T StalledError → Language
+/// SendsWhile bytes said (Ok x) s l =
+///     (rounds : List Awaited) × IsCut s bytes (bursts_of rounds) [] × (said ≡ keeps_waiting (misses_of rounds))
+///     × InOrder RoundAfter rounds s l
+/// SendsWhile bytes said (Err e) s l =
+///     (rounds : List Awaited) × (last : List Bool) × (rest : List ℕ) × IsCut s bytes (bursts_of rounds) rest
+///     × (0 < length rest) × (e.done + length rest ≡ length bytes)
+///     × (said ≡ keeps_waiting (misses_of rounds) ++ last)
+///     × Then (InOrder RoundAfter rounds) (WaitsWhile last false) s l
+/// ```
+///
+/// It uses `Language`, `InOrder`, `Then` of `crates/uart_16550/specs/Grammar.antt`; `Awaited`, `bursts_of`, `keeps_waiting`, `misses_of`, `RoundAfter`, `WaitsWhile` of this file; `IsCut` of `crates/uart_16550/specs/Transmit.antt`.
+///
+/// <span id="MadeWhile"></span>
+///
+/// # `MadeWhile`
+///
+/// The caller was asked and gave some answers, from the first of its states to the second, and the call made a list of the language that goes with them, as `Made` says.
+///
+/// ```text
+/// pub record MadeWhile {P B : Type 0} (answers : P → Bool → P → Type 0) (step : B → Access → B → Type 0)
+///     (L : List Bool → Language) (before after : P) (old new : Uart16550 B) : Type 0 where
+///   pub said : List Bool
+///   pub asked : FoldsTo answers before said after
+///   pub made : Made step (L said) old new
+/// ```
+///
+/// It uses [`Made`](crate::proved::driver#Made); `Language` of `crates/uart_16550/specs/Grammar.antt`.
+#[doc(alias("SendsWhile", "MadeWhile"))]
+pub mod patience {}
+
 /// The driver's fields, and what a call does to them and to the backend.
 ///
 /// From `crates/uart_16550/specs/Driver.antt`.

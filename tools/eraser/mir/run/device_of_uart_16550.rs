@@ -16,3 +16,9 @@ impl crate::proved::uart_16550::backend::ByteAccess for Device {
         write(address as u64, value, MEMORY);
     }
 }
+
+impl crate::proved::uart_16550::Patience for Device {
+    fn keep_waiting(&mut self) -> bool {
+        keep_waiting()
+    }
+}

@@ -421,6 +421,7 @@ pub const REGISTERS: u64 = 1;
 pub const PORTS: u64 = 2;
 pub const MEMORY: u64 = 3;
 const WRITES: u64 = 4;
+const PATIENCE: u64 = 8;
 const MOST_ACCESSES: usize = 4000;
 
 struct Case {
@@ -477,6 +478,11 @@ pub fn read(offset: u64, kind: u64) -> u8 {
         Some(value)
     });
     answer.unwrap_or_else(|| resume_unwind(Box::new(NoAnswer)))
+}
+
+/// Returns whether a caller who is asked keeps waiting: half of the time, if the device is at random.
+pub fn keep_waiting() -> bool {
+    read(6, PATIENCE) & 0x20 != 0
 }
 
 pub fn write(offset: u64, value: u8, kind: u64) {

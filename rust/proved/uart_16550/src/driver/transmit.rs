@@ -82,7 +82,7 @@ impl<B: Backend> Uart16550<B> {
     // could be lost, and nothing would tell.
     //
     // A whole burst is apart, since its length is known to the compiler: it then counts no bytes.
-    fn write_burst(&mut self, bytes: &[u8]) -> usize {
+    pub(super) fn write_burst(&mut self, bytes: &[u8]) -> usize {
         if !self.fifo_enabled {
             self.write_byte(bytes[0]);
             return 1;

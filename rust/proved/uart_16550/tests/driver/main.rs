@@ -16,6 +16,7 @@ mod init;
 mod lists;
 mod looks;
 mod loopback;
+mod patient;
 mod setup;
 mod states;
 mod terminal;

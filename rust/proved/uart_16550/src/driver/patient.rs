@@ -1,0 +1,77 @@
+//! Sending with waits that end when their caller says so.
+
+use super::Uart16550;
+use crate::backend::Backend;
+use crate::patience::Patience;
+use uart_spec::StalledError;
+
+impl<B: Backend> Uart16550<B> {
+    // Waits until bytes may be written, and asks after each check that fails whether to go on.
+    fn wait_to_send_while<P: Patience>(&mut self, patience: &mut P) -> bool {
+        // The limit bounds the wait even if the caller never has enough.
+        for _turn in 0..self.spin_limit.get() {
+            if let Ok(()) = self.ready_to_send() {
+                return true;
+            }
+            if !patience.keep_waiting() {
+                return false;
+            }
+        }
+        false
+    }
+
+    /// Sends all of the bytes as `send_bytes_exact` does, and waits no longer than the caller
+    /// wants: `patience` is asked after each check that fails.
+    ///
+    /// So a wait can end at a time, by whatever clock the caller has. It ends after `spin_limit`
+    /// unsuccessful checks in a row too: for a wait that the clock alone ends, set a limit that is
+    /// not reached before. No check follows the answer to wait no longer.
+    ///
+    /// # Errors
+    ///
+    /// `StalledError` if `patience` answered to wait no longer, or after `spin_limit` unsuccessful
+    /// checks in a row. The first `done` bytes were written to the chip, and the others were not:
+    /// a further call sends them.
+    ///
+    /// # Examples
+    ///
+    /// ```
+    /// # include!(concat!(env!("CARGO_MANIFEST_DIR"), "/examples.rs"));
+    /// # fn main() {}
+    /// # fn example(uart: &mut Uart16550<Device>, mut deadline: impl Patience) -> Outcome<()> {
+    /// // The patience ends at a time of a clock that this program has.
+    /// uart.send_bytes_while(b"hello", &mut deadline)?;
+    /// # Ok(()) }
+    /// ```
+    ///
+    /// # Proved
+    ///
+    /// - *made*: [`MadeWhile`](crate::proved::patience#MadeWhile): the caller was asked and gave some answers, from the first of its states to the second, and the call made a list of the language that goes with them, as `Made` says.
+    ///   - [`SendsWhile`](crate::proved::patience#SendsWhile): `send_bytes_while`, with the answers of the caller: all bytes, burst by burst, each burst after its own wait; or those before the burst whose wait ended in vain, as many as the error reports.
+    /// - *done*: if it returns `Err e`: `e.done < length bytes.now`.
+    ///
+    /// <details><summary>The clauses</summary>
+    ///
+    /// [How to read them](uart_spec::proved):
+    ///
+    /// ```text
+    /// ensures made { MadeWhile P.answers B.step (λ said. SendsWhile bytes.now said result) patience.old patience.new self.old self.new }
+    /// ensures done { IfErr result (λ e. e.done < length bytes.now) }
+    /// ```
+    ///
+    /// </details>
+    pub fn send_bytes_while<P: Patience>(
+        &mut self,
+        bytes: &[u8],
+        patience: &mut P,
+    ) -> Result<(), StalledError> {
+        let mut done = 0;
+        while done < bytes.len() {
+            if !self.wait_to_send_while(patience) {
+                return Err(StalledError { done });
+            }
+            done += self.write_burst(&bytes[done..]);
+        }
+        Ok(())
+    }
+}

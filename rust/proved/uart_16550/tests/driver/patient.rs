@@ -1,0 +1,103 @@
+//! The call whose waits end when its caller says so: each with its whole list of accesses, and with
+//! how often the caller was asked.
+
+use crate::devices::{Listed, RegisterFile, driver, impatient};
+use crate::lists::{Accesses, list};
+use proved_uart_16550::Patience;
+use uart_spec::registers::LSR;
+use uart_spec::{Config, StalledError};
+
+/// More than one burst of 16 bytes: that, and the rest.
+const LONG: &[u8] = b"hello, world! 123";
+
+const FIRST: &[u8] = b"hello, world! 12";
+
+const REST: &[u8] = b"3";
+
+/// A caller who keeps waiting so many times, and counts how often it is asked.
+struct Times {
+    left: usize,
+    asked: usize,
+}
+
+impl Patience for Times {
+    fn keep_waiting(&mut self) -> bool {
+        self.asked += 1;
+        let keeps = self.left > 0;
+        self.left = self.left.saturating_sub(1);
+        keeps
+    }
+}
+
+/// Makes a row: a new driver, with FIFOs that are taken to be on and a spin limit of 3, sends the bytes to a device whose reads return these
+/// answers. Its caller keeps waiting so many times. Returns how often it was asked.
+fn asked(
+    answers: &'static [u8],
+    bytes: &[u8],
+    left: usize,
+    done: Result<(), usize>,
+    accesses: &Accesses,
+) -> usize {
+    let mut uart = impatient(Listed(answers));
+    let mut caller = Times { left, asked: 0 };
+    let sent = uart.send_bytes_while(bytes, &mut caller);
+    assert_eq!(sent, done.map_err(|done| StalledError { done }));
+    assert_eq!(uart.backend().log.entries(), accesses.entries());
+    caller.asked
+}
+
+#[test]
+fn a_caller_is_asked_after_each_check_that_fails() {
+    assert_eq!(asked(&[], b"", 0, Ok(()), &list()), 0);
+    let at_once = list().burst(FIRST).burst(REST);
+    assert_eq!(asked(&[0x20, 0x20], LONG, 0, Ok(()), &at_once), 0);
+    let late = list().looks(2, 0x00).burst(FIRST).look(0x00).burst(REST);
+    let answers = &[0x00, 0x00, 0x20, 0x00, 0x20];
+    assert_eq!(asked(answers, LONG, 3, Ok(()), &late), 3);
+}
+
+#[test]
+fn no_check_follows_the_answer_to_wait_no_longer() {
+    assert_eq!(asked(&[], LONG, 0, Err(0), &list().look(0x00)), 1);
+    assert_eq!(asked(&[], LONG, 1, Err(0), &list().looks(2, 0x00)), 2);
+    // The answers count over all of the waits: here the second wait ends at its first check.
+    let second = list().look(0x00).burst(FIRST).look(0x00);
+    let answers = &[0x00, 0x20, 0x00, 0x20];
+    assert_eq!(asked(answers, LONG, 1, Err(16), &second), 2);
+}
+
+#[test]
+fn the_spin_limit_ends_a_wait_too() {
+    let limit = list().looks(3, 0x00);
+    assert_eq!(asked(&[], LONG, usize::MAX, Err(0), &limit), 3);
+    assert_eq!(asked(&[], LONG, 2, Err(0), &limit), 3);
+}
+
+#[test]
+fn without_a_fifo_each_byte_has_its_wait() {
+    // ISR shows no FIFO. The transmitter is empty, so `init` does not wait.
+    let mut uart = driver(RegisterFile::new(false));
+    uart.init(Config::DEFAULT).unwrap();
+    let before = uart.backend().log.count();
+    assert_eq!(uart.send_bytes_while(b"abc", &mut || false), Ok(()));
+    let one_by_one = b"abc"
+        .iter()
+        .fold(list(), |list, &byte| list.look(0x60).data(&[byte]));
+    assert_eq!(
+        &uart.backend().log.entries()[before..],
+        one_by_one.entries()
+    );
+}
+
+#[test]
+fn errors_that_the_checks_clear_are_saved() {
+    let mut uart = impatient(Listed(&[0x02, 0x20]));
+    let mut asked = 0;
+    let kept = &mut || {
+        asked += 1;
+        true
+    };
+    assert_eq!(uart.send_bytes_while(b"a", kept), Ok(()));
+    assert_eq!(asked, 1);
+    assert_eq!(uart.lsr(), LSR::OVERRUN_ERROR);
+}
