@@ -81,7 +81,7 @@ pub struct Uart16550Ring<B> {
 }
 
 // Returns whether a ring can have this capacity.
-fn is_capacity(capacity: usize) -> bool
+pub(crate) fn is_capacity(capacity: usize) -> bool
     ensures { IsTrue result ↔ IsCapacity capacity }
 {
     1 <= capacity && capacity <= MAX_CAPACITY

@@ -162,6 +162,40 @@ impl ByteQueue {
         count
     }
 
+    /// Appends a byte. If there is no room for it, the first one makes way.
+    ///
+    /// # Proved
+    ///
+    /// - `self` becomes [`with_latest`](crate::proved::queue#with_latest) `byte self.old`: the queue with one more at its end; if there is no room for it, the first one makes way.
+    ///
+    /// <details><summary>The clauses</summary>
+    ///
+    /// [How to read them](uart_spec::proved):
+    ///
+    /// ```text
+    /// ensures { self.new ≡ with_latest byte self.old }
+    /// ```
+    ///
+    /// </details>
+    #[inline]
+    pub fn push_last(&mut self, byte: u8) {
+        if self.is_full() && !self.is_empty() {
+            self.drop_front(1);
+        }
+        self.fill_from_slice(&[byte]);
+    }
+
+    /// Returns the byte at this place, from the front on.
+    #[inline]
+    pub(crate) fn byte_at(&self, place: usize) -> u8 {
+        let (first, second) = self.as_slices();
+        if place < first.len() {
+            first[place]
+        } else {
+            second[place - first.len()]
+        }
+    }
+
     /// Copies bytes from the front, as many as there are slots, and returns how many. Leaves the
     /// other slots unchanged.
     ///

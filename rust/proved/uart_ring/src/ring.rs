@@ -94,7 +94,7 @@ pub struct Uart16550Ring<B> {
 }
 
 // Returns whether a ring can have this capacity.
-fn is_capacity(capacity: usize) -> bool {
+pub(crate) fn is_capacity(capacity: usize) -> bool {
     1 <= capacity && capacity <= MAX_CAPACITY
 }
 
