@@ -231,7 +231,7 @@ EXAMPLES = {
     "uart_design_ware::state::DesignWare::fault": runs(*DESIGN_WARE),
     "uart_design_ware::state::DesignWare::registers_mut": runs(*DESIGN_WARE),
     "uart_ring::ring::receive::Uart16550Ring::take": compiles(RING + ", mut slots: [u8; 2]", items=["use facade::ring;"]),
-    "uart_ring::ring::receive::Uart16550Ring::take_with_errors": compiles(
+    "uart_ring::ring::noted::Uart16550Ring::take_with_errors": compiles(
         NOTING_RING + ", mut slots: [Received; 2], mut breaks: u32", items=["use facade::{native::Received, ring, spec::registers::LSR};"]
     ),
     "uart_ring::ring::receive::Uart16550Ring::adjust_rts": compiles(

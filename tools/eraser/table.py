@@ -283,7 +283,7 @@ GUARDS = {
         ["requires cell { cell ≤ cells }", "requires count { count ≤ cells }"], reason=IN_FILE
     ),
     "uart_ring::queue::copy": Guard(["requires { place ≤ length slots.old }"], reason=IN_FILE),
-    "uart_ring::ring::receive::copy_with_errors": Guard(
+    "uart_ring::ring::noted::copy_with_errors": Guard(
         ["requires { length bytes.now.items ≤ length noted.now.items }"], reason=IN_FILE
     ),
     "uart_ring::ring::transmit::Uart16550Ring::copy_sendable": Guard(["requires { 0 < length slots.old }"], reason=IN_FILE),

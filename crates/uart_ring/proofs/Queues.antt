@@ -268,8 +268,8 @@ appended N k n p c b a xs bytes bs between more new front_fits len_fits length_x
 -- ---- one more at the end, for which the first makes way
 
 -- so many made way for it, and it was put at the end if there is any room at all
-pub pushed : (items : List ℕ) (capacity away count byte : ℕ) → length items ≤ capacity → away ≡ min (length items) (length items + 1 - capacity) →
-    count ≡ min 1 (capacity - length (drop away items)) →
+pub pushed : (items : List ℕ) (capacity away count byte : ℕ) → length items ≤ capacity →
+    away ≡ min (length items) (length items + 1 - capacity) → count ≡ min 1 (capacity - length (drop away items)) →
     drop away items ++ take count (byte ∷ []) ≡ latest capacity (items ++ byte ∷ [])
 pushed [] zero away count byte fits is_away is_count =
     let none : away ≡ 0 = omega (arith, is_away) in

@@ -110,10 +110,22 @@ impl ByteQueue {
     pub fn push_last(&mut self, byte: u8)
         ensures { self.new ≡ with_latest byte self.old }
     {
-        if self.is_full() && !self.is_empty() {
-            self.drop_front(1);
-        }
+        let away = self.in_the_way();
+        self.drop_front(away);
         self.fill_from_slice(&[byte]);
+    }
+
+    // Returns how many bytes make way for one more: the first one, if there is no room.
+    #[inline]
+    fn in_the_way(&self) -> usize
+        ensures count { result ≡ min (length self.now.items)
+            (length self.now.items + 1 - self.now.capacity) }
+        ensures within { length self.now.items ≤ self.now.capacity }
+    {
+        if self.len() < self.capacity() {
+            return 0;
+        }
+        self.len().min(1)
     }
 
     /// Returns the byte at this place, from the front on.

@@ -6,6 +6,7 @@ ghost use Rattle.uart_ring.specs.contracts.ring.Uart16550Ring.{the_row};
 ghost use Rattle.uart_ring.specs.Ring.{IsCapacity, AreEmpty, driver_of, free, ring_fields};
 
 mod line;
+mod noted;
 mod receive;
 mod service;
 mod status;

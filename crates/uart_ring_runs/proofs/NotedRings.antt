@@ -37,7 +37,8 @@ use Rattle.uart_ring.specs.Queue.{Queue, latest, with_latest}
 use Rattle.uart_ring.specs.Receive.{MakesRtsIfAny, AdjustsRts, rts_at}
 use Rattle.uart_ring.specs.declared.ring.receive.ReceiveMarks.{ReceiveMarks}
 use Rattle.uart_ring.specs.Ring.{RingDoing, RingDid, RingFields, ring_backend_of, ring_fields, free, Stays}
-use Rattle.uart_ring.specs.Lossless.{data_written, data_read, LosesOnly, LosesNothing, with_accepted, overtaken_by, without_dropped, Implies}
+use Rattle.uart_ring.specs.Lossless.{data_written, data_read, LosesOnly, LosesNothing, with_accepted, overtaken_by, without_dropped}
+use Rattle.uart_ring.specs.Lossless.{Implies}
 use Rattle.uart_ring.specs.declared.notes.ErrorNotes.{ErrorNotes}
 use Rattle.uart_ring.proofs.Losses.{queues_lose_nothing, takes_lose_nothing, services_lose_nothing, resumes_lose_nothing, carried}
 use Rattle.uart_ring.proofs.Losses.{takes_line_loses_nothing, takes_modem_loses_nothing, handles_lose_nothing, retriggers_lose_nothing}
@@ -53,7 +54,8 @@ use Rattle.uart_ring_runs.specs.NotedErrors.{NotesGo}
 use Rattle.uart_ring_runs.specs.RingBytes.{to_take, gone_in}
 use Rattle.uart_ring_runs.specs.RingRun.{RingState, RingCalled, RingPerformed, under, ring_machine, IsOfRings}
 use Rattle.uart_ring_runs.specs.RingSession.{IsWithinRingSession}
-use Rattle.uart_ring_runs.proofs.NotedWalk.{shown_read, shown_access, shown_after, noted_by, noted_errors, IsPlain, ArePlain, AreIdle, IsIdle}
+use Rattle.uart_ring_runs.proofs.NotedWalk.{shown_read, shown_access, shown_after, noted_by, noted_errors, IsPlain, ArePlain, AreIdle}
+use Rattle.uart_ring_runs.proofs.NotedWalk.{IsIdle}
 use Rattle.uart_ring_runs.proofs.NotedWalk.{IsOn, Marked, marked_idle, marked_blocks, theirs_lengths, theirs-append, theirs-drop}
 use Rattle.uart_ring_runs.proofs.NotedWalk.{idle_reads}
 use Rattle.uart_ring_runs.proofs.RingBlocks.{MakesRingBlocks, MakesBlocks, in_blocks, AllLeaveLcr}
@@ -100,7 +102,8 @@ record Followed (k : ℕ) (n after : Notes) (shown : ℕ) (errors : List ℕ) : 
 follows : (k : ℕ) (l : List Access) (n : Notes) → ArePlain l → n.is_latch ≡ false → k ≤ n.noted.capacity →
     Followed k n (notes_after l n) (shown_after n.shown l) (noted_errors n.shown l)
 unfolding notes_after shown_after noted_errors
-follows k [] n p latch enough = record { latch = latch; shown = refl; capacity = refl; last = ap (latest k) (sym (append-nil n.noted.items)) }
+follows k [] n p latch enough =
+    record { latch = latch; shown = refl; capacity = refl; last = ap (latest k) (sym (append-nil n.noted.items)) }
 follows k (Write offset value ∷ l) n p latch enough =
     let same : with_write offset value n ≡ n = rw (p.0.0, p.0.1) refl in
     let F : Notes → Type 0 = λ m. Followed k n (notes_after l m) (shown_after n.shown l) (noted_errors n.shown l) in
@@ -174,7 +177,8 @@ holds_after x s t l gone held q a received rooms in_room h =
     let errors = noted_errors n.shown l in
     let f = follows (length there) l n a.plain h.latch (omega (arith, in_room, rooms, h.room)) in
     let new = a.theirs h.front in
-    let all = theirs-append here (errors_in s) held (data_read l) errors a.taken (noted_receiver s) (noted_receiver t) a.stays h.theirs new in
+    let all = theirs-append here (errors_in s) held (data_read l) errors a.taken (noted_receiver s) (noted_receiver t) a.stays h.theirs
+    new in
     let old_size = (theirs_lengths here (errors_in s) held (noted_receiver s) h.theirs).0 in
     let new_size = (theirs_lengths (data_read l) errors a.taken (noted_receiver t) new).0 in
     let noted_size = length-drop (length n.noted.items - length here) n.noted.items in
@@ -189,7 +193,8 @@ holds_after x s t l gone held q a received rooms in_room h =
     let bytes : there ≡ drop (length gone) (here ++ data_read l) =
     sym (drop_at gone there (length gone) refl) ∙ ap (drop (length gone)) received in
     record {
-      theirs = rw (bytes, last) (theirs-drop (length gone) (here ++ data_read l) (errors_in s ++ errors) (held ++ a.taken) (noted_receiver t) all);
+      theirs = rw (bytes, last)
+          (theirs-drop (length gone) (here ++ data_read l) (errors_in s ++ errors) (held ++ a.taken) (noted_receiver t) all);
       front = rw (ap (λ (m : Notes). m.shown) q.noted ∙ f.shown) (a.front h.front);
       latch = ap (λ (m : Notes). m.is_latch) q.noted ∙ f.latch;
       room = let same = ap (λ (m : Notes). m.noted.capacity) q.noted ∙ f.capacity in omega (arith, same, rooms, h.room);
@@ -270,8 +275,8 @@ goes_rts s t marks held w wired did in_room h =
     q.path in
     let y = with_mcr_of x (noted_machine t) in
     let R : List ℕ → Type 0 = λ rs. PassedBlocks y (noted_machine s) (noted_machine t) did.list (data_written did.list) rs in
-    let a = marked_idle y (notes_of (ring_backend_of s)).shown (noted_machine s) (noted_machine t) did.list (data_written did.list) w.on idle
-    (subst R (idle_reads did.list idle) came.passed) q.path in
+    let a = marked_idle y (notes_of (ring_backend_of s)).shown (noted_machine s) (noted_machine t) did.list (data_written did.list) w.on
+    idle (subst R (idle_reads did.list idle) came.passed) q.path in
     goes_marked y s t did.list (with_accepted []) [] 0 0 held (sym (modes_cut (under (without_notes s)))) q a
     (adjusts_lose_nothing marks (ring_fields s) did.list (ring_fields t) did.does) in_room h
 
@@ -281,12 +286,14 @@ goes_call : (s t : NotingState) (c : RingCall) (a : RingAnswer) (held : List Cha
     NotesHold s held → Goes (gone_in c a (to_take (without_notes s))) s t held
 goes_call s t (call.Queue bytes) a held w o i h room k =
     goes_did s t (with_accepted (take h.outcome bytes.items)) [] 0 0 held w h.did
-    (walk.queues MakesBlocks in_blocks bytes.items h.outcome _ _ _ h.did.does) (queues_lose_nothing bytes.items h.outcome _ _ _ h.did.does) room k
+    (walk.queues MakesBlocks in_blocks bytes.items h.outcome _ _ _ h.did.does)
+    (queues_lose_nothing bytes.items h.outcome _ _ _ h.did.does) room k
 goes_call s t call.ResumeTransmit a held w o i h room k =
     goes_did s t (with_accepted []) [] 0 0 held w h.did (walk.resumes MakesBlocks in_blocks _ _ _ h.did.does)
     (resumes_lose_nothing _ _ _ h.did.does) room k
 goes_call s t (call.Take slots) a held w o i h room k =
-    rw h.answered (goes_did s t (with_accepted []) h.outcome 0 0 held w h.did (walk.takes MakesBlocks in_blocks slots h.outcome _ _ _ h.did.does)
+    rw h.answered (goes_did s t (with_accepted []) h.outcome 0 0 held w h.did
+    (walk.takes MakesBlocks in_blocks slots h.outcome _ _ _ h.did.does)
     (takes_lose_nothing slots h.outcome _ _ _ h.did.does) room k)
 goes_call s t call.Service a held w o i h room k =
     goes_did s t (with_accepted []) [] 0 0 held w h.did (walk.services MakesBlocks in_blocks h.outcome _ _ _ h.did.does)
@@ -310,7 +317,8 @@ goes_call s t call.ReleaseTransmit a held w o i h room k =
     goes_did s t (with_accepted []) [] 0 0 held w h.did (walk.releases MakesBlocks in_blocks _ _ _ h.did.does)
     (releases_lose_nothing _ _ _ h.did.does) room k
 goes_call s t (call.QueueUrgent byte) a held w o i h room k =
-    goes_did s t (overtaken_by byte h.outcome) [] 0 0 held w h.did (walk.queues_urgent MakesBlocks in_blocks byte h.outcome _ _ _ h.did.does)
+    goes_did s t (overtaken_by byte h.outcome) [] 0 0 held w h.did
+    (walk.queues_urgent MakesBlocks in_blocks byte h.outcome _ _ _ h.did.does)
     (queues_urgent_loses_only byte h.outcome _ _ _ h.did.does) room k
 goes_call s t call.ClearTransmit a held w o i h room k =
     goes_did s t (without_dropped h.outcome) [] 0 0 held w h.did (walk.clears_transmit MakesBlocks in_blocks h.outcome _ _ _ h.did.does)
@@ -347,7 +355,8 @@ notes_go s t c a held sound ready on o i h room k =
 -- rings that hold nothing yet, over a receiver of which no look has shown the front
 pub notes_begin : (s : NotingState) → (ring_fields s).receive.items ≡ [] →
     (ring_fields s).receive.capacity ≤ (notes_of (ring_backend_of s)).noted.capacity → (notes_of (ring_backend_of s)).shown ≡ 0 →
-    (notes_of (ring_backend_of s)).is_latch ≡ false → reported_front (noted_receiver s) ≡ None → FlagTells (noted_receiver s) → NotesHold s []
+    (notes_of (ring_backend_of s)).is_latch ≡ false → reported_front (noted_receiver s) ≡ None → FlagTells (noted_receiver s) →
+    NotesHold s []
 notes_begin s empty room unshown latch fresh flag =
     let n = notes_of (ring_backend_of s) in
     let none : latest 0 n.noted.items ≡ [] = drop_all (length n.noted.items) n.noted.items (omega arith) in

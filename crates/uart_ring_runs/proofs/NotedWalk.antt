@@ -1,6 +1,8 @@
 -- What is noted of a list of accesses, over the machine with the FIFO on: the errors of the characters that it takes.
-use Rattle.std.proofs.Common.{◌≡◌, ◌≢◌, ◌⊎◌, ◌==◌, ◌<◌, ◌||◌, ◌&&◌, ℕ, Bool, true, false, inl, inr, nat_lt, List, [], ◌∷◌, ◌++◌, length, map, not}
-use Rattle.std.proofs.Common.{zero, suc, drop, append_assoc, append-nil, refl, sym, ◌∙◌, ap, subst, arith, bit_and, bit_or, Option, Some, None, if◌then◌else◌}
+use Rattle.std.proofs.Common.{◌≡◌, ◌≢◌, ◌⊎◌, ◌==◌, ◌<◌, ◌||◌, ◌&&◌, ℕ, Bool, true, false, inl, inr, nat_lt, List, [], ◌∷◌, ◌++◌, length}
+use Rattle.std.proofs.Common.{map, not}
+use Rattle.std.proofs.Common.{zero, suc, drop, append_assoc, append-nil, refl, sym, ◌∙◌, ap, subst, arith, bit_and, bit_or, Option, Some}
+use Rattle.std.proofs.Common.{None, if◌then◌else◌}
 use Rattle.std.specs.List.{AllByRecursion}
 use Rattle.std.proofs.lemmas.Bool.{false≢true}
 use Rattle.std.proofs.lemmas.Grind.{common_steps}
@@ -26,9 +28,11 @@ use Rattle.uart_chip.specs.Transmitter.{room}
 use Rattle.uart_chip.proofs.AccessMoves as moves
 use Rattle.uart_chip.proofs.AccessMoves.{ReadMove, read_move, WriteMove, write_move}
 use Rattle.uart_chip.proofs.Bits.{and_or, has_or, has_and, has_none}
-use Rattle.uart_chip.proofs.conservation.Blocks.{is_quiet, Block, Look, Hit, Burst, Other, Divisor, accesses_of, AllQuiet, IsFit, AllFit, flat}
+use Rattle.uart_chip.proofs.conservation.Blocks.{is_quiet, Block, Look, Hit, Burst, Other, Divisor, accesses_of, AllQuiet, IsFit, AllFit}
+use Rattle.uart_chip.proofs.conservation.Blocks.{flat}
 use Rattle.uart_chip.proofs.conservation.Blocks.{read_in, written_in}
-use Rattle.uart_chip.proofs.conservation.BlockLaws.{IsOpen, Stands, stands-after, path_as, path_split, passed-look, look_data, look_reported}
+use Rattle.uart_chip.proofs.conservation.BlockLaws.{IsOpen, Stands, stands-after, path_as, path_split, passed-look, look_data}
+use Rattle.uart_chip.proofs.conservation.BlockLaws.{look_reported}
 use Rattle.uart_chip.proofs.conservation.BlockLaws.{Took, took, PassedBlocks, passed_block}
 use Rattle.uart_chip.proofs.conservation.Passed.{Passed, passed-refl, passed-trans, passed-access}
 use Rattle.uart_chip.proofs.conservation.Went.{Modes, fixed, dlab-in, loopback-in}
@@ -181,9 +185,9 @@ record Same (c d : ChipState) : Type 0 where
 
 same_read : (offset : ℕ) (c d : ChipState) → (offset == offsets.DATA) ≡ false → (offset == offsets.LSR) ≡ false → ReadMove offset c d →
     Same c d
-same_read offset c d data line (moves.takes e q) = absurd (false≢true (sym data ∙ ap (λ (v : ℕ). v == offsets.DATA) e))
-same_read offset c d data line (moves.looks e) = absurd (false≢true (sym line ∙ ap (λ (v : ℕ). v == offsets.LSR) e))
-same_read offset c d data line _ = record { receiver = refl; fifo = refl; dlab = refl; loopback = λ e. e }
+same_read offset c d elsewhere line (moves.takes e q) = absurd (false≢true (sym elsewhere ∙ ap (λ (v : ℕ). v == offsets.DATA) e))
+same_read offset c d elsewhere line (moves.looks e) = absurd (false≢true (sym line ∙ ap (λ (v : ℕ). v == offsets.LSR) e))
+same_read offset c d elsewhere line _ = record { receiver = refl; fifo = refl; dlab = refl; loopback = λ e. e }
 
 not_control : (offset : ℕ) → (offset == offsets.FCR) ≡ false → offset ≢ offsets.FCR
 not_control offset other e = false≢true (sym other ∙ ap (λ (v : ℕ). v == offsets.FCR) e)
@@ -214,7 +218,8 @@ lasts-trans shown m n o access l a b = record {
 -- the chip is changed so at an access
 lasts_same : (shown after : ℕ) (m : MachineState) (d : ChipState) (access : Access) → IsOn m → after ≡ shown_access access shown →
     shown ≡ shown_access access shown →
-    IsSound (record (at_access m) { chip = d }) → Same (at_access m).chip d → Lasts shown m (record (at_access m) { chip = d }) (access ∷ [])
+    IsSound (record (at_access m) { chip = d }) → Same (at_access m).chip d →
+    Lasts shown m (record (at_access m) { chip = d }) (access ∷ [])
 lasts_same shown after m d access w is still sound same =
     let a = on_access m w in
     record {
@@ -272,7 +277,7 @@ shown_before_or_now : (shown line : ℕ) → has_any (bit_or shown (bit_and line
     (has_any shown LSR.OVERRUN_ERROR.0 ≡ true) ⊎ (has_any line LSR.OVERRUN_ERROR.0 ≡ true)
 shown_before_or_now shown line e =
     let either = one_of _ _ (sym (has_or 1 shown (bit_and line LSR.LINE_ERRORS.0)) ∙ e) in
-    elim either [ | inl before ↦ inl before | inr now ↦ inr (sym (has_and 1 line LSR.LINE_ERRORS.0 refl) ∙ now) ]
+    elim either [ inl before ↦ inl before | inr now ↦ inr (sym (has_and 1 line LSR.LINE_ERRORS.0 refl) ∙ now) ]
 
 look_lasts : (shown line : ℕ) (m n : MachineState) → IsOn m → MachineStep m (Read offsets.LSR line) n →
     Lasts shown m n (Read offsets.LSR line ∷ [])
@@ -303,7 +308,7 @@ look_lasts shown line m n w s =
 
 read_lasts : (shown offset value : ℕ) (m n : MachineState) → IsOn m → (offset == offsets.DATA) ≡ false →
     MachineStep m (Read offset value) n → Lasts shown m n (Read offset value ∷ [])
-read_lasts shown offset value m n w data s = go (offset == offsets.LSR) refl
+read_lasts shown offset value m n w elsewhere s = go (offset == offsets.LSR) refl
   where
     go : (b : Bool) → (offset == offsets.LSR) ≡ b → Lasts shown m n (Read offset value ∷ [])
     go true e =
@@ -313,9 +318,9 @@ read_lasts shown offset value m n w data s = go (offset == offsets.LSR) refl
     go false e =
         let P : MachineState → Type 0 = λ k. Lasts shown m k (Read offset value ∷ []) in
         let a = on_access m w in
-        let still : shown ≡ shown_read offset value shown = rw (e, data) refl in
+        let still : shown ≡ shown_read offset value shown = rw (e, elsewhere) refl in
         subst P (sym s.0) (lasts_same shown _ m (after_read offset (at_access m).chip) (Read offset value) w refl still
-        (sound_read offset (at_access m) a.sound) (same_read offset _ _ data e (read_move offset (at_access m).chip)))
+        (sound_read offset (at_access m) a.sound) (same_read offset _ _ elsewhere e (read_move offset (at_access m).chip)))
 
 write_lasts : (shown offset value : ℕ) (m n : MachineState) → IsOn m → IsPlain (Write offset value) →
     MachineStep m (Write offset value) n → Lasts shown m n (Write offset value ∷ [])
@@ -469,7 +474,7 @@ marked_hit : (x : Modes) (shown : ℕ) (m n : MachineState) (line byte : ℕ) �
 marked_hit x shown m n line byte on o w v h (k, s, (z, t, e)) =
     let M : MachineState → Type 0 = λ q. Marked x shown m q (Read offsets.LSR line ∷ Read offsets.DATA byte ∷ []) in
     let look = passed-look x m k line o.loopback w s in
-    let data : nat_lt 0 (length k.chip.receiver.queue) ≡ true = sym (look_data m k line s) ∙ h in
+    let ready : nat_lt 0 (length k.chip.receiver.queue) ≡ true = sym (look_data m k line s) ∙ h in
     let some : 0 < length k.chip.receiver.queue = grind (arith, common_steps) in
     let stands = stands-after x m k _ _ _ look in
     let told : IsReported x.fifo k.chip.receiver = look_reported x.fifo m k line s some in
@@ -511,7 +516,8 @@ marked_hit x shown m n line byte on o w v h (k, s, (z, t, e)) =
     })
   where
     earlier : {front : Character} {z : MachineState} →
-        ((count : ℕ) (before : List Character) → Behind count before m.chip.receiver → Behind count (before ++ front ∷ []) z.chip.receiver) →
+        ((count : ℕ) (before : List Character) → Behind count before m.chip.receiver →
+        Behind count (before ++ front ∷ []) z.chip.receiver) →
         IsLost m.chip.receiver.queue m.chip.receiver.marks → IsLost (front ∷ z.chip.receiver.queue) z.chip.receiver.marks
     earlier stays (inl few) = inl (stays 15 [] few)
     earlier stays (inr all) = inr (stays 16 [] all)
@@ -555,9 +561,11 @@ writes_idle [] = tt
 writes_idle (byte ∷ bytes) = (((refl, refl, data_modem byte), tt), writes_idle bytes)
 
 burst_idle : (line : ℕ) (checks : List Access) (bytes : List ℕ) → AllQuiet checks → AreIdle (accesses_of (Burst line checks bytes))
-burst_idle line checks bytes q =
-    ((tt, refl), each-append (λ (access : Access). IsPlain access × IsIdle access) checks (map (Write offsets.DATA) bytes)
-    (quiets_idle checks q) (writes_idle bytes))
+burst_idle line checks bytes q = (
+  (tt, refl),
+  each-append (λ (access : Access). IsPlain access × IsIdle access) checks (map (Write offsets.DATA) bytes)
+      (quiets_idle checks q) (writes_idle bytes),
+)
 
 marked_block : (x : Modes) (shown : ℕ) (m n : MachineState) (block : Block) → x.fifo ≡ true → IsOpen x → Stands x m → IsOn m →
     IsFit x.fifo block → AllLeaveLcr (accesses_of block) → Path MachineStep m (accesses_of block) n →

@@ -64,17 +64,17 @@ abbrev pub errors_told : Option Character → ℕ
 errors_told None = 0
 errors_told (Some character) = character_errors character.errors
 
--- what looks have shown since the last byte was read is what they have shown of the character in front, and no more; and
--- if they have shown an overrun, or the flag for it is set, a character was lost right behind the 15th or the 16th that
--- waits
+-- what looks have shown since the last byte was read is what they have shown of the character in front, and no more;
+-- and if they have shown an overrun, or the flag for it is set, a character was lost right behind the 15th or the 16th
+-- that waits
 pub record IsOfFront (shown : ℕ) (r : ReceiverState) : Type 0 where
   pub errors : character_errors shown ≡ errors_told (reported_front r)
   pub overrun : has_any shown LSR.OVERRUN_ERROR.0 ≡ true → IsLost r.queue r.marks
   pub flag : FlagTells r
 
 -- these bytes with these errors are those of the characters, one by one: the byte, exactly its parity error, framing
--- error and break, and an overrun only if a character was lost right behind the 15th or the 16th from this one on, which
--- are those behind it here and then those in the receiver
+-- error and break, and an overrun only if a character was lost right behind the 15th or the 16th from this one on:
+-- these are those behind it here, and then those in the receiver
 abbrev pub AreTheirs : (bytes errors : List ℕ) → List Character → ReceiverState → Type 0
 AreTheirs [] [] [] r = Unit {0}
 AreTheirs (byte ∷ bytes) (noted ∷ errors) (character ∷ characters) r =
@@ -92,8 +92,8 @@ pub record NotesHold (s : NotingState) (held : List Character) : Type 0 where
   pub room : (ring_fields s).receive.capacity ≤ (notes_of (ring_backend_of s)).noted.capacity
 
 -- a call read these characters: behind those that the ring held, and without those whose bytes left the ring, they are
--- those that it holds, with their errors; and they are the first of those that were in the receiver or arrived, in order,
--- without those that were dropped
+-- those that it holds, with their errors; and they are the first of those that were in the receiver or arrived, in
+-- order, without those that were dropped
 pub record NotesGo (call : RingCall) (answer : RingAnswer) (s t : NotingState) (held : List Character) : Type 0 where
   pub read : List Character
   pub holds : NotesHold t (drop (length (gone_in call answer (to_take (without_notes s)))) (held ++ read))

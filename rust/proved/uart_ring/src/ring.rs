@@ -1,6 +1,7 @@
 //! The rings over a driver: their fields, the constructor, and the calls that read their state.
 
 mod line;
+mod noted;
 mod receive;
 mod service;
 mod status;

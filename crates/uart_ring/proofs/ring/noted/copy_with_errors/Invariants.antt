@@ -1,7 +1,7 @@
 use Rattle.std.proofs.Common.{◌≡◌, ◌≤◌, length, take, drop}
 use Rattle.uart_ring.specs.Notes.{bytes_of, errors_of}
 use Rattle.uart_ring.specs.Queue.{latest}
-use Rattle.uart_ring.proofs.ring.receive.copy_with_errors.Given as goal
+use Rattle.uart_ring.proofs.ring.noted.copy_with_errors.Given as goal
 
 abbrev pub invariant-loop-place : goal.invariant-loop-place
 invariant-loop-place l = record {
