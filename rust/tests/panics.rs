@@ -19,7 +19,9 @@ use uart_16550::native::{
 };
 use core::task::{Context, Poll};
 use uart_16550::emergency::EmergencyConsole;
-use uart_16550::ring::{Global, Handled, LinePort, LinePorts, Lowered, Memory, ReceiveMarks, RingError, StuckError, Uart16550Ring};
+use uart_16550::ring::{
+    ErrorNotes, Global, Handled, LinePort, LinePorts, Lowered, Memory, ReceiveMarks, RingError, StuckError, Uart16550Ring, UnnotedError,
+};
 use uart_16550::shared::{CriticalSection, Shared, SharedError, SharedLine, StartError, Unfinished, Wait};
 use uart_16550::spec::registers::{
     DLL, DLM, FCR, FifoTriggerLevel, IER, ISR, InterruptType, LCR, LSR, MCR, MSR, PSD, Parity, SPR,
@@ -110,6 +112,8 @@ impl ByteAccess for Device {
 type Uart = Uart16550<Device>;
 type Tty = Uart16550Tty<Device>;
 type Ring = Uart16550Ring<Device>;
+type NotingRing = Uart16550Ring<ErrorNotes<Device>>;
+type NotingPort = Shared<Section, ErrorNotes<Device>>;
 
 macro_rules! calls {
     ($($name:ident($($arg:ident: $Arg:ty),*) $(-> $Result:ty)? { $call:expr })*) => { $(
@@ -267,6 +271,12 @@ calls! {
     ring_into_inner(ring: Ring) -> Uart { ring.into_inner() }
     ring_queue(ring: &mut Ring, bytes: &[u8]) -> usize { ring.queue(bytes) }
     ring_take(ring: &mut Ring, slots: &mut [u8]) -> usize { ring.take(slots) }
+    ring_take_with_errors(ring: &mut NotingRing, slots: &mut [Received]) -> Result<usize, UnnotedError> { ring.take_with_errors(slots) }
+    error_notes_new(memory: Global<'_>, backend: Device, capacity: usize) -> Result<ErrorNotes<Device>, (Device, RingError)> { ErrorNotes::new(memory, backend, capacity) }
+    error_notes_backend(notes: &ErrorNotes<Device>) -> &Device { notes.backend() }
+    error_notes_backend_mut(notes: &mut ErrorNotes<Device>) -> &mut Device { notes.backend_mut() }
+    error_notes_read(notes: &mut ErrorNotes<Device>, offset: u8) -> u8 { notes.read(offset) }
+    error_notes_write(notes: &mut ErrorNotes<Device>, offset: u8, value: u8) { notes.write(offset, value) }
     ring_take_line(ring: &mut Ring) -> LSR { ring.take_line() }
     ring_take_modem(ring: &mut Ring) -> MSR { ring.take_modem() }
     ring_config_register_dump(ring: &mut Ring) -> ConfigRegisterDump { ring.config_register_dump() }
@@ -294,6 +304,8 @@ calls! {
     shared_with(port: &Port) -> Result<usize, SharedError> { port.with(|ring| ring.transmit_len()) }
     shared_poll_read(port: &Port, context: &mut Context<'_>, slots: &mut [u8]) -> Poll<Result<usize, SharedError>> { port.poll_read(context, slots) }
     shared_poll_write(port: &Port, context: &mut Context<'_>, bytes: &[u8]) -> Poll<Result<usize, SharedError>> { port.poll_write(context, bytes) }
+    shared_poll_read_with_errors(port: &NotingPort, context: &mut Context<'_>, slots: &mut [Received]) -> Poll<Result<usize, SharedError>> { port.poll_read_with_errors(context, slots) }
+    shared_blocking_read_with_errors(port: &NotingPort, slots: &mut [Received]) -> Result<usize, SharedError> { port.blocking(Once).read_with_errors(slots) }
     shared_blocking_read(port: &Port, slots: &mut [u8]) -> Result<usize, SharedError> { port.blocking(Once).read(slots) }
     shared_blocking_flush(port: &Port) -> Result<(), SharedError> { port.blocking(Once).flush() }
     shared_send_bytes_exact(port: &Port, bytes: &[u8]) -> Result<(), Unfinished> { port.blocking(Once).send_bytes_exact(bytes) }

@@ -86,6 +86,7 @@ def runs(*lines):
 UART = "uart: &mut Uart16550<Device>"
 TTY = "terminal: &mut Uart16550Tty<Device>"
 RING = "ring: &mut ring::Uart16550Ring<Device>"
+NOTING_RING = "ring: &mut ring::Uart16550Ring<ring::ErrorNotes<Device>>"
 PORT = [
     "use facade::ring::{self, *};",
     "struct Port { ring: Uart16550Ring<Device>, overruns: u32 }",
@@ -231,6 +232,9 @@ EXAMPLES = {
     "uart_design_ware::state::DesignWare::fault": runs(*DESIGN_WARE),
     "uart_design_ware::state::DesignWare::registers_mut": runs(*DESIGN_WARE),
     "uart_ring::ring::receive::Uart16550Ring::take": compiles(RING + ", mut slots: [u8; 2]", items=["use facade::ring;"]),
+    "uart_ring::ring::noted::Uart16550Ring::take_with_errors": compiles(
+        NOTING_RING + ", mut slots: [Received; 2], mut breaks: u32", items=["use facade::{native::Received, ring, spec::registers::LSR};"]
+    ),
     "uart_ring::ring::receive::Uart16550Ring::adjust_rts": compiles(
         RING + ", mut slots: [u8; 2]",
         items=["use facade::ring;", "const MARKS: ring::ReceiveMarks = ring::ReceiveMarks { hold: 48, release: 64 };"],
@@ -262,6 +266,21 @@ EXAMPLES = {
         + ["# use facade::ring::*;", "# enum StartError { NoRings(RingError) }"]
         + ["# fn example(alloc: Global, uart: Uart16550<Device>) -> Result<(), StartError> {"],
         ["# Ok(()) }"],
+    ),
+    "uart_ring::notes::ErrorNotes": (
+        INCLUDE
+        + ["# use facade::ring::*;", "# enum StartError { NoRings(RingError) }"]
+        + ["# fn example(alloc: Global, backend: Device) -> Result<(), StartError> {"],
+        ["# Ok(()) }"],
+    ),
+    "uart_ring::notes::ErrorNotes::backend": (
+        INCLUDE
+        + ["# use facade::ring;", "# trait Mark { fn mark(&self, _: u8) -> u8 { 0 } }", "# impl Mark for Device {}"]
+        + [f"# fn example({NOTING_RING}, arrival: u8) -> u8 {{"],
+        ["# }"],
+    ),
+    "uart_ring::notes::ErrorNotes::backend_mut": compiles(
+        NOTING_RING, items=["use facade::ring;", "trait Next { fn next(&mut self) {} }", "impl Next for Device {}"]
     ),
     "uart_ring::ring::Uart16550Ring::transmit_len": compiles(RING, items=["use facade::ring;"]),
     "uart_ring::ring::Uart16550Ring::inner": (
@@ -302,6 +321,7 @@ for path, like in {
     "uart_spec::baud::calc_baud_rate": "uart_spec::baud::calc_frequency",
     "uart_spec::baud::calc_divisor": "uart_spec::baud::calc_frequency",
     "uart_ring::ring::Uart16550Ring::new": "uart_ring::ring::Uart16550Ring",
+    "uart_ring::notes::ErrorNotes::new": "uart_ring::notes::ErrorNotes",
     "uart_ring::ring::Uart16550Ring::receive_len": "uart_ring::ring::Uart16550Ring::transmit_len",
     "uart_ring::ring::Uart16550Ring::is_paused": "uart_ring::ring::Uart16550Ring::transmit_len",
     "uart_ring::ring::Uart16550Ring::transmit_room": "uart_ring::ring::Uart16550Ring::transmit_len",

@@ -278,10 +278,14 @@ GUARDS = {
         reason="the divisor 0 is refused before",
     ),
     "uart_ring::queue::ByteQueue::drop_front": Guard(["requires { count ≤ length self.old.items }"], reason=INSIDE),
+    "uart_ring::queue::ByteQueue::byte_at": Guard(["requires { place < length self.now.items }"], reason=INSIDE),
     "uart_ring::queue::cell_behind": Guard(
         ["requires cell { cell ≤ cells }", "requires count { count ≤ cells }"], reason=IN_FILE
     ),
     "uart_ring::queue::copy": Guard(["requires { place ≤ length slots.old }"], reason=IN_FILE),
+    "uart_ring::ring::noted::copy_with_errors": Guard(
+        ["requires { length bytes.now.items ≤ length noted.now.items }"], reason=IN_FILE
+    ),
     "uart_ring::ring::transmit::Uart16550Ring::copy_sendable": Guard(["requires { 0 < length slots.old }"], reason=IN_FILE),
     "uart_ring::ring::transmit::Uart16550Ring::drop_queued": Guard(
         ["requires { count ≤ length self.old.transmit.items }"], reason=IN_FILE
@@ -493,6 +497,8 @@ IMPLEMENTED = {
     "uart_16550::mmio::MmioBackend::write": "address",
     "uart_design_ware::serving::DesignWare::read": "read_meant",
     "uart_design_ware::serving::DesignWare::write": "write_meant",
+    # passes the offset on, and does nothing else with one above 7: the backend under it tests it as it does alone
+    **{f"uart_ring::notes::ErrorNotes::{name}": None for name in ("read", "write")},
     # of types in no interface, so nothing tests what the trait requires
     **{f"uart_chip::device::Device16550::{name}": None for name in ("read", "write")},
     **{f"uart_chip::{name}::push": None for name in ("fifo::HeapFifo", "wire::HeapWire")},
@@ -521,6 +527,7 @@ CASTS = {
     "uart_16550::mmio::MmioBackend::new": ["stride . get ( )"],
     "uart_16550::mmio::MmioBackend::address": ["register_offset", "self . stride . get ( )"],
     **{f"uart_design_ware::serving::DesignWare::{name}": ["register_offset"] for name in ("read", "write")},
+    **{f"uart_ring::notes::ErrorNotes::{name}": ["register_offset"] for name in ("read", "write")},
     **{f"uart_chip::controlling::{name}": ["offset"] for name in ("read_register", "write_register")},
     "uart_chip::receiving::is_data_pending": ["characters_of ( parts . trigger ( ) )"],
     **{f"uart_virtual::port::{name}": ["offset"] for name in ("kind_of_read", "kind_of_write", "is_quiet", "is_fast", "write_and_raise")},

@@ -1,4 +1,5 @@
 pub mod Queues
+pub mod Noted
 pub mod Sending
 pub mod RingDoings
 pub mod Transfers

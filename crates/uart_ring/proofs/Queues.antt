@@ -5,7 +5,7 @@ use Rattle.std.proofs.Common.{arith, append_assoc, length-append, length-drop, l
 use Rattle.std.proofs.lemmas.List.{same_lists, get_or_append_left, get_or-append_right, take-take, take_min, take_at, drop_at}
 use Rattle.std.proofs.lemmas.List.{drop-drop, drop-append-le, take-append-drop, append-nil}
 use Rattle.std.proofs.lemmas.Bool.{cases_lt}
-use Rattle.uart_ring.specs.Queue.{bytes_from, IsBehind}
+use Rattle.uart_ring.specs.Queue.{bytes_from, latest, IsBehind}
 
 -- ---- one cell
 
@@ -264,3 +264,22 @@ appended N k n p c b a xs bytes bs between more new front_fits len_fits length_x
           (after_append N k n p c b a xs bs front_fits fits length_xs length_bs place within to_end all goes_on ∙
           ap (λ ys. bytes_from k n xs ++ ys) (is_bs ∙ ap (λ m. take m bytes) (sym all)))),
     )
+
+-- ---- one more at the end, for which the first makes way
+
+-- so many made way for it, and it was put at the end if there is any room at all
+pub pushed : (items : List ℕ) (capacity away count byte : ℕ) → length items ≤ capacity →
+    away ≡ min (length items) (length items + 1 - capacity) → count ≡ min 1 (capacity - length (drop away items)) →
+    drop away items ++ take count (byte ∷ []) ≡ latest capacity (items ++ byte ∷ [])
+pushed [] zero away count byte fits is_away is_count =
+    let none : away ≡ 0 = omega (arith, is_away) in
+    let no : count ≡ 0 = omega (arith, is_count) in
+    rw (none, no) refl
+pushed (item ∷ items) zero away count byte fits is_away is_count = absurd (omega (arith, fits))
+pushed items (suc n) away count byte fits is_away is_count =
+    let few : away ≤ length items = omega (arith, is_away) in
+    let left = length-drop away items in
+    let one : count ≡ 1 = omega (arith, is_count, left, is_away, fits) in
+    let sum = length-append items (byte ∷ []) in
+    let same : length (items ++ byte ∷ []) - suc n ≡ away = omega (arith, sum, is_away, fits) in
+    rw (one, same) (sym (drop-append-le away items (byte ∷ []) few))

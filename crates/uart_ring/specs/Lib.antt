@@ -1,5 +1,6 @@
 pub mod Queue
 pub mod Ring
+pub mod Notes
 pub mod Transmit
 pub mod Receive
 pub mod Status

@@ -1,5 +1,5 @@
 -- A queue of bytes in cells whose number is fixed.
-use Rattle.std.specs.Prelude.{◌≡◌, ◌<◌, ◌≤◌, ◌+◌, ◌⊎◌, ℕ, List, ◌++◌, take, drop}
+use Rattle.std.specs.Prelude.{◌≡◌, ◌<◌, ◌≤◌, ◌+◌, ◌-◌, ◌⊎◌, ℕ, List, [], ◌∷◌, ◌++◌, length, take, drop}
 
 -- the bytes of a queue, the first one first, and how many there may be
 pub record Queue : Type 0 where
@@ -18,3 +18,11 @@ bytes_from cell count cells = take count (drop cell cells ++ take cell cells)
 abbrev pub IsBehind : (cell count cells behind : ℕ) → Type 0
 IsBehind cell count cells behind =
     ((cell + count < cells) × (behind ≡ cell + count)) ⊎ ((cells ≤ cell + count) × (behind + cells ≡ cell + count))
+
+-- the last ones of a list, at most so many
+abbrev pub latest : ℕ → List ℕ → List ℕ
+latest count items = drop (length items - count) items
+
+-- the queue with one more at its end; if there is no room for it, the first one makes way
+abbrev pub with_latest : ℕ → Queue → Queue
+with_latest item ring = queue (latest ring.capacity (ring.items ++ item ∷ [])) ring.capacity

@@ -7,10 +7,12 @@
 
 pub mod laws;
 mod line;
+mod notes;
 mod queue;
 mod ring;
 
 pub use line::{LinePort, LinePorts, handle_line, handle_ports};
+pub use notes::{ErrorNotes, UnnotedError};
 pub use ring::{
     HandleEnd, Handled, Lowered, MAX_CAPACITY, MAX_INTERRUPTS, ReceiveMarks, RingError, StuckError,
     Uart16550Ring,

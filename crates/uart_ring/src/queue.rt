@@ -1,6 +1,7 @@
 //! The queues of the rings: bytes in order, in cells whose number is fixed.
-ghost use Rattle.std.specs.Prelude.{◌≡◌, ◌≤◌, ◌+◌, ◌-◌, ◌==◌, min, [], ◌++◌, length, take, drop, IfOk};
-ghost use Rattle.uart_ring.specs.Queue.{queue, IsBehind};
+ghost use Rattle.std.specs.Prelude.{◌≡◌, ◌<◌, ◌≤◌, ◌+◌, ◌-◌, ◌==◌, min, [], ◌++◌, length};
+ghost use Rattle.std.specs.Prelude.{take, drop, slice_index_or, IfOk};
+ghost use Rattle.uart_ring.specs.Queue.{queue, with_latest, IsBehind};
 
 use std::alloc::{AllocError, Global};
 use std::marker::Model;
@@ -102,6 +103,43 @@ impl ByteQueue {
         let count = before + copy(&bytes[before..], cells, 0);
         self.len += count;
         count
+    }
+
+    /// Appends a byte. If there is no room for it, the first one makes way.
+    #[inline]
+    pub fn push_last(&mut self, byte: u8)
+        ensures { self.new ≡ with_latest byte self.old }
+    {
+        let away = self.in_the_way();
+        self.drop_front(away);
+        self.fill_from_slice(&[byte]);
+    }
+
+    // Returns how many bytes make way for one more: the first one, if there is no room.
+    #[inline]
+    fn in_the_way(&self) -> usize
+        ensures count { result ≡ min (length self.now.items)
+            (length self.now.items + 1 - self.now.capacity) }
+        ensures within { length self.now.items ≤ self.now.capacity }
+    {
+        if self.len() < self.capacity() {
+            return 0;
+        }
+        self.len().min(1)
+    }
+
+    /// Returns the byte at this place, from the front on.
+    #[inline]
+    pub(crate) fn byte_at(&self, place: usize) -> u8
+        requires { place < length self.now.items }
+        ensures { result ≡ slice_index_or self.now.items place 0 }
+    {
+        let (first, second) = self.as_slices();
+        if place < first.len() {
+            first[place]
+        } else {
+            second[place - first.len()]
+        }
     }
 
     /// Copies bytes from the front, as many as there are slots, and returns how many. Leaves the

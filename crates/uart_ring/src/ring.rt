@@ -6,6 +6,7 @@ ghost use Rattle.uart_ring.specs.contracts.ring.Uart16550Ring.{the_row};
 ghost use Rattle.uart_ring.specs.Ring.{IsCapacity, AreEmpty, driver_of, free, ring_fields};
 
 mod line;
+mod noted;
 mod receive;
 mod service;
 mod status;
@@ -81,7 +82,7 @@ pub struct Uart16550Ring<B> {
 }
 
 // Returns whether a ring can have this capacity.
-fn is_capacity(capacity: usize) -> bool
+pub(crate) fn is_capacity(capacity: usize) -> bool
     ensures { IsTrue result ↔ IsCapacity capacity }
 {
     1 <= capacity && capacity <= MAX_CAPACITY

@@ -20,3 +20,5 @@ pub mod SharedLines
 pub mod Pending
 pub mod Served
 pub mod Unmoved
+pub mod NotedWalk
+pub mod NotedRings

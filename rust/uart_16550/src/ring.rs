@@ -47,6 +47,6 @@
 
 pub use geesetrunk_kit_of_rings::alloc::{Global, Memory};
 pub use uart_ring::{
-    HandleEnd, Handled, LinePort, LinePorts, Lowered, MAX_CAPACITY, MAX_INTERRUPTS, ReceiveMarks,
-    RingError, StuckError, Uart16550Ring, handle_line, handle_ports,
+    ErrorNotes, HandleEnd, Handled, LinePort, LinePorts, Lowered, MAX_CAPACITY, MAX_INTERRUPTS, ReceiveMarks,
+    RingError, StuckError, Uart16550Ring, UnnotedError, handle_line, handle_ports,
 };

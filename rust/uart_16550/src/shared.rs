@@ -22,7 +22,7 @@ pub use line::SharedLine;
 
 use crate::native::Uart16550;
 use crate::native::backend::Backend;
-use crate::ring::{Global, RingError, StuckError, Uart16550Ring};
+use crate::ring::{Global, RingError, StuckError, Uart16550Ring, UnnotedError};
 use core::fmt;
 use core::task::Waker;
 use exclusive::Exclusive;
@@ -101,6 +101,8 @@ pub enum SharedError {
     GaveUp,
     /// What is awaited does not come, since the chip is stuck. A [`restart`](Uart16550Ring::restart) starts it again.
     Stuck(StuckError),
+    /// Bytes in the receive ring have no note of their errors.
+    Unnoted(UnnotedError),
 }
 
 impl fmt::Display for SharedError {
@@ -110,6 +112,7 @@ impl fmt::Display for SharedError {
             Self::InUse => f.write_str("the rings are in use by a call that is not done"),
             Self::GaveUp => f.write_str("waiting was given up"),
             Self::Stuck(cause) => cause.fmt(f),
+            Self::Unnoted(cause) => cause.fmt(f),
         }
     }
 }

@@ -59,7 +59,7 @@ impl<B: Backend> Uart16550Ring<B> {
     }
 
     // Ends a pause if so many bytes have left the receive ring.
-    fn end_pause(&mut self, count: usize)
+    pub(super) fn end_pause(&mut self, count: usize)
         ensures { RingDid B.step (IfAny count EndsPause) self.old self.new }
     {
         if count > 0 && self.is_paused {

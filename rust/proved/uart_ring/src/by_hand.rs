@@ -1,6 +1,6 @@
 //! What is by hand in this crate, since it is of the rings' own type: how they are shown.
 
-use crate::{LinePort, Uart16550Ring};
+use crate::{ErrorNotes, LinePort, Uart16550Ring};
 use core::fmt;
 use uart_16550::backend::Backend;
 
@@ -23,5 +23,14 @@ impl<B: Backend + fmt::Debug> fmt::Debug for LinePort<B> {
             .field("ring", &self.ring)
             .field("handled", &self.handled())
             .finish()
+    }
+}
+
+/// Shows the backend, and not the errors: one byte of them for each received byte.
+impl<B: fmt::Debug> fmt::Debug for ErrorNotes<B> {
+    fn fmt(&self, f: &mut fmt::Formatter<'_>) -> fmt::Result {
+        f.debug_struct("ErrorNotes")
+            .field("backend", &self.backend)
+            .finish_non_exhaustive()
     }
 }

@@ -18,6 +18,20 @@
 /// ```
 ///
 /// It uses `Queue` of this file.
+///
+/// <span id="with_latest"></span>
+///
+/// # `with_latest`
+///
+/// The queue with one more at its end; if there is no room for it, the first one makes way.
+///
+/// ```text
+/// abbrev pub with_latest : ℕ → Queue → Queue
+/// with_latest item ring = queue (latest ring.capacity (ring.items ++ item ∷ [])) ring.capacity
+/// ```
+///
+/// It uses [`queue`](crate::proved::queue#queue); `Queue`, `latest` of this file.
+#[doc(alias("with_latest"))]
 pub mod queue {}
 
 /// The rings over a driver: their contents, and what a ring call does to them and to the backend.
@@ -129,6 +143,89 @@ pub mod queue {}
 /// It uses [`ring_fields`](crate::proved::ring#ring_fields); `RingDoing`, `ring_backend_of` of this file; `Path` of `crates/uart_spec/specs/Access.antt`.
 #[doc(alias("IsCapacity", "free", "driver_of", "ring_fields", "AreEmpty", "RingDid"))]
 pub mod ring {}
+
+/// The errors of received bytes, as a backend notes them beside the rings.
+///
+/// From `crates/uart_ring/specs/Notes.antt`.
+///
+/// <span id="NotesErrors"></span>
+///
+/// # `NotesErrors`
+///
+/// The access is made, and noted.
+///
+/// ```text
+/// pub record NotesErrors {B : Type 0} (step : B → Access → B → Type 0) (old : ErrorNotes B) (access : Access)
+///     (new : ErrorNotes B) : Type 0 where
+///   pub made : step old.backend access new.backend
+///   pub noted : notes_of new ≡ with_access access (notes_of old)
+/// ```
+///
+/// It uses `notes_of`, `with_access` of this file.
+///
+/// <span id="AreNew"></span>
+///
+/// # `AreNew`
+///
+/// Notes of nothing over this backend, with room for the errors of so many bytes.
+///
+/// ```text
+/// abbrev pub AreNew : {B : Type 0} → ErrorNotes B → B → ℕ → Type 0
+/// AreNew n backend capacity =
+///     (n.backend ≡ backend) × (notes_of n ≡ record { noted = queue [] capacity; shown = 0; is_latch = false })
+/// ```
+///
+/// It uses [`queue`](crate::proved::queue#queue); `notes_of` of this file.
+///
+/// <span id="unnoted_in"></span>
+///
+/// # `unnoted_in`
+///
+/// How many bytes of the receive ring have no note: those at its front, if more are there than errors are noted.
+///
+/// ```text
+/// abbrev pub unnoted_in : {B : Type 0} → Uart16550Ring (ErrorNotes B) → ℕ
+/// unnoted_in r = length (ring_fields r).receive.items - length (noted_in r)
+/// ```
+///
+/// It uses [`ring_fields`](crate::proved::ring#ring_fields); `noted_in` of this file.
+///
+/// <span id="errors_in"></span>
+///
+/// # `errors_in`
+///
+/// The errors of the bytes in the receive ring: those that were noted last, as many as there are bytes.
+///
+/// ```text
+/// abbrev pub errors_in : {B : Type 0} → Uart16550Ring (ErrorNotes B) → List ℕ
+/// errors_in r = latest (length (ring_fields r).receive.items) (noted_in r)
+/// ```
+///
+/// It uses [`ring_fields`](crate::proved::ring#ring_fields); `latest` of `crates/uart_ring/specs/Queue.antt`; `noted_in` of this file.
+///
+/// <span id="bytes_of"></span>
+///
+/// # `bytes_of`
+///
+/// The bytes of what was received.
+///
+/// ```text
+/// abbrev pub bytes_of : List Received → List ℕ
+/// bytes_of items = map (λ (received : Received). received.byte) items
+/// ```
+///
+/// <span id="errors_of"></span>
+///
+/// # `errors_of`
+///
+/// The errors of what was received.
+///
+/// ```text
+/// abbrev pub errors_of : List Received → List ℕ
+/// errors_of items = map (λ (received : Received). received.errors.0) items
+/// ```
+#[doc(alias("NotesErrors", "AreNew", "unnoted_in", "errors_in", "bytes_of", "errors_of"))]
+pub mod notes {}
 
 /// From the transmit ring to the chip.
 ///

@@ -162,6 +162,48 @@ impl ByteQueue {
         count
     }
 
+    /// Appends a byte. If there is no room for it, the first one makes way.
+    ///
+    /// # Proved
+    ///
+    /// - `self` becomes [`with_latest`](crate::proved::queue#with_latest) `byte self.old`: the queue with one more at its end; if there is no room for it, the first one makes way.
+    ///
+    /// <details><summary>The clauses</summary>
+    ///
+    /// [How to read them](uart_spec::proved):
+    ///
+    /// ```text
+    /// ensures { self.new ≡ with_latest byte self.old }
+    /// ```
+    ///
+    /// </details>
+    #[inline]
+    pub fn push_last(&mut self, byte: u8) {
+        let away = self.in_the_way();
+        self.drop_front(away);
+        self.fill_from_slice(&[byte]);
+    }
+
+    // Returns how many bytes make way for one more: the first one, if there is no room.
+    #[inline]
+    fn in_the_way(&self) -> usize {
+        if self.len() < self.capacity() {
+            return 0;
+        }
+        self.len().min(1)
+    }
+
+    /// Returns the byte at this place, from the front on.
+    #[inline]
+    pub(crate) fn byte_at(&self, place: usize) -> u8 {
+        let (first, second) = self.as_slices();
+        if place < first.len() {
+            first[place]
+        } else {
+            second[place - first.len()]
+        }
+    }
+
     /// Copies bytes from the front, as many as there are slots, and returns how many. Leaves the
     /// other slots unchanged.
     ///

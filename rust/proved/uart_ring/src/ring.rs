@@ -1,6 +1,7 @@
 //! The rings over a driver: their fields, the constructor, and the calls that read their state.
 
 mod line;
+mod noted;
 mod receive;
 mod service;
 mod status;
@@ -94,7 +95,7 @@ pub struct Uart16550Ring<B> {
 }
 
 // Returns whether a ring can have this capacity.
-fn is_capacity(capacity: usize) -> bool {
+pub(crate) fn is_capacity(capacity: usize) -> bool {
     1 <= capacity && capacity <= MAX_CAPACITY
 }
 

@@ -1,8 +1,9 @@
 //! Shared rings for tasks: futures that the handler wakes.
 
 use super::{CriticalSection, Shared, SharedError};
+use crate::native::Received;
 use crate::native::backend::Backend;
-use crate::ring::Uart16550Ring;
+use crate::ring::{ErrorNotes, Uart16550Ring};
 use core::future::poll_fn;
 use core::task::{Context, Poll};
 use uart_waits::{Awaited, Waiter};
@@ -183,6 +184,55 @@ impl<S: CriticalSection, B: Backend> Shared<S, B> {
             other.waker.wake();
         }
         Poll::Pending
+    }
+}
+
+/// Rings over notes of errors.
+impl<S: CriticalSection, B: Backend> Shared<S, ErrorNotes<B>> {
+    /// Does what [`read`](Self::read) does, and returns each byte with its errors, as
+    /// [`take_with_errors`](Uart16550Ring::take_with_errors) does.
+    ///
+    /// # Errors
+    ///
+    /// Those of [`read`](Self::read), and `Unnoted` if bytes have no note of their errors. Then nothing is taken.
+    ///
+    /// # Examples
+    ///
+    /// ```
+    /// # include!(concat!(env!("CARGO_MANIFEST_DIR"), "/tests/common/shared.rs"));
+    /// # use uart_16550::native::{Received, backend::Backend, spec::registers::LSR};
+    /// # use uart_16550::shared::{CriticalSection, SharedError};
+    /// use uart_16550::ring::ErrorNotes;
+    /// use uart_16550::shared::Shared;
+    ///
+    /// async fn breaks<S: CriticalSection, B: Backend>(port: &Shared<S, ErrorNotes<B>>) -> Result<usize, SharedError> {
+    ///     let mut slots = [Received::default(); 64];
+    ///     let count = port.read_with_errors(&mut slots).await?;
+    ///     let is_break = |one: &&Received| one.errors.contains(LSR::BREAK_INTERRUPT);
+    ///     Ok(slots[..count].iter().filter(is_break).count())
+    /// }
+    /// # fn main() {}
+    /// ```
+    pub async fn read_with_errors(&self, slots: &mut [Received]) -> Result<usize, SharedError> {
+        poll_fn(|context| self.poll_read_with_errors(context, slots)).await
+    }
+
+    /// Does what [`read_with_errors`](Self::read_with_errors) does, for a future by hand.
+    ///
+    /// # Errors
+    ///
+    /// Those of [`read_with_errors`](Self::read_with_errors).
+    pub fn poll_read_with_errors(
+        &self,
+        context: &mut Context<'_>,
+        slots: &mut [Received],
+    ) -> Poll<Result<usize, SharedError>> {
+        let is_empty = slots.is_empty();
+        self.poll_for(context, Awaited::ReceivedByte, |ring| {
+            let taken = ring.take_with_errors(slots);
+            (taken != Ok(0) || is_empty).then_some(taken)
+        })
+        .map(|found| found?.map_err(SharedError::Unnoted))
     }
 }
 

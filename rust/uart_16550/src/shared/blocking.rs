@@ -1,9 +1,10 @@
 //! Shared rings for threads that wait.
 
 use super::{CriticalSection, Shared, SharedError};
+use crate::native::Received;
 use crate::native::backend::Backend;
 use crate::native::embedded_io::{ErrorType, Read, ReadReady, Write, WriteReady};
-use crate::ring::Uart16550Ring;
+use crate::ring::{ErrorNotes, Uart16550Ring};
 use core::fmt;
 use uart_waits::Awaited;
 
@@ -254,6 +255,28 @@ impl<S: CriticalSection, B: Backend, W: Wait> Blocking<'_, S, B, W> {
         } else {
             Err(SharedError::GaveUp)
         }
+    }
+}
+
+/// Rings over notes of errors.
+impl<S: CriticalSection, B: Backend, W: Wait> Blocking<'_, S, ErrorNotes<B>, W> {
+    /// Takes received bytes, at least one, each with its errors, as [`take_with_errors`](Uart16550Ring::take_with_errors) does, and
+    /// returns how many. Waits until one is there. Of no slots it returns 0 at once.
+    ///
+    /// # Errors
+    ///
+    /// - `Unnoted` if bytes have no note of their errors. Then nothing is taken.
+    /// - `GaveUp` if the kernel's function said not to go on waiting.
+    /// - `Stuck` if the chip is stuck, and so does not come to it.
+    /// - `NoRings` if there are none, or none any more.
+    /// - `InUse` if the call comes in the middle of another one.
+    pub fn read_with_errors(&mut self, slots: &mut [Received]) -> Result<usize, SharedError> {
+        let is_empty = slots.is_empty();
+        self.wait_for(Awaited::ReceivedByte, |ring| {
+            let taken = ring.take_with_errors(slots);
+            (taken != Ok(0) || is_empty).then_some(taken)
+        })?
+        .map_err(SharedError::Unnoted)
     }
 }
 

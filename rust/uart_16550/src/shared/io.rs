@@ -13,7 +13,9 @@ impl foreign::Error for SharedError {
     fn kind(&self) -> foreign::ErrorKind {
         match self {
             Self::GaveUp => foreign::ErrorKind::TimedOut,
-            Self::NoRings | Self::InUse | Self::Stuck(_) => foreign::ErrorKind::Other,
+            Self::NoRings | Self::InUse | Self::Stuck(_) | Self::Unnoted(_) => {
+                foreign::ErrorKind::Other
+            }
         }
     }
 }

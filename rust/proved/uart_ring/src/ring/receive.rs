@@ -47,7 +47,7 @@ impl<B: Backend> Uart16550Ring<B> {
     }
 
     // Ends a pause if so many bytes have left the receive ring.
-    fn end_pause(&mut self, count: usize) {
+    pub(super) fn end_pause(&mut self, count: usize) {
         if count > 0 && self.is_paused {
             self.uart.enable_interrupts(IER::DATA_READY);
             self.is_paused = false;

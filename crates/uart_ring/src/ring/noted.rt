@@ -1,0 +1,96 @@
+//! From the receive ring to the caller, each byte with the errors that are noted of it.
+ghost use Rattle.std.specs.Prelude.{◌≡◌, ◌<◌, ◌≤◌, true, length, take, drop, min};
+ghost use Rattle.std.specs.Prelude.{IfErr, IfOk, is_ok};
+ghost use Rattle.uart_ring.specs.Notes.{NotesErrors, bytes_of, errors_in, errors_of, unnoted_in};
+ghost use Rattle.uart_ring.specs.Queue.{latest};
+ghost use Rattle.uart_ring.specs.Receive.{TakesBytes};
+ghost use Rattle.uart_ring.specs.Ring.{RingDid, ring_fields};
+
+use super::Uart16550Ring;
+use crate::notes::{ErrorNotes, UnnotedError};
+use crate::queue::ByteQueue;
+use bitflags::Flags;
+use uart_16550::backend::Backend;
+use uart_spec::Received;
+use uart_spec::registers::LSR;
+
+// Copies the first bytes with the errors that are noted of them to the slots, as many as both have,
+// and returns how many. More may be noted before the first byte.
+fn copy_with_errors(bytes: &ByteQueue, noted: &ByteQueue, slots: &mut [Received]) -> usize
+    requires { length bytes.now.items ≤ length noted.now.items }
+    ensures count { result ≡ min (length slots.old) (length bytes.now.items) }
+    ensures bytes { bytes_of (take result slots.new) ≡ take result bytes.now.items }
+    ensures errors { errors_of (take result slots.new) ≡
+        take result (latest (length bytes.now.items) noted.now.items) }
+    ensures rest { drop result slots.new ≡ drop result slots.old }
+{
+    let before = noted.len() - bytes.len();
+    for (place, slot) in slots.iter_mut().enumerate() {
+        if place == bytes.len() {
+            return place;
+        }
+        let byte = bytes.byte_at(place);
+        let errors = LSR::from_bits_retain(noted.byte_at(before + place));
+        *slot = Received { byte, errors };
+    }
+    slots.len()
+}
+
+impl<B: Backend> Uart16550Ring<ErrorNotes<B>> {
+    /// Takes received bytes from the front of the receive ring, each with its errors, as many as
+    /// there are slots, and returns how many. Leaves the other slots unchanged.
+    ///
+    /// It is a `take`, and makes the accesses of one. `take` and `clear_receive` may be called in
+    /// between.
+    ///
+    /// With the FIFO on, the parity error, the framing error and the break of a byte are exactly
+    /// those of its character. An overrun tells that a character was lost, and on which side of the
+    /// byte: right behind the 15th or the 16th character from this byte on, counted through the
+    /// bytes of the receive ring and then those in the chip. Without a FIFO, a character that comes
+    /// between the look and the read of its byte replaces the one that was shown.
+    ///
+    /// A call of the driver that receives, through `inner_mut`, passes the receive ring by, and its
+    /// bytes are the last that were read. So make it only while the receive ring is empty; else
+    /// errors stand at the wrong bytes until all bytes of the ring are taken.
+    ///
+    /// # Errors
+    ///
+    /// `UnnotedError` if fewer errors are noted than bytes are in the receive ring: the notes have
+    /// room for fewer, or were made later. Then nothing is done.
+    ///
+    /// # Examples
+    ///
+    /// ```
+    /// for received in &slots[..ring.take_with_errors(&mut slots)?] {
+    ///     if received.errors.contains(LSR::BREAK_INTERRUPT) {
+    ///         breaks += 1;
+    ///     }
+    /// }
+    /// ```
+    pub fn take_with_errors(&mut self, slots: &mut [Received]) -> Result<usize, UnnotedError>
+        ensures did { IfOk result (λ count. RingDid (NotesErrors B.step)
+            (TakesBytes (length slots.old) (bytes_of (take count slots.new)))
+            self.old self.new) }
+        ensures count { IfOk result (λ count. count ≡ min (length slots.old)
+            (length (ring_fields self.old).receive.items)) }
+        ensures errors { IfOk result (λ count.
+            errors_of (take count slots.new) ≡ take count (errors_in self.old)) }
+        ensures rest { IfOk result (λ count. drop count slots.new ≡ drop count slots.old) }
+        ensures noted { unnoted_in self.old ≡ 0 → is_ok result ≡ true }
+        ensures refused { IfErr result (λ error.
+            (0 < error.bytes) × (error.bytes ≡ unnoted_in self.old)
+            × (self.new ≡ self.old) × (slots.new ≡ slots.old)) }
+    {
+        let noted = &self.uart.backend().noted;
+        // Without this, errors would stand at other bytes, and nobody could tell.
+        if noted.len() < self.receive.len() {
+            return Err(UnnotedError {
+                bytes: self.receive.len() - noted.len(),
+            });
+        }
+        let count = copy_with_errors(&self.receive, noted, slots);
+        self.receive.drop_front(count);
+        self.end_pause(count);
+        Ok(count)
+    }
+}

@@ -1,0 +1,104 @@
+//! From the receive ring to the caller, each byte with the errors that are noted of it.
+
+use super::Uart16550Ring;
+use crate::notes::{ErrorNotes, UnnotedError};
+use crate::queue::ByteQueue;
+use bitflags::Flags;
+use uart_16550::backend::Backend;
+use uart_spec::Received;
+use uart_spec::registers::LSR;
+
+// Copies the first bytes with the errors that are noted of them to the slots, as many as both have,
+// and returns how many. More may be noted before the first byte.
+fn copy_with_errors(bytes: &ByteQueue, noted: &ByteQueue, slots: &mut [Received]) -> usize {
+    let before = noted.len() - bytes.len();
+    for (place, slot) in slots.iter_mut().enumerate() {
+        if place == bytes.len() {
+            return place;
+        }
+        let byte = bytes.byte_at(place);
+        let errors = LSR::from_bits_retain(noted.byte_at(before + place));
+        *slot = Received { byte, errors };
+    }
+    slots.len()
+}
+
+impl<B: Backend> Uart16550Ring<ErrorNotes<B>> {
+    /// Takes received bytes from the front of the receive ring, each with its errors, as many as
+    /// there are slots, and returns how many. Leaves the other slots unchanged.
+    ///
+    /// It is a `take`, and makes the accesses of one. `take` and `clear_receive` may be called in
+    /// between.
+    ///
+    /// With the FIFO on, the parity error, the framing error and the break of a byte are exactly
+    /// those of its character. An overrun tells that a character was lost, and on which side of the
+    /// byte: right behind the 15th or the 16th character from this byte on, counted through the
+    /// bytes of the receive ring and then those in the chip. Without a FIFO, a character that comes
+    /// between the look and the read of its byte replaces the one that was shown.
+    ///
+    /// A call of the driver that receives, through `inner_mut`, passes the receive ring by, and its
+    /// bytes are the last that were read. So make it only while the receive ring is empty; else
+    /// errors stand at the wrong bytes until all bytes of the ring are taken.
+    ///
+    /// # Errors
+    ///
+    /// `UnnotedError` if fewer errors are noted than bytes are in the receive ring: the notes have
+    /// room for fewer, or were made later. Then nothing is done.
+    ///
+    /// # Examples
+    ///
+    /// ```
+    /// # include!(concat!(env!("CARGO_MANIFEST_DIR"), "/examples.rs"));
+    /// # fn main() {}
+    /// # use facade::{native::Received, ring, spec::registers::LSR};
+    /// # fn example(ring: &mut ring::Uart16550Ring<ring::ErrorNotes<Device>>, mut slots: [Received; 2], mut breaks: u32) -> Outcome<()> {
+    /// for received in &slots[..ring.take_with_errors(&mut slots)?] {
+    ///     if received.errors.contains(LSR::BREAK_INTERRUPT) {
+    ///         breaks += 1;
+    ///     }
+    /// }
+    /// # Ok(()) }
+    /// ```
+    ///
+    /// # Proved
+    ///
+    /// - *did*: if it returns `Ok count`: [does as](crate::proved::ring#RingDid) [`TakesBytes`](crate::proved::receive#TakesBytes) `(length slots.old) (bytes_of (take count slots.new))`: the bytes are from the front of the receive ring, as many as there are slots and bytes; if there are any, a pause of receiving ends.
+    ///   - [`bytes_of`](crate::proved::notes#bytes_of): the bytes of what was received.
+    /// - *count*: if it returns `Ok count`: `count` is `min (length slots.old) (length (ring_fields self.old).receive.items)`.
+    ///   - [`ring_fields`](crate::proved::ring#ring_fields): what these rings hold beside their backend.
+    /// - *errors*: if it returns `Ok count`: `errors_of (take count slots.new) ≡ take count (errors_in self.old)`.
+    ///   - [`errors_of`](crate::proved::notes#errors_of): the errors of what was received.
+    ///   - [`errors_in`](crate::proved::notes#errors_in): the errors of the bytes in the receive ring: those that were noted last, as many as there are bytes.
+    /// - *rest*: if it returns `Ok count`: `drop count slots.new ≡ drop count slots.old`.
+    /// - *noted*: if `unnoted_in self.old ≡ 0`: `is_ok result ≡ true`.
+    ///   - [`unnoted_in`](crate::proved::notes#unnoted_in): how many bytes of the receive ring have no note: those at its front, if more are there than errors are noted.
+    /// - *refused*: if it returns `Err error`: `0 < error.bytes`, and `error.bytes ≡ unnoted_in self.old`, and nothing changes, and `slots` stays as it was.
+    ///
+    /// <details><summary>The clauses</summary>
+    ///
+    /// [How to read them](uart_spec::proved):
+    ///
+    /// ```text
+    /// ensures did { IfOk result (λ count. RingDid (NotesErrors B.step) (TakesBytes (length slots.old) (bytes_of (take count slots.new))) self.old self.new) }
+    /// ensures count { IfOk result (λ count. count ≡ min (length slots.old) (length (ring_fields self.old).receive.items)) }
+    /// ensures errors { IfOk result (λ count. errors_of (take count slots.new) ≡ take count (errors_in self.old)) }
+    /// ensures rest { IfOk result (λ count. drop count slots.new ≡ drop count slots.old) }
+    /// ensures noted { unnoted_in self.old ≡ 0 → is_ok result ≡ true }
+    /// ensures refused { IfErr result (λ error. (0 < error.bytes) × (error.bytes ≡ unnoted_in self.old) × (self.new ≡ self.old) × (slots.new ≡ slots.old)) }
+    /// ```
+    ///
+    /// </details>
+    pub fn take_with_errors(&mut self, slots: &mut [Received]) -> Result<usize, UnnotedError> {
+        let noted = &self.uart.backend().noted;
+        // Without this, errors would stand at other bytes, and nobody could tell.
+        if noted.len() < self.receive.len() {
+            return Err(UnnotedError {
+                bytes: self.receive.len() - noted.len(),
+            });
+        }
+        let count = copy_with_errors(&self.receive, noted, slots);
+        self.receive.drop_front(count);
+        self.end_pause(count);
+        Ok(count)
+    }
+}
