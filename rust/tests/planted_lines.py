@@ -6,6 +6,7 @@ BLOCKING = 'rust/uart_16550/src/shared/blocking.rs'
 EXCLUSIVE = 'rust/uart_16550/src/shared/exclusive.rs'
 EMERGENCY = 'rust/uart_16550/src/emergency.rs'
 ACCESS = 'rust/uart_16550/src/access.rs'
+PORTS = 'rust/uart_16550/src/access/ports.rs'
 SERIAL = 'rust/uart_16550_chip/src/serial.rs'
 BYTES = 'rust/uart_16550_chip/src/serial/bytes.rs'
 SERDE = 'rust/uart_16550_chip/src/serial/serde.rs'
@@ -83,7 +84,8 @@ NAMED = [
 ELSEWHERE = [
     # `in` and `out`, which a process may not use: kernels in emulated machines do. Behind them are the barriers, which `accesses` looks
     # at in the assembly: with the lines that have a name above, and for each architecture in `integration/rust`.
-    (ACCESS, '// Reads a port. The caller must be allowed to access it.', '// What one access loads or stores'),
+    (PORTS, '// Reads the port of a register.', '/// The eight I/O ports of a device'),
+    (ACCESS, '// Loads a word of a device.', '// What one access loads or stores'),
     (ACCESS, '#[cfg(all(any(target_arch = "arm", target_arch = "aarch64"), not(miri)))]\nmacro_rules! word', 'word!(u8, "ldrb", "strb");'),
     # The order of the sign: the thread sanitiser sees it, with the lines that have a name above.
     (EXCLUSIVE, 'if self.is_in_use.swap(', 'return None;'),

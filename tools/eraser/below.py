@@ -11,8 +11,11 @@ KITS = [KIT, KIT_OF_RINGS]
 
 # The macros that a kit exports, by its file. A package imports these by name, and no others (`packages.root`).
 EXPORTED = {
-    "rust/kit/src/lib.rs": ["format", "vec", "format_fields"],
+    "rust/kit/src/lib.rs": ["format_fields"],
+    "rust/kit/src/text.rs": ["format"],
+    "rust/kit/src/list.rs": ["vec"],
     "rust/kit_of_rings/src/memory.rs": ["vec"],
+    "rust/proved/uart_16550/src/by_hand/io.rs": ["as_embedded_io"],
 }
 # The macros that code below may call, beside its own; and those whose name no macro may have.
 CALLED = ["format_args", "stringify", "assert", "compile_error"]
@@ -25,7 +28,8 @@ no_mangle link_section link_name export_name macro_use no_implicit_prelude
 """.split()
 ATOMIC = re.compile(r"Atomic\w*")
 # Attributes, but for derives and conditions.
-ATTRIBUTES = ["must_use", "inline", "inline ( always )", "macro_export", "doc ( hidden )"]
+# The last ones are what a macro is given, where it stands in the text and is looked at.
+ATTRIBUTES = ["must_use", "inline", "inline ( always )", "macro_export", "doc ( hidden )", "$ says : meta", "$ says"]
 # What clippy is told to leave, with the reason: it changes what is said of the text, and nothing of what the text does. A lint of rustc's,
 # as that of unsafe code, is not among them.
 LEFT = re.compile(r'allow \( (?:clippy :: \w+ , )+reason = "[^"]*" \)')
@@ -43,6 +47,7 @@ ROOTS = {
         "extern crate std",
         "mod absent",
         "pub mod alloc",
+        "mod allocator",
         "mod array",
         "mod bits",
         "pub mod io",
@@ -62,7 +67,7 @@ ROOTS = {
         "pub use geesetrunk_kit :: { cmp , convert , error , fmt , format_fields , mem , num }",
         "pub use memory :: { Vec , filled }",
         "pub use crate :: memory :: { Global , Memory }",
-        "pub use geesetrunk_kit :: alloc :: { AllocError , AllocFailed }",
+        "pub use geesetrunk_kit :: alloc :: AllocError",
     ],
 }
 # Other crates are named in the roots alone, but for the allocator of the rings.
@@ -215,15 +220,25 @@ class File:
 
     def of_types(self):
         for at in range(len(self.words)):
-            if self.words[at] != "impl" or self.word(at - 1) not in ("", "}", ";", "{", "]"):
+            if self.words[at] != "impl" or self.word(at - 1) not in ("", "}", ";", "{", "]", "("):
                 continue
             start = self.behind(at, "{")
             if "for" not in self.words[at:start]:
                 inside = [self.word(here + 1) for here in range(start, self.closing(start)) if self.words[here] == "fn"]
                 yield from (f"`{one}` of a type, which Rust takes for the one of a trait" for one in inside if one in OF_CORE)
             elif self.folder == table.OUTPUT:
-                trait = self.trait_of(at, start)
-                yield from [] if trait in IMPLEMENTED else [f"the trait `{trait}` for a type"]
+                traits = self.traits_of(at, start)
+                yield from (f"the trait `{trait}` for a type" for trait in traits if trait not in IMPLEMENTED)
+
+    def traits_of(self, at, start):
+        """The trait of an implementation, or if a parameter of a macro stands for it, all that the macro is given for types and traits."""
+        trait = self.trait_of(at, start)
+        if self.word(self.words.index(trait, at) - 1) != "$":
+            return [trait]
+        name = self.word(max(here for here in range(at) if self.word(here) == "macro_rules") + 2)
+        calls = [here + 2 for here in range(len(self.words)) if self.text(here, here + 2) == f"{name} !"]
+        given = [here for call in calls for here in range(call, self.closing(call)) if self.word(here - 1) != "$"]
+        return [self.word(here) for here in given if self.word(here)[0].isupper()]
 
     def trait_of(self, at, start):
         """The name of the trait of an implementation, without its path and parameters."""

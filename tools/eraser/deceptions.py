@@ -29,8 +29,8 @@ FORMS = [
     # A range with no end behind a word that Rust does not take for a list: it ends in an overflow, and in Rattle at the last number.
     # An own method with the name of one that is by hand in the type: Rust calls the one by hand.
     (
-        "pub trait T {\n    fn checked_set_pdf(&self) -> u8;\n}",
-        "`checked_set_pdf`, by hand in a type and of a trait",
+        "pub trait T {\n    fn symmetric_difference(&self) -> u8;\n}",
+        "`symmetric_difference`, by hand in a type and of a trait",
     ),
     # `usize` has 64 bits in Rattle.
     ("type W = usize;\nfn f(x: u32) -> W {\n    x as W\n}", "another name for `usize`"),

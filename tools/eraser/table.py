@@ -55,16 +55,17 @@ OF_TESTS = {
 
 # Files that end with a module by hand, which is not emitted: what has to be in a type's own crate.
 BY_HAND = {
-    "uart_spec/src/lib.rt": "pub mod by_hand;",
+    "uart_spec/src/lib.rt": "mod by_hand;",
     "uart_spec/src/registers.rt": "mod by_hand;",
     "uart_16550/src/lib.rt": "mod by_hand;",
     "uart_ring/src/lib.rt": "mod by_hand;",
+    "uart_waits/src/lib.rt": "mod by_hand;",
     "uart_chip/src/lib.rt": "mod by_hand;",
     "uart_live/src/lib.rt": "mod by_hand;",
     "uart_virtual/src/lib.rt": "mod by_hand;",
 }
 # The crates whose code by hand has the traits of the crate `embedded-io`, behind a feature of this name.
-EMBEDDED_IO = ["uart_spec", "uart_16550"]
+EMBEDDED_IO = ["uart_spec", "uart_16550", "uart_waits"]
 
 # Files whose errors have `core::error::Error` by hand: Rattle's has no `source`.
 ERRORS = ["uart_spec/src/errors.rt"]
@@ -81,15 +82,22 @@ MAY_GROW = [
     "uart_ring::ring::RingError",
     "uart_ring::ring::service::HandleEnd",
     "uart_ring::ring::storm::StuckError",
+    "uart_spec::layout::InvalidLayoutError",
+    *(f"uart_waits::errors::{name}Error" for name in ("Shared", "Start")),
 ]
 # Of these, the crates that others match, and the crates that do.
-GROWING = ["uart_spec", "uart_design_ware", "uart_ring"]
+GROWING = ["uart_spec", "uart_design_ware", "uart_ring", "uart_waits"]
 NAME_EACH = ["uart_language"]
 
 # The functions that are `const fn`, so that callers can make a driver or a configuration in a `static`.
 CONSTANT = """
 uart_spec::config::BaudRate::to_integer
 uart_spec::config::BaudRate::from_integer
+uart_spec::checked::PSD::checked_set_pdf
+uart_spec::layout::RegisterWidth::bytes
+uart_spec::layout::check_ports
+uart_spec::layout::check_spacing
+uart_spec::layout::check_layout
 uart_spec::registers::codes::FifoTriggerLevel::from_raw_bits
 uart_spec::registers::codes::FifoTriggerLevel::to_raw_bits
 uart_spec::registers::codes::WordLength::from_raw_bits
@@ -523,6 +531,9 @@ INLINES = ["inline", "inline ( always )", "inline ( never )"]
 DERIVES = ["Clone", "Copy", "Debug", "PartialEq", "Eq", "PartialOrd", "Ord", "Hash", "Default"]
 # Casts to `usize`, which has 64 bits in Rattle: the function, and what is cast. All are from `u8` or `u16`.
 CASTS = {
+    "uart_spec::layout::check_ports": ["base"],
+    "uart_spec::layout::check_spacing": ["last", "stride"],
+    "uart_spec::layout::check_layout": ["width . bytes ( )"],
     "uart_16550::pio::PioBackend::new": ["base"],
     "uart_16550::mmio::MmioBackend::new": ["stride . get ( )"],
     "uart_16550::mmio::MmioBackend::address": ["register_offset", "self . stride . get ( )"],

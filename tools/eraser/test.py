@@ -261,7 +261,7 @@ BYTES = [
     ("uart_spec/src/errors.rs", "non_exhaustive", "must_use"),
     ("uart_ring/src/lib.rs", "mod ring;", "pub mod ring;"),
     ("uart_ring/src/lib.rs", "#![forbid(unsafe_code)]\n", ""),
-    ("uart_spec/src/lib.rs", "pub mod by_hand;", "#[cfg(unix)]\npub mod by_hand;"),
+    ("uart_spec/src/lib.rs", "\nmod by_hand;", "\n#[cfg(unix)]\nmod by_hand;"),
     ("uart_spec/examples.rs", "(port % 8)", "(port % 9)"),
     ("uart_live/Cargo.toml", 'edition = "2024"', 'edition = "2021"'),
     ("uart_live/Cargo.toml", "../../kit", "../../other"),
@@ -270,18 +270,21 @@ BYTES = [
 ]
 
 # An edit of a file by hand around the emitted packages, and the cause. An empty old text is a new file.
-CHECKED = "rust/proved/uart_spec/src/by_hand/checked.rs"
+LAYOUT = "rust/proved/uart_spec/src/by_hand/layout.rs"
 ERRORS = "rust/proved/uart_spec/src/by_hand/errors.rs"
 SERIAL = "rust/uart_16550_chip/src/serial.rs"
 REGISTERS = "rust/proved/uart_spec/src/registers/by_hand.rs"
 KIT_ROOT = "rust/kit/src/lib.rs"
 AROUND = [
-    (CHECKED, "impl PSD {", "macro_rules! f { () => {} }\n#[macro_use]\nmod more {}\nimpl PSD {", "`macro_use`"),
-    (CHECKED, "impl PSD {", "extern crate std as core;\nimpl PSD {", "`extern crate`"),
-    (CHECKED, "impl PSD {", "#[path = \"other.rs\"]\nmod more;\nimpl PSD {", "`path`"),
-    (CHECKED, "impl PSD {", "#[cfg(unix)]\nimpl PSD {", "`cfg`"),
-    (CHECKED, "impl PSD {", "#[cfg_attr(all(), cfg(unix))]\nimpl PSD {", "`cfg_attr`"),
-    (CHECKED, "impl PSD {", "fn f() { other_factor() }\nimpl PSD {", "`other_factor`, which requires"),
+    (LAYOUT, "impl ByteOrder {", "macro_rules! f { () => {} }\n#[macro_use]\nmod more {}\nimpl ByteOrder {", "`macro_use`"),
+    (LAYOUT, "impl ByteOrder {", "extern crate std as core;\nimpl ByteOrder {", "`extern crate`"),
+    (LAYOUT, "impl ByteOrder {", "#[path = \"other.rs\"]\nmod more;\nimpl ByteOrder {", "`path`"),
+    (LAYOUT, "impl ByteOrder {", "#[cfg(unix)]\nimpl ByteOrder {", "`cfg`"),
+    (LAYOUT, "impl ByteOrder {", "#[cfg_attr(all(), cfg(unix))]\nimpl ByteOrder {", "`cfg_attr`"),
+    (LAYOUT, "impl ByteOrder {", "fn f() { other_factor() }\nimpl ByteOrder {", "`other_factor`, which requires"),
+    (ERRORS, "$(impl Copy for $Error {})*", "$(impl Drop for $Error { fn drop(&mut self) {} })*", "the trait `Drop` for a type"),
+    (REGISTERS, "SubAssign sub_assign difference;", "Deref deref difference;", "the trait `Deref` for a type"),
+    (REGISTERS, "#[$says])*\n            fn $operator(&mut self", "#[$other])*\n            fn $operator(&mut self", "the attribute `$ other`"),
     (ERRORS, '#[cfg(feature = "embedded-io")]', '#[cfg(not(feature = "embedded-io"))]', "`cfg`"),
     ("rust/proved/uart_run/src/by_hand.rs", "", "impl X {}", "no emitted file declares it"),
     ("rust/proved/uart_run/build.rs", "", "fn main() {}", "build.rs: there"),
@@ -317,7 +320,7 @@ AROUND = [
     ("rust/kit/src/array.rs", "    pub const fn is_full", "    pub fn eq(&self, _: &Self) -> bool {\n        true\n    }\n\n    pub const fn is_full", "`eq` of a type"),
     ("rust/kit_of_rings/src/memory.rs", "#[cfg(test)]\nmod tests;", "mod tests;", "tests that are compiled for users"),
     ("rust/kit_of_rings/src/lib.rs", "pub use memory::{Vec, filled};", "pub use memory::{Vec, filled};\npub use other::fmt;", "`pub use other :: fmt`"),
-    (CHECKED, "impl PSD {", "pub trait More {}\nimpl PSD {", "a trait `More`"),
+    (LAYOUT, "impl ByteOrder {", "pub trait More {}\nimpl ByteOrder {", "a trait `More`"),
     ("rust/uart_16550/Cargo.toml", '"../proved/uart_ring", version', '"../other", version', "the dependency uart_ring is another package"),
     ("rust/kit/Cargo.toml", "[features]\n", '[dependencies]\nx = { path = "../x", version = "=0.9.0" }\n[features]\n', "the dependency x is another package"),
 ]

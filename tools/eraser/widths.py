@@ -29,6 +29,12 @@ LISTED = {
         "exact . abs_diff": U64,
     },
     "uart_spec/src/dump.rt": {"256 * self": U16},
+    "uart_spec/src/checked.rt": {"TICKS_PER_BIT * (": U32, "ticks . checked_mul": U32, "? . checked_mul": U32},
+    "uart_spec/src/layout.rt": {
+        "8 * self": "of u8",
+        "base . checked_add": "of u16, or an address: what does not fit is refused",
+        "usize * stride": OF_ADDRESSES,
+    },
     "uart_spec/src/registers/fifo_control.rt": {") << 6": "of u8"},
     "uart_spec/src/registers/line_control.rt": {") << 3": "of u8"},
     "uart_16550/src/driver/configured.rt": {"256 * dlm": U16},

@@ -1,3 +1,4 @@
+pub mod CheckedLemmas
 pub mod DivisorLemmas
 pub mod FieldLemmas
 pub mod NameLemmas

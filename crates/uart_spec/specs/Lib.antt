@@ -9,3 +9,5 @@ pub mod Config
 pub mod Orders
 pub mod Dump
 pub mod FifoSize
+pub mod Checked
+pub mod Layout

@@ -9,10 +9,12 @@
 pub mod access;
 pub mod backend;
 mod baud;
+mod checked;
 mod config;
 mod dump;
 mod errors;
 pub mod laws;
+mod layout;
 mod received;
 pub mod registers;
 mod setup;
@@ -20,6 +22,7 @@ mod setup;
 pub use baud::{
     CLK_FREQUENCY_HZ, FIFO_SIZE, NUM_REGISTERS, calc_baud_rate, calc_divisor, calc_frequency,
 };
+pub use checked::{accepted, checked_baud_rate, checked_divisor, checked_frequency};
 pub use config::{BaudRate, Config};
 pub use dump::ConfigRegisterDump;
 pub use errors::{
@@ -27,6 +30,10 @@ pub use errors::{
     InitError, InvalidAddressError, InvalidDivisorError, LoopbackError, NearestDivisorError,
     NonIntegerBaudRateError, NonIntegerDivisorError, RemoteReadyToReceiveError, StalledError,
     Uart16550TtyError,
+};
+pub use layout::{
+    ByteOrder, InvalidLayoutError, RegisterLayout, RegisterWidth, check_layout, check_ports,
+    check_spacing,
 };
 pub use received::Received;
 pub use setup::{FifoAction, FifoSize, Setup, TransmitterWait};

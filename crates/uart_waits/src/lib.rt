@@ -7,8 +7,10 @@
 #![tactic(auto)]
 
 mod awaited;
+mod errors;
 pub mod laws;
 mod waits;
 
 pub use awaited::{Awaited, Seen};
+pub use errors::{SharedError, StartError, Unfinished};
 pub use waits::{Due, Waiter, Waits};

@@ -25,6 +25,7 @@ extern crate std;
 #[cfg(not(feature = "alloc"))]
 mod absent;
 pub mod alloc;
+mod allocator;
 mod array;
 mod bits;
 #[cfg(feature = "std")]
@@ -53,25 +54,6 @@ pub use core::{cmp, convert, error, fmt, mem, num};
 pub use list::{CollectWith, ToVecWith, Vec, filled, of_array};
 pub use queue::HeapCircularBuffer;
 pub use text::{String, ToStringWith, formatted};
-
-/// `format!(in alloc; ..)`: a text, or the refusal of its memory.
-#[macro_export]
-macro_rules! format {
-    (in $alloc:expr; $($rest:tt)*) => {
-        $crate::formatted($alloc, ::core::format_args!($($rest)*))
-    };
-}
-
-/// `vec![in alloc; ..]`: a list, or the refusal of its memory.
-#[macro_export]
-macro_rules! vec {
-    (in $alloc:expr; $value:expr; $count:expr) => {
-        $crate::filled($alloc, $value, $count)
-    };
-    (in $alloc:expr; $($value:expr),*) => {
-        $crate::of_array($alloc, [$($value),*])
-    };
-}
 
 /// `format_args!`, as the texts of errors name it.
 #[macro_export]

@@ -183,3 +183,14 @@ pub fn of_array<T, const N: usize>(alloc: Global, values: [T; N]) -> Result<Vec<
     }
     Ok(list)
 }
+
+/// `vec![in alloc; ..]`: a list, or the refusal of its memory.
+#[macro_export]
+macro_rules! vec {
+    (in $alloc:expr; $value:expr; $count:expr) => {
+        $crate::filled($alloc, $value, $count)
+    };
+    (in $alloc:expr; $($value:expr),*) => {
+        $crate::of_array($alloc, [$($value),*])
+    };
+}

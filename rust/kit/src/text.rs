@@ -102,3 +102,11 @@ pub fn formatted(alloc: Global, arguments: fmt::Arguments<'_>) -> Result<String,
     text.write_fmt(arguments)?;
     Ok(text)
 }
+
+/// `format!(in alloc; ..)`: a text, or the refusal of its memory.
+#[macro_export]
+macro_rules! format {
+    (in $alloc:expr; $($rest:tt)*) => {
+        $crate::formatted($alloc, ::core::format_args!($($rest)*))
+    };
+}

@@ -15,5 +15,5 @@ pub mod alloc {
     //! Where memory comes from, and what says that there is not so much.
 
     pub use crate::memory::{Global, Memory};
-    pub use geesetrunk_kit::alloc::{AllocError, AllocFailed};
+    pub use geesetrunk_kit::alloc::AllocError;
 }

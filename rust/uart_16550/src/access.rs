@@ -1,123 +1,25 @@
 //! The accesses to a device: I/O ports of x86 by `in` and `out`, and memory by volatile loads and stores,
 //! with barriers where the architecture needs them.
 //!
-//! Of this crate, this and `shared/exclusive.rs` are the files that do something `unsafe`, and no proof covers them; `emergency.rs` has a
-//! promise alone. An access object has its base and its stride in itself, tested when it is made, so safe code can make it access nothing
-//! else.
+//! Of this crate, this, `access/ports.rs` and `shared/exclusive.rs` are the files that do something `unsafe`, and no proof covers them;
+//! `emergency.rs` has a promise alone. An access object has its base and its stride in itself, tested when it is made, so safe code can
+//! make it access nothing else. What is tested then is proved: `uart_spec`, in its module `layout`.
 #![allow(unsafe_code)]
 
-use crate::layout::{ByteOrder, InvalidLayoutError, RegisterLayout, RegisterWidth};
 #[cfg(any(target_arch = "x86", target_arch = "x86_64"))]
-use core::cell::Cell;
-#[cfg(any(target_arch = "x86", target_arch = "x86_64"))]
-use core::marker::PhantomData;
+mod ports;
+
 use core::num::{NonZeroU8, NonZeroUsize};
 use core::ptr::NonNull;
+#[cfg(any(target_arch = "x86", target_arch = "x86_64"))]
+pub use ports::X86Ports;
 use uart_design_ware::{DesignWareRegisters, USR};
-use uart_spec::InvalidAddressError;
 use uart_spec::backend::Backend;
 use uart_spec::registers::offsets;
-
-/// The eight I/O ports of a device, accessed by the instructions `in` and `out`.
-///
-/// It can be sent to another thread, but neither shared nor cloned: one object is the one way to
-/// its ports.
-///
-/// # Panics
-///
-/// `read` and `write` panic if the register offset is 8 or more. The driver passes none of these.
-///
-/// # Examples
-///
-/// ```no_run
-/// use uart_16550::native::backend::X86Ports;
-/// use uart_16550::native::{Config, Uart16550};
-///
-/// // SAFETY: this program may access the ports of COM1, and nothing else does.
-/// let ports = unsafe { X86Ports::new(0x3f8) }?;
-/// let mut uart = Uart16550::new_with_backend(ports);
-/// uart.init(Config::DEFAULT)?;
-/// # Ok::<(), Box<dyn std::error::Error>>(())
-/// ```
-#[cfg(any(target_arch = "x86", target_arch = "x86_64"))]
-#[derive(Debug)]
-pub struct X86Ports {
-    base: u16,
-    // A cell may be sent to another thread, and not shared with one.
-    not_sync: PhantomData<Cell<()>>,
-}
-
-#[cfg(any(target_arch = "x86", target_arch = "x86_64"))]
-impl X86Ports {
-    /// Returns the access to the eight ports from `base_port` on. Makes no access.
-    ///
-    /// # Errors
-    ///
-    /// `InvalidBaseAddress`, with the base port, if the last register would be beyond port 65535.
-    ///
-    /// # Safety
-    ///
-    /// As long as the object lives, and on each thread to which it is sent:
-    ///
-    /// - The processor must allow `in` and `out` at the ports `base_port` to `base_port + 7`.
-    /// - A device of the 16550 family must be at these ports, or one that does no harm if it is
-    ///   accessed as one.
-    /// - Nothing else may access these ports: no other object, no other thread, no handler of
-    ///   interrupts. If several of them need the device, they share this object by a lock, and
-    ///   a handler must not wait for a lock that it has interrupted.
-    /// - Do not name the object by a `const`: each use of the name makes another object.
-    ///
-    /// # Examples
-    ///
-    /// ```no_run
-    /// use uart_16550::native::backend::X86Ports;
-    ///
-    /// // SAFETY: this program may access the ports of COM1, and nothing else does.
-    /// let ports = unsafe { X86Ports::new(0x3f8) }?;
-    /// # Ok::<(), Box<dyn std::error::Error>>(())
-    /// ```
-    pub const unsafe fn new(base_port: u16) -> Result<Self, InvalidAddressError> {
-        match check_ports(base_port) {
-            Ok(()) => Ok(X86Ports {
-                base: base_port,
-                not_sync: PhantomData,
-            }),
-            Err(cause) => Err(cause),
-        }
-    }
-
-    /// Returns the port of the first register.
-    ///
-    /// # Examples
-    ///
-    /// ```
-    /// # use uart_16550::native::backend::X86Ports;
-    /// // SAFETY: no access is made.
-    /// let ports = unsafe { X86Ports::new(0x3f8) }?;
-    /// assert_eq!(ports.base(), 0x3f8);
-    /// # Ok::<(), Box<dyn std::error::Error>>(())
-    /// ```
-    #[must_use]
-    pub const fn base(&self) -> u16 {
-        self.base
-    }
-}
-
-#[cfg(any(target_arch = "x86", target_arch = "x86_64"))]
-impl Backend for X86Ports {
-    #[inline]
-    fn read(&mut self, register_offset: u8) -> u8 {
-        // SAFETY: `new` has tested the base, and its caller promised that these ports may be
-        // accessed.
-        unsafe { port_in(port_of(self.base, register_offset)) }
-    }
-
-    #[inline]
-    fn write(&mut self, register_offset: u8, value: u8) {
-        // SAFETY: as for `read`.
-        unsafe { port_out(port_of(self.base, register_offset), value) }
-    }
-}
+use uart_spec::{
+    ByteOrder, InvalidAddressError, InvalidLayoutError, RegisterLayout, RegisterWidth,
+    check_layout, check_spacing,
+};
 
 /// Eight registers in memory, each of one byte, accessed by volatile loads and stores.
 ///
@@ -196,7 +98,7 @@ impl VolatileMemory {
     /// # Ok::<(), Box<dyn std::error::Error>>(())
     /// ```
     pub unsafe fn new(base: NonNull<u8>, stride: u8) -> Result<Self, InvalidAddressError> {
-        let stride = check_memory(base.addr().get(), stride)?;
+        let stride = check_spacing(base.addr().get(), stride, LAST_OFFSET)?;
         Ok(VolatileMemory { base, stride })
     }
 
@@ -228,7 +130,7 @@ impl VolatileMemory {
         base: NonZeroUsize,
         stride: u8,
     ) -> Result<Self, InvalidAddressError> {
-        match check_memory(base.get(), stride) {
+        match check_spacing(base.get(), stride, LAST_OFFSET) {
             Ok(stride) => Ok(VolatileMemory {
                 base: pointer_to(base),
                 stride,
@@ -278,15 +180,17 @@ impl VolatileMemory {
 impl Backend for VolatileMemory {
     #[inline]
     fn read(&mut self, register_offset: u8) -> u8 {
+        let address = address_of(self.base, self.stride.get(), register_offset);
         // SAFETY: the constructor has tested base and stride, and its caller promised that these
         // eight bytes are valid.
-        unsafe { load(address_of(self.base, self.stride, register_offset)) }
+        unsafe { load(address) }
     }
 
     #[inline]
     fn write(&mut self, register_offset: u8, value: u8) {
+        let address = address_of(self.base, self.stride.get(), register_offset);
         // SAFETY: as for `read`.
-        unsafe { store(address_of(self.base, self.stride, register_offset), value) }
+        unsafe { store(address, value) }
     }
 }
 
@@ -332,9 +236,7 @@ impl Backend for VolatileMemory {
 pub struct WideMemory {
     // A pointer is neither sent nor shared, unless it is said below.
     base: NonNull<u8>,
-    stride: NonZeroU8,
-    width: RegisterWidth,
-    byte_order: ByteOrder,
+    layout: RegisterLayout,
 }
 
 // SAFETY: the pointer belongs to no thread, and the caller of the constructor promised that the
@@ -374,8 +276,7 @@ impl WideMemory {
         base: NonNull<u8>,
         layout: RegisterLayout,
     ) -> Result<Self, InvalidLayoutError> {
-        let stride = check_layout(base.addr().get(), layout)?;
-        Ok(WideMemory::over(base, stride, layout))
+        Self::at(base, base.addr().get(), layout)
     }
 
     /// Does the same as [`new`](Self::new) for an address that is a number. Can be called where a
@@ -406,19 +307,18 @@ impl WideMemory {
         base: NonZeroUsize,
         layout: RegisterLayout,
     ) -> Result<Self, InvalidLayoutError> {
-        match check_layout(base.get(), layout) {
-            Ok(stride) => Ok(WideMemory::over(pointer_to(base), stride, layout)),
-            Err(cause) => Err(cause),
-        }
+        Self::at(pointer_to(base), base.get(), layout)
     }
 
-    // Returns the access, for a base and a layout that were checked.
-    const fn over(base: NonNull<u8>, stride: NonZeroU8, layout: RegisterLayout) -> Self {
-        WideMemory {
-            base,
-            stride,
-            width: layout.width,
-            byte_order: layout.byte_order,
+    // Returns the access at a base of this address.
+    const fn at(
+        base: NonNull<u8>,
+        address: usize,
+        layout: RegisterLayout,
+    ) -> Result<Self, InvalidLayoutError> {
+        match check_layout(address, layout) {
+            Ok(_) => Ok(WideMemory { base, layout }),
+            Err(cause) => Err(cause),
         }
     }
 
@@ -456,28 +356,24 @@ impl WideMemory {
     /// ```
     #[must_use]
     pub const fn layout(&self) -> RegisterLayout {
-        RegisterLayout {
-            stride: self.stride.get(),
-            width: self.width,
-            byte_order: self.byte_order,
-        }
+        self.layout
     }
 }
 
 impl Backend for WideMemory {
     #[inline]
     fn read(&mut self, register_offset: u8) -> u8 {
-        let address = address_of(self.base, self.stride, register_offset);
+        let address = address_of(self.base, self.layout.stride, register_offset);
         // SAFETY: the constructor has tested base and layout, and its caller promised that these eight
         // registers are valid for accesses of their width.
-        unsafe { load_register(address, self.width, self.byte_order) }
+        unsafe { load_register(address, self.layout.width, self.layout.byte_order) }
     }
 
     #[inline]
     fn write(&mut self, register_offset: u8, value: u8) {
-        let address = address_of(self.base, self.stride, register_offset);
+        let address = address_of(self.base, self.layout.stride, register_offset);
         // SAFETY: as for `read`.
-        unsafe { store_register(address, self.width, self.byte_order, value) }
+        unsafe { store_register(address, self.layout.width, self.layout.byte_order, value) }
     }
 }
 
@@ -529,10 +425,7 @@ impl DesignWareMemory {
         base: NonNull<u8>,
         layout: RegisterLayout,
     ) -> Result<Self, InvalidLayoutError> {
-        let stride = check_layout(base.addr().get(), layout)?;
-        check_usr(base.addr().get(), stride)?;
-        let registers = WideMemory::over(base, stride, layout);
-        Ok(DesignWareMemory { registers })
+        Self::at(base, base.addr().get(), layout)
     }
 
     /// Does the same as [`new`](Self::new) for an address that is a number. Can be called where a
@@ -561,14 +454,21 @@ impl DesignWareMemory {
         base: NonZeroUsize,
         layout: RegisterLayout,
     ) -> Result<Self, InvalidLayoutError> {
-        let stride = match check_layout(base.get(), layout) {
-            Ok(stride) => stride,
+        Self::at(pointer_to(base), base.get(), layout)
+    }
+
+    // Returns the access at a base of this address. USR is the last register.
+    const fn at(
+        base: NonNull<u8>,
+        address: usize,
+        layout: RegisterLayout,
+    ) -> Result<Self, InvalidLayoutError> {
+        let registers = match WideMemory::at(base, address, layout) {
+            Ok(registers) => registers,
             Err(cause) => return Err(cause),
         };
-        match check_usr(base.get(), stride) {
-            Ok(()) => Ok(DesignWareMemory {
-                registers: WideMemory::over(pointer_to(base), stride, layout),
-            }),
+        match check_spacing(address, layout.stride, offset_of(USR)) {
+            Ok(_) => Ok(DesignWareMemory { registers }),
             Err(cause) => Err(InvalidLayoutError::InvalidAddress(cause)),
         }
     }
@@ -589,16 +489,11 @@ impl Backend for DesignWareMemory {
 impl DesignWareRegisters for DesignWareMemory {
     #[inline]
     fn read_usr(&mut self) -> u8 {
-        let WideMemory {
-            base,
-            stride,
-            width,
-            byte_order,
-        } = self.registers;
-        let address = base.as_ptr().wrapping_add(USR * usize::from(stride.get()));
+        let WideMemory { base, layout } = self.registers;
+        let address = base.as_ptr().wrapping_add(USR * usize::from(layout.stride));
         // SAFETY: the constructor has tested that this address does not wrap around, and its caller
         // promised that USR is there.
-        unsafe { load_register(address, width, byte_order) }
+        unsafe { load_register(address, layout.width, layout.byte_order) }
     }
 }
 
@@ -688,81 +583,27 @@ pub unsafe fn store_register(
     }
 }
 
-// The offset of a register as a backend takes it. All are below 8.
+// The offset of the last of the eight registers.
+const LAST_OFFSET: u8 = offset_of(offsets::SPR);
+
+// The offset of a register as a backend takes it, and the number of a register. All are below 32.
 #[allow(
     clippy::cast_possible_truncation,
-    reason = "no offset of a register has more than three bits"
+    reason = "no number of a register has more than five bits"
 )]
 pub(crate) const fn offset_of(register: usize) -> u8 {
     register as u8
 }
 
-// Checks that eight ports from this one on exist.
-#[cfg(any(target_arch = "x86", target_arch = "x86_64"))]
-const fn check_ports(base: u16) -> Result<(), InvalidAddressError> {
-    match base.checked_add(offset_of(offsets::SPR) as u16) {
-        Some(_) => Ok(()),
-        None => Err(InvalidAddressError::InvalidBaseAddress(base as usize)),
-    }
-}
-
-// Checks that the registers may be so far apart, and that the last one has an address.
-const fn check_memory(base: usize, stride: u8) -> Result<NonZeroU8, InvalidAddressError> {
-    let Some(distance) = NonZeroU8::new(stride) else {
-        return Err(InvalidAddressError::InvalidStride(stride));
-    };
-    if !stride.is_power_of_two() {
-        return Err(InvalidAddressError::InvalidStride(stride));
-    }
-    match base.checked_add(offsets::SPR * stride as usize) {
-        Some(_) => Ok(distance),
-        None => Err(InvalidAddressError::InvalidBaseAddress(base)),
-    }
-}
-
-// Checks that USR has an address.
-const fn check_usr(base: usize, stride: NonZeroU8) -> Result<(), InvalidAddressError> {
-    match base.checked_add(USR * stride.get() as usize) {
-        Some(_) => Ok(()),
-        None => Err(InvalidAddressError::InvalidBaseAddress(base)),
-    }
-}
-
-// Checks the same for a layout, and that no two registers overlap and each is aligned.
-const fn check_layout(
-    base: usize,
-    layout: RegisterLayout,
-) -> Result<NonZeroU8, InvalidLayoutError> {
-    let stride = match check_memory(base, layout.stride) {
-        Ok(stride) => stride,
-        Err(cause) => return Err(InvalidLayoutError::InvalidAddress(cause)),
-    };
-    match layout.check(base) {
-        Ok(()) => Ok(stride),
-        Err(cause) => Err(cause),
-    }
-}
-
-// Returns the port of a register. The base was tested, so the sum does not overflow.
-#[cfg(any(target_arch = "x86", target_arch = "x86_64"))]
-#[inline]
-fn port_of(base: u16, register_offset: u8) -> u16 {
-    assert!(
-        usize::from(register_offset) <= offsets::SPR,
-        "no register has this offset"
-    );
-    base.wrapping_add(u16::from(register_offset))
-}
-
 // Returns the address of a register. Base and stride were tested, so it does not wrap around.
 #[inline]
-fn address_of(base: NonNull<u8>, stride: NonZeroU8, register_offset: u8) -> *mut u8 {
+fn address_of(base: NonNull<u8>, stride: u8, register_offset: u8) -> *mut u8 {
     assert!(
-        usize::from(register_offset) <= offsets::SPR,
+        register_offset <= LAST_OFFSET,
         "no register has this offset"
     );
     base.as_ptr()
-        .wrapping_add(usize::from(register_offset) * usize::from(stride.get()))
+        .wrapping_add(usize::from(register_offset) * usize::from(stride))
 }
 
 // Returns the pointer with this address, with exposed provenance. (The function of `core::ptr` with
@@ -770,38 +611,6 @@ fn address_of(base: NonNull<u8>, stride: NonZeroU8, register_offset: u8) -> *mut
 const fn pointer_to(address: NonZeroUsize) -> NonNull<u8> {
     // SAFETY: the address is not zero.
     unsafe { NonNull::new_unchecked(address.get() as *mut u8) }
-}
-
-// Reads a port. The caller must be allowed to access it.
-#[cfg(any(target_arch = "x86", target_arch = "x86_64"))]
-#[inline]
-unsafe fn port_in(port: u16) -> u8 {
-    let value;
-    // SAFETY: by the promise of the caller.
-    unsafe {
-        core::arch::asm!(
-            "in al, dx",
-            in("dx") port,
-            out("al") value,
-            options(nostack, preserves_flags),
-        );
-    }
-    value
-}
-
-// Writes a port. The caller must be allowed to access it.
-#[cfg(any(target_arch = "x86", target_arch = "x86_64"))]
-#[inline]
-unsafe fn port_out(port: u16, value: u8) {
-    // SAFETY: by the promise of the caller.
-    unsafe {
-        core::arch::asm!(
-            "out dx, al",
-            in("dx") port,
-            in("al") value,
-            options(nostack, preserves_flags),
-        );
-    }
 }
 
 // Loads a word of a device. All accesses before this one are made before the load, and all others after
@@ -951,11 +760,12 @@ word!(u32, "ldr", "str");
 /// and the ways between its types and the driver's.
 #[cfg(feature = "compat")]
 pub(crate) mod original {
-    use super::{
-        NonNull, NonZeroU8, NonZeroUsize, address_of, check_memory, load, pointer_to, store,
-    };
     #[cfg(any(target_arch = "x86", target_arch = "x86_64"))]
-    use super::{check_ports, port_in, port_of, port_out};
+    use super::ports::{read_port, write_port};
+    use super::{
+        LAST_OFFSET, NonNull, NonZeroU8, NonZeroUsize, address_of, check_spacing, load, pointer_to,
+        store,
+    };
     use crate::compat::{Uart16550Tty, Uart16550TtyError};
     use crate::native::Config;
     use crate::native::{self, InvalidAddressError};
@@ -963,6 +773,8 @@ pub(crate) mod original {
     use core::mem::ManuallyDrop;
     use core::num::NonZeroU64;
     use core::ptr;
+    #[cfg(any(target_arch = "x86", target_arch = "x86_64"))]
+    use uart_spec::check_ports;
 
     /// Access to the eight registers of one device.
     pub trait Backend {
@@ -1008,13 +820,13 @@ pub(crate) mod original {
         unsafe fn read(&mut self, register_offset: u8) -> u8 {
             // SAFETY: the constructor has tested the base, and its caller promised that these ports
             // may be accessed.
-            unsafe { port_in(port_of(self.base, register_offset)) }
+            unsafe { read_port(self.base, register_offset) }
         }
 
         #[inline]
         unsafe fn write(&mut self, register_offset: u8, value: u8) {
             // SAFETY: as for `read`.
-            unsafe { port_out(port_of(self.base, register_offset), value) }
+            unsafe { write_port(self.base, register_offset, value) }
         }
     }
 
@@ -1048,15 +860,17 @@ pub(crate) mod original {
     impl Backend for MmioBackend {
         #[inline]
         unsafe fn read(&mut self, register_offset: u8) -> u8 {
+            let address = address_of(self.base, self.stride.get(), register_offset);
             // SAFETY: the constructor has tested base and stride, and its caller promised that
             // these eight bytes are valid.
-            unsafe { load(address_of(self.base, self.stride, register_offset)) }
+            unsafe { load(address) }
         }
 
         #[inline]
         unsafe fn write(&mut self, register_offset: u8, value: u8) {
+            let address = address_of(self.base, self.stride.get(), register_offset);
             // SAFETY: as for `read`.
-            unsafe { store(address_of(self.base, self.stride, register_offset), value) }
+            unsafe { store(address, value) }
         }
     }
 
@@ -1182,10 +996,8 @@ pub(crate) mod original {
             base_address: NonNull<u8>,
             stride: u8,
         ) -> Result<Self, InvalidAddressError> {
-            let stride = check_memory(base_address.addr().get(), stride)?;
-            let base = base_address;
-            let memory = MmioBackend { base, stride };
-            Ok(Self::over_backend(memory, Lent::Memory(memory)))
+            let stride = check_spacing(base_address.addr().get(), stride, LAST_OFFSET)?;
+            Ok(Self::over_memory(base_address, stride))
         }
 
         /// Does the same as [`new_mmio`](Self::new_mmio) for an address that is a number.
@@ -1203,13 +1015,15 @@ pub(crate) mod original {
             base_address: NonZeroUsize,
             stride: u8,
         ) -> Result<Self, InvalidAddressError> {
-            let stride = match check_memory(base_address.get(), stride) {
-                Ok(stride) => stride,
-                Err(cause) => return Err(cause),
-            };
-            let base = pointer_to(base_address);
+            match check_spacing(base_address.get(), stride, LAST_OFFSET) {
+                Ok(stride) => Ok(Self::over_memory(pointer_to(base_address), stride)),
+                Err(cause) => Err(cause),
+            }
+        }
+
+        const fn over_memory(base: NonNull<u8>, stride: NonZeroU8) -> Self {
             let memory = MmioBackend { base, stride };
-            Ok(Self::over_backend(memory, Lent::Memory(memory)))
+            Self::over_backend(memory, Lent::Memory(memory))
         }
     }
 

@@ -10,7 +10,6 @@ pub mod compat;
 pub mod emergency;
 #[cfg(all(feature = "compat", feature = "embedded-io"))]
 mod io;
-mod layout;
 pub mod native;
 pub mod ring;
 #[cfg(target_has_atomic = "8")]

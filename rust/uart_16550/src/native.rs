@@ -39,9 +39,9 @@ pub mod backend {
     #[cfg(any(target_arch = "x86", target_arch = "x86_64"))]
     pub use crate::access::X86Ports;
     pub use crate::access::{DesignWareMemory, WideMemory, load_register, store_register};
-    pub use crate::layout::{ByteOrder, InvalidLayoutError, RegisterLayout, RegisterWidth};
-    pub use uart_design_ware::{DesignWare, DesignWareFault, DesignWareRegisters};
+        pub use uart_design_ware::{DesignWare, DesignWareFault, DesignWareRegisters};
     pub use uart_driver::backend::{Backend, ByteAccess, MmioBackend, PioBackend, PortAccess};
+    pub use uart_spec::{ByteOrder, InvalidLayoutError, RegisterLayout, RegisterWidth};
 }
 
 /// Everything about a 16550 that needs no access to it: its registers with their named bits and
@@ -51,9 +51,9 @@ pub mod backend {
 /// second. The functions `calc_..` panic for arguments that mean nothing, as a divisor of 0. Each
 /// has a form `checked_..` that does not.
 pub mod spec {
-    pub use uart_spec::by_hand::checked::{checked_baud_rate, checked_divisor, checked_frequency};
     pub use uart_spec::{
         CLK_FREQUENCY_HZ, FIFO_SIZE, InvalidDivisorError, NUM_REGISTERS, NonIntegerBaudRateError,
-        NonIntegerDivisorError, calc_baud_rate, calc_divisor, calc_frequency, registers,
+        NonIntegerDivisorError, calc_baud_rate, calc_divisor, calc_frequency, checked_baud_rate,
+        checked_divisor, checked_frequency, registers,
     };
 }

@@ -17,12 +17,13 @@ mod exclusive;
 mod io;
 mod line;
 
-pub use blocking::{Blocking, Unfinished, Wait};
+pub use blocking::{Blocking, Wait};
 pub use line::SharedLine;
+pub use uart_waits::{SharedError, StartError, Unfinished};
 
 use crate::native::Uart16550;
 use crate::native::backend::Backend;
-use crate::ring::{Global, RingError, StuckError, Uart16550Ring, UnnotedError};
+use crate::ring::{Global, Uart16550Ring};
 use core::fmt;
 use core::task::Waker;
 use exclusive::Exclusive;
@@ -88,63 +89,6 @@ pub trait CriticalSection {
     /// Calls the function while nobody else is in the section, and returns what it returns.
     fn run<R>(&self, call: impl FnOnce() -> R) -> R;
 }
-
-/// Why a call over shared rings did nothing more.
-#[derive(Clone, Copy, Debug, PartialEq, Eq)]
-#[cfg_attr(not(feature = "exhaustive"), non_exhaustive)]
-pub enum SharedError {
-    /// There are no rings: [`Shared::start`] was not called, or [`Shared::stop`] was. Or a line has no such port.
-    NoRings,
-    /// The call came in the middle of another one, which goes on when this one has returned. Or the kernel's section let two in.
-    InUse,
-    /// The kernel's function said not to go on waiting, or the chip was not empty after as many looks as the driver's spin limit.
-    GaveUp,
-    /// What is awaited does not come, since the chip is stuck. A [`restart`](Uart16550Ring::restart) starts it again.
-    Stuck(StuckError),
-    /// Bytes in the receive ring have no note of their errors.
-    Unnoted(UnnotedError),
-}
-
-impl fmt::Display for SharedError {
-    fn fmt(&self, f: &mut fmt::Formatter<'_>) -> fmt::Result {
-        match self {
-            Self::NoRings => f.write_str("there are no rings"),
-            Self::InUse => f.write_str("the rings are in use by a call that is not done"),
-            Self::GaveUp => f.write_str("waiting was given up"),
-            Self::Stuck(cause) => cause.fmt(f),
-            Self::Unnoted(cause) => cause.fmt(f),
-        }
-    }
-}
-
-impl core::error::Error for SharedError {}
-
-/// Why no rings were started.
-#[derive(Clone, Copy, Debug, PartialEq, Eq)]
-#[cfg_attr(not(feature = "exhaustive"), non_exhaustive)]
-pub enum StartError {
-    /// The rings could not be made.
-    NoRings(RingError),
-    /// There are rings already.
-    Started,
-    /// The line has no place of this number.
-    NoPlace,
-    /// The call came in the middle of another one.
-    InUse,
-}
-
-impl fmt::Display for StartError {
-    fn fmt(&self, f: &mut fmt::Formatter<'_>) -> fmt::Result {
-        match self {
-            Self::NoRings(cause) => cause.fmt(f),
-            Self::Started => f.write_str("there are rings already"),
-            Self::NoPlace => f.write_str("the line has no such place"),
-            Self::InUse => SharedError::InUse.fmt(f),
-        }
-    }
-}
-
-impl core::error::Error for StartError {}
 
 /// Rings that an interrupt handler and threads share.
 ///

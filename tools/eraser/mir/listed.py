@@ -127,7 +127,10 @@ CONTRACTS = {
 # it says nothing if no `usize` of the target has it.
 LAST_ADDRESS = "u128::from({}.get() as u64) + 7 * u128::from({})"
 REFUSED = "the address of the last register: `new` refuses it if no `usize` of the target has it"
+CHECKED = "the address of the last register: it is refused if no `usize` of the target has it"
 MOST = {
+    r"^uart_spec::layout::check_spacing$": ("u128::from(a0 as u64) + u128::from(a2) * u128::from(a1)", CHECKED),
+    r"^uart_spec::layout::check_layout$": ("u128::from(a0 as u64) + 7 * u128::from(a1.stride)", CHECKED),
     r"mmio::MmioBackend::new$|MmioBackend\+M::new_mmio(_from_address)?$": (LAST_ADDRESS.format("a0", "a1"), REFUSED),
     r"mmio::MmioBackendBackend::(read|write)$|mmio::MmioBackend::address$": (LAST_ADDRESS.format("a0.base", "a0.stride.get()"), REFUSED),
 }

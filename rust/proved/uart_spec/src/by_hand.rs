@@ -1,6 +1,6 @@
-//! What is by hand in this crate, since it is of the crate's own types: errors as Rust has them, a backend that is borrowed, and forms of
-//! functions that return an error where the proved function panics.
+//! What is by hand in this crate, since it is of the crate's own types: errors as Rust has them, a backend that is borrowed, and layouts of
+//! registers that depend on the processor.
 
 mod backend;
-pub mod checked;
 mod errors;
+mod layout;

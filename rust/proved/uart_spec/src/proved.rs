@@ -600,3 +600,225 @@ pub mod dump {}
 /// ```
 #[doc(alias("characters"))]
 pub mod fifo_size {}
+
+/// The arithmetic of the baud rate generator for arguments that it does not have to accept.
+///
+/// From `crates/uart_spec/specs/Checked.antt`.
+///
+/// <span id="IsAccepted"></span>
+///
+/// # `IsAccepted`
+///
+/// The arithmetic accepts two numbers and a prescaler division factor: no number is zero, and the factor is absent or at most 15.
+///
+/// ```text
+/// pub record IsAccepted (first second : ℕ) (prescaler_division_factor : Option ℕ) : Type 0 where
+///   pub one : 0 < first
+///   pub other : 0 < second
+///   pub factor : prescaler prescaler_division_factor ≤ 15
+/// ```
+///
+/// It uses [`prescaler`](crate::proved::baud#prescaler).
+///
+/// <span id="IsFrequency"></span>
+///
+/// # `IsFrequency`
+///
+/// The frequency at which a divisor gives a baud rate.
+///
+/// ```text
+/// pub record IsFrequency (baud_rate divisor : ℕ) (factor : Option ℕ) (frequency : ℕ) : Type 0 where
+///   pub accepted : IsAccepted baud_rate divisor factor
+///   pub is : frequency ≡ frequency_of baud_rate divisor factor
+/// ```
+///
+/// It uses [`IsAccepted`](crate::proved::checked#IsAccepted), [`frequency_of`](crate::proved::baud#frequency_of).
+///
+/// <span id="HasNoFrequency"></span>
+///
+/// # `HasNoFrequency`
+///
+/// The arithmetic does not accept these, or the frequency does not fit into 32 bits.
+///
+/// ```text
+/// abbrev pub HasNoFrequency : (baud_rate divisor : ℕ) → Option ℕ → Type 0
+/// HasNoFrequency baud_rate divisor factor =
+///     IsNotAccepted baud_rate divisor factor ⊎ (2 ^ 32 ≤ frequency_of baud_rate divisor factor)
+/// ```
+///
+/// It uses [`frequency_of`](crate::proved::baud#frequency_of); `IsNotAccepted` of this file.
+///
+/// <span id="IsCheckedRate"></span>
+///
+/// # `IsCheckedRate`
+///
+/// The baud rate of a divisor; or an error with the arguments, if it is no whole one or the arithmetic does not accept them.
+///
+/// ```text
+/// abbrev pub IsCheckedRate : (frequency divisor : ℕ) → Option ℕ → Result ℕ NonIntegerBaudRateError → Type 0
+/// IsCheckedRate frequency divisor factor (Ok baud_rate) =
+///     IsAccepted frequency divisor factor × IsBaudRateAnswer frequency divisor factor (Ok baud_rate)
+/// IsCheckedRate frequency divisor factor (Err error) =
+///     (IsNotAccepted frequency divisor factor ⊎ ((baud_rate : ℕ) → frequency_of baud_rate divisor factor ≢ frequency))
+///     × (error ≡ record { frequency = frequency; divisor = divisor; prescaler_division_factor = factor })
+/// ```
+///
+/// It uses [`IsAccepted`](crate::proved::checked#IsAccepted), [`IsBaudRateAnswer`](crate::proved::baud#IsBaudRateAnswer), [`frequency_of`](crate::proved::baud#frequency_of); `IsNotAccepted` of this file.
+///
+/// <span id="IsRefusal"></span>
+///
+/// # `IsRefusal`
+///
+/// Why the arithmetic does not accept a frequency and a baud rate: no divisor gives a baud rate of zero, or has a factor above 15; otherwise a frequency of zero has the divisor 0, which does not fit into the divisor latch.
+///
+/// ```text
+/// abbrev pub IsRefusal : (frequency baud_rate : ℕ) → Option ℕ → InvalidDivisorError → Type 0
+/// IsRefusal frequency baud_rate factor (NonInteger error) =
+///     ((baud_rate ≡ 0) ⊎ (15 < prescaler factor))
+///     × (error ≡ record { frequency = frequency; baud_rate = baud_rate; prescaler_division_factor = factor })
+/// IsRefusal frequency baud_rate factor (OutOfRange divisor) =
+///     (frequency ≡ 0) × (0 < baud_rate) × (prescaler factor ≤ 15) × (divisor ≡ 0)
+/// ```
+///
+/// It uses [`prescaler`](crate::proved::baud#prescaler).
+///
+/// <span id="IsCheckedDivisor"></span>
+///
+/// # `IsCheckedDivisor`
+///
+/// The answer of the arithmetic if it accepts these, and otherwise why it does not.
+///
+/// ```text
+/// abbrev pub IsCheckedDivisor : (frequency baud_rate : ℕ) → Option ℕ → Result ℕ InvalidDivisorError → Type 0
+/// IsCheckedDivisor frequency baud_rate factor (Ok divisor) =
+///     IsAccepted frequency baud_rate factor × IsDivisorAnswer frequency baud_rate factor (Ok divisor)
+/// IsCheckedDivisor frequency baud_rate factor (Err error) =
+///     (IsAccepted frequency baud_rate factor × IsDivisorAnswer frequency baud_rate factor (Err error))
+///     ⊎ IsRefusal frequency baud_rate factor error
+/// ```
+///
+/// It uses [`IsAccepted`](crate::proved::checked#IsAccepted), [`IsDivisorAnswer`](crate::proved::baud#IsDivisorAnswer), [`IsRefusal`](crate::proved::checked#IsRefusal).
+///
+/// <span id="IsCheckedNearest"></span>
+///
+/// # `IsCheckedNearest`
+///
+/// The answer of `nearest` for a computable configuration, and otherwise an error that has the divisor 0.
+///
+/// ```text
+/// abbrev pub IsCheckedNearest : Config → (per_mille : ℕ) → Result Config NearestDivisorError → Type 0
+/// IsCheckedNearest config per_mille result =
+///     (IsComputable config × IsNearestAnswer config per_mille result)
+///     ⊎ (IsNotAccepted config.frequency (to_integer config.baud_rate) config.prescaler_division_factor
+///         × (result ≡ Err (nearest.OutOfRange 0)))
+/// ```
+///
+/// It uses [`IsComputable`](crate::proved::config#IsComputable), [`IsNearestAnswer`](crate::proved::config#IsNearestAnswer), [`to_integer`](crate::proved::baud_rate#to_integer); `IsNotAccepted` of this file.
+///
+/// <span id="IsCheckedDumpRate"></span>
+///
+/// # `IsCheckedDumpRate`
+///
+/// The baud rate of a dump, as `IsCheckedRate` says it of the divisor there, with its name if it has one.
+///
+/// ```text
+/// abbrev pub IsCheckedDumpRate : Config → ConfigRegisterDump → Result BaudRate NonIntegerBaudRateError → Type 0
+/// IsCheckedDumpRate config dump (Ok rate) =
+///     IsCheckedRate config.frequency (divisor_of dump) config.prescaler_division_factor (Ok (to_integer rate))
+///     × ((named : BaudRate) → IsNamed named → to_integer named ≡ to_integer rate → rate ≡ named)
+/// IsCheckedDumpRate config dump (Err e) =
+///     IsCheckedRate config.frequency (divisor_of dump) config.prescaler_division_factor (Err e)
+/// ```
+///
+/// It uses [`IsCheckedRate`](crate::proved::checked#IsCheckedRate), [`divisor_of`](crate::proved::dump#divisor_of), [`to_integer`](crate::proved::baud_rate#to_integer), [`IsNamed`](crate::proved::baud_rate#IsNamed).
+#[doc(alias("IsAccepted", "IsFrequency", "HasNoFrequency", "IsCheckedRate", "IsRefusal", "IsCheckedDivisor", "IsCheckedNearest", "IsCheckedDumpRate"))]
+pub mod checked {}
+
+/// How the registers of a device lie at ports and in memory.
+///
+/// From `crates/uart_spec/specs/Layout.antt`.
+///
+/// <span id="bytes_of"></span>
+///
+/// # `bytes_of`
+///
+/// How many bytes an access of this width has.
+///
+/// ```text
+/// abbrev pub bytes_of : RegisterWidth → ℕ
+/// bytes_of Bits8 = 1
+/// bytes_of Bits16 = 2
+/// bytes_of Bits32 = 4
+/// ```
+///
+/// <span id="ArePorts"></span>
+///
+/// # `ArePorts`
+///
+/// The eight ports from this one on exist: there are 65,536.
+///
+/// ```text
+/// abbrev pub ArePorts : (base : ℕ) → Type 0
+/// ArePorts base = base + offsets.SPR ≤ 65535
+/// ```
+///
+/// <span id="IsSpaced"></span>
+///
+/// # `IsSpaced`
+///
+/// Registers are a power of two apart, and the last one, whose number this is, has an address below 2^64.
+///
+/// ```text
+/// pub record IsSpaced (base stride last : ℕ) : Type 0 where
+///   pub power : IsTrue (is_power_of_two stride)
+///   pub in_range : base + last * stride < 2 ^ 64
+/// ```
+///
+/// <span id="IsSpacingRefusal"></span>
+///
+/// # `IsSpacingRefusal`
+///
+/// Why registers cannot be so: the distance is checked first.
+///
+/// ```text
+/// abbrev pub IsSpacingRefusal : (base stride last : ℕ) → InvalidAddressError → Type 0
+/// IsSpacingRefusal base stride last (InvalidStride s) = (s ≡ stride) × (is_power_of_two stride ≡ false)
+/// IsSpacingRefusal base stride last (InvalidBaseAddress a) =
+///     (a ≡ base) × IsTrue (is_power_of_two stride) × (2 ^ 64 ≤ base + last * stride)
+/// ```
+///
+/// <span id="IsLaidOut"></span>
+///
+/// # `IsLaidOut`
+///
+/// Eight registers can lie so from this address on: no two overlap, and each is aligned to its width.
+///
+/// ```text
+/// pub record IsLaidOut (base : ℕ) (layout : RegisterLayout) : Type 0 where
+///   pub spaced : IsSpaced base layout.stride offsets.SPR
+///   pub apart : bytes_of layout.width ≤ layout.stride
+///   pub aligned : base % bytes_of layout.width ≡ 0
+/// ```
+///
+/// It uses [`IsSpaced`](crate::proved::layout#IsSpaced), [`bytes_of`](crate::proved::layout#bytes_of).
+///
+/// <span id="IsLayoutRefusal"></span>
+///
+/// # `IsLayoutRefusal`
+///
+/// Why they cannot, in the order of the checks.
+///
+/// ```text
+/// abbrev pub IsLayoutRefusal : (base : ℕ) → RegisterLayout → InvalidLayoutError → Type 0
+/// IsLayoutRefusal base layout (InvalidAddress cause) = IsSpacingRefusal base layout.stride offsets.SPR cause
+/// IsLayoutRefusal base layout (StrideTooSmall stride width) =
+///     IsSpaced base layout.stride offsets.SPR
+///     × (stride ≡ layout.stride) × (width ≡ layout.width) × (stride < bytes_of width)
+/// IsLayoutRefusal base layout (MisalignedBase address width) =
+///     IsSpaced base layout.stride offsets.SPR × (bytes_of layout.width ≤ layout.stride)
+///     × (address ≡ base) × (width ≡ layout.width) × (0 < address % bytes_of width)
+/// ```
+///
+/// It uses [`IsSpacingRefusal`](crate::proved::layout#IsSpacingRefusal), [`IsSpaced`](crate::proved::layout#IsSpaced), [`bytes_of`](crate::proved::layout#bytes_of).
+#[doc(alias("bytes_of", "ArePorts", "IsSpaced", "IsSpacingRefusal", "IsLaidOut", "IsLayoutRefusal"))]
+pub mod layout {}

@@ -11,11 +11,16 @@
 
 #[macro_use(format, format_fields, vec)]
 extern crate geesetrunk_kit as std;
+extern crate geesetrunk_kit as bitflags;
 
 mod awaited;
+mod errors;
 mod waits;
 
 pub use awaited::{Awaited, Seen};
+pub use errors::{SharedError, StartError, Unfinished};
 pub use waits::{Due, Waiter, Waits};
+
+mod by_hand;
 
 pub mod proved;

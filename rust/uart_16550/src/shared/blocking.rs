@@ -6,7 +6,7 @@ use crate::native::backend::Backend;
 use crate::native::embedded_io::{ErrorType, Read, ReadReady, Write, WriteReady};
 use crate::ring::{ErrorNotes, Uart16550Ring};
 use core::fmt;
-use uart_waits::Awaited;
+use uart_waits::{Awaited, Unfinished};
 
 /// How a thread of the kernel waits, and for how long.
 ///
@@ -66,23 +66,6 @@ pub trait Wait {
     /// It is not called in the kernel's section, so interrupts are as the thread has them.
     fn wait(&mut self, is_there: impl FnMut() -> bool) -> bool;
 }
-
-/// Why not all bytes were sent or received, and how many were.
-#[derive(Clone, Copy, Debug, PartialEq, Eq)]
-pub struct Unfinished {
-    /// How many bytes were, from the front.
-    pub done: usize,
-    /// Why no more.
-    pub cause: SharedError,
-}
-
-impl fmt::Display for Unfinished {
-    fn fmt(&self, f: &mut fmt::Formatter<'_>) -> fmt::Result {
-        write!(f, "{} after {} bytes", self.cause, self.done)
-    }
-}
-
-impl core::error::Error for Unfinished {}
 
 /// Shared rings for one thread, whose calls wait. Returned by [`Shared::blocking`].
 ///

@@ -1,8 +1,8 @@
 //! A value that one caller uses at a time. Whoever comes meanwhile is refused, and does not wait.
 //!
-//! Of this crate, this and `access.rs` are the files that do something `unsafe`. That one caller uses the value at a time is seen to here
-//! alone: a kernel's [`CriticalSection`](super::CriticalSection) that keeps nobody out makes calls be refused, and no two of them use the
-//! value.
+//! Of this crate, this, `access.rs` and `access/ports.rs` are the files that do something `unsafe`. That one caller uses the value at a
+//! time is seen to here alone: a kernel's [`CriticalSection`](super::CriticalSection) that keeps nobody out makes calls be refused, and no
+//! two of them use the value.
 #![allow(unsafe_code)]
 
 use core::cell::UnsafeCell;

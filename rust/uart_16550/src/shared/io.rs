@@ -4,52 +4,16 @@
 use super::Shared;
 use super::{Blocking, CriticalSection, SharedError, Wait};
 use crate::native::backend::Backend;
-use crate::native::embedded_io;
 use ::embedded_io as foreign;
 #[cfg(feature = "embedded-io-async")]
 use ::embedded_io_async as asynchronous;
-
-impl foreign::Error for SharedError {
-    fn kind(&self) -> foreign::ErrorKind {
-        match self {
-            Self::GaveUp => foreign::ErrorKind::TimedOut,
-            Self::NoRings | Self::InUse | Self::Stuck(_) | Self::Unnoted(_) => {
-                foreign::ErrorKind::Other
-            }
-        }
-    }
-}
 
 impl<S, B, W> foreign::ErrorType for Blocking<'_, S, B, W> {
     type Error = SharedError;
 }
 
-impl<S: CriticalSection, B: Backend, W: Wait> foreign::Read for Blocking<'_, S, B, W> {
-    fn read(&mut self, buf: &mut [u8]) -> Result<usize, SharedError> {
-        embedded_io::Read::read(self, buf)
-    }
-}
-
-impl<S: CriticalSection, B: Backend, W: Wait> foreign::Write for Blocking<'_, S, B, W> {
-    fn write(&mut self, buf: &[u8]) -> Result<usize, SharedError> {
-        embedded_io::Write::write(self, buf)
-    }
-
-    fn flush(&mut self) -> Result<(), SharedError> {
-        embedded_io::Write::flush(self)
-    }
-}
-
-impl<S: CriticalSection, B: Backend, W> foreign::ReadReady for Blocking<'_, S, B, W> {
-    fn read_ready(&mut self) -> Result<bool, SharedError> {
-        embedded_io::ReadReady::read_ready(self)
-    }
-}
-
-impl<S: CriticalSection, B: Backend, W> foreign::WriteReady for Blocking<'_, S, B, W> {
-    fn write_ready(&mut self) -> Result<bool, SharedError> {
-        embedded_io::WriteReady::write_ready(self)
-    }
+uart_driver::as_embedded_io! {
+    [S: CriticalSection, B: Backend, W: Wait] [S: CriticalSection, B: Backend, W] Blocking<'_, S, B, W>, SharedError
 }
 
 #[cfg(feature = "embedded-io-async")]

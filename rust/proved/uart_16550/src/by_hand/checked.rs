@@ -2,8 +2,9 @@
 
 use crate::Uart16550;
 use crate::backend::Backend;
-use uart_spec::by_hand::checked::{checked_divisor, computable};
-use uart_spec::{Config, FrameError, InitError, InvalidDivisorError, Setup};
+use uart_spec::{
+    Config, FrameError, InitError, InvalidDivisorError, Setup, accepted, checked_divisor,
+};
 
 // Returns the divisor for this configuration, or the error of an initialisation.
 #[inline(always)]
@@ -22,7 +23,7 @@ impl<B: Backend> Uart16550<B> {
     /// # Errors
     ///
     /// Those of `init`. The cause of a refused baud rate is that of
-    /// [`checked_divisor`](uart_spec::by_hand::checked::checked_divisor). No access was made then, and
+    /// [`checked_divisor`](uart_spec::checked_divisor). No access was made then, and
     /// nothing changed.
     ///
     /// # Examples
@@ -55,7 +56,7 @@ impl<B: Backend> Uart16550<B> {
     /// # Errors
     ///
     /// Those of `init_with`. The cause of a refused baud rate is that of
-    /// [`checked_divisor`](uart_spec::by_hand::checked::checked_divisor). No access was made then, and
+    /// [`checked_divisor`](uart_spec::checked_divisor). No access was made then, and
     /// nothing changed.
     ///
     /// # Examples
@@ -83,7 +84,7 @@ impl<B: Backend> Uart16550<B> {
     ///
     /// # Errors
     ///
-    /// Those of [`checked_divisor`](uart_spec::by_hand::checked::checked_divisor). No access was made then,
+    /// Those of [`checked_divisor`](uart_spec::checked_divisor). No access was made then,
     /// and nothing changed.
     ///
     /// # Examples
@@ -103,7 +104,7 @@ impl<B: Backend> Uart16550<B> {
     /// ```
     pub fn checked_set_frame(&mut self, config: &Config) -> Result<(), InvalidDivisorError> {
         let rate = config.baud_rate.to_integer();
-        computable(config.frequency, rate, config.prescaler_division_factor)?;
+        accepted(config.frequency, rate, config.prescaler_division_factor)?;
         self.set_frame(config)
     }
 
@@ -113,7 +114,7 @@ impl<B: Backend> Uart16550<B> {
     /// # Errors
     ///
     /// Those of `set_frame_when_idle`. The cause of a refused baud rate is that of
-    /// [`checked_divisor`](uart_spec::by_hand::checked::checked_divisor). No access was made then, and
+    /// [`checked_divisor`](uart_spec::checked_divisor). No access was made then, and
     /// nothing changed.
     ///
     /// # Examples
@@ -133,7 +134,7 @@ impl<B: Backend> Uart16550<B> {
     /// ```
     pub fn checked_set_frame_when_idle(&mut self, config: &Config) -> Result<(), FrameError> {
         let rate = config.baud_rate.to_integer();
-        match computable(config.frequency, rate, config.prescaler_division_factor) {
+        match accepted(config.frequency, rate, config.prescaler_division_factor) {
             Ok(_) => self.set_frame_when_idle(config),
             Err(cause) => Err(FrameError::InvalidBaudRate(cause)),
         }

@@ -2,7 +2,7 @@
 
 use crate::{
     AttachError, ByteReceiveError, ByteSendError, ConfigurationError, FifosOffError, FrameError, InitError,
-    InvalidAddressError, InvalidDivisorError, LoopbackError, NearestDivisorError, NonIntegerBaudRateError,
+    InvalidAddressError, InvalidDivisorError, InvalidLayoutError, LoopbackError, NearestDivisorError, NonIntegerBaudRateError,
     NonIntegerDivisorError, RemoteReadyToReceiveError, StalledError, Uart16550TtyError,
 };
 use core::error::Error;
@@ -18,44 +18,26 @@ without_cause! {
     InvalidDivisorError
 }
 
-impl Error for InitError {
-    fn source(&self) -> Option<&(dyn Error + 'static)> {
-        match self {
-            InitError::InvalidBaudRate(cause) => Some(cause),
-            InitError::DeviceNotPresent | InitError::Stalled => None,
+// Errors whose text tells of the cause that one of their cases has. Where the text is that of the cause, as of `AddressError`, the cause is
+// not named again.
+macro_rules! with_cause {
+    ($($Error:ident { $($Told:ident),+; $($Other:ident),+ })+) => { $(
+        impl Error for $Error {
+            fn source(&self) -> Option<&(dyn Error + 'static)> {
+                match self {
+                    $(Self::$Told(cause) => Some(cause),)+
+                    $(Self::$Other { .. } => None,)+
+                }
+            }
         }
-    }
+    )+ };
 }
 
-impl Error for FrameError {
-    fn source(&self) -> Option<&(dyn Error + 'static)> {
-        match self {
-            FrameError::InvalidBaudRate(cause) => Some(cause),
-            FrameError::Stalled => None,
-        }
-    }
-}
-
-impl Error for LoopbackError {
-    fn source(&self) -> Option<&(dyn Error + 'static)> {
-        match self {
-            LoopbackError::SendError(cause) => Some(cause),
-            LoopbackError::UnexpectedLoopbackByte { .. }
-            | LoopbackError::UnexpectedLoopbackMsg { .. }
-            | LoopbackError::Stalled => None,
-        }
-    }
-}
-
-impl Error for Uart16550TtyError {
-    fn source(&self) -> Option<&(dyn Error + 'static)> {
-        match self {
-            // The text is that of the cause.
-            Uart16550TtyError::AddressError(cause) => cause.source(),
-            Uart16550TtyError::InitError(cause) => Some(cause),
-            Uart16550TtyError::TestError(cause) => Some(cause),
-        }
-    }
+with_cause! {
+    InitError { InvalidBaudRate; DeviceNotPresent, Stalled }
+    FrameError { InvalidBaudRate; Stalled }
+    LoopbackError { SendError; UnexpectedLoopbackByte, UnexpectedLoopbackMsg, Stalled }
+    Uart16550TtyError { InitError, TestError; AddressError }
 }
 
 macro_rules! copied {
@@ -65,7 +47,7 @@ macro_rules! copied {
 copied! {
     NonIntegerBaudRateError NonIntegerDivisorError InvalidDivisorError NearestDivisorError FrameError
     InvalidAddressError ByteReceiveError ByteSendError RemoteReadyToReceiveError InitError LoopbackError
-    StalledError Uart16550TtyError
+    StalledError Uart16550TtyError InvalidLayoutError
 }
 
 #[cfg(feature = "embedded-io")]

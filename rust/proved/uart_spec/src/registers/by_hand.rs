@@ -10,8 +10,45 @@ use core::ops::{
     BitAnd, BitAndAssign, BitOr, BitOrAssign, BitXor, BitXorAssign, Not, Sub, SubAssign,
 };
 
-macro_rules! register {
-    ($Register:ident) => {
+// The operators of two registers: each is a method that has a name.
+macro_rules! operators {
+    ($Register:ident: $($(#[$says:meta])* $Operator:ident $operator:ident $method:ident;)+) => { $(
+        impl $Operator for $Register {
+            type Output = Self;
+
+            $(#[$says])*
+            fn $operator(self, other: Self) -> Self {
+                self.$method(other)
+            }
+        }
+    )+ };
+}
+
+// The same into the first of the two.
+macro_rules! assigning_operators {
+    ($Register:ident: $($(#[$says:meta])* $Operator:ident $operator:ident $method:ident;)+) => { $(
+        impl $Operator for $Register {
+            $(#[$says])*
+            fn $operator(&mut self, other: Self) {
+                *self = self.$method(other);
+            }
+        }
+    )+ };
+}
+
+// The formats of a number, which a register has as its byte has them.
+macro_rules! formats {
+    ($Register:ident: $($Format:ident)+) => { $(
+        impl fmt::$Format for $Register {
+            fn fmt(&self, f: &mut fmt::Formatter<'_>) -> fmt::Result {
+                fmt::$Format::fmt(&self.0, f)
+            }
+        }
+    )+ };
+}
+
+macro_rules! registers {
+    ($($Register:ident)+) => { $(
         // All eight bits of each register have a name.
         impl $Register {
             /// Returns the register without a bit.
@@ -365,68 +402,26 @@ macro_rules! register {
             }
         }
 
-        impl BitOr for $Register {
-            type Output = Self;
-
+        operators! { $Register:
             /// Returns the bits that are set in one of the two or in both.
-            fn bitor(self, other: Self) -> Self {
-                self.union(other)
-            }
-        }
-
-        impl BitOrAssign for $Register {
-            /// Sets the bits of `other`.
-            fn bitor_assign(&mut self, other: Self) {
-                self.insert(other);
-            }
-        }
-
-        impl BitAnd for $Register {
-            type Output = Self;
-
+            BitOr bitor union;
             /// Returns the bits that are set in both.
-            fn bitand(self, other: Self) -> Self {
-                self.intersection(other)
-            }
-        }
-
-        impl BitAndAssign for $Register {
-            /// Clears the bits that are not set in `other`.
-            fn bitand_assign(&mut self, other: Self) {
-                *self = self.intersection(other);
-            }
-        }
-
-        impl BitXor for $Register {
-            type Output = Self;
-
+            BitAnd bitand intersection;
             /// Returns the bits that are set in one of the two and not in both.
-            fn bitxor(self, other: Self) -> Self {
-                self.symmetric_difference(other)
-            }
-        }
-
-        impl BitXorAssign for $Register {
-            /// Inverts the bits of `other`.
-            fn bitxor_assign(&mut self, other: Self) {
-                self.toggle(other);
-            }
-        }
-
-        impl Sub for $Register {
-            type Output = Self;
-
+            BitXor bitxor symmetric_difference;
             /// Returns the bits that are set here and not in `other`.
-            fn sub(self, other: Self) -> Self {
-                self.difference(other)
-            }
+            Sub sub difference;
         }
 
-        impl SubAssign for $Register {
+        assigning_operators! { $Register:
+            /// Sets the bits of `other`.
+            BitOrAssign bitor_assign union;
+            /// Clears the bits that are not set in `other`.
+            BitAndAssign bitand_assign intersection;
+            /// Inverts the bits of `other`.
+            BitXorAssign bitxor_assign symmetric_difference;
             /// Clears the bits of `other`.
-            fn sub_assign(&mut self, other: Self) {
-                self.remove(other);
-            }
+            SubAssign sub_assign difference;
         }
 
         impl Not for $Register {
@@ -461,37 +456,8 @@ macro_rules! register {
             }
         }
 
-        impl fmt::Binary for $Register {
-            fn fmt(&self, f: &mut fmt::Formatter<'_>) -> fmt::Result {
-                fmt::Binary::fmt(&self.0, f)
-            }
-        }
-
-        impl fmt::Octal for $Register {
-            fn fmt(&self, f: &mut fmt::Formatter<'_>) -> fmt::Result {
-                fmt::Octal::fmt(&self.0, f)
-            }
-        }
-
-        impl fmt::LowerHex for $Register {
-            fn fmt(&self, f: &mut fmt::Formatter<'_>) -> fmt::Result {
-                fmt::LowerHex::fmt(&self.0, f)
-            }
-        }
-
-        impl fmt::UpperHex for $Register {
-            fn fmt(&self, f: &mut fmt::Formatter<'_>) -> fmt::Result {
-                fmt::UpperHex::fmt(&self.0, f)
-            }
-        }
-    };
+        formats! { $Register: Binary Octal LowerHex UpperHex }
+    )+ };
 }
 
-register!(IER);
-register!(ISR);
-register!(FCR);
-register!(LCR);
-register!(MCR);
-register!(LSR);
-register!(MSR);
-register!(PSD);
+registers! { IER ISR FCR LCR MCR LSR MSR PSD }

@@ -1,0 +1,317 @@
+//! Forms that return an error for arguments which the arithmetic does not accept.
+//!
+//! In Rattle a caller is proved to meet what a function requires. In Rust nobody does that, so the
+//! function tests it and panics; these functions test it before the call, and require nothing.
+
+use crate::baud::{calc_baud_rate, calc_divisor};
+use crate::config::{BaudRate, Config};
+use crate::dump::ConfigRegisterDump;
+use crate::errors::{
+    InvalidDivisorError, NearestDivisorError, NonIntegerBaudRateError, NonIntegerDivisorError,
+};
+use crate::registers::PSD;
+
+// The clock ticks of a bit, before the prescaler.
+const TICKS_PER_BIT: u32 = 16;
+
+// The factor is above 15.
+struct UnknownFactor;
+
+// Returns the factor if it is a factor. It is taken apart and put together again, so that the
+// compiler sees that the test of the called function holds, and leaves no path to its panic.
+#[inline(always)]
+fn known(prescaler_division_factor: Option<u32>) -> Result<Option<u32>, UnknownFactor> {
+    match prescaler_division_factor {
+        None => Ok(None),
+        Some(factor) if factor <= 15 => Ok(Some(factor)),
+        Some(_) => Err(UnknownFactor),
+    }
+}
+
+/// Does the same as `calc_frequency`, but returns `None` if that would panic: if the baud rate or
+/// the divisor is 0, if the prescaler division factor is above 15, or if the frequency does not
+/// fit.
+///
+/// # Examples
+///
+/// ```
+/// # use uart_16550::native::spec::*;
+/// assert_eq!(checked_frequency(9_600, 12, None), Some(1_843_200));
+/// assert_eq!(checked_frequency(9_600, 12, Some(16)), None);
+/// assert_eq!(checked_frequency(u32::MAX, 12, None), None);
+/// ```
+///
+/// # Proved
+///
+/// - *some*: `IfSome result (IsFrequency baud_rate divisor prescaler_division_factor)`.
+///   - [`IsFrequency`](crate::proved::checked#IsFrequency): the frequency at which a divisor gives a baud rate.
+/// - *none*: `IfNone result (HasNoFrequency baud_rate divisor prescaler_division_factor)`.
+///   - [`HasNoFrequency`](crate::proved::checked#HasNoFrequency): the arithmetic does not accept these, or the frequency does not fit into 32 bits.
+///
+/// <details><summary>The clauses</summary>
+///
+/// [How to read them](crate::proved):
+///
+/// ```text
+/// ensures some { IfSome result (IsFrequency baud_rate divisor prescaler_division_factor) }
+/// ensures none { IfNone result (HasNoFrequency baud_rate divisor prescaler_division_factor) }
+/// ```
+///
+/// </details>
+pub fn checked_frequency(
+    baud_rate: u32,
+    divisor: u32,
+    prescaler_division_factor: Option<u32>,
+) -> Option<u32> {
+    let factor = known(prescaler_division_factor).ok()?;
+    if baud_rate == 0 || divisor == 0 {
+        return None;
+    }
+    let ticks = TICKS_PER_BIT * (factor.unwrap_or(0) + 1);
+    ticks.checked_mul(baud_rate)?.checked_mul(divisor)
+}
+
+/// Does the same as `calc_baud_rate`, but also returns the error if that would panic: if the
+/// frequency or the divisor is 0, or if the prescaler division factor is above 15.
+///
+/// # Errors
+///
+/// `NonIntegerBaudRateError`, with the arguments.
+///
+/// # Examples
+///
+/// ```
+/// # use uart_16550::native::spec::*;
+/// assert_eq!(checked_baud_rate(1_843_200, 12, None), Ok(9_600));
+/// assert!(checked_baud_rate(1_843_200, 0, None).is_err());
+/// ```
+///
+/// # Proved
+///
+/// - [`IsCheckedRate`](crate::proved::checked#IsCheckedRate) `frequency divisor prescaler_division_factor result`: the baud rate of a divisor; or an error with the arguments, if it is no whole one or the arithmetic does not accept them.
+///
+/// <details><summary>The clauses</summary>
+///
+/// [How to read them](crate::proved):
+///
+/// ```text
+/// ensures { IsCheckedRate frequency divisor prescaler_division_factor result }
+/// ```
+///
+/// </details>
+pub fn checked_baud_rate(
+    frequency: u32,
+    divisor: u32,
+    prescaler_division_factor: Option<u32>,
+) -> Result<u32, NonIntegerBaudRateError> {
+    match known(prescaler_division_factor) {
+        Ok(factor) if frequency != 0 && divisor != 0 => calc_baud_rate(frequency, divisor, factor),
+        _ => Err(NonIntegerBaudRateError {
+            frequency,
+            divisor,
+            prescaler_division_factor,
+        }),
+    }
+}
+
+/// Does the same as `calc_divisor`, but also returns an error if that would panic: if the frequency
+/// or the baud rate is 0, or if the prescaler division factor is above 15.
+///
+/// # Errors
+///
+/// Those of `calc_divisor`. A baud rate of 0 or a larger factor gives `NonInteger`, and otherwise a
+/// frequency of 0 gives `OutOfRange` with the divisor 0.
+///
+/// # Examples
+///
+/// ```
+/// # use uart_16550::native::spec::*;
+/// assert_eq!(checked_divisor(1_843_200, 9_600, None), Ok(12));
+/// let refused = checked_divisor(0, 9_600, None);
+/// assert_eq!(refused, Err(InvalidDivisorError::OutOfRange { divisor: 0 }));
+/// ```
+///
+/// # Proved
+///
+/// - [`IsCheckedDivisor`](crate::proved::checked#IsCheckedDivisor) `frequency baud_rate prescaler_division_factor result`: the answer of the arithmetic if it accepts these, and otherwise why it does not.
+///
+/// <details><summary>The clauses</summary>
+///
+/// [How to read them](crate::proved):
+///
+/// ```text
+/// ensures { IsCheckedDivisor frequency baud_rate prescaler_division_factor result }
+/// ```
+///
+/// </details>
+pub fn checked_divisor(
+    frequency: u32,
+    baud_rate: u32,
+    prescaler_division_factor: Option<u32>,
+) -> Result<u16, InvalidDivisorError> {
+    match accepted(frequency, baud_rate, prescaler_division_factor) {
+        Ok(factor) => calc_divisor(frequency, baud_rate, factor),
+        Err(cause) => Err(cause),
+    }
+}
+
+/// Returns the factor if a divisor can be computed with these, and otherwise why not.
+///
+/// # Errors
+///
+/// Those of `checked_divisor`, but for the ones that depend on the divisor.
+///
+/// # Proved
+///
+/// - *same*: if it returns `Ok factor`: `factor` is `prescaler_division_factor`.
+/// - *ok*: if it returns `Ok factor`: [`IsAccepted`](crate::proved::checked#IsAccepted) `frequency baud_rate prescaler_division_factor`: the arithmetic accepts two numbers and a prescaler division factor: no number is zero, and the factor is absent or at most 15.
+/// - *err*: if it returns `Err`, for its value [`IsRefusal`](crate::proved::checked#IsRefusal) `frequency baud_rate prescaler_division_factor`: why the arithmetic does not accept a frequency and a baud rate: no divisor gives a baud rate of zero, or has a factor above 15; otherwise a frequency of zero has the divisor 0, which does not fit into the divisor latch.
+///
+/// <details><summary>The clauses</summary>
+///
+/// [How to read them](crate::proved):
+///
+/// ```text
+/// ensures same { IfOk result (λ factor. factor ≡ prescaler_division_factor) }
+/// ensures ok { IfOk result (λ factor. IsAccepted frequency baud_rate prescaler_division_factor) }
+/// ensures err { IfErr result (IsRefusal frequency baud_rate prescaler_division_factor) }
+/// ```
+///
+/// </details>
+#[inline(always)]
+pub fn accepted(
+    frequency: u32,
+    baud_rate: u32,
+    prescaler_division_factor: Option<u32>,
+) -> Result<Option<u32>, InvalidDivisorError> {
+    match known(prescaler_division_factor) {
+        Ok(factor) if baud_rate != 0 && frequency != 0 => Ok(factor),
+        Ok(_) if baud_rate != 0 => Err(InvalidDivisorError::OutOfRange { divisor: 0 }),
+        _ => Err(InvalidDivisorError::NonInteger(NonIntegerDivisorError {
+            frequency,
+            baud_rate,
+            prescaler_division_factor,
+        })),
+    }
+}
+
+impl Config {
+    /// Does the same as `nearest`, but also returns an error if that would panic: if the
+    /// configuration is not computable.
+    ///
+    /// # Errors
+    ///
+    /// Those of `nearest`, and `OutOfRange` with the divisor 0 for a configuration that is not
+    /// computable.
+    ///
+    /// # Examples
+    ///
+    /// ```
+    /// # use uart_16550::native::*;
+    /// let clock = |frequency| Config {
+    ///     frequency,
+    ///     ..Config::DEFAULT
+    /// };
+    /// let near = clock(24_000_000).checked_nearest(20);
+    /// assert_eq!(near.map(|config| config.frequency), Ok(23_961_600));
+    /// let refused = clock(0).checked_nearest(20);
+    /// assert_eq!(refused, Err(NearestDivisorError::OutOfRange { divisor: 0 }));
+    /// ```
+    ///
+    /// # Proved
+    ///
+    /// - [`IsCheckedNearest`](crate::proved::checked#IsCheckedNearest) `self per_mille result`: the answer of `nearest` for a computable configuration, and otherwise an error that has the divisor 0.
+    ///
+    /// <details><summary>The clauses</summary>
+    ///
+    /// [How to read them](crate::proved):
+    ///
+    /// ```text
+    /// ensures { IsCheckedNearest self per_mille result }
+    /// ```
+    ///
+    /// </details>
+    pub fn checked_nearest(self, per_mille: u32) -> Result<Config, NearestDivisorError> {
+        if self.is_computable() {
+            self.nearest(per_mille)
+        } else {
+            Err(NearestDivisorError::OutOfRange { divisor: 0 })
+        }
+    }
+}
+
+impl ConfigRegisterDump {
+    /// Does the same as `baud_rate`, but also returns the error if that would panic: if the
+    /// frequency is 0, or if the prescaler division factor is above 15.
+    ///
+    /// # Errors
+    ///
+    /// `NonIntegerBaudRateError`, with the frequency, the divisor and the factor.
+    ///
+    /// # Examples
+    ///
+    /// ```
+    /// # use uart_16550::native::*;
+    /// // As a port shows itself that is not set up.
+    /// let shown = ConfigRegisterDump::default();
+    /// assert!(shown.checked_baud_rate(&Config::DEFAULT).is_err());
+    /// ```
+    ///
+    /// # Proved
+    ///
+    /// - [`IsCheckedDumpRate`](crate::proved::checked#IsCheckedDumpRate) `config.now self.now result`: the baud rate of a dump, as `IsCheckedRate` says it of the divisor there, with its name if it has one.
+    ///
+    /// <details><summary>The clauses</summary>
+    ///
+    /// [How to read them](crate::proved):
+    ///
+    /// ```text
+    /// ensures { IsCheckedDumpRate config.now self.now result }
+    /// ```
+    ///
+    /// </details>
+    pub fn checked_baud_rate(&self, config: &Config) -> Result<BaudRate, NonIntegerBaudRateError> {
+        let divisor = self.divisor() as u32;
+        match checked_baud_rate(config.frequency, divisor, config.prescaler_division_factor) {
+            Ok(rate) => Ok(BaudRate::from_integer(rate)),
+            Err(error) => Err(error),
+        }
+    }
+}
+
+impl PSD {
+    /// Does the same as `set_pdf`, but returns `None` if that would panic: if the factor is above
+    /// 15.
+    ///
+    /// # Examples
+    ///
+    /// ```
+    /// # use uart_16550::spec::registers::*;
+    /// assert_eq!(PSD::empty().checked_set_pdf(3).map(|psd| psd.pdf()), Some(3));
+    /// assert_eq!(PSD::empty().checked_set_pdf(16), None);
+    /// ```
+    ///
+    /// # Proved
+    ///
+    /// - *factor*: `IfSome result (λ psd. pdf ≤ 15)`.
+    /// - *some*: `IfSome result (λ psd. psd.0 ≡ bit_or (bit_and self.0 0xF0) pdf)`.
+    /// - *none*: `IfNone result (15 < pdf)`.
+    ///
+    /// <details><summary>The clauses</summary>
+    ///
+    /// [How to read them](crate::proved):
+    ///
+    /// ```text
+    /// ensures factor { IfSome result (λ psd. pdf ≤ 15) }
+    /// ensures some { IfSome result (λ psd. psd.0 ≡ bit_or (bit_and self.0 0xF0) pdf) }
+    /// ensures none { IfNone result (15 < pdf) }
+    /// ```
+    ///
+    /// </details>
+    pub const fn checked_set_pdf(self, pdf: u8) -> Option<Self> {
+        if pdf > 15 {
+            return None;
+        }
+        Some(self.set_pdf(pdf))
+    }
+}
