@@ -51,6 +51,7 @@ MAKE_RINGS = ["uart_ring", "uart_link", "uart_machine"]
 OF_TESTS = {
     "uart_16550": ["uart_calls", "uart_chip"],
     "uart_ring": ["uart_calls", "uart_live"],
+    "uart_machine": ["uart_16550", "uart_ring", "uart_spec"],
 }
 
 # Files that end with a module by hand, which is not emitted: what has to be in a type's own crate.

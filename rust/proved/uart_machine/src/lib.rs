@@ -27,8 +27,6 @@ const _: () = assert!(usize::BITS == 64, "what is not for users is for targets o
 
 #[macro_use(format, format_fields, vec)]
 extern crate geesetrunk_kit as std;
-extern crate geesetrunk_kit as bitflags;
-extern crate geesetrunk_kit as arrayvec;
 
 pub mod script;
 
