@@ -26,6 +26,7 @@ use Rattle.uart_chip.proofs.conservation.Went.{Modes}
 use Rattle.uart_chip.proofs.conservation.BlockLaws.{IsOpen, Stands, PassedBlocks, path_as}
 use Rattle.uart_chip.proofs.conservation.SessionLaws.{taken_entered}
 use Rattle.uart_run.specs.Overruns.{FlagTells}
+use Rattle.uart_run.specs.ReceivedErrors.{character_errors}
 use Rattle.uart_run.specs.Ready.{Ready}
 use Rattle.uart_run.specs.Run.{State, machine_of}
 use Rattle.uart_run.proofs.CallBlocks.{InBlocks}
@@ -50,7 +51,7 @@ use Rattle.uart_ring_runs.specs.declared.call.RingCall.TheVariants as call
 use Rattle.uart_ring_runs.specs.declared.call.RingAnswer.{RingAnswer}
 use Rattle.uart_ring_runs.specs.Healthy.{IsInRoom}
 use Rattle.uart_ring_runs.specs.NotedErrors.{NotingState, noted_machine, noted_receiver, without_notes, IsOfFront, AreTheirs, NotesHold}
-use Rattle.uart_ring_runs.specs.NotedErrors.{NotesGo}
+use Rattle.uart_ring_runs.specs.NotedErrors.{NotesGo, errors_told}
 use Rattle.uart_ring_runs.specs.RingBytes.{to_take, gone_in}
 use Rattle.uart_ring_runs.specs.RingRun.{RingState, RingCalled, RingPerformed, under, ring_machine, IsOfRings}
 use Rattle.uart_ring_runs.specs.RingSession.{IsWithinRingSession}
@@ -67,28 +68,28 @@ use Rattle.uart_ring_runs.proofs.RingWalk as walk
 -- those of the last ones, and of what comes behind them
 latest_further : (k c : ℕ) (xs ys : List ℕ) → k ≤ c → latest k (latest c xs ++ ys) ≡ latest k (xs ++ ys)
 latest_further k c xs ys fewer =
-    let d = length xs - c in
-    let few : d ≤ length xs = omega arith in
-    let joined : latest c xs ++ ys ≡ drop d (xs ++ ys) = sym (drop-append-le d xs ys few) in
-    let long = length-drop d (xs ++ ys) in
+    let few : length xs - c ≤ length xs = omega arith in
+    let joined : latest c xs ++ ys ≡ drop (length xs - c) (xs ++ ys) = sym (drop-append-le (length xs - c) xs ys few) in
+    let long = length-drop (length xs - c) (xs ++ ys) in
     let sum = length-append xs ys in
-    let place : d + (length (drop d (xs ++ ys)) - k) ≡ length (xs ++ ys) - k = omega (arith, long, sum, fewer) in
-    ap (latest k) joined ∙ (drop-drop (length (drop d (xs ++ ys)) - k) d (xs ++ ys) ∙ ap (λ n. drop n (xs ++ ys)) place)
+    let whole = xs ++ ys in
+    let place : (length xs - c) + (length (drop (length xs - c) whole) - k) ≡ length whole - k = omega (arith, long, sum, fewer) in
+    ap (latest k) joined ∙ (drop-drop (length (drop (length xs - c) whole) - k) (length xs - c) whole ∙ ap (λ n. drop n whole) place)
 
 -- once some have gone from the front of the last n, and others came behind
 latest_after : (n gone left : ℕ) (noted more : List ℕ) → n ≤ length noted → gone + left ≡ n + length more →
     latest left (noted ++ more) ≡ drop gone (latest n noted ++ more)
 latest_after n gone left noted more enough sizes =
-    let d = length noted - n in
-    let few : d ≤ length noted = omega arith in
-    let joined : latest n noted ++ more ≡ drop d (noted ++ more) = sym (drop-append-le d noted more few) in
+    let few : length noted - n ≤ length noted = omega arith in
+    let joined : latest n noted ++ more ≡ drop (length noted - n) (noted ++ more) =
+    sym (drop-append-le (length noted - n) noted more few) in
     let sum = length-append noted more in
-    let place : length (noted ++ more) - left ≡ d + gone = omega (arith, sum, enough, sizes) in
-    ap (λ k. drop k (noted ++ more)) place ∙ (sym (drop-drop gone d (noted ++ more)) ∙ ap (drop gone) (sym joined))
+    let place : length (noted ++ more) - left ≡ (length noted - n) + gone = omega (arith, sum, enough, sizes) in
+    ap (λ k. drop k (noted ++ more)) place ∙ (sym (drop-drop gone (length noted - n) (noted ++ more)) ∙ ap (drop gone) (sym joined))
 
 -- ---- the notes after a list of accesses
 
-pub notes_after : List Access → Notes → Notes
+abbrev pub notes_after : List Access → Notes → Notes
 notes_after [] n = n
 notes_after (access ∷ l) n = notes_after l (with_access access n)
 
@@ -99,9 +100,14 @@ record Followed (k : ℕ) (n after : Notes) (shown : ℕ) (errors : List ℕ) : 
   pub capacity : after.noted.capacity ≡ n.noted.capacity
   pub last : latest k after.noted.items ≡ latest k (n.noted.items ++ errors)
 
+-- the same after a read of this register, and then a list
+abbrev FollowedRead : (k : ℕ) (n : Notes) (answer : ℕ) (l : List Access) (offset : ℕ) → Type 0
+FollowedRead k n answer l offset =
+    Followed k n (notes_after l (with_read offset answer n)) (shown_after (shown_read offset answer n.shown) l)
+    (noted_by (Read offset answer) n.shown ++ noted_errors (shown_read offset answer n.shown) l)
+
 follows : (k : ℕ) (l : List Access) (n : Notes) → ArePlain l → n.is_latch ≡ false → k ≤ n.noted.capacity →
     Followed k n (notes_after l n) (shown_after n.shown l) (noted_errors n.shown l)
-unfolding notes_after shown_after noted_errors
 follows k [] n p latch enough =
     record { latch = latch; shown = refl; capacity = refl; last = ap (latest k) (sym (append-nil n.noted.items)) }
 follows k (Write offset value ∷ l) n p latch enough =
@@ -110,24 +116,19 @@ follows k (Write offset value ∷ l) n p latch enough =
     subst F (sym same) (follows k l n p.1 latch enough)
 follows k (Read offset answer ∷ l) n p latch enough = go (offset == offsets.LSR) (offset == offsets.DATA) refl refl
   where
-    F : ℕ → Notes → Type 0
-    F o m = Followed k n (notes_after l m) (shown_after (shown_read o answer n.shown) l)
-        (noted_by (Read o answer) n.shown ++ noted_errors (shown_read o answer n.shown) l)
-
-    seen : Followed k n (notes_after l (with_read offsets.LSR answer n)) (shown_after (shown_read offsets.LSR answer n.shown) l)
-        (noted_by (Read offsets.LSR answer) n.shown ++ noted_errors (shown_read offsets.LSR answer n.shown) l)
+    seen : FollowedRead k n answer l offsets.LSR
     seen =
         let m : Notes = record n { shown = bit_or n.shown (bit_and answer LSR.LINE_ERRORS.0) } in
         let f = follows k l m p.1 latch enough in
         record { latch = f.latch; shown = f.shown; capacity = f.capacity; last = f.last }
 
-    byte : Followed k n (notes_after l (with_read offsets.DATA answer n)) (shown_after (shown_read offsets.DATA answer n.shown) l)
-        (noted_by (Read offsets.DATA answer) n.shown ++ noted_errors (shown_read offsets.DATA answer n.shown) l)
+    byte : FollowedRead k n answer l offsets.DATA
     byte =
         let m : Notes = record n { noted = with_latest n.shown n.noted; shown = 0 } in
         let is : with_read offsets.DATA answer n ≡ m = rw latch refl in
         let f = follows k l m p.1 latch enough in
-        rw is (record {
+        let G : Notes → Type 0 = λ v. Followed k n (notes_after l v) (shown_after 0 l) (n.shown ∷ noted_errors 0 l) in
+        subst G (sym is) (record {
           latch = f.latch;
           shown = f.shown;
           capacity = f.capacity;
@@ -135,19 +136,23 @@ follows k (Read offset answer ∷ l) n p latch enough = go (offset == offsets.LS
               ∙ ap (latest k) (append_assoc n.noted.items (n.shown ∷ []) (noted_errors 0 l)));
         })
 
-    go : (a b : Bool) → (offset == offsets.LSR) ≡ a → (offset == offsets.DATA) ≡ b → F offset (with_read offset answer n)
+    go : (a b : Bool) → (offset == offsets.LSR) ≡ a → (offset == offsets.DATA) ≡ b → FollowedRead k n answer l offset
     go true b e d =
         let is : offset ≡ offsets.LSR = grind (arith, common_steps) in
-        let G : ℕ → Type 0 = λ o. F o (with_read o answer n) in subst G (sym is) seen
+        subst (FollowedRead k n answer l) (sym is) seen
     go false true e d =
         let is : offset ≡ offsets.DATA = grind (arith, common_steps) in
-        let G : ℕ → Type 0 = λ o. F o (with_read o answer n) in subst G (sym is) byte
+        subst (FollowedRead k n answer l) (sym is) byte
     go false false e d =
         let same : with_read offset answer n ≡ n = rw (e, d) refl in
-        let shown : shown_read offset answer n.shown ≡ n.shown = rw (e, d) refl in
+        let unshown : shown_read offset answer n.shown ≡ n.shown = rw (e, d) refl in
         let none : noted_by (Read offset answer) n.shown ≡ [] = rw d refl in
-        let f = follows k l n p.1 latch enough in
-        rw (same, shown, none) f
+        let N : Notes → Type 0 = λ m. Followed k n (notes_after l m) (shown_after (shown_read offset answer n.shown) l)
+        (noted_by (Read offset answer) n.shown ++ noted_errors (shown_read offset answer n.shown) l) in
+        let S : ℕ → Type 0 = λ v. Followed k n (notes_after l n) (shown_after v l)
+        (noted_by (Read offset answer) n.shown ++ noted_errors v l) in
+        let E : List ℕ → Type 0 = λ es. Followed k n (notes_after l n) (shown_after n.shown l) (es ++ noted_errors n.shown l) in
+        subst N (sym same) (subst S (sym unshown) (subst E (sym none) (follows k l n p.1 latch enough)))
 
 -- a path of the backend that notes is one of the backend under it, each of whose accesses is noted
 record PathNoted {B : Type 0} (step : B → Access → B → Type 0) (l : List Access) (a b : ErrorNotes B) : Type 0 where
@@ -156,7 +161,6 @@ record PathNoted {B : Type 0} (step : B → Access → B → Type 0) (l : List A
 
 path_noted : {B : Type 0} {step : B → Access → B → Type 0} (l : List Access) (a b : ErrorNotes B) → Path (NotesErrors step) a l b →
     PathNoted step l a b
-unfolding notes_after
 path_noted {B} [] a b p = record { path = ap (λ (n : ErrorNotes B). n.backend) p; noted = ap notes_of p }
 path_noted (access ∷ l) a b p =
     let rest = path_noted l p.0 b p.2 in
@@ -192,10 +196,14 @@ holds_after x s t l gone held q a received rooms in_room h =
     ∙ latest_after (length here) (length gone) (length there) n.noted.items errors enough sizes) in
     let bytes : there ≡ drop (length gone) (here ++ data_read l) =
     sym (drop_at gone there (length gone) refl) ∙ ap (drop (length gone)) received in
+    let left = drop (length gone) (held ++ a.taken) in
+    let B : List ℕ → Type 0 = λ bs. AreTheirs bs (errors_in t) left (noted_receiver t) in
+    let E : List ℕ → Type 0 = λ es. AreTheirs (drop (length gone) (here ++ data_read l)) es left (noted_receiver t) in
+    let S : ℕ → Type 0 = λ v. IsOfFront v (noted_receiver t) in
     record {
-      theirs = rw (bytes, last)
-          (theirs-drop (length gone) (here ++ data_read l) (errors_in s ++ errors) (held ++ a.taken) (noted_receiver t) all);
-      front = rw (ap (λ (m : Notes). m.shown) q.noted ∙ f.shown) (a.front h.front);
+      theirs = subst B (sym bytes) (subst E (sym last)
+          (theirs-drop (length gone) (here ++ data_read l) (errors_in s ++ errors) (held ++ a.taken) (noted_receiver t) all));
+      front = subst S (sym (ap (λ (m : Notes). m.shown) q.noted ∙ f.shown)) (a.front h.front);
       latch = ap (λ (m : Notes). m.is_latch) q.noted ∙ f.latch;
       room = let same = ap (λ (m : Notes). m.noted.capacity) q.noted ∙ f.capacity in omega (arith, same, rooms, h.room);
     }
@@ -359,11 +367,13 @@ pub notes_begin : (s : NotingState) → (ring_fields s).receive.items ≡ [] →
     NotesHold s []
 notes_begin s empty room unshown latch fresh flag =
     let n = notes_of (ring_backend_of s) in
-    let none : latest 0 n.noted.items ≡ [] = drop_all (length n.noted.items) n.noted.items (omega arith) in
+    let none : latest 0 n.noted.items ≡ [] = drop_all (length n.noted.items - 0) n.noted.items (omega arith) in
+    let E : List ℕ → Type 0 = λ xs. AreTheirs xs (latest (length xs) n.noted.items) [] (noted_receiver s) in
+    let N : List ℕ → Type 0 = λ es. AreTheirs [] es [] (noted_receiver s) in
     record {
-      theirs = rw (empty, none) tt;
+      theirs = subst E (sym empty) (subst N (sym none) tt);
       front = record {
-        errors = rw (unshown, fresh) refl;
+        errors = ap character_errors unshown ∙ sym (ap errors_told fresh);
         overrun = λ set. absurd (false≢true (sym (has_none 1) ∙ (sym (ap (λ (v : ℕ). has_any v LSR.OVERRUN_ERROR.0) unshown) ∙ set)));
         flag = flag;
       };

@@ -5,6 +5,7 @@ use Rattle.std.proofs.Common.{zero, suc, drop, append_assoc, append-nil, refl, s
 use Rattle.std.proofs.Common.{None, if◌then◌else◌}
 use Rattle.std.specs.List.{AllByRecursion}
 use Rattle.std.proofs.lemmas.Bool.{false≢true}
+use Rattle.std.proofs.lemmas.Bool.Decides.{nat_tests}
 use Rattle.std.proofs.lemmas.Grind.{common_steps}
 use Rattle.std.proofs.lemmas.Nat.{and_assoc, or_comm}
 use lib.Bits.{or_zero_r}
@@ -61,7 +62,7 @@ abbrev pub shown_access : Access → ℕ → ℕ
 shown_access (Read offset answer) shown = shown_read offset answer shown
 shown_access (Write offset value) shown = shown
 
-pub shown_after : ℕ → List Access → ℕ
+abbrev pub shown_after : ℕ → List Access → ℕ
 shown_after shown [] = shown
 shown_after shown (access ∷ l) = shown_after (shown_access access shown) l
 
@@ -70,7 +71,7 @@ abbrev pub noted_by : Access → ℕ → List ℕ
 noted_by (Read offset answer) shown = if offset == offsets.DATA then shown ∷ [] else []
 noted_by (Write offset value) shown = []
 
-pub noted_errors : ℕ → List Access → List ℕ
+abbrev pub noted_errors : ℕ → List Access → List ℕ
 noted_errors shown [] = []
 noted_errors shown (access ∷ l) = noted_by access shown ++ noted_errors (shown_access access shown) l
 
@@ -143,6 +144,11 @@ either_tells : (shown : ℕ) (b : Bool) (x y : ReceiverState) → Tells shown x 
 either_tells shown true x y p q = p
 either_tells shown false x y p q = q
 
+same_front : (front : Character) (xs ys : List Character) (reported : Bool) →
+    front_of (front ∷ xs) reported ≡ front_of (front ∷ ys) reported
+same_front front xs ys true = refl
+same_front front xs ys false = refl
+
 tells_entered : (shown : ℕ) (new : Character) (r : ReceiverState) → Tells shown r → Tells shown (enter true new r)
 tells_entered shown new r p = either_tells shown (nat_lt (length r.queue) (room true)) _ _ (go r.queue refl) p
   where
@@ -150,7 +156,10 @@ tells_entered shown new r p = either_tells shown (nat_lt (length r.queue) (room 
         character_errors shown ≡ errors_told (front_of (r.queue ++ new ∷ [])
         (if length r.queue == 0 then false else r.is_front_reported))
     go [] e = let none : character_errors shown ≡ 0 = rw e at p in rw e none
-    go (front ∷ others) e = let same = rw e at p in rw e same
+    go (front ∷ others) e =
+        let some : (length (front ∷ others) == 0) ≡ false = grind (arith, nat_tests) in
+        let told = rw e at p in
+        rw (e, some) (told ∙ ap errors_told (same_front front others (others ++ new ∷ []) r.is_front_reported))
 
 tells_arrived : (shown : ℕ) (r : ReceiverState) (byte errors : ℕ) → Tells shown r → Tells shown (receiver.arrive false true byte errors r)
 tells_arrived shown r byte errors p =
@@ -216,11 +225,11 @@ lasts-trans shown m n o access l a b = record {
 }
 
 -- the chip is changed so at an access
-lasts_same : (shown after : ℕ) (m : MachineState) (d : ChipState) (access : Access) → IsOn m → after ≡ shown_access access shown →
+lasts_same : (shown : ℕ) (m : MachineState) (d : ChipState) (access : Access) → IsOn m →
     shown ≡ shown_access access shown →
     IsSound (record (at_access m) { chip = d }) → Same (at_access m).chip d →
     Lasts shown m (record (at_access m) { chip = d }) (access ∷ [])
-lasts_same shown after m d access w is still sound same =
+lasts_same shown m d access w still sound same =
     let a = on_access m w in
     record {
       on = record {
@@ -252,10 +261,10 @@ look_tells : (queue : List Character) (reported : Bool) →
     errors_told (front_of queue (if length queue == 0 then reported else true))
 look_tells [] reported = refl
 look_tells (front ∷ others) true =
-    let some : (length (front ∷ others) == 0) ≡ false = grind (arith, common_steps) in
+    let some : (length (front ∷ others) == 0) ≡ false = grind (arith, nat_tests) in
     rw some (or_zero_r (character_errors front.errors))
 look_tells (front ∷ others) false =
-    let some : (length (front ∷ others) == 0) ≡ false = grind (arith, common_steps) in
+    let some : (length (front ∷ others) == 0) ≡ false = grind (arith, nat_tests) in
     rw some (none_or (character_errors (bit_and front.errors LSR.CHARACTER_ERRORS.0)) ∙ and_twice front.errors)
 
 look_errors : (shown line : ℕ) (c : ChipState) → line ≡ line_status c → Tells shown c.receiver →
@@ -319,7 +328,7 @@ read_lasts shown offset value m n w elsewhere s = go (offset == offsets.LSR) ref
         let P : MachineState → Type 0 = λ k. Lasts shown m k (Read offset value ∷ []) in
         let a = on_access m w in
         let still : shown ≡ shown_read offset value shown = rw (e, elsewhere) refl in
-        subst P (sym s.0) (lasts_same shown _ m (after_read offset (at_access m).chip) (Read offset value) w refl still
+        subst P (sym s.0) (lasts_same shown m (after_read offset (at_access m).chip) (Read offset value) w still
         (sound_read offset (at_access m) a.sound) (same_read offset _ _ elsewhere e (read_move offset (at_access m).chip)))
 
 write_lasts : (shown offset value : ℕ) (m n : MachineState) → IsOn m → IsPlain (Write offset value) →
@@ -327,7 +336,7 @@ write_lasts : (shown offset value : ℕ) (m n : MachineState) → IsOn m → IsP
 write_lasts shown offset value m n w p s =
     let P : MachineState → Type 0 = λ k. Lasts shown m k (Write offset value ∷ []) in
     let a = on_access m w in
-    subst P (sym s) (lasts_same shown _ m (after_write offset value (at_access m).chip) (Write offset value) w refl refl
+    subst P (sym s) (lasts_same shown m (after_write offset value (at_access m).chip) (Write offset value) w refl
     (sound_write offset value (at_access m) a.sound)
     (same_write offset value _ _ p (write_move offset value (at_access m).chip (not_control offset p.1))))
 
@@ -459,7 +468,7 @@ told_all : (queue : List Character) (front : Character) (rest : List Character) 
 told_all queue front rest reported shown q e told = rw (q, e) at told
 
 untold_front : (r : ReceiverState) → r.is_front_reported ≡ false → Tells 0 r
-untold_front r e = let none = none_reported r e in rw none refl
+untold_front r e = sym (ap errors_told (none_reported r e))
 
 is_reported : (r : ReceiverState) (fifo : Bool) → fifo ≡ true → IsReported fifo r → r.is_front_reported ≡ true
 is_reported r fifo on h = go h.reported
@@ -554,7 +563,7 @@ quiets_idle [] q = tt
 quiets_idle (access ∷ l) q = (quiet_idle access q.0, quiets_idle l q.1)
 
 data_modem : (value : ℕ) → offsets.DATA ≡ offsets.MCR → has_any (bit_and value mcr_bits) MCR.LOOP_BACK.0 ≡ false
-data_modem value e = absurd (omega (arith, e))
+data_modem value e = absurd (false≢true (ap (λ (v : ℕ). v == offsets.MCR) e))
 
 writes_idle : (bytes : List ℕ) → AreIdle (map (Write offsets.DATA) bytes)
 writes_idle [] = tt

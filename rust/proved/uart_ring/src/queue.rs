@@ -179,10 +179,18 @@ impl ByteQueue {
     /// </details>
     #[inline]
     pub fn push_last(&mut self, byte: u8) {
-        if self.is_full() && !self.is_empty() {
-            self.drop_front(1);
-        }
+        let away = self.in_the_way();
+        self.drop_front(away);
         self.fill_from_slice(&[byte]);
+    }
+
+    // Returns how many bytes make way for one more: the first one, if there is no room.
+    #[inline]
+    fn in_the_way(&self) -> usize {
+        if self.len() < self.capacity() {
+            return 0;
+        }
+        self.len().min(1)
     }
 
     /// Returns the byte at this place, from the front on.
