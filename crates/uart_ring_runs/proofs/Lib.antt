@@ -20,5 +20,3 @@ pub mod SharedLines
 pub mod Pending
 pub mod Served
 pub mod Unmoved
-pub mod NotedWalk
-pub mod NotedRings

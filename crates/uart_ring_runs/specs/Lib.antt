@@ -8,4 +8,3 @@ pub mod RingPlain
 pub mod Edges
 pub mod SharedLine
 pub mod Healthy
-pub mod NotedErrors

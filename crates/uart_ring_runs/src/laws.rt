@@ -2,14 +2,12 @@
 //!
 //! The contract of each function is a law that callers can cite.
 ghost use Rattle.std.specs.Prelude.{◌≡◌, ◌≤◌, ◌+◌, ℕ, suc, Bool, true, false, List, None};
-ghost use Rattle.std.specs.Prelude.{[], Result, Ok, Err, All, length, map};
+ghost use Rattle.std.specs.Prelude.{Result, Ok, Err, All, length, map};
 ghost use Rattle.uart_events.specs.declared.call.Call.{Call};
 ghost use Rattle.uart_16550.specs.Driver.{Did};
 ghost use Rattle.uart_16550.specs.Init.{Inits};
 ghost use Rattle.uart_16550.specs.declared.driver.Uart16550.{Uart16550};
 ghost use Rattle.uart_chip.specs.Chip.{is_dlab_set};
-ghost use Rattle.uart_chip.specs.Laws.{reported_front};
-ghost use Rattle.uart_chip.specs.declared.receiver.Character.{Character};
 ghost use Rattle.uart_chip.specs.Machine.{MachineState, MachineStep};
 ghost use Rattle.uart_ring_runs.specs.Edges.{LosesNoEdge, is_line_up};
 ghost use Rattle.uart_ring_runs.specs.SharedLine.{Moment, AreDlabsOff, Happened, WereLowered};
@@ -19,9 +17,7 @@ ghost use Rattle.uart_ring.specs.Handle.{Handles, Retriggers};
 ghost use Rattle.uart_ring.specs.Line.{EachGoes, HandlesPorts};
 ghost use Rattle.uart_ring.specs.declared.line.LinePort.{LinePort};
 ghost use Rattle.uart_ring.specs.Storm.{TriesToHandle};
-ghost use Rattle.uart_ring.specs.Notes.{NotesErrors, notes_of};
-ghost use Rattle.uart_ring.specs.Ring.{AreEmpty, RingDid, driver_of, ring_backend_of};
-ghost use Rattle.uart_ring.specs.Ring.{ring_fields};
+ghost use Rattle.uart_ring.specs.Ring.{AreEmpty, RingDid, driver_of, ring_fields};
 ghost use Rattle.uart_ring.specs.declared.ring.service.HandleEnd.TheVariants.{Idle};
 ghost use Rattle.uart_ring.specs.declared.ring.service.Handled.{Handled};
 ghost use Rattle.uart_ring.specs.declared.ring.storm.StuckError.{StuckError};
@@ -30,25 +26,20 @@ ghost use Rattle.uart_ring_runs.specs.RingArmed.{IsRingArmed, KeepsArmed, Leaves
 ghost use Rattle.uart_ring_runs.specs.RingBytes.{AllTakeInTurn};
 ghost use Rattle.uart_ring_runs.specs.RingPlain.{AreUntold, ArePlain, ConservesPlainly};
 ghost use Rattle.uart_ring_runs.specs.RingRun.{DriverCalled, IsOfRings, RingChain, RingLink};
-ghost use Rattle.uart_ring_runs.specs.NotedErrors.{NotesGo, NotesHold, NotingState};
-ghost use Rattle.uart_ring_runs.specs.NotedErrors.{noted_receiver, without_notes};
-ghost use Rattle.uart_ring_runs.specs.RingRun.{RingPerformed, RingState, ring_machine, under};
+ghost use Rattle.uart_ring_runs.specs.RingRun.{RingState, ring_machine, under};
 ghost use Rattle.uart_ring_runs.specs.OwnSession.{OwnConserves};
 ghost use Rattle.uart_ring_runs.specs.RingSession.{AllWithinRingSession, RingConserves};
-ghost use Rattle.uart_ring_runs.specs.RingSession.{IsWithinRingSession};
 ghost use Rattle.uart_ring_runs.specs.RingStatuses.{NeitherIs};
 ghost use Rattle.uart_ring_runs.specs.declared.call.RingAnswer.{RingAnswer};
 ghost use Rattle.uart_ring_runs.specs.declared.call.RingCall.{RingCall};
 ghost use Rattle.uart_ring_runs.specs.declared.call.RingCall.TheVariants.{Driver};
 ghost use Rattle.uart_run.specs.Chains.{NoneIs, calls_of};
-ghost use Rattle.uart_run.specs.Overruns.{FlagTells};
 ghost use Rattle.uart_run.specs.Ready.{Ready};
 ghost use Rattle.uart_run.specs.Wired.{IsWired};
 ghost use Rattle.uart_spec.specs.declared.config.Config.{Config};
 
 use uart_16550::Uart16550;
 use uart_chip::Device16550;
-use uart_ring::{ErrorNotes, Uart16550Ring};
 
 /// If an `init` of this driver returns `Ok`, a session of ring calls may begin with the driver that
 /// it leaves, whatever the chip did before, also one with calls of `adjust_rts`. The driver may be
@@ -213,46 +204,3 @@ pub fn own_sessions_conserve()
     ensures { (s t : RingState) (links : List RingLink) → All IsOfRings (calls_of links) →
         RingConserves s links t → OwnConserves s links t }
 {}
-
-/// With the FIFO on, what is noted beside the rings of each received byte are exactly the parity
-/// error, the framing error and the break of its character, whatever looks at LSR in between: a
-/// handler that serves line status interrupts, a `take_line`, a pump. And an overrun stands at a
-/// byte only if a character was lost right behind the 15th or the 16th from this byte on: these are
-/// bytes of the receive ring, and then characters in the receiver.
-///
-/// This holds from rings that hold nothing, over notes of nothing, of a receiver of whose front no
-/// look has shown the errors, and each call of the rings themselves keeps it. The characters that a
-/// call reads are the first of those that were in the receiver and arrived, in order, without those
-/// that were dropped. A `take_with_errors` does what a `take` does, and returns what is noted.
-///
-/// There is a note for as many bytes as the receive ring has room for. The receive ring holds no
-/// more bytes than it has room for: `receive_len` promises this of all rings, in its clause
-/// `within`. Without the notes each call is the same call over the machine itself, so a session
-/// goes on with it as ever.
-///
-/// # Examples
-///
-/// ```
-/// noted_errors_are_exact(&ring);
-/// ```
-pub fn noted_errors_are_exact(ring: &Uart16550Ring<ErrorNotes<Device16550>>)
-    ensures begin { (s : NotingState) → (ring_fields s).receive.items ≡ [] →
-        (ring_fields s).receive.capacity ≤ (notes_of (ring_backend_of s)).noted.capacity →
-        (notes_of (ring_backend_of s)).shown ≡ 0 →
-        (notes_of (ring_backend_of s)).is_latch ≡ false →
-        reported_front (noted_receiver s) ≡ None → FlagTells (noted_receiver s) →
-        NotesHold s [] }
-    ensures calls { (call : RingCall) (answer : RingAnswer) (after : NotingState)
-        (held : List Character) →
-        Ready (under (without_notes ring.now)) → (ring_fields ring.now).driver.fifo ≡ true →
-        IsOfRings call → IsWithinRingSession (without_notes ring.now) call →
-        RingPerformed (NotesErrors MachineStep) ring.now call answer after →
-        IsInRoom (without_notes after) → NotesHold ring.now held →
-        NotesGo call answer ring.now after held }
-    ensures same { (call : RingCall) (answer : RingAnswer) (s t : NotingState) → IsOfRings call →
-        RingPerformed (NotesErrors MachineStep) s call answer t →
-        RingPerformed MachineStep (without_notes s) call answer (without_notes t) }
-{
-    // The contract of this call states what holds of every machine.
-    let _fifo = ring.inner().backend().backend().fifo_enabled();
-}
