@@ -125,8 +125,8 @@ AROUND = [
     (
         "`include!` beside the registers",
         REGISTERS,
-        "register!(PSD);",
-        "register!(PSD);\ninclude!(\"more.rs\");",
+        "MSR PSD }",
+        "MSR PSD }\ninclude!(\"more.rs\");",
         "the word `include`",
     ),
     (
@@ -167,15 +167,15 @@ AROUND = [
     (
         "`Drop` for a register",
         REGISTERS,
-        "register!(PSD);",
-        "register!(PSD);\nimpl Drop for PSD {\n    fn drop(&mut self) {}\n}",
+        "MSR PSD }",
+        "MSR PSD }\nimpl Drop for PSD {\n    fn drop(&mut self) {}\n}",
         "the trait `Drop`",
     ),
     (
         "`Deref` for a register",
         REGISTERS,
-        "register!(PSD);",
-        "register!(PSD);\nimpl core::ops::Deref for PSD {\n}",
+        "MSR PSD }",
+        "MSR PSD }\nimpl core::ops::Deref for PSD {\n}",
         "the trait `Deref`",
     ),
     (

@@ -371,7 +371,7 @@ fn other() -> u8
 
 # A crate as it is emitted and as the kit leaves it, what the first may export otherwise, and edits of it with the cause.
 EMITTED_CRATE = """//! A crate.
-pub mod by_hand;
+mod by_hand;
 mod inner;
 pub use inner::{Kept, Other};
 #[derive(Clone, PartialEq)]
@@ -416,6 +416,7 @@ EXPORTED = [
     ("    pub fn take", "    pub const fn take", "crate::Kept < B >::take: exported as `const fn take"),
     ("mut count: usize", "mut count: u64", "crate::Kept < B >::take: exported as"),
     ("Clone, PartialEq", "Clone, Copy, PartialEq", "crate::Kept: exported as `derive(Clone, Copy, PartialEq)"),
+    ("mod by_hand;", "pub mod by_hand;", "crate::by_hand: exported, and not by the proved library"),
     ("mod inner;", "pub mod inner;", "crate::inner: exported, and not by the proved library"),
     ("{Kept, Other}", "{Kept, Other, Third}", "crate::use inner :: Third: exported, and not"),
     ("mod inner;", "mod inner;\nstatic COUNT: u8 = 1;", "crate: `static`, which no library has"),

@@ -211,10 +211,6 @@ class Rules:
             text = f"#[repr ( C )] {text}"
         return f"const {text}" if path in self.table.CONSTANT else text
 
-    def is_by_hand(self, name):
-        """Whether an item is the module that is by hand."""
-        return name.endswith("::by_hand") and "pub mod by_hand;" in self.table.BY_HAND.values()
-
     def is_of_pages(self, name, text):
         """Whether an item is a module of the pages of definitions, which hold documentation alone, or the pages of another crate there."""
         is_page = re.fullmatch(r"crate::proved(::\w+)*", name) and re.fullmatch(r"mod \w+", text)
@@ -227,7 +223,7 @@ def differences(emitted, library, rules):
     for one in items(emitted, ".rs"):
         if one.visibility == "" and one.text.endswith(" .."):
             found.append(f"{one.name}: `{one.text.removesuffix(' ..')}`, which no library has")
-        elif one.visibility == "pub" and not rules.is_by_hand(one.name) and not rules.is_of_pages(one.name, one.text):
+        elif one.visibility == "pub" and not rules.is_of_pages(one.name, one.text):
             ours[one.name] = one.text
     for one in items(library, ".rt"):
         text = rules.emitted(one.name, one.text) if one.visibility == "pub" else None

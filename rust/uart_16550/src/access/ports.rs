@@ -145,3 +145,13 @@ impl Backend for X86Ports {
         unsafe { write_port(self.base, register_offset, value) }
     }
 }
+
+#[cfg(test)]
+mod tests {
+    /// A process may not access a port, so what is tested is which one would be.
+    #[test]
+    fn each_register_has_its_port() {
+        assert_eq!(super::port_of(0x3f8, 0), 0x3f8);
+        assert_eq!(super::port_of(0x3f8, 7), 0x3ff);
+    }
+}
