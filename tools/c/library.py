@@ -16,6 +16,7 @@ OF_TRAITS = {
     "uart_16550::backend::PortAccess": DEVICE,
     "uart_16550::backend::ByteAccess": DEVICE,
     "uart_ring::line::LinePorts": PORTS,
+    "uart_design_ware::registers::DesignWareRegisters": DEVICE,
 }
 # The structs of C that are large, as are those that have one of them.
 HOLD_A_DRIVER = {"u16550_core_driver"}
@@ -34,6 +35,15 @@ static inline void uart_fill_bytes(uint8_t *to, uint8_t value, size_t count)
         to[i] = value;
 }
 """,
+    "uart_first_to_last": """/* Moves the first of some characters behind the others. */
+static inline void uart_first_to_last(struct u16550_received *items, size_t count)
+{
+    struct u16550_received first = items[0];
+    for (size_t i = 1; i < count; i++)
+        items[i - 1] = items[i];
+    items[count - 1] = first;
+}
+""",
     "uart_same_bytes": """/* Returns whether so many bytes are the same. */
 static inline bool uart_same_bytes(const uint8_t *one, const uint8_t *other, size_t count)
 {
@@ -48,7 +58,8 @@ static inline bool uart_same_bytes(const uint8_t *one, const uint8_t *other, siz
 # The functions whose second argument is the offset of a register, and the names of these.
 READ = dict(enumerate("DATA IER ISR LCR MCR LSR MSR SPR".split()))
 WRITTEN = {**READ, 2: "FCR"}
-OFFSETS = {"uart_device_read": READ, "uart_read_register": READ, "uart_device_write": WRITTEN, "uart_write_register": WRITTEN}
+OFFSETS = {"uart_device_read": READ, "uart_read_register": READ, "uart_device_write": WRITTEN, "uart_write_register": WRITTEN,
+           "uart_design_ware_load": READ, "uart_design_ware_store": WRITTEN}
 
 
 # A compiler is told to put a function in the place of its calls up to so many lines, and up to so many if one of the calls is in a loop: it
