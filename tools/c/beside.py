@@ -13,6 +13,7 @@ from translate import Translation, Unknown
 from tree import DEVICE, MEMORY, OF_CALLER, PORTS
 
 FOLDER = pathlib.Path(__file__).resolve().parent
+HEADER = FOLDER.parent.parent / "c"
 RUN = FOLDER.parent / "eraser" / "mir" / "run" / "run.rs"
 # Where in the C what is by hand begins, which nothing here calls.
 BY_HAND = "/* --------------------------------------------------------------- what is by hand: memory of the caller"
@@ -75,6 +76,13 @@ static void uart_line_ports_raise(struct uart_line_ports *ports, size_t port)
 {
     (void)ports;
     beside_raise(port);
+}
+
+void beside_run(void);
+int main(void)
+{
+    beside_run();
+    return 0;
 }
 
 static struct u16550_device beside_device(void)
@@ -352,35 +360,38 @@ class Beside:
         """The text of C: the functions without what is by hand, and what calls each."""
         return source.partition(BY_HAND)[0] + HEAD_OF_C + "\n".join(self.texts)
 
-    def main(self):
+    def of_rust(self, source):
+        """The texts of the files of Rust. Numbers that the C has are tried in each place of a number."""
+        found = sorted({at for one in map(int, re.findall(r"\b\d+\b", source)) for at in (one - 1, one, one + 1) if 0 <= at < 1 << 64} | EDGES)
         declared = "\n".join(f"fn beside_call_{number}();" for number in range(len(self.calls)))
-        calls = "\n".join(self.calls)
-        return (f'{HEAD_OF_RUST}use run::{{Choices, Of, Run, Value, With, called}};\nunsafe extern "C-unwind" {{ {declared} }}\n'
-                f"fn all(run: &mut Run) {{\n{calls}\n}}\nfn main() {{ run::run(all, {len(self.translation.places)}) }}\n")
+        calls, texts = "\n".join(self.calls), values.of_mir(self.translation)
+        root = (f'{HEAD_OF_RUST}use run::{{Choices, Of, Run, Value, With, called}};\nunsafe extern "C-unwind" {{ {declared} }}\n'
+                f"fn all(run: &mut Run) {{\n{calls}\n}}\n"
+                f'#[unsafe(no_mangle)]\nextern "C" fn beside_run() {{ run::run(all, {len(self.translation.places)}) }}\n')
+        return {"lib.rs": root, "numbers.rs": f"pub const NUMBERS: [u64; {len(found)}] = {found};\n", "mir.rs": self.translation.module() + texts,
+                "run.rs": RUN.read_text(encoding="utf-8") + (FOLDER / "compared" / "beside.rs").read_text(encoding="ascii")}
 
     def build(self, source, folder):
-        """Builds the program over this text of the C. Returns its path, or None and what the compiler says."""
-        folder = pathlib.Path(folder)
+        """Builds the side of the MIR in a folder. Returns nothing, or what the compiler says."""
         folder.mkdir(exist_ok=True)
-        main = self.main()
-        texts = values.of_mir(self.translation)
-        found = sorted({at for one in map(int, re.findall(r"\b\d+\b", source)) for at in (one - 1, one, one + 1) if 0 <= at < 1 << 64} | EDGES)
-        (folder / "numbers.rs").write_text(f"pub const NUMBERS: [u64; {len(found)}] = {found};\n", encoding="ascii")
-        (folder / "mir.rs").write_text(self.translation.module() + texts, encoding="utf-8")
-        (folder / "run.rs").write_text(RUN.read_text(encoding="utf-8") + (FOLDER / "compared" / "beside.rs").read_text(encoding="ascii"), encoding="utf-8")
-        (folder / "main.rs").write_text(main, encoding="ascii")
-        return self.link(source, folder)
+        for name, text in self.of_rust(source).items():
+            (folder / name).write_text(text, encoding="utf-8")
+        return compiled(["rustc", "--edition", "2024", "--crate-type", "staticlib", "--crate-name", "beside", "-C", "opt-level=1", "-C",
+                         "overflow-checks=on", "-o", folder / "libbeside.a", folder / "lib.rs"])
 
-    def link(self, source, folder):
-        (folder / "beside.c").write_text(self.of_c(source), encoding="ascii")
-        header = FOLDER.parent.parent / "c"
-        for words in (["gcc", "-std=gnu99", "-O1", "-w", "-fexceptions", "-I", header, "-c", folder / "beside.c", "-o", folder / "beside.o"],
-                      ["rustc", "--edition", "2024", "-C", "opt-level=1", "-C", "overflow-checks=on", "-C", f"link-arg={folder / 'beside.o'}",
-                       "-o", folder / "beside", folder / "main.rs"]):
-            done = subprocess.run([str(one) for one in words], capture_output=True, text=True, check=False)
-            if done.returncode:
-                return None, done.stderr[-3000:]
-        return folder / "beside", ""
+    def link(self, source, folder, name):
+        """Builds the program over this text of the C. Returns its path, or None and what the compiler says."""
+        text, program = folder / f"{name}.c", folder / name
+        text.write_text(self.of_c(source), encoding="ascii")
+        told = compiled(["gcc", "-std=gnu99", "-O1", "-w", "-fexceptions", "-I", HEADER, text, folder / "libbeside.a", "-lpthread", "-ldl", "-lm",
+                         "-o", program])
+        return (None, told) if told else (program, "")
+
+
+def compiled(words):
+    """Runs a compiler. Returns what it says if it fails."""
+    done = subprocess.run([str(one) for one in words], capture_output=True, text=True, check=False)
+    return done.stderr[-3000:] if done.returncode else ""
 
 
 def reports(printed):
