@@ -88,10 +88,10 @@ class Written:
         inside = [statement for loop in loops for statement in c.all_statements([loop])]
         return {part.name for one in inside for whole in c.expressions(one) for part in c.every(whole) if isinstance(part, c.CallOf)}
 
-    def text(self, in_loops):
-        """Its text. `in_loops` are the functions that are called in loops."""
+    def text(self, in_loops, short):
+        """Its text. `in_loops` are the functions that are called in loops, and `short` is how many lines a short one has at most."""
         body = c.lines(self.statements)
-        is_short = len(body) <= (SHORT_IN_LOOP if self.name in in_loops else SHORT)
+        is_short = len(body) <= (max(short, SHORT_IN_LOOP) if self.name in in_loops else short)
         word = "" if self.is_public else "static inline" if is_short else "static"
         first = top(word, self.result, self.name, [c.declared(one.of, one.name) for one in self.parameters])
         return "\n".join([self.comment + "\n".join(first), "{", *body, "}", ""])
@@ -123,6 +123,7 @@ class Library:
         self.makers, self.helpers, self.bits, self.offsets, self.statics = {}, set(), {}, {}, {}
         # What the header calls the offsets of registers that are read, and of those that are written; and the numbers that functions return.
         self.registers, self.returned = None, {}
+        self.short = SHORT
         # Keys of one function by what they have in common, and the functions that only compute.
         self.same, self.quiet = {}, set()
 
@@ -492,7 +493,7 @@ class Library:
         for one in reversed(self.order):
             if text is None or one.is_public or re.search(rf"\b{one.name}\(", text):
                 out.insert(0, one)
-                text = None if text is None else text + one.text(in_loops)
+                text = None if text is None else text + one.text(in_loops, self.short)
         return out
 
     def called_in_loops(self):
@@ -509,7 +510,7 @@ class Library:
             shown = ", ".join(map(str, values))
             out.append("\n".join(c.wrapped(f"static const uint8_t {name}[{len(values)}] = {{ {shown} }};")) + "\n")
         in_loops = self.called_in_loops()
-        functions = "\n".join(one.text(in_loops) for one in self.called())
+        functions = "\n".join(one.text(in_loops, self.short) for one in self.called())
         # What was made on the way and is gone again has left makers that nobody calls.
         makers, called = [], functions
         for text in reversed(list(self.makers.values())):

@@ -15,6 +15,8 @@ ROOT = FOLDER.parent.parent
 # The crates whose functions stay functions in C. The last has the functions of the header.
 OWN = ("uart_spec", "uart_events", "uart_chip", "uart_live", "uart_virtual", "uart_c")
 EXPORTS = "uart_c"
+# A function of no more lines is `inline`: a call of a port goes through some thirty, and a compiler would call a dozen of them.
+SHORT = 20
 # The registers at the eight offsets, as they are read and as they are written.
 READ, WRITTEN = "DATA IER ISR LCR MCR LSR MSR SPR".split(), "DATA IER FCR LCR MCR LSR MSR SPR".split()
 INCLUDE = ROOT / "crates" / EXPORTS / "include"
@@ -84,6 +86,7 @@ def translated(program, source, public, exports, header, clashes):
     """The functions of the header and all that they need, with these names for those that would have one with another."""
     library = Library(program, source, public, OWN, "UART", clashes)
     library.registers, library.returned = header.registers, header.statuses
+    library.short = SHORT
     for name, function in exports.items():
         library.export(function, name, header.prototypes[name])
     for function in exports.values():
