@@ -85,6 +85,7 @@ IN_PORT = [
     ("a tick too many", "return uart_some_u16(1 < found.value.ticks_left ? found.value.ticks_left : 1);",
      "return uart_some_u16(2 < found.value.ticks_left ? found.value.ticks_left : 2);"),
     ("a status that is another", "return UART_BAD_PORT;", "return UART_BAD_CHIP;"),
+    ("a null clock is taken", "    if (clock == NULL)\n        return 0;\n", ""),
     ("a looped character is one that arrived", "queue->items[i].is_looped = looped >> i & 1;", "queue->items[i].is_looped = 0;"),
     ("a byte of a state that its field cannot have", "    if (byte <= most)\n", "    if (byte <= most + 1)\n"),
 ]
