@@ -57,8 +57,6 @@ BESIDE = {"nice": 19, "without": [*PAGES, *PROOFS], "but": C_PAGES}
 # What cargo alone builds is made of the erased crates, and of no source in Rattle. The READMEs of those are read.
 OF_RUST = [*PAGES, "crates/*", "bench/*", "tools/*"]
 READMES = [*C_PAGES, "README.md", "*/README.md", "*/COMPAT.md"]
-# The two files of C, the program over them and over the library of Rust, and what that is made of.
-OF_C_FILES = [*PAGES, "crates/*", "bench/*", "tools/eraser/*", "integration/*", "examples/*"]
 # What users of these files have: how they are installed, the page, and what they cost beside the library of Rust.
 OF_USERS_OF_C = [*PAGES, "crates/*", "bench/*", "tools/eraser/*", "integration/*", "examples/*"]
 # What is built by `rt ci` and read by these depends on the sources of the crates, which the sums have.
@@ -79,7 +77,7 @@ COMMANDS = [
     Command("tools/eraser/mir/compare", **OVER),
     Command("tools/c/emit --check driver", **OVER),
     Command("tools/c/emit --check port", **OVER | {"after": [CODE_OF_C]}),
-    Command("tools/c/compare driver", **BESIDE | {"without": OF_C_FILES}),
+    Command("tools/c/compare driver", **OVER | {"nice": 19}),
     Command("tools/c/compare port", **OVER | {"after": [C, CODE_OF_C], "nice": 19}),
     # Nothing waits for these, and they take all cores.
     Command(".ci/wrong-bodies --after-ci --in-the-gate", after=[CI], always=True, nice=19),

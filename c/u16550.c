@@ -32,6 +32,7 @@ enum {
     U16550_ISR_INTERRUPT_STATUS = 0x01,
     U16550_LCR_DLAB = 0x80,
     U16550_LCR_MORE_STOP_BITS = 0x04,
+    U16550_LCR_PARITY2 = 0x20,
     U16550_LCR_SET_BREAK = 0x40
 };
 
@@ -286,6 +287,11 @@ struct uart_expansion {
     size_t second;
 };
 
+struct uart_maybe_lsr {
+    bool is_some;
+    uint8_t value;
+};
+
 /*
  * How much room in the receive ring turns RTS off, and how much turns it on again.
  *
@@ -414,6 +420,14 @@ static inline void uart_device_write(struct u16550_device *device, uint8_t offse
     device->io.write(device->io.context, address, value);
 }
 
+/* The register USR of a DesignWare UART lies beyond the eight. */
+enum { UART_USR = 31 };
+
+static inline uint8_t uart_device_read_usr(struct u16550_device *device)
+{
+    return uart_device_read(device, UART_USR);
+}
+
 /* Memory of the caller, of which the rings take cells from the front. */
 struct uart_memory {
     uint8_t *data;
@@ -445,6 +459,15 @@ static inline void uart_fill_bytes(uint8_t *to, uint8_t value, size_t count)
 {
     for (size_t i = 0; i < count; i++)
         to[i] = value;
+}
+
+/* Moves the first of some characters behind the others. */
+static inline void uart_first_to_last(struct u16550_received *items, size_t count)
+{
+    struct u16550_received first = items[0];
+    for (size_t i = 1; i < count; i++)
+        items[i - 1] = items[i];
+    items[count - 1] = first;
 }
 
 /* Returns whether so many bytes are the same. */
@@ -813,6 +836,32 @@ static inline struct uart_bool_or_stalled_error uart_good_bool_or_stalled_error(
 static inline struct uart_expansion uart_make_expansion(struct uart_bytes3 first, size_t second)
 {
     struct uart_expansion made = { first, second };
+    return made;
+}
+
+static inline struct uart_maybe_lsr uart_no_lsr(void)
+{
+    struct uart_maybe_lsr made = { false, 0 };
+    return made;
+}
+
+static inline struct uart_maybe_lsr uart_some_lsr(uint8_t value)
+{
+    struct uart_maybe_lsr made = { true, value };
+    return made;
+}
+
+static inline struct u16550_core_maybe_design_ware_fault
+uart_some_design_ware_fault(enum u16550_core_design_ware_fault value)
+{
+    struct u16550_core_maybe_design_ware_fault made = { true, value };
+    return made;
+}
+
+static inline struct u16550_core_maybe_design_ware_fault uart_no_design_ware_fault(void)
+{
+    struct u16550_core_maybe_design_ware_fault made =
+        { false, U16550_CORE_DESIGN_WARE_FAULT_LINE_CONTROL_IGNORED };
     return made;
 }
 
@@ -2523,7 +2572,7 @@ static void uart_restore(struct u16550_core_driver *uart, const struct u16550_du
  * again. Does not wait: makes three accesses. The interrupts of config are not used, and not
  * changed.
  *
- * Proved: IER is read, and written with 0 and then with what was read.
+ * Proved: IER is read, then 0 is written to it, and then what was read.
  */
 static inline void uart_retrigger_interrupts(struct u16550_core_driver *uart)
 {
@@ -3408,6 +3457,601 @@ uart_tty_write_raw_text(struct uart_tty *tty, const uint8_t *text, size_t text_l
             : SIZE_MAX;
     }
     return uart_no_stalled_error();
+}
+
+/*
+ * Reads a register.
+ *
+ * Proved: one read of this register, which returned this.
+ */
+static inline uint8_t
+uart_design_ware_load(struct u16550_core_design_ware *design_ware, size_t offset)
+{
+    return uart_device_read(&design_ware->registers, (uint8_t)offset);
+}
+
+/*
+ * Returns whether the chip has DLAB otherwise than the driver takes it to have, so that offsets
+ * 0 and 1 are something else than the driver means.
+ *
+ * Proved: whether offsets 0 and 1 are something else than the driver means: after an ignored
+ * write of LCR, one read of LCR shows DLAB otherwise than the driver wrote it. Else no
+ * access is made.
+ */
+static inline bool uart_design_ware_is_mistaken(struct u16550_core_design_ware *design_ware)
+{
+    if (!(design_ware->fault.is_some &&
+        design_ware->fault.value == U16550_CORE_DESIGN_WARE_FAULT_LINE_CONTROL_IGNORED)) {
+        return false;
+    }
+    bool is_so = (uart_design_ware_load(design_ware, UART_LCR) & U16550_LCR_DLAB) != 0;
+    return is_so != ((design_ware->line & U16550_LCR_DLAB) != 0);
+}
+
+/*
+ * Returns whether a register is something else than the driver means.
+ *
+ * Proved: whether a register is something else than the driver means: a look, if DLAB
+ * changes it.
+ */
+static inline bool
+uart_design_ware_is_out_of_reach(struct u16550_core_design_ware *design_ware, size_t offset)
+{
+    if (1 < offset)
+        return false;
+    return uart_design_ware_is_mistaken(design_ware);
+}
+
+/* Returns whether this offset is of the divisor latch, as the driver takes it. */
+static inline bool
+uart_design_ware_is_latch(const struct u16550_core_design_ware *design_ware, size_t offset)
+{
+    return offset <= 1 && (design_ware->line & U16550_LCR_DLAB) != 0;
+}
+
+/* Takes the first one. */
+static inline struct uart_maybe_received
+uart_kept_characters_pop(struct u16550_core_kept_characters *kept_characters)
+{
+    if (kept_characters->count == 0)
+        return uart_no_received();
+    struct u16550_received received = kept_characters->cells.bytes[0];
+    uart_first_to_last(kept_characters->cells.bytes, 64);
+    kept_characters->count--;
+    return uart_some_received(received);
+}
+
+/* Reads DATA. */
+static inline uint8_t uart_design_ware_read_data(struct u16550_core_design_ware *design_ware)
+{
+    struct uart_maybe_received found = uart_kept_characters_pop(&design_ware->kept);
+    if (!found.is_some)
+        return uart_design_ware_load(design_ware, UART_DATA);
+    design_ware->cleared |= found.value.errors;
+    return found.value.byte;
+}
+
+/*
+ * Reads LSR, and saves the errors that this clears.
+ *
+ * Proved: one read of LSR, whose errors are saved.
+ */
+static inline uint8_t uart_design_ware_look(struct u16550_core_design_ware *design_ware)
+{
+    uint8_t lsr = uart_design_ware_load(design_ware, UART_LSR);
+    design_ware->cleared |= lsr & (U16550_LSR_OVERRUN_ERROR | U16550_LSR_PARITY_ERROR |
+        U16550_LSR_FRAMING_ERROR | U16550_LSR_BREAK_INTERRUPT);
+    return lsr;
+}
+
+/* Returns what a look at LSR shows of the line, without the errors, which are saved. */
+static uint8_t uart_line_state(uint8_t lsr, bool is_mistaken)
+{
+    uint8_t state =
+        lsr & (uint8_t)~(U16550_LSR_OVERRUN_ERROR | U16550_LSR_PARITY_ERROR |
+        U16550_LSR_FRAMING_ERROR | U16550_LSR_BREAK_INTERRUPT);
+    if (!is_mistaken)
+        return state;
+    return state & (uint8_t)~(U16550_LSR_DATA_READY | U16550_LSR_THR_EMPTY |
+        U16550_LSR_TRANSMITTER_EMPTY);
+}
+
+/* Takes the errors of the first one, which stays without them. */
+static inline struct uart_maybe_lsr
+uart_kept_characters_take_errors(struct u16550_core_kept_characters *kept_characters)
+{
+    if (kept_characters->count == 0)
+        return uart_no_lsr();
+    uint8_t errors = kept_characters->cells.bytes[0].errors;
+    kept_characters->cells.bytes[0].errors = 0;
+    return uart_some_lsr(errors);
+}
+
+/*
+ * Returns LSR for the character that the driver reads next, from what a look at LSR showed of
+ * the line.
+ *
+ * Proved: what LSR shows for the character that the driver reads next: data, an overrun, and
+ * its own errors. If none is kept, what the chip shows, with all errors that are saved.
+ */
+static uint8_t uart_design_ware_show(struct u16550_core_design_ware *design_ware, uint8_t state)
+{
+    struct uart_maybe_lsr found = uart_kept_characters_take_errors(&design_ware->kept);
+    if (!found.is_some) {
+        uint8_t cleared = design_ware->cleared;
+        design_ware->cleared = 0;
+        return state | cleared;
+    }
+    uint8_t overrun = design_ware->cleared & U16550_LSR_OVERRUN_ERROR;
+    design_ware->cleared &= (uint8_t)~overrun;
+    return state | U16550_LSR_DATA_READY | overrun | found.value;
+}
+
+/*
+ * Reads LSR.
+ *
+ * Proved: a read of LSR.
+ */
+static inline uint8_t uart_design_ware_read_lsr(struct u16550_core_design_ware *design_ware)
+{
+    uint8_t lsr = uart_design_ware_look(design_ware);
+    return uart_design_ware_show(design_ware,
+        uart_line_state(lsr, uart_design_ware_is_mistaken(design_ware)));
+}
+
+/*
+ * Reads USR.
+ *
+ * Proved: one read of this register, which returned this.
+ */
+static inline uint8_t uart_design_ware_read_usr(struct u16550_core_design_ware *design_ware)
+{
+    return uart_device_read_usr(&design_ware->registers);
+}
+
+/*
+ * Returns whether LSR shows neither data nor a break.
+ *
+ * Proved: LSR shows neither data nor a break, or does.
+ */
+static inline bool uart_design_ware_shows_no_data(struct u16550_core_design_ware *design_ware)
+{
+    return (
+        uart_design_ware_look(design_ware) & (U16550_LSR_DATA_READY |
+        U16550_LSR_BREAK_INTERRUPT)) == 0;
+}
+
+/*
+ * Returns whether there is nothing to read.
+ *
+ * Proved: whether nothing is to be read: none is kept, DATA can be reached, and LSR shows
+ * neither data nor a break.
+ */
+static inline bool uart_design_ware_is_without_data(struct u16550_core_design_ware *design_ware)
+{
+    if (design_ware->kept.count != 0)
+        return false;
+    if (uart_design_ware_is_mistaken(design_ware))
+        return false;
+    return uart_design_ware_shows_no_data(design_ware);
+}
+
+/*
+ * Ends a reception timeout if there is nothing to read, and returns whether that is so.
+ *
+ * Proved: a reception timeout without data is ended by a read of DATA.
+ */
+static inline bool uart_design_ware_end_timeout(struct u16550_core_design_ware *design_ware)
+{
+    if (!uart_design_ware_is_without_data(design_ware))
+        return false;
+    uart_design_ware_load(design_ware, UART_DATA);
+    return true;
+}
+
+/*
+ * Ends the interrupt that ISR shows if the driver cannot serve it, and returns whether it is
+ * such a one.
+ *
+ * Proved: an interrupt that the driver cannot serve is ended, or it is another one. A read
+ * of USR ends a busy detect.
+ */
+static inline bool
+uart_design_ware_end_interrupt(struct u16550_core_design_ware *design_ware, uint8_t isr)
+{
+    uint8_t cause = isr & 15;
+    if (cause == 7) {
+        uart_design_ware_read_usr(design_ware);
+        return true;
+    }
+    if (cause == 12)
+        return uart_design_ware_end_timeout(design_ware);
+    return false;
+}
+
+/*
+ * Returns ISR as the driver gets it. Nothing is pending in the chip for data that are kept
+ * here.
+ */
+static uint8_t
+uart_design_ware_shown_isr(const struct u16550_core_design_ware *design_ware, uint8_t isr)
+{
+    bool is_so = design_ware->kept.count != 0 &&
+        (design_ware->interrupts & U16550_IER_DATA_READY) != 0;
+    uint8_t number;
+    bool is_so2;
+    if ((isr & 15) == 1) {
+        if (is_so) {
+            number = (isr & (uint8_t)~15) | 4;
+            is_so2 = false;
+        } else {
+            is_so2 = true;
+        }
+    } else {
+        is_so2 = true;
+    }
+    if (is_so2)
+        number = isr;
+    return number;
+}
+
+/*
+ * Writes a register.
+ *
+ * Proved: one write of this register.
+ */
+static inline void
+uart_design_ware_store(struct u16550_core_design_ware *design_ware, size_t offset, uint8_t value)
+{
+    uart_device_write(&design_ware->registers, (uint8_t)offset, value);
+}
+
+/*
+ * Turns the chip's interrupts off, until LCR was written and taken. While DLAB is set, IER
+ * cannot be reached.
+ *
+ * Proved: a fault begins: all interrupts are disabled, if LCR shows that IER can be reached.
+ */
+static inline void
+uart_design_ware_begin_fault(struct u16550_core_design_ware *design_ware,
+    enum u16550_core_design_ware_fault fault)
+{
+    design_ware->fault = uart_some_design_ware_fault(fault);
+    if ((uart_design_ware_load(design_ware, UART_LCR) & U16550_LCR_DLAB) == 0)
+        uart_design_ware_store(design_ware, UART_IER, 0);
+}
+
+/*
+ * Returns ISR once it shows what the driver can serve.
+ *
+ * Proved: a read of ISR.
+ */
+static uint8_t uart_design_ware_read_isr(struct u16550_core_design_ware *design_ware)
+{
+    uint8_t isr = 1;
+    for (uint64_t round = 0; round < 4; round++) {
+        isr = uart_design_ware_load(design_ware, UART_ISR);
+        if (!uart_design_ware_end_interrupt(design_ware, isr))
+            return uart_design_ware_shown_isr(design_ware, isr);
+    }
+    uart_design_ware_begin_fault(design_ware, U16550_CORE_DESIGN_WARE_FAULT_INTERRUPT_WITHOUT_END);
+    return (isr & (uint8_t)~15) | 1;
+}
+
+/*
+ * Reads a register that is not of the latch.
+ *
+ * Proved: a read of a register that is not of the latch.
+ */
+static uint8_t
+uart_design_ware_read_plain(struct u16550_core_design_ware *design_ware, size_t offset)
+{
+    if (offset == 0)
+        return uart_design_ware_read_data(design_ware);
+    if (offset == 5)
+        return uart_design_ware_read_lsr(design_ware);
+    if (offset == 2)
+        return uart_design_ware_read_isr(design_ware);
+    return uart_design_ware_load(design_ware, offset);
+}
+
+/*
+ * Reads a register that is what the driver means.
+ *
+ * Proved: a read of a register.
+ */
+static inline uint8_t
+uart_design_ware_read_meant(struct u16550_core_design_ware *design_ware, size_t offset)
+{
+    if (uart_design_ware_is_latch(design_ware, offset))
+        return uart_design_ware_load(design_ware, offset);
+    return uart_design_ware_read_plain(design_ware, offset);
+}
+
+/*
+ * Reads the register at an offset of 0 to 7, and returns its value.
+ *
+ * Called once for each read that the driver makes. A read may change the device: one of LSR
+ * clears its error bits.
+ */
+static inline uint8_t
+uart_design_ware_read(struct u16550_core_design_ware *design_ware, uint8_t register_offset)
+{
+    size_t offset = (size_t)register_offset;
+    if (uart_design_ware_is_out_of_reach(design_ware, offset))
+        return 0;
+    return uart_design_ware_read_meant(design_ware, offset);
+}
+
+/* Returns whether this offset is that of IER, and not of the latch. */
+static inline bool
+uart_design_ware_is_interrupts(const struct u16550_core_design_ware *design_ware, size_t offset)
+{
+    return offset == 1 && !uart_design_ware_is_latch(design_ware, 1);
+}
+
+/*
+ * Writes IER.
+ *
+ * Proved: a write of IER is remembered, and made if there is no fault.
+ */
+static inline void
+uart_design_ware_write_interrupts(struct u16550_core_design_ware *design_ware, uint8_t interrupts)
+{
+    design_ware->interrupts = interrupts;
+    if (!design_ware->fault.is_some)
+        uart_design_ware_store(design_ware, UART_IER, interrupts);
+}
+
+/*
+ * Returns whether a write of FCR empties the chip's receiver: a reset, and a change of the
+ * FIFOs' switch.
+ */
+static inline bool
+uart_design_ware_empties(const struct u16550_core_design_ware *design_ware, uint8_t control)
+{
+    return (((control ^ design_ware->fifo_control) & U16550_FCR_FIFO_ENABLE) != 0) ||
+        ((control & U16550_FCR_RX_FIFO_RESET) != 0);
+}
+
+/*
+ * Drops what is kept if a write of FCR empties the chip's receiver.
+ *
+ * Proved: what empties the chip's receiver empties this one.
+ */
+static inline void
+uart_design_ware_empty_kept(struct u16550_core_design_ware *design_ware, uint8_t control)
+{
+    if (!uart_design_ware_empties(design_ware, control))
+        return;
+    design_ware->kept.count = 0;
+}
+
+/*
+ * Writes FCR.
+ *
+ * Proved: a write of FCR, which is remembered without the bits that reset.
+ */
+static inline void
+uart_design_ware_write_fifo_control(struct u16550_core_design_ware *design_ware, uint8_t control)
+{
+    uart_design_ware_empty_kept(design_ware, control);
+    design_ware->fifo_control =
+        control & (uint8_t)~(U16550_FCR_RX_FIFO_RESET | U16550_FCR_TX_FIFO_RESET);
+    uart_design_ware_store(design_ware, UART_FCR, control);
+}
+
+/*
+ * Returns whether the chip is busy.
+ *
+ * Proved: one read of USR, which says whether the chip is busy.
+ */
+static inline bool uart_design_ware_is_busy(struct u16550_core_design_ware *design_ware)
+{
+    return (uart_design_ware_read_usr(design_ware) & 1) != 0;
+}
+
+/*
+ * Writes LCR and reads it back, and returns whether the chip took it. Some versions do not keep
+ * the bit of stick parity.
+ *
+ * Proved: LCR is written and read back, and shows what was written or does not.
+ */
+static inline bool uart_design_ware_tries(struct u16550_core_design_ware *design_ware, uint8_t line)
+{
+    uart_design_ware_store(design_ware, UART_LCR, line);
+    return (uart_design_ware_load(design_ware, UART_LCR) & (uint8_t)~U16550_LCR_PARITY2) ==
+        (line & (uint8_t)~U16550_LCR_PARITY2);
+}
+
+/*
+ * Writes LCR if the chip is not busy, and returns whether the chip took it.
+ *
+ * Proved: if the chip is not busy, LCR is written and read back. It is taken or not.
+ */
+static inline bool uart_design_ware_takes(struct u16550_core_design_ware *design_ware, uint8_t line)
+{
+    if (uart_design_ware_is_busy(design_ware))
+        return false;
+    return uart_design_ware_tries(design_ware, line);
+}
+
+/*
+ * Gives IER back what the driver wrote to it.
+ *
+ * Proved: a fault ends, if there is one and IER can be reached.
+ */
+static inline void uart_design_ware_end_fault(struct u16550_core_design_ware *design_ware)
+{
+    if (design_ware->fault.is_some && (design_ware->line & U16550_LCR_DLAB) == 0) {
+        design_ware->fault = uart_no_design_ware_fault();
+        uart_design_ware_store(design_ware, UART_IER, design_ware->interrupts);
+    }
+}
+
+/*
+ * Discards received data while offset 0 is the latch. They cannot be read, and must not be lost
+ * in silence.
+ *
+ * Proved: while offset 0 is the divisor latch, data that LSR shows are discarded.
+ */
+static inline void uart_design_ware_discard_unreadable(struct u16550_core_design_ware *design_ware)
+{
+    if ((uart_design_ware_look(design_ware) & U16550_LSR_DATA_READY) != 0) {
+        design_ware->cleared |= U16550_LSR_OVERRUN_ERROR;
+        uart_design_ware_store(design_ware, UART_FCR,
+            design_ware->fifo_control | U16550_FCR_RX_FIFO_RESET);
+    }
+}
+
+/* Adds a character behind the others. */
+static inline void
+uart_kept_characters_keep(struct u16550_core_kept_characters *kept_characters,
+    struct u16550_received character)
+{
+    kept_characters->cells.bytes[kept_characters->count] = character;
+    kept_characters->count++;
+}
+
+/*
+ * Keeps received data. Those that find no room stay in the chip.
+ *
+ * Proved: characters are taken and kept, until there is room for no more, or LSR shows none.
+ */
+static void uart_design_ware_keep_waiting(struct u16550_core_design_ware *design_ware)
+{
+    while (design_ware->kept.count != 64) {
+        if ((uart_design_ware_look(design_ware) & U16550_LSR_DATA_READY) == 0)
+            return;
+        uint8_t errors = design_ware->cleared;
+        design_ware->cleared = 0;
+        struct u16550_received received =
+            uart_make_received(uart_design_ware_load(design_ware, UART_DATA), errors);
+        uart_kept_characters_keep(&design_ware->kept, received);
+    }
+}
+
+/*
+ * Takes received data out of the way, which keep the chip busy.
+ *
+ * Proved: received data, which keep the chip busy, are put out of the way.
+ */
+static inline void uart_design_ware_make_room(struct u16550_core_design_ware *design_ware)
+{
+    if ((uart_design_ware_load(design_ware, UART_LCR) & U16550_LCR_DLAB) != 0)
+        uart_design_ware_discard_unreadable(design_ware);
+    else
+        uart_design_ware_keep_waiting(design_ware);
+}
+
+/*
+ * Writes LCR.
+ *
+ * Proved: a write of LCR: the chip takes it within the patience, or it is a fault.
+ */
+static void uart_design_ware_write_line(struct u16550_core_design_ware *design_ware, uint8_t line)
+{
+    design_ware->line = line;
+    uint64_t number = design_ware->patience;
+    for (uint64_t round = 0; round < number; round++) {
+        if (uart_design_ware_takes(design_ware, line)) {
+            uart_design_ware_end_fault(design_ware);
+            return;
+        }
+        uart_design_ware_make_room(design_ware);
+    }
+    uart_design_ware_begin_fault(design_ware, U16550_CORE_DESIGN_WARE_FAULT_LINE_CONTROL_IGNORED);
+    uart_design_ware_read_usr(design_ware);
+}
+
+/*
+ * Writes a register that is not IER.
+ *
+ * Proved: a write of another register than IER.
+ */
+static void
+uart_design_ware_write_plain(struct u16550_core_design_ware *design_ware, size_t offset,
+    uint8_t value)
+{
+    if (offset == 2) {
+        uart_design_ware_write_fifo_control(design_ware, value);
+        return;
+    }
+    if (offset == 3) {
+        uart_design_ware_write_line(design_ware, value);
+        return;
+    }
+    uart_design_ware_store(design_ware, offset, value);
+}
+
+/*
+ * Writes a register, if it is what the driver means.
+ *
+ * Proved: a write that reaches offset 0 or 1 only if these are what the driver means.
+ */
+static inline void
+uart_design_ware_write_meant(struct u16550_core_design_ware *design_ware, size_t offset,
+    uint8_t value)
+{
+    if (uart_design_ware_is_out_of_reach(design_ware, offset))
+        return;
+    uart_design_ware_write_plain(design_ware, offset, value);
+}
+
+/*
+ * Writes a value to the register at an offset of 0 to 7.
+ *
+ * Called once for each write that the driver makes, in the driver's order.
+ */
+static inline void
+uart_design_ware_write(struct u16550_core_design_ware *design_ware, uint8_t register_offset,
+    uint8_t value)
+{
+    size_t offset = (size_t)register_offset;
+    if (uart_design_ware_is_interrupts(design_ware, offset)) {
+        uart_design_ware_write_interrupts(design_ware, value);
+        return;
+    }
+    uart_design_ware_write_meant(design_ware, offset, value);
+}
+
+/* Returns what went wrong, if anything did since the last write of LCR that the chip took. */
+static inline struct u16550_core_maybe_design_ware_fault
+uart_design_ware_fault(const struct u16550_core_design_ware *design_ware)
+{
+    return design_ware->fault;
+}
+
+/* Returns none. */
+static inline struct u16550_core_kept_characters uart_kept_characters_new(void)
+{
+    struct u16550_received received = uart_make_received(0, 0);
+    struct u16550_core_kept_characters kept_characters;
+    for (size_t place = 0; place < 64; place++)
+        kept_characters.cells.bytes[place] = received;
+    kept_characters.count = 0;
+    return kept_characters;
+}
+
+/*
+ * Returns a backend over these registers. patience is how many times in a row it looks
+ * whether the chip is busy before a write of LCR has failed. Makes no access.
+ *
+ * A full FIFO and a character take about 17.7 ms at 9,600 baud.
+ */
+static struct u16550_core_design_ware
+uart_design_ware_new(struct u16550_device registers, uint64_t patience)
+{
+    struct u16550_core_design_ware design_ware;
+    design_ware.registers = registers;
+    design_ware.patience = patience;
+    design_ware.kept = uart_kept_characters_new();
+    design_ware.cleared = 0;
+    design_ware.line = 0;
+    design_ware.interrupts = 0;
+    design_ware.fifo_control = 0;
+    design_ware.fault = uart_no_design_ware_fault();
+    return design_ware;
 }
 
 /*
@@ -5037,6 +5681,17 @@ static int uart_decode_fifo_size(uint16_t from, enum uart_fifo_size *to)
     }
 }
 
+static int uart_encode_design_ware_fault(enum u16550_core_design_ware_fault from)
+{
+    switch (from) {
+    case U16550_CORE_DESIGN_WARE_FAULT_LINE_CONTROL_IGNORED:
+        return U16550_DESIGN_WARE_LINE_CONTROL;
+    case U16550_CORE_DESIGN_WARE_FAULT_INTERRUPT_WITHOUT_END:
+    default:
+        return U16550_DESIGN_WARE_INTERRUPT;
+    }
+}
+
 static uint8_t uart_encode_handle_end(enum uart_handle_end from)
 {
     switch (from) {
@@ -5929,228 +6584,19 @@ int u16550_new_mmio_wide(struct u16550 *uart, uintptr_t base, const struct u1655
 }
 
 
-/* --------------------------------------------------------------- UARTs of DesignWare
- *
- * What design_ware.rs of the Rust crate does, in the same steps: it has the reasons.
- */
-
-enum {
-    UART_USR = 31,
-    UART_USR_BUSY = 0x01,
-    /* The low four bits of ISR. */
-    UART_CAUSE = 0x0f,
-    UART_CAUSE_NONE = 0x01,
-    UART_CAUSE_DATA = 0x04,
-    UART_CAUSE_BUSY_DETECT = 0x07,
-    UART_CAUSE_TIMEOUT = 0x0c,
-    /* How often in one read of ISR an interrupt is ended that the driver cannot serve. */
-    UART_MOST_ENDED = 4,
-    /* Some versions do not keep the bit of stick parity. */
-    UART_LCR_STICK_PARITY = 0x20,
-    UART_LINE_ERRORS = U16550_LSR_OVERRUN_ERROR | U16550_LSR_PARITY_ERROR | U16550_LSR_FRAMING_ERROR | U16550_LSR_BREAK_INTERRUPT,
-    UART_FCR_RESETS = U16550_FCR_RX_FIFO_RESET | U16550_FCR_TX_FIFO_RESET
-};
-
-static uint8_t uart_chip_load(struct u16550_design_ware *chip, uint8_t offset)
-{
-    return uart_device_read(&chip->registers, offset);
-}
-
-static void uart_chip_store(struct u16550_design_ware *chip, uint8_t offset, unsigned value)
-{
-    uart_device_write(&chip->registers, offset, (uint8_t)value);
-}
-
-static bool uart_chip_shows_latch(struct u16550_design_ware *chip)
-{
-    return (uart_chip_load(chip, UART_LCR) & U16550_LCR_DLAB) != 0;
-}
-
-/* Reads LSR, and saves the errors that this clears. */
-static uint8_t uart_chip_look(struct u16550_design_ware *chip)
-{
-    uint8_t lsr = uart_chip_load(chip, UART_LSR);
-    chip->cleared |= lsr & UART_LINE_ERRORS;
-    return lsr;
-}
-
-static bool uart_chip_is_busy(struct u16550_design_ware *chip)
-{
-    return (uart_chip_load(chip, UART_USR) & UART_USR_BUSY) != 0;
-}
-
-/* Writes LCR, and returns whether the chip took it. */
-static bool uart_chip_takes(struct u16550_design_ware *chip, uint8_t line)
-{
-    uart_chip_store(chip, UART_LCR, line);
-    return ((uart_chip_load(chip, UART_LCR) ^ line) & ~UART_LCR_STICK_PARITY & 0xff) == 0;
-}
-
-/* Takes received data out of the way, which keep the chip busy. Those that find no room stay. */
-static void uart_chip_make_room(struct u16550_design_ware *chip)
-{
-    if (uart_chip_shows_latch(chip)) {
-        /* Offset 0 is the latch. What is there cannot be read, and must not be lost in silence. */
-        if ((uart_chip_look(chip) & U16550_LSR_DATA_READY) != 0) {
-            chip->cleared |= U16550_LSR_OVERRUN_ERROR;
-            uart_chip_store(chip, UART_FCR, (unsigned)chip->fifo_control | U16550_FCR_RX_FIFO_RESET);
-        }
-        return;
-    }
-    while (chip->count < U16550_DESIGN_WARE_KEPT && (uart_chip_look(chip) & U16550_LSR_DATA_READY) != 0) {
-        struct u16550_received *behind = &chip->kept[(chip->first + chip->count) % U16550_DESIGN_WARE_KEPT];
-        behind->errors = chip->cleared;
-        chip->cleared = 0;
-        behind->byte = uart_chip_load(chip, UART_DATA);
-        chip->count++;
-    }
-}
-
-/* Turns the chip's interrupts off, until LCR was written and taken. While DLAB is set, IER cannot be reached. */
-static void uart_chip_begin_fault(struct u16550_design_ware *chip, uint8_t fault)
-{
-    chip->fault = fault;
-    if (!uart_chip_shows_latch(chip))
-        uart_chip_store(chip, UART_IER, 0);
-}
-
-static bool uart_chip_is_latch_open(const struct u16550_design_ware *chip)
-{
-    return (chip->line & U16550_LCR_DLAB) != 0;
-}
-
-static void uart_chip_write_line(struct u16550_design_ware *chip, uint8_t line)
-{
-    chip->line = line;
-    for (uint64_t looks = 0; looks < chip->patience; looks++) {
-        /* A character may begin after the look at USR, and then the write is ignored. */
-        if (!uart_chip_is_busy(chip) && uart_chip_takes(chip, line)) {
-            if (chip->fault != U16550_OK && !uart_chip_is_latch_open(chip)) {
-                chip->fault = U16550_OK;
-                uart_chip_store(chip, UART_IER, chip->interrupts);
-            }
-            return;
-        }
-        uart_chip_make_room(chip);
-    }
-    uart_chip_begin_fault(chip, U16550_DESIGN_WARE_LINE_CONTROL);
-    /* The last write may have been ignored, which interrupts. */
-    uart_chip_load(chip, UART_USR);
-}
-
-/* Whether the chip has DLAB otherwise than the driver takes it to have, so that offsets 0 and 1 are something else than it means. */
-static bool uart_chip_is_mistaken(struct u16550_design_ware *chip)
-{
-    return chip->fault == U16550_DESIGN_WARE_LINE_CONTROL && uart_chip_shows_latch(chip) != uart_chip_is_latch_open(chip);
-}
-
-static uint8_t uart_chip_read_data(struct u16550_design_ware *chip)
-{
-    struct u16550_received front;
-    if (chip->count == 0)
-        return uart_chip_load(chip, UART_DATA);
-    front = chip->kept[chip->first];
-    chip->first = (uint8_t)((chip->first + 1) % U16550_DESIGN_WARE_KEPT);
-    chip->count--;
-    /* What LSR has not shown of it is shown next. */
-    chip->cleared |= front.errors;
-    return front.byte;
-}
-
-/* Returns LSR for the character that the driver reads next. */
-static uint8_t uart_chip_read_lsr(struct u16550_design_ware *chip)
-{
-    /* The errors are in what was cleared now. */
-    uint8_t lsr = uart_chip_look(chip) & (uint8_t)~UART_LINE_ERRORS, told = chip->cleared;
-    if (uart_chip_is_mistaken(chip)) {
-        /* Neither data nor THR can be reached, so there is none and no room. */
-        lsr &= (uint8_t)~(U16550_LSR_DATA_READY | U16550_LSR_THR_EMPTY | U16550_LSR_TRANSMITTER_EMPTY);
-    }
-    if (chip->count == 0) {
-        chip->cleared = 0;
-        return lsr | told;
-    }
-    /* The chip shows the errors of a character behind those that are kept. An overrun is of none. */
-    chip->cleared &= (uint8_t)~U16550_LSR_OVERRUN_ERROR;
-    told = (uint8_t)((told & U16550_LSR_OVERRUN_ERROR) | chip->kept[chip->first].errors);
-    chip->kept[chip->first].errors = 0;
-    return lsr | U16550_LSR_DATA_READY | told;
-}
-
-static bool uart_chip_is_without_data(struct u16550_design_ware *chip)
-{
-    return chip->count == 0 && !uart_chip_is_mistaken(chip) &&
-        (uart_chip_look(chip) & (U16550_LSR_DATA_READY | U16550_LSR_BREAK_INTERRUPT)) == 0;
-}
-
-/* Returns ISR once it shows what the driver can serve. */
-static uint8_t uart_chip_read_isr(struct u16550_design_ware *chip)
-{
-    uint8_t isr = UART_CAUSE_NONE;
-    for (unsigned ended = 0; ended < UART_MOST_ENDED; ended++) {
-        uint8_t cause;
-        isr = uart_chip_load(chip, UART_ISR);
-        cause = isr & UART_CAUSE;
-        if (cause == UART_CAUSE_BUSY_DETECT)
-            uart_chip_load(chip, UART_USR);
-        else if (cause == UART_CAUSE_TIMEOUT && uart_chip_is_without_data(chip))
-            uart_chip_load(chip, UART_DATA);
-        else if (cause == UART_CAUSE_NONE && chip->count > 0 && (chip->interrupts & U16550_IER_DATA_READY) != 0)
-            /* Nothing is pending in the chip for data that are kept here. */
-            return (uint8_t)((isr & ~UART_CAUSE) | UART_CAUSE_DATA);
-        else
-            return isr;
-    }
-    uart_chip_begin_fault(chip, U16550_DESIGN_WARE_INTERRUPT);
-    return (uint8_t)((isr & ~UART_CAUSE) | UART_CAUSE_NONE);
-}
-
-static void uart_chip_write_fifo_control(struct u16550_design_ware *chip, uint8_t control)
-{
-    /* What empties the chip's receiver empties this one: a reset, and a change of the FIFOs' switch. */
-    bool is_switched = ((control ^ chip->fifo_control) & U16550_FCR_FIFO_ENABLE) != 0;
-    if (is_switched || (control & U16550_FCR_RX_FIFO_RESET) != 0)
-        chip->count = 0;
-    chip->fifo_control = control & (uint8_t)~UART_FCR_RESETS;
-    uart_chip_store(chip, UART_FCR, control);
-}
+/* --------------------------------------------------------------- UARTs of DesignWare */
 
 /* The functions by which a driver reaches a chip in its context. */
 static uint8_t uart_chip_read(void *context, uintptr_t offset)
 {
     struct u16550_design_ware *chip = (struct u16550_design_ware *)context;
-    if (offset <= UART_IER && uart_chip_is_mistaken(chip))
-        return 0;
-    if (offset <= UART_IER && uart_chip_is_latch_open(chip))
-        return uart_chip_load(chip, (uint8_t)offset);
-    switch (offset) {
-    case UART_DATA:
-        return uart_chip_read_data(chip);
-    case UART_LSR:
-        return uart_chip_read_lsr(chip);
-    case UART_ISR:
-        return uart_chip_read_isr(chip);
-    default:
-        return uart_chip_load(chip, (uint8_t)offset);
-    }
+    return uart_design_ware_read(&chip->chip, (uint8_t)offset);
 }
 
 static void uart_chip_write(void *context, uintptr_t offset, uint8_t value)
 {
     struct u16550_design_ware *chip = (struct u16550_design_ware *)context;
-    if (offset == UART_IER && !uart_chip_is_latch_open(chip)) {
-        chip->interrupts = value;
-        if (chip->fault == U16550_OK)
-            uart_chip_store(chip, UART_IER, value);
-    } else if (offset <= UART_IER && uart_chip_is_mistaken(chip)) {
-        return;
-    } else if (offset == UART_FCR) {
-        uart_chip_write_fifo_control(chip, value);
-    } else if (offset == UART_LCR) {
-        uart_chip_write_line(chip, value);
-    } else {
-        uart_chip_store(chip, (uint8_t)offset, value);
-    }
+    uart_design_ware_write(&chip->chip, (uint8_t)offset, value);
 }
 
 /* Makes a driver over a chip in its own memory, over these registers, unless they are refused. */
@@ -6158,6 +6604,7 @@ static int uart_make_chip(struct u16550 *uart, struct u16550_design_ware *chip, 
                           int refused, uint64_t patience)
 {
     struct u16550_io functions = { chip, uart_chip_read, uart_chip_write };
+    struct u16550_device registers;
     int status = uart_check_memory(uart);
     if (status == U16550_OK)
         status = UART_USABLE(chip, chip);
@@ -6169,12 +6616,10 @@ static int uart_make_chip(struct u16550 *uart, struct u16550_design_ware *chip, 
         return status;
     /* The driver that was there may have this chip: no handler is to use it from now on. */
     uart_begin(uart);
-    chip->registers.io = *io;
-    chip->registers.base = base;
-    chip->registers.stride = stride;
-    chip->patience = patience;
-    chip->first = chip->count = chip->cleared = chip->line = chip->interrupts = chip->fifo_control = 0;
-    chip->fault = U16550_OK;
+    registers.io = *io;
+    registers.base = base;
+    registers.stride = stride;
+    chip->chip = uart_design_ware_new(registers, patience);
     return uart_put(uart, &functions, 0, 1, NULL);
 }
 
@@ -6198,6 +6643,7 @@ int u16550_new_mmio_design_ware(struct u16550 *uart, struct u16550_design_ware *
 
 int u16550_design_ware_fault(struct u16550 *uart, struct u16550_design_ware *chip)
 {
+    struct u16550_core_maybe_design_ware_fault fault;
     int status = UART_USABLE(chip, chip);
     if (status == U16550_OK)
         status = uart_enter(uart);
@@ -6205,9 +6651,9 @@ int u16550_design_ware_fault(struct u16550 *uart, struct u16550_design_ware *chi
         return status;
     if (uart->ring.uart.backend.io.context != (void *)chip)
         return uart_leave(uart, U16550_NOT_MADE);
-    return uart_leave(uart, chip->fault);
+    fault = uart_design_ware_fault(&chip->chip);
+    return uart_leave(uart, fault.is_some ? uart_encode_design_ware_fault(fault.value) : U16550_OK);
 }
-
 
 int u16550_get_config(struct u16550 *uart, struct u16550_config *config)
 {

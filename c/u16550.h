@@ -456,6 +456,66 @@ struct u16550_core_maybe_u8 {
     uint8_t value;
 };
 
+struct u16550_core_received_64 {
+    struct u16550_received bytes[64];
+};
+
+/*
+ * Characters in the order in which they were received.
+ * The first one is in the first cell. Taking it moves the others up, which costs 64 cells. Only a
+ * character that came in the course of a write of LCR is ever kept.
+ */
+struct u16550_core_kept_characters {
+    struct u16550_core_received_64 cells;
+    size_t count;
+};
+
+/* What a DesignWare UART did that this backend could not mend. */
+enum u16550_core_design_ware_fault {
+    U16550_CORE_DESIGN_WARE_FAULT_LINE_CONTROL_IGNORED = 0,
+    U16550_CORE_DESIGN_WARE_FAULT_INTERRUPT_WITHOUT_END = 1
+};
+
+struct u16550_core_maybe_design_ware_fault {
+    bool is_some;
+    enum u16550_core_design_ware_fault value;
+};
+
+/*
+ * The registers of a DesignWare UART, as a backend of the driver.
+ *
+ * Such a chip differs from a 16550 in this, unless it was built to be compatible, and then nothing
+ * here is needed and nothing goes wrong:
+ *
+ * - It ignores a write of LCR while it is busy: while it sends, receives, or has received data.
+ *   Here each such write waits until USR says that the chip is not busy, and is read back. Data
+ *   that were received meanwhile are kept, at most 64 characters with their errors, and the
+ *   driver's next reads get them. Data that come while DLAB is set cannot be read. They are
+ *   discarded by a reset of the receiver, and LSR shows an overrun for it.
+ * - It interrupts for such a write (busy detect). A read of ISR that finds this reads USR, which
+ *   ends it, and looks again.
+ * - It may interrupt for a reception timeout while no data wait. A read of ISR that finds this,
+ *   while LSR shows neither data nor a break, reads RBR once, which ends it. A character that
+ *   comes between these two accesses is lost. Linux does the same.
+ *
+ * No wait is longer than patience. After a fault the chip's interrupts are off,
+ * whatever the driver writes to IER; only if DLAB could not be cleared, IER is out of reach and
+ * stays as it was. While the chip has DLAB otherwise than the driver takes it to have, nothing
+ * reaches offsets 0 and 1. So no divisor goes to the line. All that is over with the next write of
+ * LCR that the chip takes, as by an init. The driver's calls return no error for a fault:
+ * check_configured does, and fault says why.
+ */
+struct u16550_core_design_ware {
+    struct u16550_device registers;
+    uint64_t patience;
+    struct u16550_core_kept_characters kept;
+    uint8_t cleared;
+    uint8_t line;
+    uint8_t interrupts;
+    uint8_t fifo_control;
+    struct u16550_core_maybe_design_ware_fault fault;
+};
+
 struct u16550_core_vec_u8 {
     uint8_t *data;
     size_t len;
@@ -538,15 +598,9 @@ struct u16550 {
     struct u16550_core_ring ring;
 };
 
-/* How many received characters a DesignWare UART keeps while LCR is written. */
-#define U16550_DESIGN_WARE_KEPT 64
-
 /* The memory of a DesignWare UART: what the library keeps of it. It stays where it is as long as the driver is used. */
 struct u16550_design_ware {
-    struct u16550_device registers;
-    uint64_t patience;
-    struct u16550_received kept[U16550_DESIGN_WARE_KEPT];
-    uint8_t first, count, cleared, line, interrupts, fifo_control, fault;
+    struct u16550_core_design_ware chip;
 };
 
 /* --------------------------------------------------------------- numbers and the version as texts */
@@ -946,7 +1000,7 @@ int u16550_disable_interrupts(struct u16550 *uart, uint8_t interrupts);
  * read. A controller that detects edges sees no new edge while the line stays high. Call this at the end of a handler that
  * leaves before ISR has shown that none is pending, and after the interrupt was masked at a controller that forgets edges.
  */
-/* Proved: IER is read, and written with 0 and then with what was read. */
+/* Proved: IER is read, then 0 is written to it, and then what was read. */
 int u16550_retrigger_interrupts(struct u16550 *uart);
 
 /* Reads all registers. What the driver saved of LSR and MSR is in the dump, and stays saved. */

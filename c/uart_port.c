@@ -4,8 +4,8 @@
  * Made by tools/c/emit from the code that is proved. Do not edit. Names and comments are those of its source, and what is computed
  * is taken from what the proofs are about.
  *
- * The functions of the header check all that they are given but their pointers. The others check nothing that is proved never to
- * happen. Those that write and read a chip as bytes are by hand, and not proved.
+ * The functions of the header check all that they are given, of pointers that they are not null. The others check nothing that is proved
+ * never to happen. Those that write and read a chip as bytes are by hand, and not proved.
  */
 #include "uart_port.h"
 
@@ -344,7 +344,7 @@ static inline uint8_t uart_chip_lcr(const struct uart_chip *uart_chip)
  * Proved: this value and no other has the property.
  * Proved: the two bits from the lowest on are the code of this word length.
  */
-static enum uart_word_length uart_word_length_from_raw_bits(uint8_t bits)
+static inline enum uart_word_length uart_word_length_from_raw_bits(uint8_t bits)
 {
     switch (bits & 3) {
     case 0:
@@ -376,7 +376,7 @@ static inline enum uart_word_length uart_lcr_word_length(uint8_t lcr)
  * and when it arrives. What comes back in loopback was cut already, and the divisor latch is no
  * byte of the line.
  */
-static uint8_t uart_cut_to(bool cuts, uint8_t lcr, uint8_t byte)
+static inline uint8_t uart_cut_to(bool cuts, uint8_t lcr, uint8_t byte)
 {
     if (!cuts)
         return byte;
@@ -484,7 +484,7 @@ uart_drop_front_character(uint8_t *len, struct uart_character *items, size_t ite
 }
 
 /* Takes the front. */
-static struct uart_maybe_character
+static inline struct uart_maybe_character
 uart_pop_front_character(uint8_t *len, struct uart_character *items, size_t items_len)
 {
     if (*len == 0)
@@ -499,7 +499,7 @@ uart_pop_front_character(uint8_t *len, struct uart_character *items, size_t item
 }
 
 /* Returns the character as a receiver has it. */
-static struct uart_chip_character uart_character_shown(const struct uart_character *uart_character)
+static inline struct uart_chip_character uart_character_shown(const struct uart_character *uart_character)
 {
     uint8_t number = uart_character->byte;
     uint8_t number2 = uart_character->errors;
@@ -515,7 +515,7 @@ static struct uart_chip_character uart_character_shown(const struct uart_charact
  * Removes the front of the queue, and returns it. The errors of the next one have not been
  * reported.
  */
-static struct uart_maybe_chip_character uart_receiver_pop(struct uart_receiver *uart_receiver)
+static inline struct uart_maybe_chip_character uart_receiver_pop(struct uart_receiver *uart_receiver)
 {
     struct uart_maybe_character found =
         uart_pop_front_character(&uart_receiver->queue.len, uart_receiver->queue.items, 16);
@@ -527,7 +527,7 @@ static struct uart_maybe_chip_character uart_receiver_pop(struct uart_receiver *
 }
 
 /* Replaces the character in the receiver, which is dropped. */
-static void uart_replace(struct uart_receiver *parts, struct uart_chip_character new_)
+static inline void uart_replace(struct uart_receiver *parts, struct uart_chip_character new_)
 {
     struct uart_chip_character old = new_;
     struct uart_maybe_chip_character found = uart_receiver_pop(parts);
@@ -543,7 +543,7 @@ static void uart_replace(struct uart_receiver *parts, struct uart_chip_character
  * Puts a character into the queue. If there is no room, the FIFO loses it, and the single register
  * loses the one that it held.
  */
-static void uart_enter(struct uart_receiver *parts, bool fifo, struct uart_chip_character new_)
+static inline void uart_enter(struct uart_receiver *parts, bool fifo, struct uart_chip_character new_)
 {
     struct uart_chip_character chip_character = new_;
     size_t receiver_queue_len = uart_receiver_queue_len(parts);
@@ -584,6 +584,8 @@ uart_controlling_arrive_live(struct uart_chip *parts, uint8_t byte, uint8_t erro
 /* A character comes in. */
 uint32_t uart_chip_arrive(struct uart_chip *chip, uint8_t byte, uint8_t errors)
 {
+    if (chip == NULL)
+        return UART_NULL_POINTER;
     if ((errors & (UART_LSR_PARITY_ERROR | UART_LSR_FRAMING_ERROR |
         UART_LSR_BREAK_INTERRUPT)) != errors) {
         return UART_BAD_ERRORS;
@@ -599,7 +601,7 @@ static inline uint8_t uart_chip_ier(const struct uart_chip *uart_chip)
 }
 
 /* Returns the registers that keep what is written to them. */
-static struct uart_chip_latches uart_chip_latches_of(const struct uart_chip *uart_chip)
+static inline struct uart_chip_latches uart_chip_latches_of(const struct uart_chip *uart_chip)
 {
     struct uart_chip_latches latches;
     latches.ier = uart_chip_ier(uart_chip);
@@ -621,6 +623,8 @@ static inline uint16_t uart_divisor(const struct uart_chip *parts)
 /* The divisor latch. */
 uint16_t uart_chip_divisor(const struct uart_chip *chip)
 {
+    if (chip == NULL)
+        return 0;
     return uart_divisor(chip);
 }
 
@@ -659,6 +663,8 @@ static inline size_t uart_held_len(const struct uart_transmitter *parts)
 /* How many bytes are still to go out. */
 size_t uart_chip_held_len(const struct uart_chip *chip)
 {
+    if (chip == NULL)
+        return 0;
     return uart_held_len(&chip->transmitter);
 }
 
@@ -710,7 +716,7 @@ static inline bool uart_some_has_errors_any(const struct uart_character *part2)
 }
 
 /* Some character has errors. */
-static bool uart_some_has_errors(const struct uart_character *characters, size_t characters_len)
+static inline bool uart_some_has_errors(const struct uart_character *characters, size_t characters_len)
 {
     const struct uart_character *found = characters;
     size_t len = characters_len;
@@ -741,7 +747,7 @@ static inline bool uart_receiver_has_unreported_errors(const struct uart_receive
 /*
  * Returns whether a character in the FIFO has errors that were not reported, as LSR shows it.
  */
-static uint8_t uart_fifo_error(const struct uart_chip *parts)
+static inline uint8_t uart_fifo_error(const struct uart_chip *parts)
 {
     uint8_t lsr;
     bool is_so;
@@ -768,7 +774,7 @@ static inline uint8_t uart_lsr(const struct uart_chip *parts)
 }
 
 /* The trigger level for so many characters. */
-static enum uart_fifo_trigger_level uart_trigger_of(uint8_t characters)
+static inline enum uart_fifo_trigger_level uart_trigger_of(uint8_t characters)
 {
     switch (characters) {
     case 1:
@@ -790,7 +796,7 @@ uart_receiver_trigger(const struct uart_receiver *uart_receiver)
 }
 
 /* Returns the number of characters of a trigger level. */
-static uint8_t uart_characters_of(enum uart_fifo_trigger_level level)
+static inline uint8_t uart_characters_of(enum uart_fifo_trigger_level level)
 {
     switch (level) {
     case UART_FIFO_TRIGGER_LEVEL_ONE:
@@ -966,6 +972,8 @@ static inline bool uart_is_interrupting(const struct uart_chip *parts)
 /* 1 if the chip asks for an interrupt, else 0. */
 uint8_t uart_chip_is_interrupting(const struct uart_chip *chip)
 {
+    if (chip == NULL)
+        return 0;
     return (uint8_t)uart_is_interrupting(chip);
 }
 
@@ -1035,7 +1043,7 @@ static inline bool uart_are_live_all(const struct uart_character *part2)
 }
 
 /* Each of these characters may wait in a live chip. */
-static bool uart_are_live(const struct uart_character *characters, size_t characters_len)
+static inline bool uart_are_live(const struct uart_character *characters, size_t characters_len)
 {
     const struct uart_character *found = characters;
     size_t len = characters_len;
@@ -1104,7 +1112,7 @@ static inline size_t uart_wire_capacity(const struct uart_wire *uart_wire)
 }
 
 /* The ticks of a character are in their range, and the queue and the wire fit. */
-static bool uart_is_sound_transmitter(const struct uart_transmitter *transmitter, bool fifo)
+static inline bool uart_is_sound_transmitter(const struct uart_transmitter *transmitter, bool fifo)
 {
     bool is_so = uart_is_char_time(transmitter->char_ticks);
     if (is_so) {
@@ -1131,7 +1139,7 @@ static inline bool uart_has_limit(const struct uart_chip *chip)
 }
 
 /* Every part is sound. */
-static bool uart_are_sound(const struct uart_chip *chip)
+static inline bool uart_are_sound(const struct uart_chip *chip)
 {
     bool fifo = uart_chip_fifo(chip);
     bool is_so = uart_is_sound_latches(uart_chip_latches_of(chip)) &&
@@ -1180,7 +1188,7 @@ static inline void uart_wire_restore(struct uart_wire *uart_wire, const struct u
 }
 
 /* Becomes a transmitter like this one. */
-static void
+static inline void
 uart_transmitter_restore(struct uart_transmitter *uart_transmitter,
     const struct uart_transmitter *saved)
 {
@@ -1212,7 +1220,7 @@ static inline struct uart_character uart_character_restored(struct uart_characte
  *
  * Proved: a flag of a character that waits too.
  */
-static void
+static inline void
 uart_characters_restore(struct uart_characters *uart_characters,
     const struct uart_characters *saved)
 {
@@ -1231,7 +1239,7 @@ uart_characters_restore(struct uart_characters *uart_characters,
  *
  * Proved: the trigger is the number of characters of its level.
  */
-static void
+static inline void
 uart_receiver_restore(struct uart_receiver *uart_receiver, const struct uart_receiver *saved)
 {
     uart_receiver->timeout_ticks = saved->timeout_ticks;
@@ -1249,7 +1257,7 @@ uart_receiver_restore(struct uart_receiver *uart_receiver, const struct uart_rec
  * Proved: the whole chip, but for bytes behind the end of a queue and those of an empty
  * shift register.
  */
-static void uart_chip_restore(struct uart_chip *uart_chip, const struct uart_chip *saved)
+static inline void uart_chip_restore(struct uart_chip *uart_chip, const struct uart_chip *saved)
 {
     uart_transmitter_restore(&uart_chip->transmitter, &saved->transmitter);
     uart_receiver_restore(&uart_chip->receiver, &saved->receiver);
@@ -1263,6 +1271,8 @@ static void uart_chip_restore(struct uart_chip *uart_chip, const struct uart_chi
 /* Makes a chip like one that was saved, unless the data are those of no sound chip. */
 uint32_t uart_chip_load(struct uart_chip *chip, const struct uart_chip *saved)
 {
+    if (chip == NULL || saved == NULL)
+        return UART_NULL_POINTER;
     if (!uart_is_sound(saved))
         return UART_BAD_CHIP;
     uart_chip_restore(chip, saved);
@@ -1274,7 +1284,7 @@ uint32_t uart_chip_load(struct uart_chip *chip, const struct uart_chip *saved)
  *
  * Proved: the trigger is the number of characters of its level.
  */
-static struct uart_receiver uart_receiver_new(uint16_t char_ticks)
+static inline struct uart_receiver uart_receiver_new(uint16_t char_ticks)
 {
     uint16_t number = (uint16_t)(4 * char_ticks);
     struct uart_character character = uart_make_character(0, 0, 0);
@@ -1341,6 +1351,8 @@ uint32_t
 uart_chip_new(struct uart_chip *chip, uint8_t model, uint16_t char_ticks, uint8_t wire_capacity,
     uint8_t cuts)
 {
+    if (chip == NULL)
+        return UART_NULL_POINTER;
     if ((char_ticks == 0) || (1000 < char_ticks))
         return UART_BAD_TICKS;
     if (64 < (uint64_t)wire_capacity)
@@ -1429,7 +1441,7 @@ static inline bool uart_is_thr_empty(struct uart_maybe_interrupt_type interrupt)
  * Proved: bit 0 is clear, so an interrupt is pending, and the code is that of this
  * interrupt.
  */
-static uint8_t uart_interrupt_type_to_bits(enum uart_interrupt_type interrupt_type)
+static inline uint8_t uart_interrupt_type_to_bits(enum uart_interrupt_type interrupt_type)
 {
     switch (interrupt_type) {
     case UART_INTERRUPT_TYPE_RECEIVER_LINE_STATUS:
@@ -1509,7 +1521,7 @@ static inline uint8_t uart_chip_read_modem(struct uart_chip *uart_chip)
     return uart_modem_read(&uart_chip->modem);
 }
 
-static uint8_t uart_read_register(struct uart_chip *parts, uint8_t offset)
+static inline uint8_t uart_read_register(struct uart_chip *parts, uint8_t offset)
 {
     switch (offset) {
     case UART_OFFSET_DATA:
@@ -1547,6 +1559,8 @@ static inline uint8_t uart_read(struct uart_chip *parts, uint8_t offset)
 /* The guest reads a register. */
 uint8_t uart_chip_read(struct uart_chip *chip, uint8_t offset)
 {
+    if (chip == NULL)
+        return 0;
     return uart_read(chip, (uint8_t)(offset % 8));
 }
 
@@ -1569,12 +1583,16 @@ static inline size_t uart_controlling_receive_room(const struct uart_chip *parts
 /* How many characters can come in before one is lost. */
 size_t uart_chip_receive_room(const struct uart_chip *chip)
 {
+    if (chip == NULL)
+        return 0;
     return uart_controlling_receive_room(chip);
 }
 
 /* Saves a chip. */
 void uart_chip_save(const struct uart_chip *chip, struct uart_chip *saved)
 {
+    if (chip == NULL || saved == NULL)
+        return;
     uart_chip_restore(saved, chip);
 }
 
@@ -1612,7 +1630,7 @@ static inline bool uart_msr_is_changed(uint8_t msr, uint8_t before, uint8_t line
  * Returns the changes of the lines since an earlier reading, as their bits: of RI only its
  * trailing edge, from set to clear.
  */
-static uint8_t uart_msr_changes_since(uint8_t msr, uint8_t before)
+static inline uint8_t uart_msr_changes_since(uint8_t msr, uint8_t before)
 {
     uint8_t ri = uart_flag_msr(uart_msr_is_changed(msr, before, UART_MSR_CTS), UART_MSR_DELTA_CTS);
     uint8_t cd = uart_flag_msr(uart_msr_is_changed(msr, before, UART_MSR_DSR), UART_MSR_DELTA_DSR);
@@ -1665,6 +1683,8 @@ static inline void uart_change_lines(struct uart_chip *parts, uint8_t inputs)
 /* The modem's inputs become these. */
 uint32_t uart_chip_set_lines(struct uart_chip *chip, uint8_t inputs)
 {
+    if (chip == NULL)
+        return UART_NULL_POINTER;
     if ((inputs & (UART_MSR_CTS | UART_MSR_DSR | UART_MSR_RI | UART_MSR_CD)) != inputs)
         return UART_BAD_LINES;
     uart_change_lines(chip, inputs);
@@ -1722,6 +1742,8 @@ uart_transmitter_take_wire(struct uart_transmitter *uart_transmitter, uint8_t *b
 /* Takes bytes that have gone out. Returns how many. */
 size_t uart_chip_take_wire(struct uart_chip *chip, uint8_t *bytes, size_t room)
 {
+    if (chip == NULL || bytes == NULL)
+        return 0;
     return uart_transmitter_take_wire(&chip->transmitter, bytes, room);
 }
 
@@ -1763,7 +1785,7 @@ uart_transmitter_set_shifting(struct uart_transmitter *uart_transmitter,
 }
 
 /* Lets ticks pass in which no character enters or leaves the shift register. */
-static void uart_count_down(struct uart_transmitter *parts, uint16_t ticks)
+static inline void uart_count_down(struct uart_transmitter *parts, uint16_t ticks)
 {
     struct uart_maybe_shifting found = uart_transmitter_shifting(parts);
     if (found.is_some) {
@@ -1775,7 +1797,7 @@ static void uart_count_down(struct uart_transmitter *parts, uint16_t ticks)
 }
 
 /* Lets ticks pass in which no character is received or read. */
-static void uart_count_up(struct uart_receiver *parts, uint16_t ticks)
+static inline void uart_count_up(struct uart_receiver *parts, uint16_t ticks)
 {
     if (0 < ticks) {
         struct uart_timeout timeout = uart_make_timeout(parts->timeout_ticks, parts->timeout_limit);
@@ -1809,7 +1831,7 @@ static inline void uart_transmitter_send(struct uart_transmitter *uart_transmitt
  * Lets one tick pass in the shift register, and returns the byte that loopback returns in it. If
  * the wire is full, the byte waits in the shift register at its last tick, so none is lost.
  */
-static struct uart_maybe_u8 uart_shift(struct uart_transmitter *parts, bool loopback)
+static inline struct uart_maybe_u8 uart_shift(struct uart_transmitter *parts, bool loopback)
 {
     struct uart_maybe_shifting found = uart_transmitter_shifting(parts);
     if (!found.is_some)
@@ -1832,7 +1854,7 @@ static struct uart_maybe_u8 uart_shift(struct uart_transmitter *parts, bool loop
 }
 
 /* Takes the front. */
-static struct uart_maybe_u8 uart_pop_front_u8(uint8_t *len, uint8_t *items, size_t items_len)
+static inline struct uart_maybe_u8 uart_pop_front_u8(uint8_t *len, uint8_t *items, size_t items_len)
 {
     if (*len == 0)
         return uart_no_u8();
@@ -1852,7 +1874,7 @@ static inline struct uart_maybe_u8 uart_transmitter_pop(struct uart_transmitter 
 }
 
 /* Moves the front of the queue into an empty shift register. */
-static void uart_refill(struct uart_transmitter *parts)
+static inline void uart_refill(struct uart_transmitter *parts)
 {
     if (uart_transmitter_shifting(parts).is_some)
         return;
@@ -1901,7 +1923,7 @@ static inline void uart_controlling_tick(struct uart_chip *parts)
  * the end of a character have no second definition. At most 17 characters move, and one jump takes
  * what is left: 18 jumps are enough for any number of ticks.
  */
-static size_t uart_advance(struct uart_chip *parts, uint16_t n)
+static inline size_t uart_advance(struct uart_chip *parts, uint16_t n)
 {
     uint16_t left = n;
     size_t jumps = 0;
@@ -1924,31 +1946,39 @@ static size_t uart_advance(struct uart_chip *parts, uint16_t n)
 /* So many ticks pass. */
 void uart_chip_ticks(struct uart_chip *chip, uint16_t count)
 {
+    if (chip == NULL)
+        return;
     uart_advance(chip, count);
 }
 
 /* How many characters wait for the guest to read them. */
 size_t uart_chip_waiting_len(const struct uart_chip *chip)
 {
+    if (chip == NULL)
+        return 0;
     return uart_receiver_queue_len(&chip->receiver);
 }
 
 /* How many bytes have gone out and were not taken yet. */
 size_t uart_chip_wire_len(const struct uart_chip *chip)
 {
+    if (chip == NULL)
+        return 0;
     return uart_wire_len(&chip->transmitter.wire);
 }
 
 /* How many more bytes the wire has room for. */
 size_t uart_chip_wire_room(const struct uart_chip *chip)
 {
+    if (chip == NULL)
+        return 0;
     size_t wire_capacity = uart_wire_capacity(&chip->transmitter.wire);
     size_t wire_len = uart_wire_len(&chip->transmitter.wire);
     return wire_len <= wire_capacity ? wire_capacity - wire_len : 0;
 }
 
 /* Sets the registers that keep what is written to them. */
-static void uart_chip_set_latches(struct uart_chip *uart_chip, struct uart_chip_latches latches)
+static inline void uart_chip_set_latches(struct uart_chip *uart_chip, struct uart_chip_latches latches)
 {
     struct uart_latches uart_latches;
     uart_latches.ier = latches.ier;
@@ -1979,7 +2009,7 @@ static inline void uart_transmitter_count_overflow(struct uart_transmitter *uart
  * byte that it held.
  * A write clears a pending THR_EMPTY interrupt even if there is no room.
  */
-static void uart_load(struct uart_transmitter *parts, bool fifo, uint8_t byte)
+static inline void uart_load(struct uart_transmitter *parts, bool fifo, uint8_t byte)
 {
     if (fifo) {
         if (uart_transmitter_queue_len(parts) < 16)
@@ -1997,7 +2027,7 @@ static void uart_load(struct uart_transmitter *parts, bool fifo, uint8_t byte)
 }
 
 /* Writes DATA. */
-static void uart_write_data(struct uart_chip *parts, uint8_t value)
+static inline void uart_write_data(struct uart_chip *parts, uint8_t value)
 {
     if (uart_is_dlab_set(parts)) {
         struct uart_chip_latches latches = uart_chip_latches_of(parts);
@@ -2011,7 +2041,7 @@ static void uart_write_data(struct uart_chip *parts, uint8_t value)
 }
 
 /* Writes IER. */
-static void uart_enable(struct uart_chip *parts, uint8_t interrupts)
+static inline void uart_enable(struct uart_chip *parts, uint8_t interrupts)
 {
     struct uart_chip_latches chip_latches = uart_chip_latches_of(parts);
     if ((chip_latches.ier & UART_IER_THR_EMPTY) == 0 &&
@@ -2062,7 +2092,7 @@ static inline void uart_reset_transmitter(struct uart_chip *parts, uint8_t value
  * Proved: this value and no other has the property.
  * Proved: the two bits from the lowest on are the code of this trigger level.
  */
-static enum uart_fifo_trigger_level uart_fifo_trigger_level_from_raw_bits(uint8_t bits)
+static inline enum uart_fifo_trigger_level uart_fifo_trigger_level_from_raw_bits(uint8_t bits)
 {
     switch (bits & 3) {
     case 0:
@@ -2105,7 +2135,7 @@ uart_receiver_set_trigger(struct uart_receiver *uart_receiver, enum uart_fifo_tr
  * resets. Neither the character in the shift register nor the overrun flag changes. The trigger
  * level survives when the FIFOs are switched off.
  */
-static void uart_set_fifo(struct uart_chip *parts, uint8_t value)
+static inline void uart_set_fifo(struct uart_chip *parts, uint8_t value)
 {
     bool is_so = (value & UART_FCR_FIFO_ENABLE) != 0;
     if (uart_chip_fifo(parts) != is_so)
@@ -2199,6 +2229,8 @@ static inline void uart_write(struct uart_chip *parts, uint8_t offset, uint8_t v
 /* The guest writes a register. */
 void uart_chip_write(struct uart_chip *chip, uint8_t offset, uint8_t value)
 {
+    if (chip == NULL)
+        return;
     uart_write(chip, (uint8_t)(offset % 8), value);
 }
 
@@ -2209,7 +2241,7 @@ static inline bool uart_clock_known(struct uart_clock uart_clock)
 }
 
 /* Returns what the monitor has to do as a port of uart_virtual asks for it. */
-static struct uart_virtual_todo uart_asked(struct uart_todo todo)
+static inline struct uart_virtual_todo uart_asked(struct uart_todo todo)
 {
     struct uart_virtual_todo todo2;
     todo2.signal = todo.signal != 0;
@@ -2233,6 +2265,8 @@ static inline void uart_after_host_clock(bool *clock, struct uart_virtual_todo t
 /* The host made a call, and the port asked for this. */
 void uart_clock_after_host(struct uart_clock *clock, const struct uart_todo *todo)
 {
+    if (clock == NULL || todo == NULL)
+        return;
     bool owed = uart_clock_known(*clock);
     struct uart_virtual_todo virtual_todo = uart_asked(*todo);
     uart_after_host_clock(&owed, virtual_todo);
@@ -2245,7 +2279,7 @@ void uart_clock_after_host(struct uart_clock *clock, const struct uart_todo *tod
  * most do, would be signalled for each byte, as long as more wait. A handler that never reads ISR
  * is signalled each time that the line falls and rises, so it cannot wait for ever.
  */
-static struct uart_kind uart_kind_of_read(uint8_t offset)
+static inline struct uart_kind uart_kind_of_read(uint8_t offset)
 {
     uint64_t offset2 = (uint64_t)offset;
     struct uart_kind kind;
@@ -2281,7 +2315,7 @@ uart_after_read_clock(bool *clock, uint8_t offset, struct uart_virtual_todo *tod
 }
 
 /* Returns what the monitor has to do as C has it. */
-static struct uart_todo uart_shown(struct uart_virtual_todo todo)
+static inline struct uart_todo uart_shown(struct uart_virtual_todo todo)
 {
     struct uart_todo uart_todo;
     uart_todo.ready = todo.ready;
@@ -2295,6 +2329,8 @@ static struct uart_todo uart_shown(struct uart_virtual_todo todo)
 /* The guest read a register. Takes the signal from what the port asked for, if it can wait. */
 uint8_t uart_clock_after_read(struct uart_clock *clock, uint8_t offset, struct uart_todo *todo)
 {
+    if (clock == NULL || todo == NULL)
+        return 0;
     bool owed = uart_clock_known(*clock);
     struct uart_virtual_todo left = uart_asked(*todo);
     bool waits = uart_after_read_clock(&owed, (uint8_t)(offset % 8), &left);
@@ -2304,7 +2340,7 @@ uint8_t uart_clock_after_read(struct uart_clock *clock, uint8_t offset, struct u
 }
 
 /* Returns what the guest's write of this register is, as far as signals are concerned. */
-static struct uart_kind uart_kind_of_write(uint8_t offset)
+static inline struct uart_kind uart_kind_of_write(uint8_t offset)
 {
     uint64_t offset2 = (uint64_t)offset;
     struct uart_kind kind;
@@ -2333,6 +2369,8 @@ uart_after_write_clock(bool *clock, uint8_t offset, struct uart_virtual_todo *to
  */
 uint8_t uart_clock_after_write(struct uart_clock *clock, uint8_t offset, struct uart_todo *todo)
 {
+    if (clock == NULL || todo == NULL)
+        return 0;
     bool owed = uart_clock_known(*clock);
     struct uart_virtual_todo left = uart_asked(*todo);
     bool waits = uart_after_write_clock(&owed, (uint8_t)(offset % 8), &left);
@@ -2344,6 +2382,8 @@ uint8_t uart_clock_after_write(struct uart_clock *clock, uint8_t offset, struct 
 /* The time has passed. 1 if the guest is to be signalled now, else 0. */
 uint8_t uart_clock_pass_time(struct uart_clock *clock)
 {
+    if (clock == NULL)
+        return 0;
     bool owed = uart_clock_known(*clock);
     bool is_so = owed;
     owed = false;
@@ -2354,13 +2394,15 @@ uint8_t uart_clock_pass_time(struct uart_clock *clock)
 /* The level of the interrupt line. */
 uint8_t uart_port_level(const struct uart_port *port)
 {
+    if (port == NULL)
+        return 0;
     return (uint8_t)uart_is_interrupting(&port->chip);
 }
 
 /*
  * Nothing is left to happen to a chip with these data, and it has the pace and the room of a port.
  */
-static bool uart_is_settled(const struct uart_chip *chip)
+static inline bool uart_is_settled(const struct uart_chip *chip)
 {
     bool is_so = chip->transmitter.char_ticks == 1 &&
         uart_wire_capacity(&chip->transmitter.wire) == 64;
@@ -2384,7 +2426,7 @@ static inline struct uart_virtual_told uart_told_known(struct uart_told uart_tol
 }
 
 /* Returns what is seen of the chip when a call ends. */
-static struct uart_seen uart_seen_of(const struct uart_chip *chip)
+static inline struct uart_seen uart_seen_of(const struct uart_chip *chip)
 {
     struct uart_seen seen;
     seen.level = uart_is_interrupting(chip);
@@ -2467,7 +2509,7 @@ uart_spare_after(struct uart_kind kind, bool signal, bool fifo, struct uart_virt
  * A port over another chip, as the one for C, tells its monitor by this too.
  * Inlined in any case: of most calls the kind is known, and little of this is left.
  */
-static struct uart_virtual_todo
+static inline struct uart_virtual_todo
 uart_tell(struct uart_seen seen, bool was_up, struct uart_virtual_told *told, struct uart_kind kind)
 {
     bool signal = uart_is_signalled(kind, was_up, seen, *told);
@@ -2519,6 +2561,8 @@ uart_decide(struct uart_port *port, bool was_up, struct uart_kind kind, struct u
 uint32_t
 uart_port_load(struct uart_port *port, const struct uart_chip *saved, struct uart_todo *todo)
 {
+    if (port == NULL || saved == NULL || todo == NULL)
+        return UART_NULL_POINTER;
     if (!uart_is_sound(saved) || !uart_is_settled(saved))
         return UART_BAD_PORT;
     uart_chip_restore(&port->chip, saved);
@@ -2555,6 +2599,8 @@ uart_finish(struct uart_port *port, bool was_up, struct uart_kind kind, struct u
 /* Makes a port after power on. */
 void uart_port_new(struct uart_port *port, uint8_t model)
 {
+    if (port == NULL)
+        return;
     port->chip = uart_new_chip(model, 1, 64, 0);
     struct uart_told uart_told;
     uart_told.line = 0;
@@ -2580,6 +2626,8 @@ void uart_port_new(struct uart_port *port, uint8_t model)
 /* The guest reads a register. */
 uint8_t uart_port_read(struct uart_port *port, uint8_t offset, struct uart_todo *todo)
 {
+    if (port == NULL || todo == NULL)
+        return 0;
     uint8_t offset2 = (uint8_t)(offset % 8);
     uint8_t value = uart_read(&port->chip, offset2);
     bool was_up = uart_is_interrupting(&port->chip);
@@ -2603,6 +2651,8 @@ static inline void uart_arrive_all(struct uart_chip *chip, const uint8_t *bytes,
 size_t
 uart_port_receive(struct uart_port *port, const uint8_t *bytes, size_t len, struct uart_todo *todo)
 {
+    if (port == NULL || bytes == NULL || todo == NULL)
+        return 0;
     size_t room = uart_controlling_receive_room(&port->chip);
     size_t number = room < len ? room : len;
     struct uart_kind kind;
@@ -2619,6 +2669,8 @@ uart_port_receive(struct uart_port *port, const uint8_t *bytes, size_t len, stru
 uint32_t
 uart_port_receive_one(struct uart_port *port, uint8_t byte, uint8_t errors, struct uart_todo *todo)
 {
+    if (port == NULL || todo == NULL)
+        return UART_NULL_POINTER;
     if ((errors & (UART_LSR_PARITY_ERROR | UART_LSR_FRAMING_ERROR |
         UART_LSR_BREAK_INTERRUPT)) != errors) {
         return UART_BAD_ERRORS;
@@ -2636,12 +2688,16 @@ uart_port_receive_one(struct uart_port *port, uint8_t byte, uint8_t errors, stru
 /* Saves the chip of a port. */
 void uart_port_save(const struct uart_port *port, struct uart_chip *saved)
 {
+    if (port == NULL || saved == NULL)
+        return;
     uart_chip_restore(saved, &port->chip);
 }
 
 /* The modem's inputs become these. */
 uint32_t uart_port_set_lines(struct uart_port *port, uint8_t inputs, struct uart_todo *todo)
 {
+    if (port == NULL || todo == NULL)
+        return UART_NULL_POINTER;
     if ((inputs & (UART_MSR_CTS | UART_MSR_DSR | UART_MSR_RI | UART_MSR_CD)) != inputs)
         return UART_BAD_LINES;
     uart_change_lines(&port->chip, inputs);
@@ -2675,6 +2731,8 @@ uart_transmitter_remove_wire(struct uart_transmitter *uart_transmitter, size_t c
 /* The host took so many bytes of the output. */
 void uart_port_take_output(struct uart_port *port, size_t count, struct uart_todo *todo)
 {
+    if (port == NULL || todo == NULL)
+        return;
     struct uart_kind kind;
     kind.brings = uart_held_len(&port->chip.transmitter) != 0;
     kind.looks = false;
@@ -2702,6 +2760,8 @@ static inline void uart_write_and_raise(struct uart_chip *chip, uint8_t offset, 
 /* The guest writes a register. */
 void uart_port_write(struct uart_port *port, uint8_t offset, uint8_t value, struct uart_todo *todo)
 {
+    if (port == NULL || todo == NULL)
+        return;
     uint8_t offset2 = (uint8_t)(offset % 8);
     uart_write_and_raise(&port->chip, offset2, value);
     bool is_so = uart_is_interrupting(&port->chip) && !uart_is_loopback(&port->chip);
@@ -3122,6 +3182,8 @@ static int uart_state_has_magic(const uint8_t *bytes, size_t len)
  */
 void uart_chip_to_bytes(const struct uart_chip *chip, uint8_t *bytes)
 {
+    if (chip == NULL || bytes == NULL)
+        return;
     uint8_t *to = bytes;
     size_t i;
 
@@ -3144,6 +3206,8 @@ void uart_chip_to_bytes(const struct uart_chip *chip, uint8_t *bytes)
  */
 uint32_t uart_chip_from_bytes(struct uart_chip *saved, const uint8_t *bytes, size_t len, size_t *detail)
 {
+    if (saved == NULL || bytes == NULL || detail == NULL)
+        return UART_STATE_NULL_POINTER;
     struct uart_state_reader from;
     struct uart_chip chip;
 

@@ -9,8 +9,8 @@
  * stays within it. The structs are those of the library that the kit builds, so a program changes to these files by what it is linked
  * with.
  *
- * Every pointer must be valid, aligned and not null, also one to an array of length 0. Pointers that a function writes
- * through must not overlap with its others.
+ * A pointer that is null is refused, also one to an array of length 0: the call does nothing, and returns the status that says so, or 0 if
+ * it returns none. Any other pointer must be valid and aligned. Pointers that a function writes through must not overlap with its others.
  *
  * 'Proved' says what a call returns and leaves, by the name of the clause, in the words of the definitions. It is proved of the code that
  * this is made from, which the C is compared with.
@@ -37,7 +37,8 @@ enum uart_status {
     UART_BAD_ERRORS = 3, /* a character has parity, framing and break errors alone */
     UART_BAD_LINES = 4,  /* the modem lines are CTS, DSR, RI and CD */
     UART_BAD_CHIP = 5,   /* the saved data are those of no sound chip */
-    UART_BAD_PORT = 6    /* the saved data are those of no port */
+    UART_BAD_PORT = 6,   /* the saved data are those of no port */
+    UART_NULL_POINTER = 7 /* a pointer is null: nothing was done */
 };
 
 /* --------------------------------------------------------------- the registers
@@ -489,6 +490,8 @@ uint32_t uart_port_set_lines(struct uart_port *port, uint8_t inputs, struct uart
  */
 static inline const uint8_t *uart_port_output(const struct uart_port *port)
 {
+    if (port == NULL)
+        return NULL;
     return port->chip.transmitter.wire.items;
 }
 
@@ -515,6 +518,8 @@ uint8_t uart_port_level(const struct uart_port *port);
  */
 static inline uint8_t uart_port_is_breaking(const struct uart_port *port)
 {
+    if (port == NULL)
+        return 0;
     return port->chip.latches.lcr >> 6 & 1;
 }
 
@@ -611,7 +616,8 @@ enum uart_state_status {
     UART_STATE_BAD_LENGTH = 3,   /* too few bytes, or too many: the offset where, 8 for those of all */
     UART_STATE_UNKNOWN_PART = 4, /* a part that must not be skipped is not known: its kind */
     UART_STATE_MISSING_PART = 5, /* a part is not there: its kind */
-    UART_STATE_BAD_VALUE = 6     /* a byte that its field cannot have: the offset of the byte */
+    UART_STATE_BAD_VALUE = 6,    /* a byte that its field cannot have: the offset of the byte */
+    UART_STATE_NULL_POINTER = 7  /* a pointer is null: nothing is written */
 };
 
 /*

@@ -15,12 +15,14 @@ NO_RESIDUAL = "core::option::OptionFromResidualNoValue::from_residual"
 FIRST_CHUNK = "core::slice::arrays::slice+T::first_chunk"
 COPY_SLICE = "core::slice::edits::slice+T::copy_from_slice"
 SAME_ARRAYS = "core::cmp::arrays::ArrayPartialEq::eq"
+ROTATE = "core::slice::edits::slice+T::rotate_left"
 ALL_BITS = "bitflags::traits::Flags::all"
 # What is by hand in C, by the method of the MIR.
 OF_C = {
     f"{OF_CALLER}uart_spec::backend::Backend 0": ("uart_device_read", c.BYTE),
     f"{OF_CALLER}uart_spec::backend::Backend 1": ("uart_device_write", c.VOID),
     f"{OF_CALLER}uart_16550::patience::Patience 0": ("uart_patience_keep_waiting", c.BOOL),
+    f"{OF_CALLER}uart_design_ware::registers::DesignWareRegisters 0": ("uart_device_read_usr", c.BYTE),
     f"{OF_CALLER}uart_ring::line::LinePorts 0": ("uart_line_ports_number", c.Number(64, c.SIZE)),
     f"{OF_CALLER}uart_ring::line::LinePorts 1": ("uart_line_ports_lower", c.BOOL),
     f"{OF_CALLER}uart_ring::line::LinePorts 2": ("uart_line_ports_raise", c.VOID),
@@ -31,7 +33,7 @@ FILLED = "std_alloc::vec::Vec::from_elem"
 OVER_SLICES = ("std_alloc::shifts::", "std::slices::")
 # Returns the range that it is given, if that is within: it is proved to be, where this is called.
 RANGE_WITHIN = "core::slice::ranges::range"
-NATIVE = {*BRANCH, RANGE_WITHIN, FILLED, NO_RESIDUAL, FIRST_CHUNK, COPY_SLICE, SAME_ARRAYS, ALL_BITS}
+NATIVE = {*BRANCH, RANGE_WITHIN, FILLED, NO_RESIDUAL, FIRST_CHUNK, COPY_SLICE, SAME_ARRAYS, ROTATE, ALL_BITS}
 U64 = c.Width(False)
 # The parameters of functions of libraries whose sources are not read.
 PARAMETERS = {"std_alloc::shifts::copy_down": ("items", "from", "to", "count"), "std_alloc::shifts::copy_up": ("items", "from", "to", "count")}
@@ -456,7 +458,8 @@ class Body:
             return self.filled(to, value)
         if isinstance(value, Aggregate) and self.types.kind(of).kind == "struct":
             parts = [one for one in self.types.fields(of) if not self.types.is_unit(one[1])]
-            if len(parts) > FEW or any(self.types.is_array_of_header(of, inner) for _, inner in parts):
+            is_filled = any(isinstance(one, Repeat) for one in value.parts)
+            if is_filled or len(parts) > FEW or any(self.types.is_array_of_header(of, inner) for _, inner in parts):
                 return self.part_by_part(to, of, value)
         if isinstance(value, Aggregate) and of[0] == "Array":
             start = to.pointer if isinstance(to, ArrayAt) else c.Field(to, "bytes", c.Pointer(self.types.c(of[1])))
@@ -555,6 +558,11 @@ class Body:
         if name == FIRST_CHUNK:
             least = c.Literal(one.function[1][1][1], c.Number(64, c.SIZE))
             return c.Choice(c.Binary(">=", arguments[0].length, least, c.BOOL), arguments[0].pointer, c.Word("NULL", arguments[0].pointer.of))
+        if name == ROTATE:
+            items, count = arguments
+            if not (isinstance(count, c.Literal) and count.value == 1 and items.pointer.of.to.text() == "struct u16550_received"):
+                raise Unknown("a rotation by more than one, or of other items than characters")
+            return self.library.helper("uart_first_to_last", [items.pointer, items.length], c.VOID)
         if name == SAME_ARRAYS:
             count = c.Literal(one.function[1][1][1], c.Number(64, c.SIZE))
             return self.library.helper("uart_same_bytes", [*arguments, count], c.BOOL)

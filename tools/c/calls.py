@@ -297,6 +297,8 @@ CODES = [
     Codes("FifoAction", "uint8_t", {"Keep": "FIFOS_KEEP", "Reset": "FIFOS_RESET", "Disable": "FIFOS_DISABLE"}, got=False),
     Codes("FifoSize", "uint16_t", {"Sixteen": 16, "ThirtyTwo": 32, "SixtyFour": 64, "OneHundredTwentyEight": 128,
                                    "TwoHundredFiftySix": 256}, got=False),
+    Codes("DesignWareFault", "int", {"LineControlIgnored": "DESIGN_WARE_LINE_CONTROL", "InterruptWithoutEnd": "DESIGN_WARE_INTERRUPT"},
+          given=False),
     Codes("HandleEnd", "uint8_t", {"Idle": "HANDLE_IDLE", "Unknown": "HANDLE_UNKNOWN", "Limit": "HANDLE_LIMIT"}, given=False),
 ]
 

@@ -18,13 +18,19 @@ from tree import DEVICE
 FOLDER = pathlib.Path(__file__).resolve().parent
 ROOT = FOLDER.parent.parent
 # The crates whose functions stay functions in C.
-OWN = ("uart_spec", "uart_16550", "uart_ring")
+OWN = ("uart_spec", "uart_16550", "uart_design_ware", "uart_ring")
 # Types of the source that the header has already, part for part.
 PUBLIC = {
     ("Named", "uart_spec::received::Received", ()): "u16550_received",
     ("Named", "uart_spec::dump::ConfigRegisterDump", ()): "u16550_dump",
+    ("Named", "uart_design_ware::kept::KeptCharacter", ()): "u16550_received",
 }
 RING = ("Named", "uart_ring::ring::Uart16550Ring", (DEVICE,))
+DESIGN_WARE = ("Named", "uart_design_ware::state::DesignWare", (DEVICE,))
+# The types of the code that is proved which the structs of the header are made of.
+IN_HEADER = (RING, DESIGN_WARE)
+# Functions that implement traits, by which callers call them.
+OF_TRAITS = re.compile(r"::embedded_io::|::DesignWareBackend::")
 # What is by hand, in front of what is made of the table, and behind the first part of it.
 GUARDS, BY_HAND = ["guards"], ["bottom", "memory", "design_ware"]
 TOP = """/*
@@ -63,15 +69,16 @@ def wanted(library, text):
     called = set(re.findall(r"\b(uart_\w+)\(", text))
     for name in library.forest.program.functions:
         information = library.source.find(name) if name.split("::")[0] in OWN else None
-        if information and (information.is_public or "embedded_io" in name) and library.name_of((name, (), ())) in called:
+        if information and (information.is_public or OF_TRAITS.search(name)) and library.name_of((name, (), ())) in called:
             yield name
 
 
 def made(folder):
     """The texts of the header and of the source, and the library that was translated."""
     table.check(calls)
-    library = Library(program_of(OWN, folder, "./prove uart_ring"), names.Source(ROOT, OWN), PUBLIC, OWN, "U16550")
-    library.types.put_into_header(RING)
+    library = Library(program_of(OWN, folder, "./prove uart_ring && ./prove uart_design_ware"), names.Source(ROOT, OWN), PUBLIC, OWN, "U16550")
+    for one in IN_HEADER:
+        library.types.put_into_header(one)
     guards, by_hand = ("\n".join(text_of(f"layer_{one}.c") for one in which) for which in (GUARDS, BY_HAND))
     rows = interface.layer()
     for name in sorted(wanted(library, by_hand + rows)):
@@ -79,7 +86,8 @@ def made(folder):
             library.want(name)
         except Unknown as cause:
             sys.exit(f"emit: {name}: {cause}")
-    library.types.c(RING)
+    for one in IN_HEADER:
+        library.types.c(one)
     in_header = [text for name, text in library.types.declarations if name.startswith("u16550_core")]
     own = [text for name, text in library.types.declarations if not name.startswith("u16550_core")]
     proved = {one.name.removeprefix("uart_"): proved_lines(one.proved) for one in library.order if one.proved}

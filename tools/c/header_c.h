@@ -55,14 +55,8 @@ struct u16550_device {
     struct u16550_core_ring ring;
 };
 
-/* How many received characters a DesignWare UART keeps while LCR is written. */
-#define U16550_DESIGN_WARE_KEPT 64
-
 @CHIP@struct u16550_design_ware {
-    struct u16550_device registers;
-    uint64_t patience;
-    struct u16550_received kept[U16550_DESIGN_WARE_KEPT];
-    uint8_t first, count, cleared, line, interrupts, fifo_control, fault;
+    struct u16550_core_design_ware chip;
 };
 
 @CALLS@

@@ -12,6 +12,14 @@ static inline void uart_device_write(struct u16550_device *device, uint8_t offse
     device->io.write(device->io.context, address, value);
 }
 
+/* The register USR of a DesignWare UART lies beyond the eight. */
+enum { UART_USR = 31 };
+
+static inline uint8_t uart_device_read_usr(struct u16550_device *device)
+{
+    return uart_device_read(device, UART_USR);
+}
+
 /* Memory of the caller, of which the rings take cells from the front. */
 struct uart_memory {
     uint8_t *data;

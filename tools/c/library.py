@@ -17,6 +17,7 @@ OF_TRAITS = {
     "uart_16550::backend::ByteAccess": DEVICE,
     "uart_16550::patience::Patience": PATIENCE,
     "uart_ring::line::LinePorts": PORTS,
+    "uart_design_ware::registers::DesignWareRegisters": DEVICE,
 }
 # The structs of C that are large, as are those that have one of them.
 HOLD_A_DRIVER = {"u16550_core_driver"}
@@ -35,6 +36,15 @@ static inline void uart_fill_bytes(uint8_t *to, uint8_t value, size_t count)
         to[i] = value;
 }
 """,
+    "uart_first_to_last": """/* Moves the first of some characters behind the others. */
+static inline void uart_first_to_last(struct u16550_received *items, size_t count)
+{
+    struct u16550_received first = items[0];
+    for (size_t i = 1; i < count; i++)
+        items[i - 1] = items[i];
+    items[count - 1] = first;
+}
+""",
     "uart_same_bytes": """/* Returns whether so many bytes are the same. */
 static inline bool uart_same_bytes(const uint8_t *one, const uint8_t *other, size_t count)
 {
@@ -49,7 +59,8 @@ static inline bool uart_same_bytes(const uint8_t *one, const uint8_t *other, siz
 # The functions whose second argument is the offset of a register, and the names of these.
 READ = dict(enumerate("DATA IER ISR LCR MCR LSR MSR SPR".split()))
 WRITTEN = {**READ, 2: "FCR"}
-OFFSETS = {"uart_device_read": READ, "uart_read_register": READ, "uart_device_write": WRITTEN, "uart_write_register": WRITTEN}
+OFFSETS = {"uart_device_read": READ, "uart_read_register": READ, "uart_device_write": WRITTEN, "uart_write_register": WRITTEN,
+           "uart_design_ware_load": READ, "uart_design_ware_store": WRITTEN}
 
 
 # A compiler is told to put a function in the place of its calls up to so many lines, and up to so many if one of the calls is in a loop: it
@@ -78,10 +89,10 @@ class Written:
         inside = [statement for loop in loops for statement in c.all_statements([loop])]
         return {part.name for one in inside for whole in c.expressions(one) for part in c.every(whole) if isinstance(part, c.CallOf)}
 
-    def text(self, in_loops):
-        """Its text. `in_loops` are the functions that are called in loops."""
+    def text(self, in_loops, short):
+        """Its text. `in_loops` are the functions that are called in loops, and `short` is how many lines a short one has at most."""
         body = c.lines(self.statements)
-        is_short = len(body) <= (SHORT_IN_LOOP if self.name in in_loops else SHORT)
+        is_short = len(body) <= (max(short, SHORT_IN_LOOP) if self.name in in_loops else short)
         word = "" if self.is_public else "static inline" if is_short else "static"
         first = top(word, self.result, self.name, [c.declared(one.of, one.name) for one in self.parameters])
         return "\n".join([self.comment + "\n".join(first), "{", *body, "}", ""])
@@ -113,6 +124,7 @@ class Library:
         self.makers, self.helpers, self.bits, self.offsets, self.statics = {}, set(), {}, {}, {}
         # What the header calls the offsets of registers that are read, and of those that are written; and the numbers that functions return.
         self.registers, self.returned = None, {}
+        self.short = SHORT
         # Keys of one function by what they have in common, and the functions that only compute.
         self.same, self.quiet = {}, set()
 
@@ -482,7 +494,7 @@ class Library:
         for one in reversed(self.order):
             if text is None or one.is_public or re.search(rf"\b{one.name}\(", text):
                 out.insert(0, one)
-                text = None if text is None else text + one.text(in_loops)
+                text = None if text is None else text + one.text(in_loops, self.short)
         return out
 
     def called_in_loops(self):
@@ -499,7 +511,7 @@ class Library:
             shown = ", ".join(map(str, values))
             out.append("\n".join(c.wrapped(f"static const uint8_t {name}[{len(values)}] = {{ {shown} }};")) + "\n")
         in_loops = self.called_in_loops()
-        functions = "\n".join(one.text(in_loops) for one in self.called())
+        functions = "\n".join(one.text(in_loops, self.short) for one in self.called())
         # What was made on the way and is gone again has left makers that nobody calls.
         makers, called = [], functions
         for text in reversed(list(self.makers.values())):

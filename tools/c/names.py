@@ -97,7 +97,9 @@ class Source:
         """What is proved of a function, in the words of the definitions that its contract cites."""
         out = []
         for name in function.cited if function else []:
-            words = re.sub(r"^`\w+`: ", "", self.definitions.get(name, ""))
+            # Two crates may have definitions of one name.
+            said = self.defined.get(function.uses.get(name)) or self.definitions.get(name, "")
+            words = re.sub(r"^`\w+`: ", "", said)
             if words and words not in out and words.isascii():
                 out.append(words)
         return out

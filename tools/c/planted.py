@@ -30,9 +30,10 @@ IN_DRIVER = [
     ("a surrogate in UTF-8", "high = 0x9f;", "high = 0xbf;"),
     ("a register with its bytes the other way round", "UART_REGISTERS(swapped_half_words, 16, 8)", "UART_REGISTERS(swapped_half_words, 16, 0)"),
     ("registers that overlap", "    if (layout->stride < bytes)\n        return U16550_STRIDE_TOO_SMALL;\n", ""),
-    ("a busy DesignWare is taken to be free", "if (!uart_chip_is_busy(chip) && uart_chip_takes(chip, line))", "if (uart_chip_takes(chip, line))"),
-    ("an overrun is told twice", "    chip->cleared &= (uint8_t)~U16550_LSR_OVERRUN_ERROR;\n", ""),
-    ("a fault does not end", "                chip->fault = U16550_OK;\n", ""),
+    ("a busy DesignWare is taken to be free", "    if (uart_design_ware_is_busy(design_ware))\n        return false;\n", ""),
+    ("an overrun is told twice", "    design_ware->cleared &= (uint8_t)~overrun;\n", ""),
+    ("a fault does not end", "        design_ware->fault = uart_no_design_ware_fault();\n", ""),
+    ("characters change places", "        items[i - 1] = items[i];\n", "        items[i - 1] = items[count - i];\n"),
     ("last words in loopback", "kept | U16550_MCR_DTR | U16550_MCR_RTS);", "kept | U16550_MCR_DTR);"),
 ]
 
@@ -84,6 +85,7 @@ IN_PORT = [
     ("a tick too many", "return uart_some_u16(1 < found.value.ticks_left ? found.value.ticks_left : 1);",
      "return uart_some_u16(2 < found.value.ticks_left ? found.value.ticks_left : 2);"),
     ("a status that is another", "return UART_BAD_PORT;", "return UART_BAD_CHIP;"),
+    ("a null clock is taken", "    if (clock == NULL)\n        return 0;\n", ""),
     ("a looped character is one that arrived", "queue->items[i].is_looped = looped >> i & 1;", "queue->items[i].is_looped = 0;"),
     ("a byte of a state that its field cannot have", "    if (byte <= most)\n", "    if (byte <= most + 1)\n"),
 ]

@@ -1,4 +1,5 @@
 """The pair uart_port: the chip and the port for monitors, with the functions of the header of the library for C that the kit builds."""
+import collections
 import pathlib
 import re
 import sys
@@ -14,6 +15,8 @@ ROOT = FOLDER.parent.parent
 # The crates whose functions stay functions in C. The last has the functions of the header.
 OWN = ("uart_spec", "uart_events", "uart_chip", "uart_live", "uart_virtual", "uart_c")
 EXPORTS = "uart_c"
+# A function of no more lines is `inline`: a call of a port goes through some thirty, and a compiler would call a dozen of them.
+SHORT = 20
 # The registers at the eight offsets, as they are read and as they are written.
 READ, WRITTEN = "DATA IER ISR LCR MCR LSR MSR SPR".split(), "DATA IER FCR LCR MCR LSR MSR SPR".split()
 INCLUDE = ROOT / "crates" / EXPORTS / "include"
@@ -29,8 +32,8 @@ INTRODUCTION = """/*
  * stays within it. The structs are those of the library that the kit builds, so a program changes to these files by what it is linked
  * with.
  *
- * Every pointer must be valid, aligned and not null, also one to an array of length 0. Pointers that a function writes
- * through must not overlap with its others.
+ * A pointer that is null is refused, also one to an array of length 0: the call does nothing, and returns the status that says so, or 0 if
+ * it returns none. Any other pointer must be valid and aligned. Pointers that a function writes through must not overlap with its others.
  *
  * 'Proved' says what a call returns and leaves, by the name of the clause, in the words of the definitions. It is proved of the code that
  * this is made from, which the C is compared with.
@@ -42,8 +45,8 @@ TOP = """/*
  * Made by tools/c/emit from the code that is proved. Do not edit. Names and comments are those of its source, and what is computed
  * is taken from what the proofs are about.
  *
- * The functions of the header check all that they are given but their pointers. The others check nothing that is proved never to
- * happen. Those that write and read a chip as bytes are by hand, and not proved.
+ * The functions of the header check all that they are given, of pointers that they are not null. The others check nothing that is proved
+ * never to happen. Those that write and read a chip as bytes are by hand, and not proved.
  */
 #include "uart_port.h"
 
@@ -75,7 +78,7 @@ def made(folder):
         if header.numbers.get(name, value) != value:
             sys.exit(f"emit: {name} is {header.numbers[name]:#x} in the header, and {value:#x} in what is proved")
     own = named_in(library.types.declarations, library.text())
-    texts = [TOP + constants(library, header.numbers), "\n".join(own), library.text(), header.functions_by_hand()]
+    texts = [TOP + constants(library, header.numbers), "\n".join(own), guarded(library.text()), guarded(header.functions_by_hand())]
     return {"uart_port.h": header.made(library), "uart_port.c": "\n".join(texts)}, library
 
 
@@ -83,6 +86,7 @@ def translated(program, source, public, exports, header, clashes):
     """The functions of the header and all that they need, with these names for those that would have one with another."""
     library = Library(program, source, public, OWN, "UART", clashes)
     library.registers, library.returned = header.registers, header.statuses
+    library.short = SHORT
     for name, function in exports.items():
         library.export(function, name, header.prototypes[name])
     for function in exports.values():
@@ -91,6 +95,21 @@ def translated(program, source, public, exports, header, clashes):
         except Unknown as cause:
             sys.exit(f"emit: {function}: {cause}")
     return library
+
+
+def guarded(text):
+    """A text whose functions of the header refuse null."""
+    def guard(found):
+        pointers = re.findall(r"\*(\w+)(?=,|$)", re.sub(r"\s+", " ", found[3]))
+        if not pointers:
+            return found[0]
+        result = found[1].split()[-1]
+        refused = "" if result == "void" else " NULL" if found[1].endswith("*") else f" {NULL_STATUS[found[2]]}" if result == "uint32_t" else " 0"
+        test = " || ".join(f"{one} == NULL" for one in pointers)
+        return f"{found[0]}    if ({test})\n        return{refused};\n"
+
+    # An inline function of the header is one of a port alone.
+    return re.sub(r"(?m)^((?:static inline (?=[^\n]*\(const struct uart_port \*port\)))?(?!static)\w[\w ]*?(?:[ *]\*?|\n))(uart_\w+)\(([^(){};]*)\)\n\{\n", guard, text)
 
 
 def named_in(declarations, text):
@@ -158,6 +177,11 @@ class Header:
             comment = comment[:-len(" */")].rstrip() + "\n *\n" + "".join(f" * {one}\n" for one in lines) + " */\n"
             return comment + found[3]
 
+        for last, with_null in LAST_STATUS.items():
+            if text.count(last) != 1:
+                sys.exit(f"emit: the header has {last!r} {text.count(last)} times, and not once")
+            text = text.replace(last, with_null)
+        text = guarded(text)
         return re.sub(r"(?m)((?:^/\*(?:(?!\*/)[\s\S])*\*/\n))(?=\w[^\n]*\b(uart_\w+)\()(\w[^\n]*)", told, text)
 
     def declared_state(self):
@@ -180,6 +204,15 @@ class Header:
         return BY_HAND + text
 
 
+# The statuses that refuse null, by functions, and what they are added behind.
+NULL_STATUS = collections.defaultdict(lambda: "UART_NULL_POINTER", uart_chip_from_bytes="UART_STATE_NULL_POINTER")
+LAST_STATUS = {
+    "UART_BAD_PORT = 6    /* the saved data are those of no port */":
+        "UART_BAD_PORT = 6,   /* the saved data are those of no port */\n    UART_NULL_POINTER = 7 /* a pointer is null: nothing was done */",
+    "UART_STATE_BAD_VALUE = 6     /* a byte that its field cannot have: the offset of the byte */":
+        "UART_STATE_BAD_VALUE = 6,    /* a byte that its field cannot have: the offset of the byte */\n"
+        "    UART_STATE_NULL_POINTER = 7  /* a pointer is null: nothing is written */",
+}
 OTHER = """#ifdef UART_16550_H
 #error "uart_16550.h declares the same: include one of the two"
 #endif

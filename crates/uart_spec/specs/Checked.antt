@@ -65,7 +65,7 @@ abbrev pub IsCheckedNearest : Config → (per_mille : ℕ) → Result Config Nea
 IsCheckedNearest config per_mille result =
     (IsComputable config × IsNearestAnswer config per_mille result)
     ⊎ (IsNotAccepted config.frequency (to_integer config.baud_rate) config.prescaler_division_factor
-        × (result ≡ Err (nearest.OutOfRange 0)))
+    × (result ≡ Err (nearest.OutOfRange 0)))
 
 -- the baud rate of a dump, as `IsCheckedRate` says it of the divisor there, with its name if it has one
 abbrev pub IsCheckedDumpRate : Config → ConfigRegisterDump → Result BaudRate NonIntegerBaudRateError → Type 0

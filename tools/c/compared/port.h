@@ -506,12 +506,80 @@ static void call(void)
     note_port(port);
 }
 
+#if !defined(HEADER_OF_LIBRARY)
+/* Prints something, which nothing else does, unless each function refuses each pointer that is null, and then changes nothing. */
+static void refuse_null(void)
+{
+    struct uart_chip chip, other;
+    struct uart_port port;
+    struct uart_clock clock = { 0 };
+    struct uart_todo todo = { 0 };
+    uint64_t before;
+    size_t detail = 77;
+    uint32_t wrong = 0;
+    uart_chip_new(&chip, UART_16550A, 1, UART_WIRE_ROOM, UART_CUT);
+    uart_chip_save(&chip, &other);
+    uart_port_new(&port, UART_16550A);
+    note_chip(&chip);
+    note_chip(&other);
+    note_port(&port);
+    before = hash;
+    wrong += uart_chip_new(NULL, UART_16550A, 1, 1, UART_CUT) != UART_NULL_POINTER;
+    wrong += uart_chip_load(NULL, &other) != UART_NULL_POINTER || uart_chip_load(&chip, NULL) != UART_NULL_POINTER;
+    uart_chip_save(NULL, &other);
+    uart_chip_save(&chip, NULL);
+    wrong += uart_chip_read(NULL, UART_OFFSET_LSR) != 0;
+    uart_chip_write(NULL, UART_OFFSET_LCR, 3);
+    uart_chip_ticks(NULL, 9);
+    wrong += uart_chip_arrive(NULL, 1, 0) != UART_NULL_POINTER || uart_chip_set_lines(NULL, 0) != UART_NULL_POINTER;
+    wrong += uart_chip_is_interrupting(NULL) != 0 || uart_chip_take_wire(NULL, bytes, 1) != 0 || uart_chip_take_wire(&chip, NULL, 0) != 0;
+    wrong += uart_chip_wire_len(NULL) != 0 || uart_chip_wire_room(NULL) != 0 || uart_chip_receive_room(NULL) != 0;
+    wrong += uart_chip_waiting_len(NULL) != 0 || uart_chip_held_len(NULL) != 0 || uart_chip_divisor(NULL) != 0;
+    uart_port_new(NULL, UART_16550A);
+    wrong += uart_port_read(NULL, UART_OFFSET_ISR, &todo) != 0 || uart_port_read(&port, UART_OFFSET_ISR, NULL) != 0;
+    uart_port_write(NULL, UART_OFFSET_DATA, 1, &todo);
+    uart_port_write(&port, UART_OFFSET_DATA, 1, NULL);
+    wrong += uart_port_receive(NULL, bytes, 1, &todo) != 0 || uart_port_receive(&port, NULL, 1, &todo) != 0;
+    wrong += uart_port_receive(&port, bytes, 1, NULL) != 0;
+    wrong += uart_port_receive_one(NULL, 1, 0, &todo) != UART_NULL_POINTER || uart_port_receive_one(&port, 1, 0, NULL) != UART_NULL_POINTER;
+    wrong += uart_port_set_lines(NULL, 0, &todo) != UART_NULL_POINTER || uart_port_set_lines(&port, 0, NULL) != UART_NULL_POINTER;
+    wrong += uart_port_output(NULL) != NULL || uart_port_level(NULL) != 0 || uart_port_is_breaking(NULL) != 0;
+    uart_port_take_output(NULL, 1, &todo);
+    uart_port_take_output(&port, 1, NULL);
+    uart_port_save(NULL, &other);
+    uart_port_save(&port, NULL);
+    wrong += uart_port_load(NULL, &other, &todo) != UART_NULL_POINTER || uart_port_load(&port, NULL, &todo) != UART_NULL_POINTER;
+    wrong += uart_port_load(&port, &other, NULL) != UART_NULL_POINTER;
+    wrong += uart_clock_after_read(NULL, 0, &todo) != 0 || uart_clock_after_read(&clock, 0, NULL) != 0;
+    wrong += uart_clock_after_write(NULL, 0, &todo) != 0 || uart_clock_after_write(&clock, 0, NULL) != 0;
+    uart_clock_after_host(NULL, &todo);
+    uart_clock_after_host(&clock, NULL);
+    wrong += uart_clock_pass_time(NULL) != 0;
+    uart_chip_to_bytes(NULL, state);
+    uart_chip_to_bytes(&chip, NULL);
+    wrong += uart_chip_from_bytes(NULL, state, 1, &detail) != UART_STATE_NULL_POINTER;
+    wrong += uart_chip_from_bytes(&other, NULL, 0, &detail) != UART_STATE_NULL_POINTER;
+    wrong += uart_chip_from_bytes(&other, state, 1, NULL) != UART_STATE_NULL_POINTER || detail != 77;
+    hash = 1;
+    note_chip(&chip);
+    note_chip(&other);
+    note_port(&port);
+    wrong += hash != before || todo.ready != 0 || todo.signal != 0;
+    if (wrong)
+        print_number(wrong, 10, " functions do not refuse null\n");
+}
+#endif
+
 /* Makes so many calls. Prints the hash after each thousand, and in the end how many calls were never made. */
 static void compare(uint64_t seed, uint32_t total)
 {
     uint32_t never = 0;
     choices = seed;
     hash = 1;
+#if !defined(HEADER_OF_LIBRARY)
+    refuse_null();
+    hash = 1;
+#endif
     for (uint32_t made = 0; made < total; made++) {
         if (made % 400 == 0) {
             for (size_t i = 0; i < CHIPS; i++)

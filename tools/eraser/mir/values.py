@@ -50,6 +50,10 @@ OF_MIR = {
         "made.f1 = front as u64; made.f2 = bytes.len() as u64; "
         "for (at, byte) in bytes.iter().enumerate() { *made.f0.f0.add((front + at) % capacity) = *byte; } made }",
     ),
+    "uart_design_ware::kept::KeptCharacters": (
+        "out.push(self.f1); unsafe { for at in 0..self.f1 as usize { self.f0[at].show(out); } }",
+        "let f0 = Value::make(choices); Self { f0, f1: choices.pick(65){rest} }",
+    ),
     "arrayvec::array_vec::ArrayVec": (
         "self.f0.f0[..self.f1 as usize].show(out);",
         "unsafe { let mut made: Self = zeroed(); made.f1 = choices.pick(made.f0.f0.len() as u64 + 1); "

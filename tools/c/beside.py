@@ -1,0 +1,409 @@
+"""Each function of the C beside its own MIR: a program that calls both on the same choices, by the means of the comparison that the Rust crates
+have (tools/eraser/mir). The MIR is translated to Rust; on the side of C stand two functions for each type, which this writes: one makes a value
+of choices, and one shows a value as words. Both do it part by part in the order of the source, as the side of the MIR does."""
+import pathlib
+import re
+import subprocess
+
+import natives
+import values
+from listed import NOT_EMPTY
+from representation import VECTOR
+from translate import Translation, Unknown
+from tree import DEVICE, MEMORY, OF_CALLER, PORTS
+
+FOLDER = pathlib.Path(__file__).resolve().parent
+HEADER = FOLDER.parent.parent / "c"
+RUN = FOLDER.parent / "eraser" / "mir" / "run" / "run.rs"
+# Where in the C what is by hand begins, which nothing here calls.
+BY_HAND = "/* --------------------------------------------------------------- what is by hand: memory of the caller"
+EDGES = {0, 1, 2**8, 2**16, 2**31 - 1, 2**31, 2**32 - 1, 2**32, 2**63 - 1, 2**64 - 2, 2**64 - 1}
+# The register of a DesignWare UART that lies beyond the eight.
+USR = 31
+QUEUE = "uart_ring::queue::ByteQueue"
+KEPT = "uart_design_ware::kept::KeptCharacters"
+# When a call breaks a contract in a way that the MIR does not notice, as Rust code over its arguments.
+OUTSIDE = {"uart_kept_characters_keep": "a1.f1 >= 64"}
+HEAD_OF_C = """
+#include <string.h>
+
+uint8_t beside_byte(void);
+uint64_t beside_number(unsigned bits);
+bool beside_bool(void);
+uint64_t beside_pick(uint64_t bound);
+void beside_array(bool begins);
+size_t beside_length(size_t least);
+size_t beside_bytes(size_t least, uint8_t *to);
+size_t beside_memory_of(void);
+uint8_t *beside_memory(size_t count);
+void beside_queue(size_t *capacity, size_t *front, size_t *count, uint8_t *bytes);
+void beside_show(uint64_t word);
+uint8_t beside_read(void *context, uintptr_t offset);
+void beside_write(void *context, uintptr_t offset, uint8_t value);
+size_t beside_ports(void);
+bool beside_lower(size_t port, size_t limit, uint32_t rounds);
+void beside_raise(size_t port);
+
+enum { BESIDE_MOST = 512 };
+
+static struct uart_maybe_vec_u8 uart_cells_in_memory(struct uart_memory *memory, uint8_t value, size_t count)
+{
+    struct uart_maybe_vec_u8 made;
+    memset(&made, 0, sizeof made);
+    if (count > memory->len)
+        return made;
+    made.is_some = true;
+    made.value.data = beside_memory(count);
+    made.value.len = made.value.capacity = count;
+    memory->len -= count;
+    memset(made.value.data, value, count);
+    return made;
+}
+
+static inline size_t uart_line_ports_number(const struct uart_line_ports *ports)
+{
+    (void)ports;
+    return beside_ports();
+}
+
+static bool uart_line_ports_lower(struct uart_line_ports *ports, size_t port, size_t limit, uint32_t rounds)
+{
+    (void)ports;
+    return beside_lower(port, limit, rounds);
+}
+
+static void uart_line_ports_raise(struct uart_line_ports *ports, size_t port)
+{
+    (void)ports;
+    beside_raise(port);
+}
+
+void beside_run(void);
+int main(void)
+{
+    beside_run();
+    return 0;
+}
+
+static struct u16550_device beside_device(void)
+{
+    struct u16550_device made = { { NULL, beside_read, beside_write }, 0, 1 };
+    return made;
+}
+"""
+HEAD_OF_RUST = "#![allow(warnings, clippy::all)]\npub mod run;\npub mod mir;\npub mod numbers;\n"
+
+
+def line_method(name, arguments, result):
+    """A method of the ports of a line, of which the comparison says what they do."""
+    given = ", ".join(f"a{order}" for order in range(2, len(arguments) + 1))
+    return lambda translation, types: (arguments, result, f"crate::run::{name}({given})")
+
+
+NATIVES = natives.NATIVES | {
+    ("of a device: uart_design_ware::registers::DesignWareRegisters", 0):
+        lambda translation, types: (["P"], "u8", f"crate::run::read({USR}, crate::run::REGISTERS)"),
+    ("of a device: uart_ring::line::LinePorts", 0): line_method("number_of_ports", ["P"], "u64"),
+    ("of a device: uart_ring::line::LinePorts", 1): line_method("lower", ["P", "u64", "u64", "u32"], "bool"),
+    ("of a device: uart_ring::line::LinePorts", 2): line_method("raise", ["P", "u64"], "()"),
+}
+
+
+def of_mir(of):
+    """A type as the translation to Rust has it: a reference does not say whether what it is to may change."""
+    if not isinstance(of, tuple):
+        return of
+    if of[:1] == ("Ref",):
+        return ("Ref", of_mir(of[1]))
+    return tuple(of_mir(one) for one in of)
+
+
+def dictionary_of_mir(one):
+    name, types, inner = one
+    return (name.replace(OF_CALLER, "of a device: "), of_mir(types), tuple(map(dictionary_of_mir, inner)))
+
+
+class Beside:
+    """What compares the functions of a library. `compared` has their names, and `left` those that are not, with the reason."""
+
+    def __init__(self, library):
+        self.library, self.types = library, library.types
+        self.translation = Translation(library.forest.program, NATIVES, library.forest.own)
+        self.makers, self.showers, self.texts, self.calls = {}, {}, [], []
+        self.compared, self.left = [], {}
+        called = {one.name for one in library.called()}
+        for key, written in library.functions.items():
+            if written is None or written.name not in called or written.name in self.compared:
+                continue
+            try:
+                self.function(key, written)
+                self.compared.append(written.name)
+            except Unknown as cause:
+                self.left[written.name] = str(cause)
+        self.translation.translate()
+        if self.translation.unknown:
+            raise SystemExit(f"compare: not translated: {self.translation.unknown[:3]}")
+
+    # Values on the side of C.
+
+    def made_at(self, of, at):
+        """The statement that makes a value at this place."""
+        if self.types.is_unit(of):
+            return ""
+        if of not in self.makers:
+            text = self.make(of, "at[0]")
+            self.makers[of] = f"make_{len(self.makers)}"
+            self.texts.append(f"static void {self.makers[of]}({self.types.c(of).text()} *at)\n{{\n    memset(at, 0, sizeof at[0]);\n{text}}}\n")
+        return f"{self.makers[of]}(&{at});\n"
+
+    def shown_at(self, of, at):
+        """The statement that shows the value at this place."""
+        if self.types.is_unit(of):
+            return ""
+        if of not in self.showers:
+            text = self.show(of, "at[0]")
+            self.showers[of] = f"show_{len(self.showers)}"
+            self.texts.append(f"static void {self.showers[of]}(const {self.types.c(of).text()} *at)\n{{\n    (void)at;\n{text}}}\n")
+        return f"{self.showers[of]}(&{at});\n"
+
+    def first(self, of):
+        """The number of the first variant in C."""
+        return 1 if self.types.is_error(of) else 0
+
+    def make(self, of, at):
+        kind = self.types.kind(of)
+        word = kind.kind
+        if of[0] == "Named" and of[1] == QUEUE:
+            return self.make_queue(of)
+        if of[0] == "Named" and of[1] == VECTOR:
+            raise Unknown("a list that is made")
+        if of[0] == "Named" and of[1] == KEPT:
+            (cells, array), (count, _) = self.types.fields(of)
+            return self.made_at(array, f"{at}.{cells}") + f"{at}.{count} = (size_t)beside_pick(65);\n"
+        if word == "bool":
+            return f"{at} = beside_bool();\n"
+        if word == "number":
+            return f"{at} = beside_byte();\n" if of[1] == 8 else f"{at} = (uint{of[1]}_t)beside_number({of[1]});\n"
+        if word == "wrapper":
+            least = f"if ({at} == 0)\n {at} = 1;\n" if of[0] == "Named" and "nonzero::NonZero" in of[1] else ""
+            return self.make(kind.parts[1], at) + least
+        if word == "device":
+            if of != DEVICE:
+                raise Unknown(f"a value of {of[1]}")
+            return f"{at} = beside_device();\n"
+        if word == "option":
+            inner, tag, flag, value = kind.parts
+            if self.types.is_unit(inner):
+                return f"{at} = beside_pick(2) == {tag};\n"
+            return f"{at}.{flag} = beside_pick(2) == {tag};\nif ({at}.{flag}) {{\n{self.made_at(inner, f'{at}.{value}')}}}\n"
+        if word == "enum":
+            count = len(self.types.variants(of))
+            return f"{at} = ({self.types.c(of).text()})(beside_pick({count}) + {self.first(of)});\n"
+        if word == "tagged":
+            return self.make_tagged(of, at)
+        if word == "array":
+            return f"beside_array(true);\nfor (size_t i = 0; i < {of[2]}; i++)\n {self.made_at(of[1], f'{at}.bytes[i]')}beside_array(false);\n"
+        if word == "struct":
+            return "".join(self.made_at(one, f"{at}.{name}") for name, one in self.types.fields(of))
+        raise Unknown(f"a value of a type that is {word}")
+
+    def make_tagged(self, of, at):
+        cases, tags = "", f"enum {self.types.plain_name(of)}_kind"
+        for tag, (_, _, part) in enumerate(self.types.variants(of)):
+            parts = "".join(self.made_at(one, f"{at}.{self.types.part_name(of, tag, order)}") for order, one in enumerate(part) if not self.types.is_unit(one))
+            cases += f"case {tag}:\n{parts}break;\n"
+        count = len(self.types.variants(of))
+        return f"uint64_t tag = beside_pick({count});\n{at}.kind = ({tags})(tag + {self.first(of)});\nswitch (tag) {{\n{cases}default: break;\n}}\n"
+
+    def make_queue(self, of):
+        (cells, _), (front, _), (count, _) = self.types.fields(of)
+        return (f"uint8_t bytes[64];\nbeside_queue(&at->{cells}.capacity, &at->{front}, &at->{count}, bytes);\n"
+                f"at->{cells}.len = at->{cells}.capacity;\nat->{cells}.data = beside_memory(at->{cells}.capacity);\n"
+                f"for (size_t i = 0; i < at->{count}; i++)\n at->{cells}.data[(at->{front} + i) % at->{cells}.len] = bytes[i];\n")
+
+    def show(self, of, at):
+        kind = self.types.kind(of)
+        word = kind.kind
+        if of[0] == "Named" and of[1] == QUEUE:
+            (cells, _), (front, _), (count, _) = self.types.fields(of)
+            return (f"beside_show({at}.{cells}.len);\nbeside_show({at}.{count});\nfor (size_t i = 0; i < {at}.{count}; i++)\n"
+                    f" beside_show({at}.{cells}.data[({at}.{front} + i) % {at}.{cells}.len]);\n")
+        if of[0] == "Named" and of[1] == KEPT:
+            (cells, array), (count, _) = self.types.fields(of)
+            shown = self.shown_at(array[1], f"{at}.{cells}.bytes[i]")
+            return f"beside_show({at}.{count});\nfor (size_t i = 0; i < {at}.{count}; i++)\n {shown}"
+        if of[0] == "Named" and of[1] == VECTOR:
+            return f"beside_show({at}.len);\nfor (size_t i = 0; i < {at}.len; i++)\n beside_show({at}.data[i]);\n"
+        if word in ("bool", "number"):
+            return f"beside_show((uint64_t){at});\n"
+        if word == "wrapper":
+            return self.show(kind.parts[1], at)
+        if word == "device":
+            return ""
+        if word == "option":
+            inner, tag, flag, value = kind.parts
+            if self.types.is_unit(inner):
+                return f"beside_show({at} ? {tag} : {1 - tag});\n"
+            return f"beside_show({at}.{flag} ? {tag} : {1 - tag});\nif ({at}.{flag}) {{\n{self.shown_at(inner, f'{at}.{value}')}}}\n"
+        if word == "nullable":
+            return f"beside_show({at} != NULL);\nif ({at} != NULL) {{\n{self.shown_at(kind.parts[0][1], f'(*{at})')}}}\n"
+        if word == "status":
+            return f"beside_show({self.is_error(kind.parts[0], at)});\nif ({self.is_error(kind.parts[0], at)}) {{\n{self.shown_at(kind.parts[0], at)}}}\n"
+        if word in ("outcome", "either"):
+            value, error = kind.parts
+            fails = f"{at}.is_error" if word == "either" else self.is_error(error, f"{at}.error")
+            good, bad = self.shown_at(value, f"{at}.value"), self.shown_at(error, f"{at}.error")
+            return f"beside_show({fails});\nif ({fails}) {{\n{bad}}} else {{\n{good}}}\n"
+        if word == "enum":
+            return f"beside_show((uint64_t){at} - {self.first(of)});\n"
+        if word == "tagged":
+            cases = ""
+            for tag, (_, _, part) in enumerate(self.types.variants(of)):
+                parts = "".join(self.shown_at(one, f"{at}.{self.types.part_name(of, tag, order)}") for order, one in enumerate(part)
+                                if not self.types.is_unit(one))
+                cases += f"case {tag + self.first(of)}:\n{parts}break;\n"
+            return f"beside_show((uint64_t){at}.kind - {self.first(of)});\nswitch ((unsigned){at}.kind) {{\n{cases}default: break;\n}}\n"
+        if word == "array":
+            return f"for (size_t i = 0; i < {of[2]}; i++)\n {self.shown_at(of[1], f'{at}.bytes[i]')}"
+        if word == "pointer":
+            return self.shown_at(of[1], f"(*{at})") if of != "Ptr" and of[1] not in ("Ptr", "Unit") else ""
+        if word == "struct":
+            return "".join(self.shown_at(one, f"{at}.{name}") for name, one in self.types.fields(of))
+        raise Unknown(f"a result of a type that is {word}")
+
+    def is_error(self, of, at):
+        none = self.types.constant(of, None)
+        return f"{at} != {none}" if self.types.kind(of).kind == "enum" else f"{at}.kind != {none}"
+
+    # Arguments and calls.
+
+    def argument(self, order, of, least):
+        """One argument: the statements of C that make it, what is passed, what is shown behind the call; and the same of the MIR."""
+        rust = self.translation.rust_outside
+        mine = of_mir(of)
+        if of == MEMORY or of[0] == "Ref" and of[1] == MEMORY:
+            made = f"struct uart_memory a{order};\na{order}.len = beside_memory_of();\na{order}.data = NULL;\n"
+            return made, [f"&a{order}"], "", f"crate::run::memory_of(choices); let mut a{order}: {rust(mine)} = core::mem::zeroed();", f"a{order}", ""
+        if self.types.is_unit(of):
+            return "", [], "", f"let mut a{order}: {rust(mine)} = core::mem::zeroed();", f"a{order}", ""
+        if of[0] == "Struct" and of[1] == "&[]":
+            return self.slice_argument(order, of, least)
+        if of == ("Ref", PORTS, True) or of == ("Ref", PORTS, False):
+            ports = f"struct uart_line_ports a{order} = {{ NULL, 0 }};\n"
+            return ports, [f"&a{order}"], "", f"let mut a{order} = 0u64;", f"&raw mut a{order} as *mut u8", ""
+        inner, is_reference = (of[1], True) if of[0] == "Ref" else (of, False)
+        if self.types.is_unit(inner):
+            raise Unknown("a reference to nothing")
+        made = f"{self.types.c(inner).text()} a{order};\n{self.made_at(inner, f'a{order}')}"
+        of_rust = f"let mut a{order}: {rust(of_mir(inner))} = Value::make(choices);"
+        if not is_reference:
+            return made, [f"a{order}"], "", of_rust, f"a{order}", ""
+        passed = f"a{order}.bytes" if self.types.kind(inner).kind == "array" else f"&a{order}"
+        shown = self.shown_at(inner, f"a{order}")
+        return made, [passed], shown, of_rust, f"&raw mut a{order} as *mut u8", f"Value::show(&a{order}, &mut out);"
+
+    def slice_argument(self, order, of, least):
+        item, can_change = of[2][0][1], of[2][0][2]
+        rest = self.translation.rest(of_mir(of))
+        passed = (f"crate::mir::{self.translation.rust(of_mir(of))} {{ f0: a{order}.as_mut_ptr() as *mut u8, f1: a{order}.len() as u64{rest} }}")
+        shown = f"for (size_t i = 0; i < n{order}; i++) {{\n{self.shown_at(item, f'a{order}[i]')}}}\n"
+        shown = f"beside_show(n{order});\n{shown}" if can_change else ""
+        of_rust = f"Value::show(&a{order}, &mut out);" if can_change else ""
+        name = self.types.c(item).text()
+        if item == ("Int", 8):
+            made = f"uint8_t a{order}[BESIDE_MOST];\nsize_t n{order} = beside_bytes({least}, a{order});\n"
+            mine = f"let mut a{order} = choices.bytes({least});"
+        else:
+            made = (f"{name} a{order}[BESIDE_MOST];\nsize_t n{order} = beside_length({least});\n"
+                    f"for (size_t i = 0; i < n{order}; i++) {{\n{self.made_at(item, f'a{order}[i]')}}}\n")
+            mine = f"let mut a{order}: Vec<{self.translation.rust_outside(of_mir(item))}> = choices.list({least});"
+        return made, [f"a{order}", f"n{order}"], shown, mine, passed, of_rust
+
+    def function(self, key, written):
+        name, types, dictionaries = key
+        forest = self.library.forest
+        function = forest.program.functions[name]
+        locals_ = [forest.type(one["ty"], types) for one in function["locals"][: function["params"] + 1]]
+        least = 1 if name.split("::")[-1] in NOT_EMPTY else 0
+        listing = [self.argument(order, of, least) for order, of in enumerate(locals_[1:], 1)]
+        passed = [one for argument in listing for one in argument[1]]
+        if len(passed) != len(written.parameters):
+            raise Unknown(f"{len(passed)} arguments, and {len(written.parameters)} parameters")
+        instance = self.translation.instance(name, of_mir(types), tuple(map(dictionary_of_mir, dictionaries)))
+        call, result = f"{written.name}({', '.join(passed)})", locals_[0]
+        number = len(self.calls)
+        if self.types.is_unit(result):
+            call, shown = f"{call};\n", ""
+        elif self.types.kind(result).kind == "slice":
+            raise Unknown("a slice that is returned")
+        elif result[0] == "Ref":
+            call, shown = f"{self.types.c(result).text()} result = {call};\n", self.shown_at(result[1], "(*result)")
+        else:
+            call, shown = f"{self.types.c(result).text()} result = {call};\n", self.shown_at(result, "result")
+        body = "".join(one[0] for one in listing) + call + shown + "".join(one[2] for one in listing)
+        self.texts.append(f"void beside_call_{number}(void);\nvoid beside_call_{number}(void)\n{{\n{body}}}\n")
+        of_result = "Value::show(&result, &mut out);"
+        if result[0] == "Ref":
+            of_result = f"Value::show(&*(result as *const {self.translation.rust_outside(of_mir(result[1]))}), &mut out);"
+        made, given, behind = (" ".join(one[place] for one in listing) for place in (3, 4, 5))
+        given = ", ".join(one[4] for one in listing)
+        touches = "Device" if DEVICE in types or PORTS in types else "Nothing"
+        outside = OUTSIDE.get(written.name)
+        of_case = f"|choices| unsafe {{ {made} if {outside} {{ Of::NoWord }} else {{ Of::Contract }} }}" if outside else "|_| Of::Contract"
+        self.calls.append(
+            f'run.compare("{written.name}", With::{touches}, {of_case}, |choices| unsafe {{ called(beside_call_{number}) }}, '
+            f"|choices| unsafe {{ {made} let result = crate::mir::{instance}({given}); let mut out = Vec::new(); {of_result} {behind} out }});")
+
+    # The program.
+
+    def of_c(self, source):
+        """The text of C: the functions without what is by hand, and what calls each."""
+        return source.partition(BY_HAND)[0] + HEAD_OF_C + "\n".join(self.texts)
+
+    def of_rust(self, source):
+        """The texts of the files of Rust. Numbers that the C has are tried in each place of a number."""
+        found = sorted({at for one in map(int, re.findall(r"\b\d+\b", source)) for at in (one - 1, one, one + 1) if 0 <= at < 1 << 64} | EDGES)
+        declared = "\n".join(f"fn beside_call_{number}();" for number in range(len(self.calls)))
+        calls, texts = "\n".join(self.calls), values.of_mir(self.translation)
+        root = (f'{HEAD_OF_RUST}use run::{{Choices, Of, Run, Value, With, called}};\nunsafe extern "C-unwind" {{ {declared} }}\n'
+                f"fn all(run: &mut Run) {{\n{calls}\n}}\n"
+                f'#[unsafe(no_mangle)]\nextern "C" fn beside_run() {{ run::run(all, {len(self.translation.places)}) }}\n')
+        return {"lib.rs": root, "numbers.rs": f"pub const NUMBERS: [u64; {len(found)}] = {found};\n", "mir.rs": self.translation.module() + texts,
+                "run.rs": RUN.read_text(encoding="utf-8") + (FOLDER / "compared" / "beside.rs").read_text(encoding="ascii")}
+
+    def build(self, source, folder):
+        """Builds the side of the MIR in a folder. Returns nothing, or what the compiler says."""
+        folder.mkdir(exist_ok=True)
+        for name, text in self.of_rust(source).items():
+            (folder / name).write_text(text, encoding="utf-8")
+        return compiled(["rustc", "--edition", "2024", "--crate-type", "staticlib", "--crate-name", "beside", "-C", "opt-level=1", "-C",
+                         "overflow-checks=on", "-o", folder / "libbeside.a", folder / "lib.rs"])
+
+    def link(self, source, folder, name):
+        """Builds the program over this text of the C. Returns its path, or None and what the compiler says."""
+        text, program = folder / f"{name}.c", folder / name
+        text.write_text(self.of_c(source), encoding="ascii")
+        told = compiled(["gcc", "-std=gnu99", "-O1", "-w", "-fexceptions", "-I", HEADER, text, folder / "libbeside.a", "-lpthread", "-ldl", "-lm",
+                         "-o", program])
+        return (None, told) if told else (program, "")
+
+
+def compiled(words):
+    """Runs a compiler. Returns what it says if it fails."""
+    done = subprocess.run([str(one) for one in words], capture_output=True, text=True, check=False)
+    return done.stderr[-3000:] if done.returncode else ""
+
+
+def reports(printed):
+    """What the program printed: for each function how many cases there were, how many were outside of its contract, how many differ, and the
+    first that does."""
+    found = {}
+    for line in printed.splitlines():
+        word, *report = line.split("\t")
+        if word == "compared":
+            name, cases, _, _, outside, _, differ, first = report
+            found[name] = (int(cases), int(outside), int(differ), first)
+    return found
+
+
+__all__ = ["Beside", "reports"]
