@@ -2,6 +2,7 @@
 
 use crate::grammar::{Field, fields_after, form_of, words_of_lines};
 use crate::near::nearest;
+use crate::ring_language::{is_ring_line, rings_at};
 use crate::terminal::{Paint, Style};
 use crate::text::{line_at, printable, words};
 use std::fmt;
@@ -68,7 +69,11 @@ fn bad_byte(line: &[u8]) -> (usize, String) {
 }
 
 fn misplaced(number: u32, line: &[u8]) -> &'static str {
-    if number == 1 {
+    if number > 1 && first_word(line) == b"rings" {
+        "rings is on line 2, or on line 3 and not on line 2"
+    } else if number > 1 && is_ring_line(line) {
+        "the words of the rings come after the line of rings"
+    } else if number == 1 {
         "the first line names the chip: chip 16550a|16450 T W [cut]"
     } else if first_word(line) == b"limit" {
         "only line 2 may set the limit"
@@ -77,12 +82,18 @@ fn misplaced(number: u32, line: &[u8]) -> &'static str {
     }
 }
 
-fn unknown_word(line: &[u8]) -> String {
+fn unknown_word(line: &[u8], has_rings: bool) -> String {
     if line.starts_with(b" ") {
         return "a line begins with a word, and not with a space".into();
     }
+    if is_ring_line(line) {
+        return "a script with rings has this word: line 2, or 3 behind limit, is rings T R".into();
+    }
     let word = printable(first_word(line));
-    match nearest(&word, words_of_lines()) {
+    if has_rings && word == "text" {
+        return "a word that needs no terminal: there is none over the rings".into();
+    }
+    match nearest(&word, words_of_lines(has_rings)) {
         Some(near) => format!("a word of the language: perhaps {near}"),
         None => "a word of the language, as in docs/SCRIPTS.md".into(),
     }
@@ -112,11 +123,11 @@ fn bad_field(line: &[u8]) -> (usize, String) {
 }
 
 // Returns the column of a fault, and what is accepted there.
-fn place_of(number: u32, line: &[u8], cause: Cause) -> (usize, String) {
+fn place_of(number: u32, line: &[u8], cause: Cause, has_rings: bool) -> (usize, String) {
     match cause {
         Cause::BadByte => bad_byte(line),
         Cause::Misplaced => (1, misplaced(number, line).into()),
-        Cause::UnknownWord => (1, unknown_word(line)),
+        Cause::UnknownWord => (1, unknown_word(line, has_rings)),
         Cause::WrongCount => wrong_count(line),
         Cause::TooLong => (1, "a script has at most 4096 lines".into()),
         _ => bad_field(line),
@@ -129,7 +140,7 @@ impl<'a> Explanation<'a> {
     pub fn new(file: &'a str, script: &[u8], number: u32, cause: Cause) -> Self {
         let line = number.checked_sub(1).map(|index| {
             let line = line_at(script, index as usize);
-            let (column, wants) = place_of(number, line, cause);
+            let (column, wants) = place_of(number, line, cause, rings_at(script).is_some());
             FaultyLine {
                 number,
                 shown: printable(line),
@@ -190,6 +201,16 @@ mod tests {
             let (found, wants) = wrong_count(line);
             assert_eq!(found, column, "{wants}");
             assert!(wants.starts_with("the line is: "));
+        }
+    }
+
+    #[test]
+    fn a_word_of_rings_is_near_in_a_script_with_rings() {
+        for (second, wanted) in [("rings 4 4", "perhaps queue"), ("limit 9", "SCRIPTS.md")] {
+            let script = format!("chip 16550a 4 64\n{second}\nqueu 41\n");
+            let explanation = Explanation::new("-", script.as_bytes(), 3, Cause::UnknownWord);
+            let text = explanation.to_string();
+            assert!(text.contains(wanted), "{text}");
         }
     }
 

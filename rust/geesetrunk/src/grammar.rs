@@ -5,9 +5,11 @@
 
 use uart_language::fields::{
     byte_in, bytes_in, char_ticks_in, check_in, chip_in, count_in, cts_in, cut_in, dump_in,
-    errors_in, fifos_in, interrupts_in, level_in, limit_in, lines_in, outputs_in, rate_in,
-    switch_in, text_in, ticks_in, trigger_in, wait_in, wire_capacity_in, word_length_in,
+    errors_in, fifos_in, interrupts_in, level_in, limit_in, lines_in, number_in, outputs_in,
+    rate_in, switch_in, text_in, ticks_in, trigger_in, wait_in, wire_capacity_in, word_length_in,
 };
+use uart_language::limits::MOST_LIMIT;
+use uart_ring::MAX_CAPACITY;
 
 /// A field of a line.
 #[derive(Clone, Copy, Debug, PartialEq, Eq)]
@@ -60,6 +62,12 @@ pub enum Field {
     Fifos,
     /// The registers of a dump.
     Registers,
+    /// The room of a ring.
+    Capacity,
+    /// The interrupts that a handler serves, or the rounds that it may leave unfinished.
+    Most,
+    /// Bytes in a ring, or of its room.
+    Mark,
 }
 
 impl Field {
@@ -94,6 +102,9 @@ impl Field {
             Field::Registers => {
                 "nine bytes: the registers in the order of dump, with DLL and DLM at the end"
             }
+            Field::Capacity => "how many bytes a ring has room for: a number from 1 to 4096",
+            Field::Most => "the most interrupts, or rounds in a row: a number from 0 to 1000000",
+            Field::Mark => "a mark, in bytes: a number from 0 to 4096",
         }
     }
 
@@ -124,6 +135,9 @@ impl Field {
             Field::Switch => switch_in(word).is_ok(),
             Field::Fifos => fifos_in(word).is_ok(),
             Field::Registers => dump_in(word).is_ok(),
+            Field::Capacity => number_in(1, MAX_CAPACITY as u64, word).is_ok(),
+            Field::Most => number_in(0, MOST_LIMIT, word).is_ok(),
+            Field::Mark => number_in(0, MAX_CAPACITY as u64, word).is_ok(),
         }
     }
 }
@@ -293,16 +307,76 @@ const ALONE: [&str; 21] = [
     "write-ready",
 ];
 
-/// Returns the first words of all lines.
-pub fn words_of_lines() -> impl Iterator<Item = &'static str> {
-    let words = FORMS.iter().filter_map(|form| form.usage.split(' ').next());
-    words.chain(ALONE)
+// The lines that only a script with rings has, and that have fields.
+const FORMS_OF_RINGS: [Form; 9] = [
+    Form {
+        usage: "rings T R",
+        fields: &[Field::Capacity, Field::Capacity],
+    },
+    Form {
+        usage: "queue HEX",
+        fields: &[Field::Bytes],
+    },
+    Form {
+        usage: "take N",
+        fields: &[Field::Count],
+    },
+    Form {
+        usage: "handle N",
+        fields: &[Field::Most],
+    },
+    Form {
+        usage: "queue-urgent HH",
+        fields: &[Field::Byte],
+    },
+    Form {
+        usage: "set-low-mark N",
+        fields: &[Field::Mark],
+    },
+    Form {
+        usage: "try-handle N M",
+        fields: &[Field::Most, Field::Most],
+    },
+    Form {
+        usage: "restart HH",
+        fields: &[Field::Interrupts],
+    },
+    Form {
+        usage: "adjust-rts N M",
+        fields: &[Field::Mark, Field::Mark],
+    },
+];
+
+// Those of them that have no fields.
+const ALONE_OF_RINGS: [&str; 10] = [
+    "clear-receive",
+    "clear-transmit",
+    "hold-transmit",
+    "release-transmit",
+    "resume-transmit",
+    "retrigger",
+    "service",
+    "take-line",
+    "take-low",
+    "take-modem",
+];
+
+fn first_words(forms: &'static [Form]) -> impl Iterator<Item = &'static str> {
+    forms.iter().filter_map(|form| form.usage.split(' ').next())
+}
+
+/// Returns the first words of the lines that a script may have, with those of the rings if it has rings.
+pub fn words_of_lines(has_rings: bool) -> impl Iterator<Item = &'static str> {
+    let of_rings = first_words(&FORMS_OF_RINGS).chain(ALONE_OF_RINGS);
+    let of_rings = of_rings.filter(move |_| has_rings);
+    first_words(&FORMS).chain(ALONE).chain(of_rings)
 }
 
 /// Returns the form of the lines with this first word, or `None` if they have no fields.
 pub fn form_of(word: &[u8]) -> Option<&'static Form> {
     FORMS
         .iter()
+        .chain(&FORMS_OF_RINGS)
         .find(|form| form.usage.split(' ').next().map(str::as_bytes) == Some(word))
 }
 
@@ -314,6 +388,7 @@ pub fn fields_after(word: &[u8]) -> &'static [Field] {
 #[cfg(test)]
 mod tests {
     use super::*;
+    use crate::ring_language::{call_at, is_ring_line};
     use uart_language::item_at;
 
     #[test]
@@ -321,7 +396,20 @@ mod tests {
         for word in ALONE {
             assert!(item_at(3, word.as_bytes()).is_ok(), "{word}");
         }
-        assert!(words_of_lines().all(|word| !word.is_empty()));
+        assert!(words_of_lines(true).all(|word| !word.is_empty()));
+    }
+
+    #[test]
+    fn the_words_of_rings_are_those_of_the_language() {
+        for word in ALONE_OF_RINGS {
+            assert!(
+                matches!(call_at(2, 3, word.as_bytes()), Ok(Some(_))),
+                "{word}"
+            );
+        }
+        for word in first_words(&FORMS_OF_RINGS) {
+            assert!(is_ring_line(word.as_bytes()), "{word}");
+        }
     }
 
     #[test]

@@ -1,13 +1,13 @@
 //! The history of a run: each call with its answer, and the last state of the machine.
 
+use crate::ring_language::call_at;
 use crate::text::{lines, printable};
 use uart_language::{Item, item_at};
 
-// The number of a line at which neither the first line of a script nor its limit may be.
+// The number of a line at which neither the first line of a script nor its limit may be, and that of a
+// line before it at which its rings may be.
 const AFTER_THE_HEAD: u32 = 3;
-
-// How many lines are printed behind the answers: wire, held, waiting and marks.
-const LAST_LINES: usize = 4;
+const OF_RINGS: u32 = 2;
 
 /// A call and its answer.
 #[derive(Debug, PartialEq, Eq)]
@@ -23,16 +23,18 @@ pub struct ToldCall {
 pub struct History {
     /// The calls.
     pub calls: Vec<ToldCall>,
-    /// The lines of the output behind those of the calls: wire, held, waiting and marks.
+    /// The lines of the output behind those of the calls: wire, held, waiting and marks, and of a script
+    /// with rings transmit and receive.
     pub last: Vec<String>,
 }
 
 // Returns whether a line of a script is a call.
 fn is_call(line: &[u8]) -> bool {
-    matches!(
+    let is_of_driver = matches!(
         item_at(AFTER_THE_HEAD, line),
         Ok(Item::Call(_) | Item::Next)
-    )
+    );
+    is_of_driver || matches!(call_at(OF_RINGS, AFTER_THE_HEAD, line), Ok(Some(_)))
 }
 
 impl History {
@@ -45,7 +47,7 @@ impl History {
             calls: calls
                 .map(|(line, answer)| ToldCall { line, answer })
                 .collect(),
-            last: printed.take(LAST_LINES).collect(),
+            last: printed.filter(|line| !line.is_empty()).collect(),
         }
     }
 
@@ -53,8 +55,8 @@ impl History {
     pub fn mark(&self, arrival: usize) -> char {
         let marks = self
             .last
-            .last()
-            .and_then(|line| line.strip_prefix("marks "));
+            .iter()
+            .find_map(|line| line.strip_prefix("marks "));
         let letter = marks.and_then(|letters| letters.as_bytes().get(arrival));
         letter.copied().map_or('?', char::from)
     }

@@ -34,6 +34,8 @@ pub mod piece;
 pub mod port;
 pub mod refused_line;
 pub mod repeats;
+pub mod ring_language;
+pub mod rings;
 pub mod sarif;
 pub mod script;
 pub mod show;

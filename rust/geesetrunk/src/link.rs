@@ -10,6 +10,8 @@ use crate::fault::Explanation;
 use crate::heap;
 use crate::history::History;
 use crate::picture::{DrawnEnd, picture_of_link};
+use crate::ring_language::{AnyScript, RingScript, parse};
+use crate::rings::{Scheduled, ring_lines, rings_over, run_rings};
 use crate::script::title;
 use crate::streams::{bytes_of, print};
 use crate::terminal::Style;
@@ -24,7 +26,7 @@ use uart_16550::backend::Backend;
 use uart_16550::{Uart16550, Uart16550Tty};
 use uart_calls::{Answer, Call, perform};
 use uart_chip::Event;
-use uart_language::{Script, ScriptError, parse, render};
+use uart_language::{Script, ScriptError, push_answer, render};
 use uart_trace::{MOST_READ, plain};
 
 /// How many ticks it takes from one end to the other, unless it is said.
@@ -49,7 +51,7 @@ pub struct Link<'a> {
 
 // The driver's backend at an end: the chip under the ticks of its script.
 struct Cabled<'a> {
-    // `None` once all calls have returned.
+    // `None` once it is parked.
     end: Option<LinkEnd>,
     cable: &'a Cable,
     // The events that have not happened yet.
@@ -89,17 +91,6 @@ impl Cabled<'_> {
         self.pass(1);
     }
 
-    // Performs the events up to the next mark.
-    fn next(&mut self) {
-        loop {
-            match self.take() {
-                Some(Event::Ticks(ticks)) => self.pass(ticks),
-                Some(Event::Mark) | None => return,
-                _ => {}
-            }
-        }
-    }
-
     // Gives the other end the outputs of the chip, if an access has changed them.
     fn give_lines(&mut self) {
         let Some(end) = &mut self.end else {
@@ -126,41 +117,92 @@ impl Backend for Cabled<'_> {
     }
 }
 
-// Makes the calls of a script at an end of the cable. Returns their answers.
-fn play_end(cable: &Cable, end: LinkEnd, script: &Script) -> Vec<Answer> {
-    let mut uart = Uart16550::new_with_backend(Cabled {
-        end: Some(end),
-        cable,
-        events: script.events(),
-    });
+// No more calls are made. The other end waits for this one until it is parked, also if this one fails.
+impl Drop for Cabled<'_> {
+    fn drop(&mut self) {
+        if let Some(end) = self.end.take() {
+            self.cable.park(end);
+        }
+    }
+}
+
+impl Scheduled for Cabled<'_> {
+    fn begin(&mut self) {
+        self.end.iter_mut().for_each(LinkEnd::begin);
+    }
+
+    fn next(&mut self) {
+        loop {
+            match self.take() {
+                Some(Event::Ticks(ticks)) => self.pass(ticks),
+                Some(Event::Mark) | None => return,
+                _ => {}
+            }
+        }
+    }
+
+    fn end(&mut self) {
+        self.end.iter_mut().for_each(LinkEnd::end);
+    }
+}
+
+// What a script prints: the lines of its answers, and those of what is left in its rings, if it has any.
+struct Printed {
+    answers: Vec<u8>,
+    rings: String,
+}
+
+// Makes the calls of a script without rings at an end of the cable.
+fn play_plain(cabled: Cabled<'_>, script: &Script) -> Result<Printed, AllocError> {
+    let mut uart = Uart16550::new_with_backend(cabled);
     uart.set_spin_limit(script.limit());
     let mut terminal = Uart16550Tty::from_inner(uart);
-    let mut answers = Vec::new();
+    let mut answers = List::new(heap());
     for call in script.calls() {
         let backend = terminal.inner_mut().backend_mut();
-        backend.end.iter_mut().for_each(LinkEnd::begin);
+        backend.begin();
         let answer = if *call == Call::Next {
             backend.next();
             Answer::Done
         } else {
             perform(&mut terminal, call)
         };
-        answers.push(answer);
-        let backend = terminal.inner_mut().backend_mut();
-        backend.end.iter_mut().for_each(LinkEnd::end);
+        push_answer(heap(), &mut answers, &answer)?;
+        answers.push(b'\n')?;
+        terminal.inner_mut().backend_mut().end();
     }
-    if let Some(end) = terminal.inner_mut().backend_mut().end.take() {
-        cable.park(end);
-    }
-    answers
+    let answers = answers.to_vec();
+    let rings = String::new();
+    Ok(Printed { answers, rings })
 }
 
-// Plays both scripts. Returns both ends, and the answers at each.
-fn play_both(scripts: &[Script; 2], delay: u64) -> Result<([LinkEnd; 2], [Vec<Answer>; 2]), End> {
+// Makes the calls of a script with rings at an end of the cable.
+fn play_rings(cabled: Cabled<'_>, script: &RingScript) -> Result<Printed, AllocError> {
+    let mut ring = rings_over(script, cabled)?;
+    let answers = run_rings(&mut ring, script.calls())?.to_vec();
+    let rings = ring_lines(&ring);
+    Ok(Printed { answers, rings })
+}
+
+// Makes the calls of a script at an end of the cable.
+fn play_end(cable: &Cable, end: LinkEnd, script: &AnyScript) -> Result<Printed, AllocError> {
+    let cabled = Cabled {
+        end: Some(end),
+        cable,
+        events: script.plain().events(),
+    };
+    match script {
+        AnyScript::Plain(script) => play_plain(cabled, script),
+        AnyScript::Rings(script) => play_rings(cabled, script),
+    }
+}
+
+// Plays both scripts. Returns both ends, and what is printed for each.
+fn play_both(scripts: &[AnyScript; 2], delay: u64) -> Result<([LinkEnd; 2], [Printed; 2]), End> {
     let cable = Cable::new(delay);
     let [left, right] = scripts;
-    let left_end = LinkEnd::new(0, left, right.wire_capacity())?;
-    let right_end = LinkEnd::new(1, right, left.wire_capacity())?;
+    let left_end = LinkEnd::new(0, left.plain(), right.plain().wire_capacity())?;
+    let right_end = LinkEnd::new(1, right.plain(), left.plain().wire_capacity())?;
     let answers = thread::scope(|threads| {
         let there = thread::Builder::new()
             .spawn_scoped(threads, || play_end(&cable, right_end, right))
@@ -169,7 +211,7 @@ fn play_both(scripts: &[Script; 2], delay: u64) -> Result<([LinkEnd; 2], [Vec<An
         let there = there
             .join()
             .map_err(|_| End::failed("the right end cannot be played"))?;
-        Ok::<_, End>([here, there])
+        Ok::<_, End>([here?, there?])
     })?;
     let mut ends = cable
         .into_ends()
@@ -180,7 +222,7 @@ fn play_both(scripts: &[Script; 2], delay: u64) -> Result<([LinkEnd; 2], [Vec<An
 
 // Returns what a script prints for its end: its answers, and the last state of its chip. Of the
 // characters that the other end sends, those have marks that have left it.
-fn printed(end: &LinkEnd, other: &LinkEnd, answers: &[Answer]) -> Result<List<u8>, AllocError> {
+fn printed(end: &LinkEnd, other: &LinkEnd, printed: &Printed) -> Result<Vec<u8>, AllocError> {
     let (transmitter, receiver) = (end.chip().transmitter(), end.chip().receiver());
     let held: Vec<u8> = (0..transmitter.held_len())
         .filter_map(|index| transmitter.held_at(index))
@@ -190,7 +232,8 @@ fn printed(end: &LinkEnd, other: &LinkEnd, answers: &[Answer]) -> Result<List<u8
         .collect();
     let left_other = other.chip().transmitter().wire().len();
     let marks: Vec<_> = end.marks(left_other).collect();
-    render(heap(), answers, transmitter.wire(), &held, &waiting, &marks)
+    let last = render(heap(), &[], transmitter.wire(), &held, &waiting, &marks)?;
+    Ok([&printed.answers, last.as_slice(), printed.rings.as_bytes()].concat())
 }
 
 // A script, its text without comments, and the name of its file.
@@ -238,10 +281,10 @@ fn refused(file: &str, bytes: &[u8], error: ScriptError) -> End {
 }
 
 // Reads the script of an end.
-fn read(file: &str) -> Result<(Script, Source<'_>), End> {
+fn read(file: &str) -> Result<(AnyScript, Source<'_>), End> {
     let bytes = bytes_of(file, MOST_READ)?;
     let text = plain(heap(), &bytes)?;
-    let script = parse(heap(), &text).map_err(|error| refused(file, &bytes, error))?;
+    let script = parse(&text).map_err(|error| refused(file, &bytes, error))?;
     match refused_event(file, &text) {
         Some(end) => Err(end),
         None => Ok((script, Source { file, text })),
@@ -297,9 +340,9 @@ pub fn link(link: &Link<'_>) -> Result<(), End> {
         return print(text_of(&ends, &histories).as_bytes());
     }
     let drawn = |side: usize, file: &str| DrawnEnd {
-        title: format!("{}: {}", SIDES[side], title(file, &scripts[side])),
+        title: format!("{}: {}", SIDES[side], title(file, scripts[side].plain())),
         name: SIDES[side],
-        chip: scripts[side].chip(),
+        chip: scripts[side].plain().chip(),
         history: &histories[side],
         moments: ends[side].history().0,
         spans: ends[side].history().1,

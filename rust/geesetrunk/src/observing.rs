@@ -7,13 +7,17 @@
 use crate::end::{End, Status};
 use crate::heap;
 use crate::moments::{Arrival, Happened, Moment, Seen, register_of};
+use crate::ring_language::{AnyScript, RingScript};
+use crate::rings::{Scheduled, rings_over, run_rings};
 use geesetrunk_kit::Vec as List;
 use geesetrunk_kit::alloc::AllocError;
-use std::{io, slice};
+use std::{io, vec};
 use uart_16550::backend::Backend;
 use uart_calls::Call;
 use uart_chip::{Device16550, Event};
 use uart_language::{Script, ScriptError};
+use uart_play::machine_for as device_of;
+use uart_ring_runs::RingCall;
 use uart_spec::access::Access;
 use uart_spec::registers::{LCR, LSR, offsets};
 use uart_trace::{Listener, tell};
@@ -70,9 +74,9 @@ fn machine_for(script: &Script) -> Result<Device16550, AllocError> {
 pub struct Observer<'a, S> {
     device: Device16550,
     capacity: usize,
-    // The events that have not happened yet, and the calls that have not begun.
+    // The events that have not happened yet, and for each call that has not begun whether it is `next`.
     events: &'a [Event],
-    calls: slice::Iter<'a, Call>,
+    calls: vec::IntoIter<bool>,
     // Whether the call is `next`.
     is_next: bool,
     // How many bytes of the wire, and how many arrivals, have been told.
@@ -92,11 +96,19 @@ impl<'a, S: Show> Observer<'a, S> {
     ///
     /// `AllocError` if out of memory.
     pub fn new(script: &'a Script, show: S) -> Result<Self, AllocError> {
+        let calls = script.calls().iter();
+        let calls = calls.map(|call| *call == Call::Next).collect();
+        Observer::of_calls(script, calls, show)
+    }
+
+    // Returns an observer of a run of calls under the events of this script, by which of the calls are
+    // `next`.
+    fn of_calls(script: &'a Script, calls: Vec<bool>, show: S) -> Result<Self, AllocError> {
         Ok(Observer {
             device: machine_for(script)?,
             capacity: script.wire_capacity(),
             events: script.events(),
-            calls: script.calls().iter(),
+            calls: calls.into_iter(),
             is_next: false,
             sent: 0,
             arrivals: 0,
@@ -114,7 +126,7 @@ impl<'a, S: Show> Observer<'a, S> {
 
     /// Observes that the next call begins.
     pub fn begin(&mut self) {
-        self.is_next = self.calls.next() == Some(&Call::Next);
+        self.is_next = self.calls.next().unwrap_or(false);
         self.try_show(Show::begin);
     }
 
@@ -300,12 +312,66 @@ impl<S: Show> Listener for Observer<'_, S> {
     }
 }
 
+// A device whose accesses an observer is told of.
+struct Told<'a, S> {
+    device: Device16550,
+    observer: Observer<'a, S>,
+}
+
+impl<S: Show> Backend for Told<'_, S> {
+    fn read(&mut self, register_offset: u8) -> u8 {
+        let answer = self.device.read(register_offset);
+        let access = Access::Read(register_offset.into(), answer);
+        self.observer.access(access);
+        answer
+    }
+
+    fn write(&mut self, register_offset: u8, value: u8) {
+        self.device.write(register_offset, value);
+        let access = Access::Write(register_offset.into(), value);
+        self.observer.access(access);
+    }
+}
+
+impl<S: Show> Scheduled for Told<'_, S> {
+    fn begin(&mut self) {
+        self.observer.begin();
+    }
+
+    fn next(&mut self) {
+        self.device.next();
+    }
+
+    fn end(&mut self) {
+        self.observer.end();
+    }
+}
+
+// Shows a run of a script with rings.
+fn observe_rings<S: Show>(script: &RingScript, show: S) -> Result<(), End> {
+    let calls = script.calls().iter();
+    let calls = calls.map(|call| *call == RingCall::Next).collect();
+    let told = Told {
+        device: device_of(heap(), script.plain())?,
+        observer: Observer::of_calls(script.plain(), calls, show)?,
+    };
+    let mut ring = rings_over(script, told)?;
+    run_rings(&mut ring, script.calls())?;
+    let told = ring.inner_mut().backend_mut();
+    let failure = told.observer.failure.take();
+    failure.map_or(Ok(()), |cause| Err(End::unwritten(cause)))
+}
+
 /// Shows a run of a script with this text.
 ///
 /// # Errors
 ///
 /// How a program ends that is out of memory, or that cannot write what is shown.
-pub fn observe<S: Show>(script: &Script, text: &[u8], show: S) -> Result<(), End> {
+pub fn observe<S: Show>(script: &AnyScript, text: &[u8], show: S) -> Result<(), End> {
+    let script = match script {
+        AnyScript::Plain(script) => script,
+        AnyScript::Rings(script) => return observe_rings(script, show),
+    };
     let observer = Observer::new(script, show)?;
     let told = tell(heap(), text, observer).map_err(|error| match error {
         ScriptError::OutOfMemory => End::out_of_memory(),

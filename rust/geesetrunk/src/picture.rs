@@ -10,10 +10,10 @@ use crate::history::{History, ToldCall};
 use crate::moments::{Arrival, Moment};
 use crate::observing::{Show, observe};
 use crate::repeats::{Merging, Shown, merged};
+use crate::ring_language::AnyScript;
 use std::fmt::Write;
 use std::io;
 use uart_chip::Chip;
-use uart_language::Script;
 use uart_spec::FIFO_SIZE;
 
 // How many moments are in a band, and the room for names to the left of them.
@@ -373,7 +373,7 @@ fn check_columns(count: usize, instead: &str) -> Result<(), End> {
 ///
 /// How a program ends that is out of memory, or whose picture would have more than `MOST_COLUMNS` columns.
 pub fn picture(
-    script: &Script,
+    script: &AnyScript,
     text: &[u8],
     history: &History,
     title: &str,
@@ -390,7 +390,7 @@ pub fn picture(
     check_columns(cells.len(), "take --text, or a shorter script")?;
     let drawing = Drawing {
         clock: "tick",
-        chip: script.chip(),
+        chip: script.plain().chip(),
         history: Some(history),
     };
     Ok(drawing.picture(title, &cells, &history.last))

@@ -6,15 +6,17 @@ use crate::fault::Explanation;
 use crate::heap;
 use crate::history::History;
 use crate::picture::picture;
+use crate::ring_language::{AnyScript, parse};
+use crate::rings::play_rings;
 use crate::streams::{Output, bytes_of, print, standard_output};
 use crate::table::write_table;
 use crate::terminal::Style;
 use crate::text::file_name;
-use crate::trace::write_trace;
+use crate::trace::{write_ring_trace, write_trace};
 use std::fs::File;
 use std::io::{self, Write};
 use uart_chip::Chip;
-use uart_language::{Script, ScriptError, parse};
+use uart_language::{Script, ScriptError};
 use uart_play::{PlayError, Std, play};
 use uart_trace::{MOST_READ, plain};
 
@@ -51,26 +53,43 @@ fn unplayed(error: PlayError) -> End {
     }
 }
 
+// Returns what is printed for a script.
+fn printed_for(script: &AnyScript, text: &[u8]) -> Result<Vec<u8>, End> {
+    match script {
+        AnyScript::Plain(_) => {
+            let mut printed = Vec::new();
+            play(heap(), &mut Std::new(text), &mut Std::new(&mut printed)).map_err(unplayed)?;
+            Ok(printed)
+        }
+        AnyScript::Rings(script) => play_rings(script),
+    }
+}
+
 // Writes what is requested of a script that is accepted.
 fn write_output(
     task: Task,
     file: &str,
-    script: &Script,
+    script: &AnyScript,
     text: &[u8],
     out: &mut Output<File>,
 ) -> Result<(), End> {
-    if task == Task::Play {
+    if let (Task::Play, AnyScript::Plain(_)) = (task, script) {
         return play(heap(), &mut Std::new(text), &mut Std::new(out)).map_err(unplayed);
     }
-    let mut printed = Vec::new();
-    play(heap(), &mut Std::new(text), &mut Std::new(&mut printed)).map_err(unplayed)?;
+    let printed = printed_for(script, text)?;
     let history = || History::new(text, &printed);
     match task {
-        Task::Play | Task::Check => Ok(()),
-        Task::Trace => write_trace(script, text, &printed, Std::new(out)).map_err(unplayed),
+        Task::Play => out.write_all(&printed).map_err(End::unwritten),
+        Task::Check => Ok(()),
+        Task::Trace => match script {
+            AnyScript::Plain(script) => {
+                write_trace(script, text, &printed, Std::new(out)).map_err(unplayed)
+            }
+            AnyScript::Rings(_) => write_ring_trace(script, text, &history(), out),
+        },
         Task::Timeline(Form::Table) => write_table(script, text, &history(), out),
         Task::Timeline(Form::Picture) => {
-            let picture = picture(script, text, &history(), &title(file, script))?;
+            let picture = picture(script, text, &history(), &title(file, script.plain()))?;
             out.write_all(picture.as_bytes()).map_err(End::unwritten)
         }
     }
@@ -99,7 +118,7 @@ fn refused(task: Task, explanation: &Explanation<'_>, error: ScriptError) -> Res
 pub fn report(task: Task, file: &str) -> Result<(), End> {
     let bytes = bytes_of(file, MOST_READ)?;
     let text = plain(heap(), &bytes)?;
-    match parse(heap(), &text) {
+    match parse(&text) {
         Ok(script) => {
             let out = standard_output().map_err(End::unwritten)?;
             let mut out = Output::new(out);

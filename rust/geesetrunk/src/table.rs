@@ -5,10 +5,10 @@ use crate::history::{History, ToldCall};
 use crate::moments::{Arrival, Moment, parts};
 use crate::observing::{Show, observe};
 use crate::repeats::{Merging, Place, Shown, merged};
+use crate::ring_language::AnyScript;
 use std::fmt::Write as _;
 use std::io::{self, Write};
 use std::slice;
-use uart_language::Script;
 
 const HEAD: &str = "    tick  access              wire  arrives  lines  held  waiting\n";
 
@@ -108,7 +108,7 @@ impl<W: Write> Show for Table<'_, W> {
 ///
 /// How a program ends that is out of memory, or that cannot write the table.
 pub fn write_table(
-    script: &Script,
+    script: &AnyScript,
     text: &[u8],
     history: &History,
     out: &mut impl Write,

@@ -3,14 +3,17 @@
 //! The lines of the calls come from the proved crates. Here are their comments: which register an
 //! access reaches, when, and what else happened then.
 
+use crate::end::End;
 use crate::heap;
-use crate::history::History;
-use crate::moments::Moment;
-use crate::observing::{Observer, Show};
+use crate::history::{History, ToldCall};
+use crate::moments::{Moment, parts};
+use crate::observing::{Observer, Show, observe};
+use crate::ring_language::AnyScript;
 use geesetrunk_kit::Vec as List;
 use geesetrunk_kit::alloc::AllocError;
 use std::fmt::Write as _;
-use std::io;
+use std::io::{self, Write};
+use std::slice;
 use uart_language::{Output, Script};
 use uart_play::PlayError;
 use uart_spec::access::Access;
@@ -116,5 +119,74 @@ pub fn write_trace(
     };
     let comments = Observed(Observer::new(script, happenings)?);
     trace(heap(), text, output, comments, out)?;
+    Ok(())
+}
+
+// Writes the lines of a trace with rings.
+struct Lines<'a, W> {
+    out: &'a mut W,
+    calls: slice::Iter<'a, ToldCall>,
+    happenings: Happenings<'a>,
+}
+
+impl<W: Write> Show for Lines<'_, W> {
+    fn begin(&mut self) -> io::Result<()> {
+        let line = self.calls.as_slice().first().map(|call| call.line.as_str());
+        match line {
+            Some("next") => writeln!(self.out, "# next"),
+            Some(line) => writeln!(self.out, "{line}"),
+            None => Ok(()),
+        }
+    }
+
+    fn moment(&mut self, moment: Moment) -> io::Result<()> {
+        self.happenings.moment(moment)?;
+        for line in self.happenings.before.lines() {
+            writeln!(self.out, "# {line}")?;
+        }
+        self.happenings.before.clear();
+        if let Some(seen) = moment.happened.access {
+            let (letter, offset, value) = parts(seen.access);
+            let beside = &self.happenings.beside;
+            writeln!(self.out, "{letter} {offset} {value:02x} # {beside}")?;
+        }
+        self.happenings.beside.clear();
+        Ok(())
+    }
+
+    fn end(&mut self) -> io::Result<()> {
+        match self.calls.next() {
+            Some(call) if call.line != "next" => writeln!(self.out, "= {}", call.answer),
+            _ => Ok(()),
+        }
+    }
+}
+
+/// Writes the trace of a script with rings, and behind it the last state as comments. A line of the
+/// rings is that of a call, as one of the driver is.
+///
+/// # Errors
+///
+/// How a program ends that is out of memory, or that cannot write the trace.
+pub fn write_ring_trace(
+    script: &AnyScript,
+    text: &[u8],
+    history: &History,
+    out: &mut impl Write,
+) -> Result<(), End> {
+    let happenings = Happenings {
+        history,
+        before: String::new(),
+        beside: String::new(),
+    };
+    let lines = Lines {
+        out,
+        calls: history.calls.iter(),
+        happenings,
+    };
+    observe(script, text, lines)?;
+    for line in &history.last {
+        writeln!(out, "# {line}").map_err(End::unwritten)?;
+    }
     Ok(())
 }

@@ -22,6 +22,16 @@ fn scripts() {
     }
 }
 
+// `uart_script` has no rings.
+#[test]
+fn scripts_with_rings() {
+    for (path, stored) in examples("rings", "script", "out") {
+        let script = fs::read(&path).unwrap();
+        let output = run(GEESETRUNK, &["play", "-"], &script);
+        assert_as_stored(&path, &output.stdout, &stored);
+    }
+}
+
 // The first line of a session is `$` and the command. Behind it is what is printed, and the exit
 // status if it is not 0.
 #[test]
