@@ -29,6 +29,7 @@ pub mod meaning;
 pub mod moments;
 pub mod near;
 pub mod observing;
+pub mod page;
 pub mod picture;
 pub mod piece;
 // A page in a browser is made of this library too, and has no files of ports.

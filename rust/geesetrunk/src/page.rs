@@ -1,0 +1,13 @@
+//! What a page in a browser shows, as JSON: a run step by step with the chip after each step, and a recording with what is found in it.
+//!
+//! Nothing here decides anything about the chip or the driver. `rust/web` compiles it to WebAssembly, and has the page.
+
+mod beside;
+mod exploring;
+mod recorded;
+mod state;
+
+pub use beside::{Beside, WIRE, chip_of};
+pub use exploring::explored;
+pub use recorded::{entries, explanations_of_all, findings};
+pub use state::state_of;
