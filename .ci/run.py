@@ -56,6 +56,8 @@ FIRST = [
 BESIDE = {"nice": 19, "without": [*PAGES, *PROOFS], "but": C_PAGES}
 # What cargo alone builds is made of the erased crates, and of no source in Rattle. The READMEs of those are read.
 OF_RUST = [*PAGES, "crates/*", "bench/*", "tools/*"]
+# The page is made of the erased crates, the examples and what is by hand.
+OF_THE_PAGE = [*PAGES, *PROOFS, "crates/*", "bench/*", "tools/*", "c/*"]
 READMES = [*C_PAGES, "README.md", "*/README.md", "*/COMPAT.md"]
 # The two files of C, the program over them and over the library of Rust, and what that is made of.
 OF_C_FILES = [*PAGES, "crates/*", "bench/*", "tools/eraser/*", "integration/*", "examples/*"]
@@ -76,6 +78,7 @@ COMMANDS = [
     Command(".ci/refused-memory", **OVER | {"but": [".ci/refused-memory"]}),
     Command("integration/port", **OVER | {"without": OF_RUST}),
     Command("integration/programs", **OVER),
+    Command("integration/web", **BESIDE | {"without": OF_THE_PAGE}),
     Command("tools/eraser/mir/compare", **OVER),
     Command("tools/c/emit --check driver", **OVER),
     Command("tools/c/emit --check port", **OVER | {"after": [CODE_OF_C]}),

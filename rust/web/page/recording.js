@@ -28,7 +28,7 @@ class RecordingTab {
     try {
       const judged = await this.latest.run(async (runner) => {
         const ask = async (call, ...numbers) => JSON.parse((await runner.ask(call, bytes, ...numbers)).text);
-        return { audit: await ask("judge", 0), replay: await ask("judge", 1), read: await ask("read"), explained: await ask("explain") };
+        return { audit: await ask("judge", 0), replay: await ask("judge", 1), read: await ask("read_log"), explained: await ask("explain") };
       });
       if (judged) this.judged(name, new TextDecoder().decode(bytes), judged);
     } catch (cause) {

@@ -95,6 +95,9 @@ class ScriptTab {
     });
     element("numbers").replaceChildren(...numbers);
     element("answers").replaceChildren(...answers);
+    const current = element("numbers").querySelector(".current");
+    // Whoever types sees the line that is typed.
+    if (current && document.activeElement !== element("source")) reveal(element("source").parentElement, current);
   }
 
   move(where) {
@@ -141,6 +144,12 @@ class ScriptTab {
       element("share").textContent = "See the address";
     }
   }
+}
+
+// Scrolls a box so far that a line of it is seen.
+function reveal(box, line) {
+  const top = line.offsetTop - box.offsetTop;
+  if (top < box.scrollTop || top + 60 > box.scrollTop + box.clientHeight) box.scrollTop = top - box.clientHeight / 2;
 }
 
 const kindOfMark = (mark) => ({ x: "dropped", r: "read" })[mark];

@@ -4,8 +4,8 @@
 //! A page can pass numbers to WebAssembly, and memory. So a call takes the bytes that were put where [`room`] says, and leaves its result,
 //! mostly JSON, where [`told`] says. Nothing here decides anything about the chip or the driver: that is in the proved crates.
 //!
-//! The names of these functions are those that JavaScript sees, which is why each has `#[unsafe(no_mangle)]`. No name is that of another
-//! function in the module: the linker would refuse that.
+//! The names of these functions are those that JavaScript sees. On a host they have no such names: a `read` or a `link` there would be
+//! taken for that of the system's library.
 #![deny(missing_docs)]
 
 mod live;
@@ -43,7 +43,7 @@ fn on_page<R>(act: impl FnOnce(&mut Page) -> R) -> R {
 }
 
 /// Returns where so many bytes are to be put, which the next call takes.
-#[unsafe(no_mangle)]
+#[cfg_attr(target_family = "wasm", unsafe(no_mangle))]
 pub extern "C" fn room(count: usize) -> *mut u8 {
     on_page(|page| {
         page.given.clear();
@@ -53,19 +53,19 @@ pub extern "C" fn room(count: usize) -> *mut u8 {
 }
 
 /// Returns where the result of the last call is.
-#[unsafe(no_mangle)]
+#[cfg_attr(target_family = "wasm", unsafe(no_mangle))]
 pub extern "C" fn told() -> *const u8 {
     on_page(|page| page.told.as_ptr())
 }
 
 /// Returns how many bytes the result of the last call has.
-#[unsafe(no_mangle)]
+#[cfg_attr(target_family = "wasm", unsafe(no_mangle))]
 pub extern "C" fn told_len() -> usize {
     on_page(|page| page.told.len())
 }
 
 /// Plays a script: tells what `geesetrunk play` prints for it, and returns its exit status.
-#[unsafe(no_mangle)]
+#[cfg_attr(target_family = "wasm", unsafe(no_mangle))]
 pub extern "C" fn play() -> u32 {
     on_page(|page| {
         page.told.clear();
@@ -85,19 +85,19 @@ pub extern "C" fn play() -> u32 {
 }
 
 /// Plays a script step by step: tells each call, what happened in it, and how the chip was after it.
-#[unsafe(no_mangle)]
+#[cfg_attr(target_family = "wasm", unsafe(no_mangle))]
 pub extern "C" fn explore() {
     on_page(|page| page.told = explored(&page.given).into_bytes());
 }
 
 /// Plays two scripts over a cable: the left one has so many of the given bytes, and the right one the rest. Tells the text or the picture
 /// of `geesetrunk link`, or why there is none. Returns its exit status.
-#[unsafe(no_mangle)]
+#[cfg_attr(target_family = "wasm", unsafe(no_mangle))]
 pub extern "C" fn link(left: usize, delay: u32, is_drawn: u32) -> u32 {
     on_page(|page| {
         let scripts = page.given.split_at(left.min(page.given.len()));
         let link = Link {
-            files: ["left", "right"],
+            files: ["left.script", "right.script"],
             delay: delay.into(),
             is_drawn: is_drawn != 0,
         };
@@ -115,7 +115,7 @@ pub extern "C" fn link(left: usize, delay: u32, is_drawn: u32) -> u32 {
 }
 
 /// Judges a recording, or a log of another tool: 0 its driver, 1 its chip. Tells each finding.
-#[unsafe(no_mangle)]
+#[cfg_attr(target_family = "wasm", unsafe(no_mangle))]
 pub extern "C" fn judge(of_chip: u32) {
     let judge = match of_chip {
         0 => Judge::Audit,
@@ -128,13 +128,13 @@ pub extern "C" fn judge(of_chip: u32) {
 }
 
 /// Tells what the lines of a recording or a log say.
-#[unsafe(no_mangle)]
-pub extern "C" fn read() {
+#[cfg_attr(target_family = "wasm", unsafe(no_mangle))]
+pub extern "C" fn read_log() {
     on_page(|page| page.told = entries("log", &page.given, &Import::default()).into_bytes());
 }
 
 /// Tells what each name of a finding means.
-#[unsafe(no_mangle)]
+#[cfg_attr(target_family = "wasm", unsafe(no_mangle))]
 pub extern "C" fn explain() {
     on_page(|page| page.told = explanations_of_all().into_bytes());
 }
@@ -149,13 +149,13 @@ fn with_live(act: impl FnOnce(&mut Live)) {
 }
 
 /// Starts a live chip anew.
-#[unsafe(no_mangle)]
+#[cfg_attr(target_family = "wasm", unsafe(no_mangle))]
 pub extern "C" fn live_new(has_fifo: u32, ticks: u32, cuts: u32) {
     with_live(|live| *live = Live::new(has_fifo != 0, ticks as u16, cuts != 0));
 }
 
 /// Reads a register of the live chip.
-#[unsafe(no_mangle)]
+#[cfg_attr(target_family = "wasm", unsafe(no_mangle))]
 pub extern "C" fn live_read(offset: u32) -> u32 {
     let mut value = 0;
     with_live(|live| value = live.read(offset as u8));
@@ -163,37 +163,37 @@ pub extern "C" fn live_read(offset: u32) -> u32 {
 }
 
 /// Writes a register of the live chip.
-#[unsafe(no_mangle)]
+#[cfg_attr(target_family = "wasm", unsafe(no_mangle))]
 pub extern "C" fn live_write(offset: u32, value: u32) {
     with_live(|live| live.write(offset as u8, value as u8));
 }
 
 /// Lets time pass.
-#[unsafe(no_mangle)]
+#[cfg_attr(target_family = "wasm", unsafe(no_mangle))]
 pub extern "C" fn live_ticks(count: u32) {
     with_live(|live| live.ticks(count as u16));
 }
 
 /// Lets a character arrive with these errors, as bits of LSR.
-#[unsafe(no_mangle)]
+#[cfg_attr(target_family = "wasm", unsafe(no_mangle))]
 pub extern "C" fn live_arrive(byte: u32, errors: u32) {
     with_live(|live| live.arrive(byte as u8, errors as u8));
 }
 
 /// Sets the modem inputs, as bits of MSR.
-#[unsafe(no_mangle)]
+#[cfg_attr(target_family = "wasm", unsafe(no_mangle))]
 pub extern "C" fn live_lines(inputs: u32) {
     with_live(|live| live.lines(inputs as u8));
 }
 
 /// Lets the driver set the live chip up.
-#[unsafe(no_mangle)]
+#[cfg_attr(target_family = "wasm", unsafe(no_mangle))]
 pub extern "C" fn live_start() {
     with_live(Live::start);
 }
 
 /// Lets the driver, which has rings, handle an interrupt, and send what it took.
-#[unsafe(no_mangle)]
+#[cfg_attr(target_family = "wasm", unsafe(no_mangle))]
 pub extern "C" fn live_handle() {
     with_live(Live::handle);
 }

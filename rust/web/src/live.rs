@@ -195,6 +195,7 @@ mod tests {
         }
         let sent: Vec<_> = told
             .split("\"sent\":[")
+            .skip(1)
             .filter_map(|part| part.split(']').next())
             .filter(|part| !part.is_empty())
             .collect();
