@@ -29,6 +29,7 @@ pub mod meaning;
 pub mod moments;
 pub mod near;
 pub mod observing;
+pub mod options;
 pub mod page;
 pub mod picture;
 pub mod piece;

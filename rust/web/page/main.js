@@ -29,8 +29,7 @@ async function follow(tabs, address) {
     await tabs.script.take(fromBase64(words.get("script")), step);
   } else if (words.has("example") && tabs.script.examples[words.get("example")] !== undefined) {
     show("script");
-    element("examples").value = words.get("example");
-    await tabs.script.take(tabs.script.examples[words.get("example")], step);
+    await tabs.script.takeExample(words.get("example"), step);
   }
 }
 

@@ -11,6 +11,7 @@ class RecordingTab {
     for (const name of Object.keys(recordings)) element("recordings").append(new Option(name, name));
     element("recordings").onchange = () => this.take(element("recordings").value);
     element("file").onchange = () => this.takeFile(element("file").files[0]);
+    element("options").onchange = () => this.bytes && this.judge(this.name, this.bytes);
     for (const id of ["audits", "replays", "notes"]) element(id).onchange = () => this.showFindings();
   }
 
@@ -23,15 +24,27 @@ class RecordingTab {
     if (file) await this.judge(file.name, new Uint8Array(await file.arrayBuffer()));
   }
 
+  // Judges a log. The options stand in front of its bytes.
   async judge(name, bytes) {
+    Object.assign(this, { name, bytes });
     element("summary").textContent = `${name}: it is judged ..`;
+    const options = bytesOf(element("options").value);
+    const given = new Uint8Array(options.length + bytes.length);
+    given.set(options);
+    given.set(bytes, options.length);
     try {
       const judged = await this.latest.run(async (runner) => {
-        const ask = async (call, ...numbers) => JSON.parse((await runner.ask(call, bytes, ...numbers)).text);
-        return { audit: await ask("judge", 0), replay: await ask("judge", 1), read: await ask("read_log"), explained: await ask("explain") };
+        const ask = async (call, ...numbers) => {
+          const told = JSON.parse((await runner.ask(call, given, ...numbers, options.length)).text);
+          if (told.refused !== undefined) throw new Error(told.refused);
+          return told;
+        };
+        const explained = JSON.parse((await runner.ask("explain")).text);
+        return { audit: await ask("judge", 0), replay: await ask("judge", 1), read: await ask("read_log"), explained };
       });
       if (judged) this.judged(name, new TextDecoder().decode(bytes), judged);
     } catch (cause) {
+      element("summary").classList.add("bad");
       element("summary").textContent = `${name}: ${cause.message}`;
     }
   }

@@ -11,8 +11,11 @@ class ScriptTab {
     this.latest = latest;
     this.examples = examples;
     for (const name of Object.keys(examples)) element("examples").append(new Option(name, name));
-    element("examples").onchange = () => this.take(examples[element("examples").value]);
-    element("source").oninput = () => this.run();
+    element("examples").onchange = () => this.takeExample(element("examples").value);
+    element("source").oninput = () => {
+      element("examples").value = "";
+      this.run();
+    };
     element("stop").onclick = () => this.latest.runner.stop("it was stopped");
     element("scrub").oninput = () => this.go(Number(element("scrub").value) - 1);
     element("share").onclick = () => this.share();
@@ -20,10 +23,17 @@ class ScriptTab {
     new ResizeObserver(() => this.drawTimeline()).observe(element("timeline"));
   }
 
-  // Takes a script, and shows this step of it, or the first one at which something happens.
+  // Takes a script, and shows this step of it, or the first one.
   take(text, step) {
+    element("examples").value = "";
     element("source").value = text;
     return this.run(step ?? 0);
+  }
+
+  takeExample(name, step) {
+    const taken = this.take(this.examples[name], step);
+    element("examples").value = name;
+    return taken;
   }
 
   async run(step) {

@@ -12,9 +12,11 @@ mod live;
 
 use geesetrunk::heap;
 use geesetrunk::import::Import;
+use geesetrunk::json::Quoted;
 use geesetrunk::judging::Judge;
 use geesetrunk::known::Known;
 use geesetrunk::link::{Link, linked_in_turns};
+use geesetrunk::options::options_in;
 use geesetrunk::page::{entries, explanations_of_all, explored, findings};
 use live::Live;
 use std::cell::RefCell;
@@ -114,23 +116,41 @@ pub extern "C" fn link(left: usize, delay: u32, is_drawn: u32) -> u32 {
     })
 }
 
-/// Judges a recording, or a log of another tool: 0 its driver, 1 its chip. Tells each finding.
+// Returns the options in front of what is given, and the log behind them; or why the options are refused, as an object of JSON.
+fn log_in(given: &[u8], count: usize) -> Result<(Import, Known, &[u8]), String> {
+    let (options, log) = given.split_at(count.min(given.len()));
+    match options_in(&String::from_utf8_lossy(options)) {
+        Ok((import, known)) => Ok((import, known, log)),
+        Err(end) => Err(format!(
+            "{{\"refused\":{}}}",
+            Quoted(end.line().unwrap_or_default())
+        )),
+    }
+}
+
+/// Judges a recording, or a log of another tool: 0 its driver, 1 its chip. So many of the given bytes are options of `geesetrunk audit`,
+/// and the rest is the log. Tells each finding.
 #[cfg_attr(target_family = "wasm", unsafe(no_mangle))]
-pub extern "C" fn judge(of_chip: u32) {
+pub extern "C" fn judge(of_chip: u32, options: usize) {
     let judge = match of_chip {
         0 => Judge::Audit,
         _ => Judge::Replay,
     };
-    let (import, known) = (Import::default(), Known::default());
     on_page(|page| {
-        page.told = findings("log", &page.given, judge, &import, &known).into_bytes();
+        let told = log_in(&page.given, options)
+            .map(|(import, known, log)| findings("log", log, judge, &import, &known));
+        page.told = told.unwrap_or_else(|refused| refused).into_bytes();
     });
 }
 
-/// Tells what the lines of a recording or a log say.
+/// Tells what the lines of a recording or a log say. So many of the given bytes are options.
 #[cfg_attr(target_family = "wasm", unsafe(no_mangle))]
-pub extern "C" fn read_log() {
-    on_page(|page| page.told = entries("log", &page.given, &Import::default()).into_bytes());
+pub extern "C" fn read_log(options: usize) {
+    on_page(|page| {
+        let told =
+            log_in(&page.given, options).map(|(import, _, log)| entries("log", log, &import));
+        page.told = told.unwrap_or_else(|refused| refused).into_bytes();
+    });
 }
 
 /// Tells what each name of a finding means.

@@ -14,7 +14,7 @@ const LONGEST = 300_000;
 
 class Browser {
   constructor(profile) {
-    const words = ["--headless", "--no-sandbox", "--disable-gpu", "--hide-scrollbars", "--window-size=1600,960", "--remote-debugging-pipe", `--user-data-dir=${profile}`];
+    const words = ["--headless", "--no-sandbox", "--disable-gpu", "--hide-scrollbars", "--window-size=1600,1080", "--remote-debugging-pipe", `--user-data-dir=${profile}`];
     this.process = spawn(chromium, words, { stdio: ["ignore", "ignore", "ignore", "pipe", "pipe"] });
     this.number = 0;
     this.waiting = new Map();
@@ -188,6 +188,13 @@ async function recordings(browser) {
   holds("and its line marked", await browser.value("document.querySelectorAll('#log .warning').length"), 1);
   await browser.drop("kvm.log", "  qemu-1 [000] 1.000001: kvm_pio: pio_write at 0x3fb size 1 count 1 val 0x83\n  qemu-1 [000] 1.000002: kvm_pio: pio_read at 0x3fd size 1 count 1 val 0x60\n");
   holds("a log of another tool is read", await browser.until("document.querySelector('#summary').textContent.includes('kvm.log, read as kvm')"));
+  const options = (text) => browser.value(`element("options").value = ${JSON.stringify(text)}, element("options").dispatchEvent(new Event("change"))`);
+  await browser.drop("memory.log", "memory_region_ops_write cpu 0 mr 0x1 addr 0x10000003 value 0x83 size 1 name 'serial'\nmemory_region_ops_read cpu 0 mr 0x1 addr 0x10000005 value 0x60 size 1 name 'serial'\n");
+  await options("--base");
+  holds("an option that is refused", await browser.until("document.querySelector('#summary').textContent.includes('memory.log: --base needs ADDRESS')"));
+  await options("--base 0x10000000");
+  holds("options say where the chip is", await browser.until("document.querySelectorAll('#log div')[1].textContent.includes('r LSR 60')"));
+  await options("");
   await browser.drop("bad.recording", "# <img src=x onerror=window.bad=1>\nr 5 60\nw 3 <b>\n");
   holds("a line that is none is named", await browser.until("document.querySelector('#summary').textContent.includes('log:3:5')"));
   holds("what is dropped is no markup", await browser.value("[typeof window.bad, document.querySelectorAll('#log img, #summary b, #log b').length]"), ["undefined", 0]);

@@ -109,18 +109,18 @@ function compareScript(script) {
   const wanted = run(["play", "-"], script);
   refused += status !== 0;
   same("play", script.toString("latin1"), `${status}\n${told.toString("latin1")}`, `${wanted.status}\n${wanted.stdout.toString("latin1")}`);
-  const run_ = module.json("explore", script);
-  if (run_.steps) {
-    steps += run_.steps.length;
-    const answers = run_.calls.map(([, answer]) => `${answer}\n`).join("");
-    same("the answers beside the lines", script.toString("latin1"), answers + run_.last.join("\n"), wanted.stdout.toString("latin1").trimEnd());
-    same("the chip beside the run", script.toString("latin1"), String(run_.stray), "null");
+  const explored = module.json("explore", script);
+  if (explored.steps) {
+    steps += explored.steps.length;
+    const answers = explored.calls.map(([, answer]) => `${answer}\n`).join("");
+    same("the answers beside the lines", script.toString("latin1"), answers + explored.last.join("\n"), wanted.stdout.toString("latin1").trimEnd());
+    same("the chip beside the run", script.toString("latin1"), String(explored.stray), "null");
   } else {
     // The program names the file, the line and the column, and then the cause.
-    const [place, , caret] = run(["check", "-"], script).stdout.toString("latin1").split("\n");
-    const where = run_.line ? `-:${run_.line}:${run_.column}: ` : "-: ";
-    same("the fault", script.toString("latin1"), `${where}${run_.cause}`, place.slice(0, where.length + run_.cause.length));
-    if (run_.line) same("what is expected", script.toString("latin1"), run_.wants, caret.trim().slice(2));
+    const [place, , caret] = run(["check", "-"], script).stderr.split("\n");
+    const where = explored.line ? `-:${explored.line}:${explored.column}: ` : "-: ";
+    same("the fault", script.toString("latin1"), `${where}${explored.cause}`, place.slice(0, where.length + explored.cause.length));
+    if (explored.line) same("what is expected", script.toString("latin1"), explored.wants, (caret || "").trim().slice(2));
   }
 }
 
@@ -131,10 +131,11 @@ function compareLink([left, right], delay) {
   same("link", `${left}--\n${right}`, shown, wanted.status ? String(wanted.status) : `0\n${wanted.stdout.toString("latin1")}`);
 }
 
-function compareRecording(recording) {
+function compareRecording(recording, options = "") {
+  const given = Buffer.concat([Buffer.from(options), recording]);
   for (const [index, judge] of ["audit", "replay"].entries()) {
-    const { found, stop } = module.json("judge", recording, index);
-    const { status, stdout, stderr } = run([judge, "--json", "-"], recording);
+    const { found, stop } = module.json("judge", given, index, options.length);
+    const { status, stdout, stderr } = run([judge, "--json", "-", ...options.split(" ").filter(Boolean)], recording);
     const wanted = stdout.toString().split("\n").filter(Boolean).map((line) => JSON.parse(line));
     findings += found.length;
     const said = found.map((one) => one.join("|"));
@@ -150,12 +151,17 @@ const random = new Random(seed);
 const scripts = filesOf("", ".script");
 const recordings = filesOf("recordings", ".recording");
 const ends = filesOf("link", ".script");
-const lines = linesOf(scripts).filter((line) => !/^(chip|limit) /.test(line));
+// Most of what is made of these has no fault.
+const played = scripts.filter((script) => module.ask("play", script).status === 0);
+const lines = linesOf(played).filter((line) => !/^(chip|limit) /.test(line));
 const ofRecordings = linesOf(recordings.filter((recording) => recording.length < 100_000));
 const overCables = [...lines, ...linesOf(ends)].filter((line) => !/^(arrive|lines|chip|limit) /.test(line));
 
 scripts.forEach(compareScript);
-recordings.forEach(compareRecording);
+for (const recording of recordings) {
+  compareRecording(recording);
+  compareRecording(recording, "--clock 24000000 --divisor 13 --fifo 64");
+}
 for (let index = 0; index + 1 < ends.length; index += 2) for (const delay of [1, 9]) compareLink([ends[index], ends[index + 1]], delay);
 console.log(`examples: ${scripts.length} scripts, ${recordings.length} recordings, ${ends.length / 2} pairs`);
 const before = refused;
