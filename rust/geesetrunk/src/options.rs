@@ -22,7 +22,8 @@ use uart_chip::Chip;
 /// let (import, known) = options_in("--base 0x10000000 --clock 24000000").unwrap();
 /// assert_eq!(import.window.base, Some(0x1000_0000));
 /// assert_eq!(known.clock.unwrap().get(), 24_000_000);
-/// assert_eq!(options_in("--clock").unwrap_err().line(), Some("--clock needs HZ"));
+/// let wrong = options_in("--clock").unwrap_err();
+/// assert_eq!(wrong.line(), Some("a value is required for '--clock <HZ>' but none was supplied"));
 /// ```
 pub fn options_in(text: &str) -> Result<(Import, Known), End> {
     let words = text.split_whitespace().map(str::to_owned);
@@ -31,7 +32,11 @@ pub fn options_in(text: &str) -> Result<(Import, Known), End> {
         Err(Reply::Text(_)) => Err(End::failed(
             "these words ask for a text, and say nothing about a log",
         )),
-        Err(Reply::Wrong(cause)) => Err(End::failed(cause)),
+        // What is behind its first line is for a terminal.
+        Err(Reply::Wrong(cause)) => {
+            let first = cause.lines().next().unwrap_or_default();
+            Err(End::failed(first.trim_start_matches("error: ")))
+        }
     }
 }
 

@@ -46,7 +46,7 @@ class LinkTab {
     if (linked.text) return linked;
     for (const [index, script] of scripts.entries()) {
       const { line, column, cause, wants } = JSON.parse((await runner.ask("explore", script)).text);
-      if (cause) return { status: 1, text: `${["left", "right"][index]}, line ${line}, column ${column}: ${cause}: expected is ${wants}` };
+      if (cause) return { status: 1, text: `${["left", "right"][index]}, line ${line}, column ${column}: ${cause}. Expected: ${wants}` };
     }
     return { status: linked.status, text: "the scripts cannot be played" };
   }

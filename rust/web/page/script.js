@@ -63,7 +63,7 @@ class ScriptTab {
       this.go(step ?? Math.min(shown.step, answer.steps.length - 1));
     } else {
       const place = answer.line ? `line ${answer.line}, column ${answer.column}: ` : "";
-      element("fault").textContent = `${place}${answer.cause}${answer.wants ? `: expected is ${answer.wants}` : ""}`;
+      element("fault").textContent = `${place}${answer.cause}${answer.wants ? `. Expected: ${answer.wants}` : ""}`;
       this.showLines(answer.line);
     }
   }

@@ -191,7 +191,7 @@ async function recordings(browser) {
   const options = (text) => browser.value(`element("options").value = ${JSON.stringify(text)}, element("options").dispatchEvent(new Event("change"))`);
   await browser.drop("memory.log", "memory_region_ops_write cpu 0 mr 0x1 addr 0x10000003 value 0x83 size 1 name 'serial'\nmemory_region_ops_read cpu 0 mr 0x1 addr 0x10000005 value 0x60 size 1 name 'serial'\n");
   await options("--base");
-  holds("an option that is refused", await browser.until("document.querySelector('#summary').textContent.includes('memory.log: --base needs ADDRESS')"));
+  holds("an option that is refused", await browser.until("document.querySelector('#summary').textContent.includes('memory.log: a value is required')"));
   await options("--base 0x10000000");
   holds("options say where the chip is", await browser.until("document.querySelectorAll('#log div')[1].textContent.includes('r LSR 60')"));
   await options("");
