@@ -289,14 +289,15 @@ fn text_of(ends: &[LinkEnd; 2], histories: &[History; 2]) -> String {
     text
 }
 
-// Returns what comes of two scripts, which are played by this function: as a text, or as a picture.
+// Returns what comes of two scripts, which are had and played by these functions: as a text, or as a picture. Of the right one nothing is
+// read before the left one is accepted.
 fn told(
     link: &Link<'_>,
-    bytes: [&[u8]; 2],
+    bytes_at: impl Fn(usize) -> Result<Vec<u8>, End>,
     play: fn(&[Script; 2], u64) -> Result<Played, End>,
 ) -> Result<String, End> {
-    let (left, of_left) = read(link.files[0], bytes[0])?;
-    let (right, of_right) = read(link.files[1], bytes[1])?;
+    let (left, of_left) = read(link.files[0], &bytes_at(0)?)?;
+    let (right, of_right) = read(link.files[1], &bytes_at(1)?)?;
     let scripts = [left, right];
     let (ends, answers) = play(&scripts, link.delay)?;
     let history = |side: usize, source: &Source<'_>| {
@@ -329,9 +330,8 @@ pub fn link(link: &Link<'_>) -> Result<(), End> {
         let cause = "standard input is one script: name a file for the other";
         return Err(End::failed(cause));
     }
-    let left = bytes_of(link.files[0], MOST_READ)?;
-    let right = bytes_of(link.files[1], MOST_READ)?;
-    print(told(link, [&left, &right], play_both)?.as_bytes())
+    let bytes_at = |side: usize| bytes_of(link.files[side], MOST_READ);
+    print(told(link, bytes_at, play_both)?.as_bytes())
 }
 
 /// Returns what [`link`] prints, without a thread. The names of the files are only names here, and the scripts are these.
@@ -352,5 +352,5 @@ pub fn link(link: &Link<'_>) -> Result<(), End> {
 /// assert!(text.contains("receive-exact 1 = ok 41"), "{text}");
 /// ```
 pub fn linked_in_turns(link: &Link<'_>, scripts: [&[u8]; 2]) -> Result<String, End> {
-    told(link, scripts, turns::play_both)
+    told(link, |side| Ok(scripts[side].to_vec()), turns::play_both)
 }
