@@ -1,7 +1,7 @@
 // ---- The page
 
 // What is shown where the address says nothing.
-const FIRST = "#example=overrun";
+const FIRST = "overrun";
 
 function show(tab) {
   for (const main of document.querySelectorAll("main")) main.classList.toggle("shown", main.id === tab);
@@ -26,10 +26,20 @@ async function follow(tabs, address) {
     element("terminal").focus();
   } else if (words.has("script")) {
     show("script");
-    await tabs.script.take(fromBase64(words.get("script")), step);
-  } else if (words.has("example") && tabs.script.examples[words.get("example")] !== undefined) {
+    await tabs.script.take(scriptIn(words.get("script")), step);
+  } else {
     show("script");
-    await tabs.script.takeExample(words.get("example"), step);
+    const name = words.get("example");
+    await tabs.script.takeExample(tabs.script.examples[name] === undefined ? FIRST : name, step);
+  }
+}
+
+// The script of an address. One that was cut off on its way is refused as a script, and not as an address.
+function scriptIn(text) {
+  try {
+    return fromBase64(text);
+  } catch {
+    return "# the address has no script in base64";
   }
 }
 
@@ -88,7 +98,7 @@ async function begin() {
     live: new LiveTab(new Runner(module)),
   };
   listen(tabs);
-  await follow(tabs, location.hash.length > 1 ? location.hash : FIRST);
+  await follow(tabs, location.hash);
   document.body.dataset.ready = "true";
 }
 

@@ -126,6 +126,8 @@ async function scripts(browser) {
   await browser.drop("a.script", "chip 16550a 4 64\nlimit 200\ninit 14 9600 nocts 00 8\nsend 4869\nflush\n");
   holds("a script that is dropped is played", await browser.until("document.querySelector('#ends').firstChild.textContent === 'wire4869'"));
   const script = Buffer.from("chip 16450 4 64\nlimit 200\ninit off 9600 nocts 00 8\nsend 41\nflush\n").toString("base64");
+  await browser.open("#script=%");
+  holds("an address without a script", await browser.value("document.querySelector('#source').value.startsWith('# the address has no script')"));
   await browser.open(`#script=${script}`);
   holds("a script in the address is played", await browser.value("document.querySelector('#ends').firstChild.textContent"), "wire41");
 }
