@@ -5,6 +5,7 @@ use crate::excerpt::Form;
 use crate::fault::Explanation;
 use crate::heap;
 use crate::history::History;
+use crate::page::page_of_run;
 use crate::picture::picture;
 use crate::streams::{Output, bytes_of, print, standard_output};
 use crate::table::write_table;
@@ -29,6 +30,8 @@ pub enum Task {
     Trace,
     /// Print its timeline.
     Timeline(Form),
+    /// Print a page for a browser, with its run step by step.
+    Page,
 }
 
 /// Returns the title of a timeline: the file by its name, without the folders that it lies in, and the
@@ -68,6 +71,10 @@ fn write_output(
     match task {
         Task::Play | Task::Check => Ok(()),
         Task::Trace => write_trace(script, text, &printed, Std::new(out)).map_err(unplayed),
+        Task::Page => {
+            let page = page_of_run(&file_name(file), text);
+            out.write_all(page.as_bytes()).map_err(End::unwritten)
+        }
         Task::Timeline(Form::Table) => write_table(script, text, &history(), out),
         Task::Timeline(Form::Picture) => {
             let picture = picture(script, text, &history(), &title(file, script))?;

@@ -56,6 +56,16 @@ async function dropped(tabs, file) {
   }
 }
 
+function followKeys(script) {
+  document.addEventListener("keydown", (event) => {
+    const isTyped = /^(TEXTAREA|INPUT|SELECT)$/.test(event.target.tagName) || !element("script").classList.contains("shown");
+    const where = { ArrowLeft: "back", ArrowRight: "on", Home: "first", End: "last" }[event.key];
+    if (isTyped || !where || event.ctrlKey || event.metaKey || event.altKey) return;
+    event.preventDefault();
+    script.move(where);
+  });
+}
+
 function listen(tabs) {
   for (const button of document.querySelectorAll("[data-tab]")) {
     button.onclick = () => {
@@ -66,13 +76,7 @@ function listen(tabs) {
       if (button.dataset.tab === "script") tabs.script.drawTimeline();
     };
   }
-  document.addEventListener("keydown", (event) => {
-    const isTyped = /^(TEXTAREA|INPUT|SELECT)$/.test(event.target.tagName) || !element("script").classList.contains("shown");
-    const where = { ArrowLeft: "back", ArrowRight: "on", Home: "first", End: "last" }[event.key];
-    if (isTyped || !where || event.ctrlKey || event.metaKey || event.altKey) return;
-    event.preventDefault();
-    tabs.script.move(where);
-  });
+  followKeys(tabs.script);
   document.addEventListener("dragover", (event) => {
     event.preventDefault();
     document.body.classList.add("dropping");
@@ -87,7 +91,29 @@ function listen(tabs) {
   window.addEventListener("hashchange", () => follow(tabs, location.hash));
 }
 
+// Shows what the program put into the page, which has no module then.
+function showGiven(given) {
+  document.body.classList.add("given");
+  document.title = `Geesetrunk: ${given.name}`;
+  if (given.run) {
+    const script = new ScriptTab(undefined, {});
+    element("source").value = given.script;
+    element("source").readOnly = true;
+    script.explored(given.run, given.script, 0);
+    followKeys(script);
+  } else {
+    show("recording");
+    new RecordingTab(undefined, {}).judged(given.name, given.log, given);
+  }
+}
+
 async function begin() {
+  const given = data("given");
+  if (given) {
+    showGiven(given);
+    document.body.dataset.ready = "true";
+    return;
+  }
   const module = await loadModule();
   // The live chip has a worker of its own, which keeps its state: the other one may be stopped at any time.
   const latest = new Latest(new Runner(module));

@@ -1,5 +1,6 @@
-// Tries the page in Chromium, from a file: node rust/web/tests/browser.mjs CHROMIUM PAGE [FOLDER]
+// Tries the page in Chromium, from a file: node rust/web/tests/browser.mjs CHROMIUM PAGE RUN LOG [FOLDER]
 //
+// RUN and LOG are what `geesetrunk` prints for `timeline --html examples/overrun.script` and for `audit --html` of the wrong driver.
 // It speaks with the browser over a pipe, as a debugger does, and needs no package. Each check is a line 'what: ok' or 'what: failed', and
 // the last line is 'N passed, M failed'. With FOLDER it leaves pictures of the page there.
 import { spawn } from "node:child_process";
@@ -8,7 +9,7 @@ import { tmpdir } from "node:os";
 import { join, resolve } from "node:path";
 import { pathToFileURL } from "node:url";
 
-const [chromium, page, pictures] = process.argv.slice(2);
+const [chromium, page, printedRun, printedLog, pictures] = process.argv.slice(2);
 // A busy machine may take long. This is only there so that a browser which hangs comes to an end.
 const LONGEST = 300_000;
 
@@ -65,9 +66,9 @@ class Browser {
     return false;
   }
 
-  async open(fragment) {
+  async open(fragment, file = page) {
     await this.send("Page.navigate", { url: "about:blank" });
-    await this.send("Page.navigate", { url: pathToFileURL(resolve(page)).href + fragment });
+    await this.send("Page.navigate", { url: pathToFileURL(resolve(file)).href + fragment });
     return this.until("document.body?.dataset.ready === 'true'");
   }
 
@@ -213,6 +214,19 @@ async function live(browser) {
   holds("a register is read by hand", await browser.until("/you read LSR → 60/.test(document.querySelector('#history').textContent)"));
 }
 
+// What the program prints has no module, and shows the same.
+async function printed(browser) {
+  holds("a run that the program printed", await browser.open("", printedRun));
+  holds("its answers", await browser.value("[...document.querySelectorAll('#answers div')].map((one) => one.textContent).filter(Boolean).pop()"), "ok 62");
+  await browser.key("End");
+  holds("its steps", await browser.value("/returns 62.*remembers OE/.test(document.querySelector('#says').textContent)"));
+  await browser.picture("printed-run");
+  holds("a log that the program judged", await browser.open("", printedLog));
+  holds("what was found in it", await browser.value("document.querySelector('#summary').textContent.includes('4 warnings of the driver')"));
+  holds("it says who printed it", await browser.value("getComputedStyle(document.querySelector('.printed')).display !== 'none' && getComputedStyle(document.querySelector('.runs')).display === 'none'"));
+  await browser.picture("printed-log");
+}
+
 async function network(browser) {
   holds("the page may ask the network for nothing", await browser.value(`new Promise((done) => {
     document.addEventListener("securitypolicyviolation", (event) => done(event.effectiveDirective));
@@ -246,6 +260,6 @@ browser.process.on("exit", () => {
   process.exit(counts.failed ? 1 : 0);
 });
 await browser.attach();
-for (const part of [scripts, longRuns, links, recordings, live, look, network]) await part(browser);
+for (const part of [scripts, longRuns, links, recordings, live, look, printed, network]) await part(browser);
 counts.isDone = true;
 browser.send("Browser.close");

@@ -15,6 +15,7 @@ use geesetrunk::link::{Link, MOST_DELAY, USUAL_DELAY, link};
 use geesetrunk::log::Log;
 use geesetrunk::near::nearest;
 use geesetrunk::options::{import_of, known_of, number_in, value_of};
+use geesetrunk::page::print_page_of_log;
 use geesetrunk::sarif::Sarif;
 use geesetrunk::script::{Task, report};
 use geesetrunk::show::{Filter, REGISTERS, show};
@@ -83,8 +84,26 @@ fn find(given: &Given, act: impl FnOnce(Format<'_>) -> Result<(), End>) -> Resul
     outcome
 }
 
+// Prints the page of a log. Two pages would be no document.
+fn print_page(given: &Given, judge: Judge) -> Result<(), End> {
+    let [file] = files(given)[..] else {
+        return Err(End::failed("--html prints one page: name one file"));
+    };
+    let judging = Judging {
+        judge,
+        format: Format::Json,
+        is_settled: false,
+        import: import_of(given)?,
+        known: known_of(given)?,
+    };
+    print_page_of_log(file, &judging)
+}
+
 fn judge(given: &Given, judge: Judge) -> Result<(), End> {
     let (import, known) = (import_of(given)?, known_of(given)?);
+    if given.has("html") {
+        return print_page(given, judge);
+    }
     find(given, |format| {
         let judging = Judging {
             judge,
@@ -160,8 +179,13 @@ fn timeline(given: &Given) -> Result<(), End> {
         "chip",
     ];
     let is_of_recording = of_recording.iter().any(|flag| given.has(flag));
+    if given.has("html") && is_of_recording {
+        return print_page(given, Judge::Audit);
+    }
     each(given, |file| {
-        if is_of_recording {
+        if given.has("html") {
+            report(Task::Page, file)
+        } else if is_of_recording {
             draw(given, file, form)
         } else {
             report(Task::Timeline(form), file)
