@@ -56,6 +56,8 @@ FIRST = [
 BESIDE = {"nice": 19, "without": [*PAGES, *PROOFS], "but": C_PAGES}
 # What cargo alone builds is made of the erased crates, and of no source in Rattle. The READMEs of those are read.
 OF_RUST = [*PAGES, "crates/*", "bench/*", "tools/*"]
+# The page is made of the erased crates, the examples and what is by hand.
+OF_THE_PAGE = [*PAGES, *PROOFS, "crates/*", "bench/*", "tools/*", "c/*"]
 READMES = [*C_PAGES, "README.md", "*/README.md", "*/COMPAT.md"]
 # What users of these files have: how they are installed, the page, and what they cost beside the library of Rust.
 OF_USERS_OF_C = [*PAGES, "crates/*", "bench/*", "tools/eraser/*", "integration/*", "examples/*"]
@@ -74,6 +76,7 @@ COMMANDS = [
     Command(".ci/refused-memory", **OVER | {"but": [".ci/refused-memory"]}),
     Command("integration/port", **OVER | {"without": OF_RUST}),
     Command("integration/programs", **OVER),
+    Command("integration/web", **BESIDE | {"without": OF_THE_PAGE}),
     Command("tools/eraser/mir/compare", **OVER),
     Command("tools/c/emit --check driver", **OVER),
     Command("tools/c/emit --check port", **OVER | {"after": [CODE_OF_C]}),

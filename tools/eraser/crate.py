@@ -320,11 +320,13 @@ def check_whole(files, texts, allow=table):
 def check_meaning(files, allow):
     """Names and numbers that mean one thing in Rattle and another in the emitted crate."""
     causes = names.causes(files, allow) + guards.causes(files, allow)
+    # What ships has no names of the others.
     shipped = [file for file in files if file.ships]
-    counts = widths.names(shipped)
-    for file in shipped:
+    narrow = [file for file in files if file.has_narrow_targets]
+    counts = {True: widths.names(shipped), False: widths.names(narrow)}
+    for file in narrow:
         try:
-            widths.check(file, counts)
+            widths.check(file, counts[file.ships])
         except Refused as cause:
             causes.append(refusal(file.name, file.text, cause))
     if causes:

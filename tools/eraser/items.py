@@ -44,6 +44,8 @@ class File:
         self.modules, self.types, self.traits = [], [], []
         self.models, self.open_types = [], []
         self.ships = name.split("/")[0] in allow.SHIPS
+        # Whether it is also compiled for targets where `usize` has 32 bits.
+        self.has_narrow_targets = self.ships or name.split("/")[0] in allow.OF_THE_PAGE
         self.at = 0
         self.inner_attributes()
         self.items(len(self.code), module, None)
@@ -520,7 +522,7 @@ class File:
                 self.refuse("a clause or a ghost item in a body", at)
             if self.word(at) in ITEMS or self.begins(at, "# [") or self.begins(at, "# ! ["):
                 self.refuse(f"`{self.word(at)}` in a body", at)
-            if self.ships and self.word(at) == "as" and self.word(at + 1) == "usize":
+            if self.has_narrow_targets and self.word(at) == "as" and self.word(at + 1) == "usize":
                 self.cast(at, form.path)
 
     def guard(self, form):

@@ -21,6 +21,13 @@ ALLOWED = "unused_imports, unused_labels, unused_parens, unused_braces, dead_cod
 WHY = "the text is that of the proved source, in the forms that Rattle has"
 
 
+# What a package says of its targets that is not for users, by whether it is also for the page.
+WIDTHS = {
+    False: 'usize::BITS == 64, "what is not for users is for targets of 64 bits"',
+    True: 'usize::BITS >= 32, "a script has up to 65,536 bytes"',
+}
+
+
 class Crates:
     """What crates.txt says: which crates each one uses, and what it is."""
 
@@ -114,7 +121,7 @@ def root(crate, crates, text):
     found = re.match(r"(?://![^\n]*\n)*", text)
     lines = ["#![no_std]", "#![forbid(unsafe_code)]", f'#![allow({ALLOWED}, reason = "{WHY}")]', "#![allow(rustdoc::broken_intra_doc_links)]", ""]
     if crate not in table.SHIPS:
-        lines += ['const _: () = assert!(usize::BITS == 64, "what is not for users is for targets of 64 bits");', ""]
+        lines += [f"const _: () = assert!({WIDTHS[crate in table.OF_THE_PAGE]});", ""]
     for name, of in libraries(crate, crates.uses[crate]):
         lines += [f"#[macro_use({MACROS[of]})]"] * (name == "std") + [f"extern crate {of.replace('-', '_')} as {name};"]
     return found[0] + "\n".join(lines) + "\n\n" + text[found.end() :].lstrip("\n")

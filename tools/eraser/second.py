@@ -277,7 +277,7 @@ class Source:
 ROOT = (
     r"# ! \[ no_std \]|# ! \[ forbid \( unsafe_code \) \]|# ! \[ allow \( [\w:, ]+( , reason = \"[^\"]*\")? \) \]"
     r"|(# \[ macro_use \( [\w, ]+ \) \] )?extern crate \w+ as \w+ ;|pub mod proved ;"
-    r"|const _ : \( \) = assert ! \( usize :: BITS == 64 , \"[^\"]*\" \) ;"
+    r"|const _ : \( \) = assert ! \( usize :: BITS (== 64|>= 32) , \"[^\"]*\" \) ;"
 )
 ANYWHERE = (
     r"use std :: fmt :: Write as _ ;|use std :: \{ [\w, ]+ \} ;|(pub )?mod by_hand ;|# \[ repr \( C \) \]"

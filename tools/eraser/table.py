@@ -35,9 +35,11 @@ RULES = [
 ]
 
 # The crates that become packages. What ships is part of a program of a user, on any target. The others are parts of this repository's
-# programs, and of targets of 64 bits.
+# programs. Of them, those of a page in a browser are also compiled for WebAssembly, where `usize` has 32 bits; the rest are of targets of
+# 64 bits.
 SHIPS = "uart_spec uart_16550 uart_design_ware uart_ring uart_waits uart_events uart_chip uart_live uart_virtual".split()
 OF_PROGRAMS = "uart_calls uart_run uart_ring_runs uart_link uart_language uart_play uart_judges uart_trace uart_port uart_machine".split()
+OF_THE_PAGE = "uart_calls uart_run uart_language uart_play uart_judges uart_trace uart_port".split()
 CRATES = SHIPS + OF_PROGRAMS
 OUTPUT = "rust/proved"
 
@@ -530,7 +532,8 @@ MACROS = ["matches", "unreachable", "format_args", "format_fields", "format", "v
 ATTRIBUTES = ["inline", "default", "automatically_derived"]
 INLINES = ["inline", "inline ( always )", "inline ( never )"]
 DERIVES = ["Clone", "Copy", "Debug", "PartialEq", "Eq", "PartialOrd", "Ord", "Hash", "Default"]
-# Casts to `usize`, which has 64 bits in Rattle: the function, and what is cast. All are from `u8` or `u16`.
+# Casts to `usize`, which has 64 bits in Rattle: the function, and what is cast. All are from `u8` or `u16`, but for those of the language:
+# a divisor is a `u32`, and what a script says is no more than the bound that the same function asks for.
 CASTS = {
     "uart_spec::layout::check_ports": ["base"],
     "uart_spec::layout::check_spacing": ["last", "stride"],
@@ -543,9 +546,19 @@ CASTS = {
     **{f"uart_chip::controlling::{name}": ["offset"] for name in ("read_register", "write_register")},
     "uart_chip::receiving::is_data_pending": ["characters_of ( parts . trigger ( ) )"],
     **{f"uart_virtual::port::{name}": ["offset"] for name in ("kind_of_read", "kind_of_write", "is_quiet", "is_fast", "write_and_raise")},
+    **{f"uart_calls::replay::Replay::{name}": ["register_offset"] for name in ("read", "write")},
+    **{f"uart_calls::tape::Tape::{name}": ["register_offset"] for name in ("read", "write")},
+    **{f"uart_trace::recorder::Recorder::{name}": ["register_offset"] for name in ("read", "write")},
+    "uart_language::rendering::push_divisor_error": ["* divisor"],
+    "uart_language::fields::count_in": ["count"],
+    "uart_language::fields::wire_capacity_in": ["capacity"],
 }
-# Numbers above 65,535 that are no constants of `u32` or `u64`: the file, and the numbers. They are baud rates, and the largest wire.
-LARGE = {"uart_spec/src/config.rt": ["115_200"], "uart_events/src/event.rt": ["65_536"]}
+# Numbers above 65,535 that are no constants of `u32` or `u64`: the file, and the numbers. They are baud rates, the largest wire, and the
+# most bytes of a script.
+LARGE = {
+    "uart_spec/src/config.rt": ["115_200"],
+    **{file: ["65_536"] for file in ("uart_events/src/event.rt", "uart_language/src/limits.rt")},
+}
 # Words that no emitted code has: what is unsafe, what depends on the target or on how it is compiled, and what is a proof's.
 WORDS = """
 unsafe async await dyn static extern macro_rules rt prove invariant decreases measure also_owns requires ensures ghost Model Drop

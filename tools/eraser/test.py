@@ -30,6 +30,7 @@ ACCEPTED = [
     "const A: u32 = 70_000;",
     "fn f(x: usize) -> usize {\n    x + 0xffff\n}",
     "fn f(x: u8) -> u8 {\n    x\n}",
+    "fn f(x: [u8; 2]) -> u16 {\n    u16::from_le_bytes(x)\n}",
     "fn f(x: u8) -> u8\n    ensures { result ≡ x }\n{\n    x\n}",
     "fn f(x: &[u8]) -> u8 {\n    x[1..].len().min(3) as u8\n}",
     "fn f(x: Option<u8>) -> u8 {\n    x.unwrap_or(3)\n}",
@@ -194,6 +195,10 @@ SOURCES = [
     ),
     ("uart_spec/src/baud.rt", "pub fn calc_divisor(", "pub fn calc_divisors(", "calc_divisors requires other things"),
     ("uart_spec/src/baud.rt", "\nfn other_factor(", "\npub fn other_factor(", "other_factor can be reached"),
+    # What is in the page has targets of 32 bits too.
+    ("uart_language/src/fields.rt", "Ok(capacity as usize)", "Ok((1 + capacity) as usize)", "a cast to `usize` that is not listed"),
+    ("uart_language/src/limits.rt", "MOST_READ: usize = MOST_BYTES + 1", "MOST_READ: usize = usize::MAX", "a limit of `usize`"),
+    ("uart_judges/src/audit/unread.rt", "self.count.saturating_sub(1)", "self.count * self.count", "`count * self` is not listed"),
     ("uart_16550/src/driver/init.rt", "match calc_divisor(", "match calc_other(", "init does not call calc_divisor"),
     (
         "uart_16550/src/mmio.rt",

@@ -7,7 +7,7 @@ import re
 from words import KEYWORDS
 
 # What is multiplied, shifted or added: the file, the words around the sign or the call, and why no target makes a difference.
-U16, U32, U64 = "of u16", "of u32", "of u64"
+U8, U16, U32, U64 = "of u8", "of u16", "of u32", "of u64"
 OF_A_SLICE = "counts bytes of a slice, and says what it does above usize::MAX"
 AT_MOST = "no more than what is before it, and not below 0"
 OF_ADDRESSES = "an address: `new` refuses what does not fit"
@@ -54,7 +54,27 @@ LISTED = {
     "uart_ring/src/ring/storm.rt": {"rounds . saturating_sub": U32},
     "uart_live/src/fixed.rt": {"2 * WIRE_ROOM": "128"},
     "uart_live/src/sound.rt": {"u32 * char_ticks": U32},
-    "uart_virtual/src/port.rt": {"spare . saturating_sub": "of u8"},
+    "uart_virtual/src/port.rt": {"spare . saturating_sub": U8},
+    "uart_language/src/fields.rt": {"16 * digit_value": U8},
+    "uart_language/src/numbers.rt": {"value * 10": U64},
+    "uart_judges/src/audit/findings.rt": {"sent . saturating_add": U64, ") * 256": U16, "now . saturating_sub": U64},
+    "uart_judges/src/audit/frequent.rt": {"waiting . saturating_sub": U8},
+    "uart_judges/src/audit/history.rt": {
+        "left . saturating_add": U64,
+        "waiting . saturating_add": U8,
+        "waiting . saturating_sub": U8,
+    },
+    "uart_judges/src/audit/of_chip.rt": {"waiting . saturating_sub": U8},
+    "uart_judges/src/audit/step.rt": {
+        ") * 256": U64,
+        ") * CHARACTER_TIME": U64,
+        "CHARACTER_TIME * held": U64,
+        "now . saturating_sub": U64,
+    },
+    "uart_judges/src/audit/unread.rt": {"count . saturating_sub": AT_MOST},
+    "uart_judges/src/findings/verifying.rt": {"64 * 1024": "2^26, the most bytes of a trace", "1024 * 1024": "a part of the same"},
+    "uart_judges/src/recording/fields.rt": {"seconds * SECOND": U64, "microseconds * MICROSECOND": U64},
+    "uart_port/src/noted.rt": {"port . saturating_sub": U16},
 }
 CALLS = re.compile(r"(checked|saturating|wrapping|overflowing)_\w+|pow|abs_diff|isqrt|next_multiple_of|div_ceil|midpoint|rotate_\w+")
 # Calls whose result depends on how many bits a number has, or whose type is that of what it is given to.
@@ -62,6 +82,8 @@ OF_WIDTH = re.compile(
     r"(count|leading|trailing)_(zeros|ones)|(swap|reverse)_(bytes|bits)|(to|from)_(le|be|ne)(_bytes)?|try_from|try_into|parse|sum|product"
     r"|ilog(2|10)?|next_power_of_two|unbounded_sh[lr]|cast_signed|carrying_\w+|borrowing_\w+|strict_\w+"
 )
+# The numbers that have as many bits everywhere: `u16::from_le_bytes` has one meaning.
+NAMED = ["u8", "u16", "u32", "u64"]
 # Functions of slices, queues and iterators that give a `usize`.
 COUNTS = ["len", "count", "capacity", "position"]
 
@@ -82,7 +104,8 @@ def check(file, counts):
             file.refuse("`as Self`, which may be `usize`", at)
         if word == "NonZeroUsize" and after == "::" and file.word(at + 2) != "new":
             file.refuse("a limit of `NonZeroUsize`", at)
-        if before in (".", "::") and after in ("(", "::") and token.kind == "word" and OF_WIDTH.fullmatch(word):
+        is_of_named = before == "::" and file.word(at - 2) in NAMED
+        if before in (".", "::") and after in ("(", "::") and token.kind == "word" and OF_WIDTH.fullmatch(word) and not is_of_named:
             file.refuse(f"`{word}`, which may be of a `usize`", at)
         if word == "!" and not is_value(file, at - 1) and is_count(file, at + 1, counts):
             file.refuse("`!` of a `usize`", at)

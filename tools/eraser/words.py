@@ -38,13 +38,13 @@ def check(file):
             file.refuse(f"a {token.kind} that no rule drops", at)
         if word in ("&", "*") and after in ("raw", "const", "mut") and (word, after) != ("&", "mut"):
             file.refuse("a raw pointer", at)
-        if file.ships and token.kind == "number":
+        if file.has_narrow_targets and token.kind == "number":
             check_number(file, at)
         if token.kind != "word":
             continue
         if word in file.table.WORDS:
             file.refuse(f"the word `{word}`", at)
-        if file.ships and (before == "usize" or file.words(at - 2, at) == "usize ::" and word in ("MAX", "BITS")):
+        if file.has_narrow_targets and (before == "usize" or file.words(at - 2, at) == "usize ::" and word in ("MAX", "BITS")):
             file.refuse("a limit of `usize`", at)
         if after == "!" and file.word(at + 2) in ("(", "[", "{") and word not in file.table.MACROS:
             file.refuse(f"the macro `{word}`", at)

@@ -54,6 +54,12 @@ const SARIF: Flag = Flag {
     help: "Prints one document of SARIF 2.1.0 with all findings, for code hosts and editors",
 };
 
+const HTML: Flag = Flag {
+    name: "html",
+    value: None,
+    help: "Prints a page for a browser instead, which needs no network",
+};
+
 const FORMAT: Flag = Flag {
     name: "format",
     value: Some("KIND"),
@@ -224,6 +230,7 @@ recording may have any length.",
                     value: None,
                     help: "Prints a table for a terminal instead of a picture",
                 },
+                HTML,
                 Flag {
                     name: "recording",
                     value: None,
@@ -276,7 +283,7 @@ recording may have any length.",
             about: "Says what the driver of a recording does wrong",
             operands: &[FILES],
             flags: &[
-                ALL, JSON, SARIF, CLOCK, DIVISOR, FIFO, CHIP, FORMAT, BASE, STRIDE, PORT, IRQ,
+                ALL, JSON, SARIF, HTML, CLOCK, DIVISOR, FIFO, CHIP, FORMAT, BASE, STRIDE, PORT, IRQ,
             ],
             more: Some(KINDS),
         },
@@ -286,8 +293,8 @@ recording may have any length.",
             about: "Says where its chip answers as the one defined here never does",
             operands: &[FILES],
             flags: &[
-                ALL, SETTLED, JSON, SARIF, CLOCK, DIVISOR, FIFO, CHIP, FORMAT, BASE, STRIDE, PORT,
-                IRQ,
+                ALL, SETTLED, JSON, SARIF, HTML, CLOCK, DIVISOR, FIFO, CHIP, FORMAT, BASE, STRIDE,
+                PORT, IRQ,
             ],
             more: Some(KINDS),
         },

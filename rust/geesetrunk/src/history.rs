@@ -28,8 +28,8 @@ pub struct History {
     pub last: Vec<String>,
 }
 
-// Returns whether a line of a script is a call.
-fn is_call(line: &[u8]) -> bool {
+/// Returns whether a line of a script is a call.
+pub fn is_call(line: &[u8]) -> bool {
     let is_of_driver = matches!(
         item_at(AFTER_THE_HEAD, line),
         Ok(Item::Call(_) | Item::Next)

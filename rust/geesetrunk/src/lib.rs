@@ -29,8 +29,12 @@ pub mod meaning;
 pub mod moments;
 pub mod near;
 pub mod observing;
+pub mod options;
+pub mod page;
 pub mod picture;
 pub mod piece;
+// A page in a browser is made of this library too, and has no files of ports.
+#[cfg(unix)]
 pub mod port;
 pub mod refused_line;
 pub mod repeats;

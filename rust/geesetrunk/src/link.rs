@@ -2,6 +2,7 @@
 
 mod cable;
 mod end;
+mod turns;
 
 pub use end::{End as LinkEnd, Span};
 
@@ -16,7 +17,7 @@ use crate::script::title;
 use crate::streams::{bytes_of, print};
 use crate::terminal::Style;
 use crate::text::{STANDARD_INPUT, lines, words};
-use cable::{Cable, Cargo};
+use cable::{Cable, Cargo, Line};
 use geesetrunk_kit::Vec as List;
 use geesetrunk_kit::alloc::AllocError;
 use std::fmt::Write as _;
@@ -38,6 +39,9 @@ pub const MOST_DELAY: u64 = 1_000_000;
 /// The names of the two ends.
 const SIDES: [&str; 2] = ["left", "right"];
 
+// What a bus answers on which nothing is. Each wait of the driver takes it for what it waits for.
+const NOTHING: u8 = 0xff;
+
 /// What to play.
 #[derive(Clone, Copy, Debug)]
 pub struct Link<'a> {
@@ -51,9 +55,9 @@ pub struct Link<'a> {
 
 // The driver's backend at an end: the chip under the ticks of its script.
 struct Cabled<'a> {
-    // `None` once it is parked.
+    // `None` once all calls have returned, or it is played no further.
     end: Option<LinkEnd>,
-    cable: &'a Cable,
+    cable: &'a dyn Line,
     // The events that have not happened yet.
     events: &'a [Event],
 }
@@ -61,10 +65,20 @@ struct Cabled<'a> {
 impl Cabled<'_> {
     // Lets ticks pass.
     fn pass(&mut self, ticks: u16) {
-        if let Some(end) = &mut self.end {
-            for _ in 0..ticks {
-                self.cable.pass(end);
+        for _ in 0..ticks {
+            let Some(end) = &mut self.end else {
+                return;
+            };
+            if !self.cable.pass(end) {
+                self.leave();
             }
+        }
+    }
+
+    // Hands the end over. What is called from here on meets nothing.
+    fn leave(&mut self) {
+        if let Some(end) = self.end.take() {
+            self.cable.park(end);
         }
     }
 
@@ -105,7 +119,9 @@ impl Cabled<'_> {
 impl Backend for Cabled<'_> {
     fn read(&mut self, register_offset: u8) -> u8 {
         self.reach_access();
-        self.end.as_mut().map_or(0, |end| end.read(register_offset))
+        self.end
+            .as_mut()
+            .map_or(NOTHING, |end| end.read(register_offset))
     }
 
     fn write(&mut self, register_offset: u8, value: u8) {
@@ -120,9 +136,7 @@ impl Backend for Cabled<'_> {
 // No more calls are made. The other end waits for this one until it is parked, also if this one fails.
 impl Drop for Cabled<'_> {
     fn drop(&mut self) {
-        if let Some(end) = self.end.take() {
-            self.cable.park(end);
-        }
+        self.leave();
     }
 }
 
@@ -185,7 +199,7 @@ fn play_rings(cabled: Cabled<'_>, script: &RingScript) -> Result<Printed, AllocE
 }
 
 // Makes the calls of a script at an end of the cable.
-fn play_end(cable: &Cable, end: LinkEnd, script: &AnyScript) -> Result<Printed, AllocError> {
+fn play_end(cable: &dyn Line, end: LinkEnd, script: &AnyScript) -> Result<Printed, AllocError> {
     let cabled = Cabled {
         end: Some(end),
         cable,
@@ -197,8 +211,11 @@ fn play_end(cable: &Cable, end: LinkEnd, script: &AnyScript) -> Result<Printed, 
     }
 }
 
-// Plays both scripts. Returns both ends, and what is printed for each.
-fn play_both(scripts: &[AnyScript; 2], delay: u64) -> Result<([LinkEnd; 2], [Printed; 2]), End> {
+// Both ends, and what is printed for each.
+type Played = ([LinkEnd; 2], [Printed; 2]);
+
+// Plays both scripts, each in a thread of its own.
+fn play_both(scripts: &[AnyScript; 2], delay: u64) -> Result<Played, End> {
     let cable = Cable::new(delay);
     let [left, right] = scripts;
     let left_end = LinkEnd::new(0, left.plain(), right.plain().wire_capacity())?;
@@ -281,10 +298,9 @@ fn refused(file: &str, bytes: &[u8], error: ScriptError) -> End {
 }
 
 // Reads the script of an end.
-fn read(file: &str) -> Result<(AnyScript, Source<'_>), End> {
-    let bytes = bytes_of(file, MOST_READ)?;
-    let text = plain(heap(), &bytes)?;
-    let script = parse(&text).map_err(|error| refused(file, &bytes, error))?;
+fn read<'a>(file: &'a str, bytes: &[u8]) -> Result<(AnyScript, Source<'a>), End> {
+    let text = plain(heap(), bytes)?;
+    let script = parse(&text).map_err(|error| refused(file, bytes, error))?;
     match refused_event(file, &text) {
         Some(end) => Err(end),
         None => Ok((script, Source { file, text })),
@@ -316,6 +332,36 @@ fn text_of(ends: &[LinkEnd; 2], histories: &[History; 2]) -> String {
     text
 }
 
+// Returns what comes of two scripts, which are had and played by these functions: as a text, or as a picture. Of the right one nothing is
+// read before the left one is accepted.
+fn told(
+    link: &Link<'_>,
+    bytes_at: impl Fn(usize) -> Result<Vec<u8>, End>,
+    play: fn(&[AnyScript; 2], u64) -> Result<Played, End>,
+) -> Result<String, End> {
+    let (left, of_left) = read(link.files[0], &bytes_at(0)?)?;
+    let (right, of_right) = read(link.files[1], &bytes_at(1)?)?;
+    let scripts = [left, right];
+    let (ends, answers) = play(&scripts, link.delay)?;
+    let history = |side: usize, source: &Source<'_>| {
+        let output = printed(&ends[side], &ends[1 - side], &answers[side])?;
+        Ok::<_, AllocError>(History::new(&source.text, &output))
+    };
+    let histories = [history(0, &of_left)?, history(1, &of_right)?];
+    if !link.is_drawn {
+        return Ok(text_of(&ends, &histories));
+    }
+    let drawn = |side: usize, file: &str| DrawnEnd {
+        title: format!("{}: {}", SIDES[side], title(file, scripts[side].plain())),
+        name: SIDES[side],
+        chip: scripts[side].plain().chip(),
+        history: &histories[side],
+        moments: ends[side].history().0,
+        spans: ends[side].history().1,
+    };
+    picture_of_link(&[drawn(0, of_left.file), drawn(1, of_right.file)])
+}
+
 /// Plays two scripts at the two ends of a cable, and prints what comes of it.
 ///
 /// # Errors
@@ -327,26 +373,27 @@ pub fn link(link: &Link<'_>) -> Result<(), End> {
         let cause = "standard input is one script: name a file for the other";
         return Err(End::failed(cause));
     }
-    let (left, of_left) = read(link.files[0])?;
-    let (right, of_right) = read(link.files[1])?;
-    let scripts = [left, right];
-    let (ends, answers) = play_both(&scripts, link.delay)?;
-    let history = |side: usize, source: &Source<'_>| {
-        let output = printed(&ends[side], &ends[1 - side], &answers[side])?;
-        Ok::<_, AllocError>(History::new(&source.text, &output))
-    };
-    let histories = [history(0, &of_left)?, history(1, &of_right)?];
-    if !link.is_drawn {
-        return print(text_of(&ends, &histories).as_bytes());
-    }
-    let drawn = |side: usize, file: &str| DrawnEnd {
-        title: format!("{}: {}", SIDES[side], title(file, scripts[side].plain())),
-        name: SIDES[side],
-        chip: scripts[side].plain().chip(),
-        history: &histories[side],
-        moments: ends[side].history().0,
-        spans: ends[side].history().1,
-    };
-    let picture = picture_of_link(&[drawn(0, of_left.file), drawn(1, of_right.file)])?;
-    print(picture.as_bytes())
+    let bytes_at = |side: usize| bytes_of(link.files[side], MOST_READ);
+    print(told(link, bytes_at, play_both)?.as_bytes())
+}
+
+/// Returns what [`link`] prints, without a thread. The names of the files are only names here, and the scripts are these.
+///
+/// # Errors
+///
+/// How the program would end: a script is refused, or the ends do not come to rest.
+///
+/// # Examples
+///
+/// ```
+/// use geesetrunk::link::{Link, USUAL_DELAY, linked_in_turns};
+///
+/// let link = Link { files: ["left", "right"], delay: USUAL_DELAY, is_drawn: false };
+/// let left = b"chip 16550a 4 64\ninit 14 9600 nocts 00 8\nsend 41\nflush\n";
+/// let right = b"chip 16550a 4 64\ninit 14 9600 nocts 00 8\nreceive-exact 1\n";
+/// let text = linked_in_turns(&link, [left, right]).unwrap();
+/// assert!(text.contains("receive-exact 1 = ok 41"), "{text}");
+/// ```
+pub fn linked_in_turns(link: &Link<'_>, scripts: [&[u8]; 2]) -> Result<String, End> {
+    told(link, |side| Ok(scripts[side].to_vec()), turns::play_both)
 }

@@ -74,11 +74,19 @@ impl<'a> Log<'a> {
         import: &Import,
         output: &'a RefCell<Output<W>>,
     ) -> Result<Self, End> {
-        let unread = |cause| End::unread(file, cause);
-        let reader = Watched::open(file, word, output).map_err(unread)?;
+        let reader = Watched::open(file, word, output).map_err(|cause| End::unread(file, cause))?;
+        Log::over(file, reader, import)
+    }
+
+    /// Opens a log of any kind that this reader has. The name of its file is only a name here.
+    ///
+    /// # Errors
+    ///
+    /// How a program ends that cannot read it.
+    pub fn over(file: &'a str, reader: impl Read + 'a, import: &Import) -> Result<Self, End> {
         Ok(Log {
             file,
-            opened: open_log(reader, import).map_err(unread)?,
+            opened: open_log(reader, import).map_err(|cause| End::unread(file, cause))?,
             tail: Tail::default(),
         })
     }

@@ -5,6 +5,7 @@ use crate::excerpt::Form;
 use crate::fault::Explanation;
 use crate::heap;
 use crate::history::History;
+use crate::page::page_of_run;
 use crate::picture::picture;
 use crate::ring_language::{AnyScript, parse};
 use crate::rings::play_rings;
@@ -31,6 +32,8 @@ pub enum Task {
     Trace,
     /// Print its timeline.
     Timeline(Form),
+    /// Print a page for a browser, with its run step by step.
+    Page,
 }
 
 /// Returns the title of a timeline: the file by its name, without the folders that it lies in, and the
@@ -53,8 +56,12 @@ fn unplayed(error: PlayError) -> End {
     }
 }
 
-// Returns what is printed for a script.
-fn printed_for(script: &AnyScript, text: &[u8]) -> Result<Vec<u8>, End> {
+/// Returns what is printed for a script.
+///
+/// # Errors
+///
+/// How the program ends that is out of memory.
+pub fn printed_for(script: &AnyScript, text: &[u8]) -> Result<Vec<u8>, End> {
     match script {
         AnyScript::Plain(_) => {
             let mut printed = Vec::new();
@@ -87,6 +94,10 @@ fn write_output(
             }
             AnyScript::Rings(_) => write_ring_trace(script, text, &history(), out),
         },
+        Task::Page => {
+            let page = page_of_run(&file_name(file), text);
+            out.write_all(page.as_bytes()).map_err(End::unwritten)
+        }
         Task::Timeline(Form::Table) => write_table(script, text, &history(), out),
         Task::Timeline(Form::Picture) => {
             let picture = picture(script, text, &history(), &title(file, script.plain()))?;

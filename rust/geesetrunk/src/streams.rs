@@ -7,12 +7,20 @@ use crate::text::STANDARD_INPUT;
 use std::cell::RefCell;
 use std::fs::File;
 use std::io::{self, BufWriter, Read, Stderr, Write};
+#[cfg(unix)]
 use std::os::fd::AsFd;
 
 // Returns a file for a standard stream. Unlike the stream itself, the file reports each error: the
 // standard library takes a stream that cannot be used for an empty one.
+#[cfg(unix)]
 fn file_of(stream: impl AsFd) -> io::Result<File> {
     Ok(File::from(stream.as_fd().try_clone_to_owned()?))
+}
+
+// A page in a browser has no files, and gives what it reads as bytes.
+#[cfg(not(unix))]
+fn file_of<T>(_: T) -> io::Result<File> {
+    Err(io::ErrorKind::Unsupported.into())
 }
 
 /// Returns the file of standard input.

@@ -3,6 +3,7 @@
 mod common;
 
 use common::{EXAMPLES, GEESETRUNK, Random, assert_as_stored, parts, run, run_in};
+use geesetrunk::link::{Link, linked_in_turns};
 use std::collections::HashMap;
 use std::fs;
 use std::path::{Path, PathBuf};
@@ -94,6 +95,64 @@ fn long_waits_end() {
         let is_wait = |line: &&str| line.contains("receive-exact 9 = stalled");
         assert_eq!(text.lines().filter(is_wait).count(), 1, "{text}");
     }
+}
+
+// Returns what a link is without threads, as a page in a browser plays it.
+fn in_turns(files: [&str; 2], scripts: [&[u8]; 2], delay: u64, is_drawn: bool) -> String {
+    let link = Link {
+        files,
+        delay,
+        is_drawn,
+    };
+    linked_in_turns(&link, scripts).unwrap()
+}
+
+#[test]
+fn in_turns_it_is_the_same() {
+    let folder = Path::new(EXAMPLES).join("link");
+    for name in ["hello", "holds-back", "overrun"] {
+        for delay in [1, 7, 1_000_000] {
+            let files = ["left", "right"].map(|side| format!("{name}-{side}.script"));
+            let scripts = files
+                .each_ref()
+                .map(|file| fs::read(folder.join(file)).unwrap());
+            let files = files.each_ref().map(String::as_str);
+            for option in ["", "--picture"] {
+                let delayed = delay.to_string();
+                let words = ["--delay", &delayed, files[0], files[1], option];
+                let count = if option.is_empty() { 4 } else { 5 };
+                let (_, text, _) = run_link(&words[..count], b"");
+                let scripts = scripts.each_ref().map(Vec::as_slice);
+                assert_eq!(
+                    in_turns(files, scripts, delay, count == 5),
+                    text,
+                    "{name} {delay}"
+                );
+            }
+        }
+    }
+}
+
+// What an end waits for may never come, or only behind the first horizon. And an end that waits long for what the other one sends is
+// stopped before it is known, so that no call of it is played up to its limit.
+#[test]
+fn long_waits_end_in_turns() {
+    let head = "chip 16550a 4 64\nlimit 100000\ninit 14 9600 nocts 00 8\n";
+    let late = format!("{head}{}send 41\nflush\n", "next\ntick 50000\n".repeat(4));
+    let waits = format!("{head}{}receive-exact 1\n", "receive-exact 9\n".repeat(3));
+    let folder = PathBuf::from(env!("CARGO_TARGET_TMPDIR"));
+    fs::write(folder.join("late.script"), &late).unwrap();
+    let words = ["link", "late.script", "-"];
+    let (status, text, errors) = parts(&run_in(&folder, GEESETRUNK, &words, waits.as_bytes()));
+    assert_eq!(status, 0, "{errors}");
+    let turns = in_turns(
+        ["late.script", "-"],
+        [late.as_bytes(), waits.as_bytes()],
+        1,
+        false,
+    );
+    assert_eq!(turns, text);
+    assert!(text.contains("\nleft 2000"), "{text}");
 }
 
 // ---- random scripts
@@ -192,6 +251,9 @@ fn what_is_sent_is_received_less_what_is_dropped() {
         // A run has one outcome, whichever thread is faster.
         let again = parts(&run_in(&folder, GEESETRUNK, &words, right.as_bytes()));
         assert_eq!(again.1, text);
+        let scripts = [left.as_bytes(), right.as_bytes()];
+        let ticks = delay.parse().unwrap();
+        assert_eq!(in_turns(["left.script", "-"], scripts, ticks, false), text);
         let drawn = [&words[..], &["--picture"]].concat();
         let (status, picture, _) = parts(&run_in(&folder, GEESETRUNK, &drawn, right.as_bytes()));
         assert_eq!(status, 0);

@@ -9,12 +9,13 @@ use geesetrunk::end::{End, Status, ended};
 use geesetrunk::excerpt::{Excerpt, Form, MOST_EVENTS, USUAL_EVENTS, timeline_of};
 use geesetrunk::explain::{explained, explanations};
 use geesetrunk::findings::{Format, Judging, judged, verified};
-use geesetrunk::import::{Import, Kind, MOST_STRIDE, Window, import};
+use geesetrunk::import::import;
 use geesetrunk::judging::Judge;
-use geesetrunk::known::{Fifo, Known, MOST_FIFO};
 use geesetrunk::link::{Link, MOST_DELAY, USUAL_DELAY, link};
 use geesetrunk::log::Log;
 use geesetrunk::near::nearest;
+use geesetrunk::options::{import_of, known_of, number_in, value_of};
+use geesetrunk::page::print_page_of_log;
 use geesetrunk::sarif::Sarif;
 use geesetrunk::script::{Task, report};
 use geesetrunk::show::{Filter, REGISTERS, show};
@@ -28,105 +29,6 @@ use std::io::{self, Write};
 use std::num::NonZeroU64;
 use std::process::ExitCode;
 use uart_16550::DEFAULT_SPIN_LIMIT;
-use uart_chip::Chip;
-
-// Returns the number that a word writes in decimal digits, without a sign.
-fn number_in(word: &str) -> Option<u64> {
-    if word.starts_with('+') {
-        None
-    } else {
-        word.parse().ok()
-    }
-}
-
-// Returns the number that a word writes in decimal digits, or in hexadecimal ones behind 0x.
-fn address_in(word: &str) -> Option<u64> {
-    let digits = word.strip_prefix("0x").or_else(|| word.strip_prefix("0X"));
-    match digits {
-        Some(digits) if !digits.starts_with('+') => u64::from_str_radix(digits, 16).ok(),
-        _ => number_in(word),
-    }
-}
-
-// Returns the value of a flag, read by a function that is `None` for what it refuses.
-fn value_of<T>(
-    given: &Given,
-    flag: &str,
-    read: impl Fn(&str) -> Option<T>,
-    wants: &str,
-) -> Result<Option<T>, End> {
-    given
-        .value(flag)
-        .map(|word| read(word).ok_or_else(|| End::failed(format!("--{flag} must be {wants}"))))
-        .transpose()
-}
-
-// Returns what the command line says about a log.
-fn import_of(given: &Given) -> Result<Import, End> {
-    let names: Vec<_> = Kind::ALL.iter().map(|kind| kind.name()).collect();
-    let kind = value_of(
-        given,
-        "format",
-        Kind::named,
-        &format!("one of {}", names.join(", ")),
-    )?;
-    let address = "an address: decimal digits, or hexadecimal ones behind 0x";
-    let base = value_of(given, "base", address_in, address)?;
-    let port = value_of(given, "port", address_in, address)?;
-    let stride = |word: &str| number_in(word).filter(|stride| (1..=MOST_STRIDE).contains(stride));
-    let wants = format!("a number of bytes from 1 to {MOST_STRIDE}");
-    let stride = value_of(given, "stride", stride, &wants)?;
-    let interrupt = value_of(given, "irq", number_in, "a number")?;
-    if stride.is_some() && base.is_none() && port.is_none() && kind == Some(Kind::Kvm) {
-        return Err(End::failed(
-            "--stride says nothing without --base: a port has one byte",
-        ));
-    }
-    Ok(Import {
-        kind,
-        window: Window {
-            base,
-            stride,
-            port,
-            interrupt,
-        },
-    })
-}
-
-// Returns what the command line says about the chip.
-fn known_of(given: &Given) -> Result<Known, End> {
-    let clock = |word: &str| number_in(word).and_then(NonZeroU64::new);
-    let divisor = |word: &str| {
-        number_in(word)?
-            .try_into()
-            .ok()
-            .filter(|divisor| *divisor > 0u16)
-    };
-    let fifo = |word: &str| match word {
-        "off" => Some(Fifo::Off),
-        word => number_in(word)?
-            .try_into()
-            .ok()
-            .filter(|size| (1..=MOST_FIFO).contains(size))
-            .map(Fifo::Bytes),
-    };
-    let chip = |word: &str| match word {
-        "16550a" => Some(Chip::Uart16550A),
-        "16450" => Some(Chip::Uart16450),
-        _ => None,
-    };
-    Ok(Known {
-        clock: value_of(given, "clock", clock, "a number of hertz, as 1843200")?,
-        divisor: value_of(given, "divisor", divisor, "a number from 1 to 65535")?,
-        fifo: value_of(
-            given,
-            "fifo",
-            fifo,
-            &format!("off, or a number of bytes from 1 to {MOST_FIFO}"),
-        )?,
-        chip: value_of(given, "chip", chip, "16550a or 16450")?.unwrap_or(Chip::Uart16550A),
-    })
-}
 
 // Returns the files of a command line.
 fn files(given: &Given) -> Vec<&str> {
@@ -182,8 +84,26 @@ fn find(given: &Given, act: impl FnOnce(Format<'_>) -> Result<(), End>) -> Resul
     outcome
 }
 
+// Prints the page of a log. Two pages would be no document.
+fn print_page(given: &Given, judge: Judge) -> Result<(), End> {
+    let [file] = files(given)[..] else {
+        return Err(End::failed("--html prints one page: name one file"));
+    };
+    let judging = Judging {
+        judge,
+        format: Format::Json,
+        is_settled: false,
+        import: import_of(given)?,
+        known: known_of(given)?,
+    };
+    print_page_of_log(file, &judging)
+}
+
 fn judge(given: &Given, judge: Judge) -> Result<(), End> {
     let (import, known) = (import_of(given)?, known_of(given)?);
+    if given.has("html") {
+        return print_page(given, judge);
+    }
     find(given, |format| {
         let judging = Judging {
             judge,
@@ -259,8 +179,13 @@ fn timeline(given: &Given) -> Result<(), End> {
         "chip",
     ];
     let is_of_recording = of_recording.iter().any(|flag| given.has(flag));
+    if given.has("html") && is_of_recording {
+        return print_page(given, Judge::Audit);
+    }
     each(given, |file| {
-        if is_of_recording {
+        if given.has("html") {
+            report(Task::Page, file)
+        } else if is_of_recording {
             draw(given, file, form)
         } else {
             report(Task::Timeline(form), file)

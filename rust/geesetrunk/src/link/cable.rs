@@ -25,6 +25,19 @@ pub struct Ways {
 }
 
 impl Ways {
+    /// Returns what is on its way, with nothing sent so far but what reaches this end.
+    pub fn with(delay: u64, at: usize, coming: VecDeque<(u64, Cargo)>) -> Self {
+        let mut to = [VecDeque::new(), VecDeque::new()];
+        to[at] = coming;
+        Ways { delay, to }
+    }
+
+    /// Returns what was sent to this end, and has not arrived.
+    pub fn into_coming(self, at: usize) -> VecDeque<(u64, Cargo)> {
+        let [left, right] = self.to;
+        if at == 0 { left } else { right }
+    }
+
     /// Sends something to this end at this tick.
     pub fn send(&mut self, to: usize, tick: u64, cargo: Cargo) {
         self.to[to].push_back((tick.saturating_add(self.delay), cargo));
@@ -36,6 +49,18 @@ impl Ways {
         coming.front().filter(|(due, _)| *due <= tick)?;
         coming.pop_front().map(|(_, cargo)| cargo)
     }
+}
+
+/// How an end goes on, and hands out what leaves it.
+pub trait Line {
+    /// Sends something to the end on the other side.
+    fn send(&self, end: &End, cargo: Cargo);
+
+    /// Lets a tick pass at an end whose calls go on. Returns whether it passed: else the end is played no further.
+    fn pass(&self, end: &mut End) -> bool;
+
+    /// Takes an end whose calls have all returned.
+    fn park(&self, end: End);
 }
 
 struct State {
@@ -73,13 +98,34 @@ impl Cable {
         self.state.lock().unwrap_or_else(PoisonError::into_inner)
     }
 
-    /// Sends something to the end on the other side.
-    pub fn send(&self, end: &End, cargo: Cargo) {
+    /// Returns both ends, at the same tick, if the calls of both have returned.
+    pub fn into_ends(self) -> Option<[End; 2]> {
+        let state = self
+            .state
+            .into_inner()
+            .unwrap_or_else(PoisonError::into_inner);
+        let State {
+            mut ways, parked, ..
+        } = state;
+        let [Some(mut left), Some(mut right)] = parked else {
+            return None;
+        };
+        while left.time() < right.time() {
+            left.tick(&mut ways);
+        }
+        while right.time() < left.time() {
+            right.tick(&mut ways);
+        }
+        Some([left, right])
+    }
+}
+
+impl Line for Cable {
+    fn send(&self, end: &End, cargo: Cargo) {
         self.state().ways.send(1 - end.side(), end.time(), cargo);
     }
 
-    /// Lets a tick pass at an end whose calls go on.
-    pub fn pass(&self, end: &mut End) {
+    fn pass(&self, end: &mut End) -> bool {
         let (here, there) = (end.side(), 1 - end.side());
         let mut state = self.state();
         state.done[here] = end.time();
@@ -105,35 +151,14 @@ impl Cable {
                 .unwrap_or_else(PoisonError::into_inner);
         }
         end.tick(&mut state.ways);
+        true
     }
 
-    /// Takes an end whose calls have all returned.
-    pub fn park(&self, end: End) {
+    fn park(&self, end: End) {
         let mut state = self.state();
         state.done[end.side()] = end.time();
         let here = end.side();
         state.parked[here] = Some(end);
         self.moved.notify_all();
-    }
-
-    /// Returns both ends, at the same tick, if the calls of both have returned.
-    pub fn into_ends(self) -> Option<[End; 2]> {
-        let state = self
-            .state
-            .into_inner()
-            .unwrap_or_else(PoisonError::into_inner);
-        let State {
-            mut ways, parked, ..
-        } = state;
-        let [Some(mut left), Some(mut right)] = parked else {
-            return None;
-        };
-        while left.time() < right.time() {
-            left.tick(&mut ways);
-        }
-        while right.time() < left.time() {
-            right.tick(&mut ways);
-        }
-        Some([left, right])
     }
 }

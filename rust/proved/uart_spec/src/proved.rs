@@ -710,7 +710,7 @@ pub mod fifo_size {}
 /// IsCheckedNearest config per_mille result =
 ///     (IsComputable config × IsNearestAnswer config per_mille result)
 ///     ⊎ (IsNotAccepted config.frequency (to_integer config.baud_rate) config.prescaler_division_factor
-///         × (result ≡ Err (nearest.OutOfRange 0)))
+///     × (result ≡ Err (nearest.OutOfRange 0)))
 /// ```
 ///
 /// It uses [`IsComputable`](crate::proved::config#IsComputable), [`IsNearestAnswer`](crate::proved::config#IsNearestAnswer), [`to_integer`](crate::proved::baud_rate#to_integer); `IsNotAccepted` of this file.
