@@ -2,10 +2,10 @@
 
 What documents say and quote, and how long lines are; whether what ships stands alone; whether pictures and the Rust packages are what the
 repository makes; then every proof, every test and program of the proved crates, and beside them the tests of the eraser and of the Rust
-packages, their documentation, and the commands of the READMEs, which need no proof; and then side by side what needs what was proved:
-refused memory, uart_port on an emulated PC, the programs, the emitted Rust compared with the proved MIR, the C made of it, kernels and
-U-Boot over that, the wrong bodies of the gate, the example monitors, the tty driver in Linux, Linux on the device for monitors, the library
-for C, and the Rust packages compared with it.
+packages, their documentation, the page in a browser, and the commands of the READMEs, which need no proof; and then side by side what needs
+what was proved: refused memory, uart_port on an emulated PC, the programs, the emitted Rust compared with the proved MIR, the C made of it,
+kernels and U-Boot over that, the wrong bodies of the gate, the example monitors, the tty driver in Linux, Linux on the device for monitors,
+the library for C, and the Rust packages compared with it.
 
 A command that passed on this machine with the same files, tools and kit is not run again: its line names it and says what it counted then.
 `rt ci` is always run, and decides by itself what it keeps. CI=full runs everything, as the nightly does; with WORDs only the commands

@@ -1,6 +1,6 @@
-"""Each function of the C beside its own MIR: a program that calls both on the same choices, by the means of the comparison that the Rust crates
-have (tools/eraser/mir). The MIR is translated to Rust; on the side of C stand two functions for each type, which this writes: one makes a value
-of choices, and one shows a value as words. Both do it part by part in the order of the source, as the side of the MIR does."""
+"""Each function of the C beside its own MIR: a program that calls both on the same choices, by the means of the comparison that the Rust
+crates have (tools/eraser/mir). The MIR is translated to Rust; on the side of C stand two functions for each type, which this writes: one
+makes a value of choices, and one shows a value as words. Both do it part by part in the order of the source, as the side of the MIR does."""
 import pathlib
 import re
 import subprocess
@@ -153,7 +153,8 @@ class Beside:
         if of not in self.makers:
             text = self.make(of, "at[0]")
             self.makers[of] = f"make_{len(self.makers)}"
-            self.texts.append(f"static void {self.makers[of]}({self.types.c(of).text()} *at)\n{{\n    memset(at, 0, sizeof at[0]);\n{text}}}\n")
+            made = self.types.c(of).text()
+            self.texts.append(f"static void {self.makers[of]}({made} *at)\n{{\n    memset(at, 0, sizeof at[0]);\n{text}}}\n")
         return f"{self.makers[of]}(&{at});\n"
 
     def shown_at(self, of, at):
@@ -202,7 +203,8 @@ class Beside:
         if word == "tagged":
             return self.make_tagged(of, at)
         if word == "array":
-            return f"beside_array(true);\nfor (size_t i = 0; i < {of[2]}; i++)\n {self.made_at(of[1], f'{at}.bytes[i]')}beside_array(false);\n"
+            made = self.made_at(of[1], f"{at}.bytes[i]")
+            return f"beside_array(true);\nfor (size_t i = 0; i < {of[2]}; i++)\n {made}beside_array(false);\n"
         if word == "struct":
             return "".join(self.made_at(one, f"{at}.{name}") for name, one in self.types.fields(of))
         raise Unknown(f"a value of a type that is {word}")
@@ -210,10 +212,12 @@ class Beside:
     def make_tagged(self, of, at):
         cases, tags = "", f"enum {self.types.plain_name(of)}_kind"
         for tag, (_, _, part) in enumerate(self.types.variants(of)):
-            parts = "".join(self.made_at(one, f"{at}.{self.types.part_name(of, tag, order)}") for order, one in enumerate(part) if not self.types.is_unit(one))
+            parts = "".join(self.made_at(one, f"{at}.{self.types.part_name(of, tag, order)}") for order, one in enumerate(part)
+                            if not self.types.is_unit(one))
             cases += f"case {tag}:\n{parts}break;\n"
         count = len(self.types.variants(of))
-        return f"uint64_t tag = beside_pick({count});\n{at}.kind = ({tags})(tag + {self.first(of)});\nswitch (tag) {{\n{cases}default: break;\n}}\n"
+        picked = f"uint64_t tag = beside_pick({count});\n{at}.kind = ({tags})(tag + {self.first(of)});\n"
+        return f"{picked}switch (tag) {{\n{cases}default: break;\n}}\n"
 
     def make_queue(self, of):
         (cells, _), (front, _), (count, _) = self.types.fields(of)
@@ -248,7 +252,8 @@ class Beside:
         if word == "nullable":
             return f"beside_show({at} != NULL);\nif ({at} != NULL) {{\n{self.shown_at(kind.parts[0][1], f'(*{at})')}}}\n"
         if word == "status":
-            return f"beside_show({self.is_error(kind.parts[0], at)});\nif ({self.is_error(kind.parts[0], at)}) {{\n{self.shown_at(kind.parts[0], at)}}}\n"
+            fails = self.is_error(kind.parts[0], at)
+            return f"beside_show({fails});\nif ({fails}) {{\n{self.shown_at(kind.parts[0], at)}}}\n"
         if word in ("outcome", "either"):
             value, error = kind.parts
             fails = f"{at}.is_error" if word == "either" else self.is_error(error, f"{at}.error")
@@ -283,7 +288,8 @@ class Beside:
         mine = of_mir(of)
         if of == MEMORY or of[0] == "Ref" and of[1] == MEMORY:
             made = f"struct uart_memory a{order};\na{order}.len = beside_memory_of();\na{order}.data = NULL;\n"
-            return made, [f"&a{order}"], "", f"crate::run::memory_of(choices); let mut a{order}: {rust(mine)} = core::mem::zeroed();", f"a{order}", ""
+            of_rust = f"crate::run::memory_of(choices); let mut a{order}: {rust(mine)} = core::mem::zeroed();"
+            return made, [f"&a{order}"], "", of_rust, f"a{order}", ""
         if self.types.is_unit(of):
             return "", [], "", f"let mut a{order}: {rust(mine)} = core::mem::zeroed();", f"a{order}", ""
         if of[0] == "Struct" and of[1] == "&[]":
@@ -304,8 +310,8 @@ class Beside:
 
     def slice_argument(self, order, of, least):
         item, can_change = of[2][0][1], of[2][0][2]
-        rest = self.translation.rest(of_mir(of))
-        passed = (f"crate::mir::{self.translation.rust(of_mir(of))} {{ f0: a{order}.as_mut_ptr() as *mut u8, f1: a{order}.len() as u64{rest} }}")
+        name, rest = self.translation.rust(of_mir(of)), self.translation.rest(of_mir(of))
+        passed = f"crate::mir::{name} {{ f0: a{order}.as_mut_ptr() as *mut u8, f1: a{order}.len() as u64{rest} }}"
         shown = f"for (size_t i = 0; i < n{order}; i++) {{\n{self.shown_at(item, f'a{order}[i]')}}}\n"
         shown = f"beside_show(n{order});\n{shown}" if can_change else ""
         of_rust = f"Value::show(&a{order}, &mut out);" if can_change else ""
@@ -352,7 +358,8 @@ class Beside:
         of_case = f"|choices| unsafe {{ {made} if {outside} {{ Of::NoWord }} else {{ Of::Contract }} }}" if outside else "|_| Of::Contract"
         self.calls.append(
             f'run.compare("{written.name}", With::{touches}, {of_case}, |choices| unsafe {{ called(beside_call_{number}) }}, '
-            f"|choices| unsafe {{ {made} let result = crate::mir::{instance}({given}); let mut out = Vec::new(); {of_result} {behind} out }});")
+            f"|choices| unsafe {{ {made} let result = crate::mir::{instance}({given}); let mut out = Vec::new(); "
+            f"{of_result} {behind} out }});")
 
     # The program.
 
@@ -362,13 +369,15 @@ class Beside:
 
     def of_rust(self, source):
         """The texts of the files of Rust. Numbers that the C has are tried in each place of a number."""
-        found = sorted({at for one in map(int, re.findall(r"\b\d+\b", source)) for at in (one - 1, one, one + 1) if 0 <= at < 1 << 64} | EDGES)
+        written = map(int, re.findall(r"\b\d+\b", source))
+        found = sorted({at for one in written for at in (one - 1, one, one + 1) if 0 <= at < 1 << 64} | EDGES)
         declared = "\n".join(f"fn beside_call_{number}();" for number in range(len(self.calls)))
         calls, texts = "\n".join(self.calls), values.of_mir(self.translation)
         root = (f'{HEAD_OF_RUST}use run::{{Choices, Of, Run, Value, With, called}};\nunsafe extern "C-unwind" {{ {declared} }}\n'
                 f"fn all(run: &mut Run) {{\n{calls}\n}}\n"
                 f'#[unsafe(no_mangle)]\nextern "C" fn beside_run() {{ run::run(all, {len(self.translation.places)}) }}\n')
-        return {"lib.rs": root, "numbers.rs": f"pub const NUMBERS: [u64; {len(found)}] = {found};\n", "mir.rs": self.translation.module() + texts,
+        numbers = f"pub const NUMBERS: [u64; {len(found)}] = {found};\n"
+        return {"lib.rs": root, "numbers.rs": numbers, "mir.rs": self.translation.module() + texts,
                 "run.rs": RUN.read_text(encoding="utf-8") + (FOLDER / "compared" / "beside.rs").read_text(encoding="ascii")}
 
     def build(self, source, folder):
@@ -383,8 +392,8 @@ class Beside:
         """Builds the program over this text of the C. Returns its path, or None and what the compiler says."""
         text, program = folder / f"{name}.c", folder / name
         text.write_text(self.of_c(source), encoding="ascii")
-        told = compiled(["gcc", "-std=gnu99", "-O1", "-w", "-fexceptions", "-I", HEADER, text, folder / "libbeside.a", "-lpthread", "-ldl", "-lm",
-                         "-o", program])
+        told = compiled(["gcc", "-std=gnu99", "-O1", "-w", "-fexceptions", "-I", HEADER, text, folder / "libbeside.a", "-lpthread", "-ldl",
+                         "-lm", "-o", program])
         return (None, told) if told else (program, "")
 
 
@@ -395,8 +404,8 @@ def compiled(words):
 
 
 def reports(printed):
-    """What the program printed: for each function how many cases there were, how many were outside of its contract, how many differ, and the
-    first that does."""
+    """What the program printed: for each function how many cases there were, how many were outside of its contract, how many differ, and
+    the first that does."""
     found = {}
     for line in printed.splitlines():
         word, *report = line.split("\t")

@@ -39,7 +39,7 @@ RULES = [
 # 64 bits.
 SHIPS = "uart_spec uart_16550 uart_design_ware uart_ring uart_waits uart_events uart_chip uart_live uart_virtual".split()
 OF_PROGRAMS = "uart_calls uart_run uart_ring_runs uart_link uart_language uart_play uart_judges uart_trace uart_port uart_machine".split()
-OF_THE_PAGE = "uart_calls uart_run uart_language uart_play uart_judges uart_trace uart_port".split()
+OF_THE_PAGE = "uart_calls uart_run uart_ring_runs uart_language uart_play uart_judges uart_trace uart_port".split()
 CRATES = SHIPS + OF_PROGRAMS
 OUTPUT = "rust/proved"
 

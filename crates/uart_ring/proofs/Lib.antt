@@ -1,5 +1,4 @@
 pub mod Queues
-pub mod Noted
 pub mod Sending
 pub mod RingDoings
 pub mod Transfers

@@ -105,24 +105,16 @@ filled room count appended empty slots rest a u more b long is_room same few is_
 
 -- ---- from the receive ring
 
--- these bytes were taken from it, and a pause ends
-pub took_bytes : {B : Type 0} {step : B → Access → B → Type 0} (size count : ℕ) (bytes : List ℕ) (a : Uart16550Ring B) (left : Queue)
-    (b : Uart16550Ring B) → count ≡ min size (length a.receive.items) → bytes ≡ take size a.receive.items →
-    left ≡ queue (drop count a.receive.items) a.receive.capacity → RingDid step (IfAny count EndsPause) (record a { receive = left }) b →
-    RingDid step (TakesBytes size bytes) a b
-took_bytes {B} {step} size count bytes a left b is_count is_bytes is_left p =
-    let items = a.receive.items in
-    let long : length bytes ≡ count = ap length is_bytes ∙ (length-take size items ∙ sym is_count) in
-    ring_from (record a { receive = left }) refl (λ l t.
-    let F : Queue → Type 0 = λ q. IfAny count EndsPause (record (ring_fields a) { receive = q }) l (ring_fields b) in
-    let N : ℕ → Type 0 = λ n. IfAny n EndsPause (without_taken n (ring_fields a)) l (ring_fields b) in
-    (is_bytes, subst N (sym long) (subst F is_left t))) p
-
 -- bytes were taken from it into slots, and a pause ends
 pub took : {B : Type 0} {step : B → Access → B → Type 0} (size count : ℕ) (slots old : List ℕ) (a : Uart16550Ring B) (left : Queue)
     (b : Uart16550Ring B) → count ≡ min size (length a.receive.items) → slots ≡ take count a.receive.items ++ drop count old →
     left ≡ queue (drop count a.receive.items) a.receive.capacity → RingDid step (IfAny count EndsPause) (record a { receive = left }) b →
     RingDid step (TakesBytes size (take count slots)) a b
-took size count slots old a left b is_count is_slots is_left p =
-    took_bytes size count (take count slots) a left b is_count (first_copied size a.receive.items slots old count is_count is_slots)
-    is_left p
+took {B} {step} size count slots old a left b is_count is_slots is_left p =
+    let items = a.receive.items in
+    let bytes : take count slots ≡ take size items = first_copied size items slots old count is_count is_slots in
+    let long : length (take count slots) ≡ count = ap length bytes ∙ (length-take size items ∙ sym is_count) in
+    ring_from (record a { receive = left }) refl (λ l t.
+    let F : Queue → Type 0 = λ q. IfAny count EndsPause (record (ring_fields a) { receive = q }) l (ring_fields b) in
+    let N : ℕ → Type 0 = λ n. IfAny n EndsPause (without_taken n (ring_fields a)) l (ring_fields b) in
+    (bytes, subst N (sym long) (subst F is_left t))) p

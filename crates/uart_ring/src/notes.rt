@@ -1,5 +1,5 @@
 //! Which errors each received byte came with: a backend that notes them beside the rings.
-ghost use Rattle.std.specs.Prelude.{◌≡◌, ⊥, IfOk, IsOkUnless};
+ghost use Rattle.std.specs.Prelude.{◌≡◌, IfOk, IsOkUnless};
 ghost use Rattle.std.specs.Borrow.{Lends, sem};
 ghost use Rattle.uart_ring.specs.contracts.notes.ErrorNotes.{the_row};
 ghost use Rattle.uart_ring.specs.Notes.{AreNew, NotesErrors, notes_of, with_read, with_write};

@@ -15,8 +15,11 @@ static char *fault = "panic", *symbol = "u16550_tty:read_register";
 module_param(fault, charp, 0444);
 module_param(symbol, charp, 0444);
 
-/* How often a debugger asks for a character. An access takes about a microsecond, and in an emulator some. */
-#define MOST_ASKED 2000000
+/*
+ * How often a debugger asks for a character. An access takes about a microsecond, and in an emulator some: for longer than the test waits,
+ * whose host may be slow.
+ */
+#define MOST_ASKED 6000000
 
 static bool has_stopped;
 

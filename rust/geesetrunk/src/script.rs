@@ -95,7 +95,7 @@ fn write_output(
             AnyScript::Rings(_) => write_ring_trace(script, text, &history(), out),
         },
         Task::Page => {
-            let page = page_of_run(&file_name(file), text);
+            let page = page_of_run(file_name(file), text);
             out.write_all(page.as_bytes()).map_err(End::unwritten)
         }
         Task::Timeline(Form::Table) => write_table(script, text, &history(), out),

@@ -56,6 +56,18 @@ fn what_has_no_page_is_said() {
             2,
             "--html prints one page: name one file\n",
         ),
+        (
+            &["audit", "--html", "--json"],
+            "",
+            2,
+            "--html has a form of its own: leave --json out\n",
+        ),
+        (
+            &["timeline", "--text", "--html"],
+            "",
+            2,
+            "--html has a form of its own: leave --text out\n",
+        ),
         (&["audit", "--html"], "r 5\n", 2, "-:1:"),
         (&["timeline", "--html"], "sing\n", 1, "-:1:1: "),
     ] {

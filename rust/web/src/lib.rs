@@ -10,24 +10,18 @@
 
 mod live;
 
-use geesetrunk::heap;
 use geesetrunk::import::Import;
 use geesetrunk::json::Quoted;
 use geesetrunk::judging::Judge;
 use geesetrunk::known::Known;
 use geesetrunk::link::{Link, linked_in_turns};
 use geesetrunk::options::options_in;
-use geesetrunk::page::{entries, explanations_of_all, explored, findings};
+use geesetrunk::page::{entries, explanations_of_all, explored, findings, played};
 use live::Live;
 use std::cell::RefCell;
-use uart_language::{PlayError, Std, parse};
-use uart_play::play as play_script;
-use uart_trace::plain;
 
-// The exit statuses of `geesetrunk play`.
+// The exit status of a program that did what was requested.
 const DONE: u32 = 0;
-const REFUSED: u32 = 1;
-const OUT_OF_MEMORY: u32 = 3;
 
 #[derive(Default)]
 struct Page {
@@ -70,19 +64,9 @@ pub extern "C" fn told_len() -> usize {
 #[cfg_attr(target_family = "wasm", unsafe(no_mangle))]
 pub extern "C" fn play() -> u32 {
     on_page(|page| {
-        page.told.clear();
-        let Ok(text) = plain(heap(), &page.given) else {
-            return OUT_OF_MEMORY;
-        };
-        if let Err(error) = parse(heap(), &text) {
-            page.told = format!("{}\n", PlayError::from(error)).into_bytes();
-            return REFUSED;
-        }
-        let mut told = Std::new(&mut page.told);
-        match play_script(heap(), &mut Std::new(&text[..]), &mut told) {
-            Ok(()) => DONE,
-            Err(_) => OUT_OF_MEMORY,
-        }
+        let (status, told) = played(&page.given);
+        page.told = told;
+        status.into()
     })
 }
 

@@ -84,6 +84,17 @@ fn find(given: &Given, act: impl FnOnce(Format<'_>) -> Result<(), End>) -> Resul
     outcome
 }
 
+// Returns an error if a page is asked for, and something that it does not have.
+fn check_page(given: &Given) -> Result<(), End> {
+    let others = ["all", "settled", "json", "sarif", "text", "line", "last"];
+    match others.into_iter().find(|other| given.has(other)) {
+        Some(other) if given.has("html") => Err(End::failed(format!(
+            "--html has a form of its own: leave --{other} out"
+        ))),
+        _ => Ok(()),
+    }
+}
+
 // Prints the page of a log. Two pages would be no document.
 fn print_page(given: &Given, judge: Judge) -> Result<(), End> {
     let [file] = files(given)[..] else {
@@ -101,6 +112,7 @@ fn print_page(given: &Given, judge: Judge) -> Result<(), End> {
 
 fn judge(given: &Given, judge: Judge) -> Result<(), End> {
     let (import, known) = (import_of(given)?, known_of(given)?);
+    check_page(given)?;
     if given.has("html") {
         return print_page(given, judge);
     }
@@ -159,6 +171,7 @@ fn draw(given: &Given, file: &str, form: Form) -> Result<(), End> {
 }
 
 fn timeline(given: &Given) -> Result<(), End> {
+    check_page(given)?;
     let form = if given.has("text") {
         Form::Table
     } else {

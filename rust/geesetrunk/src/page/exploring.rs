@@ -5,6 +5,7 @@
 //! chip is after the last repetition of each. If a read of that chip returns something else, the page says so.
 
 use super::Beside;
+use crate::end::Status;
 use crate::fault::Explanation;
 use crate::heap;
 use crate::history::{History, is_call};
@@ -247,6 +248,31 @@ fn why_refused(bytes: &[u8], line: u32, cause: Cause) -> String {
     match Explanation::new("", bytes, line, cause).line {
         Some(at) => refused(at.number, at.column, cause.text(), &at.wants),
         None => refused(0, 0, cause.text(), "a script has at most 65536 bytes"),
+    }
+}
+
+/// Plays a script: returns the exit status of `geesetrunk play`, and what it prints to standard output.
+///
+/// # Examples
+///
+/// ```
+/// use geesetrunk::page::played;
+///
+/// assert_eq!(played(b"chip 16550a 4 64\n").0, 0);
+/// assert_eq!(played(b"chip 16550a 4 64\nsing\n"), (1, b"line 2: unknown word\n".to_vec()));
+/// ```
+pub fn played(bytes: &[u8]) -> (u8, Vec<u8>) {
+    let out_of_memory = || (Status::OutOfMemory.number(), Vec::new());
+    let Ok(text) = plain(heap(), bytes) else {
+        return out_of_memory();
+    };
+    match parse(&text) {
+        Ok(script) => match printed_for(&script, &text) {
+            Ok(printed) => (0, printed),
+            Err(_) => out_of_memory(),
+        },
+        Err(ScriptError::OutOfMemory) => out_of_memory(),
+        Err(error) => (Status::Refused.number(), format!("{error}\n").into_bytes()),
     }
 }
 

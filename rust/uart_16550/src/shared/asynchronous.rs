@@ -199,7 +199,6 @@ impl<S: CriticalSection, B: Backend> Shared<S, ErrorNotes<B>> {
     /// # Examples
     ///
     /// ```
-    /// # include!(concat!(env!("CARGO_MANIFEST_DIR"), "/tests/common/shared.rs"));
     /// # use uart_16550::native::{Received, backend::Backend, spec::registers::LSR};
     /// # use uart_16550::shared::{CriticalSection, SharedError};
     /// use uart_16550::ring::ErrorNotes;

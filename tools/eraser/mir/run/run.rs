@@ -447,20 +447,22 @@ std::thread_local! {
 struct NoAnswer;
 
 impl Case {
-    // Half of the devices at random answer with what was written, as in loopback; one of two of them sends nothing.
+    // Two of five devices at random answer anything. The others answer with what was written, as in loopback; one of them sends nothing,
+    // and one has data without an end.
     fn answer(&mut self, offset: u64) -> u8 {
         // SAFETY: `once` puts the choices of the case here, which outlive it.
         let choices = unsafe { &mut *self.choices };
         if choices.mode != Mode::Random {
             return choices.answer();
         }
-        let kind = *self.kind.get_or_insert_with(|| choices.pick(4));
+        let kind = *self.kind.get_or_insert_with(|| choices.pick(5));
         if kind < 2 || choices.pick(40) == 0 {
             return choices.answer();
         }
         match offset & 7 {
             0 => self.queue.pop_front().unwrap_or(0),
             5 if kind == 2 => 0,
+            5 if kind == 4 => 0x61,
             5 if self.queue.is_empty() && choices.pick(4) > 0 => 0x60,
             5 => 0x61,
             2 => 0xc1,
