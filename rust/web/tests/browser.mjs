@@ -137,21 +137,15 @@ async function scripts(browser) {
 async function longRuns(browser) {
   const polls = (limit, waits) => `chip 16550a 4 64\nlimit ${limit}\ninit 14 9600 nocts 00 8\n${"receive-exact 1\n".repeat(waits)}`;
   await browser.value(`{
-    let last = performance.now();
-    window.longest = 0;
-    setInterval(() => {
-      const now = performance.now();
-      window.longest = Math.max(window.longest, now - last);
-      last = now;
-    }, 5);
+    window.isDone = () => /of 3\\d{6} moments/.test(document.querySelector("#extent").textContent);
+    window.answers = 0;
+    setInterval(() => (window.answers += !window.isDone()), 5);
     document.querySelector("#source").value = ${JSON.stringify(polls(1000000, 3))};
-    window.longest = 0;
     document.querySelector("#source").dispatchEvent(new Event("input"));
   }`);
-  holds("three million polls are folded", await browser.until("/of 3\\d{6} moments/.test(document.querySelector('#extent').textContent)"));
-  const longest = await browser.value("window.longest");
-  // A machine with other work may keep any program waiting. What is looked for took more than a second.
-  holds("the page answers meanwhile", longest < 700 || `${longest} ms`);
+  holds("three million polls are folded", await browser.until("window.isDone()"));
+  // Without a worker nothing else would happen until the run is over, however fast the machine is.
+  holds("the page answers meanwhile", await browser.value("window.answers > 3"));
   holds("few steps are left of them", await browser.value("shown.run.steps.length < 80"));
   holds("no read of the chip beside the run strays", await browser.value("shown.run.stray"), null);
   await browser.picture("polls");

@@ -61,7 +61,8 @@ impl<B: Backend> Uart16550Ring<ErrorNotes<B>> {
     /// # Examples
     ///
     /// ```
-    /// for received in &slots[..ring.take_with_errors(&mut slots)?] {
+    /// let count = ring.take_with_errors(&mut slots)?;
+    /// for received in &slots[..count] {
     ///     if received.errors.contains(LSR::BREAK_INTERRUPT) {
     ///         breaks += 1;
     ///     }

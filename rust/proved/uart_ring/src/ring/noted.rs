@@ -52,7 +52,8 @@ impl<B: Backend> Uart16550Ring<ErrorNotes<B>> {
     /// # fn main() {}
     /// # use facade::{native::Received, ring, spec::registers::LSR};
     /// # fn example(ring: &mut ring::Uart16550Ring<ring::ErrorNotes<Device>>, mut slots: [Received; 2], mut breaks: u32) -> Outcome<()> {
-    /// for received in &slots[..ring.take_with_errors(&mut slots)?] {
+    /// let count = ring.take_with_errors(&mut slots)?;
+    /// for received in &slots[..count] {
     ///     if received.errors.contains(LSR::BREAK_INTERRUPT) {
     ///         breaks += 1;
     ///     }
