@@ -47,7 +47,7 @@ int u16550_new_mmio_design_ware(struct u16550 *uart, struct u16550_design_ware *
 {
     struct u16550_io io = { NULL, NULL, NULL };
     uint8_t stride = 0;
-    int refused = uart_check_layout(base, layout, UART_USR);
+    int refused = uart_check_memory_layout(base, layout, UART_USR);
     if (refused == U16550_OK) {
         io = uart_io_of_layout(layout);
         stride = layout->stride;

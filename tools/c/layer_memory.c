@@ -105,7 +105,7 @@ static struct u16550_io uart_io_of_layout(const struct u16550_layout *layout)
 }
 
 /* Refuses registers that cannot lie so: `last` is the offset of the last one. */
-static int uart_check_layout(uintptr_t base, const struct u16550_layout *layout, uint8_t last)
+static int uart_check_memory_layout(uintptr_t base, const struct u16550_layout *layout, uint8_t last)
 {
     uint8_t bytes;
     int status;
@@ -131,7 +131,7 @@ int u16550_new_mmio_wide(struct u16550 *uart, uintptr_t base, const struct u1655
     struct u16550_io io;
     int status = uart_check_memory(uart);
     if (status == U16550_OK)
-        status = uart_check_layout(base, layout, UART_SPR);
+        status = uart_check_memory_layout(base, layout, UART_SPR);
     if (status != U16550_OK)
         return status;
     io = uart_io_of_layout(layout);
