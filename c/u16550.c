@@ -434,6 +434,17 @@ struct uart_memory {
     size_t len;
 };
 
+/* Whoever is asked whether to keep waiting. */
+struct uart_patience {
+    uint8_t (*keep_waiting)(void *context);
+    void *context;
+};
+
+static inline bool uart_patience_keep_waiting(struct uart_patience *patience)
+{
+    return patience->keep_waiting(patience->context) != 0;
+}
+
 /* The ports of a line: see u16550_line_handle. */
 struct uart_line_ports {
     struct u16550_line_port *ports;
@@ -2654,7 +2665,7 @@ uart_send_burst(struct u16550_core_driver *uart, const uint8_t *buffer, size_t b
  *
  * A whole burst is apart, since its length is known to the compiler: it then counts no bytes.
  */
-static size_t
+static inline size_t
 uart_write_burst(struct u16550_core_driver *uart, const uint8_t *bytes, size_t bytes_len)
 {
     if (!uart->fifo_enabled) {
@@ -2786,6 +2797,57 @@ uart_send_bytes_exact(struct u16550_core_driver *uart, const uint8_t *bytes, siz
     if (uart->fifo_enabled)
         return uart_send_bursts(uart, bytes, bytes_len);
     return uart_send_singly(uart, bytes, bytes_len);
+}
+
+/*
+ * Waits until bytes may be written, and asks after each check that fails whether to go on.
+ *
+ * Proved: a wait for room, and the answers of the caller, which is asked once after each
+ * miss: a check succeeded after fewer misses in a row than the limit; or there were as many
+ * misses, or the answer after the last one was to wait no longer.
+ */
+static inline bool
+uart_wait_to_send_while(struct u16550_core_driver *uart, struct uart_patience *patience)
+{
+    uint64_t number = uart->spin_limit;
+    for (uint64_t turn = 0; turn < number; turn++) {
+        if (uart_ready_to_send(uart) == UART_BYTE_SEND_ERROR_NONE)
+            return true;
+        if (!uart_patience_keep_waiting(patience))
+            return false;
+    }
+    return false;
+}
+
+/*
+ * Sends all of the bytes as send_bytes_exact does, and waits no longer than the caller
+ * wants: patience is asked after each check that fails.
+ *
+ * So a wait can end at a time, by whatever clock the caller has. It ends after spin_limit
+ * unsuccessful checks in a row too: for a wait that the clock alone ends, set a limit that is
+ * not reached before. No check follows the answer to wait no longer.
+ *
+ * Errors
+ *
+ * StalledError if patience answered to wait no longer, or after spin_limit unsuccessful
+ * checks in a row. The first done bytes were written to the chip, and the others were not:
+ * a further call sends them.
+ *
+ * Proved: send_bytes_while, with the answers of the caller: all bytes, burst by burst, each
+ * burst after its own wait; or those before the burst whose wait ended in vain, as many as
+ * the error reports.
+ */
+static struct uart_maybe_stalled_error
+uart_send_bytes_while(struct u16550_core_driver *uart, const uint8_t *bytes, size_t bytes_len,
+    struct uart_patience *patience)
+{
+    size_t done = 0;
+    while (done < bytes_len) {
+        if (!uart_wait_to_send_while(uart, patience))
+            return uart_failed_stalled_error(done);
+        done += uart_write_burst(uart, &bytes[done], bytes_len - done);
+    }
+    return uart_no_stalled_error();
 }
 
 /* Returns LCR with a break or without. */
@@ -6549,7 +6611,7 @@ static struct u16550_io uart_io_of_layout(const struct u16550_layout *layout)
 }
 
 /* Refuses registers that cannot lie so: `last` is the offset of the last one. */
-static int uart_check_layout(uintptr_t base, const struct u16550_layout *layout, uint8_t last)
+static int uart_check_memory_layout(uintptr_t base, const struct u16550_layout *layout, uint8_t last)
 {
     uint8_t bytes;
     int status;
@@ -6575,7 +6637,7 @@ int u16550_new_mmio_wide(struct u16550 *uart, uintptr_t base, const struct u1655
     struct u16550_io io;
     int status = uart_check_memory(uart);
     if (status == U16550_OK)
-        status = uart_check_layout(base, layout, UART_SPR);
+        status = uart_check_memory_layout(base, layout, UART_SPR);
     if (status != U16550_OK)
         return status;
     io = uart_io_of_layout(layout);
@@ -6633,7 +6695,7 @@ int u16550_new_mmio_design_ware(struct u16550 *uart, struct u16550_design_ware *
 {
     struct u16550_io io = { NULL, NULL, NULL };
     uint8_t stride = 0;
-    int refused = uart_check_layout(base, layout, UART_USR);
+    int refused = uart_check_memory_layout(base, layout, UART_USR);
     if (refused == U16550_OK) {
         io = uart_io_of_layout(layout);
         stride = layout->stride;
@@ -7067,6 +7129,28 @@ int u16550_send_bytes_exact(struct u16550 *uart, const uint8_t *buffer, size_t l
     if (status != U16550_OK)
         return uart_leave(uart, status);
     stalled = uart_send_bytes_exact(&uart->ring.uart, buffer, len);
+    status = uart_leave(uart, uart_if(stalled.is_error, U16550_STALLED));
+    if (done != NULL)
+        *done = stalled.is_error ? stalled.error : len;
+    return status;
+}
+
+int u16550_send_bytes_while(struct u16550 *uart, const uint8_t *buffer, size_t len,
+    uint8_t (*keep_waiting)(void *context), void *context, size_t *done)
+{
+    struct uart_patience patience = { keep_waiting, context };
+    struct uart_maybe_stalled_error stalled;
+    int status = UART_ALIGNED(done, size);
+    if (status == U16550_OK)
+        status = uart_enter(uart);
+    if (status != U16550_OK)
+        return status;
+    status = uart_array(buffer, len, 1, 1);
+    if (status == U16550_OK)
+        status = uart_if(keep_waiting == NULL, U16550_NULL_POINTER);
+    if (status != U16550_OK)
+        return uart_leave(uart, status);
+    stalled = uart_send_bytes_while(&uart->ring.uart, buffer, len, &patience);
     status = uart_leave(uart, uart_if(stalled.is_error, U16550_STALLED));
     if (done != NULL)
         *done = stalled.is_error ? stalled.error : len;

@@ -926,6 +926,19 @@ int u16550_receive_bytes_exact(struct u16550 *uart, uint8_t *buffer, size_t len,
  */
 int u16550_send_bytes_exact(struct u16550 *uart, const uint8_t *buffer, size_t len, size_t *done);
 
+/*
+ * The same as u16550_send_bytes_exact, and waits no longer than keep_waiting wants: it gets the context after each unsuccessful
+ * poll, and the wait ends if it returns 0. So a wait can end at a time, by whatever clock there is. The spin limit ends it too.
+ * keep_waiting must not be null, and a call over this driver from it returns U16550_BUSY.
+ */
+/*
+ * Proved: send_bytes_while, with the answers of the caller: all bytes, burst by burst, each
+ * burst after its own wait; or those before the burst whose wait ended in vain, as many as
+ * the error reports.
+ */
+int u16550_send_bytes_while(struct u16550 *uart, const uint8_t *buffer, size_t len, uint8_t (*keep_waiting)(void *context),
+                            void *context, size_t *done);
+
 /* As the traits of embedded-io: some bytes, and a wait for the first. They return U16550_STALLED as the last two. */
 int u16550_read(struct u16550 *uart, uint8_t *buffer, size_t len, size_t *count);
 int u16550_write(struct u16550 *uart, const uint8_t *buffer, size_t len, size_t *count);
