@@ -49,6 +49,7 @@ FIRST = [
     Command(".ci/constants", always=True),
     Command(".ci/parts", always=True),
     Command(".ci/calling", always=True),
+    Command(".ci/catch-alls", always=True),
     Command(".ci/pictures --check", always=True),
     Command("tools/eraser/erase check", without=[*PAGES, *PROOFS]),
 ]
