@@ -499,7 +499,8 @@ uart_pop_front_character(uint8_t *len, struct uart_character *items, size_t item
 }
 
 /* Returns the character as a receiver has it. */
-static inline struct uart_chip_character uart_character_shown(const struct uart_character *uart_character)
+static inline struct uart_chip_character
+uart_character_shown(const struct uart_character *uart_character)
 {
     uint8_t number = uart_character->byte;
     uint8_t number2 = uart_character->errors;
@@ -515,7 +516,8 @@ static inline struct uart_chip_character uart_character_shown(const struct uart_
  * Removes the front of the queue, and returns it. The errors of the next one have not been
  * reported.
  */
-static inline struct uart_maybe_chip_character uart_receiver_pop(struct uart_receiver *uart_receiver)
+static inline struct uart_maybe_chip_character
+uart_receiver_pop(struct uart_receiver *uart_receiver)
 {
     struct uart_maybe_character found =
         uart_pop_front_character(&uart_receiver->queue.len, uart_receiver->queue.items, 16);
@@ -543,7 +545,8 @@ static inline void uart_replace(struct uart_receiver *parts, struct uart_chip_ch
  * Puts a character into the queue. If there is no room, the FIFO loses it, and the single register
  * loses the one that it held.
  */
-static inline void uart_enter(struct uart_receiver *parts, bool fifo, struct uart_chip_character new_)
+static inline void
+uart_enter(struct uart_receiver *parts, bool fifo, struct uart_chip_character new_)
 {
     struct uart_chip_character chip_character = new_;
     size_t receiver_queue_len = uart_receiver_queue_len(parts);
@@ -716,7 +719,8 @@ static inline bool uart_some_has_errors_any(const struct uart_character *part2)
 }
 
 /* Some character has errors. */
-static inline bool uart_some_has_errors(const struct uart_character *characters, size_t characters_len)
+static inline bool
+uart_some_has_errors(const struct uart_character *characters, size_t characters_len)
 {
     const struct uart_character *found = characters;
     size_t len = characters_len;
@@ -1978,7 +1982,8 @@ size_t uart_chip_wire_room(const struct uart_chip *chip)
 }
 
 /* Sets the registers that keep what is written to them. */
-static inline void uart_chip_set_latches(struct uart_chip *uart_chip, struct uart_chip_latches latches)
+static inline void
+uart_chip_set_latches(struct uart_chip *uart_chip, struct uart_chip_latches latches)
 {
     struct uart_latches uart_latches;
     uart_latches.ier = latches.ier;
