@@ -29,7 +29,7 @@ pub struct Filter {
     pub from: u64,
     /// Only lines up to this one.
     pub to: Option<u64>,
-    /// The bytes that are sent and received, as text.
+    /// The bytes that are sent and received, as text. Of a log of the wire, in which no driver reads, those that came.
     pub bytes: bool,
 }
 
@@ -73,11 +73,30 @@ impl Row {
     }
 }
 
+// Where bytes go.
+#[derive(Clone, Copy, Default, PartialEq, Eq)]
+enum Way {
+    #[default]
+    Sent,
+    Read,
+    Came,
+}
+
+impl Way {
+    fn name(self) -> &'static str {
+        match self {
+            Way::Sent => "sent",
+            Way::Read => "read",
+            Way::Came => "came",
+        }
+    }
+}
+
 // Bytes that go the same way, as far as no other byte came between.
 #[derive(Default)]
 struct Text {
     line: u64,
-    is_sent: bool,
+    way: Way,
     bytes: Vec<u8>,
 }
 
@@ -86,7 +105,7 @@ const MOST_BYTES: usize = 72;
 
 impl Text {
     fn shown(&self) -> String {
-        let way = if self.is_sent { "sent" } else { "read" };
+        let way = self.way.name();
         let text: String = self
             .bytes
             .iter()
@@ -104,6 +123,8 @@ struct Shower<'a, W: Write> {
     first_time: Option<u64>,
     last: Option<Row>,
     text: Text,
+    // Whether a driver was seen. What comes is then read by it, and is not shown twice.
+    has_driver: bool,
 }
 
 impl<W: Write> Shower<'_, W> {
@@ -126,13 +147,17 @@ impl<W: Write> Shower<'_, W> {
     fn step(&mut self, entry: &Entry) -> io::Result<()> {
         let is_dlab_set = self.latch.is_set();
         let action = self.latch.action(entry);
+        self.has_driver |= matches!(entry.happening, Happening::Access(_));
         if !self.is_wanted(entry, is_dlab_set) {
             return Ok(());
         }
         if self.filter.bytes {
-            return match action {
-                Action::Sends(byte) => self.add_byte(entry, true, byte),
-                Action::Receives(byte) => self.add_byte(entry, false, byte),
+            return match (action, entry.happening) {
+                (Action::Sends(byte), _) => self.add_byte(entry, Way::Sent, byte),
+                (Action::Receives(byte), _) => self.add_byte(entry, Way::Read, byte),
+                (_, Happening::Arrive { byte, .. }) if !self.has_driver => {
+                    self.add_byte(entry, Way::Came, byte)
+                }
                 _ => Ok(()),
             };
         }
@@ -158,17 +183,16 @@ impl<W: Write> Shower<'_, W> {
         Ok(())
     }
 
-    fn add_byte(&mut self, entry: &Entry, is_sent: bool, byte: u8) -> io::Result<()> {
+    fn add_byte(&mut self, entry: &Entry, way: Way, byte: u8) -> io::Result<()> {
         let text = &self.text;
-        let is_other = text.is_sent != is_sent
-            || text.bytes.len() >= MOST_BYTES
-            || text.bytes.last() == Some(&b'\n');
+        let is_other =
+            text.way != way || text.bytes.len() >= MOST_BYTES || text.bytes.last() == Some(&b'\n');
         if is_other {
             self.flush_text()?;
         }
         if self.text.bytes.is_empty() {
             self.text.line = entry.line;
-            self.text.is_sent = is_sent;
+            self.text.way = way;
         }
         self.text.bytes.push(byte);
         Ok(())
@@ -205,6 +229,7 @@ pub fn show(file: &str, import: &Import, filter: &Filter) -> Result<(), End> {
         first_time: None,
         last: None,
         text: Text::default(),
+        has_driver: false,
     };
     let outcome = each_entry(&mut log, |entry| shower.step(entry).map_err(Stop::Output));
     let rest = shower.flush_row().and_then(|()| shower.flush_text());
