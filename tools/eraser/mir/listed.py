@@ -111,6 +111,7 @@ CONTRACTS = {
     "uart_16550::tty::Uart16550Tty::new_mmio_from_address": f"{NOT_COMPUTABLE.format('a3')} && Uart16550::new_mmio(a0, a1, a2).is_ok()",
     **{f"uart_16550::{path}": "a1 >= 8" for path in ("pio::PioBackend::port", "pio::PioBackend::read", "pio::PioBackend::write")},
     **{f"uart_16550::{path}": "a1 >= 8" for path in ("mmio::MmioBackend::address", "mmio::MmioBackend::read", "mmio::MmioBackend::write")},
+    "uart_ring::queue::ByteQueue::byte_at": "a1 >= a0.len()",
     "uart_live::live::LiveChip::read": "a1 >= 8",
     "uart_live::live::LiveChip::write": "a1 >= 8",
     "uart_live::live::LiveChip::send_at_once": "!a0.sends_at_once()",
