@@ -582,11 +582,14 @@ static void call_bytes(struct u16550 *u, uint32_t which)
     case 10:
         told(u16550_send_bytes_exact(u, bytes, len, below(4) ? &count : NULL));
         break;
-    case 11:
+    case 11: {
+        /* Each choice by itself: of two in one list of arguments the compiler says which is first. */
+        size_t *done = below(4) ? &count : NULL;
         left = below(10);
-        told(u16550_send_bytes_while(u, bytes, len, below(20) ? keep_waiting : NULL, &left, below(4) ? &count : NULL));
+        told(u16550_send_bytes_while(u, bytes, len, below(20) ? keep_waiting : NULL, &left, done));
         note(left);
         break;
+    }
     case 12:
         told(u16550_read(u, bytes, len, OUT(&count)));
         break;
