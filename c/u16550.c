@@ -2665,7 +2665,7 @@ uart_send_burst(struct u16550_core_driver *uart, const uint8_t *buffer, size_t b
  *
  * A whole burst is apart, since its length is known to the compiler: it then counts no bytes.
  */
-static inline size_t
+static size_t
 uart_write_burst(struct u16550_core_driver *uart, const uint8_t *bytes, size_t bytes_len)
 {
     if (!uart->fifo_enabled) {

@@ -64,8 +64,9 @@ OFFSETS = {"uart_device_read": READ, "uart_read_register": READ, "uart_device_wr
 
 
 # A compiler is told to put a function in the place of its calls up to so many lines, and up to so many if one of the calls is in a loop: it
-# would not by itself, and then a byte that is received takes twice as many instructions.
-SHORT, SHORT_IN_LOOP = 6, 12
+# would not by itself, and then a byte that is received takes twice as many instructions. Not one of more lines, as that which writes a
+# burst: it is called once for 16 bytes, and at five places.
+SHORT, SHORT_IN_LOOP = 6, 10
 
 
 class Written:
