@@ -183,9 +183,9 @@ impl Processes {
     // Takes the process at the beginning of a line, or a byte of it. Returns what is left.
     fn begin<'a>(&mut self, byte: u8, bytes: &'a [u8]) -> &'a [u8] {
         // Most lines begin as the first one did.
-        if let (true, Some(first)) = (self.digits.is_empty(), &self.first)
-            && let Some([MARK, rest @ ..]) = bytes.strip_prefix(first.as_slice())
-        {
+        let first = self.first.as_ref().filter(|_| self.digits.is_empty());
+        let behind = first.and_then(|first| bytes.strip_prefix(first.as_slice()));
+        if let Some([MARK, rest @ ..]) = behind {
             self.is_at_digits = false;
             return rest;
         }

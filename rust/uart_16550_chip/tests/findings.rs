@@ -226,10 +226,10 @@ fn four_a_slow_host_loses_nothing() {
     let mut left = text.iter();
     for turn in 0..10_000 {
         // The guest sends while LSR shows room, and the host reads three bytes now and then.
-        if serial.read(LSR_OFFSET) & CAN_SEND != 0
-            && let Some(byte) = left.next()
-        {
-            serial.write(DATA, *byte).unwrap();
+        if serial.read(LSR_OFFSET) & CAN_SEND != 0 {
+            if let Some(byte) = left.next() {
+                serial.write(DATA, *byte).unwrap();
+            }
         }
         if turn % 5 == 0 {
             pipe.0.borrow_mut().1 += 3;

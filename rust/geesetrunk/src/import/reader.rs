@@ -129,9 +129,7 @@ impl<R: Read> Read for Imported<R> {
             self.fill()?;
         }
         let mut rest = &self.out[self.given..];
-        if rest.is_empty()
-            && let Some(refused) = &self.failure
-        {
+        if let Some(refused) = self.failure.as_ref().filter(|_| rest.is_empty()) {
             return Err(io::Error::new(ErrorKind::InvalidData, refused.clone()));
         }
         let count = rest.read(slots)?;
