@@ -10,6 +10,9 @@ from translate import Unknown
 from values import without_lifetimes
 
 DEVICE = "crate::run::Device"
+# A parameter of which nothing is asked, as what wakes a task, is a byte on both sides.
+UNASKED = re.compile(r"[<,]\s*([A-Z])\s*(?=[,>])")
+OF_UNASKED = ("Int", 8)
 # The methods of derived traits, and how many values of the type they take.
 DERIVED = {"PartialEq": ("eq", 2), "Ord": ("cmp", 2), "PartialOrd": ("partial_cmp", 2), "Default": ("default", 0), "Clone": ("clone", 1)}
 PRINTED = {"Debug": ["{:?}", "{:#?}"], "Display": ["{}"]}
@@ -107,11 +110,13 @@ class Pairs:
         self.texts.setdefault(file, []).append(text)
 
     def over_device(self, function, text):
-        """A type of a signature, with the device for each parameter that is a way to reach one."""
+        """A type of a signature, with the device for each parameter that is a way to reach one, and a byte for one of which nothing is asked."""
         text = without_lifetimes(text)
         of_device = "|".join(trait.split("::")[-1] for trait in natives.TRAITS if trait.startswith("uart_"))
         for name in re.findall(rf"(\w+)\s*:\s*[\w:]*(?:{of_device})\b", function.generics):
             text = re.sub(rf"\b{name}\b", DEVICE, text)
+        for name in UNASKED.findall(function.generics):
+            text = re.sub(rf"\b{name}\b", f"u{OF_UNASKED[1]}", text)
         return text
 
     def argument(self, order, text, of, least):
@@ -158,7 +163,8 @@ class Pairs:
     def instance(self, name):
         """The translated function over a device, the types of its parameters, and that of its result."""
         function = self.translation.program.functions[name]
-        types = tuple(natives.DEVICE for _ in function["generics"]["types"])
+        asked = {one["Param"] for bound in function["generics"]["bounds"] for one in bound["types"] if "Param" in one}
+        types = tuple(natives.DEVICE if order in asked else OF_UNASKED for order in range(len(function["generics"]["types"])))
         dictionaries = []
         for bound in function["generics"]["bounds"]:
             found = natives.dictionary(bound["of"], tuple(self.translation.type(one, types) for one in bound["types"]))
