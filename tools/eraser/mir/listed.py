@@ -101,6 +101,8 @@ CONTRACTS = {
     "uart_spec::config::Config::nearest": NOT_COMPUTABLE.format("a0"),
     "uart_spec::dump::ConfigRegisterDump::baud_rate": "(a0.dll != 0 || a0.dlm != 0) && "
     f"(a1.frequency == 0 || {PRESCALER.format('a1.prescaler_division_factor')})",
+    "uart_spec::original::ConfigRegisterDump::baud_rate": "crate::proved::uart_spec::checked_baud_rate(a1.frequency, "
+    "u32::from(a0.divisor()), a1.prescaler_division_factor).is_err()",
     "uart_spec::registers::prescaler_division::PSD::set_pdf": "a1 > 15",
     "uart_16550::driver::init::Uart16550::init": NOT_COMPUTABLE.format("a1"),
     "uart_16550::driver::frame::Uart16550::set_frame": NOT_COMPUTABLE.format("a1"),

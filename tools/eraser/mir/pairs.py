@@ -60,14 +60,17 @@ class Names:
         if not function.owner:
             name = "::".join(one for one in (function.module, function.trait, function.name) if one)
             return next((one for one in (name, f"{name}+decl") if one in self.functions), None)
-        owner = re.match(r"[\w:]+", re.sub(r"^&(mut )?", "", function.owner))[0].split("::")[-1]
+        whole = re.match(r"[\w:]+", re.sub(r"^&(mut )?", "", function.owner))[0]
+        owner = whole.split("::")[-1]
         crate = function.module.split("::")[0] + "::"
         found = [one for one in self.by_end.get(function.name, []) if one.startswith(crate)]
         if function.trait:
             path = re.match(r"(?:::)?[\w:]+", function.trait)[0].split("::")[-1]
-            arguments = re.findall(r"\w+", function.trait[function.trait.find("<") :]) if "<" in function.trait else []
-            # A parameter of a parameter may be left out.
-            ends = {f"{owner}{path}", f"{owner}{path}{''.join(arguments)}", f"{owner}{path}{''.join(arguments[:1])}"}
+            given = function.trait[function.trait.find("<") :] if "<" in function.trait else ""
+            # A parameter of a parameter may be left out. Of a path each part begins with a large letter.
+            listings = re.findall(r"\w+", given), [in_one_word(one) for one in re.findall(r"[\w:]+", given)]
+            arguments = {"", *("".join(one[:most]) for one in listings for most in (1, len(one)))}
+            ends = {f"{name}{path}{one}" for name in (owner, in_one_word(whole)) for one in arguments}
             return next((one for one in found if one.split("::")[-2] in ends), None)
         found = [one for one in found if one.split("::")[-2] == owner or one.split("::")[-2].startswith(f"{owner}+")]
         inner = re.search(r"<(.*)>", function.owner)
@@ -78,6 +81,11 @@ class Names:
         if len(found) > 1:
             found = [one for one in found if one.startswith(function.module + "::")] or found
         return found[0] if len(found) == 1 else None
+
+
+def in_one_word(path):
+    """A path as the name of an implementation in the MIR has it."""
+    return "".join(part[:1].upper() + part[1:] for part in path.split("::"))
 
 
 def title(function):
