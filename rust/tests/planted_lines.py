@@ -34,8 +34,6 @@ NAMED = [
     ('the sign is cleared before the call', EXCLUSIVE, 'let _in_use = InUse(', 'let _ = InUse(', 'tests'),
     ('a task whose place is taken is forgotten', TASKS, '            other.waker.wake();\n', '            drop(other);\n', 'tests'),
     ('a task that is polled again wakes itself', TASKS, '.filter(|other| !other.waker.will_wake(context.waker()))', '', 'tests'),
-    ('a task waits for a chip that is stuck', SHARED, 'is_stuck: self.ring.stuck().is_some(),', 'is_stuck: false,', 'tests'),
-    ('a writer waits for an empty ring', SHARED, 'capacity: self.transmit_capacity,', 'capacity: self.transmit_capacity.min(1),', 'tests'),
     ('a flush does not wait for the chip', SHARED, 'ring.transmit_len() == 0 && ring.inner_mut().is_idle()', 'ring.transmit_len() == 0', 'tests'),
     ('a flush of a task looks at the chip once', TASKS, 'for _look in 0..limit.get() {', 'for _look in 0..limit.get().min(1) {', 'tests'),
     ('a flush of a thread looks at the chip once', BLOCKING, 'for _look in 0..limit.get() {', 'for _look in 0..limit.get().min(1) {', 'tests'),

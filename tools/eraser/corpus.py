@@ -21,7 +21,7 @@ TABLE = types.SimpleNamespace(
         **vars(table),
         "CRATES": ["corpus"],
         "SHIPS": ["corpus"],
-        "ERRORS": [],
+        "ERRORS": {},
         "BY_HAND": {},
         "CONSTANT": [],
         "IN_ORDER": [],

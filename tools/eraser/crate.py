@@ -299,11 +299,10 @@ def check_whole(files, texts, allow=table):
     for path in special:
         if paths[path] != 1:
             raise Failed(f"{path}: listed, and there are {paths[path]} of it")
-    testing = {path.split("::")[-1] for path, guard in allow.GUARDS.items() if guard.test or guard.tested_by}
     tested = {path: guard.tested_by for path, guard in allow.GUARDS.items()}
-    for path, name in [*tested.items(), *allow.IMPLEMENTED.items()]:
-        if name is not None and name not in testing:
-            raise Failed(f"{path}: {name} tests nothing")
+    for path, tester in [*tested.items(), *allow.IMPLEMENTED.items()]:
+        if tester is not None and not guards.is_tested(tester, allow):
+            raise Failed(f"{path}: {tester} tests nothing")
     check_meaning(files, allow)
     reachable = {file for one in files for file in one.modules} | {f"{crate}/src/lib.rt" for crate in allow.CRATES}
     for file in files:

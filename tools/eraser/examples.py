@@ -138,6 +138,7 @@ EXAMPLES = {
     "uart_16550::driver::setup::Uart16550::init_with": compiles(UART),
     "uart_16550::driver::setup::Uart16550::quiesce": compiles(UART),
     "uart_16550::driver::setup::Uart16550::restore": compiles(UART),
+    **{f"uart_16550::driver::checked::Uart16550::checked_{name}": compiles(UART) for name in ("init", "init_with", "set_frame", "set_frame_when_idle")},
     "uart_16550::driver::init::Uart16550::check_present": compiles(UART),
     "uart_16550::driver::init::Uart16550::init": compiles(UART),
     "uart_16550::driver::loopback::Uart16550::test_loopback": compiles(UART),

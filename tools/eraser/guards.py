@@ -27,6 +27,18 @@ MEANINGS = {
         "abbrev pub frequency_of : (baud_rate divisor : ℕ) → Option ℕ → ℕ "
         "frequency_of baud_rate divisor factor = 16 * (prescaler factor + 1) * baud_rate * divisor",
     ),
+    "HasBaudRate": (
+        "Rattle.uart_spec.specs.Original",
+        "uart_spec/specs/Original.antt",
+        "abbrev pub HasBaudRate : Config → ConfigRegisterDump → Type 0 HasBaudRate config dump = "
+        "(rate : ℕ) × IsCheckedRate config.frequency (divisor_of dump) config.prescaler_division_factor (Ok rate)",
+    ),
+    "driver_dump": (
+        "Rattle.uart_spec.specs.Original",
+        "uart_spec/specs/Original.antt",
+        "abbrev pub driver_dump : OwnConfigRegisterDump → ConfigRegisterDump driver_dump d = record { ier = d.ier; isr = d.isr; "
+        "lcr = d.lcr; mcr = d.mcr; lsr = d.lsr; msr = d.msr; spr = d.spr; dll = d.dll; dlm = d.dlm; }",
+    ),
     "sends_at_once": (
         "Rattle.uart_chip.specs.Sending",
         "uart_chip/specs/Sending.antt",
@@ -105,6 +117,19 @@ def causes(files, allow, root=ROOT):
         if not is_defined(name, (root / "crates" / place).read_text(encoding="utf-8")):
             found.append(f"crates/{place}: `{name}`, which a guard tests, is defined otherwise: look at the guards that use it")
     return found
+
+
+def is_tested(path, allow):
+    """Whether a function tests what it requires: by a test of its own, or by that of a function that it calls, and so on. Functions that come
+    back to one another test nothing."""
+    seen = set()
+    while path is not None and path not in seen:
+        seen.add(path)
+        guard = allow.GUARDS.get(path)
+        if guard is None or guard.test:
+            return guard is not None
+        path = guard.tested_by
+    return False
 
 
 def is_defined(name, text):

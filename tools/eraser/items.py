@@ -195,7 +195,7 @@ class File:
                 self.refuse(f"the attribute `{name}` here", first)
             elif name == "inline" and self.words(first + 2, close) not in self.table.INLINES:
                 self.refuse("an `inline` of another form", first)
-            elif name in ("default", "automatically_derived") and close != first + 3:
+            elif name in ("must_use", "default", "automatically_derived") and close != first + 3:
                 self.refuse(f"a `{name}` of another form", first)
 
     def semicolon(self, at):
@@ -379,7 +379,7 @@ class File:
                 self.refuse("a `Model` with code")
             rule = "model"
             self.models.append(name)
-        elif trait == "std :: error :: Error" and not inside and self.name in self.table.ERRORS:
+        elif trait == "std :: error :: Error" and not inside and name in self.table.ERRORS.get(self.name, []):
             rule = "error"
         if rule:
             del self.edits[known:]
@@ -429,7 +429,7 @@ class File:
         if form.is_lemma:
             self.lemma(form, attributes)
         else:
-            self.attribute(attributes, ("inline",))
+            self.attribute(attributes, ("inline", "must_use"))
             self.functions.append(Function(form.path, name, True, owner, form.requires, form.is_method))
             self.forms.append(form)
             self.signature(form)
@@ -536,7 +536,7 @@ class File:
             found = "; ".join(form.requires) or "nothing"
             cause = f"{form.path} requires other things than its guard is for: {found}"
             self.refuse(cause, form.start)
-        if tested_by and f" {tested_by} (" not in body:
+        if tested_by and f" {tested_by.split('::')[-1]} (" not in body:
             self.refuse(f"{form.path} does not call {tested_by}", form.start)
         if guard is None:
             return

@@ -24,7 +24,7 @@ def guard(path, entry):
     """A row for a function that requires something."""
     tests = "tests it, and panics" if entry.test else "no test"
     if entry.tested_by:
-        tests = f"{code(entry.tested_by)} tests it"
+        tests = f"{code(entry.tested_by.split('::')[-1])} tests it"
     clauses = ", ".join(code(re.sub(r"^requires (\w+ )?\{ (.*) \}$", r"\2", one)) for one in entry.clauses)
     return [code(last(path, 2)), clauses, tests, entry.reason or ""]
 

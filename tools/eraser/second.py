@@ -19,9 +19,10 @@ BLANK = " \n"
 CONTRACTS = ("requires", "ensures", "ghost")
 # Methods that get another name where their one argument is an allocator.
 WITH_ALLOCATOR = ("collect", "to_vec", "to_string")
-# The file whose errors have `Error` by hand in Rust.
-ERRORS = "uart_spec/src/errors.rt"
-EMPTY_ERROR = r"# \[ automatically_derived \] impl < > std :: error :: Error for \w+ < > where \{ \}"
+# The files whose errors of a cause have `Error` by hand in Rust, and these errors.
+ERRORS = ("uart_spec/src/errors.rt", "uart_spec/src/original.rt")
+OF_A_CAUSE = "InitError|FrameError|LoopbackError|Uart16550TtyError"
+EMPTY_ERROR = rf"# \[ automatically_derived \] impl < > std :: error :: Error for (?:{OF_A_CAUSE}) < > where \{{ \}}"
 # What a page of definitions is.
 MODULE = r'(# \[ doc \( alias \( ("\w+"( , )?)+ \) \) \] )?pub mod \w+ \{ \}'
 OF_OTHER = r"# \[ doc \( inline \) \] pub use \w+ :: proved as \w+ ;"
@@ -176,7 +177,7 @@ class Source:
     `required` those of the brace of a function that requires something."""
 
     def __init__(self, name, text):
-        self.tokens, self.has_errors_by_hand = Scanner(text, True).tokens(), name == ERRORS
+        self.tokens, self.has_errors_by_hand = Scanner(text, True).tokens(), name in ERRORS
         self.left, self.bodies, self.required = [], set(), set()
         self.items(0, len(self.tokens))
 

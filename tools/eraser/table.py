@@ -14,7 +14,7 @@ RULES = [
     ("file", "a file `laws.rt`, which has laws alone, its `mod laws;`, and a `use` of it", "nothing"),
     ("tests", "`#[cfg(test)] mod NAME;`, a file `tests.rt` and the files below `tests`", "nothing"),
     ("thiserror", "`use thiserror::Error;` (`rt expand` has written out its implementations)", "nothing"),
-    ("error", "an empty `impl std::error::Error` in a file of `ERRORS`", "nothing: by hand there is one with the source of the error"),
+    ("error", "an empty `impl std::error::Error` for a type of `ERRORS`", "nothing: by hand there is one with the source of the error"),
     ("drop", "`Drop` in a derive, in a bound, in a `where`", "nothing"),
     ("empty", "`impl<>`, `NAME<>`, `where` with nothing behind it", "without the empty part"),
     ("debug", "`Debug` in the derive of a register", "nothing: by hand there is one with the names of the bits"),
@@ -61,7 +61,6 @@ BY_HAND = {
     "uart_spec/src/lib.rt": "mod by_hand;",
     "uart_spec/src/registers.rt": "mod by_hand;",
     "uart_16550/src/lib.rt": "mod by_hand;",
-    "uart_ring/src/lib.rt": "mod by_hand;",
     "uart_waits/src/lib.rt": "mod by_hand;",
     "uart_chip/src/lib.rt": "mod by_hand;",
     "uart_live/src/lib.rt": "mod by_hand;",
@@ -70,17 +69,22 @@ BY_HAND = {
 # The crates whose code by hand has the traits of the crate `embedded-io`, behind a feature of this name.
 EMBEDDED_IO = ["uart_spec", "uart_16550", "uart_waits"]
 
-# Files whose errors have `core::error::Error` by hand: Rattle's has no `source`.
-ERRORS = ["uart_spec/src/errors.rt"]
+# The errors that have `core::error::Error` by hand, by their files: they tell of a cause, and Rattle's has no `source`.
+ERRORS = {
+    "uart_spec/src/errors.rt": ["InitError", "FrameError", "LoopbackError", "Uart16550TtyError"],
+    "uart_spec/src/original.rt": ["InitError", "LoopbackError", "Uart16550TtyError"],
+}
 
 # Structs whose fields stay in the order of the source. So the backend is at the driver's own address, and a call of it adds nothing to that.
 # rustc puts a field first that has a value which never occurs: the spin limit, which is not 0.
 IN_ORDER = ["uart_16550::driver::Uart16550"]
 
-# Enums that may get more cases, so that a match of a user has one for all others. They are not those that the original's interface has too.
+# Enums that may get more cases, so that a match of a user has one for all others. Of those that the original's interface has too they are
+# the two that may get more there.
 # With the feature `exhaustive` a match of this repository's own packages names each case, and rustc tells them of a new one.
 MAY_GROW = [
     *(f"uart_spec::errors::{name}Error" for name in "Init InvalidDivisor Loopback Uart16550Tty Attach Configuration Frame NearestDivisor".split()),
+    *(f"uart_spec::original::{name}Error" for name in ("Init", "InvalidDivisor")),
     "uart_design_ware::fault::DesignWareFault",
     "uart_ring::ring::RingError",
     "uart_ring::ring::service::HandleEnd",
@@ -132,6 +136,7 @@ uart_16550::driver::Uart16550::fifo_enabled
 uart_16550::driver::Uart16550::spin_limit
 uart_16550::driver::Uart16550::set_spin_limit
 uart_spec::dump::ConfigRegisterDump::divisor
+uart_spec::original::ConfigRegisterDump::divisor
 uart_16550::mmio::MmioBackend::base
 uart_16550::mmio::MmioBackend::stride
 uart_16550::pio::PioBackend::base
@@ -145,7 +150,7 @@ uart_design_ware::state::DesignWare::fault
 uart_design_ware::state::DesignWare::registers_mut
 """.split()
 
-# A guard: the clauses that it is for, word by word; the test that the function begins with, or None; the function that it
+# A guard: the clauses that it is for, word by word; the test that the function begins with, or None; the path of the function that it
 # calls and that tests the same, or None; what its documentation says under Panics, or None; the reason if there is no test.
 Guard = collections.namedtuple("Guard", "clauses test tested_by panics reason", defaults=(None, None, None, None))
 
@@ -157,6 +162,7 @@ NO_BODY = "no body: each implementation has its own entry"
 INSIDE = "private: each caller is proved to meet it"
 IN_FILE = "private to its file: each caller is proved to meet it"
 HIDDEN_INSIDE = "in no interface: each caller is proved to meet it"
+TTY = "uart_16550::tty::Uart16550Tty"
 EIGHT = 'assert!(register_offset < 8, "no register has this offset");'
 
 GUARDS = {
@@ -249,44 +255,58 @@ GUARDS = {
     "uart_16550::driver::transmit::Uart16550::send_some": Guard(["requires { 0 < length bytes.now }"], reason=INSIDE),
     "uart_16550::driver::init::Uart16550::init": Guard(
         COMPUTABLE,
-        tested_by="calc_divisor",
+        tested_by="uart_spec::baud::calc_divisor",
         panics=NOT_COMPUTABLE + " No access was made then.",
         reason="before the first access; a test here would be the second",
     ),
     "uart_16550::driver::frame::Uart16550::set_frame": Guard(
         ["requires { IsComputable config.now }"],
-        tested_by="calc_divisor",
+        tested_by="uart_spec::baud::calc_divisor",
         panics=NOT_COMPUTABLE + " No access was made then.",
         reason="before the first access; a test here would be the second",
     ),
     "uart_16550::driver::init::Uart16550::set_up": Guard(
         ["requires { DivisorOf config (Ok divisor) }"],
-        reason="in the crate alone: each caller is proved to meet it, and `checked_init` computes the divisor",
+        reason=INSIDE,
     ),
     "uart_16550::driver::setup::Uart16550::set_frame_when_idle": Guard(
         ["requires { IsComputable config.now }"],
-        tested_by="calc_divisor",
+        tested_by="uart_spec::baud::calc_divisor",
         panics=NOT_COMPUTABLE + " No access was made then.",
         reason="before the first access; a test here would be the second",
     ),
     "uart_16550::driver::setup::Uart16550::init_with": Guard(
         COMPUTABLE,
-        tested_by="calc_divisor",
+        tested_by="uart_spec::baud::calc_divisor",
         panics=NOT_COMPUTABLE + " No access was made then.",
         reason="before the first access; a test here would be the second",
     ),
     "uart_16550::driver::setup::Uart16550::set_up_with": Guard(
         ["requires { DivisorOf config (Ok divisor) }"],
-        reason="in the crate alone: each caller is proved to meet it, and `checked_init_with` computes the divisor",
+        reason=INSIDE,
     ),
     "uart_spec::dump::ConfigRegisterDump::baud_rate": Guard(
         [
             "requires frequency { 0 < config.now.frequency }",
             "requires prescaler { prescaler config.now.prescaler_division_factor ≤ 15 }",
         ],
-        tested_by="calc_baud_rate",
+        tested_by="uart_spec::baud::calc_baud_rate",
         panics="If the divisor is not 0, and the frequency is 0 or the prescaler division factor is above 15.",
         reason="the divisor 0 is refused before",
+    ),
+    "uart_spec::original::ConfigRegisterDump::baud_rate": Guard(
+        ["requires { HasBaudRate config.now (driver_dump self.now) }"],
+        test="""assert!(
+    checked_baud_rate(
+        config.frequency,
+        u32::from(self.divisor()),
+        config.prescaler_division_factor
+    )
+    .is_ok(),
+    "the baud rate is not a whole number"
+);""",
+        panics="If that is not a whole number, and if it cannot be computed: if the divisor or the frequency is 0, or the factor\n"
+        "above 15.",
     ),
     "uart_ring::queue::ByteQueue::drop_front": Guard(["requires { count ≤ length self.old.items }"], reason=INSIDE),
     "uart_ring::queue::ByteQueue::byte_at": Guard(["requires { place < length self.now.items }"], reason=INSIDE),
@@ -310,18 +330,20 @@ GUARDS = {
     "uart_16550::mmio::MmioBackend::address": Guard(
         REGISTER_OFFSET, test=EIGHT, reason="private, but reached by `Backend::read` and `Backend::write`"
     ),
-    "uart_16550::tty::Uart16550Tty::start": Guard(COMPUTABLE, tested_by="init", reason="before the first access"),
+    "uart_16550::tty::Uart16550Tty::start": Guard(
+        COMPUTABLE, tested_by="uart_16550::driver::init::Uart16550::init", reason="before the first access"
+    ),
     "uart_16550::tty::Uart16550Tty::new_with_backend": Guard(
-        COMPUTABLE, tested_by="start", panics=NOT_COMPUTABLE, reason="so does `init`, which `start` calls"
+        COMPUTABLE, tested_by=f"{TTY}::start", panics=NOT_COMPUTABLE, reason="so does `init`, which `start` calls"
     ),
     "uart_16550::tty::Uart16550Tty::new_port": Guard(
-        COMPUTABLE, tested_by="start", panics=NOT_COMPUTABLE, reason="so does `init`, which `start` calls"
+        COMPUTABLE, tested_by=f"{TTY}::start", panics=NOT_COMPUTABLE, reason="so does `init`, which `start` calls"
     ),
     "uart_16550::tty::Uart16550Tty::new_mmio": Guard(
-        COMPUTABLE, tested_by="start", panics=NOT_COMPUTABLE, reason="so does `init`, which `start` calls"
+        COMPUTABLE, tested_by=f"{TTY}::start", panics=NOT_COMPUTABLE, reason="so does `init`, which `start` calls"
     ),
     "uart_16550::tty::Uart16550Tty::new_mmio_from_address": Guard(
-        COMPUTABLE, tested_by="new_mmio", panics=NOT_COMPUTABLE, reason="it does nothing else"
+        COMPUTABLE, tested_by=f"{TTY}::new_mmio", panics=NOT_COMPUTABLE, reason="it does nothing else"
     ),
 }
 
@@ -412,9 +434,14 @@ for access in ("load", "store"):
         test='assert!(offset < 8, "no register has this offset");',
         reason="private, but reached by `Backend::read` and `Backend::write`",
     )
-for caller, access in (("read_plain", "load"), ("read_meant", "load"), ("write_plain", "store"), ("write_meant", "write_plain")):
+for caller, access in (
+    ("read_plain", "state::DesignWare::load"),
+    ("read_meant", "state::DesignWare::load"),
+    ("write_plain", "state::DesignWare::store"),
+    ("write_meant", "serving::DesignWare::write_plain"),
+):
     GUARDS[f"uart_design_ware::serving::DesignWare::{caller}"] = Guard(
-        OFFSET, tested_by=access, reason="of each offset that has no call of its own"
+        OFFSET, tested_by=f"uart_design_ware::{access}", reason="of each offset that has no call of its own"
     )
 # A byte that goes onto the wire at once.
 SENDS_AT_ONCE = "requires { sending_spec.sends_at_once self.old ≡ true }"
@@ -425,11 +452,11 @@ GUARDS["uart_chip::sending::send_at_once"] = Guard(
     reason="in no interface, but reached by `LiveChip::send_at_once`",
 )
 GUARDS["uart_chip::chip::Uart::send_at_once"] = Guard(
-    [SENDS_AT_ONCE], tested_by="send_at_once", reason="it does nothing else"
+    [SENDS_AT_ONCE], tested_by="uart_chip::sending::send_at_once", reason="it does nothing else"
 )
 GUARDS["uart_live::live::LiveChip::send_at_once"] = Guard(
     [SENDS_AT_ONCE],
-    tested_by="send_at_once",
+    tested_by="uart_chip::chip::Uart::send_at_once",
     panics="If [`sends_at_once`](Self::sends_at_once) returns false. Nothing changed then.",
     reason="it does nothing else",
 )
@@ -468,22 +495,26 @@ for access, first in (("read", "LSR"), ("write", "DATA")):
         reason=f"private, but reached by `LiveChip::{access}`",
     )
     GUARDS[f"uart_chip::controlling::{access}"] = Guard(
-        OFFSET, tested_by=f"{access}_register", reason=f"of each offset but that of {first}"
+        OFFSET, tested_by=f"uart_chip::controlling::{access}_register", reason=f"of each offset but that of {first}"
     )
-    GUARDS[f"uart_chip::chip::Uart::{access}"] = Guard(OFFSET, tested_by=access, reason="it does nothing else")
+    GUARDS[f"uart_chip::chip::Uart::{access}"] = Guard(
+        OFFSET, tested_by=f"uart_chip::controlling::{access}", reason="it does nothing else"
+    )
     GUARDS[f"uart_live::live::LiveChip::{access}"] = Guard(
-        OFFSET, tested_by=access, panics="If the offset is 8 or more.", reason="it does nothing else"
+        OFFSET, tested_by=f"uart_chip::chip::Uart::{access}", panics="If the offset is 8 or more.", reason="it does nothing else"
     )
-GUARDS["uart_virtual::port::write_and_raise"] = Guard(OFFSET, tested_by="write", reason="before it changes anything")
+GUARDS["uart_virtual::port::write_and_raise"] = Guard(
+    OFFSET, tested_by="uart_live::live::LiveChip::write", reason="before it changes anything"
+)
 # Each write that is no byte for an idle transmitter is slow.
 GUARDS["uart_virtual::port::write_slowly"] = Guard(
     ["requires offset { offset < NUM_REGISTERS }", STILL],
-    tested_by="write_and_raise",
+    tested_by="uart_virtual::port::write_and_raise",
     reason="of the offset; the chip of a port is always still",
 )
 GUARDS["uart_virtual::port::write"] = Guard(
     ["requires offset { offset < NUM_REGISTERS }", STILL],
-    tested_by="write_slowly",
+    tested_by="uart_virtual::port::write_slowly",
     reason="of each offset but that of DATA; the chip of a port is always still",
 )
 GUARDS["uart_virtual::port::read"] = Guard(
@@ -492,22 +523,19 @@ GUARDS["uart_virtual::port::read"] = Guard(
         "requires told { IsTold (record { chip = chip.old; told = told.old }) }",
         STILL,
     ],
-    tested_by="read",
+    tested_by="uart_live::live::LiveChip::read",
     reason="of the offset; what holds of a port always does",
 )
 for access in ("read", "write"):
     GUARDS[f"uart_virtual::port::VirtualPort::{access}"] = Guard(
-        OFFSET, tested_by=access, panics="If the offset is 8 or more.", reason="before it changes anything"
+        OFFSET, tested_by=f"uart_virtual::port::{access}", panics="If the offset is 8 or more.", reason="before it changes anything"
     )
 
 # Methods of an own trait that require something, in the implementations: the function that they call and that tests it.
 IMPLEMENTED = {
-    "uart_16550::pio::PioBackend::read": "port",
-    "uart_16550::pio::PioBackend::write": "port",
-    "uart_16550::mmio::MmioBackend::read": "address",
-    "uart_16550::mmio::MmioBackend::write": "address",
-    "uart_design_ware::serving::DesignWare::read": "read_meant",
-    "uart_design_ware::serving::DesignWare::write": "write_meant",
+    **{f"uart_16550::pio::PioBackend::{name}": "uart_16550::pio::PioBackend::port" for name in ("read", "write")},
+    **{f"uart_16550::mmio::MmioBackend::{name}": "uart_16550::mmio::MmioBackend::address" for name in ("read", "write")},
+    **{f"uart_design_ware::serving::DesignWare::{name}": f"uart_design_ware::serving::DesignWare::{name}_meant" for name in ("read", "write")},
     # passes the offset on, and does nothing else with one above 7: the backend under it tests it as it does alone
     **{f"uart_ring::notes::ErrorNotes::{name}": None for name in ("read", "write")},
     # of types in no interface, so nothing tests what the trait requires
@@ -529,7 +557,7 @@ IN_BOTH = {"clear": "no register is a `Fifo`", "is_empty": "no register is a `Fi
 
 # What is let through. Anything else of its kind is refused.
 MACROS = ["matches", "unreachable", "format_args", "format_fields", "format", "vec", "write", "writeln"]
-ATTRIBUTES = ["inline", "default", "automatically_derived"]
+ATTRIBUTES = ["inline", "must_use", "default", "automatically_derived"]
 INLINES = ["inline", "inline ( always )", "inline ( never )"]
 DERIVES = ["Clone", "Copy", "Debug", "PartialEq", "Eq", "PartialOrd", "Ord", "Hash", "Default"]
 # Casts to `usize`, which has 64 bits in Rattle: the function, and what is cast. All are from `u8` or `u16`, but for those of the language:

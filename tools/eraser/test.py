@@ -199,12 +199,12 @@ SOURCES = [
     ("uart_language/src/fields.rt", "Ok(capacity as usize)", "Ok((1 + capacity) as usize)", "a cast to `usize` that is not listed"),
     ("uart_language/src/limits.rt", "MOST_READ: usize = MOST_BYTES + 1", "MOST_READ: usize = usize::MAX", "a limit of `usize`"),
     ("uart_judges/src/audit/unread.rt", "self.count.saturating_sub(1)", "self.count * self.count", "`count * self` is not listed"),
-    ("uart_16550/src/driver/init.rt", "match calc_divisor(", "match calc_other(", "init does not call calc_divisor"),
+    ("uart_16550/src/driver/init.rt", "match calc_divisor(", "match calc_other(", "init does not call uart_spec::baud::calc_divisor"),
     (
         "uart_16550/src/mmio.rt",
         "let address = self.address(register_offset);",
         "let address = 3;",
-        "MmioBackend::read does not call address",
+        "MmioBackend::read does not call uart_16550::mmio::MmioBackend::address",
     ),
     ("uart_16550/src/pio.rt", "    fn port(&self", "    fn ports(&self", "PioBackend::ports requires other things"),
     (
@@ -438,7 +438,7 @@ CHIP_SOURCES = [
     ("uart_live/src/fixed.rt", "requires { capacity ≤ WIRE_ROOM }", "", "FixedWire::new requires other things"),
     ("uart_chip/src/lib.rt", "mod wire;", "mod wire;\nmod extra;", "extra.rt: declared, and not there"),
     ("uart_live/src/live.rt", "requires { offset < NUM_REGISTERS }\n        ensures answers", "ensures answers", "requires other things"),
-    ("uart_virtual/src/port.rt", "    chip.write(offset, value);\n", "", "write_and_raise does not call write"),
+    ("uart_virtual/src/port.rt", "    chip.write(offset, value);\n", "", "write_and_raise does not call uart_live::live::LiveChip::write"),
     ("uart_virtual/src/port.rt", "fn take(chip: &mut", "pub fn take(chip: &mut", "port::take can be reached"),
     ("uart_virtual/src/port.rt", "requires sends { sends_at_once chip.old ≡ true }", "", "port::send requires other things"),
     ("uart_chip/src/sending.rt", "requires { spec.sends_at_once", "requires { spec.is_ready", "send_at_once requires other things"),
@@ -633,6 +633,9 @@ class Tests:
             ("GUARDS", "uart_spec::baud::no_function", guard, "no_function: listed, and there are 0 of it"),
             ("IMPLEMENTED", "uart_16550::mmio::MmioBackend::reads", "address", "reads: listed, and there are 0 of it"),
             ("IMPLEMENTED", "uart_16550::mmio::MmioBackend::read", "store_frame", "MmioBackend::read: store_frame tests nothing"),
+            # Others of this name test it.
+            ("IMPLEMENTED", "uart_16550::mmio::MmioBackend::read", "uart_spec::backend::Backend::read", "Backend::read tests nothing"),
+            ("GUARDS", TESTED_BY_ITSELF, table.GUARDS[TESTED_BY_ITSELF]._replace(tested_by=TESTED_BY_ITSELF), "port::read tests nothing"),
             ("CASTS", "uart_spec::baud::cast", ["x"], "cast: listed, and there are 0 of it"),
         ):
             with changed(getattr(table, what), name, value):
@@ -650,6 +653,9 @@ class Tests:
             with changed(table.GUARDS, path, entry):
                 found = self.refused(name, self.texts[name])
                 self.count(cause in found, f"{entry}: {found}, and not: {cause}")
+
+
+TESTED_BY_ITSELF = "uart_virtual::port::read"
 
 
 @contextlib.contextmanager

@@ -29,6 +29,7 @@ LISTED = {
         "exact . abs_diff": U64,
     },
     "uart_spec/src/dump.rt": {"256 * self": U16},
+    "uart_spec/src/original.rt": {"256 * self": U16},
     "uart_spec/src/checked.rt": {"TICKS_PER_BIT * (": U32, "ticks . checked_mul": U32, "? . checked_mul": U32},
     "uart_spec/src/layout.rt": {
         "8 * self": "of u8",

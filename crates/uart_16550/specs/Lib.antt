@@ -7,6 +7,7 @@ pub mod Driver
 pub mod State
 pub mod Status
 pub mod Init
+pub mod Checked
 pub mod Frame
 pub mod Attach
 pub mod Setup

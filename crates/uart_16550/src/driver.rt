@@ -11,6 +11,7 @@ ghost use Rattle.uart_16550.specs.Driver.{backend_of, fields, with_limit};
 ghost use Rattle.uart_16550.specs.contracts.driver.Uart16550.{the_row};
 
 mod burst;
+mod checked;
 mod configured;
 mod frame;
 mod init;

@@ -97,6 +97,7 @@ impl<R: DesignWareRegisters> DesignWare<R> {
     /// uart.write(3, 0x03);
     /// assert_eq!(rt; uart.fault(), None);
     /// ```
+    #[must_use]
     pub fn fault(&self) -> Option<DesignWareFault>
         ensures { result ≡ (held self.now).fault }
     {

@@ -10,6 +10,7 @@ mod line;
 mod notes;
 mod queue;
 mod ring;
+mod shown;
 
 pub use line::{LinePort, LinePorts, handle_line, handle_ports};
 pub use notes::{ErrorNotes, UnnotedError};

@@ -11,3 +11,4 @@ pub mod Dump
 pub mod FifoSize
 pub mod Checked
 pub mod Layout
+pub mod Original

@@ -50,6 +50,7 @@ fn known(prescaler_division_factor: Option<u32>) -> Result<Option<u32>, UnknownF
 /// assert_eq!(rt; checked_frequency(9_600, 12, Some(16)), None);
 /// assert_eq!(rt; checked_frequency(u32::MAX, 12, None), None);
 /// ```
+#[must_use]
 pub fn checked_frequency(
     baud_rate: u32,
     divisor: u32,
@@ -218,6 +219,7 @@ impl PSD {
     /// assert_eq!(rt; PSD::empty().checked_set_pdf(3).map(|psd| psd.pdf()), Some(3));
     /// assert_eq!(rt; PSD::empty().checked_set_pdf(16), None);
     /// ```
+    #[must_use]
     pub fn checked_set_pdf(self, pdf: u8) -> Option<Self>
         ensures factor { IfSome result (λ psd. pdf ≤ 15) }
         ensures some { IfSome result (λ psd. psd.0 ≡ bit_or (bit_and self.0 0xF0) pdf) }

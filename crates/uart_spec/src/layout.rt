@@ -32,6 +32,7 @@ impl RegisterWidth {
     /// ```
     /// assert_eq!(rt; RegisterWidth::Bits16.bytes(), 2);
     /// ```
+    #[must_use]
     pub fn bytes(self) -> u8
         ensures { result ≡ bytes_of self }
     {

@@ -15,6 +15,7 @@ mod dump;
 mod errors;
 pub mod laws;
 mod layout;
+pub mod original;
 mod received;
 pub mod registers;
 mod setup;

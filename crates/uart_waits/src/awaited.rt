@@ -1,6 +1,9 @@
 //! What somebody waits for.
 ghost use Rattle.std.specs.Prelude.{◌≡◌};
-ghost use Rattle.uart_waits.specs.Awaited.{ends_wait, has};
+ghost use Rattle.uart_waits.specs.Awaited.{IsSeenOf, ends_wait, has};
+
+use uart_16550::backend::Backend;
+use uart_ring::Uart16550Ring;
 
 /// What somebody waits for.
 #[derive(Clone, Copy, Debug, PartialEq, Eq, Drop)]
@@ -20,20 +23,32 @@ pub struct Seen {
     pub received: usize,
     /// How many bytes wait to be sent.
     pub queued: usize,
-    /// How many can wait at most.
-    pub capacity: usize,
+    /// For how many more there is room.
+    pub room: usize,
     /// Whether the chip is stuck, and so nothing comes.
     pub is_stuck: bool,
 }
 
 impl Seen {
+    /// Returns what is to be seen of these rings. Makes no access.
+    pub fn of<B: Backend>(ring: &Uart16550Ring<B>) -> Self
+        ensures { IsSeenOf ring.now result }
+    {
+        Seen {
+            received: ring.receive_len(),
+            queued: ring.transmit_len(),
+            room: ring.transmit_room(),
+            is_stuck: ring.stuck().is_some(),
+        }
+    }
+
     /// Returns whether this is there.
     pub fn has(&self, awaited: Awaited) -> bool
         ensures { result ≡ has self.now awaited }
     {
         match awaited {
             Awaited::ReceivedByte => self.received > 0,
-            Awaited::TransmitRoom => self.queued < self.capacity,
+            Awaited::TransmitRoom => self.room > 0,
             Awaited::EmptyTransmitRing => self.queued == 0,
         }
     }

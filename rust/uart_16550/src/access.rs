@@ -54,9 +54,34 @@ pub struct VolatileMemory {
     stride: NonZeroU8,
 }
 
-// SAFETY: the pointer belongs to no thread, and the caller of the constructor promised that the
-// registers may be accessed on each thread to which the object is sent.
-unsafe impl Send for VolatileMemory {}
+// What a type with the base and the stride of registers of one byte is: it can be sent, and reads and writes them. In the interface of the
+// original an access is `unsafe`.
+macro_rules! bytes_in_memory {
+    ($Memory:ident: $Backend:path; $($unsafe:ident)?) => {
+        // SAFETY: the pointer belongs to no thread, and the caller of the constructor promised that the
+        // registers may be accessed on each thread to which the object is sent.
+        unsafe impl Send for $Memory {}
+
+        impl $Backend for $Memory {
+            #[inline]
+            $($unsafe)? fn read(&mut self, register_offset: u8) -> u8 {
+                let address = address_of(self.base, self.stride.get(), register_offset);
+                // SAFETY: the constructor has tested base and stride, and its caller promised that these
+                // eight bytes are valid.
+                unsafe { load(address) }
+            }
+
+            #[inline]
+            $($unsafe)? fn write(&mut self, register_offset: u8, value: u8) {
+                let address = address_of(self.base, self.stride.get(), register_offset);
+                // SAFETY: as for `read`.
+                unsafe { store(address, value) }
+            }
+        }
+    };
+}
+
+bytes_in_memory! { VolatileMemory: Backend; }
 
 impl VolatileMemory {
     /// Returns the access to eight registers that are `stride` bytes apart, from `base` on. Makes
@@ -174,23 +199,6 @@ impl VolatileMemory {
     #[must_use]
     pub const fn stride(&self) -> NonZeroU8 {
         self.stride
-    }
-}
-
-impl Backend for VolatileMemory {
-    #[inline]
-    fn read(&mut self, register_offset: u8) -> u8 {
-        let address = address_of(self.base, self.stride.get(), register_offset);
-        // SAFETY: the constructor has tested base and stride, and its caller promised that these
-        // eight bytes are valid.
-        unsafe { load(address) }
-    }
-
-    #[inline]
-    fn write(&mut self, register_offset: u8, value: u8) {
-        let address = address_of(self.base, self.stride.get(), register_offset);
-        // SAFETY: as for `read`.
-        unsafe { store(address, value) }
     }
 }
 
@@ -839,9 +847,7 @@ pub(crate) mod original {
         stride: NonZeroU8,
     }
 
-    // SAFETY: the pointer belongs to no thread, and the caller of the constructor promised that the
-    // registers may be accessed on each thread to which the object is sent.
-    unsafe impl Send for MmioBackend {}
+    bytes_in_memory! { MmioBackend: Backend; unsafe }
 
     impl MmioBackend {
         /// Returns the address of the first register.
@@ -854,23 +860,6 @@ pub(crate) mod original {
         #[must_use]
         pub const fn stride(&self) -> NonZeroU8 {
             self.stride
-        }
-    }
-
-    impl Backend for MmioBackend {
-        #[inline]
-        unsafe fn read(&mut self, register_offset: u8) -> u8 {
-            let address = address_of(self.base, self.stride.get(), register_offset);
-            // SAFETY: the constructor has tested base and stride, and its caller promised that
-            // these eight bytes are valid.
-            unsafe { load(address) }
-        }
-
-        #[inline]
-        unsafe fn write(&mut self, register_offset: u8, value: u8) {
-            let address = address_of(self.base, self.stride.get(), register_offset);
-            // SAFETY: as for `read`.
-            unsafe { store(address, value) }
         }
     }
 
@@ -1103,8 +1092,21 @@ pub(crate) mod original {
         }
     }
 
+    // A constructor of a terminal: that of the driver with the same name, whose device is then initialised and tested.
+    macro_rules! terminal {
+        ($Backend:ident: $(#[$says:meta])* $new:ident($($arg:ident: $Arg:ty),+)) => {
+            impl Uart16550Tty<$Backend> {
+                $(#[$says])*
+                pub unsafe fn $new($($arg: $Arg,)+ config: Config) -> Result<Self, Uart16550TtyError> {
+                    // SAFETY: by the promise of the caller.
+                    Self::start(unsafe { Uart16550::$new($($arg),+) }, config)
+                }
+            }
+        };
+    }
+
     #[cfg(any(target_arch = "x86", target_arch = "x86_64"))]
-    impl Uart16550Tty<PioBackend> {
+    terminal! { PioBackend:
         /// Returns a terminal for the device at eight consecutive I/O ports, from `base_port` on.
         /// Initialises the device and tests it.
         ///
@@ -1116,13 +1118,10 @@ pub(crate) mod original {
         /// # Safety
         ///
         /// That of [`Uart16550::new_port`].
-        pub unsafe fn new_port(base_port: u16, config: Config) -> Result<Self, Uart16550TtyError> {
-            // SAFETY: by the promise of the caller.
-            Self::start(unsafe { Uart16550::new_port(base_port) }, config)
-        }
+        new_port(base_port: u16)
     }
 
-    impl Uart16550Tty<MmioBackend> {
+    terminal! { MmioBackend:
         /// Returns a terminal for the device in memory, from `base_address` on, with registers that
         /// are `stride` bytes apart. Initialises the device and tests it.
         ///
@@ -1134,15 +1133,10 @@ pub(crate) mod original {
         /// # Safety
         ///
         /// That of [`Uart16550::new_mmio`].
-        pub unsafe fn new_mmio(
-            base_address: NonNull<u8>,
-            stride: u8,
-            config: Config,
-        ) -> Result<Self, Uart16550TtyError> {
-            // SAFETY: by the promise of the caller.
-            Self::start(unsafe { Uart16550::new_mmio(base_address, stride) }, config)
-        }
+        new_mmio(base_address: NonNull<u8>, stride: u8)
+    }
 
+    terminal! { MmioBackend:
         /// Does the same as [`new_mmio`](Self::new_mmio) for an address that is a number.
         ///
         /// # Errors
@@ -1152,15 +1146,7 @@ pub(crate) mod original {
         /// # Safety
         ///
         /// That of [`Uart16550::new_mmio_from_address`].
-        pub unsafe fn new_mmio_from_address(
-            base_address: NonZeroUsize,
-            stride: u8,
-            config: Config,
-        ) -> Result<Self, Uart16550TtyError> {
-            // SAFETY: by the promise of the caller.
-            let driver = unsafe { Uart16550::new_mmio_from_address(base_address, stride) };
-            Self::start(driver, config)
-        }
+        new_mmio_from_address(base_address: NonZeroUsize, stride: u8)
     }
 
     impl<B: Backend> Uart16550Tty<B> {

@@ -149,25 +149,8 @@ impl<S: CriticalSection, B: Backend> fmt::Debug for Shared<S, B> {
 
 /// What is behind the lock.
 struct Port<B> {
-    rings: Option<Rings<B>>,
+    ring: Option<Uart16550Ring<B>>,
     waits: Waits<Waker>,
-}
-
-struct Rings<B> {
-    ring: Uart16550Ring<B>,
-    transmit_capacity: usize,
-}
-
-impl<B: Backend> Rings<B> {
-    // What those who wait for something look at.
-    fn seen(&self) -> Seen {
-        Seen {
-            received: self.ring.receive_len(),
-            queued: self.ring.transmit_len(),
-            capacity: self.transmit_capacity,
-            is_stuck: self.ring.stuck().is_some(),
-        }
-    }
 }
 
 impl<S, B> Shared<S, B> {
@@ -177,7 +160,7 @@ impl<S, B> Shared<S, B> {
         Self {
             section,
             port: Exclusive::new(Port {
-                rings: None,
+                ring: None,
                 waits: Waits::new(),
             }),
         }
@@ -218,20 +201,17 @@ impl<S: CriticalSection, B: Backend> Shared<S, B> {
     ) -> Result<(), (Uart16550<B>, StartError)> {
         let ring = Uart16550Ring::new(global, uart, tx_capacity, rx_capacity)
             .map_err(|(uart, cause)| (uart, StartError::NoRings(cause)))?;
-        let mut made = Some(Rings {
-            ring,
-            transmit_capacity: tx_capacity,
-        });
+        let mut made = Some(ring);
         let entered = self.in_section(|port| {
-            if port.rings.is_none() {
-                port.rings = made.take();
+            if port.ring.is_none() {
+                port.ring = made.take();
             }
             Ok(())
         });
         match (made, entered) {
             (None, _) => Ok(()),
-            (Some(made), Ok(())) => Err((made.ring.into_inner(), StartError::Started)),
-            (Some(made), Err(_)) => Err((made.ring.into_inner(), StartError::InUse)),
+            (Some(ring), Ok(())) => Err((ring.into_inner(), StartError::Started)),
+            (Some(ring), Err(_)) => Err((ring.into_inner(), StartError::InUse)),
         }
     }
 
@@ -258,8 +238,7 @@ impl<S: CriticalSection, B: Backend> Shared<S, B> {
     /// # Ok(()) }
     /// ```
     pub fn stop(&self) -> Result<Uart16550Ring<B>, SharedError> {
-        let rings = self.in_section(|port| port.rings.take().ok_or(SharedError::NoRings))?;
-        Ok(rings.ring)
+        self.in_section(|port| port.ring.take().ok_or(SharedError::NoRings))
     }
 
     /// Calls the function with the rings, in the kernel's section. Then wakes the task that waits for what is now there.
@@ -287,19 +266,13 @@ impl<S: CriticalSection, B: Backend> Shared<S, B> {
     /// # Ok(()) }
     /// ```
     pub fn with<R>(&self, call: impl FnOnce(&mut Uart16550Ring<B>) -> R) -> Result<R, SharedError> {
-        self.in_section(|port| {
-            let rings = port.rings.as_mut().ok_or(SharedError::NoRings)?;
-            Ok(call(&mut rings.ring))
-        })
+        self.in_section(|port| port.ring.as_mut().map(call).ok_or(SharedError::NoRings))
     }
 
     // Whether a call would not wait for this. It would not if it is refused, either.
     fn ends_wait(&self, awaited: Awaited) -> bool {
-        let looked = self.in_section(|port| {
-            let rings = port.rings.as_ref();
-            Ok(rings.is_none_or(|rings| rings.seen().ends_wait(awaited)))
-        });
-        looked.unwrap_or(true)
+        self.with(|ring| Seen::of(ring).ends_wait(awaited))
+            .unwrap_or(true)
     }
 
     // Looks for what is awaited. It is an error if that is not there and does not come.
@@ -329,7 +302,7 @@ impl<S: CriticalSection, B: Backend> Shared<S, B> {
         let entered = self.section.run(|| {
             self.port.try_with(|port| {
                 let result = call(port);
-                let seen = port.rings.as_ref().map(Rings::seen);
+                let seen = port.ring.as_ref().map(Seen::of);
                 (result, port.waits.take_due(seen))
             })
         });

@@ -201,7 +201,8 @@ class Rules:
         if re.search(r" Model for |::laws$", name) or re.fullmatch(r"fn \w+ \( \)", text):
             return None
         file = f"{self.crate}/src/{'/'.join(name.split('::')[1:2])}.rt"
-        if "std :: error :: Error for" in name and file in self.table.ERRORS:
+        of_error = re.search(r"std :: error :: Error for (\w+)", name)
+        if of_error and of_error[1] in self.table.ERRORS.get(file, []):
             return None
         path = re.sub(r" <.*?(?=::|$)", "", name.replace("crate", self.crate, 1))
         text = re.sub(r"derive\((.*?)\)", lambda found: f"derive({', '.join(one for one in found[1].split(', ') if one != 'Drop')})", text)

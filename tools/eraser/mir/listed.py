@@ -4,7 +4,7 @@ An entry that is not needed is a failure, so that none outlives its reason.
 """
 
 # The packages: the crates of each, which have the MIR, the features that are compiled, and which of the crates are compared there.
-OF_DRIVER = ["uart_spec", "uart_16550", "uart_ring"]
+OF_DRIVER = ["uart_spec", "uart_16550", "uart_design_ware", "uart_ring", "uart_waits"]
 OF_CHIP = ["uart_spec", "uart_events", "uart_chip", "uart_live", "uart_virtual"]
 PACKAGES = {
     "uart_16550": (OF_DRIVER, ["alloc"], OF_DRIVER),
@@ -42,6 +42,8 @@ DIFFER = {
     r"::state::DriverStateDebug::fmt": SHOWS_REGISTER,
     r"^uart_ring::ring::storm::StuckError(Debug|Display)::fmt": SHOWS_REGISTER,
     r"^uart_ring::ring::line::LoweredDebug::fmt": SHOWS_REGISTER,
+    r"^uart_design_ware::kept::KeptCharacters?Debug::fmt": SHOWS_REGISTER,
+    r"^uart_waits::errors::(SharedError|Unfinished)(Debug|Display)::fmt": SHOWS_REGISTER,
     r"::config::ConfigDebug::fmt": SHOWS_REGISTER,
     r"::dump::ConfigRegisterDumpDebug::fmt": SHOWS_REGISTER,
 }
@@ -52,7 +54,7 @@ SKIPPED = {
     r"^uart_chip::chip::Uart::(fifo|tick|arrive|expire_timeout|perform): generic": SCHEDULED,
     r"^uart_chip::receiver::Receiver::(arrive|waiting_at|arrivals): generic": SCHEDULED,
     r"^uart_chip::transmitter::Transmitter::held_at: generic": SCHEDULED,
-    r"^uart_16550::.*Debug::fmt .*: printed and generic": "prints a backend, which the MIR's formatter does not know",
+    r"^uart_(16550|design_ware|ring)::.*Debug::fmt .*: printed and generic": "prints a backend, which the MIR's formatter does not know",
     r"^uart_ring::line::handle_line: generic": "over ports that its caller has: rust/uart_16550/tests/shared_line.rs calls it",
 }
 
@@ -63,7 +65,7 @@ NOT_IN_MIR = {}
 NOT_EMITTED = {
     r"::fn::": "a closure: of the function that has it",
     r"Hash::hash$": "derived in both: the MIR has no hasher of Rust's std",
-    r"^uart_16550::.*Debug::fmt$": "derived, and prints a backend",
+    r"^uart_(16550|design_ware|ring)::.*Debug::fmt$": "prints a backend",
     r"^uart_chip::fifo::Fifo::is_empty\+decl$": "the declaration of a method that has a body",
 }
 
@@ -99,6 +101,8 @@ CONTRACTS = {
     "uart_spec::config::Config::nearest": NOT_COMPUTABLE.format("a0"),
     "uart_spec::dump::ConfigRegisterDump::baud_rate": "(a0.dll != 0 || a0.dlm != 0) && "
     f"(a1.frequency == 0 || {PRESCALER.format('a1.prescaler_division_factor')})",
+    "uart_spec::original::ConfigRegisterDump::baud_rate": "crate::proved::uart_spec::checked_baud_rate(a1.frequency, "
+    "u32::from(a0.divisor()), a1.prescaler_division_factor).is_err()",
     "uart_spec::registers::prescaler_division::PSD::set_pdf": "a1 > 15",
     "uart_16550::driver::init::Uart16550::init": NOT_COMPUTABLE.format("a1"),
     "uart_16550::driver::frame::Uart16550::set_frame": NOT_COMPUTABLE.format("a1"),
@@ -111,6 +115,12 @@ CONTRACTS = {
     "uart_16550::tty::Uart16550Tty::new_mmio_from_address": f"{NOT_COMPUTABLE.format('a3')} && Uart16550::new_mmio(a0, a1, a2).is_ok()",
     **{f"uart_16550::{path}": "a1 >= 8" for path in ("pio::PioBackend::port", "pio::PioBackend::read", "pio::PioBackend::write")},
     **{f"uart_16550::{path}": "a1 >= 8" for path in ("mmio::MmioBackend::address", "mmio::MmioBackend::read", "mmio::MmioBackend::write")},
+    "uart_design_ware::kept::KeptCharacters::keep": "a0.is_full()",
+    **{f"uart_design_ware::state::DesignWare::{name}": "a1 >= 8" for name in ("load", "store")},
+    **{
+        f"uart_design_ware::serving::DesignWare::{name}": "a1 >= 8"
+        for name in ("read", "read_meant", "read_plain", "write", "write_meant", "write_plain")
+    },
     "uart_ring::queue::ByteQueue::byte_at": "a1 >= a0.len()",
     "uart_live::live::LiveChip::read": "a1 >= 8",
     "uart_live::live::LiveChip::write": "a1 >= 8",
@@ -140,7 +150,9 @@ MOST = {
 # the MIR, where a name in braces is that of the translated function.
 SEQUENCES = {
     "uart_16550::driver::Uart16550::new_with_backend": [],
+    "uart_design_ware::state::DesignWare::new": [],
     "uart_ring::ring::Uart16550Ring::new": [],
+    "uart_waits::waits::Waits::new": [],
     "uart_live::live::LiveChip::new": [
         (
             "if let Ok(made) = LiveChip::from_data(&state.data(), state.wire()) { state = made; }",

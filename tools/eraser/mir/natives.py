@@ -62,6 +62,11 @@ def grow(translation, types):
     return ["P", "P", "u64", "u64", "u64"], result, body
 
 
+def read_usr(translation, types):
+    """A read of the register of a DesignWare's that is beyond the eight."""
+    return ["P"], "u8", "crate::run::read(crate::run::USR, crate::run::REGISTERS)"
+
+
 def clone(translation, types):
     device = translation.rust(DEVICE)
     result, done = ok(translation, DEVICE, NO_MEMORY, f"{device} {{ }}")
@@ -82,6 +87,7 @@ def partial_cmp(translation, types):
 # The traits that a device has, as a parameter of the driver: the trait, and the name of its implementation here.
 TRAITS = {
     "uart_spec::backend::Backend": access(8, "REGISTERS"),
+    "uart_design_ware::registers::DesignWareRegisters": [read_usr],
     "uart_16550::backend::PortAccess": access(16, "PORTS"),
     "uart_16550::backend::ByteAccess": access(64, "MEMORY"),
     "uart_16550::patience::Patience": [keep_waiting],

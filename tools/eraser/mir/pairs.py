@@ -10,6 +10,9 @@ from translate import Unknown
 from values import without_lifetimes
 
 DEVICE = "crate::run::Device"
+# A parameter of which nothing is asked, as what wakes a task, is a byte on both sides.
+UNASKED = re.compile(r"[<,]\s*([A-Z])\s*(?=[,>])")
+OF_UNASKED = ("Int", 8)
 # The methods of derived traits, and how many values of the type they take.
 DERIVED = {"PartialEq": ("eq", 2), "Ord": ("cmp", 2), "PartialOrd": ("partial_cmp", 2), "Default": ("default", 0), "Clone": ("clone", 1)}
 PRINTED = {"Debug": ["{:?}", "{:#?}"], "Display": ["{}"]}
@@ -57,14 +60,17 @@ class Names:
         if not function.owner:
             name = "::".join(one for one in (function.module, function.trait, function.name) if one)
             return next((one for one in (name, f"{name}+decl") if one in self.functions), None)
-        owner = re.match(r"[\w:]+", re.sub(r"^&(mut )?", "", function.owner))[0].split("::")[-1]
+        whole = re.match(r"[\w:]+", re.sub(r"^&(mut )?", "", function.owner))[0]
+        owner = whole.split("::")[-1]
         crate = function.module.split("::")[0] + "::"
         found = [one for one in self.by_end.get(function.name, []) if one.startswith(crate)]
         if function.trait:
             path = re.match(r"(?:::)?[\w:]+", function.trait)[0].split("::")[-1]
-            arguments = re.findall(r"\w+", function.trait[function.trait.find("<") :]) if "<" in function.trait else []
-            # A parameter of a parameter may be left out.
-            ends = {f"{owner}{path}", f"{owner}{path}{''.join(arguments)}", f"{owner}{path}{''.join(arguments[:1])}"}
+            given = function.trait[function.trait.find("<") :] if "<" in function.trait else ""
+            # A parameter of a parameter may be left out. Of a path each part begins with a large letter.
+            listings = re.findall(r"\w+", given), [in_one_word(one) for one in re.findall(r"[\w:]+", given)]
+            arguments = {"", *("".join(one[:most]) for one in listings for most in (1, len(one)))}
+            ends = {f"{name}{path}{one}" for name in (owner, in_one_word(whole)) for one in arguments}
             return next((one for one in found if one.split("::")[-2] in ends), None)
         found = [one for one in found if one.split("::")[-2] == owner or one.split("::")[-2].startswith(f"{owner}+")]
         inner = re.search(r"<(.*)>", function.owner)
@@ -75,6 +81,11 @@ class Names:
         if len(found) > 1:
             found = [one for one in found if one.startswith(function.module + "::")] or found
         return found[0] if len(found) == 1 else None
+
+
+def in_one_word(path):
+    """A path as the name of an implementation in the MIR has it."""
+    return "".join(part[:1].upper() + part[1:] for part in path.split("::"))
 
 
 def title(function):
@@ -107,11 +118,13 @@ class Pairs:
         self.texts.setdefault(file, []).append(text)
 
     def over_device(self, function, text):
-        """A type of a signature, with the device for each parameter that is a way to reach one."""
+        """A type of a signature, with the device for each parameter that is a way to reach one, and a byte for one of which nothing is asked."""
         text = without_lifetimes(text)
         of_device = "|".join(trait.split("::")[-1] for trait in natives.TRAITS if trait.startswith("uart_"))
         for name in re.findall(rf"(\w+)\s*:\s*[\w:]*(?:{of_device})\b", function.generics):
             text = re.sub(rf"\b{name}\b", DEVICE, text)
+        for name in UNASKED.findall(function.generics):
+            text = re.sub(rf"\b{name}\b", f"u{OF_UNASKED[1]}", text)
         return text
 
     def argument(self, order, text, of, least):
@@ -158,7 +171,8 @@ class Pairs:
     def instance(self, name):
         """The translated function over a device, the types of its parameters, and that of its result."""
         function = self.translation.program.functions[name]
-        types = tuple(natives.DEVICE for _ in function["generics"]["types"])
+        asked = {one["Param"] for bound in function["generics"]["bounds"] for one in bound["types"] if "Param" in one}
+        types = tuple(natives.DEVICE if order in asked else OF_UNASKED for order in range(len(function["generics"]["types"])))
         dictionaries = []
         for bound in function["generics"]["bounds"]:
             found = natives.dictionary(bound["of"], tuple(self.translation.type(one, types) for one in bound["types"]))

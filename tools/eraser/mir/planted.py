@@ -189,6 +189,21 @@ PLANTED = {
             "",
             [r"Uart16550Ring::take_line: \d+ of \d+ cases differ", r"sequences of uart_ring::ring::Uart16550Ring: \d+ of"],
         ),
+        # of a backend, one look more at an interrupt without an end; of who waits, a task that rings which are gone forget
+        Plant(
+            "a round more",
+            "uart_design_ware/serving.rs",
+            "const ROUNDS: usize = 4;",
+            "const ROUNDS: usize = 5;",
+            [r"DesignWare::read_isr: \d+ of \d+ cases differ"],
+        ),
+        Plant(
+            "a task that is forgotten",
+            "uart_waits/waits.rs",
+            "        None => true,",
+            "        None => false,",
+            [r"waits::is_due: \d+ of \d+ cases differ", r"sequences of uart_waits::waits::Waits: \d+ of"],
+        ),
     ],
     "uart_16550_chip": [
         Plant(

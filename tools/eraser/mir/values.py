@@ -8,7 +8,7 @@ MAKE = f"fn make(choices: &mut {CHOICES}) -> Self"
 ONE = f"{VALUE}::make(choices)"
 
 # Types whose values are made by hand, in run/behind and below: not each combination of their fields is a value.
-BY_HAND = {"ArrayVec", "ByteQueue", "Characters", "FixedFifo", "FixedWire"}
+BY_HAND = {"ArrayVec", "ByteQueue", "Characters", "FixedFifo", "FixedWire", "KeptCharacters"}
 
 
 def of_emitted(one):

@@ -1,6 +1,7 @@
 //! The driver: its fields, its constructor, and one function for each kind of register access.
 
 mod burst;
+mod checked;
 mod configured;
 mod frame;
 mod init;

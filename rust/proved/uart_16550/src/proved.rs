@@ -580,6 +580,27 @@ pub mod status {}
 #[doc(alias("ChecksPresence", "Inits"))]
 pub mod init {}
 
+/// Calls that take each configuration, and do nothing for one that is not computable.
+///
+/// From `crates/uart_16550/specs/Checked.antt`.
+///
+/// <span id="IfComputable"></span>
+///
+/// # `IfComputable`
+///
+/// A call does this for a configuration that is computable. For another one it does nothing, and its result tells why there is no divisor.
+///
+/// ```text
+/// abbrev pub IfComputable : {R : Type 0} → Config → (InvalidDivisorError → R) → R → Doing → Doing
+/// IfComputable config refused result G f l after =
+///     (IsComputable config × G f l after)
+///     ⊎ ((cause : InvalidDivisorError) × IsRefusalOf config cause × (result ≡ refused cause) × (l ≡ []) × (after ≡ f))
+/// ```
+///
+/// It uses [`IsComputable`](uart_spec::proved::config#IsComputable); `Doing` of `crates/uart_16550/specs/Driver.antt`; `IsRefusalOf` of this file.
+#[doc(alias("IfComputable"))]
+pub mod checked {}
+
 /// The lists of the calls that change the frame, or the outputs to the modem, and nothing else.
 ///
 /// From `crates/uart_16550/specs/Frame.antt`.

@@ -134,6 +134,7 @@ impl<R: DesignWareRegisters> DesignWare<R> {
     /// ```
     ///
     /// </details>
+    #[must_use]
     pub const fn fault(&self) -> Option<DesignWareFault> {
         self.fault
     }

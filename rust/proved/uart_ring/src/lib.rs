@@ -16,6 +16,7 @@ mod line;
 mod notes;
 mod queue;
 mod ring;
+mod shown;
 
 pub use line::{LinePort, LinePorts, handle_line, handle_ports};
 pub use notes::{ErrorNotes, UnnotedError};
@@ -23,7 +24,5 @@ pub use ring::{
     HandleEnd, Handled, Lowered, MAX_CAPACITY, MAX_INTERRUPTS, ReceiveMarks, RingError, StuckError,
     Uart16550Ring,
 };
-
-mod by_hand;
 
 pub mod proved;

@@ -58,6 +58,7 @@ fn known(prescaler_division_factor: Option<u32>) -> Result<Option<u32>, UnknownF
 /// ```
 ///
 /// </details>
+#[must_use]
 pub fn checked_frequency(
     baud_rate: u32,
     divisor: u32,
@@ -308,6 +309,7 @@ impl PSD {
     /// ```
     ///
     /// </details>
+    #[must_use]
     pub const fn checked_set_pdf(self, pdf: u8) -> Option<Self> {
         if pdf > 15 {
             return None;

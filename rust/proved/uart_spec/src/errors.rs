@@ -33,6 +33,9 @@ impl std::fmt::Display for NonIntegerBaudRateError {
     }
 }
 
+#[automatically_derived]
+impl std::error::Error for NonIntegerBaudRateError {}
+
 /// A clock frequency and a baud rate for which there is no whole divisor.
 #[derive(Clone, Debug, Default, PartialEq, Eq, PartialOrd, Hash)]
 pub struct NonIntegerDivisorError {
@@ -63,6 +66,9 @@ impl std::fmt::Display for NonIntegerDivisorError {
     }
 }
 
+#[automatically_derived]
+impl std::error::Error for NonIntegerDivisorError {}
+
 /// Why a port cannot be taken as it is.
 #[cfg_attr(not(feature = "exhaustive"), non_exhaustive)]
 #[derive(Clone, Copy, Debug, PartialEq, Eq, PartialOrd, Hash)]
@@ -88,6 +94,9 @@ impl std::fmt::Display for AttachError {
     }
 }
 
+#[automatically_derived]
+impl std::error::Error for AttachError {}
+
 /// The FIFOs are off, so they have no trigger level.
 #[derive(Clone, Copy, Debug, PartialEq, Eq, PartialOrd, Hash)]
 pub struct FifosOffError;
@@ -100,6 +109,9 @@ impl std::fmt::Display for FifosOffError {
         }
     }
 }
+
+#[automatically_derived]
+impl std::error::Error for FifosOffError {}
 
 /// Why a change of the frame that waits for an empty transmitter failed.
 #[cfg_attr(not(feature = "exhaustive"), non_exhaustive)]
@@ -203,6 +215,9 @@ impl std::fmt::Display for ConfigurationError {
     }
 }
 
+#[automatically_derived]
+impl std::error::Error for ConfigurationError {}
+
 /// Why the nearest divisor for a baud rate cannot be used. `OutOfRange` comes first.
 #[cfg_attr(not(feature = "exhaustive"), non_exhaustive)]
 #[derive(Clone, Debug, PartialEq, Eq, PartialOrd, Hash)]
@@ -236,6 +251,9 @@ impl std::fmt::Display for NearestDivisorError {
     }
 }
 
+#[automatically_derived]
+impl std::error::Error for NearestDivisorError {}
+
 /// Why there is no divisor for a baud rate.
 #[cfg_attr(not(feature = "exhaustive"), non_exhaustive)]
 #[derive(Clone, Debug, PartialEq, Eq, PartialOrd, Hash)]
@@ -260,6 +278,9 @@ impl std::fmt::Display for InvalidDivisorError {
         }
     }
 }
+
+#[automatically_derived]
+impl std::error::Error for InvalidDivisorError {}
 
 /// Why a device cannot be at an address. The stride is checked first.
 #[derive(Clone, Debug, PartialEq, Eq, Hash)]
@@ -289,6 +310,9 @@ impl std::fmt::Display for InvalidAddressError {
         }
     }
 }
+
+#[automatically_derived]
+impl std::error::Error for InvalidAddressError {}
 
 /// Why an initialisation failed.
 #[cfg_attr(not(feature = "exhaustive"), non_exhaustive)]
@@ -332,6 +356,9 @@ impl std::fmt::Display for ByteReceiveError {
     }
 }
 
+#[automatically_derived]
+impl std::error::Error for ByteReceiveError {}
+
 /// Why no byte can be sent at the moment.
 #[derive(Clone, Debug, PartialEq, Eq, Hash)]
 pub enum ByteSendError {
@@ -361,6 +388,9 @@ impl std::fmt::Display for ByteSendError {
         }
     }
 }
+
+#[automatically_derived]
+impl std::error::Error for ByteSendError {}
 
 /// Why the remote seems not to be connected, or not to be ready.
 ///
@@ -401,9 +431,12 @@ impl std::fmt::Display for RemoteReadyToReceiveError {
     }
 }
 
+#[automatically_derived]
+impl std::error::Error for RemoteReadyToReceiveError {}
+
 // How each message of a [`LoopbackError`] begins. It is a constant because `rt` takes an attribute
 // with the word `test` for that of a test.
-const LOOPBACK: &str = "loopback test failed";
+pub(crate) const LOOPBACK: &str = "loopback test failed";
 
 /// Why a loopback test failed.
 #[cfg_attr(not(feature = "exhaustive"), non_exhaustive)]
@@ -490,6 +523,9 @@ impl std::fmt::Display for StalledError {
     }
 }
 
+#[automatically_derived]
+impl std::error::Error for StalledError {}
+
 /// Why a terminal could not be set up.
 #[cfg_attr(not(feature = "exhaustive"), non_exhaustive)]
 #[derive(Clone, Debug, PartialEq, Eq, Hash)]
@@ -519,7 +555,7 @@ impl std::fmt::Display for Uart16550TtyError {
 }
 
 // A test message as text, if each byte is printable ASCII.
-struct Message<'a>(&'a [u8; 16]);
+pub(crate) struct Message<'a>(pub(crate) &'a [u8; 16]);
 
 impl fmt::Display for Message<'_> {
     fn fmt(&self, f: &mut fmt::Formatter<'_>) -> fmt::Result {

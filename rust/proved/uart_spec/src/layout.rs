@@ -40,6 +40,7 @@ impl RegisterWidth {
     /// ```
     ///
     /// </details>
+    #[must_use]
     pub const fn bytes(self) -> u8 {
         match self {
             RegisterWidth::Bits8 => 1,

@@ -1,5 +1,8 @@
 //! What somebody waits for.
 
+use uart_16550::backend::Backend;
+use uart_ring::Uart16550Ring;
+
 /// What somebody waits for.
 #[derive(Clone, Copy, Debug, PartialEq, Eq)]
 pub enum Awaited {
@@ -18,13 +21,37 @@ pub struct Seen {
     pub received: usize,
     /// How many bytes wait to be sent.
     pub queued: usize,
-    /// How many can wait at most.
-    pub capacity: usize,
+    /// For how many more there is room.
+    pub room: usize,
     /// Whether the chip is stuck, and so nothing comes.
     pub is_stuck: bool,
 }
 
 impl Seen {
+    /// Returns what is to be seen of these rings. Makes no access.
+    ///
+    /// # Proved
+    ///
+    /// - [`IsSeenOf`](crate::proved::awaited#IsSeenOf) `ring.now result`: what is to be seen of these rings: how many bytes can be taken, how many wait to be sent, for how many more there is room, and whether the chip is stuck.
+    ///
+    /// <details><summary>The clauses</summary>
+    ///
+    /// [How to read them](uart_spec::proved):
+    ///
+    /// ```text
+    /// ensures { IsSeenOf ring.now result }
+    /// ```
+    ///
+    /// </details>
+    pub fn of<B: Backend>(ring: &Uart16550Ring<B>) -> Self {
+        Seen {
+            received: ring.receive_len(),
+            queued: ring.transmit_len(),
+            room: ring.transmit_room(),
+            is_stuck: ring.stuck().is_some(),
+        }
+    }
+
     /// Returns whether this is there.
     ///
     /// # Proved
@@ -43,7 +70,7 @@ impl Seen {
     pub fn has(&self, awaited: Awaited) -> bool {
         match awaited {
             Awaited::ReceivedByte => self.received > 0,
-            Awaited::TransmitRoom => self.queued < self.capacity,
+            Awaited::TransmitRoom => self.room > 0,
             Awaited::EmptyTransmitRing => self.queued == 0,
         }
     }

@@ -6,6 +6,22 @@
 ///
 /// From `crates/uart_waits/specs/Awaited.antt`.
 ///
+/// <span id="IsSeenOf"></span>
+///
+/// # `IsSeenOf`
+///
+/// What is to be seen of these rings: how many bytes can be taken, how many wait to be sent, for how many more there is room, and whether the chip is stuck.
+///
+/// ```text
+/// pub record IsSeenOf {B : Type 0} (ring : Uart16550Ring B) (seen : Seen) : Type 0 where
+///   pub received : seen.received ≡ length (ring_fields ring).receive.items
+///   pub queued : seen.queued ≡ length (ring_fields ring).transmit.items
+///   pub room : seen.room ≡ free (ring_fields ring).transmit
+///   pub stuck : seen.is_stuck ≡ is_some (ring_fields ring).stuck
+/// ```
+///
+/// It uses [`ring_fields`](uart_ring::proved::ring#ring_fields), [`free`](uart_ring::proved::ring#free).
+///
 /// <span id="has"></span>
 ///
 /// # `has`
@@ -15,7 +31,7 @@
 /// ```text
 /// abbrev pub has : Seen → Awaited → Bool
 /// has seen ReceivedByte = nat_lt 0 seen.received
-/// has seen TransmitRoom = nat_lt seen.queued seen.capacity
+/// has seen TransmitRoom = nat_lt 0 seen.room
 /// has seen EmptyTransmitRing = seen.queued == 0
 /// ```
 ///
@@ -31,7 +47,7 @@
 /// ```
 ///
 /// It uses [`has`](crate::proved::awaited#has).
-#[doc(alias("has", "ends_wait"))]
+#[doc(alias("IsSeenOf", "has", "ends_wait"))]
 pub mod awaited {}
 
 /// Tasks in their places, and sections one after another.

@@ -6,7 +6,7 @@ use crate::native::backend::Backend;
 use crate::native::embedded_io::{ErrorType, Read, ReadReady, Write, WriteReady};
 use crate::ring::{ErrorNotes, Uart16550Ring};
 use core::fmt;
-use uart_waits::{Awaited, Unfinished};
+use uart_waits::{Awaited, Seen, Unfinished};
 
 /// How a thread of the kernel waits, and for how long.
 ///
@@ -321,9 +321,7 @@ impl<S: CriticalSection, B: Backend, W> ReadReady for Blocking<'_, S, B, W> {
 
 impl<S: CriticalSection, B: Backend, W> WriteReady for Blocking<'_, S, B, W> {
     fn write_ready(&mut self) -> Result<bool, SharedError> {
-        self.shared.in_section(|port| {
-            let rings = port.rings.as_ref().ok_or(SharedError::NoRings)?;
-            Ok(rings.seen().has(Awaited::TransmitRoom))
-        })
+        self.shared
+            .with(|ring| Seen::of(ring).has(Awaited::TransmitRoom))
     }
 }

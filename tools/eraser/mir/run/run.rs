@@ -420,6 +420,8 @@ impl Value for Device {
 pub const REGISTERS: u64 = 1;
 pub const PORTS: u64 = 2;
 pub const MEMORY: u64 = 3;
+/// The offset of the register that a DesignWare UART has beyond the eight.
+pub const USR: u64 = 31;
 const WRITES: u64 = 4;
 const PATIENCE: u64 = 8;
 const MOST_ACCESSES: usize = 4000;
@@ -448,7 +450,7 @@ struct NoAnswer;
 
 impl Case {
     // Two of five devices at random answer anything. The others answer with what was written, as in loopback; one of them sends nothing,
-    // and one has data without an end.
+    // and one has data without an end, and tells without an end that it was busy.
     fn answer(&mut self, offset: u64) -> u8 {
         // SAFETY: `once` puts the choices of the case here, which outlive it.
         let choices = unsafe { &mut *self.choices };
@@ -459,12 +461,17 @@ impl Case {
         if kind < 2 || choices.pick(40) == 0 {
             return choices.answer();
         }
+        // One look of four finds the UART busy.
+        if offset == USR {
+            return u8::from(choices.pick(4) == 0);
+        }
         match offset & 7 {
             0 => self.queue.pop_front().unwrap_or(0),
             5 if kind == 2 => 0,
             5 if kind == 4 => 0x61,
             5 if self.queue.is_empty() && choices.pick(4) > 0 => 0x60,
             5 => 0x61,
+            2 if kind == 4 => 0xc7,
             2 => 0xc1,
             6 => choices.one_of(&[0xb0, 0x90, 0x10, 0xbb]),
             other => self.kept[other as usize],

@@ -1,27 +1,17 @@
 //! What Rust's errors are beside their texts: [`core::error::Error`] with the cause, and `Copy`.
 
+use crate::original;
 use crate::{
-    AttachError, ByteReceiveError, ByteSendError, ConfigurationError, FifosOffError, FrameError, InitError,
-    InvalidAddressError, InvalidDivisorError, InvalidLayoutError, LoopbackError, NearestDivisorError, NonIntegerBaudRateError,
-    NonIntegerDivisorError, RemoteReadyToReceiveError, StalledError, Uart16550TtyError,
+    ByteReceiveError, ByteSendError, FrameError, InitError, InvalidAddressError, InvalidDivisorError, InvalidLayoutError,
+    LoopbackError, NearestDivisorError, NonIntegerBaudRateError, NonIntegerDivisorError, RemoteReadyToReceiveError, StalledError,
+    Uart16550TtyError,
 };
 use core::error::Error;
 
-// Errors without a cause of their own. The text of `InvalidDivisorError` is that of its cause, so the cause is not named again.
-macro_rules! without_cause {
-    ($($Error:ident)*) => { $(impl Error for $Error {})* };
-}
-
-without_cause! {
-    NonIntegerBaudRateError NonIntegerDivisorError InvalidAddressError ByteReceiveError ByteSendError
-    RemoteReadyToReceiveError StalledError AttachError FifosOffError ConfigurationError NearestDivisorError
-    InvalidDivisorError
-}
-
 // Errors whose text tells of the cause that one of their cases has. Where the text is that of the cause, as of `AddressError`, the cause is
-// not named again.
+// not named again. An error without a cause has the trait from where it is proved.
 macro_rules! with_cause {
-    ($($Error:ident { $($Told:ident),+; $($Other:ident),+ })+) => { $(
+    ($($Error:path { $($Told:ident),+; $($Other:ident),+ })+) => { $(
         impl Error for $Error {
             fn source(&self) -> Option<&(dyn Error + 'static)> {
                 match self {
@@ -38,16 +28,19 @@ with_cause! {
     FrameError { InvalidBaudRate; Stalled }
     LoopbackError { SendError; UnexpectedLoopbackByte, UnexpectedLoopbackMsg, Stalled }
     Uart16550TtyError { InitError, TestError; AddressError }
+    original::InitError { InvalidBaudRate; DeviceNotPresent }
+    original::LoopbackError { SendError; UnexpectedLoopbackByte, UnexpectedLoopbackMsg }
+    original::Uart16550TtyError { InitError, TestError; AddressError }
 }
 
 macro_rules! copied {
-    ($($Error:ident)*) => { $(impl Copy for $Error {})* };
+    ($($Error:path),*) => { $(impl Copy for $Error {})* };
 }
 
 copied! {
-    NonIntegerBaudRateError NonIntegerDivisorError InvalidDivisorError NearestDivisorError FrameError
-    InvalidAddressError ByteReceiveError ByteSendError RemoteReadyToReceiveError InitError LoopbackError
-    StalledError Uart16550TtyError InvalidLayoutError
+    NonIntegerBaudRateError, NonIntegerDivisorError, InvalidDivisorError, NearestDivisorError, FrameError, InvalidAddressError,
+    ByteReceiveError, ByteSendError, RemoteReadyToReceiveError, InitError, LoopbackError, StalledError, Uart16550TtyError,
+    InvalidLayoutError, original::InvalidDivisorError, original::InitError, original::LoopbackError, original::Uart16550TtyError
 }
 
 #[cfg(feature = "embedded-io")]

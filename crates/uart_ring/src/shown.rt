@@ -1,12 +1,14 @@
-//! What is by hand in this crate, since it is of the rings' own type: how they are shown.
+//! How rings are shown: how many bytes wait, and not the bytes, which may be a password.
 
-use crate::{ErrorNotes, LinePort, Uart16550Ring};
-use core::fmt;
+use crate::line::LinePort;
+use crate::notes::ErrorNotes;
+use crate::ring::Uart16550Ring;
+use std::fmt;
 use uart_16550::backend::Backend;
 
 /// Shows the driver and how many bytes wait, and not the bytes: they may be a password.
 impl<B: Backend + fmt::Debug> fmt::Debug for Uart16550Ring<B> {
-    fn fmt(&self, f: &mut fmt::Formatter<'_>) -> fmt::Result {
+    fn fmt<W: fmt::Write>(&self, f: &mut fmt::Formatter<W>) -> fmt::Result {
         f.debug_struct("Uart16550Ring")
             .field("uart", self.inner())
             .field("transmit_len", &self.transmit_len())
@@ -18,7 +20,7 @@ impl<B: Backend + fmt::Debug> fmt::Debug for Uart16550Ring<B> {
 
 /// Shows the rings, and what was last handled there.
 impl<B: Backend + fmt::Debug> fmt::Debug for LinePort<B> {
-    fn fmt(&self, f: &mut fmt::Formatter<'_>) -> fmt::Result {
+    fn fmt<W: fmt::Write>(&self, f: &mut fmt::Formatter<W>) -> fmt::Result {
         f.debug_struct("LinePort")
             .field("ring", &self.ring)
             .field("handled", &self.handled())
@@ -28,7 +30,7 @@ impl<B: Backend + fmt::Debug> fmt::Debug for LinePort<B> {
 
 /// Shows the backend, and not the errors: one byte of them for each received byte.
 impl<B: fmt::Debug> fmt::Debug for ErrorNotes<B> {
-    fn fmt(&self, f: &mut fmt::Formatter<'_>) -> fmt::Result {
+    fn fmt<W: fmt::Write>(&self, f: &mut fmt::Formatter<W>) -> fmt::Result {
         f.debug_struct("ErrorNotes")
             .field("backend", &self.backend)
             .finish_non_exhaustive()

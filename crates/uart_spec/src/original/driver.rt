@@ -1,0 +1,56 @@
+//! The errors of the original as those of the driver, which has each of their cases.
+ghost use Rattle.std.specs.Prelude.{◌≡◌};
+ghost use Rattle.uart_spec.specs.Original.{divisor_error, init_error, loopback_error, tty_error};
+
+use super::{InitError, InvalidDivisorError, LoopbackError, Uart16550TtyError};
+use crate::errors;
+
+impl From<InvalidDivisorError> for errors::InvalidDivisorError {
+    ghost from_gives = { λ own error. error ≡ divisor_error own };
+
+    fn from(error: InvalidDivisorError) -> Self {
+        match error {
+            InvalidDivisorError::NonInteger(cause) => Self::NonInteger(cause),
+            InvalidDivisorError::OutOfRange { divisor } => Self::OutOfRange { divisor },
+        }
+    }
+}
+
+impl From<InitError> for errors::InitError {
+    ghost from_gives = { λ own error. error ≡ init_error own };
+
+    fn from(error: InitError) -> Self {
+        match error {
+            InitError::DeviceNotPresent => Self::DeviceNotPresent,
+            InitError::InvalidBaudRate(cause) => Self::InvalidBaudRate(cause.into()),
+        }
+    }
+}
+
+impl From<LoopbackError> for errors::LoopbackError {
+    ghost from_gives = { λ own error. error ≡ loopback_error own };
+
+    fn from(error: LoopbackError) -> Self {
+        match error {
+            LoopbackError::SendError(cause) => Self::SendError(cause),
+            LoopbackError::UnexpectedLoopbackByte { expected, actual } => {
+                Self::UnexpectedLoopbackByte { expected, actual }
+            }
+            LoopbackError::UnexpectedLoopbackMsg { expected, actual } => {
+                Self::UnexpectedLoopbackMsg { expected, actual }
+            }
+        }
+    }
+}
+
+impl From<Uart16550TtyError> for errors::Uart16550TtyError {
+    ghost from_gives = { λ own error. error ≡ tty_error own };
+
+    fn from(error: Uart16550TtyError) -> Self {
+        match error {
+            Uart16550TtyError::AddressError(cause) => Self::AddressError(cause),
+            Uart16550TtyError::InitError(cause) => Self::InitError(cause.into()),
+            Uart16550TtyError::TestError(cause) => Self::TestError(cause.into()),
+        }
+    }
+}
