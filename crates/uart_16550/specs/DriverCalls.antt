@@ -38,7 +38,8 @@ use Rattle.uart_16550.specs.Io.{Writes, Flushes, AnswersRead, AnswersWrite}
 use Rattle.uart_16550.specs.Expansion.{SendsText, SendsStr}
 use Rattle.uart_16550.specs.Tty.{Starts}
 use Rattle.uart_16550.specs.Choice.{ReceivesInto, ReceivesWithErrorsInto, ReceivesExactInto, ReadsInto}
-use Rattle.uart_16550.specs.Choice.{SendsAsAnswered}
+use Rattle.uart_16550.specs.Choice.{AsAnswered}
+use Rattle.uart_16550.specs.Patience.{SendsWhile}
 use Rattle.uart_spec.specs.declared.dump.ConfigRegisterDump.{ConfigRegisterDump}
 
 -- The calls are in a table, because a clause cannot speak of every language. `init` is in it with a computable
@@ -124,7 +125,7 @@ SavingLists (try_send_byte byte) result = TrySends byte result
 SavingLists (send_bytes bytes) count = Sends bytes count
 SavingLists (send_burst size bytes) count = SendsBurst size bytes count
 SavingLists (send_bytes_exact bytes) result = SendsExact bytes result
-SavingLists (send_bytes_while bytes answers) result = SendsAsAnswered bytes answers result
+SavingLists (send_bytes_while bytes answers) result = AsAnswered answers (λ said. SendsWhile bytes said result)
 SavingLists (read slots) end = ReadsInto slots end.1 end.0
 SavingLists (write bytes) result = Writes bytes result
 SavingLists flush result = Flushes result

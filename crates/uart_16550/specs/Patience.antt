@@ -14,42 +14,51 @@ abbrev pub keeps_waiting : ℕ → List Bool
 keeps_waiting zero = []
 keeps_waiting (suc n) = true ∷ keeps_waiting n
 
--- a wait for room, and the answers of the caller, which is asked once after each miss: a check succeeded after fewer
--- misses in a row than the limit; or there were as many misses, or the answer after the last one was to wait no longer
-abbrev pub WaitsWhile : List Bool → Bool → Language
-WaitsWhile said true s l = (n : ℕ) × (n < s.limit) × (said ≡ keeps_waiting n) × Then (Times n SendMiss) SendHit s l
-WaitsWhile said false s l =
-    ((said ≡ keeps_waiting s.limit) × AllMisses SendMiss s l)
-    ⊎ ((n : ℕ) × (n < s.limit) × (said ≡ keeps_waiting n ++ false ∷ []) × Times (n + 1) SendMiss s l)
+-- so many misses in a row, which are fewer than the limit, and then what was waited for
+abbrev pub After : ℕ → (miss hit : Language) → Language
+After n miss hit s l = (n < s.limit) × Then (Times n miss) hit s l
 
--- a burst, and how many misses came before it
-pub record Awaited : Type 0 where
+-- a wait in vain, and the answers of the caller, which is asked once after each miss: there were as many misses in a
+-- row as the limit, or the answer after the last one was to wait no longer
+abbrev pub InVain : (miss : Language) → List Bool → Language
+InVain miss said s l =
+    ((said ≡ keeps_waiting s.limit) × AllMisses miss s l)
+    ⊎ ((n : ℕ) × (n < s.limit) × (said ≡ keeps_waiting n ++ false ∷ []) × Times (n + 1) miss s l)
+
+-- a wait for room, and the answers of the caller: a check succeeded after fewer misses in a row than the limit; or the
+-- wait was in vain
+abbrev pub WaitsWhile : List Bool → Bool → Language
+WaitsWhile said true s l = (n : ℕ) × (said ≡ keeps_waiting n) × After n SendMiss SendHit s l
+WaitsWhile said false s l = InVain SendMiss said s l
+
+-- what was waited for, and how many misses came before it
+pub record Awaited (A : Type 0) : Type 0 where
   pub misses : ℕ
-  pub bytes : List ℕ
+  pub item : A
 
 -- the burst, after so many misses in a row, which are fewer than the limit
-abbrev pub RoundAfter : Awaited → Language
-RoundAfter round s l = (round.misses < s.limit) × Then (Times round.misses SendMiss) (Burst round.bytes) s l
+abbrev pub RoundAfter : Awaited (List ℕ) → Language
+RoundAfter round = After round.misses SendMiss (Burst round.item)
 
--- the bursts, and how many misses came before all of them
-abbrev pub bursts_of : List Awaited → List (List ℕ)
-bursts_of rounds = map (λ round. round.bytes) rounds
+-- all that was waited for in turn, and how many misses came before all of it
+abbrev pub items_of : {A : Type 0} → List (Awaited A) → List A
+items_of awaited = map (λ one. one.item) awaited
 
-abbrev pub misses_of : List Awaited → ℕ
+abbrev pub misses_of : {A : Type 0} → List (Awaited A) → ℕ
 misses_of [] = 0
-misses_of (round ∷ rounds) = round.misses + misses_of rounds
+misses_of (one ∷ others) = one.misses + misses_of others
 
 -- `send_bytes_while`, with the answers of the caller: all bytes, burst by burst, each burst after its own wait; or
 -- those before the burst whose wait ended in vain, as many as the error reports
 abbrev pub SendsWhile : {T : Type 0} → List ℕ → List Bool → Result T StalledError → Language
 SendsWhile bytes said (Ok x) s l =
-    (rounds : List Awaited) × IsCut s bytes (bursts_of rounds) [] × (said ≡ keeps_waiting (misses_of rounds))
+    (rounds : List (Awaited (List ℕ))) × IsCut s bytes (items_of rounds) [] × (said ≡ keeps_waiting (misses_of rounds))
     × InOrder RoundAfter rounds s l
 SendsWhile bytes said (Err e) s l =
-    (rounds : List Awaited) × (last : List Bool) × (rest : List ℕ) × IsCut s bytes (bursts_of rounds) rest
+    (rounds : List (Awaited (List ℕ))) × (last : List Bool) × (rest : List ℕ) × IsCut s bytes (items_of rounds) rest
     × (0 < length rest) × (e.done + length rest ≡ length bytes)
     × (said ≡ keeps_waiting (misses_of rounds) ++ last)
-    × Then (InOrder RoundAfter rounds) (WaitsWhile last false) s l
+    × Then (InOrder RoundAfter rounds) (InVain SendMiss last) s l
 
 -- the caller was asked and gave some answers, from the first of its states to the second, and the call made a list of
 -- the language that goes with them, as `Made` says

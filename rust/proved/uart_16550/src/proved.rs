@@ -228,16 +228,16 @@ pub mod bursts {}
 /// ```text
 /// abbrev pub SendsWhile : {T : Type 0} → List ℕ → List Bool → Result T StalledError → Language
 /// SendsWhile bytes said (Ok x) s l =
-///     (rounds : List Awaited) × IsCut s bytes (bursts_of rounds) [] × (said ≡ keeps_waiting (misses_of rounds))
+///     (rounds : List (Awaited (List ℕ))) × IsCut s bytes (items_of rounds) [] × (said ≡ keeps_waiting (misses_of rounds))
 ///     × InOrder RoundAfter rounds s l
 /// SendsWhile bytes said (Err e) s l =
-///     (rounds : List Awaited) × (last : List Bool) × (rest : List ℕ) × IsCut s bytes (bursts_of rounds) rest
+///     (rounds : List (Awaited (List ℕ))) × (last : List Bool) × (rest : List ℕ) × IsCut s bytes (items_of rounds) rest
 ///     × (0 < length rest) × (e.done + length rest ≡ length bytes)
 ///     × (said ≡ keeps_waiting (misses_of rounds) ++ last)
-///     × Then (InOrder RoundAfter rounds) (WaitsWhile last false) s l
+///     × Then (InOrder RoundAfter rounds) (InVain SendMiss last) s l
 /// ```
 ///
-/// It uses `Language`, `InOrder`, `Then` of `crates/uart_16550/specs/Grammar.antt`; `Awaited`, `bursts_of`, `keeps_waiting`, `misses_of`, `RoundAfter`, `WaitsWhile` of this file; `IsCut` of `crates/uart_16550/specs/Transmit.antt`.
+/// It uses `Language`, `InOrder`, `Then` of `crates/uart_16550/specs/Grammar.antt`; `Awaited`, `items_of`, `keeps_waiting`, `misses_of`, `RoundAfter`, `InVain` of this file; `IsCut`, `SendMiss` of `crates/uart_16550/specs/Transmit.antt`.
 ///
 /// <span id="MadeWhile"></span>
 ///
