@@ -526,9 +526,11 @@ spin limit. *done is how many bytes were done, also after a stall. done may be n
             Call("send_bytes_exact", "struct u16550 *uart, const uint8_t *buffer, size_t len, size_t *done", stalls="done"),
         ]),
         Group("""
-The same as u16550_send_bytes_exact, and waits no longer than keep_waiting wants: it gets the context after each unsuccessful
+The same as the two above, and wait no longer than keep_waiting wants: it gets the context after each unsuccessful
 poll, and the wait ends if it returns 0. So a wait can end at a time, by whatever clock there is. The spin limit ends it too.
 keep_waiting must not be null, and a call over this driver from it returns U16550_BUSY.""", [
+            Call("receive_bytes_while", "struct u16550 *uart, uint8_t *buffer, size_t len, uint8_t (*keep_waiting)(void *context), "
+                "void *context, size_t *done", stalls="done"),
             Call("send_bytes_while", "struct u16550 *uart, const uint8_t *buffer, size_t len, uint8_t (*keep_waiting)(void *context), "
                 "void *context, size_t *done", stalls="done"),
         ]),

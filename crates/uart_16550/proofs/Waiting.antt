@@ -4,8 +4,9 @@ use Rattle.std.proofs.Common.{inl, inr, Ok, Err, length, append_assoc}
 use Rattle.std.specs.List.{FoldsTo}
 use Rattle.uart_spec.specs.declared.access.Access.{Access}
 use Rattle.uart_16550.specs.Grammar.{Language, Settings, Then, InOrder, FewMisses, AllMisses}
+use Rattle.uart_16550.specs.Receive.{Hit, Miss}
 use Rattle.uart_16550.specs.Transmit.{SendMiss, Burst}
-use Rattle.uart_16550.specs.Patience.{keeps_waiting, After, InVain, Awaited, items_of, misses_of, IsExactIfEndless}
+use Rattle.uart_16550.specs.Patience.{keeps_waiting, After, InVain, Awaited, items_of, misses_of, IsExactIfEndless, ReceivesExactIfEndless}
 use Rattle.uart_16550.proofs.determined.Parting.{not_both}
 use Rattle.uart_16550.proofs.determined.Repeated.{same_first, same_others}
 
@@ -95,3 +96,13 @@ begun_all M H s n awaited last l said t = record {
 pub endless_is_exact : IsExactIfEndless
 endless_is_exact bytes n (Ok x) s l t = (items_of t.0, t.1, after_few SendMiss Burst s t.0 l t.3)
 endless_is_exact bytes n (Err e) s l t = (items_of t.0, t.2, t.3, t.4, t.5, begun_all SendMiss Burst s n t.0 t.1 l t.6 t.7)
+
+pub endless_receives : ReceivesExactIfEndless
+endless_receives n bytes asked (Ok x) s l t =
+    let Arrive : List ℕ → Type 0 = λ xs. InOrder (λ (byte : ℕ). Then (FewMisses Miss) (Hit byte)) xs s l in
+    (t.2, subst Arrive (sym t.1) (after_few Miss Hit s t.0 l t.4))
+endless_receives n bytes asked (Err e) s l t =
+    let Begin : List ℕ → Type 0 = λ xs. Then (InOrder (λ (byte : ℕ). Then (FewMisses Miss) (Hit byte)) xs) (AllMisses Miss) s l in
+    (t.3, t.4, subst Begin (sym t.2) (begun_all Miss Hit s asked t.0 t.1 l t.5 t.6))
+
+pub ruleset endless = (endless_is_exact, endless_receives)

@@ -8,6 +8,7 @@ use Rattle.uart_16550.specs.Grammar.{Language}
 use Rattle.uart_16550.specs.Driver.{Did, Doing, Fields, Made, backend_of, fields}
 use Rattle.uart_16550.specs.Receive.{Receives, ReceivesWithErrors, ReceivesExact, filled}
 use Rattle.uart_spec.specs.declared.received.Received.{Received}
+use Rattle.uart_16550.specs.Patience.{ReceivesWhile}
 use Rattle.uart_16550.specs.Io.{Reads, got}
 use Rattle.uart_16550.specs.declared.driver.Uart16550.{Uart16550}
 
@@ -106,6 +107,12 @@ abbrev pub ReceivesExactInto : {T : Type 0} → (old new : List ℕ) → Result 
 ReceivesExactInto old new result s l =
     (length new ≡ length old) × IfErr result (λ e. drop e.done new ≡ drop e.done old)
     × ReceivesExact (length old) (filled result new) result s l
+
+-- what `receive_bytes_while` does to its slots, with the answers of its caller and its result
+abbrev pub ReceivesWhileInto : {T : Type 0} → (old new : List ℕ) → List Bool → Result T StalledError → Language
+ReceivesWhileInto old new said result s l =
+    (length new ≡ length old) × IfErr result (λ e. drop e.done new ≡ drop e.done old)
+    × ReceivesWhile (length old) (filled result new) said result s l
 
 -- what a call does whose caller, asked again and again, would give these answers
 abbrev pub AsAnswered : (answers : List Bool) → (List Bool → Language) → Language

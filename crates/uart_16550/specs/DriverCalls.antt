@@ -38,7 +38,7 @@ use Rattle.uart_16550.specs.Io.{Writes, Flushes, AnswersRead, AnswersWrite}
 use Rattle.uart_16550.specs.Expansion.{SendsText, SendsStr}
 use Rattle.uart_16550.specs.Tty.{Starts}
 use Rattle.uart_16550.specs.Choice.{ReceivesInto, ReceivesWithErrorsInto, ReceivesExactInto, ReadsInto}
-use Rattle.uart_16550.specs.Choice.{AsAnswered}
+use Rattle.uart_16550.specs.Choice.{AsAnswered, ReceivesWhileInto}
 use Rattle.uart_16550.specs.Patience.{SendsWhile}
 use Rattle.uart_spec.specs.declared.dump.ConfigRegisterDump.{ConfigRegisterDump}
 
@@ -61,6 +61,7 @@ pub data SavingCall : Type 0 where
   try_send_byte : (byte : ℕ) → SavingCall
   send_bytes send_bytes_exact : (bytes : List ℕ) → SavingCall
   send_bytes_while : (bytes : List ℕ) (answers : List Bool) → SavingCall
+  receive_bytes_while : (slots : List ℕ) (answers : List Bool) → SavingCall
   send_burst : (size : FifoSize) (bytes : List ℕ) → SavingCall
   read : (slots : List ℕ) → SavingCall
   write : (bytes : List ℕ) → SavingCall
@@ -93,6 +94,7 @@ SavingOutcome (send_bytes bytes) = ℕ
 SavingOutcome (send_burst size bytes) = ℕ
 SavingOutcome (send_bytes_exact bytes) = Result (Unit {0}) StalledError
 SavingOutcome (send_bytes_while bytes answers) = Result (Unit {0}) StalledError
+SavingOutcome (receive_bytes_while slots answers) = Result (Unit {0}) StalledError × List ℕ
 SavingOutcome (read slots) = Result ℕ StalledError × List ℕ
 SavingOutcome (write bytes) = Result ℕ StalledError
 SavingOutcome flush = Result (Unit {0}) StalledError
@@ -126,6 +128,8 @@ SavingLists (send_bytes bytes) count = Sends bytes count
 SavingLists (send_burst size bytes) count = SendsBurst size bytes count
 SavingLists (send_bytes_exact bytes) result = SendsExact bytes result
 SavingLists (send_bytes_while bytes answers) result = AsAnswered answers (λ said. SendsWhile bytes said result)
+SavingLists (receive_bytes_while slots answers) end =
+    AsAnswered answers (λ said. ReceivesWhileInto slots end.1 said end.0)
 SavingLists (read slots) end = ReadsInto slots end.1 end.0
 SavingLists (write bytes) result = Writes bytes result
 SavingLists flush result = Flushes result

@@ -1,10 +1,11 @@
 -- Waits that ask their caller, after each check that fails, whether to keep waiting.
 use Rattle.std.specs.Prelude.{◌≡◌, ◌<◌, ◌+◌, ℕ, zero, suc, Bool, true, false, List, [], ◌∷◌, ◌++◌, Result, Ok, Err}
-use Rattle.std.specs.Prelude.{length, map, ◌⊎◌}
+use Rattle.std.specs.Prelude.{length, map, ◌⊎◌, Option, Some, None}
 use Rattle.std.specs.List.{FoldsTo}
 use Rattle.uart_spec.specs.declared.errors.StalledError.{StalledError}
 use Rattle.uart_spec.specs.declared.access.Access.{Access}
 use Rattle.uart_16550.specs.Grammar.{Language, Settings, Then, InOrder, Times, AllMisses}
+use Rattle.uart_16550.specs.Receive.{Hit, Miss, ReceivesExact}
 use Rattle.uart_16550.specs.Transmit.{SendHit, SendMiss, Burst, IsCut, SendsExact}
 use Rattle.uart_16550.specs.Driver.{Made}
 use Rattle.uart_16550.specs.declared.driver.Uart16550.{Uart16550}
@@ -31,6 +32,12 @@ abbrev pub WaitsWhile : List Bool → Bool → Language
 WaitsWhile said true s l = (n : ℕ) × (said ≡ keeps_waiting n) × After n SendMiss SendHit s l
 WaitsWhile said false s l = InVain SendMiss said s l
 
+-- a wait for one byte, and the answers of the caller: it was received after fewer misses in a row than the limit; or
+-- the wait was in vain
+abbrev pub AwaitsWhile : List Bool → Option ℕ → Language
+AwaitsWhile said (Some byte) s l = (n : ℕ) × (said ≡ keeps_waiting n) × After n Miss (Hit byte) s l
+AwaitsWhile said None s l = InVain Miss said s l
+
 -- what was waited for, and how many misses came before it
 pub record Awaited (A : Type 0) : Type 0 where
   pub misses : ℕ
@@ -39,6 +46,10 @@ pub record Awaited (A : Type 0) : Type 0 where
 -- the burst, after so many misses in a row, which are fewer than the limit
 abbrev pub RoundAfter : Awaited (List ℕ) → Language
 RoundAfter round = After round.misses SendMiss (Burst round.item)
+
+-- the byte, after so many misses in a row, which are fewer than the limit
+abbrev pub ByteAfter : Awaited ℕ → Language
+ByteAfter byte = After byte.misses Miss (Hit byte.item)
 
 -- all that was waited for in turn, and how many misses came before all of it
 abbrev pub items_of : {A : Type 0} → List (Awaited A) → List A
@@ -60,6 +71,17 @@ SendsWhile bytes said (Err e) s l =
     × (said ≡ keeps_waiting (misses_of rounds) ++ last)
     × Then (InOrder RoundAfter rounds) (InVain SendMiss last) s l
 
+-- `receive_bytes_while`, with the answers of the caller: the slots are filled, each byte after its own wait; or those
+-- before the one whose wait ended in vain, as many as the error reports
+abbrev pub ReceivesWhile : {T : Type 0} → ℕ → List ℕ → List Bool → Result T StalledError → Language
+ReceivesWhile n bytes said (Ok x) s l =
+    (received : List (Awaited ℕ)) × (bytes ≡ items_of received) × (length bytes ≡ n)
+    × (said ≡ keeps_waiting (misses_of received)) × InOrder ByteAfter received s l
+ReceivesWhile n bytes said (Err e) s l =
+    (received : List (Awaited ℕ)) × (last : List Bool) × (bytes ≡ items_of received) × (length bytes < n)
+    × (e.done ≡ length bytes) × (said ≡ keeps_waiting (misses_of received) ++ last)
+    × Then (InOrder ByteAfter received) (InVain Miss last) s l
+
 -- the caller was asked and gave some answers, from the first of its states to the second, and the call made a list of
 -- the language that goes with them, as `Made` says
 pub record MadeWhile {P B : Type 0} (answers : P → Bool → P → Type 0) (step : B → Access → B → Type 0)
@@ -72,3 +94,8 @@ pub record MadeWhile {P B : Type 0} (answers : P → Bool → P → Type 0) (ste
 abbrev pub IsExactIfEndless : Type 0
 IsExactIfEndless = (bytes : List ℕ) (n : ℕ) (result : Result (Unit {0}) StalledError) (s : Settings) (l : List Access) →
     SendsWhile bytes (keeps_waiting n) result s l → SendsExact bytes result s l
+
+-- and `receive_bytes_while` does what `receive_bytes_exact` does
+abbrev pub ReceivesExactIfEndless : Type 0
+ReceivesExactIfEndless = (n : ℕ) (bytes : List ℕ) (asked : ℕ) (result : Result (Unit {0}) StalledError) (s : Settings)
+    (l : List Access) → ReceivesWhile n bytes (keeps_waiting asked) result s l → ReceivesExact n bytes result s l

@@ -912,6 +912,37 @@ static void waits_in_time(void)
     MISUSE(u16550_send_bytes_while(&uart, text, 20, NULL, &deadline, &done), U16550_NULL_POINTER);
 }
 
+static void waits_in_time_for_bytes(void)
+{
+    struct deadline deadline = { 0, 2, 0 };
+    uint8_t slots[4] = { 0xee, 0xee, 0xee, 0xee };
+    size_t done = 99;
+    ready();
+    device_arrive(&d, "ab");
+    OK(u16550_receive_bytes_while(&uart, slots, 2, is_before, &deadline, &done));
+    IS(done, 2);
+    BYTES(slots, "ab\xee\xee");
+    OK(u16550_receive_bytes_while(&uart, NULL, 0, is_before, &deadline, &done));
+    IS(done, 0);
+    IS(deadline.now, 0);
+    /* A byte, then two polls, of which the second is the last; the spin limit is three. */
+    device_arrive(&d, "c");
+    accesses = d.accesses;
+    IS(u16550_receive_bytes_while(&uart, slots, 4, is_before, &deadline, &done), U16550_STALLED);
+    IS(done, 1);
+    BYTES(slots, "cb\xee\xee");
+    IS(deadline.now, 2);
+    IS(deadline.inside, U16550_BUSY);
+    IS(d.accesses, accesses + 4);
+    deadline.now = 0;
+    deadline.end = 1000;
+    IS(u16550_receive_bytes_while(&uart, slots, 4, is_before, &deadline, NULL), U16550_STALLED);
+    IS(deadline.now, 3);
+    IS(d.accesses, accesses + 7);
+    accesses = d.accesses;
+    MISUSE(u16550_receive_bytes_while(&uart, slots, 4, NULL, &deadline, &done), U16550_NULL_POINTER);
+}
+
 static void io_traits(void)
 {
     uint8_t slots[8];
@@ -1578,6 +1609,8 @@ static void nulls(void)
     MISUSE(u16550_send_burst(&uart, &byte, 1, 16, NULL), null);
     MISUSE(u16550_receive_bytes_exact(&uart, NULL, 1, &count), null);
     MISUSE(u16550_send_bytes_exact(&uart, NULL, 1, &count), null);
+    MISUSE(u16550_receive_bytes_while(&uart, NULL, 1, is_before, NULL, &count), null);
+    MISUSE(u16550_receive_bytes_while(&uart, &byte, 1, NULL, NULL, &count), null);
     MISUSE(u16550_send_bytes_while(&uart, NULL, 1, is_before, NULL, &count), null);
     MISUSE(u16550_send_bytes_while(&uart, &byte, 1, NULL, NULL, &count), null);
     MISUSE(u16550_read(&uart, NULL, 1, &count), null);
@@ -1861,6 +1894,7 @@ int main(void)
     with_errors();
     exact();
     waits_in_time();
+    waits_in_time_for_bytes();
     io_traits();
     text();
     registers();

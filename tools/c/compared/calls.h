@@ -577,7 +577,14 @@ static void call_bytes(struct u16550 *u, uint32_t which)
             note(received[i].byte * 256u + received[i].errors);
         break;
     case 9:
-        told(u16550_receive_bytes_exact(u, bytes, len, below(4) ? &count : NULL));
+        if (below(2)) {
+            told(u16550_receive_bytes_exact(u, bytes, len, below(4) ? &count : NULL));
+        } else {
+            size_t *done = below(4) ? &count : NULL;
+            left = below(10);
+            told(u16550_receive_bytes_while(u, bytes, len, below(20) ? keep_waiting : NULL, &left, done));
+            note(left);
+        }
         break;
     case 10:
         told(u16550_send_bytes_exact(u, bytes, len, below(4) ? &count : NULL));

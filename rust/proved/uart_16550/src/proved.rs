@@ -239,6 +239,25 @@ pub mod bursts {}
 ///
 /// It uses `Language`, `InOrder`, `Then` of `crates/uart_16550/specs/Grammar.antt`; `Awaited`, `items_of`, `keeps_waiting`, `misses_of`, `RoundAfter`, `InVain` of this file; `IsCut`, `SendMiss` of `crates/uart_16550/specs/Transmit.antt`.
 ///
+/// <span id="ReceivesWhile"></span>
+///
+/// # `ReceivesWhile`
+///
+/// `receive_bytes_while`, with the answers of the caller: the slots are filled, each byte after its own wait; or those before the one whose wait ended in vain, as many as the error reports.
+///
+/// ```text
+/// abbrev pub ReceivesWhile : {T : Type 0} → ℕ → List ℕ → List Bool → Result T StalledError → Language
+/// ReceivesWhile n bytes said (Ok x) s l =
+///     (received : List (Awaited ℕ)) × (bytes ≡ items_of received) × (length bytes ≡ n)
+///     × (said ≡ keeps_waiting (misses_of received)) × InOrder ByteAfter received s l
+/// ReceivesWhile n bytes said (Err e) s l =
+///     (received : List (Awaited ℕ)) × (last : List Bool) × (bytes ≡ items_of received) × (length bytes < n)
+///     × (e.done ≡ length bytes) × (said ≡ keeps_waiting (misses_of received) ++ last)
+///     × Then (InOrder ByteAfter received) (InVain Miss last) s l
+/// ```
+///
+/// It uses `Language`, `InOrder`, `Then` of `crates/uart_16550/specs/Grammar.antt`; `Awaited`, `items_of`, `keeps_waiting`, `misses_of`, `ByteAfter`, `InVain` of this file; `Miss` of `crates/uart_16550/specs/Receive.antt`.
+///
 /// <span id="MadeWhile"></span>
 ///
 /// # `MadeWhile`
@@ -254,7 +273,7 @@ pub mod bursts {}
 /// ```
 ///
 /// It uses [`Made`](crate::proved::driver#Made); `Language` of `crates/uart_16550/specs/Grammar.antt`.
-#[doc(alias("SendsWhile", "MadeWhile"))]
+#[doc(alias("SendsWhile", "ReceivesWhile", "MadeWhile"))]
 pub mod patience {}
 
 /// The driver's fields, and what a call does to them and to the backend.
