@@ -535,6 +535,11 @@ keep_waiting must not be null, and a call over this driver from it returns U1655
                 "void *context, size_t *done", stalls="done"),
         ]),
         Group("""
+The same wait as u16550_flush, and no longer than keep_waiting wants.""", [
+            Call("flush_while", "struct u16550 *uart, uint8_t (*keep_waiting)(void *context), void *context",
+                does="status = uart_if(uart_flush_while(DRIVER, &patience).is_error, U16550_STALLED)"),
+        ]),
+        Group("""
 As the traits of embedded-io: some bytes, and a wait for the first. They return U16550_STALLED as the last two.""", [
             Call("read", "struct u16550 *uart, uint8_t *buffer, size_t len, size_t *count", gives="count",
                 stalled="struct uart_u64_or_stalled_error"),

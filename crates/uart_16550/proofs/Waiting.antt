@@ -7,6 +7,7 @@ use Rattle.uart_16550.specs.Grammar.{Language, Settings, Then, InOrder, FewMisse
 use Rattle.uart_16550.specs.Receive.{Hit, Miss}
 use Rattle.uart_16550.specs.Transmit.{SendMiss, Burst}
 use Rattle.uart_16550.specs.Patience.{keeps_waiting, After, InVain, Awaited, items_of, misses_of, IsExactIfEndless, ReceivesExactIfEndless}
+use Rattle.uart_16550.specs.Patience.{ShowsEmpty, FlushesIfEndless}
 use Rattle.uart_16550.proofs.determined.Parting.{not_both}
 use Rattle.uart_16550.proofs.determined.Repeated.{same_first, same_others}
 
@@ -105,4 +106,10 @@ endless_receives n bytes asked (Err e) s l t =
     let Begin : List ℕ → Type 0 = λ xs. Then (InOrder (λ (byte : ℕ). Then (FewMisses Miss) (Hit byte)) xs) (AllMisses Miss) s l in
     (t.3, t.4, subst Begin (sym t.2) (begun_all Miss Hit s asked t.0 t.1 l t.5 t.6))
 
-pub ruleset endless = (endless_is_exact, endless_receives)
+pub endless_flushes : FlushesIfEndless
+endless_flushes n (Ok x) s l t =
+    let hit = t.2.1 in
+    record { front = hit.front; back = hit.back; whole = hit.whole; first = (t.0, t.2.0, hit.first); second = hit.second }
+endless_flushes n (Err e) s l t = (t.0, vain_all (ShowsEmpty false) s n 0 (keeps_waiting n) l refl t.1)
+
+pub ruleset endless = (endless_is_exact, endless_receives, endless_flushes)

@@ -39,7 +39,7 @@ use Rattle.uart_16550.specs.Expansion.{SendsText, SendsStr}
 use Rattle.uart_16550.specs.Tty.{Starts}
 use Rattle.uart_16550.specs.Choice.{ReceivesInto, ReceivesWithErrorsInto, ReceivesExactInto, ReadsInto}
 use Rattle.uart_16550.specs.Choice.{AsAnswered, ReceivesWhileInto}
-use Rattle.uart_16550.specs.Patience.{SendsWhile}
+use Rattle.uart_16550.specs.Patience.{SendsWhile, FlushesWhile}
 use Rattle.uart_spec.specs.declared.dump.ConfigRegisterDump.{ConfigRegisterDump}
 
 -- The calls are in a table, because a clause cannot speak of every language. `init` is in it with a computable
@@ -62,6 +62,7 @@ pub data SavingCall : Type 0 where
   send_bytes send_bytes_exact : (bytes : List ℕ) → SavingCall
   send_bytes_while : (bytes : List ℕ) (answers : List Bool) → SavingCall
   receive_bytes_while : (slots : List ℕ) (answers : List Bool) → SavingCall
+  flush_while : (answers : List Bool) → SavingCall
   send_burst : (size : FifoSize) (bytes : List ℕ) → SavingCall
   read : (slots : List ℕ) → SavingCall
   write : (bytes : List ℕ) → SavingCall
@@ -95,6 +96,7 @@ SavingOutcome (send_burst size bytes) = ℕ
 SavingOutcome (send_bytes_exact bytes) = Result (Unit {0}) StalledError
 SavingOutcome (send_bytes_while bytes answers) = Result (Unit {0}) StalledError
 SavingOutcome (receive_bytes_while slots answers) = Result (Unit {0}) StalledError × List ℕ
+SavingOutcome (flush_while answers) = Result (Unit {0}) StalledError
 SavingOutcome (read slots) = Result ℕ StalledError × List ℕ
 SavingOutcome (write bytes) = Result ℕ StalledError
 SavingOutcome flush = Result (Unit {0}) StalledError
@@ -130,6 +132,7 @@ SavingLists (send_bytes_exact bytes) result = SendsExact bytes result
 SavingLists (send_bytes_while bytes answers) result = AsAnswered answers (λ said. SendsWhile bytes said result)
 SavingLists (receive_bytes_while slots answers) end =
     AsAnswered answers (λ said. ReceivesWhileInto slots end.1 said end.0)
+SavingLists (flush_while answers) result = AsAnswered answers (λ said. FlushesWhile said result)
 SavingLists (read slots) end = ReadsInto slots end.1 end.0
 SavingLists (write bytes) result = Writes bytes result
 SavingLists flush result = Flushes result

@@ -3,8 +3,11 @@ use Rattle.std.specs.Prelude.{◌≡◌, ◌<◌, ◌+◌, ℕ, zero, suc, Bool,
 use Rattle.std.specs.Prelude.{length, map, ◌⊎◌, Option, Some, None}
 use Rattle.std.specs.List.{FoldsTo}
 use Rattle.uart_spec.specs.declared.errors.StalledError.{StalledError}
+use Rattle.uart_spec.specs.declared.registers.offsets.TheConstants as offsets
+use Rattle.uart_spec.specs.declared.registers.line_status.TheConstants.LSR
 use Rattle.uart_spec.specs.declared.access.Access.{Access}
-use Rattle.uart_16550.specs.Grammar.{Language, Settings, Then, InOrder, Times, AllMisses}
+use Rattle.uart_16550.specs.Grammar.{Language, Settings, Then, InOrder, Times, AllMisses, Asks}
+use Rattle.uart_16550.specs.Io.{Flushes}
 use Rattle.uart_16550.specs.Receive.{Hit, Miss, ReceivesExact}
 use Rattle.uart_16550.specs.Transmit.{SendHit, SendMiss, Burst, IsCut, SendsExact}
 use Rattle.uart_16550.specs.Driver.{Made}
@@ -82,6 +85,16 @@ ReceivesWhile n bytes said (Err e) s l =
     × (e.done ≡ length bytes) × (said ≡ keeps_waiting (misses_of received) ++ last)
     × Then (InOrder ByteAfter received) (InVain Miss last) s l
 
+-- a look at LSR that shows an empty transmitter, or does not
+abbrev pub ShowsEmpty : Bool → Language
+ShowsEmpty empty = Asks offsets.LSR LSR.TRANSMITTER_EMPTY.0 empty
+
+-- `flush_while`, with the answers of the caller: the transmitter was empty after fewer misses in a row than the limit;
+-- or the wait was in vain
+abbrev pub FlushesWhile : {T : Type 0} → List Bool → Result T StalledError → Language
+FlushesWhile said (Ok x) s l = (n : ℕ) × (said ≡ keeps_waiting n) × After n (ShowsEmpty false) (ShowsEmpty true) s l
+FlushesWhile said (Err e) s l = (e.done ≡ 0) × InVain (ShowsEmpty false) said s l
+
 -- the caller was asked and gave some answers, from the first of its states to the second, and the call made a list of
 -- the language that goes with them, as `Made` says
 pub record MadeWhile {P B : Type 0} (answers : P → Bool → P → Type 0) (step : B → Access → B → Type 0)
@@ -99,3 +112,8 @@ IsExactIfEndless = (bytes : List ℕ) (n : ℕ) (result : Result (Unit {0}) Stal
 abbrev pub ReceivesExactIfEndless : Type 0
 ReceivesExactIfEndless = (n : ℕ) (bytes : List ℕ) (asked : ℕ) (result : Result (Unit {0}) StalledError) (s : Settings)
     (l : List Access) → ReceivesWhile n bytes (keeps_waiting asked) result s l → ReceivesExact n bytes result s l
+
+-- and `flush_while` does what `flush` does
+abbrev pub FlushesIfEndless : Type 0
+FlushesIfEndless = (n : ℕ) (result : Result (Unit {0}) StalledError) (s : Settings) (l : List Access) →
+    FlushesWhile (keeps_waiting n) result s l → Flushes result s l

@@ -250,6 +250,21 @@ pub unsafe extern "C" fn u16550_flush(uart: *mut Memory) -> c_int {
 }
 
 #[unsafe(no_mangle)]
+pub unsafe extern "C" fn u16550_flush_while(
+    uart: *mut Memory,
+    keep_waiting: Option<unsafe extern "C" fn(*mut c_void) -> u8>,
+    context: *mut c_void,
+) -> c_int {
+    // SAFETY: the caller promises that the pointer is null or valid, and that the function takes the context.
+    unsafe {
+        perform(uart, |driver| {
+            let keep_waiting = keep_waiting.ok_or(Failure::NullPointer)?;
+            Ok(driver.flush_while(&mut || keep_waiting(context) != 0)?)
+        })
+    }
+}
+
+#[unsafe(no_mangle)]
 pub unsafe extern "C" fn u16550_is_idle(uart: *mut Memory, idle: *mut u8) -> c_int {
     // SAFETY: the caller promises that pointers are null or valid.
     unsafe { report(uart, idle, |driver| Ok(driver.is_idle().into())) }

@@ -943,6 +943,28 @@ static void waits_in_time_for_bytes(void)
     MISUSE(u16550_receive_bytes_while(&uart, slots, 4, NULL, &deadline, &done), U16550_NULL_POINTER);
 }
 
+static void waits_in_time_for_an_empty_transmitter(void)
+{
+    struct deadline deadline = { 0, 2, 0 };
+    ready();
+    OK(u16550_flush_while(&uart, is_before, &deadline));
+    IS(deadline.now, 0);
+    /* The second poll is the last, and the spin limit is three. */
+    d.is_stuck = 1;
+    accesses = d.accesses;
+    IS(u16550_flush_while(&uart, is_before, &deadline), U16550_STALLED);
+    IS(deadline.now, 2);
+    IS(deadline.inside, U16550_BUSY);
+    IS(d.accesses, accesses + 2);
+    deadline.now = 0;
+    deadline.end = 1000;
+    IS(u16550_flush_while(&uart, is_before, &deadline), U16550_STALLED);
+    IS(deadline.now, 3);
+    IS(d.accesses, accesses + 5);
+    accesses = d.accesses;
+    MISUSE(u16550_flush_while(&uart, NULL, &deadline), U16550_NULL_POINTER);
+}
+
 static void io_traits(void)
 {
     uint8_t slots[8];
@@ -1609,6 +1631,7 @@ static void nulls(void)
     MISUSE(u16550_send_burst(&uart, &byte, 1, 16, NULL), null);
     MISUSE(u16550_receive_bytes_exact(&uart, NULL, 1, &count), null);
     MISUSE(u16550_send_bytes_exact(&uart, NULL, 1, &count), null);
+    MISUSE(u16550_flush_while(&uart, NULL, NULL), null);
     MISUSE(u16550_receive_bytes_while(&uart, NULL, 1, is_before, NULL, &count), null);
     MISUSE(u16550_receive_bytes_while(&uart, &byte, 1, NULL, NULL, &count), null);
     MISUSE(u16550_send_bytes_while(&uart, NULL, 1, is_before, NULL, &count), null);
@@ -1895,6 +1918,7 @@ int main(void)
     exact();
     waits_in_time();
     waits_in_time_for_bytes();
+    waits_in_time_for_an_empty_transmitter();
     io_traits();
     text();
     registers();

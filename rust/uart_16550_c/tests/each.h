@@ -39,6 +39,7 @@
     PLAIN(u16550_send_bytes_exact, DRIVER, BUFFER, LEN, SIZE_AT)                                               \
     PLAIN(u16550_receive_bytes_while, DRIVER, BUFFER, LEN, KEEP_WAITING, CONTEXT, SIZE_AT)                     \
     PLAIN(u16550_send_bytes_while, DRIVER, BUFFER, LEN, KEEP_WAITING, CONTEXT, SIZE_AT)                        \
+    PLAIN(u16550_flush_while, DRIVER, KEEP_WAITING, CONTEXT)                                                   \
     PLAIN(u16550_read, DRIVER, BUFFER, LEN, SIZE_AT)                                                           \
     PLAIN(u16550_write, DRIVER, BUFFER, LEN, SIZE_AT)                                                          \
     PLAIN(u16550_flush, DRIVER)                                                                                \

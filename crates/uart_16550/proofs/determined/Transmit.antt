@@ -22,7 +22,7 @@ use Rattle.uart_16550.proofs.determined.Repeated.{Alike, given}
 use Rattle.uart_16550.proofs.determined.Receive.{stalled}
 
 -- a wait for bits of LSR
-shows : (s : Settings) (bits : ℕ) → Misses s (Asks offsets.LSR bits false) (Asks offsets.LSR bits true)
+pub shows : (s : Settings) (bits : ℕ) → Misses s (Asks offsets.LSR bits false) (Asks offsets.LSR bits true)
 shows s bits = record { same = asks_same offsets.LSR bits false; apart = determined_sym (asks_apart offsets.LSR bits) }
 
 pub waits_determined : (s : Settings) (bits : ℕ) (a b : Bool) → Determined (a ≡ b) (WaitsFor bits a s) (WaitsFor bits b s)

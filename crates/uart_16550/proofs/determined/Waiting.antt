@@ -1,18 +1,20 @@
 -- A call whose caller is asked whether to keep waiting is determined by what it reads and by the answers.
-use Rattle.std.proofs.Common.{◌≡◌, ◌<◌, ◌≤◌, ◌+◌, ℕ, zero, suc, Bool, false, List, [], ◌∷◌, ◌++◌, refl, sym, ◌∙◌, ap, subst, arith}
+use Rattle.std.proofs.Common.{◌≡◌, ◌<◌, ◌≤◌, ◌+◌, ℕ, zero, suc, Bool, true, false, List, [], ◌∷◌, ◌++◌, refl, sym, ◌∙◌, ap, subst, arith}
 use Rattle.std.proofs.Common.{inl, inr, Result, Ok, Err, length, append_assoc}
+use Rattle.uart_spec.specs.declared.registers.offsets.TheConstants as offsets
+use Rattle.uart_spec.specs.declared.registers.line_status.TheConstants.LSR
 use Rattle.uart_spec.specs.declared.access.Access.{Access}
 use Rattle.uart_spec.specs.declared.errors.StalledError.{StalledError}
 use Rattle.uart_16550.specs.Grammar.{Language, Settings, Only, Then, Times, InOrder}
 use Rattle.uart_16550.specs.Transmit.{SendMiss, Burst}
-use Rattle.uart_16550.specs.Patience.{keeps_waiting, After, InVain, Awaited, items_of, misses_of, SendsWhile}
+use Rattle.uart_16550.specs.Patience.{keeps_waiting, After, InVain, Awaited, items_of, misses_of, SendsWhile, ShowsEmpty, FlushesWhile}
 use Rattle.uart_16550.specs.Choice.{AsAnswered}
 use Rattle.uart_16550.proofs.Languages.{then_later}
 use Rattle.uart_16550.proofs.Waiting.{keeps_sum}
 use Rattle.uart_16550.proofs.determined.Parting.{SameOrPart, Determined, so, determined_so, determined_sym, determined_then}
-use Rattle.uart_16550.proofs.determined.Parting.{determined_among, determined_front, determined_only, determined_none, not_both}
+use Rattle.uart_16550.proofs.determined.Parting.{determined_among, determined_front, determined_only, determined_none, asks_same, not_both}
 use Rattle.uart_16550.proofs.determined.Repeated.{Misses, Items, Alike, times_same, times_all, same_first, same_others, same_items, given}
-use Rattle.uart_16550.proofs.determined.Transmit.{refusal_same, refusals, burst_same, cut_alike, cut_all, cut_fewer, cut_rests}
+use Rattle.uart_16550.proofs.determined.Transmit.{shows, refusal_same, refusals, burst_same, cut_alike, cut_all, cut_fewer, cut_rests}
 use Rattle.uart_16550.proofs.determined.Receive.{stalled}
 
 -- the answers of one caller after as many that it gave before
@@ -222,4 +224,33 @@ as_answered_determined s bytes stream (Err d) (Err f) = record {
       ((each_short s SendMiss Burst (bursts s) a.0 b.0 a.1 b.1 p.1 q.1
       (cut_alike s bytes (items_of a.0) (items_of b.0) a.2 b.2 a.3 b.3)
       (one_stream p.1 q.1 p.2 q.2 a.6 b.6)).at l m a.7 b.7);
+}
+
+-- a wait for an empty transmitter
+busy : (s : Settings) → Misses s (ShowsEmpty false) (ShowsEmpty true)
+busy s = shows s LSR.TRANSMITTER_EMPTY.0
+
+while_stalls : (s : Settings) (stream : List Bool) (d : StalledError) →
+    Determined ⊥ (AsAnswered stream (λ said. FlushesWhile {T = Unit {0}} said (Err d)) s)
+    (AsAnswered stream (λ said. FlushesWhile {T = Unit {0}} said (Ok tt)) s)
+while_stalls s stream d = record {
+  at = λ l m p q.
+      (vain_after s (ShowsEmpty false) (ShowsEmpty true) (busy s) p.0 p.1 q.3.0 q.1
+      (one_stream p.1 q.1 p.2 q.2 refl q.3.1)).at l m p.3.1 q.3.2;
+}
+
+pub flushes_while_determined : (s : Settings) (stream : List Bool) (a b : Result (Unit {0}) StalledError) →
+    Determined (a ≡ b) (AsAnswered stream (λ said. FlushesWhile said a) s) (AsAnswered stream (λ said. FlushesWhile said b) s)
+flushes_while_determined s stream (Ok x) (Ok y) = record {
+  at = λ l m p q.
+      so (λ r. refl)
+      ((times_count s (ShowsEmpty false) (ShowsEmpty true) (ShowsEmpty true) (busy s) (busy s)
+      (asks_same offsets.LSR LSR.TRANSMITTER_EMPTY.0 true) p.3.0 q.3.0).at l m p.3.2.1 q.3.2.1);
+}
+flushes_while_determined s stream (Ok x) (Err d) = determined_sym (while_stalls s stream d)
+flushes_while_determined s stream (Err d) (Ok y) = determined_so absurd (while_stalls s stream d)
+flushes_while_determined s stream (Err d) (Err f) = record {
+  at = λ l m p q.
+      so (λ r. stalled d f (p.3.0 ∙ sym q.3.0))
+      ((vain_same s (ShowsEmpty false) (busy s).same p.0 q.0 p.1 q.1 (one_stream p.1 q.1 p.2 q.2 refl refl)).at l m p.3.1 q.3.1);
 }

@@ -258,6 +258,20 @@ pub mod bursts {}
 ///
 /// It uses `Language`, `InOrder`, `Then` of `crates/uart_16550/specs/Grammar.antt`; `Awaited`, `items_of`, `keeps_waiting`, `misses_of`, `ByteAfter`, `InVain` of this file; `Miss` of `crates/uart_16550/specs/Receive.antt`.
 ///
+/// <span id="FlushesWhile"></span>
+///
+/// # `FlushesWhile`
+///
+/// `flush_while`, with the answers of the caller: the transmitter was empty after fewer misses in a row than the limit; or the wait was in vain.
+///
+/// ```text
+/// abbrev pub FlushesWhile : {T : Type 0} → List Bool → Result T StalledError → Language
+/// FlushesWhile said (Ok x) s l = (n : ℕ) × (said ≡ keeps_waiting n) × After n (ShowsEmpty false) (ShowsEmpty true) s l
+/// FlushesWhile said (Err e) s l = (e.done ≡ 0) × InVain (ShowsEmpty false) said s l
+/// ```
+///
+/// It uses `Language` of `crates/uart_16550/specs/Grammar.antt`; `keeps_waiting`, `After`, `ShowsEmpty`, `InVain` of this file.
+///
 /// <span id="MadeWhile"></span>
 ///
 /// # `MadeWhile`
@@ -273,7 +287,7 @@ pub mod bursts {}
 /// ```
 ///
 /// It uses [`Made`](crate::proved::driver#Made); `Language` of `crates/uart_16550/specs/Grammar.antt`.
-#[doc(alias("SendsWhile", "ReceivesWhile", "MadeWhile"))]
+#[doc(alias("SendsWhile", "ReceivesWhile", "FlushesWhile", "MadeWhile"))]
 pub mod patience {}
 
 /// The driver's fields, and what a call does to them and to the backend.

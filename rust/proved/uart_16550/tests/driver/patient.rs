@@ -174,3 +174,40 @@ fn errors_that_the_polls_clear_are_saved() {
     let shown = LSR::OVERRUN_ERROR | LSR::PARITY_ERROR | LSR::FRAMING_ERROR;
     assert_eq!(uart.lsr(), shown);
 }
+
+/// Makes a row as `asked` does, of a call that waits for an empty transmitter.
+fn asked_for_empty(
+    answers: &'static [u8],
+    left: usize,
+    done: Result<(), usize>,
+    accesses: &Accesses,
+) -> usize {
+    let mut uart = impatient(Listed(answers));
+    let mut caller = Times { left, asked: 0 };
+    let flushed = uart.flush_while(&mut caller);
+    assert_eq!(flushed, done.map_err(|done| StalledError { done }));
+    assert_eq!(uart.backend().log.entries(), accesses.entries());
+    caller.asked
+}
+
+#[test]
+fn who_flushes_is_asked_after_each_poll_that_fails() {
+    assert_eq!(asked_for_empty(&[0x40], 0, Ok(()), &list().look(0x40)), 0);
+    // An empty holding register is not enough.
+    let late = list().look(0x00).look(0x20).look(0x60);
+    assert_eq!(asked_for_empty(&[0x00, 0x20, 0x60], 2, Ok(()), &late), 2);
+    let ended = list().look(0x00).look(0xbf);
+    assert_eq!(asked_for_empty(&[0x00, 0xbf, 0x40], 1, Err(0), &ended), 2);
+    let limit = list().look(0x00).look(0x20).look(0xbf);
+    assert_eq!(
+        asked_for_empty(&[0x00, 0x20, 0xbf, 0x40], usize::MAX, Err(0), &limit),
+        3
+    );
+}
+
+#[test]
+fn errors_that_a_flush_clears_are_saved() {
+    let mut uart = impatient(Listed(&[0x0a, 0x40]));
+    assert_eq!(uart.flush_while(&mut || true), Ok(()));
+    assert_eq!(uart.lsr(), LSR::OVERRUN_ERROR | LSR::FRAMING_ERROR);
+}
