@@ -124,6 +124,11 @@ enum uart_remote_ready_to_receive_error {
     UART_REMOTE_READY_TO_RECEIVE_ERROR_REMOTE_NOT_CLEAR_TO_SEND = 3
 };
 
+struct uart_maybe_stalled_error {
+    bool is_error;
+    size_t error;
+};
+
 /*
  * The state of a driver without its backend: everything that a driver over another backend needs
  * to continue.
@@ -180,11 +185,6 @@ enum uart_byte_send_error {
     UART_BYTE_SEND_ERROR_NONE = 0,
     UART_BYTE_SEND_ERROR_NO_CAPACITY = 1,
     UART_BYTE_SEND_ERROR_REMOTE_NOT_CLEAR_TO_SEND = 2
-};
-
-struct uart_maybe_stalled_error {
-    bool is_error;
-    size_t error;
 };
 
 struct uart_maybe_received {
@@ -640,6 +640,18 @@ uart_configuration_error_fifos(bool fifos_expected, bool fifos_shown)
     return made;
 }
 
+static inline struct uart_maybe_stalled_error uart_no_stalled_error(void)
+{
+    struct uart_maybe_stalled_error made = { false, 0 };
+    return made;
+}
+
+static inline struct uart_maybe_stalled_error uart_failed_stalled_error(size_t error)
+{
+    struct uart_maybe_stalled_error made = { true, error };
+    return made;
+}
+
 static inline struct uart_init_error
 uart_init_error_invalid_baud_rate(struct uart_invalid_divisor_error invalid_baud_rate)
 {
@@ -698,18 +710,6 @@ static inline struct u16550_core_maybe_u8 uart_no_u8(void)
 static inline struct u16550_core_maybe_u8 uart_some_u8(uint8_t value)
 {
     struct u16550_core_maybe_u8 made = { true, value };
-    return made;
-}
-
-static inline struct uart_maybe_stalled_error uart_failed_stalled_error(size_t error)
-{
-    struct uart_maybe_stalled_error made = { true, error };
-    return made;
-}
-
-static inline struct uart_maybe_stalled_error uart_no_stalled_error(void)
-{
-    struct uart_maybe_stalled_error made = { false, 0 };
     return made;
 }
 
@@ -1814,6 +1814,35 @@ static inline bool uart_fifo_enabled(const struct u16550_core_driver *uart)
     return uart->fifo_enabled;
 }
 
+/*
+ * Waits until LSR shows TRANSMITTER_EMPTY, as flush of embedded_io
+ * does, and no longer than the caller wants: patience is asked after each poll that fails.
+ *
+ * So the wait can end at a time, by whatever clock the caller has. It ends after spin_limit
+ * unsuccessful polls in a row too. No poll follows the answer to wait no longer. Error bits
+ * are saved for the next lsr, and do not end the call.
+ *
+ * Errors
+ *
+ * StalledError, with done 0, if patience answered to wait no longer, or after
+ * spin_limit unsuccessful polls in a row. What was sent goes on to leave the chip.
+ *
+ * Proved: flush_while, with the answers of the caller: the transmitter was empty after fewer
+ * misses in a row than the limit; or the wait was in vain.
+ */
+static struct uart_maybe_stalled_error
+uart_flush_while(struct u16550_core_driver *uart, struct uart_patience *patience)
+{
+    uint64_t number = uart->spin_limit;
+    for (uint64_t poll = 0; poll < number; poll++) {
+        if ((uart_read_lsr(uart) & U16550_LSR_TRANSMITTER_EMPTY) != 0)
+            return uart_no_stalled_error();
+        if (!uart_patience_keep_waiting(patience))
+            return uart_failed_stalled_error(0);
+    }
+    return uart_failed_stalled_error(0);
+}
+
 /* Returns a driver over this backend that continues from this state. Makes no access. */
 static struct u16550_core_driver
 uart_from_state(struct u16550_device backend, const struct uart_driver_state *state)
@@ -2479,6 +2508,60 @@ uart_receive_bytes_exact(struct u16550_core_driver *uart, uint8_t *buffer, size_
 }
 
 /*
+ * Waits for one byte, and asks after each poll that fails whether to go on.
+ *
+ * Proved: a wait for one byte, and the answers of the caller: it was received after fewer
+ * misses in a row than the limit; or the wait was in vain.
+ */
+static inline struct u16550_core_maybe_u8
+uart_receive_one_while(struct u16550_core_driver *uart, struct uart_patience *caller)
+{
+    uint64_t number = uart->spin_limit;
+    for (uint64_t poll = 0; poll < number; poll++) {
+        struct u16550_core_maybe_u8 found = uart_try_receive_byte(uart);
+        if (found.is_some)
+            return uart_some_u8(found.value);
+        if (!uart_patience_keep_waiting(caller))
+            return uart_no_u8();
+    }
+    return uart_no_u8();
+}
+
+/*
+ * Receives a byte into each slot as receive_bytes_exact does, and waits no longer than the
+ * caller wants: patience is asked after each poll that fails.
+ *
+ * So a wait can end at a time, by whatever clock the caller has. It ends after spin_limit
+ * unsuccessful polls in a row too: for a wait that the clock alone ends, set a limit that is
+ * not reached before. No poll follows the answer to wait no longer.
+ *
+ * Error bits are saved for the next lsr, and do not end the call. An empty slice makes no
+ * access, and does not ask.
+ *
+ * Errors
+ *
+ * StalledError if patience answered to wait no longer, or after spin_limit unsuccessful
+ * polls in a row. The first done slots have the bytes that were received, and the other
+ * slots are unchanged: a further call fills them.
+ *
+ * Proved: receive_bytes_while, with the answers of the caller: the slots are filled, each
+ * byte after its own wait; or those before the one whose wait ended in vain, as many as the
+ * error reports.
+ */
+static struct uart_maybe_stalled_error
+uart_receive_bytes_while(struct u16550_core_driver *uart, uint8_t *buffer, size_t buffer_len,
+    struct uart_patience *patience)
+{
+    for (size_t done = 0; done < buffer_len; done++) {
+        struct u16550_core_maybe_u8 found = uart_receive_one_while(uart, patience);
+        if (!found.is_some)
+            return uart_failed_stalled_error(done);
+        buffer[done] = found.value;
+    }
+    return uart_no_stalled_error();
+}
+
+/*
  * Receives one byte if one is available, with the errors that LSR showed with it: reads LSR,
  * and if it shows DATA_READY, RBR.
  *
@@ -2802,9 +2885,8 @@ uart_send_bytes_exact(struct u16550_core_driver *uart, const uint8_t *bytes, siz
 /*
  * Waits until bytes may be written, and asks after each check that fails whether to go on.
  *
- * Proved: a wait for room, and the answers of the caller, which is asked once after each
- * miss: a check succeeded after fewer misses in a row than the limit; or there were as many
- * misses, or the answer after the last one was to wait no longer.
+ * Proved: a wait for room, and the answers of the caller: a check succeeded after fewer
+ * misses in a row than the limit; or the wait was in vain.
  */
 static inline bool
 uart_wait_to_send_while(struct u16550_core_driver *uart, struct uart_patience *patience)
@@ -7135,6 +7217,28 @@ int u16550_send_bytes_exact(struct u16550 *uart, const uint8_t *buffer, size_t l
     return status;
 }
 
+int u16550_receive_bytes_while(struct u16550 *uart, uint8_t *buffer, size_t len,
+    uint8_t (*keep_waiting)(void *context), void *context, size_t *done)
+{
+    struct uart_patience patience = { keep_waiting, context };
+    struct uart_maybe_stalled_error stalled;
+    int status = UART_ALIGNED(done, size);
+    if (status == U16550_OK)
+        status = uart_enter(uart);
+    if (status != U16550_OK)
+        return status;
+    status = uart_array(buffer, len, 1, 1);
+    if (status == U16550_OK)
+        status = uart_if(keep_waiting == NULL, U16550_NULL_POINTER);
+    if (status != U16550_OK)
+        return uart_leave(uart, status);
+    stalled = uart_receive_bytes_while(&uart->ring.uart, buffer, len, &patience);
+    status = uart_leave(uart, uart_if(stalled.is_error, U16550_STALLED));
+    if (done != NULL)
+        *done = stalled.is_error ? stalled.error : len;
+    return status;
+}
+
 int u16550_send_bytes_while(struct u16550 *uart, const uint8_t *buffer, size_t len,
     uint8_t (*keep_waiting)(void *context), void *context, size_t *done)
 {
@@ -7155,6 +7259,19 @@ int u16550_send_bytes_while(struct u16550 *uart, const uint8_t *buffer, size_t l
     if (done != NULL)
         *done = stalled.is_error ? stalled.error : len;
     return status;
+}
+
+int u16550_flush_while(struct u16550 *uart, uint8_t (*keep_waiting)(void *context), void *context)
+{
+    struct uart_patience patience = { keep_waiting, context };
+    int status = uart_enter(uart);
+    if (status != U16550_OK)
+        return status;
+    status = uart_if(keep_waiting == NULL, U16550_NULL_POINTER);
+    if (status != U16550_OK)
+        return uart_leave(uart, status);
+    status = uart_if(uart_flush_while(&uart->ring.uart, &patience).is_error, U16550_STALLED);
+    return uart_leave(uart, status);
 }
 
 int u16550_read(struct u16550 *uart, uint8_t *buffer, size_t len, size_t *count)

@@ -927,10 +927,17 @@ int u16550_receive_bytes_exact(struct u16550 *uart, uint8_t *buffer, size_t len,
 int u16550_send_bytes_exact(struct u16550 *uart, const uint8_t *buffer, size_t len, size_t *done);
 
 /*
- * The same as u16550_send_bytes_exact, and waits no longer than keep_waiting wants: it gets the context after each unsuccessful
+ * The same as the two above, and wait no longer than keep_waiting wants: it gets the context after each unsuccessful
  * poll, and the wait ends if it returns 0. So a wait can end at a time, by whatever clock there is. The spin limit ends it too.
  * keep_waiting must not be null, and a call over this driver from it returns U16550_BUSY.
  */
+/*
+ * Proved: receive_bytes_while, with the answers of the caller: the slots are filled, each
+ * byte after its own wait; or those before the one whose wait ended in vain, as many as the
+ * error reports.
+ */
+int u16550_receive_bytes_while(struct u16550 *uart, uint8_t *buffer, size_t len, uint8_t (*keep_waiting)(void *context),
+                               void *context, size_t *done);
 /*
  * Proved: send_bytes_while, with the answers of the caller: all bytes, burst by burst, each
  * burst after its own wait; or those before the burst whose wait ended in vain, as many as
@@ -938,6 +945,13 @@ int u16550_send_bytes_exact(struct u16550 *uart, const uint8_t *buffer, size_t l
  */
 int u16550_send_bytes_while(struct u16550 *uart, const uint8_t *buffer, size_t len, uint8_t (*keep_waiting)(void *context),
                             void *context, size_t *done);
+
+/* The same wait as u16550_flush, and no longer than keep_waiting wants. */
+/*
+ * Proved: flush_while, with the answers of the caller: the transmitter was empty after fewer
+ * misses in a row than the limit; or the wait was in vain.
+ */
+int u16550_flush_while(struct u16550 *uart, uint8_t (*keep_waiting)(void *context), void *context);
 
 /* As the traits of embedded-io: some bytes, and a wait for the first. They return U16550_STALLED as the last two. */
 int u16550_read(struct u16550 *uart, uint8_t *buffer, size_t len, size_t *count);

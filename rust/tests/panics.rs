@@ -170,6 +170,8 @@ calls! {
     uart_send_burst(uart: &mut Uart, buffer: &[u8], size: FifoSize) -> usize { uart.send_burst(buffer, size) }
     uart_receive_bytes_exact(uart: &mut Uart, buffer: &mut [u8]) -> Result<(), StalledError> { uart.receive_bytes_exact(buffer) }
     uart_send_bytes_exact(uart: &mut Uart, bytes: &[u8]) -> Result<(), StalledError> { uart.send_bytes_exact(bytes) }
+    uart_receive_bytes_while(uart: &mut Uart, buffer: &mut [u8]) -> Result<(), StalledError> { uart.receive_bytes_while(buffer, &mut || device_read(8) != 0) }
+    uart_flush_while(uart: &mut Uart) -> Result<(), StalledError> { uart.flush_while(&mut || device_read(8) != 0) }
     uart_send_bytes_while(uart: &mut Uart, bytes: &[u8]) -> Result<(), StalledError> { uart.send_bytes_while(bytes, &mut || device_read(8) != 0) }
     uart_enable_interrupts(uart: &mut Uart, interrupts: IER) { uart.enable_interrupts(interrupts) }
     uart_disable_interrupts(uart: &mut Uart, interrupts: IER) { uart.disable_interrupts(interrupts) }

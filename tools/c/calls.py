@@ -526,11 +526,18 @@ spin limit. *done is how many bytes were done, also after a stall. done may be n
             Call("send_bytes_exact", "struct u16550 *uart, const uint8_t *buffer, size_t len, size_t *done", stalls="done"),
         ]),
         Group("""
-The same as u16550_send_bytes_exact, and waits no longer than keep_waiting wants: it gets the context after each unsuccessful
+The same as the two above, and wait no longer than keep_waiting wants: it gets the context after each unsuccessful
 poll, and the wait ends if it returns 0. So a wait can end at a time, by whatever clock there is. The spin limit ends it too.
 keep_waiting must not be null, and a call over this driver from it returns U16550_BUSY.""", [
+            Call("receive_bytes_while", "struct u16550 *uart, uint8_t *buffer, size_t len, uint8_t (*keep_waiting)(void *context), "
+                "void *context, size_t *done", stalls="done"),
             Call("send_bytes_while", "struct u16550 *uart, const uint8_t *buffer, size_t len, uint8_t (*keep_waiting)(void *context), "
                 "void *context, size_t *done", stalls="done"),
+        ]),
+        Group("""
+The same wait as u16550_flush, and no longer than keep_waiting wants.""", [
+            Call("flush_while", "struct u16550 *uart, uint8_t (*keep_waiting)(void *context), void *context",
+                does="status = uart_if(uart_flush_while(DRIVER, &patience).is_error, U16550_STALLED)"),
         ]),
         Group("""
 As the traits of embedded-io: some bytes, and a wait for the first. They return U16550_STALLED as the last two.""", [

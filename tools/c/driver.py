@@ -6,6 +6,7 @@ import sys
 import tomllib
 
 import calls
+import each
 import header
 import interface
 import names
@@ -58,10 +59,12 @@ def version():
 
 
 def of_table():
-    """The files that need no proof, by their paths: the header and the numbers of the library that is made of Rust."""
+    """The files that need no proof, by their paths: the header and the numbers of the library that is made of Rust, and each call for its
+    tests."""
     table.check(calls)
     of_rust = "rust/uart_16550_c"
-    return {f"{of_rust}/include/u16550.h": header.of_rust(text_of("header_rust.h"), version()), f"{of_rust}/src/codes.rs": header.numbers_in_rust(version())}
+    return {f"{of_rust}/include/u16550.h": header.of_rust(text_of("header_rust.h"), version()),
+            f"{of_rust}/src/codes.rs": header.numbers_in_rust(version()), f"{of_rust}/tests/each.h": each.text()}
 
 
 def wanted(library, text):

@@ -180,6 +180,8 @@ EXAMPLES = {
         ["# Ok(()) }"],
     ),
     "uart_16550::driver::patient::Uart16550::send_bytes_while": compiles(UART + ", mut deadline: impl Patience"),
+    "uart_16550::driver::transmit::Uart16550::flush_while": compiles(UART + ", mut deadline: impl Patience"),
+    "uart_16550::driver::patient::Uart16550::receive_bytes_while": compiles(UART + ", mut answer: [u8; 4], mut deadline: impl Patience"),
     "uart_16550::driver::Uart16550": compiles(UART),
     "uart_16550::driver::Uart16550::new_with_backend": compiles(
         "",

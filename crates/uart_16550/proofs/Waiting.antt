@@ -1,11 +1,13 @@
--- Rounds after misses, and the answers that whoever waits gave.
+-- What is awaited in turn, and the answers that whoever waits gave.
 use Rattle.std.proofs.Common.{◌≡◌, ◌+◌, ℕ, zero, suc, Bool, true, false, List, [], ◌∷◌, ◌++◌, refl, sym, ◌∙◌, ap, subst, arith}
 use Rattle.std.proofs.Common.{inl, inr, Ok, Err, length, append_assoc}
 use Rattle.std.specs.List.{FoldsTo}
 use Rattle.uart_spec.specs.declared.access.Access.{Access}
-use Rattle.uart_16550.specs.Grammar.{Settings, Then, InOrder, AllMisses}
-use Rattle.uart_16550.specs.Transmit.{SendMiss, Round}
-use Rattle.uart_16550.specs.Patience.{keeps_waiting, Awaited, RoundAfter, WaitsWhile, bursts_of, misses_of, IsExactIfEndless}
+use Rattle.uart_16550.specs.Grammar.{Language, Settings, Then, InOrder, FewMisses, AllMisses}
+use Rattle.uart_16550.specs.Receive.{Hit, Miss}
+use Rattle.uart_16550.specs.Transmit.{SendMiss, Burst}
+use Rattle.uart_16550.specs.Patience.{keeps_waiting, After, InVain, Awaited, items_of, misses_of, IsExactIfEndless, ReceivesExactIfEndless}
+use Rattle.uart_16550.specs.Patience.{ShowsEmpty, FlushesIfEndless}
 use Rattle.uart_16550.proofs.determined.Parting.{not_both}
 use Rattle.uart_16550.proofs.determined.Repeated.{same_first, same_others}
 
@@ -26,28 +28,39 @@ pub folds_append : {P A : Type 0} (R : P → A → P → Type 0) (p q r : P) (xs
 folds_append {P} R p q r [] ys a b = let F : P → Type 0 = λ x. FoldsTo R x ys r in subst F (sym a) b
 folds_append R p q r (x ∷ xs) ys a b = (a.0, a.1, folds_append R a.0 q r xs ys a.2 b)
 
--- one round more
-pub misses_more : (rounds : List Awaited) (round : Awaited) → misses_of (rounds ++ round ∷ []) ≡ misses_of rounds + round.misses
-misses_more [] round = omega arith
-misses_more (first ∷ rounds) round = let more = misses_more rounds round in omega (arith, more)
+-- one wait more
+pub misses_more : {A : Type 0} (awaited : List (Awaited A)) (one : Awaited A) →
+    misses_of (awaited ++ one ∷ []) ≡ misses_of awaited + one.misses
+misses_more [] one = omega arith
+misses_more (first ∷ others) one = let more = misses_more others one in omega (arith, more)
 
--- a burst after some misses is one after fewer than the limit
-after_few : (s : Settings) (rounds : List Awaited) (l : List Access) → InOrder RoundAfter rounds s l → InOrder Round (bursts_of rounds) s l
-after_few s [] l t = t
-after_few s (round ∷ rounds) l t =
-    let sent = t.first.1 in
+pub asked_more : {P A : Type 0} (R : P → Bool → P → Type 0) (p q r : P) (awaited : List (Awaited A)) (one : Awaited A) (said : List Bool) →
+    FoldsTo R p (keeps_waiting (misses_of awaited)) q → said ≡ keeps_waiting one.misses → FoldsTo R q said r →
+    FoldsTo R p (keeps_waiting (misses_of (awaited ++ one ∷ []))) r
+asked_more R p q r awaited one said before is asked =
+    rw (misses_more awaited one, keeps_sum (misses_of awaited) one.misses)
+    (folds_append R p q r (keeps_waiting (misses_of awaited)) (keeps_waiting one.misses) before
+    (subst (λ (answers : List Bool). FoldsTo R q answers r) is asked))
+
+-- what comes after some misses comes after fewer than the limit
+after_few : {A : Type 0} (M : Language) (H : A → Language) (s : Settings) (awaited : List (Awaited A)) (l : List Access) →
+    InOrder (λ (one : Awaited A). After one.misses M (H one.item)) awaited s l →
+    InOrder (λ (item : A). Then (FewMisses M) (H item)) (items_of awaited) s l
+after_few M H s [] l t = t
+after_few M H s (one ∷ others) l t =
+    let hit = t.first.1 in
     record {
       front = t.front;
       back = t.back;
       whole = t.whole;
       first = record {
-        front = sent.front;
-        back = sent.back;
-        whole = sent.whole;
-        first = (round.misses, t.first.0, sent.first);
-        second = sent.second;
+        front = hit.front;
+        back = hit.back;
+        whole = hit.whole;
+        first = (one.misses, t.first.0, hit.first);
+        second = hit.second;
       };
-      second = after_few s rounds t.back t.second;
+      second = after_few M H s others t.back t.second;
     }
 
 -- who keeps waiting each time has not said no
@@ -57,16 +70,46 @@ never_no zero (suc k) same = absurd (omega (arith, ap length same))
 never_no (suc n) zero same = not_both (same_first same)
 never_no (suc n) (suc k) same = never_no n k (same_others same)
 
+-- so a wait of theirs in vain is one that reaches the limit
+vain_all : (M : Language) (s : Settings) (n k : ℕ) (last : List Bool) (l : List Access) → keeps_waiting n ≡ keeps_waiting k ++ last →
+    InVain M last s l → AllMisses M s l
+vain_all M s n k last l said (inl wait) = wait.1
+vain_all M s n k last l said (inr wait) =
+    let ends : keeps_waiting n ≡ keeps_waiting (k + wait.0) ++ false ∷ [] =
+    said ∙ ap (λ (xs : List Bool). keeps_waiting k ++ xs) wait.2 ∙
+    sym (append_assoc (keeps_waiting k) (keeps_waiting wait.0) (false ∷ [])) ∙
+    ap (λ (xs : List Bool). xs ++ false ∷ []) (sym (keeps_sum k wait.0)) in
+    absurd (never_no n (k + wait.0) ends)
+
+-- what was awaited in turn, and then a wait in vain
+begun_all : {A : Type 0} (M : Language) (H : A → Language) (s : Settings) (n : ℕ) (awaited : List (Awaited A)) (last : List Bool)
+    (l : List Access) → keeps_waiting n ≡ keeps_waiting (misses_of awaited) ++ last →
+    Then (InOrder (λ (one : Awaited A). After one.misses M (H one.item)) awaited) (InVain M last) s l →
+    Then (InOrder (λ (item : A). Then (FewMisses M) (H item)) (items_of awaited)) (AllMisses M) s l
+begun_all M H s n awaited last l said t = record {
+  front = t.front;
+  back = t.back;
+  whole = t.whole;
+  first = after_few M H s awaited t.front t.first;
+  second = vain_all M s n (misses_of awaited) last t.back said t.second;
+}
+
 pub endless_is_exact : IsExactIfEndless
-endless_is_exact bytes n (Ok x) s l t = (bursts_of t.0, t.1, after_few s t.0 l t.3)
-endless_is_exact bytes n (Err e) s l t = (bursts_of t.0, t.2, t.3, t.4, t.5, stalls t.7.second)
-  where
-    stalls : WaitsWhile t.1 false s t.7.back → Then (InOrder Round (bursts_of t.0)) (AllMisses SendMiss) s l
-    stalls (inl wait) =
-        record { front = t.7.front; back = t.7.back; whole = t.7.whole; first = after_few s t.0 t.7.front t.7.first; second = wait.1 }
-    stalls (inr wait) =
-        let said : keeps_waiting n ≡ keeps_waiting (misses_of t.0 + wait.0) ++ false ∷ [] =
-        t.6 ∙ ap (λ (last : List Bool). keeps_waiting (misses_of t.0) ++ last) wait.2 ∙
-        sym (append_assoc (keeps_waiting (misses_of t.0)) (keeps_waiting wait.0) (false ∷ [])) ∙
-        ap (λ (xs : List Bool). xs ++ false ∷ []) (sym (keeps_sum (misses_of t.0) wait.0)) in
-        absurd (never_no n (misses_of t.0 + wait.0) said)
+endless_is_exact bytes n (Ok x) s l t = (items_of t.0, t.1, after_few SendMiss Burst s t.0 l t.3)
+endless_is_exact bytes n (Err e) s l t = (items_of t.0, t.2, t.3, t.4, t.5, begun_all SendMiss Burst s n t.0 t.1 l t.6 t.7)
+
+pub endless_receives : ReceivesExactIfEndless
+endless_receives n bytes asked (Ok x) s l t =
+    let Arrive : List ℕ → Type 0 = λ xs. InOrder (λ (byte : ℕ). Then (FewMisses Miss) (Hit byte)) xs s l in
+    (t.2, subst Arrive (sym t.1) (after_few Miss Hit s t.0 l t.4))
+endless_receives n bytes asked (Err e) s l t =
+    let Begin : List ℕ → Type 0 = λ xs. Then (InOrder (λ (byte : ℕ). Then (FewMisses Miss) (Hit byte)) xs) (AllMisses Miss) s l in
+    (t.3, t.4, subst Begin (sym t.2) (begun_all Miss Hit s asked t.0 t.1 l t.5 t.6))
+
+pub endless_flushes : FlushesIfEndless
+endless_flushes n (Ok x) s l t =
+    let hit = t.2.1 in
+    record { front = hit.front; back = hit.back; whole = hit.whole; first = (t.0, t.2.0, hit.first); second = hit.second }
+endless_flushes n (Err e) s l t = (t.0, vain_all (ShowsEmpty false) s n 0 (keeps_waiting n) l refl t.1)
+
+pub ruleset endless = (endless_is_exact, endless_receives, endless_flushes)

@@ -8,7 +8,7 @@ use Rattle.uart_16550.specs.Grammar.{Language}
 use Rattle.uart_16550.specs.Driver.{Did, Doing, Fields, Made, backend_of, fields}
 use Rattle.uart_16550.specs.Receive.{Receives, ReceivesWithErrors, ReceivesExact, filled}
 use Rattle.uart_spec.specs.declared.received.Received.{Received}
-use Rattle.uart_16550.specs.Patience.{SendsWhile}
+use Rattle.uart_16550.specs.Patience.{ReceivesWhile}
 use Rattle.uart_16550.specs.Io.{Reads, got}
 use Rattle.uart_16550.specs.declared.driver.Uart16550.{Uart16550}
 
@@ -108,10 +108,15 @@ ReceivesExactInto old new result s l =
     (length new ≡ length old) × IfErr result (λ e. drop e.done new ≡ drop e.done old)
     × ReceivesExact (length old) (filled result new) result s l
 
--- what `send_bytes_while` does if its caller, asked again and again, would give these answers
-abbrev pub SendsAsAnswered : {T : Type 0} → List ℕ → (answers : List Bool) → Result T StalledError → Language
-SendsAsAnswered bytes answers result s l =
-    (said : List Bool) × (later : List Bool) × (answers ≡ said ++ later) × SendsWhile bytes said result s l
+-- what `receive_bytes_while` does to its slots, with the answers of its caller and its result
+abbrev pub ReceivesWhileInto : {T : Type 0} → (old new : List ℕ) → List Bool → Result T StalledError → Language
+ReceivesWhileInto old new said result s l =
+    (length new ≡ length old) × IfErr result (λ e. drop e.done new ≡ drop e.done old)
+    × ReceivesWhile (length old) (filled result new) said result s l
+
+-- what a call does whose caller, asked again and again, would give these answers
+abbrev pub AsAnswered : (answers : List Bool) → (List Bool → Language) → Language
+AsAnswered answers L s l = (said : List Bool) × (later : List Bool) × (answers ≡ said ++ later) × L said s l
 
 -- what `read` does to its slots, with its result
 abbrev pub ReadsInto : (old new : List ℕ) → Result ℕ StalledError → Language

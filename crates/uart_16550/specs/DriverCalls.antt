@@ -38,7 +38,8 @@ use Rattle.uart_16550.specs.Io.{Writes, Flushes, AnswersRead, AnswersWrite}
 use Rattle.uart_16550.specs.Expansion.{SendsText, SendsStr}
 use Rattle.uart_16550.specs.Tty.{Starts}
 use Rattle.uart_16550.specs.Choice.{ReceivesInto, ReceivesWithErrorsInto, ReceivesExactInto, ReadsInto}
-use Rattle.uart_16550.specs.Choice.{SendsAsAnswered}
+use Rattle.uart_16550.specs.Choice.{AsAnswered, ReceivesWhileInto}
+use Rattle.uart_16550.specs.Patience.{SendsWhile, FlushesWhile}
 use Rattle.uart_spec.specs.declared.dump.ConfigRegisterDump.{ConfigRegisterDump}
 
 -- The calls are in a table, because a clause cannot speak of every language. `init` is in it with a computable
@@ -60,6 +61,8 @@ pub data SavingCall : Type 0 where
   try_send_byte : (byte : ℕ) → SavingCall
   send_bytes send_bytes_exact : (bytes : List ℕ) → SavingCall
   send_bytes_while : (bytes : List ℕ) (answers : List Bool) → SavingCall
+  receive_bytes_while : (slots : List ℕ) (answers : List Bool) → SavingCall
+  flush_while : (answers : List Bool) → SavingCall
   send_burst : (size : FifoSize) (bytes : List ℕ) → SavingCall
   read : (slots : List ℕ) → SavingCall
   write : (bytes : List ℕ) → SavingCall
@@ -92,6 +95,8 @@ SavingOutcome (send_bytes bytes) = ℕ
 SavingOutcome (send_burst size bytes) = ℕ
 SavingOutcome (send_bytes_exact bytes) = Result (Unit {0}) StalledError
 SavingOutcome (send_bytes_while bytes answers) = Result (Unit {0}) StalledError
+SavingOutcome (receive_bytes_while slots answers) = Result (Unit {0}) StalledError × List ℕ
+SavingOutcome (flush_while answers) = Result (Unit {0}) StalledError
 SavingOutcome (read slots) = Result ℕ StalledError × List ℕ
 SavingOutcome (write bytes) = Result ℕ StalledError
 SavingOutcome flush = Result (Unit {0}) StalledError
@@ -124,7 +129,10 @@ SavingLists (try_send_byte byte) result = TrySends byte result
 SavingLists (send_bytes bytes) count = Sends bytes count
 SavingLists (send_burst size bytes) count = SendsBurst size bytes count
 SavingLists (send_bytes_exact bytes) result = SendsExact bytes result
-SavingLists (send_bytes_while bytes answers) result = SendsAsAnswered bytes answers result
+SavingLists (send_bytes_while bytes answers) result = AsAnswered answers (λ said. SendsWhile bytes said result)
+SavingLists (receive_bytes_while slots answers) end =
+    AsAnswered answers (λ said. ReceivesWhileInto slots end.1 said end.0)
+SavingLists (flush_while answers) result = AsAnswered answers (λ said. FlushesWhile said result)
 SavingLists (read slots) end = ReadsInto slots end.1 end.0
 SavingLists (write bytes) result = Writes bytes result
 SavingLists flush result = Flushes result

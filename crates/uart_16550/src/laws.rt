@@ -10,7 +10,8 @@ ghost use Rattle.uart_16550.specs.DriverCalls.{ChangingCall, ChangingDoing};
 ghost use Rattle.uart_16550.specs.DriverCalls.{SavingCall, SavingLists};
 ghost use Rattle.uart_16550.specs.Frame.{ChangesOnly, ChangesOutput};
 ghost use Rattle.uart_16550.specs.Mmio.{Mapped};
-ghost use Rattle.uart_16550.specs.Patience.{IsExactIfEndless};
+ghost use Rattle.uart_16550.specs.Patience.{IsExactIfEndless, ReceivesExactIfEndless};
+ghost use Rattle.uart_16550.specs.Patience.{FlushesIfEndless};
 ghost use Rattle.uart_16550.specs.Pio.{Ports};
 ghost use Rattle.uart_16550.specs.declared.driver.TheConstants.{DEFAULT_SPIN_LIMIT};
 ghost use Rattle.uart_spec.specs.declared.registers.line_control.TheConstants.LCR;
@@ -46,11 +47,13 @@ pub fn calls_have_one_outcome<B: Backend>()
         HasOneOutcome (ChangingDoing call) B.step }
 {}
 
-/// `send_bytes_while`, whose caller keeps waiting each time it is asked, does the same as
-/// `send_bytes_exact`.
-#[tactic(auto, using(crate::proofs::Waiting::endless_is_exact))]
+/// `send_bytes_while`, `receive_bytes_while` and `flush_while`, whose caller keeps waiting each
+/// time it is asked, do the same as `send_bytes_exact`, `receive_bytes_exact` and `flush`.
+#[tactic(auto, using(crate::proofs::Waiting::endless))]
 pub fn endless_patience_is_exact()
-    ensures { IsExactIfEndless }
+    ensures sends { IsExactIfEndless }
+    ensures receives { ReceivesExactIfEndless }
+    ensures flushes { FlushesIfEndless }
 {}
 
 /// `set_rts`, `set_dtr` and `set_break` write their bit as asked, and the other bits of the

@@ -619,12 +619,17 @@ int U16550_CALL u16550_receive_bytes_exact(struct u16550 *uart, uint8_t *buffer,
 int U16550_CALL u16550_send_bytes_exact(struct u16550 *uart, const uint8_t *buffer, size_t len, size_t *done);
 
 /*
- * The same as u16550_send_bytes_exact, and waits no longer than keep_waiting wants: it gets the context after each unsuccessful
+ * The same as the two above, and wait no longer than keep_waiting wants: it gets the context after each unsuccessful
  * poll, and the wait ends if it returns 0. So a wait can end at a time, by whatever clock there is. The spin limit ends it too.
  * keep_waiting must not be null, and a call over this driver from it returns U16550_BUSY.
  */
+int U16550_CALL u16550_receive_bytes_while(struct u16550 *uart, uint8_t *buffer, size_t len,
+                                           uint8_t (U16550_CALL *keep_waiting)(void *context), void *context, size_t *done);
 int U16550_CALL u16550_send_bytes_while(struct u16550 *uart, const uint8_t *buffer, size_t len,
                                         uint8_t (U16550_CALL *keep_waiting)(void *context), void *context, size_t *done);
+
+/* The same wait as u16550_flush, and no longer than keep_waiting wants. */
+int U16550_CALL u16550_flush_while(struct u16550 *uart, uint8_t (U16550_CALL *keep_waiting)(void *context), void *context);
 
 /* As the traits of embedded-io: some bytes, and a wait for the first. They return U16550_STALLED as the last two. */
 int U16550_CALL u16550_read(struct u16550 *uart, uint8_t *buffer, size_t len, size_t *count);

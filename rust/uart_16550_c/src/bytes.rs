@@ -176,6 +176,25 @@ pub unsafe extern "C" fn u16550_send_bytes_exact(
 }
 
 #[unsafe(no_mangle)]
+pub unsafe extern "C" fn u16550_receive_bytes_while(
+    uart: *mut Memory,
+    buffer: *mut u8,
+    len: usize,
+    keep_waiting: Option<unsafe extern "C" fn(*mut c_void) -> u8>,
+    context: *mut c_void,
+    done: *mut usize,
+) -> c_int {
+    // SAFETY: the caller promises that pointers are null or valid, and that the function takes the context.
+    unsafe {
+        exact(uart, Some(len), done, |driver| {
+            let slots = slots(buffer, len)?;
+            let keep_waiting = keep_waiting.ok_or(Failure::NullPointer)?;
+            Ok(driver.receive_bytes_while(slots, &mut || keep_waiting(context) != 0))
+        })
+    }
+}
+
+#[unsafe(no_mangle)]
 pub unsafe extern "C" fn u16550_send_bytes_while(
     uart: *mut Memory,
     buffer: *const u8,
@@ -228,6 +247,21 @@ pub unsafe extern "C" fn u16550_write(
 pub unsafe extern "C" fn u16550_flush(uart: *mut Memory) -> c_int {
     // SAFETY: the caller promises that the pointer is null or valid.
     unsafe { perform(uart, |driver| Ok(Write::flush(driver)?)) }
+}
+
+#[unsafe(no_mangle)]
+pub unsafe extern "C" fn u16550_flush_while(
+    uart: *mut Memory,
+    keep_waiting: Option<unsafe extern "C" fn(*mut c_void) -> u8>,
+    context: *mut c_void,
+) -> c_int {
+    // SAFETY: the caller promises that the pointer is null or valid, and that the function takes the context.
+    unsafe {
+        perform(uart, |driver| {
+            let keep_waiting = keep_waiting.ok_or(Failure::NullPointer)?;
+            Ok(driver.flush_while(&mut || keep_waiting(context) != 0)?)
+        })
+    }
 }
 
 #[unsafe(no_mangle)]

@@ -10,6 +10,7 @@
 
 #include "device.h"
 #include "u16550.h"
+#include "each.h"
 
 static int compared, failed;
 
@@ -911,6 +912,59 @@ static void waits_in_time(void)
     MISUSE(u16550_send_bytes_while(&uart, text, 20, NULL, &deadline, &done), U16550_NULL_POINTER);
 }
 
+static void waits_in_time_for_bytes(void)
+{
+    struct deadline deadline = { 0, 2, 0 };
+    uint8_t slots[4] = { 0xee, 0xee, 0xee, 0xee };
+    size_t done = 99;
+    ready();
+    device_arrive(&d, "ab");
+    OK(u16550_receive_bytes_while(&uart, slots, 2, is_before, &deadline, &done));
+    IS(done, 2);
+    BYTES(slots, "ab\xee\xee");
+    OK(u16550_receive_bytes_while(&uart, NULL, 0, is_before, &deadline, &done));
+    IS(done, 0);
+    IS(deadline.now, 0);
+    /* A byte, then two polls, of which the second is the last; the spin limit is three. */
+    device_arrive(&d, "c");
+    accesses = d.accesses;
+    IS(u16550_receive_bytes_while(&uart, slots, 4, is_before, &deadline, &done), U16550_STALLED);
+    IS(done, 1);
+    BYTES(slots, "cb\xee\xee");
+    IS(deadline.now, 2);
+    IS(deadline.inside, U16550_BUSY);
+    IS(d.accesses, accesses + 4);
+    deadline.now = 0;
+    deadline.end = 1000;
+    IS(u16550_receive_bytes_while(&uart, slots, 4, is_before, &deadline, NULL), U16550_STALLED);
+    IS(deadline.now, 3);
+    IS(d.accesses, accesses + 7);
+    accesses = d.accesses;
+    MISUSE(u16550_receive_bytes_while(&uart, slots, 4, NULL, &deadline, &done), U16550_NULL_POINTER);
+}
+
+static void waits_in_time_for_an_empty_transmitter(void)
+{
+    struct deadline deadline = { 0, 2, 0 };
+    ready();
+    OK(u16550_flush_while(&uart, is_before, &deadline));
+    IS(deadline.now, 0);
+    /* The second poll is the last, and the spin limit is three. */
+    d.is_stuck = 1;
+    accesses = d.accesses;
+    IS(u16550_flush_while(&uart, is_before, &deadline), U16550_STALLED);
+    IS(deadline.now, 2);
+    IS(deadline.inside, U16550_BUSY);
+    IS(d.accesses, accesses + 2);
+    deadline.now = 0;
+    deadline.end = 1000;
+    IS(u16550_flush_while(&uart, is_before, &deadline), U16550_STALLED);
+    IS(deadline.now, 3);
+    IS(d.accesses, accesses + 5);
+    accesses = d.accesses;
+    MISUSE(u16550_flush_while(&uart, NULL, &deadline), U16550_NULL_POINTER);
+}
+
 static void io_traits(void)
 {
     uint8_t slots[8];
@@ -1456,6 +1510,39 @@ static void ring_errors(void)
     MISUSE(u16550_ring_config_register_dump(&uart, &dump), U16550_NO_RINGS);
 }
 
+/* What the calls of the table take and give when they are refused. */
+#define DRIVER u
+#define BUFFER &byte
+#define LEN 1
+#define CONFIG &config
+#define SETUP &setup
+#define DUMP &dump
+#define ON 1
+#define BYTE 1
+#define OUTPUTS 0
+#define INTERRUPTS 1
+#define CHARACTERS 4
+#define FIFOS U16550_FIFOS_KEEP
+#define FIFO_SIZE 16
+#define SPIN_LIMIT 1
+#define LIMIT 1
+#define ROUNDS 1
+#define MARK 1
+#define HOLD 1
+#define RELEASE 2
+#define KEEP_WAITING is_before
+#define CONTEXT NULL
+#define BYTE_AT &byte
+#define OTHER_BYTE_AT &byte
+#define SIZE_AT &count
+#define NUMBER_AT &limit
+#define CONFIG_AT &config
+#define STATE_AT &state
+#define RECEIVED_AT &received
+#define DUMP_AT &dump
+#define URGENT_AT &urgent
+#define HANDLED_AT &handled
+
 /* Each call over this memory is refused by this number, and makes no access. `u` is the memory. */
 static void refused(struct u16550 *u, int wanted)
 {
@@ -1470,93 +1557,19 @@ static void refused(struct u16550 *u, int wanted)
     uint8_t byte;
     uint64_t limit;
     size_t count;
+#define REFUSED(name, ...) MISUSE(name(__VA_ARGS__), wanted);
+    EACH_CALL(REFUSED, REFUSED)
     MISUSE(u16550_end(u), wanted);
     MISUSE(u16550_get_io(u, &io), wanted);
     MISUSE(u16550_set_io(u, &io), wanted);
-    MISUSE(u16550_get_config(u, &config), wanted);
-    MISUSE(u16550_get_state(u, &state), wanted);
-    MISUSE(u16550_fifo_enabled(u, &byte), wanted);
-    MISUSE(u16550_spin_limit(u, &limit), wanted);
-    MISUSE(u16550_set_spin_limit(u, 1), wanted);
-    MISUSE(u16550_check_present(u, &byte), wanted);
-    MISUSE(u16550_init(u, &config), wanted);
     MISUSE(u16550_test_loopback(u, NULL), wanted);
-    MISUSE(u16550_check_connected(u), wanted);
     MISUSE(u16550_emergency(u), wanted);
-    MISUSE(u16550_set_frame(u, &config), wanted);
-    MISUSE(u16550_init_with(u, &config, &setup), wanted);
     MISUSE(u16550_check_configured(u, 0, NULL), wanted);
-    MISUSE(u16550_set_frame_when_idle(u, &config), wanted);
-    MISUSE(u16550_set_trigger_level(u, 4), wanted);
-    MISUSE(u16550_quiesce(u, 0, U16550_FIFOS_KEEP), wanted);
-    MISUSE(u16550_restore(u, &dump), wanted);
-    MISUSE(u16550_attach(u, &byte, &byte), wanted);
-    MISUSE(u16550_set_modem_control(u, 0), wanted);
-    MISUSE(u16550_set_rts(u, 1), wanted);
-    MISUSE(u16550_set_dtr(u, 1), wanted);
-    MISUSE(u16550_set_break(u, 1), wanted);
-    MISUSE(u16550_try_receive_with_errors(u, &received), wanted);
-    MISUSE(u16550_receive_with_errors(u, &received, 1, &count), wanted);
-    MISUSE(u16550_is_idle(u, &byte), wanted);
-    MISUSE(u16550_is_gone(u, &byte), wanted);
-    MISUSE(u16550_peek_modem(u, &byte), wanted);
-    MISUSE(u16550_retrigger_interrupts(u), wanted);
-    MISUSE(u16550_ready_to_receive(u), wanted);
-    MISUSE(u16550_ready_to_send(u), wanted);
-    MISUSE(u16550_try_receive_byte(u, &byte), wanted);
-    MISUSE(u16550_try_send_byte(u, 0), wanted);
-    MISUSE(u16550_receive_bytes(u, &byte, 1, &count), wanted);
-    MISUSE(u16550_send_bytes(u, &byte, 1, &count), wanted);
-    MISUSE(u16550_send_burst(u, &byte, 1, 16, &count), wanted);
-    MISUSE(u16550_receive_bytes_exact(u, &byte, 1, &count), wanted);
-    MISUSE(u16550_send_bytes_exact(u, &byte, 1, &count), wanted);
-    MISUSE(u16550_send_bytes_while(u, &byte, 1, is_before, NULL, &count), wanted);
-    MISUSE(u16550_read(u, &byte, 1, &count), wanted);
-    MISUSE(u16550_write(u, &byte, 1, &count), wanted);
-    MISUSE(u16550_flush(u), wanted);
-    MISUSE(u16550_read_ready(u, &byte), wanted);
-    MISUSE(u16550_write_ready(u, &byte), wanted);
     MISUSE(u16550_write_text(u, "t", 1, &count), wanted);
     MISUSE(u16550_write_raw_text(u, "t", 1, &count), wanted);
-    MISUSE(u16550_ier(u, &byte), wanted);
-    MISUSE(u16550_isr(u, &byte), wanted);
-    MISUSE(u16550_lcr(u, &byte), wanted);
-    MISUSE(u16550_mcr(u, &byte), wanted);
-    MISUSE(u16550_lsr(u, &byte), wanted);
-    MISUSE(u16550_msr(u, &byte), wanted);
-    MISUSE(u16550_spr(u, &byte), wanted);
-    MISUSE(u16550_dll_dlm(u, &byte, &byte), wanted);
-    MISUSE(u16550_enable_interrupts(u, 1), wanted);
-    MISUSE(u16550_disable_interrupts(u, 1), wanted);
-    MISUSE(u16550_config_register_dump(u, &dump), wanted);
     MISUSE(u16550_ring_new(u, memory, sizeof memory, 1, 1), wanted);
     MISUSE(u16550_ring_end(u), wanted);
-    MISUSE(u16550_ring_transmit_len(u, &count), wanted);
-    MISUSE(u16550_ring_receive_len(u, &count), wanted);
-    MISUSE(u16550_ring_is_paused(u, &byte), wanted);
-    MISUSE(u16550_ring_queue(u, &byte, 1, &count), wanted);
-    MISUSE(u16550_ring_take(u, &byte, 1, &count), wanted);
-    MISUSE(u16550_ring_service(u, &count), wanted);
-    MISUSE(u16550_ring_handle(u, 1, &handled), wanted);
-    MISUSE(u16550_ring_retrigger(u), wanted);
-    MISUSE(u16550_ring_resume_transmit(u), wanted);
-    MISUSE(u16550_ring_take_line(u, &byte), wanted);
-    MISUSE(u16550_ring_take_modem(u, &byte), wanted);
-    MISUSE(u16550_ring_transmit_room(u, &count), wanted);
-    MISUSE(u16550_ring_hold_transmit(u), wanted);
-    MISUSE(u16550_ring_release_transmit(u), wanted);
-    MISUSE(u16550_ring_is_held(u, &byte), wanted);
-    MISUSE(u16550_ring_queue_urgent(u, 1, &urgent), wanted);
-    MISUSE(u16550_ring_urgent(u, &urgent), wanted);
-    MISUSE(u16550_ring_clear_transmit(u, &count), wanted);
-    MISUSE(u16550_ring_clear_receive(u, &count), wanted);
-    MISUSE(u16550_ring_set_low_mark(u, 1), wanted);
-    MISUSE(u16550_ring_take_low(u, &byte), wanted);
-    MISUSE(u16550_ring_adjust_rts(u, 1, 2), wanted);
-    MISUSE(u16550_ring_try_handle(u, 1, 1, &handled), wanted);
     MISUSE(u16550_ring_stuck(u, &stuck), wanted);
-    MISUSE(u16550_ring_restart(u, 1), wanted);
-    MISUSE(u16550_ring_config_register_dump(u, &dump), wanted);
 }
 
 static void misuses(void)
@@ -1618,6 +1631,9 @@ static void nulls(void)
     MISUSE(u16550_send_burst(&uart, &byte, 1, 16, NULL), null);
     MISUSE(u16550_receive_bytes_exact(&uart, NULL, 1, &count), null);
     MISUSE(u16550_send_bytes_exact(&uart, NULL, 1, &count), null);
+    MISUSE(u16550_flush_while(&uart, NULL, NULL), null);
+    MISUSE(u16550_receive_bytes_while(&uart, NULL, 1, is_before, NULL, &count), null);
+    MISUSE(u16550_receive_bytes_while(&uart, &byte, 1, NULL, NULL, &count), null);
     MISUSE(u16550_send_bytes_while(&uart, NULL, 1, is_before, NULL, &count), null);
     MISUSE(u16550_send_bytes_while(&uart, &byte, 1, NULL, NULL, &count), null);
     MISUSE(u16550_read(&uart, NULL, 1, &count), null);
@@ -1901,6 +1917,8 @@ int main(void)
     with_errors();
     exact();
     waits_in_time();
+    waits_in_time_for_bytes();
+    waits_in_time_for_an_empty_transmitter();
     io_traits();
     text();
     registers();

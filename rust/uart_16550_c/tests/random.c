@@ -8,8 +8,9 @@
 #include <string.h>
 
 #include "u16550.h"
+#include "each.h"
 
-enum { CALLS = 40000, NESTED_IN = 16, ROOM = 64, LAST = 94 };
+enum { CALLS = 40000, NESTED_IN = 16, ROOM = 64 };
 
 void u16550_panic(void)
 {
@@ -118,9 +119,48 @@ static uint8_t U16550_CALL keep_waiting(void *context)
     return *left > 0 && (*left)--;
 }
 
+/* What the calls of the table take and give. */
+#define DRIVER u
+#define BUFFER r->bytes
+#define LEN len
+#define CONFIG &r->config
+#define SETUP &setup
+#define DUMP &r->dump
+#define ON (uint8_t)below(2)
+#define BYTE (uint8_t)below(256)
+#define OUTPUTS (uint8_t)below(256)
+#define INTERRUPTS (uint8_t)below(256)
+#define CHARACTERS (uint8_t)below(16)
+#define FIFOS (uint8_t)below(4)
+#define FIFO_SIZE (uint16_t)(16 << below(6))
+#define SPIN_LIMIT 1 + below(20)
+#define LIMIT below(10)
+#define ROUNDS below(4)
+#define MARK below(20)
+#define HOLD below(20)
+#define RELEASE below(20)
+#define KEEP_WAITING keep_waiting
+#define CONTEXT &left
+#define BYTE_AT &r->value
+#define OTHER_BYTE_AT &r->other
+#define SIZE_AT &r->count
+#define NUMBER_AT &r->limit
+#define CONFIG_AT &r->config
+#define STATE_AT &r->state
+#define RECEIVED_AT r->received
+#define DUMP_AT &r->dump
+#define URGENT_AT &r->urgent
+#define HANDLED_AT &r->handled
+
+/* The numbers of the calls: those of the table, and behind them the others. */
+#define NUMBER(name, ...) NUMBER_OF_##name,
+enum { EACH_CALL(NUMBER, NUMBER) OTHERS, LAST = OTHERS + 18 };
+
 /* Makes one call over a driver. */
 static int make(struct u16550 *u, unsigned which, struct room *r)
 {
+    struct u16550_setup setup = { (uint8_t)below(2), (uint8_t)below(4), (uint8_t)below(256) };
+    uint32_t left = below(20);
     size_t len = below(ROOM + 1), i;
     for (i = 0; i < ROOM; i++)
         r->bytes[i] = (uint8_t)below(128);
@@ -130,110 +170,30 @@ static int make(struct u16550 *u, unsigned which, struct room *r)
     r->state.config = r->config;
     r->state.saved_lsr = (uint8_t)below(256);
     switch (which) {
-    case 0: return u16550_new(u, &device);
-    case 1: return u16550_new_port(u, &device, (uint16_t)below(1u << 16));
-    case 2: return u16550_new_mmio(u, &device, any_bits(), (uint8_t)below(256));
-    case 3: return u16550_from_state(u, &device, &r->state);
-    case 4: return u16550_end(u);
-    case 5: return u16550_get_io(u, &r->io);
-    case 6: return u16550_set_io(u, &device);
-    case 7: return u16550_get_config(u, &r->config);
-    case 8: return u16550_get_state(u, &r->state);
-    case 9: return u16550_fifo_enabled(u, &r->value);
-    case 10: return u16550_spin_limit(u, &r->limit);
-    case 11: return u16550_set_spin_limit(u, 1 + below(20));
-    case 12: return u16550_check_present(u, &r->value);
-    case 13: return u16550_init(u, &r->config);
-    case 14: return u16550_test_loopback(u, &r->failure);
-    case 15: return u16550_check_connected(u);
-    case 16: return u16550_set_frame(u, &r->config);
-    case 17: return u16550_attach(u, &r->value, &r->other);
-    case 18: return u16550_set_modem_control(u, (uint8_t)below(256));
-    case 19: return u16550_set_rts(u, (uint8_t)below(2));
-    case 20: return u16550_set_dtr(u, (uint8_t)below(2));
-    case 21: return u16550_set_break(u, (uint8_t)below(2));
-    case 22: return u16550_ready_to_receive(u);
-    case 23: return u16550_ready_to_send(u);
-    case 24: return u16550_try_receive_byte(u, &r->value);
-    case 25: return u16550_try_send_byte(u, (uint8_t)below(256));
-    case 26: return u16550_receive_bytes(u, r->bytes, len, &r->count);
-    case 27: return u16550_send_bytes(u, r->bytes, len, &r->count);
-    case 28: return u16550_try_receive_with_errors(u, r->received);
-    case 29: return u16550_receive_with_errors(u, r->received, len, &r->count);
-    case 30: return u16550_receive_bytes_exact(u, r->bytes, len, &r->count);
-    case 31: return u16550_send_bytes_exact(u, r->bytes, len, &r->count);
-    case 32: return u16550_read(u, r->bytes, len, &r->count);
-    case 33: return u16550_write(u, r->bytes, len, &r->count);
-    case 34: return u16550_flush(u);
-    case 35: return u16550_read_ready(u, &r->value);
-    case 36: return u16550_write_ready(u, &r->value);
-    case 37: return u16550_is_idle(u, &r->value);
-    case 38: return u16550_write_text(u, (const char *)r->bytes, len, &r->count);
-    case 39: return u16550_ier(u, &r->value);
-    case 40: return u16550_isr(u, &r->value);
-    case 41: return u16550_lcr(u, &r->value);
-    case 42: return u16550_mcr(u, &r->value);
-    case 43: return u16550_lsr(u, &r->value);
-    case 44: return u16550_msr(u, &r->value);
-    case 45: return u16550_spr(u, &r->value);
-    case 46: return u16550_dll_dlm(u, &r->value, &r->other);
-    case 47: return u16550_peek_modem(u, &r->value);
-    case 48: return u16550_enable_interrupts(u, (uint8_t)below(256));
-    case 49: return u16550_disable_interrupts(u, (uint8_t)below(256));
-    case 50: return u16550_retrigger_interrupts(u);
-    case 51: return u16550_config_register_dump(u, &r->dump);
-    case 52: return new_rings(u);
-    case 53: return u16550_ring_new(u, rings, rings_size, 1, 1);
-    case 54: return u16550_ring_queue(u, r->bytes, len, &r->count);
-    case 55: return u16550_ring_take(u, r->bytes, len, &r->count);
-    case 56: return u16550_ring_resume_transmit(u);
-    case 57: return u16550_ring_handle(u, below(10), &r->handled);
-    case 58: return u16550_ring_retrigger(u);
-    case 59: return u16550_ring_service(u, &r->count);
-    case 60: return u16550_ring_take_line(u, &r->value);
-    case 61: return new_wide(u);
-    case 62: {
-        struct u16550_setup setup = { (uint8_t)below(2), (uint8_t)below(4), (uint8_t)below(256) };
-        return u16550_init_with(u, &r->config, &setup);
-    }
-    case 63: return u16550_set_frame_when_idle(u, &r->config);
-    case 64: return u16550_set_trigger_level(u, (uint8_t)below(16));
-    case 65: return u16550_quiesce(u, (uint8_t)below(256), (uint8_t)below(4));
-    case 66: return u16550_restore(u, &r->dump);
-    case 67: return u16550_check_configured(u, (uint8_t)below(256), &r->difference);
-    case 68: return u16550_send_burst(u, r->bytes, len, (uint16_t)(16 << below(6)), &r->count);
-    case 69: return u16550_ring_hold_transmit(u);
-    case 70: return u16550_ring_release_transmit(u);
-    case 71: return u16550_ring_queue_urgent(u, (uint8_t)below(256), &r->urgent);
-    case 72: return u16550_ring_clear_transmit(u, &r->count);
-    case 73: return u16550_ring_clear_receive(u, &r->count);
-    case 74: return u16550_ring_set_low_mark(u, below(20));
-    case 75: return u16550_ring_take_low(u, &r->value);
-    case 76: return u16550_ring_try_handle(u, below(10), below(4), &r->handled);
-    case 77: return u16550_ring_restart(u, (uint8_t)below(256));
-    case 78: return u16550_ring_adjust_rts(u, below(20), below(20));
-    case 79: return u16550_is_gone(u, &r->value);
-    case 80: {
+#define CASE(name, ...) case NUMBER_OF_##name: return name(__VA_ARGS__);
+    EACH_CALL(CASE, CASE)
+    case OTHERS: return u16550_new(u, &device);
+    case OTHERS + 1: return u16550_new_port(u, &device, (uint16_t)below(1u << 16));
+    case OTHERS + 2: return u16550_new_mmio(u, &device, any_bits(), (uint8_t)below(256));
+    case OTHERS + 3: return u16550_from_state(u, &device, &r->state);
+    case OTHERS + 4: return u16550_end(u);
+    case OTHERS + 5: return u16550_get_io(u, &r->io);
+    case OTHERS + 6: return u16550_set_io(u, &device);
+    case OTHERS + 7: return u16550_test_loopback(u, &r->failure);
+    case OTHERS + 8: return u16550_write_text(u, (const char *)r->bytes, len, &r->count);
+    case OTHERS + 9: return new_rings(u);
+    case OTHERS + 10: return u16550_ring_new(u, rings, rings_size, 1, 1);
+    case OTHERS + 11: return new_wide(u);
+    case OTHERS + 12: return u16550_check_configured(u, (uint8_t)below(256), &r->difference);
+    case OTHERS + 13: {
         struct u16550_line_port port = { u, { 0, 0 }, U16550_OK, 0 };
         return u16550_line_handle(&port, 1, below(10), below(4), &r->value);
     }
-    case 81: return u16550_ring_config_register_dump(u, &r->dump);
-    case 82: return u16550_write_raw_text(u, (const char *)r->bytes, len, &r->count);
-    case 83: return u16550_ring_transmit_len(u, &r->count);
-    case 84: return u16550_ring_transmit_room(u, &r->count);
-    case 85: return u16550_ring_receive_len(u, &r->count);
-    case 86: return u16550_ring_is_held(u, &r->value);
-    case 87: return u16550_ring_is_paused(u, &r->value);
-    case 88: return u16550_ring_urgent(u, &r->urgent);
-    case 89: return u16550_ring_stuck(u, &r->stuck);
-    case 90: return u16550_emergency(u);
-    case 91: return u16550_new_design_ware(u, &chip, &device, below(20));
-    case 92: return u16550_design_ware_fault(u, &chip);
-    case 93: {
-        uint32_t left = below(20);
-        return u16550_send_bytes_while(u, r->bytes, len, keep_waiting, &left, &r->count);
-    }
-    default: return u16550_ring_take_modem(u, &r->value);
+    case OTHERS + 14: return u16550_write_raw_text(u, (const char *)r->bytes, len, &r->count);
+    case OTHERS + 15: return u16550_ring_stuck(u, &r->stuck);
+    case OTHERS + 16: return u16550_emergency(u);
+    case OTHERS + 17: return u16550_new_design_ware(u, &chip, &device, below(20));
+    default: return u16550_design_ware_fault(u, &chip);
     }
 }
 

@@ -11,6 +11,7 @@
 #include <ucontext.h>
 
 #include "u16550.h"
+#include "each.h"
 
 enum { SIZE = 1 << 16, COLOUR = 0xa5, DLAB = 0x80, FIFO_ENABLE = 1 };
 
@@ -106,7 +107,7 @@ static struct u16550_layout layout = { 4, 32, U16550_NATIVE_ENDIAN };
 static struct u16550_io got_io;
 static struct u16550_loopback_failure failure;
 static struct u16550_difference difference;
-static struct u16550_received received, many[32];
+static struct u16550_received received[256];
 static struct u16550_handled handled;
 static struct u16550_urgent urgent;
 static struct u16550_stuck stuck;
@@ -167,107 +168,65 @@ static void call_nothing(void)
     keep(nothing());
 }
 
-#define CALLS(PLAIN, RING)                                                                            \
-    PLAIN(u16550_new, &uart, &io)                                                                     \
-    PLAIN(u16550_new_port, &uart, &io, 0x3f8)                                                         \
-    PLAIN(u16550_new_mmio, &uart, &io, 0x1000, 4)                                                     \
-    PLAIN(u16550_new_mmio_wide, &uart, (uintptr_t)device, &layout)                                    \
-    PLAIN(u16550_new_design_ware, &uart, &design_ware, &io, 10)                                       \
-    PLAIN(u16550_new_mmio_design_ware, &uart, &design_ware, (uintptr_t)device, &layout, 10)           \
-    PLAIN(u16550_design_ware_fault, &uart, &design_ware)                                              \
-    PLAIN(u16550_from_state, &uart, &io, &state)                                                      \
-    PLAIN(u16550_end, &uart)                                                                          \
-    PLAIN(u16550_default_config, &config)                                                             \
-    PLAIN(u16550_nearest, &config, 20, &config)                                                       \
-    PLAIN(u16550_get_io, &uart, &got_io)                                                              \
-    PLAIN(u16550_set_io, &uart, &io)                                                                  \
-    PLAIN(u16550_get_config, &uart, &config)                                                          \
-    PLAIN(u16550_get_state, &uart, &state)                                                            \
-    PLAIN(u16550_fifo_enabled, &uart, &byte)                                                          \
-    PLAIN(u16550_spin_limit, &uart, &limit)                                                           \
-    PLAIN(u16550_set_spin_limit, &uart, 100)                                                          \
-    PLAIN(u16550_check_present, &uart, &byte)                                                         \
-    PLAIN(u16550_init, &uart, &config)                                                                \
-    PLAIN(u16550_init_with, &uart, &config, &setup)                                                   \
-    PLAIN(u16550_test_loopback, &uart, &failure)                                                      \
-    PLAIN(u16550_check_configured, &uart, 0x0b, &difference)                                          \
-    PLAIN(u16550_check_connected, &uart)                                                              \
-    PLAIN(u16550_set_frame, &uart, &config)                                                           \
-    PLAIN(u16550_set_frame_when_idle, &uart, &config)                                                 \
-    PLAIN(u16550_set_trigger_level, &uart, 8)                                                         \
-    PLAIN(u16550_quiesce, &uart, 0, U16550_FIFOS_RESET)                                               \
-    PLAIN(u16550_restore, &uart, &dump)                                                               \
-    PLAIN(u16550_attach, &uart, &byte, &other)                                                        \
-    PLAIN(u16550_emergency, &uart)                                                                    \
-    PLAIN(u16550_set_modem_control, &uart, 0x0b)                                                      \
-    PLAIN(u16550_set_rts, &uart, 1)                                                                   \
-    PLAIN(u16550_set_dtr, &uart, 1)                                                                   \
-    PLAIN(u16550_set_break, &uart, 1)                                                                 \
-    PLAIN(u16550_ready_to_receive, &uart)                                                             \
-    PLAIN(u16550_ready_to_send, &uart)                                                                \
-    PLAIN(u16550_try_receive_byte, &uart, &byte)                                                      \
-    PLAIN(u16550_try_send_byte, &uart, 'a')                                                           \
-    PLAIN(u16550_receive_bytes, &uart, bytes, sizeof bytes, &len)                                     \
-    PLAIN(u16550_send_bytes, &uart, bytes, sizeof bytes, &len)                                        \
-    PLAIN(u16550_send_burst, &uart, bytes, sizeof bytes, 64, &len)                                    \
-    PLAIN(u16550_try_receive_with_errors, &uart, &received)                                           \
-    PLAIN(u16550_receive_with_errors, &uart, many, 32, &len)                                          \
-    PLAIN(u16550_receive_bytes_exact, &uart, bytes, sizeof bytes, &len)                               \
-    PLAIN(u16550_send_bytes_exact, &uart, bytes, sizeof bytes, &len)                                  \
-    PLAIN(u16550_send_bytes_while, &uart, bytes, sizeof bytes, keep_waiting, NULL, &len)              \
-    PLAIN(u16550_read, &uart, bytes, sizeof bytes, &len)                                              \
-    PLAIN(u16550_write, &uart, bytes, sizeof bytes, &len)                                             \
-    PLAIN(u16550_flush, &uart)                                                                        \
-    PLAIN(u16550_read_ready, &uart, &byte)                                                            \
-    PLAIN(u16550_write_ready, &uart, &byte)                                                           \
-    PLAIN(u16550_is_idle, &uart, &byte)                                                               \
-    PLAIN(u16550_is_gone, &uart, &byte)                                                               \
-    PLAIN(u16550_write_text, &uart, "a\nb\bc\177", 6, &len)                                           \
-    PLAIN(u16550_write_raw_text, &uart, "a\nb\bc\177", 6, &len)                                       \
-    PLAIN(u16550_ier, &uart, &byte)                                                                   \
-    PLAIN(u16550_isr, &uart, &byte)                                                                   \
-    PLAIN(u16550_lcr, &uart, &byte)                                                                   \
-    PLAIN(u16550_mcr, &uart, &byte)                                                                   \
-    PLAIN(u16550_lsr, &uart, &byte)                                                                   \
-    PLAIN(u16550_msr, &uart, &byte)                                                                   \
-    PLAIN(u16550_spr, &uart, &byte)                                                                   \
-    PLAIN(u16550_dll_dlm, &uart, &byte, &other)                                                       \
-    PLAIN(u16550_peek_modem, &uart, &byte)                                                            \
-    PLAIN(u16550_enable_interrupts, &uart, 3)                                                         \
-    PLAIN(u16550_disable_interrupts, &uart, 3)                                                        \
-    PLAIN(u16550_retrigger_interrupts, &uart)                                                         \
-    PLAIN(u16550_config_register_dump, &uart, &dump)                                                  \
-    PLAIN(u16550_dump_divisor, &dump, &divisor)                                                       \
-    PLAIN(u16550_dump_baud_rate, &dump, &config, &baud_rate)                                          \
-    PLAIN(u16550_ring_new, &uart, rings, sizeof rings, 256, 256)                                      \
-    RING(u16550_ring_end, &uart)                                                                      \
-    RING(u16550_ring_transmit_len, &uart, &len)                                                       \
-    RING(u16550_ring_receive_len, &uart, &len)                                                        \
-    RING(u16550_ring_is_paused, &uart, &byte)                                                         \
-    RING(u16550_ring_queue, &uart, bytes, 128, &len)                                                  \
-    RING(u16550_ring_transmit_room, &uart, &len)                                                      \
-    RING(u16550_ring_hold_transmit, &uart)                                                            \
-    RING(u16550_ring_release_transmit, &uart)                                                         \
-    RING(u16550_ring_is_held, &uart, &byte)                                                           \
-    RING(u16550_ring_queue_urgent, &uart, 0x13, &urgent)                                              \
-    RING(u16550_ring_urgent, &uart, &urgent)                                                          \
-    RING(u16550_ring_clear_transmit, &uart, &len)                                                     \
-    RING(u16550_ring_clear_receive, &uart, &len)                                                      \
-    RING(u16550_ring_set_low_mark, &uart, 16)                                                         \
-    RING(u16550_ring_take_low, &uart, &byte)                                                          \
-    RING(u16550_ring_take, &uart, bytes, sizeof bytes, &len)                                          \
-    RING(u16550_ring_adjust_rts, &uart, 32, 64)                                                       \
-    RING(u16550_ring_resume_transmit, &uart)                                                          \
-    RING(u16550_ring_handle, &uart, 8, &handled)                                                      \
-    RING(u16550_ring_try_handle, &uart, 8, 1, &handled)                                               \
-    RING(u16550_ring_stuck, &uart, &stuck)                                                            \
-    RING(u16550_ring_restart, &uart, 5)                                                               \
-    RING(u16550_ring_retrigger, &uart)                                                                \
-    RING(u16550_ring_service, &uart, &len)                                                            \
-    RING(u16550_line_handle, line_ports, 1, 8, 1, &byte)                                              \
-    RING(u16550_ring_take_line, &uart, &byte)                                                         \
-    RING(u16550_ring_take_modem, &uart, &byte)                                                        \
-    RING(u16550_ring_config_register_dump, &uart, &dump)
+/* What the calls of the table take and give. */
+#define DRIVER &uart
+#define BUFFER bytes
+#define LEN sizeof bytes
+#define CONFIG &config
+#define SETUP &setup
+#define DUMP &dump
+#define ON 1
+#define BYTE 'a'
+#define OUTPUTS 0x0b
+#define INTERRUPTS 3
+#define CHARACTERS 8
+#define FIFOS U16550_FIFOS_RESET
+#define FIFO_SIZE 64
+#define SPIN_LIMIT 100
+#define LIMIT 8
+#define ROUNDS 1
+#define MARK 16
+#define HOLD 32
+#define RELEASE 64
+#define KEEP_WAITING keep_waiting
+#define CONTEXT NULL
+#define BYTE_AT &byte
+#define OTHER_BYTE_AT &other
+#define SIZE_AT &len
+#define NUMBER_AT &limit
+#define CONFIG_AT &config
+#define STATE_AT &state
+#define RECEIVED_AT received
+#define DUMP_AT &dump
+#define URGENT_AT &urgent
+#define HANDLED_AT &handled
+
+/* The other calls. */
+#define OTHERS(PLAIN, RING)                                                                        \
+    PLAIN(u16550_new, &uart, &io)                                                                  \
+    PLAIN(u16550_new_port, &uart, &io, 0x3f8)                                                      \
+    PLAIN(u16550_new_mmio, &uart, &io, 0x1000, 4)                                                  \
+    PLAIN(u16550_new_mmio_wide, &uart, (uintptr_t)device, &layout)                                 \
+    PLAIN(u16550_new_design_ware, &uart, &design_ware, &io, 10)                                    \
+    PLAIN(u16550_new_mmio_design_ware, &uart, &design_ware, (uintptr_t)device, &layout, 10)        \
+    PLAIN(u16550_design_ware_fault, &uart, &design_ware)                                           \
+    PLAIN(u16550_from_state, &uart, &io, &state)                                                   \
+    PLAIN(u16550_end, &uart)                                                                       \
+    PLAIN(u16550_default_config, &config)                                                          \
+    PLAIN(u16550_nearest, &config, 20, &config)                                                    \
+    PLAIN(u16550_get_io, &uart, &got_io)                                                           \
+    PLAIN(u16550_set_io, &uart, &io)                                                               \
+    PLAIN(u16550_test_loopback, &uart, &failure)                                                   \
+    PLAIN(u16550_check_configured, &uart, 0x0b, &difference)                                       \
+    PLAIN(u16550_emergency, &uart)                                                                 \
+    PLAIN(u16550_write_text, &uart, "a\nb\bc\177", 6, &len)                                        \
+    PLAIN(u16550_write_raw_text, &uart, "a\nb\bc\177", 6, &len)                                    \
+    PLAIN(u16550_dump_divisor, &dump, &divisor)                                                    \
+    PLAIN(u16550_dump_baud_rate, &dump, &config, &baud_rate)                                       \
+    PLAIN(u16550_ring_new, &uart, rings, sizeof rings, 256, 256)                                   \
+    RING(u16550_ring_end, &uart)                                                                   \
+    RING(u16550_ring_stuck, &uart, &stuck)                                                         \
+    RING(u16550_line_handle, line_ports, 1, 8, 1, &byte)
 
 /* A function for each call. */
 #define WRAPPER(name, ...)                 \
@@ -275,7 +234,8 @@ static void call_nothing(void)
     {                                      \
         keep(name(__VA_ARGS__));           \
     }
-CALLS(WRAPPER, WRAPPER)
+EACH_CALL(WRAPPER, WRAPPER)
+OTHERS(WRAPPER, WRAPPER)
 
 static void call_u16550_text(void)
 {
@@ -308,7 +268,8 @@ int main(void)
     above = used_by(call_nothing) - sizeof(void *);
 #define PLAIN(name, ...) measure(#name, call_##name, 0);
 #define RING(name, ...) measure(#name, call_##name, 1);
-    CALLS(PLAIN, RING)
+    EACH_CALL(PLAIN, RING)
+    OTHERS(PLAIN, RING)
     measure("u16550_text", call_u16550_text, 0);
     measure("u16550_version", call_u16550_version, 0);
     return 0;

@@ -577,7 +577,14 @@ static void call_bytes(struct u16550 *u, uint32_t which)
             note(received[i].byte * 256u + received[i].errors);
         break;
     case 9:
-        told(u16550_receive_bytes_exact(u, bytes, len, below(4) ? &count : NULL));
+        if (below(2)) {
+            told(u16550_receive_bytes_exact(u, bytes, len, below(4) ? &count : NULL));
+        } else {
+            size_t *done = below(4) ? &count : NULL;
+            left = below(10);
+            told(u16550_receive_bytes_while(u, bytes, len, below(20) ? keep_waiting : NULL, &left, done));
+            note(left);
+        }
         break;
     case 10:
         told(u16550_send_bytes_exact(u, bytes, len, below(4) ? &count : NULL));
@@ -604,7 +611,13 @@ static void call_bytes(struct u16550 *u, uint32_t which)
         told(u16550_write_text(u, (const char *)bytes, len, below(4) ? &count : NULL));
         break;
     case 16:
-        told(u16550_flush(u));
+        if (below(2)) {
+            told(u16550_flush(u));
+        } else {
+            left = below(10);
+            told(u16550_flush_while(u, below(20) ? keep_waiting : NULL, &left));
+            note(left);
+        }
         break;
     case 17:
         if (told(u16550_read_ready(u, OUT(&value))) == U16550_OK)

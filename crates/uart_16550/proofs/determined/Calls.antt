@@ -19,7 +19,7 @@ use Rattle.uart_16550.proofs.determined.Transmit.{sends_burst_determined}
 use Rattle.uart_16550.proofs.determined.Configured.{checks_configured_determined}
 use Rattle.uart_16550.proofs.determined.Expansion.{text_determined, str_determined}
 use Rattle.uart_16550.proofs.determined.Io.{receives_into_determined, exact_into_determined, reads_into_determined, writes_determined}
-use Rattle.uart_16550.proofs.determined.Io.{receives_with_into_determined}
+use Rattle.uart_16550.proofs.determined.Io.{receives_with_into_determined, receives_while_determined}
 use Rattle.uart_16550.proofs.determined.Io.{flushes_determined, answers_read_determined, answers_write_determined}
 use Rattle.uart_16550.proofs.determined.Status.{takes_lsr_determined, takes_msr_determined, connects_determined, divisor_determined}
 use Rattle.uart_16550.proofs.determined.Status.{enables_determined, disables_determined, dumps_determined}
@@ -29,7 +29,7 @@ use Rattle.uart_16550.proofs.determined.Loopback.{tests_loopback_determined}
 use Rattle.uart_16550.proofs.determined.Setup.{sets_trigger_determined, sets_frame_when_idle_determined, inits_with_determined}
 use Rattle.uart_16550.proofs.determined.Setup.{quiesces_determined, restores_determined}
 use Rattle.uart_16550.proofs.determined.Tty.{starts_determined}
-use Rattle.uart_16550.proofs.determined.Waiting.{as_answered_determined}
+use Rattle.uart_16550.proofs.determined.Waiting.{as_answered_determined, flushes_while_determined}
 
 lists_determined : (call : SavingCall) (s : Settings) (a b : SavingOutcome call) →
     Determined (a ≡ b) (SavingLists call a s) (SavingLists call b s)
@@ -56,6 +56,8 @@ lists_determined (SavingCall.send_bytes bytes) s = sends_determined s bytes
 lists_determined (SavingCall.send_burst size bytes) s = sends_burst_determined s size bytes
 lists_determined (SavingCall.send_bytes_exact bytes) s = sends_exact_determined s bytes
 lists_determined (SavingCall.send_bytes_while bytes answers) s = as_answered_determined s bytes answers
+lists_determined (SavingCall.receive_bytes_while slots answers) s = receives_while_determined s slots answers
+lists_determined (SavingCall.flush_while answers) s = flushes_while_determined s answers
 lists_determined (SavingCall.read slots) s = reads_into_determined s slots
 lists_determined (SavingCall.write bytes) s = writes_determined s bytes
 lists_determined SavingCall.flush s = flushes_determined s

@@ -22,7 +22,7 @@ use Rattle.uart_16550.proofs.determined.Repeated.{Alike, given}
 use Rattle.uart_16550.proofs.determined.Receive.{stalled}
 
 -- a wait for bits of LSR
-shows : (s : Settings) (bits : ℕ) → Misses s (Asks offsets.LSR bits false) (Asks offsets.LSR bits true)
+pub shows : (s : Settings) (bits : ℕ) → Misses s (Asks offsets.LSR bits false) (Asks offsets.LSR bits true)
 shows s bits = record { same = asks_same offsets.LSR bits false; apart = determined_sym (asks_apart offsets.LSR bits) }
 
 pub waits_determined : (s : Settings) (bits : ℕ) (a b : Bool) → Determined (a ≡ b) (WaitsFor bits a s) (WaitsFor bits b s)
@@ -177,19 +177,20 @@ sends_some_determined s bytes None (Some k) = record { at = λ l m p q. so absur
 sends_some_determined s bytes None None = determined_so (λ x. refl) (unsent_same s)
 
 -- pieces cut from one list
-cut_alike : (s : Settings) (bytes : List ℕ) (ps qs : List (List ℕ)) (r t : List ℕ) → IsCut s bytes ps r → IsCut s bytes qs t →
+pub cut_alike : (s : Settings) (bytes : List ℕ) (ps qs : List (List ℕ)) (r t : List ℕ) → IsCut s bytes ps r → IsCut s bytes qs t →
     Alike (λ (x y : List ℕ). x ≡ y) ps qs
 cut_alike s bytes [] qs r t c d = tt
 cut_alike s bytes (p ∷ ps) [] r t c d = tt
 cut_alike s bytes (p ∷ ps) (q ∷ qs) r t c d = (c.1 ∙ sym d.1, cut_alike s (drop (burst_size s bytes) bytes) ps qs r t c.2 d.2)
 
-cut_all : (s : Settings) (bytes : List ℕ) (ps qs : List (List ℕ)) → IsCut s bytes ps [] → IsCut s bytes qs [] → length ps ≡ length qs
+pub cut_all : (s : Settings) (bytes : List ℕ) (ps qs : List (List ℕ)) → IsCut s bytes ps [] → IsCut s bytes qs [] → length ps ≡ length qs
 cut_all s bytes [] [] c d = refl
 cut_all s bytes [] (q ∷ qs) c d = absurd (omega (arith, d.0, ap length c))
 cut_all s bytes (p ∷ ps) [] c d = absurd (omega (arith, c.0, ap length d))
 cut_all s bytes (p ∷ ps) (q ∷ qs) c d = ap (λ (n : ℕ). suc n) (cut_all s (drop (burst_size s bytes) bytes) ps qs c.2 d.2)
 
-cut_fewer : (s : Settings) (bytes : List ℕ) (ps qs : List (List ℕ)) (r : List ℕ) → 0 < length r → IsCut s bytes ps r → IsCut s bytes qs [] →
+pub cut_fewer : (s : Settings) (bytes : List ℕ) (ps qs : List (List ℕ)) (r : List ℕ) → 0 < length r → IsCut s bytes ps r →
+    IsCut s bytes qs [] →
     length ps < length qs
 cut_fewer s bytes [] [] r some c d = absurd (omega (arith, some, ap length c, ap length d))
 cut_fewer s bytes [] (q ∷ qs) r some c d = omega arith
@@ -201,7 +202,7 @@ cut_rest : (s : Settings) (bytes : List ℕ) (ps : List (List ℕ)) (r t : List 
 cut_rest s bytes [] r t c d = c ∙ sym d
 cut_rest s bytes (p ∷ ps) r t c d = cut_rest s (drop (burst_size s bytes) bytes) ps r t c.2 d.2
 
-cut_rests : (s : Settings) (bytes : List ℕ) (ps qs : List (List ℕ)) (r t : List ℕ) → ps ≡ qs → IsCut s bytes ps r → IsCut s bytes qs t →
+pub cut_rests : (s : Settings) (bytes : List ℕ) (ps qs : List (List ℕ)) (r t : List ℕ) → ps ≡ qs → IsCut s bytes ps r → IsCut s bytes qs t →
     r ≡ t
 cut_rests s bytes ps qs r t same c d =
     let I : List (List ℕ) → Type 0 = λ xs. IsCut s bytes xs r in cut_rest s bytes qs r t (subst I same c) d

@@ -1,18 +1,20 @@
 -- A call whose caller is asked whether to keep waiting is determined by what it reads and by the answers.
-use Rattle.std.proofs.Common.{◌≡◌, ◌<◌, ◌≤◌, ◌+◌, ℕ, zero, suc, Bool, false, List, [], ◌∷◌, ◌++◌, refl, sym, ◌∙◌, ap, subst, arith}
-use Rattle.std.proofs.Common.{inl, inr, Result, Ok, Err, length, drop, append_assoc}
+use Rattle.std.proofs.Common.{◌≡◌, ◌<◌, ◌≤◌, ◌+◌, ℕ, zero, suc, Bool, true, false, List, [], ◌∷◌, ◌++◌, refl, sym, ◌∙◌, ap, subst, arith}
+use Rattle.std.proofs.Common.{inl, inr, Result, Ok, Err, length, append_assoc}
+use Rattle.uart_spec.specs.declared.registers.offsets.TheConstants as offsets
+use Rattle.uart_spec.specs.declared.registers.line_status.TheConstants.LSR
 use Rattle.uart_spec.specs.declared.access.Access.{Access}
 use Rattle.uart_spec.specs.declared.errors.StalledError.{StalledError}
 use Rattle.uart_16550.specs.Grammar.{Language, Settings, Only, Then, Times, InOrder}
-use Rattle.uart_16550.specs.Transmit.{SendMiss, Burst, IsCut, burst_size}
-use Rattle.uart_16550.specs.Patience.{keeps_waiting, WaitsWhile, Awaited, RoundAfter, bursts_of, misses_of}
-use Rattle.uart_16550.specs.Choice.{SendsAsAnswered}
+use Rattle.uart_16550.specs.Transmit.{SendMiss, Burst}
+use Rattle.uart_16550.specs.Patience.{keeps_waiting, After, InVain, Awaited, items_of, misses_of, SendsWhile, ShowsEmpty, FlushesWhile}
+use Rattle.uart_16550.specs.Choice.{AsAnswered}
 use Rattle.uart_16550.proofs.Languages.{then_later}
 use Rattle.uart_16550.proofs.Waiting.{keeps_sum}
 use Rattle.uart_16550.proofs.determined.Parting.{SameOrPart, Determined, so, determined_so, determined_sym, determined_then}
-use Rattle.uart_16550.proofs.determined.Parting.{determined_among, determined_front, determined_only, determined_none, not_both}
-use Rattle.uart_16550.proofs.determined.Repeated.{Misses, times_same, times_all, same_first, same_others}
-use Rattle.uart_16550.proofs.determined.Transmit.{burst_same, refusal_same, refusals, unsent_same}
+use Rattle.uart_16550.proofs.determined.Parting.{determined_among, determined_front, determined_only, determined_none, asks_same, not_both}
+use Rattle.uart_16550.proofs.determined.Repeated.{Misses, Items, Alike, times_same, times_all, same_first, same_others, same_items, given}
+use Rattle.uart_16550.proofs.determined.Transmit.{shows, refusal_same, refusals, burst_same, cut_alike, cut_all, cut_fewer, cut_rests}
 use Rattle.uart_16550.proofs.determined.Receive.{stalled}
 
 -- the answers of one caller after as many that it gave before
@@ -53,24 +55,25 @@ rest_same n k xs ys same alike =
     later_same k xs ys (let K : ℕ → Type 0 = λ m. keeps_waiting m ++ xs ≡ keeps_waiting k ++ ys in subst K same alike)
 
 -- misses and then a hit, twice: as many misses
-times_count : (s : Settings) (M H H' : Language) → Misses s M H → Misses s M H' → Determined (Unit {0}) (H s) (H' s) → (n k : ℕ) →
-    Determined (n ≡ k) (Then (Times n M) H s) (Then (Times k M) H' s)
-times_count s M H H' miss miss' hit zero zero = determined_then (determined_only refl) (λ x. determined_so (λ t. refl) hit)
+times_count : {C : Type 0} (s : Settings) (M H H' : Language) → Misses s M H → Misses s M H' → Determined C (H s) (H' s) → (n k : ℕ) →
+    Determined ((n ≡ k) × C) (Then (Times n M) H s) (Then (Times k M) H' s)
+times_count s M H H' miss miss' hit zero zero =
+    determined_then (determined_only refl) (λ x. determined_so (λ c. (refl, c)) hit)
 times_count s M H H' miss miss' hit zero (suc k) = determined_none (determined_sym (determined_front (determined_front miss.apart)))
 times_count s M H H' miss miss' hit (suc n) zero =
     determined_front (determined_front (determined_sym (determined_none (determined_sym miss'.apart))))
 times_count s M H H' miss miss' hit (suc n) (suc k) =
     determined_among (determined_then {P = M} {P' = M} {Q = Then (Times n M) H} {Q' = Then (Times k M) H'} miss.same
-    (λ x. determined_so (λ same. ap (λ (m : ℕ). suc m) same) (times_count s M H H' miss miss' hit n k)))
+    (λ x. determined_so (λ r. (ap (λ (m : ℕ). suc m) r.0, r.1)) (times_count s M H H' miss miss' hit n k)))
     (then_later M (Times n M) H s) (then_later M (Times k M) H' s)
 
 -- two waits in vain
-vain_same : (s : Settings) (last last' later later' : List Bool) → last ++ later ≡ last' ++ later' →
-    Determined (Unit {0}) (WaitsWhile last false s) (WaitsWhile last' false s)
-vain_same s last last' later later' same = record { at = at }
+vain_same : (s : Settings) (M : Language) → Determined (Unit {0}) (M s) (M s) → (last last' later later' : List Bool) →
+    last ++ later ≡ last' ++ later' → Determined (Unit {0}) (InVain M last s) (InVain M last' s)
+vain_same s M miss last last' later later' same = record { at = at }
   where
-    at : (l m : List Access) → WaitsWhile last false s l → WaitsWhile last' false s m → SameOrPart (Unit {0}) l m
-    at l m (inl p) (inl q) = (unsent_same s).at l m p.1 q.1
+    at : (l m : List Access) → InVain M last s l → InVain M last' s m → SameOrPart (Unit {0}) l m
+    at l m (inl p) (inl q) = (times_same s M miss s.limit).at l m p.1 q.1
     at l m (inl p) (inr q) =
         let fewer = kept q.0 s.limit later' later
         (sym (said_no q.0 last' later' q.2) ∙ sym same ∙ ap (λ (xs : List Bool). xs ++ later) p.0) in
@@ -81,103 +84,133 @@ vain_same s last last' later later' same = record { at = at }
         absurd (omega (arith, fewer, p.1))
     at l m (inr p) (inr q) =
         let as_many = ended_same p.0 q.0 later later' (sym (said_no p.0 last later p.2) ∙ same ∙ said_no q.0 last' later' q.2) in
-        let T : ℕ → Type 0 = λ n. Times (n + 1) SendMiss s l in
-        (times_same s SendMiss (refusal_same s) (q.0 + 1)).at l m (subst T as_many p.3) q.3
+        let T : ℕ → Type 0 = λ n. Times (n + 1) M s l in
+        (times_same s M miss (q.0 + 1)).at l m (subst T as_many p.3) q.3
 
 -- a wait in vain, and one that ends
-vain_round : (s : Settings) (last later : List Bool) (round : Awaited) (ys : List Bool) →
-    last ++ later ≡ keeps_waiting round.misses ++ ys → Determined ⊥ (WaitsWhile last false s) (RoundAfter round s)
-vain_round s last later round ys same = record { at = at }
+vain_after : (s : Settings) (M H : Language) → Misses s M H → (last later : List Bool) (n : ℕ) (ys : List Bool) →
+    last ++ later ≡ keeps_waiting n ++ ys → Determined ⊥ (InVain M last s) (After n M H s)
+vain_after s M H miss last later n ys same = record { at = at }
   where
-    apart : (n : ℕ) → round.misses < n → Determined ⊥ (Times n SendMiss s) (Then (Times round.misses SendMiss) (Burst round.bytes) s)
-    apart n few = determined_sym (times_all s SendMiss (Burst round.bytes) (refusals s round.bytes) round.misses n few)
+    apart : (k : ℕ) → n < k → Determined ⊥ (Times k M s) (Then (Times n M) H s)
+    apart k few = determined_sym (times_all s M H miss n k few)
 
-    at : (l m : List Access) → WaitsWhile last false s l → RoundAfter round s m → SameOrPart ⊥ l m
+    at : (l m : List Access) → InVain M last s l → After n M H s m → SameOrPart ⊥ l m
     at l m (inl p) q = (apart s.limit q.0).at l m p.1 q.1
     at l m (inr p) q =
-        let fewer = kept p.0 round.misses later ys (sym (said_no p.0 last later p.2) ∙ same) in
+        let fewer = kept p.0 n later ys (sym (said_no p.0 last later p.2) ∙ same) in
         (apart (p.0 + 1) (omega (arith, fewer))).at l m p.3 q.1
 
+-- what is waited for: its misses part from each item, and its items are determined if they are related
+pub record Waits {A : Type 0} (s : Settings) (M : Language) (H : A → Language) (K : A → A → Type 0) : Type 0 where
+  pub miss : (x : A) → Misses s M (H x)
+  pub vain : Determined (Unit {0}) (M s) (M s)
+  pub items : Items s H K
+
+-- an item after its misses
+abbrev pub Each : {A : Type 0} → Language → (A → Language) → Awaited A → Language
+Each M H one = After one.misses M (H one.item)
+
 -- two waits that end
-round_count : (s : Settings) (w v : Awaited) → w.bytes ≡ v.bytes → Determined (w.misses ≡ v.misses) (RoundAfter w s) (RoundAfter v s)
-round_count s w v same = record {
+each_same : {A : Type 0} {K : A → A → Type 0} (s : Settings) (M : Language) (H : A → Language) → Waits s M H K → (w v : Awaited A) →
+    K w.item v.item → Determined ((w.misses ≡ v.misses) × (w.item ≡ v.item)) (Each M H w s) (Each M H v s)
+each_same s M H waits w v k = record {
   at = λ l m p q.
-      let D : List ℕ → Type 0 = λ bytes. Determined (Unit {0}) (Burst w.bytes s) (Burst bytes s) in
-      (times_count s SendMiss (Burst w.bytes) (Burst v.bytes) (refusals s w.bytes) (refusals s v.bytes)
-      (subst D same (burst_same s w.bytes)) w.misses v.misses).at l m p.1 q.1;
+      (times_count s M (H w.item) (H v.item) (waits.miss w.item) (waits.miss v.item) (waits.items.item w.item v.item k)
+      w.misses v.misses).at l m p.1 q.1;
 }
 
--- all of the bytes, twice
-sent_same : (s : Settings) (bytes : List ℕ) (ws vs : List Awaited) → IsCut s bytes (bursts_of ws) [] → IsCut s bytes (bursts_of vs) [] →
-    Determined (Unit {0}) (InOrder RoundAfter ws s) (InOrder RoundAfter vs s)
-sent_same s bytes [] [] c d = determined_only refl
-sent_same s bytes [] (v ∷ vs) c d = absurd (omega (arith, d.0, ap length c))
-sent_same s bytes (w ∷ ws) [] c d = absurd (omega (arith, c.0, ap length d))
-sent_same s bytes (w ∷ ws) (v ∷ vs) c d =
-    determined_then (round_count s w v (c.1 ∙ sym d.1)) (λ e. sent_same s (drop (burst_size s bytes) bytes) ws vs c.2 d.2)
+-- as many items
+pub each_all : {A : Type 0} {K : A → A → Type 0} (s : Settings) (M : Language) (H : A → Language) → Waits s M H K →
+    (ws vs : List (Awaited A)) → Alike K (items_of ws) (items_of vs) → length (items_of ws) ≡ length (items_of vs) →
+    Determined (items_of ws ≡ items_of vs) (InOrder (Each M H) ws s) (InOrder (Each M H) vs s)
+each_all s M H waits [] [] k same = determined_so (λ x. refl) (determined_only refl)
+each_all s M H waits [] (v ∷ vs) k same = absurd (omega (arith, same))
+each_all s M H waits (w ∷ ws) [] k same = absurd (omega (arith, same))
+each_all s M H waits (w ∷ ws) (v ∷ vs) k same =
+    determined_then (each_same s M H waits w v k.0)
+    (λ e. determined_so (λ r. same_items w.item v.item (items_of ws) (items_of vs) e.1 r)
+    (each_all s M H waits ws vs k.1 (omega (arith, same))))
 
--- a beginning of the bytes, and all
-begun_sent : (s : Settings) (bytes : List ℕ) (ws vs : List Awaited) (rest : List ℕ) (last later later' : List Bool) →
-    IsCut s bytes (bursts_of ws) rest → 0 < length rest → IsCut s bytes (bursts_of vs) [] →
+-- fewer items and a wait in vain, and all
+pub each_more : {A : Type 0} {K : A → A → Type 0} (s : Settings) (M : Language) (H : A → Language) → Waits s M H K →
+    (ws vs : List (Awaited A)) (last later later' : List Bool) → Alike K (items_of ws) (items_of vs) →
+    length (items_of ws) < length (items_of vs) →
     (keeps_waiting (misses_of ws) ++ last) ++ later ≡ keeps_waiting (misses_of vs) ++ later' →
-    Determined ⊥ (Then (InOrder RoundAfter ws) (WaitsWhile last false) s) (InOrder RoundAfter vs s)
-begun_sent s bytes [] [] rest last later later' c left d same = absurd (omega (arith, left, ap length c, ap length d))
-begun_sent s bytes [] (v ∷ vs) rest last later later' c left d same =
+    Determined ⊥ (Then (InOrder (Each M H) ws) (InVain M last) s) (InOrder (Each M H) vs s)
+each_more s M H waits ws [] last later later' k few same = absurd (omega (arith, few))
+each_more s M H waits [] (v ∷ vs) last later later' k few same =
     determined_none (determined_sym (determined_front (determined_sym
-    (vain_round s last later v _ (same ∙ after_one v.misses (misses_of vs) later')))))
-begun_sent s bytes (w ∷ ws) [] rest last later later' c left d same = absurd (omega (arith, c.0, ap length d))
-begun_sent s bytes (w ∷ ws) (v ∷ vs) rest last later later' c left d same =
+    (vain_after s M (H v.item) (waits.miss v.item) last later v.misses _ (same ∙ after_one v.misses (misses_of vs) later')))))
+each_more s M H waits (w ∷ ws) (v ∷ vs) last later later' k few same =
     determined_among
-    (determined_then {P = RoundAfter w} {P' = RoundAfter v} {Q = Then (InOrder RoundAfter ws) (WaitsWhile last false)}
-    {Q' = InOrder RoundAfter vs} (round_count s w v (c.1 ∙ sym d.1))
-    (λ e. begun_sent s (drop (burst_size s bytes) bytes) ws vs rest last later later' c.2 left d.2
-    (rest_same w.misses v.misses _ _ e
+    (determined_then {P = Each M H w} {P' = Each M H v} {Q = Then (InOrder (Each M H) ws) (InVain M last)} {Q' = InOrder (Each M H) vs}
+    (each_same s M H waits w v k.0)
+    (λ e. each_more s M H waits ws vs last later later' k.1 (omega (arith, few))
+    (rest_same w.misses v.misses _ _ e.0
     (sym (after_first w.misses (misses_of ws) last later) ∙ same ∙ after_one v.misses (misses_of vs) later'))))
-    (then_later (RoundAfter w) (InOrder RoundAfter ws) (WaitsWhile last false) s) (λ l t. t)
+    (then_later (Each M H w) (InOrder (Each M H) ws) (InVain M last) s) (λ l t. t)
 
--- two beginnings
-begun_same : (s : Settings) (bytes : List ℕ) (ws vs : List Awaited) (rest rest' : List ℕ) (last last' later later' : List Bool) →
-    IsCut s bytes (bursts_of ws) rest → IsCut s bytes (bursts_of vs) rest' →
+-- items and a wait in vain, on both sides
+pub each_short : {A : Type 0} {K : A → A → Type 0} (s : Settings) (M : Language) (H : A → Language) → Waits s M H K →
+    (ws vs : List (Awaited A)) (last last' later later' : List Bool) → Alike K (items_of ws) (items_of vs) →
     (keeps_waiting (misses_of ws) ++ last) ++ later ≡ (keeps_waiting (misses_of vs) ++ last') ++ later' →
-    Determined (rest ≡ rest') (Then (InOrder RoundAfter ws) (WaitsWhile last false) s)
-    (Then (InOrder RoundAfter vs) (WaitsWhile last' false) s)
-begun_same s bytes [] [] rest rest' last last' later later' c d same =
-    determined_so (λ x. c ∙ sym d)
-    (determined_then {P = Only []} {P' = Only []} (determined_only refl) (λ x. vain_same s last last' later later' same))
-begun_same s bytes [] (v ∷ vs) rest rest' last last' later later' c d same =
-    determined_none (determined_sym (determined_front (determined_front {P = RoundAfter v} {Q = InOrder RoundAfter vs}
-    (determined_sym (vain_round s last later v _ (same ∙ after_first v.misses (misses_of vs) last' later'))))))
-begun_same s bytes (w ∷ ws) [] rest rest' last last' later later' c d same =
-    determined_front (determined_front {P = RoundAfter w} {Q = InOrder RoundAfter ws} (determined_sym
-    (determined_none (vain_round s last' later' w _ (sym same ∙ after_first w.misses (misses_of ws) last later)))))
-begun_same s bytes (w ∷ ws) (v ∷ vs) rest rest' last last' later later' c d same =
+    Determined (items_of ws ≡ items_of vs) (Then (InOrder (Each M H) ws) (InVain M last) s)
+    (Then (InOrder (Each M H) vs) (InVain M last') s)
+each_short s M H waits [] [] last last' later later' k same =
+    determined_so (λ x. refl)
+    (determined_then {P = Only []} {P' = Only []} (determined_only refl) (λ x. vain_same s M waits.vain last last' later later' same))
+each_short s M H waits [] (v ∷ vs) last last' later later' k same =
+    determined_none (determined_sym (determined_front (determined_front {P = Each M H v} {Q = InOrder (Each M H) vs}
+    (determined_sym (vain_after s M (H v.item) (waits.miss v.item) last later v.misses _
+    (same ∙ after_first v.misses (misses_of vs) last' later'))))))
+each_short s M H waits (w ∷ ws) [] last last' later later' k same =
+    determined_front (determined_front {P = Each M H w} {Q = InOrder (Each M H) ws} (determined_sym
+    (determined_none (vain_after s M (H w.item) (waits.miss w.item) last' later' w.misses _
+    (sym same ∙ after_first w.misses (misses_of ws) last later)))))
+each_short s M H waits (w ∷ ws) (v ∷ vs) last last' later later' k same =
     determined_among
-    (determined_then {P = RoundAfter w} {P' = RoundAfter v} {Q = Then (InOrder RoundAfter ws) (WaitsWhile last false)}
-    {Q' = Then (InOrder RoundAfter vs) (WaitsWhile last' false)} (round_count s w v (c.1 ∙ sym d.1))
-    (λ e. begun_same s (drop (burst_size s bytes) bytes) ws vs rest rest' last last' later later' c.2 d.2
-    (rest_same w.misses v.misses _ _ e
-    (sym (after_first w.misses (misses_of ws) last later) ∙ same ∙ after_first v.misses (misses_of vs) last' later'))))
-    (then_later (RoundAfter w) (InOrder RoundAfter ws) (WaitsWhile last false) s)
-    (then_later (RoundAfter v) (InOrder RoundAfter vs) (WaitsWhile last' false) s)
+    (determined_then {P = Each M H w} {P' = Each M H v} {Q = Then (InOrder (Each M H) ws) (InVain M last)}
+    {Q' = Then (InOrder (Each M H) vs) (InVain M last')} (each_same s M H waits w v k.0)
+    (λ e. determined_so (λ r. same_items w.item v.item (items_of ws) (items_of vs) e.1 r)
+    (each_short s M H waits ws vs last last' later later' k.1
+    (rest_same w.misses v.misses _ _ e.0
+    (sym (after_first w.misses (misses_of ws) last later) ∙ same ∙ after_first v.misses (misses_of vs) last' later')))))
+    (then_later (Each M H w) (InOrder (Each M H) ws) (InVain M last) s)
+    (then_later (Each M H v) (InOrder (Each M H) vs) (InVain M last') s)
 
--- the stream of answers, by what was said
-stream_is : (stream said told later : List Bool) → stream ≡ said ++ later → said ≡ told → stream ≡ told ++ later
-stream_is stream said told later front is = front ∙ ap (λ (xs : List Bool). xs ++ later) is
+-- the streams of answers that two calls were given, which are one
+pub one_stream : {stream said told as_said as_told : List Bool} (later later' : List Bool) → stream ≡ said ++ later →
+    stream ≡ told ++ later' → said ≡ as_said → told ≡ as_told → as_said ++ later ≡ as_told ++ later'
+one_stream later later' front front' is is' =
+    sym (front ∙ ap (λ (xs : List Bool). xs ++ later) is) ∙ front' ∙ ap (λ (xs : List Bool). xs ++ later') is'
+
+-- sending: the bursts are given, as they are cut from the bytes
+bursts : (s : Settings) → Waits s SendMiss Burst (λ x y. x ≡ y)
+bursts s = record { miss = refusals s; vain = refusal_same s; items = given Burst (burst_same s) }
 
 stalls_sent : (s : Settings) (bytes : List ℕ) (stream : List Bool) (d : StalledError) →
-    Determined ⊥ (SendsAsAnswered {T = Unit {0}} bytes stream (Err d) s) (SendsAsAnswered {T = Unit {0}} bytes stream (Ok tt) s)
+    Determined ⊥ (AsAnswered stream (λ said. SendsWhile {T = Unit {0}} bytes said (Err d)) s)
+    (AsAnswered stream (λ said. SendsWhile {T = Unit {0}} bytes said (Ok tt)) s)
 stalls_sent s bytes stream d = record {
   at = λ l m p q.
-      let b = p.3 in
-      let a = q.3 in
-      (begun_sent s bytes b.0 a.0 b.2 b.1 p.1 q.1 b.3 b.4 a.1
-      (sym (stream_is stream p.0 _ p.1 p.2 b.6) ∙ stream_is stream q.0 _ q.1 q.2 a.2)).at l m b.7 a.3;
+      let a = p.3 in
+      let b = q.3 in
+      (each_more s SendMiss Burst (bursts s) a.0 b.0 a.1 p.1 q.1
+      (cut_alike s bytes (items_of a.0) (items_of b.0) a.2 [] a.3 b.1)
+      (cut_fewer s bytes (items_of a.0) (items_of b.0) a.2 a.4 a.3 b.1)
+      (one_stream p.1 q.1 p.2 q.2 a.6 b.2)).at l m a.7 b.3;
 }
 
 pub as_answered_determined : (s : Settings) (bytes : List ℕ) (stream : List Bool) (a b : Result (Unit {0}) StalledError) →
-    Determined (a ≡ b) (SendsAsAnswered bytes stream a s) (SendsAsAnswered bytes stream b s)
+    Determined (a ≡ b) (AsAnswered stream (λ said. SendsWhile bytes said a) s) (AsAnswered stream (λ said. SendsWhile bytes said b) s)
 as_answered_determined s bytes stream (Ok x) (Ok y) = record {
-  at = λ l m p q. so (λ t. refl) ((sent_same s bytes p.3.0 q.3.0 p.3.1 q.3.1).at l m p.3.3 q.3.3);
+  at = λ l m p q.
+      let a = p.3 in
+      let b = q.3 in
+      so (λ t. refl)
+      ((each_all s SendMiss Burst (bursts s) a.0 b.0 (cut_alike s bytes (items_of a.0) (items_of b.0) [] [] a.1 b.1)
+      (cut_all s bytes (items_of a.0) (items_of b.0) a.1 b.1)).at l m a.3 b.3);
 }
 as_answered_determined s bytes stream (Ok x) (Err d) = determined_sym (stalls_sent s bytes stream d)
 as_answered_determined s bytes stream (Err d) (Ok y) = determined_so absurd (stalls_sent s bytes stream d)
@@ -185,7 +218,39 @@ as_answered_determined s bytes stream (Err d) (Err f) = record {
   at = λ l m p q.
       let a = p.3 in
       let b = q.3 in
-      so (λ r. let rest = ap length r in stalled d f (omega (arith, a.5, b.5, rest)))
-      ((begun_same s bytes a.0 b.0 a.2 b.2 a.1 b.1 p.1 q.1 a.3 b.3
-      (sym (stream_is stream p.0 _ p.1 p.2 a.6) ∙ stream_is stream q.0 _ q.1 q.2 b.6)).at l m a.7 b.7);
+      so
+      (λ r. let rest = ap length (cut_rests s bytes (items_of a.0) (items_of b.0) a.2 b.2 r a.3 b.3) in
+      stalled d f (omega (arith, a.5, b.5, rest)))
+      ((each_short s SendMiss Burst (bursts s) a.0 b.0 a.1 b.1 p.1 q.1
+      (cut_alike s bytes (items_of a.0) (items_of b.0) a.2 b.2 a.3 b.3)
+      (one_stream p.1 q.1 p.2 q.2 a.6 b.6)).at l m a.7 b.7);
+}
+
+-- a wait for an empty transmitter
+busy : (s : Settings) → Misses s (ShowsEmpty false) (ShowsEmpty true)
+busy s = shows s LSR.TRANSMITTER_EMPTY.0
+
+while_stalls : (s : Settings) (stream : List Bool) (d : StalledError) →
+    Determined ⊥ (AsAnswered stream (λ said. FlushesWhile {T = Unit {0}} said (Err d)) s)
+    (AsAnswered stream (λ said. FlushesWhile {T = Unit {0}} said (Ok tt)) s)
+while_stalls s stream d = record {
+  at = λ l m p q.
+      (vain_after s (ShowsEmpty false) (ShowsEmpty true) (busy s) p.0 p.1 q.3.0 q.1
+      (one_stream p.1 q.1 p.2 q.2 refl q.3.1)).at l m p.3.1 q.3.2;
+}
+
+pub flushes_while_determined : (s : Settings) (stream : List Bool) (a b : Result (Unit {0}) StalledError) →
+    Determined (a ≡ b) (AsAnswered stream (λ said. FlushesWhile said a) s) (AsAnswered stream (λ said. FlushesWhile said b) s)
+flushes_while_determined s stream (Ok x) (Ok y) = record {
+  at = λ l m p q.
+      so (λ r. refl)
+      ((times_count s (ShowsEmpty false) (ShowsEmpty true) (ShowsEmpty true) (busy s) (busy s)
+      (asks_same offsets.LSR LSR.TRANSMITTER_EMPTY.0 true) p.3.0 q.3.0).at l m p.3.2.1 q.3.2.1);
+}
+flushes_while_determined s stream (Ok x) (Err d) = determined_sym (while_stalls s stream d)
+flushes_while_determined s stream (Err d) (Ok y) = determined_so absurd (while_stalls s stream d)
+flushes_while_determined s stream (Err d) (Err f) = record {
+  at = λ l m p q.
+      so (λ r. stalled d f (p.3.0 ∙ sym q.3.0))
+      ((vain_same s (ShowsEmpty false) (busy s).same p.0 q.0 p.1 q.1 (one_stream p.1 q.1 p.2 q.2 refl refl)).at l m p.3.1 q.3.1);
 }

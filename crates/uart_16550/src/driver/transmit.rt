@@ -4,6 +4,7 @@ ghost use Rattle.uart_16550.specs.Grammar.{Only, Asks};
 ghost use Rattle.uart_16550.specs.Transmit.{LinesAllow, ReadyToSend, data_writes, burst_size};
 ghost use Rattle.uart_16550.specs.Transmit.{Sends, WaitsToSend, SendsSome, SendsExact};
 ghost use Rattle.uart_16550.specs.Transmit.{WaitsFor, TrySends};
+ghost use Rattle.uart_16550.specs.Patience.{MadeWhile, FlushesWhile};
 ghost use Rattle.uart_16550.specs.Expansion.{SendsSingly};
 ghost use Rattle.uart_16550.specs.Driver.{Made, settings};
 ghost use Rattle.uart_spec.specs.declared.access.Access.TheVariants.{Write};
@@ -11,6 +12,7 @@ ghost use Rattle.uart_spec.specs.declared.registers.offsets.TheConstants as offs
 
 use super::Uart16550;
 use crate::backend::Backend;
+use crate::patience::Patience;
 use bitflags::Flags;
 use uart_spec::registers::{LSR, MCR, MSR, offsets};
 use uart_spec::{ByteSendError, FIFO_SIZE, StalledError};
@@ -256,5 +258,38 @@ impl<B: Backend> Uart16550<B> {
             }
         }
         false
+    }
+
+    /// Waits until LSR shows `TRANSMITTER_EMPTY`, as `flush` of [`embedded_io`](crate::embedded_io)
+    /// does, and no longer than the caller wants: `patience` is asked after each poll that fails.
+    ///
+    /// So the wait can end at a time, by whatever clock the caller has. It ends after `spin_limit`
+    /// unsuccessful polls in a row too. No poll follows the answer to wait no longer. Error bits
+    /// are saved for the next `lsr`, and do not end the call.
+    ///
+    /// # Errors
+    ///
+    /// `StalledError`, with `done` 0, if `patience` answered to wait no longer, or after
+    /// `spin_limit` unsuccessful polls in a row. What was sent goes on to leave the chip.
+    ///
+    /// # Examples
+    ///
+    /// ```
+    /// uart.send_bytes_while(b"hello", &mut deadline)?;
+    /// uart.flush_while(&mut deadline)?;
+    /// ```
+    pub fn flush_while<P: Patience>(&mut self, patience: &mut P) -> Result<(), StalledError>
+        ensures { MadeWhile P.answers B.step (λ said. FlushesWhile said result)
+            patience.old patience.new self.old self.new }
+    {
+        for _poll in 0..self.spin_limit.get() {
+            if self.read_lsr().contains(LSR::TRANSMITTER_EMPTY) {
+                return Ok(());
+            }
+            if !patience.keep_waiting() {
+                return Err(StalledError { done: 0 });
+            }
+        }
+        Err(StalledError { done: 0 })
     }
 }

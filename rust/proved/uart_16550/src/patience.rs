@@ -3,8 +3,9 @@
 /// How long a wait goes on: until a time, until a key is pressed, or whatever else its caller
 /// knows.
 ///
-/// `send_bytes_while` asks it after each check that fails. The spin limit bounds each wait too, so
-/// a patience without end is no endless wait. In Rust each `FnMut() -> bool` is one.
+/// A call that takes one, as `send_bytes_while`, asks it after each check that fails. The spin
+/// limit bounds each wait too, so a patience without end is no endless wait. In Rust each
+/// `FnMut() -> bool` is one.
 ///
 /// In Rattle an implementation also defines a relation: from which state it may answer what, and
 /// in which state it is then.

@@ -228,16 +228,49 @@ pub mod bursts {}
 /// ```text
 /// abbrev pub SendsWhile : {T : Type 0} → List ℕ → List Bool → Result T StalledError → Language
 /// SendsWhile bytes said (Ok x) s l =
-///     (rounds : List Awaited) × IsCut s bytes (bursts_of rounds) [] × (said ≡ keeps_waiting (misses_of rounds))
+///     (rounds : List (Awaited (List ℕ))) × IsCut s bytes (items_of rounds) [] × (said ≡ keeps_waiting (misses_of rounds))
 ///     × InOrder RoundAfter rounds s l
 /// SendsWhile bytes said (Err e) s l =
-///     (rounds : List Awaited) × (last : List Bool) × (rest : List ℕ) × IsCut s bytes (bursts_of rounds) rest
+///     (rounds : List (Awaited (List ℕ))) × (last : List Bool) × (rest : List ℕ) × IsCut s bytes (items_of rounds) rest
 ///     × (0 < length rest) × (e.done + length rest ≡ length bytes)
 ///     × (said ≡ keeps_waiting (misses_of rounds) ++ last)
-///     × Then (InOrder RoundAfter rounds) (WaitsWhile last false) s l
+///     × Then (InOrder RoundAfter rounds) (InVain SendMiss last) s l
 /// ```
 ///
-/// It uses `Language`, `InOrder`, `Then` of `crates/uart_16550/specs/Grammar.antt`; `Awaited`, `bursts_of`, `keeps_waiting`, `misses_of`, `RoundAfter`, `WaitsWhile` of this file; `IsCut` of `crates/uart_16550/specs/Transmit.antt`.
+/// It uses `Language`, `InOrder`, `Then` of `crates/uart_16550/specs/Grammar.antt`; `Awaited`, `items_of`, `keeps_waiting`, `misses_of`, `RoundAfter`, `InVain` of this file; `IsCut`, `SendMiss` of `crates/uart_16550/specs/Transmit.antt`.
+///
+/// <span id="ReceivesWhile"></span>
+///
+/// # `ReceivesWhile`
+///
+/// `receive_bytes_while`, with the answers of the caller: the slots are filled, each byte after its own wait; or those before the one whose wait ended in vain, as many as the error reports.
+///
+/// ```text
+/// abbrev pub ReceivesWhile : {T : Type 0} → ℕ → List ℕ → List Bool → Result T StalledError → Language
+/// ReceivesWhile n bytes said (Ok x) s l =
+///     (received : List (Awaited ℕ)) × (bytes ≡ items_of received) × (length bytes ≡ n)
+///     × (said ≡ keeps_waiting (misses_of received)) × InOrder ByteAfter received s l
+/// ReceivesWhile n bytes said (Err e) s l =
+///     (received : List (Awaited ℕ)) × (last : List Bool) × (bytes ≡ items_of received) × (length bytes < n)
+///     × (e.done ≡ length bytes) × (said ≡ keeps_waiting (misses_of received) ++ last)
+///     × Then (InOrder ByteAfter received) (InVain Miss last) s l
+/// ```
+///
+/// It uses `Language`, `InOrder`, `Then` of `crates/uart_16550/specs/Grammar.antt`; `Awaited`, `items_of`, `keeps_waiting`, `misses_of`, `ByteAfter`, `InVain` of this file; `Miss` of `crates/uart_16550/specs/Receive.antt`.
+///
+/// <span id="FlushesWhile"></span>
+///
+/// # `FlushesWhile`
+///
+/// `flush_while`, with the answers of the caller: the transmitter was empty after fewer misses in a row than the limit; or the wait was in vain.
+///
+/// ```text
+/// abbrev pub FlushesWhile : {T : Type 0} → List Bool → Result T StalledError → Language
+/// FlushesWhile said (Ok x) s l = (n : ℕ) × (said ≡ keeps_waiting n) × After n (ShowsEmpty false) (ShowsEmpty true) s l
+/// FlushesWhile said (Err e) s l = (e.done ≡ 0) × InVain (ShowsEmpty false) said s l
+/// ```
+///
+/// It uses `Language` of `crates/uart_16550/specs/Grammar.antt`; `keeps_waiting`, `After`, `ShowsEmpty`, `InVain` of this file.
 ///
 /// <span id="MadeWhile"></span>
 ///
@@ -254,7 +287,7 @@ pub mod bursts {}
 /// ```
 ///
 /// It uses [`Made`](crate::proved::driver#Made); `Language` of `crates/uart_16550/specs/Grammar.antt`.
-#[doc(alias("SendsWhile", "MadeWhile"))]
+#[doc(alias("SendsWhile", "ReceivesWhile", "FlushesWhile", "MadeWhile"))]
 pub mod patience {}
 
 /// The driver's fields, and what a call does to them and to the backend.

@@ -2,6 +2,7 @@
 
 use super::Uart16550;
 use crate::backend::Backend;
+use crate::patience::Patience;
 use bitflags::Flags;
 use uart_spec::registers::{LSR, MCR, MSR, offsets};
 use uart_spec::{ByteSendError, FIFO_SIZE, StalledError};
@@ -290,5 +291,54 @@ impl<B: Backend> Uart16550<B> {
             }
         }
         false
+    }
+
+    /// Waits until LSR shows `TRANSMITTER_EMPTY`, as `flush` of [`embedded_io`](crate::embedded_io)
+    /// does, and no longer than the caller wants: `patience` is asked after each poll that fails.
+    ///
+    /// So the wait can end at a time, by whatever clock the caller has. It ends after `spin_limit`
+    /// unsuccessful polls in a row too. No poll follows the answer to wait no longer. Error bits
+    /// are saved for the next `lsr`, and do not end the call.
+    ///
+    /// # Errors
+    ///
+    /// `StalledError`, with `done` 0, if `patience` answered to wait no longer, or after
+    /// `spin_limit` unsuccessful polls in a row. What was sent goes on to leave the chip.
+    ///
+    /// # Examples
+    ///
+    /// ```
+    /// # include!(concat!(env!("CARGO_MANIFEST_DIR"), "/examples.rs"));
+    /// # fn main() {}
+    /// # fn example(uart: &mut Uart16550<Device>, mut deadline: impl Patience) -> Outcome<()> {
+    /// uart.send_bytes_while(b"hello", &mut deadline)?;
+    /// uart.flush_while(&mut deadline)?;
+    /// # Ok(()) }
+    /// ```
+    ///
+    /// # Proved
+    ///
+    /// - [`MadeWhile`](crate::proved::patience#MadeWhile): the caller was asked and gave some answers, from the first of its states to the second, and the call made a list of the language that goes with them, as `Made` says.
+    ///   - [`FlushesWhile`](crate::proved::patience#FlushesWhile): `flush_while`, with the answers of the caller: the transmitter was empty after fewer misses in a row than the limit; or the wait was in vain.
+    ///
+    /// <details><summary>The clauses</summary>
+    ///
+    /// [How to read them](uart_spec::proved):
+    ///
+    /// ```text
+    /// ensures { MadeWhile P.answers B.step (λ said. FlushesWhile said result) patience.old patience.new self.old self.new }
+    /// ```
+    ///
+    /// </details>
+    pub fn flush_while<P: Patience>(&mut self, patience: &mut P) -> Result<(), StalledError> {
+        for _poll in 0..self.spin_limit.get() {
+            if self.read_lsr().contains(LSR::TRANSMITTER_EMPTY) {
+                return Ok(());
+            }
+            if !patience.keep_waiting() {
+                return Err(StalledError { done: 0 });
+            }
+        }
+        Err(StalledError { done: 0 })
     }
 }

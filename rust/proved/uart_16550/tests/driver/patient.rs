@@ -1,5 +1,5 @@
-//! The call whose waits end when its caller says so: each with its whole list of accesses, and with
-//! how often the caller was asked.
+//! The calls whose waits end when their caller says so: each with its whole list of accesses, and
+//! with how often the caller was asked.
 
 use crate::devices::{Listed, RegisterFile, driver, impatient};
 use crate::lists::{Accesses, list};
@@ -42,6 +42,25 @@ fn asked(
     let mut caller = Times { left, asked: 0 };
     let sent = uart.send_bytes_while(bytes, &mut caller);
     assert_eq!(sent, done.map_err(|done| StalledError { done }));
+    assert_eq!(uart.backend().log.entries(), accesses.entries());
+    caller.asked
+}
+
+/// Makes a row as `asked` does, of a call that receives into as many slots as there are bytes in `came`: those that are not EE are to come.
+/// Returns how often its caller was asked.
+fn asked_for(
+    answers: &'static [u8],
+    came: &[u8],
+    left: usize,
+    done: Result<(), usize>,
+    accesses: &Accesses,
+) -> usize {
+    let mut uart = impatient(Listed(answers));
+    let mut caller = Times { left, asked: 0 };
+    let mut slots = vec![0xee; came.len()];
+    let received = uart.receive_bytes_while(&mut slots, &mut caller);
+    assert_eq!(received, done.map_err(|done| StalledError { done }));
+    assert_eq!(slots, came);
     assert_eq!(uart.backend().log.entries(), accesses.entries());
     caller.asked
 }
@@ -100,4 +119,95 @@ fn errors_that_the_checks_clear_are_saved() {
     assert_eq!(uart.send_bytes_while(b"a", kept), Ok(()));
     assert_eq!(asked, 1);
     assert_eq!(uart.lsr(), LSR::OVERRUN_ERROR);
+}
+
+#[test]
+fn who_receives_is_asked_after_each_poll_that_fails() {
+    assert_eq!(asked_for(&[], b"", 0, Ok(()), &list()), 0);
+    let at_once = list().hits(b"AB");
+    assert_eq!(
+        asked_for(&[1, 0x41, 1, 0x42], b"AB", 0, Ok(()), &at_once),
+        0
+    );
+    // Two polls in a row before each byte, and no third: the limit counts each wait by itself.
+    let late = list().looks(2, 0x00).hit(0x41).looks(2, 0x00).hit(0x42);
+    let answers = &[0, 0, 1, 0x41, 0, 0, 1, 0x42];
+    assert_eq!(asked_for(answers, b"AB", 4, Ok(()), &late), 4);
+}
+
+#[test]
+fn no_poll_follows_the_answer_to_wait_no_longer() {
+    let one = list().look(0x00);
+    assert_eq!(asked_for(&[0, 1, 0x41], &[0xee; 2], 0, Err(0), &one), 1);
+    let two = list().looks(2, 0x00);
+    assert_eq!(asked_for(&[0, 0, 1, 0x41], &[0xee; 2], 1, Err(0), &two), 2);
+    // The answers count over all of the waits: here the second wait ends at its first poll.
+    let second = list().look(0x00).hit(0x41).look(0x00);
+    let answers = &[0, 1, 0x41, 0, 1, 0x42];
+    assert_eq!(
+        asked_for(answers, &[0x41, 0xee, 0xee], 1, Err(1), &second),
+        2
+    );
+}
+
+#[test]
+fn the_spin_limit_ends_a_wait_for_a_byte_too() {
+    let limit = list().hit(0x41).looks(3, 0x00);
+    let came = [0x41, 0xee];
+    assert_eq!(asked_for(&[1, 0x41], &came, usize::MAX, Err(1), &limit), 3);
+    assert_eq!(asked_for(&[1, 0x41], &came, 2, Err(1), &limit), 3);
+}
+
+#[test]
+fn errors_that_the_polls_clear_are_saved() {
+    // An overrun at a poll without data, and a parity error with the byte.
+    let mut uart = impatient(Listed(&[0x02, 0x05, 0x41, 0x08]));
+    let mut slots = [0xee; 2];
+    let mut turns = 1;
+    let once = &mut || {
+        turns -= 1;
+        turns == 0
+    };
+    let stall = Err(StalledError { done: 1 });
+    assert_eq!(uart.receive_bytes_while(&mut slots, once), stall);
+    assert_eq!(slots, [0x41, 0xee]);
+    let shown = LSR::OVERRUN_ERROR | LSR::PARITY_ERROR | LSR::FRAMING_ERROR;
+    assert_eq!(uart.lsr(), shown);
+}
+
+/// Makes a row as `asked` does, of a call that waits for an empty transmitter.
+fn asked_for_empty(
+    answers: &'static [u8],
+    left: usize,
+    done: Result<(), usize>,
+    accesses: &Accesses,
+) -> usize {
+    let mut uart = impatient(Listed(answers));
+    let mut caller = Times { left, asked: 0 };
+    let flushed = uart.flush_while(&mut caller);
+    assert_eq!(flushed, done.map_err(|done| StalledError { done }));
+    assert_eq!(uart.backend().log.entries(), accesses.entries());
+    caller.asked
+}
+
+#[test]
+fn who_flushes_is_asked_after_each_poll_that_fails() {
+    assert_eq!(asked_for_empty(&[0x40], 0, Ok(()), &list().look(0x40)), 0);
+    // An empty holding register is not enough.
+    let late = list().look(0x00).look(0x20).look(0x60);
+    assert_eq!(asked_for_empty(&[0x00, 0x20, 0x60], 2, Ok(()), &late), 2);
+    let ended = list().look(0x00).look(0xbf);
+    assert_eq!(asked_for_empty(&[0x00, 0xbf, 0x40], 1, Err(0), &ended), 2);
+    let limit = list().look(0x00).look(0x20).look(0xbf);
+    assert_eq!(
+        asked_for_empty(&[0x00, 0x20, 0xbf, 0x40], usize::MAX, Err(0), &limit),
+        3
+    );
+}
+
+#[test]
+fn errors_that_a_flush_clears_are_saved() {
+    let mut uart = impatient(Listed(&[0x0a, 0x40]));
+    assert_eq!(uart.flush_while(&mut || true), Ok(()));
+    assert_eq!(uart.lsr(), LSR::OVERRUN_ERROR | LSR::FRAMING_ERROR);
 }

@@ -1,14 +1,13 @@
 use Rattle.std.proofs.Common.{◌≡◌, ◌<◌, ◌≤◌, ◌+◌, ◌++◌, [], ◌∷◌, ℕ, Bool, true, List, length, take, drop}
 use Rattle.std.proofs.Common.{arith, refl, length-drop, ◌∙◌, ap, subst}
 use Rattle.std.proofs.lemmas.List.{take_rest, drop-drop, map-append}
-use Rattle.std.specs.List.{FoldsTo}
 use Rattle.uart_16550.specs.Grammar.{Settings, Then, Times, Only}
 use Rattle.uart_16550.specs.Transmit.{SendHit, SendMiss, burst_size, data_writes}
-use Rattle.uart_16550.specs.Patience.{WaitsWhile, Awaited, RoundAfter, bursts_of, misses_of, keeps_waiting}
+use Rattle.uart_16550.specs.Patience.{WaitsWhile, Awaited, RoundAfter, items_of, misses_of, keeps_waiting}
 use Rattle.uart_16550.specs.Driver.{Made, settings}
 use Rattle.uart_16550.proofs.Languages.{cut_more, then_later}
 use Rattle.uart_16550.proofs.Making.{made_then, made_among, made_fits, made_none, made_settings, made_more}
-use Rattle.uart_16550.proofs.Waiting.{folds_append, keeps_sum, misses_more}
+use Rattle.uart_16550.proofs.Waiting.{folds_append, asked_more}
 use Rattle.uart_16550.proofs.driver.Uart16550.send_bytes_while.Goals as goal
 
 pub loop-done-init : goal.loop-done-init
@@ -43,21 +42,18 @@ loop-done-preserved g c =
     ap (λ (s : Settings). burst_size s rest) (made_settings made ∙ made_settings inv.made) in
     let some : c.write_burst-done.result ≤ length rest = omega (arith, size) in
     let piece = take (burst_size set rest) rest in
-    let round : Awaited = record { misses = misses; bytes = piece } in
+    let round : Awaited (List ℕ) = record { misses = misses; item = piece } in
     let waited : Made g.B.Backend.step (Then (Times misses SendMiss) SendHit) c.loop-done.self c.wait_to_send_while.new.self =
-    made_fits made made.fits.3 in
+    made_fits made made.fits.2.1 in
     let wrote : Made g.B.Backend.step (Only (data_writes piece)) c.wait_to_send_while.new.self c.write_burst-done.new.self =
     made_among (λ l t. let written = rw take_rest at t in rw (← size) written) c.write_burst-done.ensures.made in
     let sent : Made g.B.Backend.step (RoundAfter round) c.loop-done.self c.write_burst-done.new.self =
-    made_among (λ l t. (made.fits.1, then_later (Times misses SendMiss) SendHit _ (settings c.loop-done.self) l t))
+    made_among (λ l t. (made.fits.2.0, then_later (Times misses SendMiss) SendHit _ (settings c.loop-done.self) l t))
     (made_then waited wrote) in
     record {
       within = omega (arith, length-drop {A = ℕ}, some);
       rounds = inv.rounds ++ round ∷ [];
-      cut = rw (map-append, ← drop-drop, size) (cut_more set _ (bursts_of inv.rounds) rest inv.cut left);
-      asked = rw (misses_more inv.rounds round, keeps_sum (misses_of inv.rounds) misses)
-          (folds_append _ _ _ _ (keeps_waiting (misses_of inv.rounds)) (keeps_waiting misses) inv.asked
-          (subst (λ (said : List Bool). FoldsTo g.P.Patience.answers c.loop-done.patience said c.wait_to_send_while.new.patience)
-          made.fits.2 wait.asked));
+      cut = rw (map-append, ← drop-drop, size) (cut_more set _ (items_of inv.rounds) rest inv.cut left);
+      asked = asked_more _ _ _ _ inv.rounds round wait.said inv.asked made.fits.1 wait.asked;
       made = made_more RoundAfter inv.rounds round inv.made sent;
     }

@@ -16,7 +16,7 @@ returns-in-Ok g c =
     record {
       said = keeps_waiting turn;
       asked = c.loop-turn.invariant.asked;
-      made = made_among (λ l t. (turn, few, refl, t)) (made_then c.loop-turn.invariant.made c.in-Ok.ensures);
+      made = made_among (λ l t. (turn, refl, (few, t))) (made_then c.loop-turn.invariant.made c.in-Ok.ensures);
     }
 
 pub returns-then-not-keep_waiting : goal.returns-then-not-keep_waiting
