@@ -21,7 +21,7 @@ use uart_16550::{Config, Uart16550};
 use uart_calls::replay::Replay;
 use uart_machine::script::{PlayError, ScriptError, Std, parse, play};
 use uart_machine::{BuildError, Call, Chip, Device16550, Event};
-use uart_ring::{RingError, Uart16550Ring};
+use uart_ring::{ErrorNotes, RingError, Uart16550Ring};
 use uart_spec::access::Access;
 
 // A script with so many calls and events that their lists grow, and its output too.
@@ -194,6 +194,36 @@ fn make_rings(alloc: Global) -> Outcome {
     }
 }
 
+// A backend of which one read was made.
+fn used_backend() -> Replay<'static> {
+    let mut backend = Replay::new(&[0x1e, 0x60]);
+    let _ = backend.read(offsets::LSR as u8);
+    backend
+}
+
+// Returns whether that read is the only one so far.
+fn is_used_once(backend: &Replay<'static>) -> bool {
+    backend.accesses() == Some(&[Access::Read(offsets::LSR, 0x1e)])
+}
+
+// Makes notes of errors. If they are refused, the backend is returned unchanged.
+fn make_notes(alloc: Global) -> Outcome {
+    match ErrorNotes::new(alloc, used_backend(), 16) {
+        Ok(mut notes) => {
+            let is_kept = is_used_once(notes.backend());
+            Outcome::of(is_kept && notes.read(offsets::LSR as u8) == 0x60)
+        }
+        Err((mut backend, cause)) => {
+            let is_kept = is_used_once(&backend) && backend.read(offsets::LSR as u8) == 0x60;
+            if cause == RingError::OutOfMemory && is_kept {
+                Outcome::OutOfMemory
+            } else {
+                Outcome::Other
+            }
+        }
+    }
+}
+
 // Returns the number in the input.
 fn number<R: Read>(reader: &mut R) -> io::Result<usize> {
     let mut text = [0u8; 8];
@@ -230,6 +260,7 @@ fn main(rt: HostRuntime) -> io::Result<ExitCode> {
         ("new", make_device(alloc, schedule)),
         ("new_cut", make_cutting_device(alloc, schedule_to_cut)),
         ("rings", make_rings(alloc)),
+        ("notes", make_notes(alloc)),
     ];
     for (name, outcome) in outcomes {
         println!(rt; "{name} {outcome}")?;

@@ -1,5 +1,5 @@
 -- The errors of received bytes, as a backend notes them beside the rings.
-use Rattle.std.specs.Prelude.{◌≡◌, ◌==◌, ◌-◌, ◌&&◌, ℕ, Bool, false, not, List, [], length, map}
+use Rattle.std.specs.Prelude.{◌≡◌, ◌==◌, ◌-◌, ◌&&◌, ℕ, Bool, true, false, not, List, [], length, map}
 use Rattle.std.specs.Prelude.{if◌then◌else◌}
 use Rattle.std.specs.Int.RustNames.{bit_and, bit_or}
 use Rattle.uart_spec.specs.Bits.{has}
@@ -23,26 +23,41 @@ pub record Notes : Type 0 where
   pub shown : ℕ
   -- whether LCR was written so that offset 0 is the divisor latch
   pub is_latch : Bool
+  -- whether an overrun that the next look shows may be of before the notes were made, or of before a reset of the
+  -- receiver: the chip keeps it until a look, and it is of no byte that comes after
+  pub is_overrun_old : Bool
 
 -- what this backend has noted
 abbrev pub notes_of : {B : Type 0} → ErrorNotes B → Notes
-notes_of n = record { noted = n.noted; shown = n.shown.0; is_latch = n.is_latch }
+notes_of n = record {
+  noted = n.noted;
+  shown = n.shown.0;
+  is_latch = n.is_latch;
+  is_overrun_old = n.is_overrun_old;
+}
 
--- a read: the line errors that LSR shows join those that were shown; at a read of DATA all that was shown is noted of
--- that byte, and nothing has been shown of the next. What is read of the divisor latch is no byte
+-- which line errors of a look are of the next byte
+abbrev pub told_errors : (is_overrun_old : Bool) → ℕ
+told_errors is_overrun_old = if is_overrun_old then LSR.CHARACTER_ERRORS.0 else LSR.LINE_ERRORS.0
+
+-- a read: the line errors that LSR shows join those that were shown, but for an overrun that may be of before; at a
+-- read of DATA all that was shown is noted of that byte, and nothing has been shown of the next. What is read of the
+-- divisor latch is no byte
 abbrev pub with_read : (offset answer : ℕ) → Notes → Notes
 with_read offset answer n =
-    if offset == offsets.LSR then record n { shown = bit_or n.shown (bit_and answer LSR.LINE_ERRORS.0) }
+    if offset == offsets.LSR
+    then record n { shown = bit_or n.shown (bit_and answer (told_errors n.is_overrun_old)); is_overrun_old = false }
     else if (offset == offsets.DATA) && not n.is_latch
     then record n { noted = with_latest n.shown n.noted; shown = 0 }
     else n
 
 -- a write: LCR decides whether offset 0 is the divisor latch; a reset of the receiver takes away the character of which
--- something was shown
+-- something was shown, and leaves the chip's overrun flag
 abbrev pub with_write : (offset value : ℕ) → Notes → Notes
 with_write offset value n =
     if offset == offsets.LCR then record n { is_latch = has value LCR.DLAB.0 }
-    else if (offset == offsets.FCR) && has value FCR.RX_FIFO_RESET.0 then record n { shown = 0 }
+    else if (offset == offsets.FCR) && has value FCR.RX_FIFO_RESET.0
+    then record n { shown = 0; is_overrun_old = true }
     else n
 
 -- what an access makes of the notes
@@ -59,7 +74,8 @@ pub record NotesErrors {B : Type 0} (step : B → Access → B → Type 0) (old 
 -- notes of nothing over this backend, with room for the errors of so many bytes
 abbrev pub AreNew : {B : Type 0} → ErrorNotes B → B → ℕ → Type 0
 AreNew n backend capacity =
-    (n.backend ≡ backend) × (notes_of n ≡ record { noted = queue [] capacity; shown = 0; is_latch = false })
+    (n.backend ≡ backend)
+    × (notes_of n ≡ record { noted = queue [] capacity; shown = 0; is_latch = false; is_overrun_old = true })
 
 -- ---- beside the rings
 

@@ -20,3 +20,7 @@ pub mod SharedLines
 pub mod Pending
 pub mod Served
 pub mod Unmoved
+pub mod NotedAccesses
+pub mod NotedBlocks
+pub mod NotedCalls
+pub mod NotedSessions

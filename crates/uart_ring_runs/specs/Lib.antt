@@ -8,3 +8,4 @@ pub mod RingPlain
 pub mod Edges
 pub mod SharedLine
 pub mod Healthy
+pub mod NotedErrors

@@ -2,13 +2,15 @@
 //!
 //! The contract of each function is a law that callers can cite.
 ghost use Rattle.std.specs.Prelude.{◌≡◌, ◌≤◌, ◌+◌, ℕ, suc, Bool, true, false, List, None};
-ghost use Rattle.std.specs.Prelude.{Result, Ok, Err, All, length, map};
+ghost use Rattle.std.specs.Prelude.{Result, Ok, Err, All, length, map, take};
 ghost use Rattle.uart_events.specs.declared.call.Call.{Call};
 ghost use Rattle.uart_16550.specs.Driver.{Did};
 ghost use Rattle.uart_16550.specs.Init.{Inits};
 ghost use Rattle.uart_16550.specs.declared.driver.Uart16550.{Uart16550};
 ghost use Rattle.uart_chip.specs.Chip.{is_dlab_set};
+ghost use Rattle.uart_chip.specs.Laws.{reported_front};
 ghost use Rattle.uart_chip.specs.Machine.{MachineState, MachineStep};
+ghost use Rattle.uart_chip.specs.declared.receiver.Character.{Character};
 ghost use Rattle.uart_ring_runs.specs.Edges.{LosesNoEdge, is_line_up};
 ghost use Rattle.uart_ring_runs.specs.SharedLine.{Moment, AreDlabsOff, Happened, WereLowered};
 ghost use Rattle.uart_ring_runs.specs.SharedLine.{is_shared_line_up, last_of, RisesIn};
@@ -16,12 +18,22 @@ ghost use Rattle.uart_ring_runs.specs.SharedLine.{port_machine};
 ghost use Rattle.uart_ring.specs.Handle.{Handles, Retriggers};
 ghost use Rattle.uart_ring.specs.Line.{EachGoes, HandlesPorts};
 ghost use Rattle.uart_ring.specs.declared.line.LinePort.{LinePort};
+ghost use Rattle.uart_ring.specs.Notes.{NotesErrors, bytes_of, errors_in, errors_of};
+ghost use Rattle.uart_ring.specs.Notes.{notes_of, unnoted_in};
+ghost use Rattle.uart_ring.specs.Receive.{TakesBytes};
 ghost use Rattle.uart_ring.specs.Storm.{TriesToHandle};
-ghost use Rattle.uart_ring.specs.Ring.{AreEmpty, RingDid, driver_of, ring_fields};
+ghost use Rattle.uart_ring.specs.Ring.{AreEmpty, RingDid, driver_of};
+ghost use Rattle.uart_ring.specs.Ring.{ring_backend_of, ring_fields};
+ghost use Rattle.uart_ring.specs.declared.notes.ErrorNotes.{ErrorNotes};
 ghost use Rattle.uart_ring.specs.declared.ring.service.HandleEnd.TheVariants.{Idle};
 ghost use Rattle.uart_ring.specs.declared.ring.service.Handled.{Handled};
 ghost use Rattle.uart_ring.specs.declared.ring.storm.StuckError.{StuckError};
 ghost use Rattle.uart_ring_runs.specs.Healthy.{IsInRoom, most_without_news, news_between};
+ghost use Rattle.uart_ring_runs.specs.NotedErrors.{AreExact, AreUnlooked, Holds};
+ghost use Rattle.uart_ring_runs.specs.NotedErrors.{IsInStep, MayBegin};
+ghost use Rattle.uart_ring_runs.specs.NotedErrors.{NotesExactly, notes_in};
+ghost use Rattle.uart_ring_runs.specs.NotedErrors.{NotedChain, NotedLink, NotedState, receiver_of};
+ghost use Rattle.uart_ring_runs.specs.NotedErrors.{links_without_notes, without_notes};
 ghost use Rattle.uart_ring_runs.specs.RingArmed.{IsRingArmed, KeepsArmed, LeavesThrEmpty};
 ghost use Rattle.uart_ring_runs.specs.RingBytes.{AllTakeInTurn};
 ghost use Rattle.uart_ring_runs.specs.RingPlain.{AreUntold, ArePlain, ConservesPlainly};
@@ -36,10 +48,14 @@ ghost use Rattle.uart_ring_runs.specs.declared.call.RingCall.TheVariants.{Driver
 ghost use Rattle.uart_run.specs.Chains.{NoneIs, calls_of};
 ghost use Rattle.uart_run.specs.Ready.{Ready};
 ghost use Rattle.uart_run.specs.Wired.{IsWired};
+ghost use Rattle.uart_spec.specs.declared.access.Access.TheVariants.{Read};
 ghost use Rattle.uart_spec.specs.declared.config.Config.{Config};
+ghost use Rattle.uart_spec.specs.declared.received.Received.{Received};
+ghost use Rattle.uart_spec.specs.declared.registers.offsets.TheConstants as offsets;
 
 use uart_16550::Uart16550;
 use uart_chip::Device16550;
+use uart_ring::{ErrorNotes, Uart16550Ring};
 
 /// If an `init` of this driver returns `Ok`, a session of ring calls may begin with the driver that
 /// it leaves, whatever the chip did before, also one with calls of `adjust_rts`. The driver may be
@@ -204,3 +220,46 @@ pub fn own_sessions_conserve()
     ensures { (s t : RingState) (links : List RingLink) → All IsOfRings (calls_of links) →
         RingConserves s links t → OwnConserves s links t }
 {}
+
+/// With the FIFO on, the errors that are noted of the bytes in the receive ring are exactly those
+/// of their characters, so `take_with_errors` returns each byte with its parity error, its framing
+/// error and its break, and no other. An overrun at a byte tells that a character was lost right
+/// behind the 15th or the 16th character from this one on, counted through the receive ring and
+/// then the chip, and not before this one.
+///
+/// This holds after any calls of the rings themselves, whatever the schedule has between their
+/// accesses: those that left the receive ring, those in it and those in the chip are the characters
+/// that were there and those that came, in order, without those that were dropped. A
+/// `take_with_errors` is one of these calls, as a `take`. Calls of the driver through `inner_mut`
+/// are none of them. The errors of all bytes have to be noted, as they are if the notes have room
+/// for as many as the receive ring.
+///
+/// The notes have to be in step with the chip when the calls begin. They are after the first look
+/// at LSR since the notes were made or the receiver was reset, if no earlier look has shown the
+/// character in front. After a reset there is none, and an `init` looks behind it.
+///
+/// # Examples
+///
+/// ```
+/// noted_errors_are_exact(&ring);
+/// ```
+pub fn noted_errors_are_exact(ring: &Uart16550Ring<ErrorNotes<Device16550>>)
+    ensures begins { (line : ℕ) (after : ErrorNotes MachineState) →
+        Ready (under (without_notes ring.now)) → (ring_fields ring.now).driver.fifo ≡ true →
+        AreUnlooked (notes_in ring.now) → reported_front (receiver_of ring.now) ≡ None →
+        NotesErrors MachineStep (ring_backend_of ring.now) (Read offsets.LSR line) after →
+        IsInStep (notes_of after) after.backend.chip.receiver }
+    ensures session { (before : List Character) (links : List NotedLink) (t : NotedState) →
+        MayBegin before ring.now →
+        AllWithinRingSession (without_notes ring.now) (links_without_notes links) →
+        All IsOfRings (calls_of links) → NotedChain ring.now links t →
+        NotesExactly before ring.now links t }
+    ensures taken { (characters : List Character) (slots count : ℕ) (items : List Received)
+        (t : NotedState) → Holds characters ring.now → unnoted_in ring.now ≡ 0 →
+        RingDid (NotesErrors MachineStep) (TakesBytes slots (bytes_of items)) ring.now t →
+        errors_of items ≡ take count (errors_in ring.now) →
+        AreExact items characters (receiver_of ring.now) }
+{
+    // The contract of this call states what holds of every machine.
+    let _fifo = ring.inner().backend().backend().fifo_enabled();
+}

@@ -3,7 +3,7 @@ use Rattle.std.proofs.Common.{◌≡◌, ℕ, zero, suc, ◌<◌, Bool, true, fa
 use Rattle.uart_events.specs.declared.event.Event.{Event}
 use Rattle.uart_events.specs.declared.event.Event.TheVariants.{Ticks, Arrive, Access as Gate, Mark}
 use Rattle.uart_chip.specs.Chip.{ChipState, cut_of, is_loopback, tick, ticks}
-use Rattle.uart_chip.specs.Machine.{MachineState, perform, before_access, at_access}
+use Rattle.uart_chip.specs.Machine.{MachineState, perform, before_access, at_access, before_mark, at_mark}
 use Rattle.uart_chip.specs.Receiver as receiver
 use Rattle.uart_chip.specs.Receiver.{ReceiverState, grow_timeout}
 use Rattle.uart_chip.specs.Sound.{IsMarked, IsSound}
@@ -66,3 +66,17 @@ module _ (P : ReceiverState → Type 0) (idles : (r : ReceiverState) → P r →
       P (at_access m).chip.receiver
   access_lasts m w on off p =
       before_lasts m.ahead m.chip (record { chip = w.chip; foreseen = w.foreseen; legal = w.legal }) on off p
+
+  until_lasts : (events : List Event) (c : ChipState) → IsSound (record { chip = c; ahead = events }) → c.fifo ≡ true →
+      is_loopback c.latches ≡ false → P c.receiver → P (before_mark events c).receiver
+  until_lasts [] c w on off p = p
+  until_lasts (Mark ∷ events) c w on off p = p
+  until_lasts (event ∷ events) c w on off p =
+      until_lasts events (perform event c) (sound_perform event events c w) (fifo_perform event c ∙ on) (open_perform event c ∙ off)
+      (perform_lasts event events c w on off p)
+
+  -- lasts up to the next mark
+  pub mark_lasts : (m : MachineState) → IsSound m → m.chip.fifo ≡ true → is_loopback m.chip.latches ≡ false → P m.chip.receiver →
+      P (at_mark m).chip.receiver
+  mark_lasts m w on off p =
+      until_lasts m.ahead m.chip (record { chip = w.chip; foreseen = w.foreseen; legal = w.legal }) on off p

@@ -86,10 +86,10 @@ only_errors a b d f g e =
     zero_or : (n : ℕ) → bit_or 0 n ≡ n
     zero_or n = or_comm 0 n ∙ or_zero_r n
 
-and_twice : (n mask : ℕ) → bit_and (bit_and n mask) mask ≡ bit_and n mask
+pub and_twice : (n mask : ℕ) → bit_and (bit_and n mask) mask ≡ bit_and n mask
 and_twice n mask = and_assoc mask n mask ∙ ap (bit_and n) (and_self mask)
 
-line_errors : (c : ChipState) →
+pub line_errors : (c : ChipState) →
     character_errors (line_status c) ≡ character_errors (front_errors c.receiver.queue c.receiver.is_front_reported)
 line_errors c =
     only_errors (nat_lt 0 (length c.receiver.queue)) c.receiver.is_overrun (length c.transmitter.queue == 0)
@@ -193,7 +193,7 @@ hit x m n line byte o on w h (m₁, s₁, (m₂, s₂, e)) =
 
 -- ---- bytes in order
 
-none_reported : (r : ReceiverState) → r.is_front_reported ≡ false → reported_front r ≡ None
+pub none_reported : (r : ReceiverState) → r.is_front_reported ≡ false → reported_front r ≡ None
 none_reported r e = go r.queue refl
   where
     go : (queue : List Character) → r.queue ≡ queue → reported_front r ≡ None

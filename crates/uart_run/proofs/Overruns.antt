@@ -111,14 +111,14 @@ pub data Came (byte errors : ℕ) (r : ReceiverState) : ReceiverState → Type 0
   Refused : (s : ReceiverState) → 16 ≤ length r.queue → s.queue ≡ r.queue → s.marks ≡ slice_set r.marks r.arrived Dropped →
       Came byte errors r s
 
-came : (r : ReceiverState) (byte errors : ℕ) → Came byte errors r (receiver.arrive false true byte errors r)
+pub came : (r : ReceiverState) (byte errors : ℕ) → Came byte errors r (receiver.arrive false true byte errors r)
 came r byte errors = go (nat_lt (length r.queue) 16) refl
   where
     go : (b : Bool) → nat_lt (length r.queue) 16 ≡ b → Came byte errors r (receiver.arrive false true byte errors r)
     go true e = rw e (Entered _ (record { byte = byte; errors = errors; origin = Arrived r.arrived }) refl refl refl refl)
     go false e = let full : 16 ≤ length r.queue = grind (arith, common_steps) in rw e (Refused _ full refl refl)
 
-behind_came : (count : ℕ) (taken : List Character) (byte errors : ℕ) (r s : ReceiverState) → IsMarked true r → Came byte errors r s →
+pub behind_came : (count : ℕ) (taken : List Character) (byte errors : ℕ) (r s : ReceiverState) → IsMarked true r → Came byte errors r s →
     Behind count taken r → Behind count taken s
 behind_came count taken byte errors r s w (Entered _ new o queue marks overrun) p = behind_room count taken r s new w o queue marks p
 behind_came count taken byte errors r s w (Refused _ full queue marks) p = behind_full count taken r s w queue marks p
@@ -135,7 +135,7 @@ after_look_came byte errors r s w within (Entered _ new o queue marks overrun) p
     λ on. behind_room 16 [] r s new w o queue marks (p (sym overrun ∙ on))
 after_look_came byte errors r s w within (Refused _ full queue marks) p = λ on. lost_now r s w within full queue marks
 
-flag_came : (byte errors : ℕ) (r s : ReceiverState) → IsMarked true r → r.arrived < length r.marks → Came byte errors r s →
+pub flag_came : (byte errors : ℕ) (r s : ReceiverState) → IsMarked true r → r.arrived < length r.marks → Came byte errors r s →
     FlagTells r → FlagTells s
 flag_came byte errors r s w within (Entered _ new o queue marks overrun) p = λ on. more (p (sym overrun ∙ on))
   where

@@ -49,6 +49,11 @@ impl<B: Backend> Uart16550Ring<ErrorNotes<B>> {
     /// bytes of the receive ring and then those in the chip. Without a FIFO, a character that comes
     /// between the look and the read of its byte replaces the one that was shown.
     ///
+    /// Over the software chip with its FIFO on this is proved, after any calls of the rings
+    /// themselves. It begins with the first look at LSR since the notes were made or the receiver
+    /// was reset, as an `init` makes it: an overrun of before is at no byte, and `take_line` alone
+    /// tells of it.
+    ///
     /// A call of the driver that receives, through `inner_mut`, passes the receive ring by, and its
     /// bytes are the last that were read. So make it only while the receive ring is empty; else
     /// errors stand at the wrong bytes until all bytes of the ring are taken.
@@ -78,6 +83,7 @@ impl<B: Backend> Uart16550Ring<ErrorNotes<B>> {
             errors_of (take count slots.new) ≡ take count (errors_in self.old)) }
         ensures rest { IfOk result (λ count. drop count slots.new ≡ drop count slots.old) }
         ensures noted { unnoted_in self.old ≡ 0 → is_ok result ≡ true }
+        ensures all_noted { IfOk result (λ count. unnoted_in self.old ≡ 0) }
         ensures refused { IfErr result (λ error.
             (0 < error.bytes) × (error.bytes ≡ unnoted_in self.old)
             × (self.new ≡ self.old) × (slots.new ≡ slots.old)) }

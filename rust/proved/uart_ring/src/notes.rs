@@ -45,7 +45,8 @@ impl std::error::Error for UnnotedError {}
 /// LSR shows the errors of the character that is the next to be read, once, to whoever looks: to
 /// the handler that serves a line status interrupt, to a pump that looks for room, to a
 /// `take_line`. So the errors of a byte are all that LSR has shown since the byte before it was
-/// read, and this backend sees each look.
+/// read, and this backend sees each look. Only an overrun that the first look shows, since the
+/// notes were made or the receiver was reset, is of no byte: it may be of before.
 ///
 /// # Examples
 ///
@@ -72,6 +73,9 @@ pub struct ErrorNotes<B> {
     // A dump of the registers reads the divisor latch at the offset of DATA, in the middle of what
     // waits.
     pub(crate) is_latch: bool,
+    // A chip keeps an overrun of before a reset of the receiver until somebody looks, and one of
+    // before the notes were made. It is at no byte that comes after.
+    pub(crate) is_overrun_old: bool,
 }
 
 impl<B: Backend> ErrorNotes<B> {
@@ -133,6 +137,7 @@ impl<B: Backend> ErrorNotes<B> {
             noted,
             shown: LSR::from_bits_retain(0),
             is_latch: false,
+            is_overrun_old: true,
         })
     }
 
@@ -207,8 +212,14 @@ impl<B: Backend> ErrorNotes<B> {
     #[inline]
     fn note_read(&mut self, offset: usize, answer: u8) {
         if offset == offsets::LSR {
+            let told = if self.is_overrun_old {
+                LSR::CHARACTER_ERRORS
+            } else {
+                LSR::LINE_ERRORS
+            };
             let line = LSR::from_bits_retain(answer);
-            self.shown.insert(line.intersection(LSR::LINE_ERRORS));
+            self.shown.insert(line.intersection(told));
+            self.is_overrun_old = false;
         } else if offset == offsets::DATA && !self.is_latch {
             self.noted.push_last(self.shown.bits());
             self.shown = LSR::from_bits_retain(0);
@@ -224,6 +235,7 @@ impl<B: Backend> ErrorNotes<B> {
             && FCR::from_bits_retain(value).contains(FCR::RX_FIFO_RESET)
         {
             self.shown = LSR::from_bits_retain(0);
+            self.is_overrun_old = true;
         }
     }
 }

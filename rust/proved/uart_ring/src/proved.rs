@@ -172,7 +172,8 @@ pub mod ring {}
 /// ```text
 /// abbrev pub AreNew : {B : Type 0} → ErrorNotes B → B → ℕ → Type 0
 /// AreNew n backend capacity =
-///     (n.backend ≡ backend) × (notes_of n ≡ record { noted = queue [] capacity; shown = 0; is_latch = false })
+///     (n.backend ≡ backend)
+///     × (notes_of n ≡ record { noted = queue [] capacity; shown = 0; is_latch = false; is_overrun_old = true })
 /// ```
 ///
 /// It uses [`queue`](crate::proved::queue#queue); `notes_of` of this file.

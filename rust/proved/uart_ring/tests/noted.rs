@@ -135,6 +135,26 @@ fn other_takes_and_dumps_leave_errors_at_their_bytes() {
 }
 
 #[test]
+fn an_overrun_before_an_init_stands_at_no_byte_after_it() {
+    let mut ring = started(8, 8);
+    for byte in 0..17 {
+        arrive(&mut ring, byte, LSR::empty());
+    }
+    // The reset of the receiver leaves the chip's overrun flag, and the next look at LSR shows it.
+    assert_eq!(ring.inner_mut().init(Config::DEFAULT), Ok(()));
+    let interrupts = IER::DATA_READY | IER::RECEIVER_LINE_STATUS;
+    ring.inner_mut().enable_interrupts(interrupts);
+    arrive(&mut ring, 40, LSR::PARITY_ERROR);
+    chip(&mut ring).ticks(5 * CHAR_TICKS);
+    ring.handle(8);
+    let received = Received {
+        byte: 40,
+        errors: LSR::PARITY_ERROR,
+    };
+    assert_eq!(taken(&mut ring, 8), [received]);
+}
+
+#[test]
 fn a_reset_of_the_receiver_forgets_what_was_shown() {
     let mut ring = started(8, 8);
     arrive(&mut ring, 1, LSR::PARITY_ERROR);

@@ -36,6 +36,11 @@ impl<B: Backend> Uart16550Ring<ErrorNotes<B>> {
     /// bytes of the receive ring and then those in the chip. Without a FIFO, a character that comes
     /// between the look and the read of its byte replaces the one that was shown.
     ///
+    /// Over the software chip with its FIFO on this is proved, after any calls of the rings
+    /// themselves. It begins with the first look at LSR since the notes were made or the receiver
+    /// was reset, as an `init` makes it: an overrun of before is at no byte, and `take_line` alone
+    /// tells of it.
+    ///
     /// A call of the driver that receives, through `inner_mut`, passes the receive ring by, and its
     /// bytes are the last that were read. So make it only while the receive ring is empty; else
     /// errors stand at the wrong bytes until all bytes of the ring are taken.
@@ -73,6 +78,7 @@ impl<B: Backend> Uart16550Ring<ErrorNotes<B>> {
     /// - *rest*: if it returns `Ok count`: `drop count slots.new ≡ drop count slots.old`.
     /// - *noted*: if `unnoted_in self.old ≡ 0`: `is_ok result ≡ true`.
     ///   - [`unnoted_in`](crate::proved::notes#unnoted_in): how many bytes of the receive ring have no note: those at its front, if more are there than errors are noted.
+    /// - *all_noted*: if it returns `Ok count`: `unnoted_in self.old ≡ 0`.
     /// - *refused*: if it returns `Err error`: `0 < error.bytes`, and `error.bytes ≡ unnoted_in self.old`, and nothing changes, and `slots` stays as it was.
     ///
     /// <details><summary>The clauses</summary>
@@ -85,6 +91,7 @@ impl<B: Backend> Uart16550Ring<ErrorNotes<B>> {
     /// ensures errors { IfOk result (λ count. errors_of (take count slots.new) ≡ take count (errors_in self.old)) }
     /// ensures rest { IfOk result (λ count. drop count slots.new ≡ drop count slots.old) }
     /// ensures noted { unnoted_in self.old ≡ 0 → is_ok result ≡ true }
+    /// ensures all_noted { IfOk result (λ count. unnoted_in self.old ≡ 0) }
     /// ensures refused { IfErr result (λ error. (0 < error.bytes) × (error.bytes ≡ unnoted_in self.old) × (self.new ≡ self.old) × (slots.new ≡ slots.old)) }
     /// ```
     ///

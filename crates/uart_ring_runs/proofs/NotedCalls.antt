@@ -1,0 +1,364 @@
+-- What each call of the rings themselves does to the machine and to the notes, with the FIFO on.
+use Rattle.std.proofs.Common.{◌≡◌, ℕ, Bool, true, false, List, [], ◌∷◌, ◌++◌, append-nil, append_assoc, refl, sym, ◌∙◌, ap, subst, take}
+use Rattle.std.proofs.Common.{Option, Some, None, bit_and}
+use Rattle.std.specs.Prelude.{All, ⊤}
+use Rattle.std.proofs.lemmas.List.{map-append}
+use Rattle.std.proofs.lemmas.List.Elements.{All-head, All-tail}
+use Rattle.uart_spec.specs.Access.{Path}
+use Rattle.uart_spec.specs.Bits.{has, has_any}
+use Rattle.uart_spec.specs.declared.access.Access.{Access}
+use Rattle.uart_spec.specs.declared.access.Access.TheVariants.{Read, Write}
+use Rattle.uart_spec.specs.declared.registers.modem_control.TheConstants.MCR
+use Rattle.uart_spec.specs.declared.registers.offsets.TheConstants as offsets
+use Rattle.uart_16550.specs.Frame.{switched, unlooped}
+use Rattle.uart_16550.specs.Grammar.{Settings}
+use Rattle.uart_chip.specs.Machine.{MachineState, MachineStep}
+use Rattle.uart_chip.specs.Masks.{mcr_bits}
+use Rattle.uart_chip.specs.declared.receiver.Character.{Character}
+use Rattle.uart_chip.proofs.conservation.BlockLaws.{IsOpen, stands-after}
+use Rattle.uart_chip.proofs.conservation.Passed.{Passed, passed-refl, passed-trans, passed-mark}
+use Rattle.uart_chip.proofs.conservation.Went.{Modes}
+use Rattle.uart_run.specs.Chains.{calls_of}
+use Rattle.uart_run.proofs.CallBlocks.{InBlocks}
+use Rattle.uart_run.proofs.FrameLaws.{unlooped_off}
+use Rattle.uart_run.specs.Wired.{IsWired}
+use Rattle.uart_ring.specs.Lossless.{data_written, data_read, LosesOnly, with_accepted, overtaken_by, without_dropped}
+use Rattle.uart_ring.specs.Notes.{Notes, NotesErrors, notes_of}
+use Rattle.uart_ring.specs.Receive.{write_if_other, rts_at, MakesRtsIfAny}
+use Rattle.uart_ring.specs.Ring.{RingDoing, RingDid, RingFields, ring_fields, ring_backend_of, free}
+use Rattle.uart_ring.specs.declared.notes.ErrorNotes.{ErrorNotes}
+use Rattle.uart_ring.proofs.Losses.{queues_lose_nothing, takes_lose_nothing, services_lose_nothing, resumes_lose_nothing}
+use Rattle.uart_ring.proofs.Losses.{takes_line_loses_nothing, takes_modem_loses_nothing, handles_lose_nothing, retriggers_lose_nothing}
+use Rattle.uart_ring.proofs.Losses.{holds_lose_nothing, releases_lose_nothing, queues_urgent_loses_only, clears_transmit_loses_only}
+use Rattle.uart_ring.proofs.Losses.{clears_receive_loses_nothing, sets_low_mark_loses_nothing, takes_low_loses_nothing, tries_lose_nothing}
+use Rattle.uart_ring.proofs.Losses.{restarts_lose_nothing, adjusts_lose_nothing}
+use Rattle.uart_ring_runs.specs.declared.call.RingAnswer.{RingAnswer}
+use Rattle.uart_ring_runs.specs.declared.call.RingCall.{RingCall}
+use Rattle.uart_ring_runs.specs.declared.call.RingCall.TheVariants as call
+use Rattle.uart_ring_runs.specs.NotedErrors.{NotedState, without_notes, notes_in, only_bytes, NotedCallStep, NotedLink, NotedChain}
+use Rattle.uart_ring_runs.specs.NotedErrors.{link_without_notes, links_without_notes}
+use Rattle.uart_ring_runs.specs.RingBytes.{to_take, gone_in, gone}
+use Rattle.uart_ring_runs.specs.RingRun.{under, ring_machine, IsOfRings, RingCalled, RingCallStep, RingPerformed, RingChain}
+use Rattle.uart_ring_runs.specs.RingSession.{IsWithinRingSession, AllWithinRingSession}
+use Rattle.uart_ring_runs.proofs.NotedAccesses.{Along, Noted, Reads, Steers, AllTame, all_tame_noted, noted_then, noted_start, noted_mark}
+use Rattle.uart_ring_runs.proofs.NotedAccesses.{with_accesses}
+use Rattle.uart_ring_runs.proofs.NotedBlocks.{no_bytes, noted_in_blocks}
+use Rattle.uart_ring_runs.proofs.RingBlocks.{MakesRingBlocks, MakesBlocks, in_blocks}
+use Rattle.uart_ring_runs.proofs.RingLasts.{first_within}
+use Rattle.uart_ring_runs.proofs.RingRts.{with_mcr_of, modes_at, InRingSession, came_rts}
+use Rattle.uart_ring_runs.proofs.RingWalk as walk
+
+-- ---- the machine under the notes
+
+-- a path with notes is one of the machine under them, and the notes follow it
+record Parted (l : List Access) (p q : ErrorNotes MachineState) : Type 0 where
+  pub path : Path MachineStep p.backend l q.backend
+  pub notes : notes_of q ≡ with_accesses l (notes_of p)
+
+parted : (l : List Access) (p q : ErrorNotes MachineState) → Path (NotesErrors MachineStep) p l q → Parted l p q
+parted [] p q h = record {
+  path = ap (λ (v : ErrorNotes MachineState). v.backend) h;
+  notes = ap (λ (v : ErrorNotes MachineState). notes_of v) h;
+}
+parted (access ∷ l) p q h =
+    let rest = parted l h.0 q h.2 in
+    record { path = (h.0.backend, h.1.made, rest.path); notes = rest.notes ∙ ap (with_accesses l) h.1.noted }
+
+plain_called : {R : Type 0} {G : R → RingDoing} {answer_of : R → RingAnswer} {a : RingAnswer} {s t : NotedState} →
+    RingCalled (NotesErrors MachineStep) G answer_of a s t → RingCalled MachineStep G answer_of a (without_notes s) (without_notes t)
+plain_called {s} {t} h = record {
+  outcome = h.outcome;
+  answered = h.answered;
+  did = record {
+    list = h.did.list;
+    path = (parted h.did.list (ring_backend_of s) (ring_backend_of t) h.did.path).path;
+    does = h.did.does;
+  };
+}
+
+-- a call of the rings themselves is one of the same rings over the machine itself
+pub plain_step : (s t : NotedState) (c : RingCall) (a : RingAnswer) → IsOfRings c → NotedCallStep s c a t →
+    RingCallStep (without_notes s) c a (without_notes t)
+plain_step s t (call.Driver c) a o h = absurd o
+plain_step s t call.Next a o h = h.0
+plain_step s t other a o h = plain_called h
+
+pub plain_chain : (s t : NotedState) (links : List NotedLink) → All IsOfRings (calls_of links) → NotedChain s links t →
+    RingChain (without_notes s) (links_without_notes links) (without_notes t)
+plain_chain s t [] own h = ap without_notes h
+plain_chain s t (link ∷ links) own h = (
+  ap without_notes h.0,
+  plain_step link.before link.after link.call link.answer (All-head IsOfRings link.call (calls_of links) own) h.1,
+  plain_chain link.after t links (All-tail IsOfRings link.call (calls_of links) own) h.2,
+)
+
+-- ---- what a call did whose accesses are blocks
+
+-- what left the receive ring in it, and what is there, was there or was read
+record Moved (s t : NotedState) (left : List ℕ) : Type 0 where
+  pub list : List Access
+  pub path : Path (NotesErrors MachineStep) (ring_backend_of s) list (ring_backend_of t)
+  pub makes : MakesRingBlocks (ring_fields s) list (ring_fields t)
+  pub received : left ++ (ring_fields t).receive.items ≡ (ring_fields s).receive.items ++ data_read list
+
+moved : (G : RingDoing) (change : List ℕ → List ℕ) (left : List ℕ) (line modem : ℕ) (s t : NotedState) →
+    (did : RingDid (NotesErrors MachineStep) G s t) → MakesRingBlocks (ring_fields s) did.list (ring_fields t) →
+    LosesOnly change left line modem (ring_fields s) did.list (ring_fields t) → Moved s t left
+moved G change left line modem s t did makes loses =
+    record { list = did.list; path = did.path; makes = makes; received = loses.received }
+
+-- `adjust_rts` writes MCR, `Next` makes no access, and what a call of the driver does is not said here
+abbrev IsOfBlocks : RingCall → Type 0
+IsOfBlocks (call.AdjustRts marks) = ⊥
+IsOfBlocks (call.Driver c) = ⊥
+IsOfBlocks call.Next = ⊥
+IsOfBlocks other = ⊤
+
+call_moved : (s t : NotedState) (c : RingCall) (a : RingAnswer) → IsOfBlocks c → RingPerformed (NotesErrors MachineStep) s c a t →
+    Moved s t (gone_in c a (ring_fields s).receive.items)
+call_moved s t (call.Queue bytes) a b h =
+    moved _ (with_accepted (take h.outcome bytes.items)) _ 0 0 s t h.did
+    (walk.queues MakesBlocks in_blocks bytes.items h.outcome _ _ _ h.did.does)
+    (queues_lose_nothing bytes.items h.outcome _ _ _ h.did.does)
+call_moved s t call.ResumeTransmit a b h =
+    moved _ (with_accepted []) _ 0 0 s t h.did
+    (walk.resumes MakesBlocks in_blocks (ring_fields s) h.did.list (ring_fields t) h.did.does)
+    (resumes_lose_nothing (ring_fields s) h.did.list (ring_fields t) h.did.does)
+call_moved s t (call.Take slots) a b h =
+    rw h.answered (moved _ (with_accepted []) _ 0 0 s t h.did (walk.takes MakesBlocks in_blocks slots h.outcome _ _ _ h.did.does)
+    (takes_lose_nothing slots h.outcome _ _ _ h.did.does))
+call_moved s t call.Service a b h =
+    moved _ (with_accepted []) _ 0 0 s t h.did (walk.services MakesBlocks in_blocks h.outcome _ _ _ h.did.does)
+    (services_lose_nothing h.outcome _ _ _ h.did.does)
+call_moved s t (call.Handle limit) a b h =
+    moved _ (with_accepted []) _ 0 0 s t h.did (walk.handles MakesBlocks in_blocks limit h.outcome _ _ _ h.did.does)
+    (handles_lose_nothing limit h.outcome _ _ _ h.did.does)
+call_moved s t call.Retrigger a b h =
+    moved _ (with_accepted []) _ 0 0 s t h.did (walk.retriggers MakesBlocks in_blocks _ _ _ h.did.does)
+    (retriggers_lose_nothing _ _ _ h.did.does)
+call_moved s t call.TakeLine a b h =
+    moved _ (with_accepted []) _ h.outcome 0 s t h.did (walk.takes_line MakesBlocks in_blocks h.outcome _ _ _ h.did.does)
+    (takes_line_loses_nothing h.outcome _ _ _ h.did.does)
+call_moved s t call.TakeModem a b h =
+    moved _ (with_accepted []) _ 0 h.outcome s t h.did (walk.takes_modem MakesBlocks in_blocks h.outcome _ _ _ h.did.does)
+    (takes_modem_loses_nothing h.outcome _ _ _ h.did.does)
+call_moved s t call.HoldTransmit a b h =
+    moved _ (with_accepted []) _ 0 0 s t h.did
+    (walk.holds MakesBlocks in_blocks (ring_fields s) h.did.list (ring_fields t) h.did.does)
+    (holds_lose_nothing (ring_fields s) h.did.list (ring_fields t) h.did.does)
+call_moved s t call.ReleaseTransmit a b h =
+    moved _ (with_accepted []) _ 0 0 s t h.did
+    (walk.releases MakesBlocks in_blocks (ring_fields s) h.did.list (ring_fields t) h.did.does)
+    (releases_lose_nothing (ring_fields s) h.did.list (ring_fields t) h.did.does)
+call_moved s t (call.QueueUrgent byte) a b h =
+    moved _ (overtaken_by byte h.outcome) _ 0 0 s t h.did
+    (walk.queues_urgent MakesBlocks in_blocks byte h.outcome _ _ _ h.did.does)
+    (queues_urgent_loses_only byte h.outcome _ _ _ h.did.does)
+call_moved s t call.ClearTransmit a b h =
+    moved _ (without_dropped h.outcome) _ 0 0 s t h.did
+    (walk.clears_transmit MakesBlocks in_blocks h.outcome _ _ _ h.did.does)
+    (clears_transmit_loses_only h.outcome _ _ _ h.did.does)
+call_moved s t call.ClearReceive a b h =
+    moved _ (with_accepted []) _ 0 0 s t h.did (walk.clears_receive MakesBlocks in_blocks h.outcome _ _ _ h.did.does)
+    (clears_receive_loses_nothing (ring_fields s) h.outcome _ _ h.did.does)
+call_moved s t (call.SetLowMark mark) a b h =
+    moved _ (with_accepted []) _ 0 0 s t h.did
+    (walk.sets_low_mark MakesBlocks in_blocks mark (ring_fields s) h.did.list (ring_fields t) h.did.does)
+    (sets_low_mark_loses_nothing mark (ring_fields s) h.did.list (ring_fields t) h.did.does)
+call_moved s t call.TakeLow a b h =
+    moved _ (with_accepted []) _ 0 0 s t h.did (walk.takes_low MakesBlocks in_blocks h.outcome _ _ _ h.did.does)
+    (takes_low_loses_nothing h.outcome _ _ _ h.did.does)
+call_moved s t (call.TryHandle limit rounds) a b h =
+    moved _ (with_accepted []) _ 0 0 s t h.did (walk.tries MakesBlocks in_blocks limit rounds h.outcome _ _ _ h.did.does)
+    (tries_lose_nothing limit rounds h.outcome _ _ _ h.did.does)
+call_moved s t (call.Restart interrupts) a b h =
+    moved _ (with_accepted []) _ 0 0 s t h.did (walk.restarts MakesBlocks in_blocks interrupts.0 _ _ _ h.did.does)
+    (restarts_lose_nothing interrupts.0 _ _ _ h.did.does)
+call_moved s t _ a b h = absurd b
+
+-- ---- what a call does
+
+-- from s to t these characters were taken, and of each its errors noted; what left the receive ring, and what is there, was
+-- there or was taken
+pub record CallNoted (x : Modes) (s t : NotedState) (left : List ℕ) : Type 0 where
+  pub made : List Access
+  pub written : List ℕ
+  pub takes : List Character
+  pub open_modes : IsOpen (modes_at x (without_notes t))
+  pub passed : Passed (modes_at x (without_notes t)) (ring_machine (without_notes s)) (ring_machine (without_notes t)) made written takes
+  pub fifo : (ring_fields t).driver.fifo ≡ (ring_fields s).driver.fifo
+  pub noted : Noted (notes_in s) (notes_in t) (ring_machine (without_notes s)) (ring_machine (without_notes t)) takes
+  pub received : left ++ to_take (without_notes t) ≡ to_take (without_notes s) ++ only_bytes takes
+
+-- MCR is then as the modes have it
+at_mcr : (x : Modes) (mcr : ℕ) (m n : MachineState) (made : List Access) (ws : List ℕ) (ts : List Character) →
+    Passed (record x { mcr = mcr }) m n made ws ts → Passed (with_mcr_of x n) m n made ws ts
+at_mcr x mcr m n made ws ts p =
+    let P : ℕ → Type 0 = λ v. Passed (record x { mcr = v }) m n made ws ts in subst P (sym p.went.modes.mcr) p
+
+open_at : (x : Modes) (mcr : ℕ) (m n : MachineState) (made : List Access) (ws : List ℕ) (ts : List Character) →
+    IsOpen (record x { mcr = mcr }) → Passed (record x { mcr = mcr }) m n made ws ts → IsOpen (with_mcr_of x n)
+open_at x mcr m n made ws ts o p =
+    let O : ℕ → Type 0 = λ v. IsOpen (record x { mcr = v }) in subst O (sym p.went.modes.mcr) o
+
+of_blocks : (x : Modes) (s t : NotedState) (left : List ℕ) → x.fifo ≡ true → InRingSession x (without_notes s) →
+    Along (notes_in s) (ring_machine (without_notes s)) → Moved s t left → CallNoted x s t left
+of_blocks x s t left on w along h =
+    let m = ring_machine (without_notes s) in
+    let n = ring_machine (without_notes t) in
+    let parts = parted h.list (ring_backend_of s) (ring_backend_of t) h.path in
+    let I : Bool → Type 0 = λ fifo. InBlocks fifo h.list (data_written h.list) (data_read h.list) in
+    let p = noted_in_blocks (modes_at x (without_notes s)) (notes_in s) m n h.list (data_written h.list) (data_read h.list) w.open_modes on
+    w.stands along (subst I w.fifo h.makes.blocks) parts.path in
+    let N : Notes → Type 0 = λ v. Noted (notes_in s) v m n p.takes in
+    record {
+      made = h.list;
+      written = data_written h.list;
+      takes = p.takes;
+      open_modes = open_at x m.chip.latches.mcr m n h.list (data_written h.list) p.takes w.open_modes p.passed;
+      passed = at_mcr x m.chip.latches.mcr m n h.list (data_written h.list) p.takes p.passed;
+      fifo = h.makes.fifo;
+      noted = subst N (sym parts.notes) p.noted;
+      received = h.received ∙ ap (λ zs. (ring_fields s).receive.items ++ zs) (sym p.bytes);
+    }
+
+-- ---- `adjust_rts`
+
+-- MCR is read, and perhaps written without loopback, and nothing is read from DATA
+record Steered (l : List Access) : Type 0 where
+  pub tame : AllTame l
+  pub none : data_read l ≡ []
+
+rts_steered : (shown on : Bool) (mcr value : ℕ) → has_any (bit_and value mcr_bits) MCR.LOOP_BACK.0 ≡ false →
+    Steered (Read offsets.MCR mcr ∷ write_if_other shown on (Write offsets.MCR value))
+rts_steered true true mcr value off = record { tame = (Reads offsets.MCR mcr refl refl, tt); none = refl }
+rts_steered false false mcr value off = record { tame = (Reads offsets.MCR mcr refl refl, tt); none = refl }
+rts_steered true false mcr value off =
+    record { tame = (Reads offsets.MCR mcr refl refl, (Steers value off, tt)); none = refl }
+rts_steered false true mcr value off =
+    record { tame = (Reads offsets.MCR mcr refl refl, (Steers value off, tt)); none = refl }
+
+steered : (wanted : Option Bool) (f : RingFields) (l : List Access) (after : RingFields) → MakesRtsIfAny wanted f l after → Steered l
+steered None f l after t = rw t.0 (record { tame = tt; none = refl })
+steered (Some on) f l after (((mcr, is), saved), same) =
+    rw is (rts_steered (has mcr MCR.RTS.0) on mcr (unlooped (switched on MCR.RTS.0 mcr)) (unlooped_off (switched on MCR.RTS.0 mcr)))
+
+-- nothing was taken
+none_left : (takes : List Character) → only_bytes takes ≡ [] → (items more : List ℕ) → more ≡ items ++ [] → more ≡ items ++ only_bytes takes
+none_left takes none items more e = e ∙ ap (λ zs. items ++ zs) (sym none)
+
+of_rts : (x : Modes) (s t : NotedState) (wanted : Option Bool) → x.fifo ≡ true → InRingSession x (without_notes s) →
+    Along (notes_in s) (ring_machine (without_notes s)) → IsWired (under (without_notes s)) →
+    (list : List Access) → MakesRtsIfAny wanted (ring_fields s) list (ring_fields t) →
+    Path (NotesErrors MachineStep) (ring_backend_of s) list (ring_backend_of t) →
+    LosesOnly (with_accepted []) [] 0 0 (ring_fields s) list (ring_fields t) → CallNoted x s t []
+of_rts x s t wanted on w along wired list does path loses =
+    let m = ring_machine (without_notes s) in
+    let n = ring_machine (without_notes t) in
+    let parts = parted list (ring_backend_of s) (ring_backend_of t) path in
+    let plain = steered wanted (ring_fields s) list (ring_fields t) does in
+    let came = came_rts x (without_notes s) (without_notes t) wanted list w wired does parts.path in
+    let none : only_bytes came.passed.takes ≡ [] = came.passed.bytes ∙ plain.none in
+    let N : Notes → Type 0 = λ v. Noted (notes_in s) v m n [] in
+    let P : List Character → Type 0 = λ ts. Noted (notes_in s) (notes_in t) m n ts in
+    record {
+      made = list;
+      written = data_written list;
+      takes = came.passed.takes;
+      open_modes = came.open_modes;
+      passed = came.passed.passed;
+      fifo = ap (λ (settings : Settings). settings.fifo) loses.settings;
+      noted = subst P (sym (no_bytes came.passed.takes none))
+          (subst N (sym parts.notes) (all_tame_noted list (notes_in s) m n plain.tame along parts.path));
+      received = loses.received ∙ ap (λ zs. (ring_fields s).receive.items ++ zs) (plain.none ∙ sym none);
+    }
+
+-- ---- each call
+
+call_noted : (x : Modes) (s t : NotedState) (c : RingCall) (a : RingAnswer) → x.fifo ≡ true → InRingSession x (without_notes s) →
+    Along (notes_in s) (ring_machine (without_notes s)) → IsOfRings c → IsWithinRingSession (without_notes s) c →
+    NotedCallStep s c a t → CallNoted x s t (gone_in c a (to_take (without_notes s)))
+call_noted x s t (call.AdjustRts marks) a on w along o i h =
+    of_rts x s t (rts_at marks (free (ring_fields s).receive)) on w along i h.did.list h.did.does h.did.path
+    (adjusts_lose_nothing marks (ring_fields s) h.did.list (ring_fields t) h.did.does)
+call_noted x s t (call.Driver c) a on w along o i h = absurd o
+call_noted x s t call.Next a on w along o i (goes, same) =
+    let m = ring_machine (without_notes s) in
+    let n = ring_machine (without_notes t) in
+    let p = passed-mark (modes_at x (without_notes s)) m w.open_modes.loopback w.stands.sound w.stands.modes in
+    let q : Passed (modes_at x (without_notes s)) m n [] [] [] = rw goes.machine p in
+    let N : Notes → Type 0 = λ v. Noted (notes_in s) v m n [] in
+    let M : MachineState → Type 0 = λ v. Noted (notes_in s) (notes_in s) m v [] in
+    record {
+      made = [];
+      written = [];
+      takes = [];
+      open_modes = open_at x m.chip.latches.mcr m n [] [] [] w.open_modes q;
+      passed = at_mcr x m.chip.latches.mcr m n [] [] [] q;
+      fifo = ap (λ (f : RingFields). f.driver.fifo) goes.rings;
+      noted = subst N (sym same) (subst M (sym goes.machine) (noted_mark (notes_in s) m along));
+      received = ap (λ (f : RingFields). f.receive.items) goes.rings ∙ sym (append-nil (to_take (without_notes s)));
+    }
+call_noted x s t other a on w along o i h = of_blocks x s t _ on w along (call_moved s t other a tt h)
+
+-- ---- calls in turn
+
+pub in_session_noted : (x : Modes) (s t : NotedState) (left : List ℕ) → InRingSession x (without_notes s) → CallNoted x s t left →
+    InRingSession x (without_notes t)
+in_session_noted x s t left w g = record {
+  open_modes = g.open_modes;
+  stands = stands-after (modes_at x (without_notes t)) (ring_machine (without_notes s)) (ring_machine (without_notes t)) _ _ _ g.passed;
+  fifo = g.fifo ∙ w.fifo;
+}
+
+noted_nowhere : (x : Modes) (s : NotedState) → InRingSession x (without_notes s) → Along (notes_in s) (ring_machine (without_notes s)) →
+    CallNoted x s s []
+noted_nowhere x s w along = record {
+  made = [];
+  written = [];
+  takes = [];
+  open_modes = w.open_modes;
+  passed = passed-refl (modes_at x (without_notes s)) (ring_machine (without_notes s)) w.stands.sound w.stands.modes;
+  fifo = refl;
+  noted = noted_start (notes_in s) (ring_machine (without_notes s)) along;
+  received = sym (append-nil (to_take (without_notes s)));
+}
+
+calls_then : (x : Modes) (s t u : NotedState) (e f : List ℕ) → CallNoted x s t e → CallNoted x t u f → CallNoted x s u (e ++ f)
+calls_then x s t u e f p q =
+    let m = ring_machine (without_notes s) in
+    let n = ring_machine (without_notes t) in
+    let o = ring_machine (without_notes u) in
+    let byte : Character → ℕ = λ character. character.byte in
+    record {
+      made = p.made ++ q.made;
+      written = p.written ++ q.written;
+      takes = p.takes ++ q.takes;
+      open_modes = q.open_modes;
+      passed = passed-trans (modes_at x (without_notes t)) (modes_at x (without_notes u)) m n o p.made q.made p.written q.written p.takes
+          q.takes refl p.passed q.passed;
+      fifo = q.fifo ∙ p.fifo;
+      noted = noted_then (notes_in s) (notes_in t) (notes_in u) m n o p.takes q.takes p.noted q.noted;
+      received = append_assoc e f (to_take (without_notes u)) ∙ (ap (λ zs. e ++ zs) q.received
+          ∙ (sym (append_assoc e (to_take (without_notes t)) (only_bytes q.takes)) ∙ (ap (λ zs. zs ++ only_bytes q.takes) p.received
+          ∙ (append_assoc (to_take (without_notes s)) (only_bytes p.takes) (only_bytes q.takes)
+          ∙ ap (λ zs. to_take (without_notes s) ++ zs) (sym (map-append byte p.takes q.takes))))));
+    }
+
+pub chain_noted : (x : Modes) (s t : NotedState) (links : List NotedLink) → x.fifo ≡ true → InRingSession x (without_notes s) →
+    Along (notes_in s) (ring_machine (without_notes s)) → AllWithinRingSession (without_notes s) (links_without_notes links) →
+    All IsOfRings (calls_of links) → NotedChain s links t → CallNoted x s t (gone (links_without_notes links))
+chain_noted x s t [] on w along i own h =
+    let C : NotedState → Type 0 = λ v. CallNoted x s v [] in subst C (sym h) (noted_nowhere x s w along)
+chain_noted x s t (link ∷ links) on w along i own h =
+    let W : NotedState → Type 0 = λ v. InRingSession x (without_notes v) in
+    let A : NotedState → Type 0 = λ v. Along (notes_in v) (ring_machine (without_notes v)) in
+    let begins = subst W (sym h.0) w in
+    let plain = plain_chain s t (link ∷ links) own h in
+    let j = first_within (without_notes s) (without_notes t) (link_without_notes link) (links_without_notes links) i plain in
+    let first = call_noted x link.before link.after link.call link.answer on begins (subst A (sym h.0) along)
+    (All-head IsOfRings link.call (calls_of links) own) j.here h.1 in
+    let rest = chain_noted x link.after t links on (in_session_noted x link.before link.after _ begins first) first.noted.along j.later
+    (All-tail IsOfRings link.call (calls_of links) own) h.2 in
+    let C : NotedState → Type 0 = λ v. CallNoted x v t (gone (links_without_notes (link ∷ links))) in
+    subst C h.0 (calls_then x link.before link.after t _ _ first rest)
