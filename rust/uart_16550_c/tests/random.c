@@ -7,6 +7,7 @@
 #include <stdlib.h>
 #include <string.h>
 
+#include "ring_calls.h"
 #include "u16550.h"
 
 enum { CALLS = 40000, NESTED_IN = 16, ROOM = 64, LAST = 94 };
@@ -118,6 +119,12 @@ static uint8_t U16550_CALL keep_waiting(void *context)
     return *left > 0 && (*left)--;
 }
 
+#define PLACE(name) &r->name
+#define HOLD (len % 20)
+#define MAKE(name, ...)    \
+    if (which-- == 0)      \
+        return name(__VA_ARGS__);
+
 /* Makes one call over a driver. */
 static int make(struct u16550 *u, unsigned which, struct room *r)
 {
@@ -211,7 +218,10 @@ static int make(struct u16550 *u, unsigned which, struct room *r)
     case 75: return u16550_ring_take_low(u, &r->value);
     case 76: return u16550_ring_try_handle(u, below(10), below(4), &r->handled);
     case 77: return u16550_ring_restart(u, (uint8_t)below(256));
-    case 78: return u16550_ring_adjust_rts(u, below(20), below(20));
+    case 78:
+        which = below(0 RING_CALLS(ONE_MORE));
+        RING_CALLS(MAKE)
+        return U16550_OK;
     case 79: return u16550_is_gone(u, &r->value);
     case 80: {
         struct u16550_line_port port = { u, { 0, 0 }, U16550_OK, 0 };

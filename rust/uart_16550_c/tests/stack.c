@@ -10,6 +10,7 @@
 #include <string.h>
 #include <ucontext.h>
 
+#include "ring_calls.h"
 #include "u16550.h"
 
 enum { SIZE = 1 << 16, COLOUR = 0xa5, DLAB = 0x80, FIFO_ENABLE = 1 };
@@ -256,7 +257,7 @@ static void call_nothing(void)
     RING(u16550_ring_set_low_mark, &uart, 16)                                                         \
     RING(u16550_ring_take_low, &uart, &byte)                                                          \
     RING(u16550_ring_take, &uart, bytes, sizeof bytes, &len)                                          \
-    RING(u16550_ring_adjust_rts, &uart, 32, 64)                                                       \
+    RING_CALLS(RING)                                                                                  \
     RING(u16550_ring_resume_transmit, &uart)                                                          \
     RING(u16550_ring_handle, &uart, 8, &handled)                                                      \
     RING(u16550_ring_try_handle, &uart, 8, 1, &handled)                                               \
@@ -269,10 +270,17 @@ static void call_nothing(void)
     RING(u16550_ring_take_modem, &uart, &byte)                                                        \
     RING(u16550_ring_config_register_dump, &uart, &dump)
 
+#define PLACE(name) &name
+/* More than there is room for: then a call has to do something. */
+#define HOLD 512
+#define below(most) ((most) / 2)
+
 /* A function for each call. */
 #define WRAPPER(name, ...)                 \
     static void call_##name(void)          \
     {                                      \
+        struct u16550 *u = &uart;          \
+        (void)u;                           \
         keep(name(__VA_ARGS__));           \
     }
 CALLS(WRAPPER, WRAPPER)

@@ -6,6 +6,7 @@
 #include "u16550.h"
 
 #include "choices.h"
+#include "../../../rust/uart_16550_c/tests/ring_calls.h"
 
 /* Now and then a call gets null for what it is to write. */
 static int is_null;
@@ -669,6 +670,12 @@ static void call_registers(struct u16550 *u, uint32_t which)
     }
 }
 
+#define PLACE(name) OUT(&name)
+#define HOLD (len % 20)
+#define MAKE(name, ...)    \
+    if (which-- == 0)      \
+        told(name(__VA_ARGS__));
+
 static void call_rings(struct u16550 *u, uint32_t which)
 {
     struct u16550_handled handled = { 0, 0 };
@@ -735,7 +742,8 @@ static void call_rings(struct u16550 *u, uint32_t which)
         told(u16550_ring_take_modem(u, OUT(&value)));
         break;
     case 19:
-        told(u16550_ring_adjust_rts(u, len % 20, below(20)));
+        which = below(0 RING_CALLS(ONE_MORE));
+        RING_CALLS(MAKE)
         break;
     case 20:
         if (told(u16550_ring_config_register_dump(u, OUT(&dump))) == U16550_OK)
