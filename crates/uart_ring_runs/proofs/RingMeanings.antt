@@ -1,5 +1,6 @@
 -- What each call of the rings does, in one place: it is made of doings of the driver, it loses nothing, and it leaves the rings armed.
-use Rattle.std.proofs.Common.{◌≡◌, ◌≢◌, ◌<◌, ℕ, List, [], ◌++◌, append-nil, length, length-take, take, refl, sym, arith}
+use Rattle.std.proofs.Common.{◌≡◌, ◌≢◌, ◌<◌, ℕ, Bool, not, Option, Some, None, List, [], ◌++◌, append-nil, length, length-take, take}
+use Rattle.std.proofs.Common.{refl, sym, arith}
 use Rattle.std.specs.Prelude.{⊤}
 use Rattle.uart_spec.specs.Access.{Path}
 use Rattle.uart_spec.specs.declared.access.Access.{Access}
@@ -9,11 +10,14 @@ use Rattle.uart_events.specs.declared.call.Call.TheVariants as driver
 use Rattle.uart_events.specs.declared.call.Answer.{Answer}
 use Rattle.uart_chip.specs.Machine.{MachineStep}
 use Rattle.uart_run.specs.Session.{reported_by}
-use Rattle.uart_ring.specs.Ring.{RingDoing, RingDid, RingFields, ring_fields}
+use Rattle.uart_ring.specs.Ring.{RingDoing, RingDid, RingFields, ring_fields, with_told_xoff}
+use Rattle.uart_ring.specs.Receive.{flow_character, TellsIfAny, AdjustsXoff}
+use Rattle.uart_ring.specs.declared.ring.receive.ReceiveMarks.{ReceiveMarks}
 use Rattle.uart_ring.specs.Lossless.{LosesOnly, Implies}
 use Rattle.uart_ring.specs.Armed.{LeavesArmed, Arms}
 use Rattle.uart_ring.proofs.Arming as arming
 use Rattle.uart_ring.proofs.Losses as losses
+use Rattle.uart_ring.proofs.laws.adjust_xoff_is_a_ring_call.Answers.{at_marks, adjusts_xoff_loses_only, adjusts_xoff_leave}
 use Rattle.uart_ring_runs.specs.declared.call.RingCall.{RingCall}
 use Rattle.uart_ring_runs.specs.declared.call.RingCall.TheVariants as call
 use Rattle.uart_ring_runs.specs.declared.call.RingAnswer.{RingAnswer}
@@ -72,6 +76,14 @@ left_armed arms f l after t = λ unchecked known keeps armed. arms f l after t u
 -- no byte was accepted
 none : {T : Type 0} → 0 < length {A = ℕ} [] → T
 none some = absurd (omega (arith, some))
+
+-- `adjust_xoff` is a `queue_urgent`, or nothing
+tells : (wanted : Option Bool) (told : Option ℕ) (P : Doing) → Walks P → Implies (TellsIfAny wanted told) (InRings P)
+tells None told P w f l after t = walk.stays P w f l after t.1
+tells (Some on) told P w f l after t = walk.queues_urgent P w (flow_character on) None (with_told_xoff (not on) f) l after t.1
+
+adjusts_xoff : (marks : ReceiveMarks) (told : Option ℕ) (P : Doing) → Walks P → Implies (AdjustsXoff marks told) (InRings P)
+adjusts_xoff marks told P w f l after t = tells (at_marks marks f) told P w f l after t
 
 -- each call
 pub meaning_of : (s t : RingState) (c : RingCall) (a : RingAnswer) → IsUsual c → RingCallStep s c a t → Meant c a s t
@@ -145,6 +157,10 @@ meaning_of s t (call.Restart interrupts) a usual h =
     of_did (call.Restart interrupts) a s t 0 0 h.did (λ P w. walk.restarts P w interrupts.0)
     (losses.restarts_lose_nothing interrupts.0 (ring_fields s) h.did.list (ring_fields t) h.did.does) (λ n. refl) (λ m. refl)
     (left_armed (arming.restarts_arm interrupts.0)) (λ r. arming.restarts_arm interrupts.0)
+meaning_of s t (call.AdjustXoff marks) a usual h =
+    rw h.answered (of_did (call.AdjustXoff marks) _ s t 0 0 h.did (adjusts_xoff marks h.outcome)
+    (adjusts_xoff_loses_only marks h.outcome (ring_fields s) h.did.list (ring_fields t) h.did.does) (λ n. refl) (λ m. refl)
+    (adjusts_xoff_leave marks h.outcome) none)
 meaning_of s t (call.AdjustRts marks) a usual h = absurd usual
 meaning_of s t (call.Driver c) a usual h = absurd usual
 meaning_of s t call.Next a usual h = absurd usual
@@ -169,6 +185,7 @@ before_driver c other bytes o = refl
 pub in_order : (c : RingCall) (a : RingAnswer) (bytes : List ℕ) → KeepsOrder c → to_send_with c a bytes ≡ bytes ++ queued_by c a
 in_order (call.QueueUrgent byte) a bytes o = absurd o
 in_order call.ClearTransmit a bytes o = absurd o
+in_order (call.AdjustXoff marks) a bytes o = absurd o
 in_order (call.Driver c) a bytes o = before_driver c a bytes o
 in_order other a bytes o = refl
 
@@ -176,5 +193,6 @@ in_order other a bytes o = refl
 pub keeps_order : (c : RingCall) → IsPlain c → KeepsOrder c
 keeps_order (call.QueueUrgent byte) plain = absurd plain
 keeps_order call.ClearTransmit plain = absurd plain
+keeps_order (call.AdjustXoff marks) plain = absurd plain
 keeps_order (call.Driver c) plain = plain.0
 keeps_order other plain = tt

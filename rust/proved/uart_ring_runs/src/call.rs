@@ -48,6 +48,8 @@ pub enum RingCall {
     Restart(IER),
     /// `adjust_rts` at these marks.
     AdjustRts(ReceiveMarks),
+    /// `adjust_xoff` at these marks.
+    AdjustXoff(ReceiveMarks),
     /// This call of the driver, through `inner_mut`: any but [`Call::Next`], which is one of the
     /// device, and [`Call::Text`], which is one of a terminal.
     Driver(Call),
@@ -92,6 +94,8 @@ pub enum RingAnswer {
     Modem(MSR),
     /// The urgent byte that was replaced.
     Replaced(Option<u8>),
+    /// What `adjust_xoff` told the other end.
+    Told(Option<u8>),
     /// What `take_low` returned.
     Low(bool),
     /// What `try_handle` returned.
@@ -161,6 +165,7 @@ pub fn perform_ring<B: Backend>(ring: &mut Uart16550Ring<B>, call: &RingCall) ->
             ring.adjust_rts(*marks);
             RingAnswer::Done
         }
+        RingCall::AdjustXoff(marks) => RingAnswer::Told(ring.adjust_xoff(*marks)),
         RingCall::Driver(call) => RingAnswer::Driver(perform_on_driver(ring.inner_mut(), call)),
         RingCall::Next => RingAnswer::Done,
     }
