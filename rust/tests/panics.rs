@@ -251,43 +251,14 @@ calls! {
     ring_new(memory: Global<'_>, uart: Uart, transmit: usize, receive: usize) -> Result<Ring, (Uart, RingError)> { Ring::new(memory, uart, transmit, receive) }
     ring_memory(bytes: &'static mut [u8]) -> Memory { Memory::new(bytes) }
     ring_global(memory: &Memory) -> Global<'_> { memory.global() }
-    ring_transmit_len(ring: &Ring) -> usize { ring.transmit_len() }
-    ring_receive_len(ring: &Ring) -> usize { ring.receive_len() }
-    ring_is_paused(ring: &Ring) -> bool { ring.is_paused() }
-    ring_transmit_room(ring: &Ring) -> usize { ring.transmit_room() }
-    ring_urgent(ring: &Ring) -> Option<u8> { ring.urgent() }
-    ring_is_held(ring: &Ring) -> bool { ring.is_held() }
-    ring_stuck(ring: &Ring) -> Option<StuckError> { ring.stuck() }
-    ring_hold_transmit(ring: &mut Ring) { ring.hold_transmit() }
-    ring_release_transmit(ring: &mut Ring) { ring.release_transmit() }
-    ring_queue_urgent(ring: &mut Ring, byte: u8) -> Option<u8> { ring.queue_urgent(byte) }
-    ring_clear_transmit(ring: &mut Ring) -> usize { ring.clear_transmit() }
-    ring_clear_receive(ring: &mut Ring) -> usize { ring.clear_receive() }
-    ring_set_low_mark(ring: &mut Ring, mark: usize) { ring.set_low_mark(mark) }
-    ring_take_low(ring: &mut Ring) -> bool { ring.take_low() }
-    ring_adjust_rts(ring: &mut Ring, marks: ReceiveMarks) { ring.adjust_rts(marks) }
-    ring_try_handle(ring: &mut Ring, limit: usize, rounds: u32) -> Result<Handled, StuckError> { ring.try_handle(limit, rounds) }
-    ring_restart(ring: &mut Ring, interrupts: IER) { ring.restart(interrupts) }
-    ring_inner(ring: &Ring) -> &Uart { ring.inner() }
-    ring_inner_mut(ring: &mut Ring) -> &mut Uart { ring.inner_mut() }
     ring_into_inner(ring: Ring) -> Uart { ring.into_inner() }
-    ring_queue(ring: &mut Ring, bytes: &[u8]) -> usize { ring.queue(bytes) }
-    ring_take(ring: &mut Ring, slots: &mut [u8]) -> usize { ring.take(slots) }
+    // panics makes a line of each other call of the rings here.
     ring_take_with_errors(ring: &mut NotingRing, slots: &mut [Received]) -> Result<usize, UnnotedError> { ring.take_with_errors(slots) }
     error_notes_new(memory: Global<'_>, backend: Device, capacity: usize) -> Result<ErrorNotes<Device>, (Device, RingError)> { ErrorNotes::new(memory, backend, capacity) }
     error_notes_backend(notes: &ErrorNotes<Device>) -> &Device { notes.backend() }
     error_notes_backend_mut(notes: &mut ErrorNotes<Device>) -> &mut Device { notes.backend_mut() }
     error_notes_read(notes: &mut ErrorNotes<Device>, offset: u8) -> u8 { notes.read(offset) }
     error_notes_write(notes: &mut ErrorNotes<Device>, offset: u8, value: u8) { notes.write(offset, value) }
-    ring_take_line(ring: &mut Ring) -> LSR { ring.take_line() }
-    ring_take_modem(ring: &mut Ring) -> MSR { ring.take_modem() }
-    ring_config_register_dump(ring: &mut Ring) -> ConfigRegisterDump { ring.config_register_dump() }
-    ring_service(ring: &mut Ring) -> usize { ring.service() }
-    ring_handle(ring: &mut Ring, limit: usize) -> Handled { ring.handle(limit) }
-    ring_retrigger(ring: &mut Ring) { ring.retrigger() }
-    ring_resume_transmit(ring: &mut Ring) { ring.resume_transmit() }
-    ring_lower_line(ring: &mut Ring, limit: usize, rounds: u32) -> Lowered { ring.lower_line(limit, rounds) }
-    ring_raise_line(ring: &mut Ring, enabled: IER) { ring.raise_line(enabled) }
 
     line_port_new(ring: Ring) -> LinePort<Device> { LinePort::new(ring) }
     line_port_handled(port: &LinePort<Device>) -> Result<Handled, StuckError> { port.handled() }

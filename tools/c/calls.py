@@ -667,6 +667,14 @@ again. MCR is read, and written if RTS is not so yet: the other outputs as they 
             Call("ring_adjust_rts", "struct u16550 *uart, size_t hold, size_t release", arguments="uart_marks(hold, release)"),
         ]),
         Group("""
+The same by XOFF and XON, where RTS is not wired. The character goes out before all that wait, as that of a u16550_ring_queue_urgent,
+also during a hold. What was told last is not told again, and nothing is told while another urgent byte waits: the next call does it.
+*told is the character. Choose hold with room for what comes until the other end has read an XOFF that goes out after what is in the
+chip. Marks of 0 let the other end go on in any case.""", [
+            Call("ring_adjust_xoff", "struct u16550 *uart, size_t hold, size_t release, struct u16550_urgent *told",
+                arguments="uart_marks(hold, release)", gives="told", encode="urgent"),
+        ]),
+        Group("""
 Starts sending again if bytes wait with no interrupt to come: when CTS came back and the configuration checks it; and after each
 of these, which take the interrupt away: u16550_isr, u16550_config_register_dump, u16550_attach, u16550_disable_interrupts of
 U16550_IER_THR_EMPTY, u16550_quiesce, u16550_restore, u16550_test_loopback, u16550_init and u16550_init_with.""", [

@@ -49,6 +49,8 @@ def example(file, comments, path):
     found, inside = [], False
     crate = file.name.split("/")[0]
     is_text = crate not in examples.SHARED
+    fences = [place for place, comment in enumerate(comments) if FENCE.match(comment.text)]
+    shown = [comment.text for comment in comments[fences[0] : fences[-1]]] if fences else []
     for comment in comments:
         fence = FENCE.match(comment.text)
         if fence and is_text:
@@ -56,9 +58,10 @@ def example(file, comments, path):
                 found.append(Edit("documentation", comment.start, comment.end, f"{fence[1]} ```text"))
             inside = not inside
         elif fence:
-            if fence[2] or path not in file.table.EXAMPLES:
+            around = file.table.EXAMPLES.get(path) or examples.of_rings(path, "\n".join(shown))
+            if fence[2] or around is None:
                 raise Refused(f"an example that is not listed: {path}", comment.start)
-            before, behind = file.table.EXAMPLES[path]
+            before, behind = around
             line = file.text.rfind("\n", 0, comment.start) + 1
             indent = file.text[line : comment.start]
             lines = [f"{indent}{fence[1]} {one}\n" for one in (behind if inside else before)]

@@ -1,7 +1,10 @@
 """What each example of the documentation needs to compile: hidden lines before and behind it.
 
-An example without an entry in EXAMPLES is refused, so that none is left out silently.
+An example without an entry in EXAMPLES is refused, so that none is left out silently. A call of the rings needs none: its example is the
+body of a function that has the rings.
 """
+
+import re
 
 # A file beside Cargo.toml that the examples of a package include. In it and in hidden lines, `facade` stands for the package of the users.
 SHARED_NAME = "examples.rs"
@@ -105,6 +108,21 @@ REGISTERS = [
     "let registers = unsafe { DesignWareMemory::new(NonNull::from(&mut cells).cast(), RegisterLayout::WORDS) }.unwrap();",
 ]
 DESIGN_WARE = [*REGISTERS, "let mut uart = DesignWare::new(registers, NonZeroU64::MIN);"]
+
+
+# What an example of the rings may name, and how it is hidden before it.
+OF_RINGS = {
+    "MARKS": "const MARKS: ring::ReceiveMarks = ring::ReceiveMarks { hold: 48, release: 64 };",
+    "XOFF": "const XOFF: u8 = 0x13;",
+}
+
+
+def of_rings(path, text):
+    """An example of a call of the rings that has no entry: the body of a function that has the rings, and what the example names."""
+    if not re.fullmatch(r"uart_ring::ring::(?:\w+::)?Uart16550Ring::\w+", path or ""):
+        return None
+    items = [hidden for name, hidden in OF_RINGS.items() if re.search(rf"\b{name}\b", text)]
+    return compiles(RING + ", mut slots: [u8; 2]" * bool(re.search(r"\bslots\b", text)), items=["use facade::ring;", *items])
 
 
 def in_port():
@@ -242,16 +260,9 @@ EXAMPLES = {
     "uart_design_ware::state::DesignWare::new": runs(*REGISTERS),
     "uart_design_ware::state::DesignWare::fault": runs(*DESIGN_WARE),
     "uart_design_ware::state::DesignWare::registers_mut": runs(*DESIGN_WARE),
-    "uart_ring::ring::receive::Uart16550Ring::take": compiles(RING + ", mut slots: [u8; 2]", items=["use facade::ring;"]),
     "uart_ring::ring::noted::Uart16550Ring::take_with_errors": compiles(
         NOTING_RING + ", mut slots: [Received; 2], mut breaks: u32", items=["use facade::{native::Received, ring, spec::registers::LSR};"]
     ),
-    "uart_ring::ring::receive::Uart16550Ring::adjust_rts": compiles(
-        RING + ", mut slots: [u8; 2]",
-        items=["use facade::ring;", "const MARKS: ring::ReceiveMarks = ring::ReceiveMarks { hold: 48, release: 64 };"],
-    ),
-    "uart_ring::ring::service::Uart16550Ring::service": compiles(RING, items=["use facade::ring;"]),
-    "uart_ring::ring::service::Uart16550Ring::retrigger": compiles(RING, items=["use facade::ring;"]),
     "uart_ring::ring::service::Uart16550Ring::handle": in_port(),
     "uart_ring::ring::storm::Uart16550Ring::try_handle": (
         INCLUDE
@@ -259,7 +270,6 @@ EXAMPLES = {
         + ["# fn report(&mut self, _: StuckError) {}", "# fn example(&mut self) {", "# const MAX_UNFINISHED_ROUNDS: u32 = 100;"],
         ["# } }"],
     ),
-    "uart_ring::ring::transmit::Uart16550Ring::queue_urgent": compiles(RING, items=["use facade::ring;", "const XOFF: u8 = 0x13;"]),
     "uart_ring::ring::transmit::Uart16550Ring::take_low": compiles(
         RING + ", writers: &mut Writers", items=["use facade::ring;", "struct Writers;", "impl Writers { fn wake(&mut self) {} }"]
     ),
@@ -293,7 +303,6 @@ EXAMPLES = {
     "uart_ring::notes::ErrorNotes::backend_mut": compiles(
         NOTING_RING, items=["use facade::ring;", "trait Next { fn next(&mut self) {} }", "impl Next for Device {}"]
     ),
-    "uart_ring::ring::Uart16550Ring::transmit_len": compiles(RING, items=["use facade::ring;"]),
     "uart_ring::ring::Uart16550Ring::inner": (
         INCLUDE
         + ["# use facade::ring;", "# trait Mark { fn mark(&self, _: u8) -> u8 { 0 } }", "# impl Mark for Device {}"]
@@ -333,18 +342,6 @@ for path, like in {
     "uart_spec::baud::calc_divisor": "uart_spec::baud::calc_frequency",
     "uart_ring::ring::Uart16550Ring::new": "uart_ring::ring::Uart16550Ring",
     "uart_ring::notes::ErrorNotes::new": "uart_ring::notes::ErrorNotes",
-    "uart_ring::ring::Uart16550Ring::receive_len": "uart_ring::ring::Uart16550Ring::transmit_len",
-    "uart_ring::ring::Uart16550Ring::is_paused": "uart_ring::ring::Uart16550Ring::transmit_len",
-    "uart_ring::ring::Uart16550Ring::transmit_room": "uart_ring::ring::Uart16550Ring::transmit_len",
-    "uart_ring::ring::Uart16550Ring::urgent": "uart_ring::ring::Uart16550Ring::transmit_len",
-    "uart_ring::ring::Uart16550Ring::is_held": "uart_ring::ring::Uart16550Ring::transmit_len",
-    "uart_ring::ring::Uart16550Ring::stuck": "uart_ring::ring::Uart16550Ring::transmit_len",
-    "uart_ring::ring::receive::Uart16550Ring::clear_receive": "uart_ring::ring::Uart16550Ring::transmit_len",
-    "uart_ring::ring::transmit::Uart16550Ring::hold_transmit": "uart_ring::ring::Uart16550Ring::transmit_len",
-    "uart_ring::ring::transmit::Uart16550Ring::release_transmit": "uart_ring::ring::Uart16550Ring::transmit_len",
-    "uart_ring::ring::transmit::Uart16550Ring::clear_transmit": "uart_ring::ring::Uart16550Ring::transmit_len",
-    "uart_ring::ring::transmit::Uart16550Ring::set_low_mark": "uart_ring::ring::Uart16550Ring::transmit_len",
-    "uart_ring::ring::storm::Uart16550Ring::restart": "uart_ring::ring::Uart16550Ring::transmit_len",
 }.items():
     EXAMPLES[path] = EXAMPLES[like]
 for register in ("lcr", "mcr", "lsr", "msr", "spr"):

@@ -35,22 +35,19 @@ use Rattle.uart_run.specs.Wired.{IsWired, IsWiredChip}
 use Rattle.uart_run.proofs.CallLaws.{InSession}
 use Rattle.uart_run.proofs.FrameLaws.{unlooped_off}
 use Rattle.uart_run.proofs.Wired.{wired_mark}
-use Rattle.uart_ring.specs.Ring.{RingDoing, RingDid, RingFields, ring_fields, free}
+use Rattle.uart_ring.specs.Ring.{RingDid, RingFields, ring_fields, free}
 use Rattle.uart_ring.specs.Receive.{rts_at, write_if_other, MakesRtsIfAny, AdjustsRts}
 use Rattle.uart_ring.specs.declared.ring.receive.ReceiveMarks.{ReceiveMarks}
-use Rattle.uart_ring.specs.Lossless.{data_written, data_read, LosesOnly, with_accepted, overtaken_by, without_dropped, Implies}
-use Rattle.uart_ring.proofs.Losses.{queues_lose_nothing, takes_lose_nothing, services_lose_nothing, resumes_lose_nothing}
-use Rattle.uart_ring.proofs.Losses.{takes_line_loses_nothing, takes_modem_loses_nothing, handles_lose_nothing, retriggers_lose_nothing}
-use Rattle.uart_ring.proofs.Losses.{holds_lose_nothing, releases_lose_nothing, queues_urgent_loses_only, clears_transmit_loses_only}
-use Rattle.uart_ring.proofs.Losses.{clears_receive_loses_nothing, sets_low_mark_loses_nothing, takes_low_loses_nothing, tries_lose_nothing}
-use Rattle.uart_ring.proofs.Losses.{restarts_lose_nothing, rts_moves}
+use Rattle.uart_ring.specs.Lossless.{data_written, data_read}
+use Rattle.uart_ring.proofs.Losses.{rts_moves}
 use Rattle.uart_ring_runs.specs.declared.call.RingCall.{RingCall}
 use Rattle.uart_ring_runs.specs.declared.call.RingCall.TheVariants as call
 use Rattle.uart_ring_runs.specs.declared.call.RingAnswer.{RingAnswer}
 use Rattle.uart_ring_runs.specs.RingRun.{RingState, under, ring_machine}
-use Rattle.uart_ring_runs.specs.RingBytes.{to_take}
+use Rattle.uart_ring_runs.specs.RingBytes.{to_take, gone_in}
 use Rattle.uart_ring_runs.proofs.RingWalk as walk
-use Rattle.uart_ring_runs.proofs.RingBlocks.{MakesRingBlocks, MakesBlocks, in_blocks}
+use Rattle.uart_ring_runs.proofs.RingBlocks.{MakesBlocks, in_blocks}
+use Rattle.uart_ring_runs.proofs.RingMeanings.{Meant, meaning_of}
 use Rattle.uart_ring_runs.proofs.RingRts.{modes_at, begins_session, came_rts}
 use Rattle.uart_link.specs.declared.call.Moment.{Moment}
 use Rattle.uart_link.specs.declared.call.Moment.TheVariants as moment
@@ -79,23 +76,22 @@ record CallDid (s t : RingState) : Type 0 where
   pub path : Path MachineStep (ring_machine s) list (ring_machine t)
   pub facts : CallFacts (ring_fields s) list (ring_fields t)
 
-did : (G : RingDoing) (s t : RingState) (change : List ℕ → List ℕ) (given : List ℕ) (line modem : ℕ) → (d : RingDid MachineStep G s t) →
-    Implies G MakesRingBlocks → LosesOnly change given line modem (ring_fields s) d.list (ring_fields t) → Implies G HoldsBack →
-    CallDid s t ⊎ ((ring_machine t ≡ settled (ring_machine s)) × (ring_fields t ≡ ring_fields s))
-did G s t change given line modem d makes loses held = inl (record {
-  list = d.list;
-  path = d.path;
+did : (s t : RingState) (c : RingCall) (a : RingAnswer) → Meant c a s t → CallDid s t
+did s t c a k = record {
+  list = k.list;
+  path = k.path;
   facts = record {
-    blocks = (makes (ring_fields s) d.list (ring_fields t) d.does).blocks;
+    blocks = (k.walks MakesBlocks in_blocks).blocks;
     fewer =
-        let f = ring_fields s in
-        let after = ring_fields t in
-        let sizes : length (given ++ after.receive.items) ≡ length (f.receive.items ++ data_read d.list) = ap length loses.received in
-        omega (arith, sizes, length-append given after.receive.items, length-append f.receive.items (data_read d.list));
-    capacity = loses.rooms.1;
-    held = held (ring_fields s) d.list (ring_fields t) d.does;
+        let items = (ring_fields s).receive.items in
+        let after = (ring_fields t).receive.items in
+        let given = gone_in c a items in
+        let sizes : length (given ++ after) ≡ length (items ++ data_read k.list) = ap length k.loses.received in
+        omega (arith, sizes, length-append given after, length-append items (data_read k.list));
+    capacity = k.loses.rooms.1;
+    held = k.walks HeldBack in_held;
   };
-})
+}
 
 -- each call that does not adjust RTS: it made accesses; or all moments happened, and the rings are as they were
 call_did : (s t : RingState) (c : RingCall) (a : RingAnswer) → hold_of c ≡ None → CabledCallStep s c a t →
@@ -103,74 +99,7 @@ call_did : (s t : RingState) (c : RingCall) (a : RingAnswer) → hold_of c ≡ N
 call_did s t (call.AdjustRts marks) a none h = absurd (cc)
 call_did s t call.Next a none h = inr (h.passes.machine, h.passes.rings)
 call_did s t (call.Driver c) a none h = absurd h
-call_did s t (call.Queue bytes) a none h =
-    did _ s t (with_accepted (take h.outcome bytes.items)) [] 0 0 h.did (walk.queues MakesBlocks in_blocks bytes.items h.outcome)
-    (queues_lose_nothing bytes.items h.outcome (ring_fields s) h.did.list (ring_fields t) h.did.does)
-    (walk.queues HeldBack in_held bytes.items h.outcome)
-call_did s t call.ResumeTransmit a none h =
-    did _ s t (with_accepted []) [] 0 0 h.did (walk.resumes MakesBlocks in_blocks)
-    (resumes_lose_nothing (ring_fields s) h.did.list (ring_fields t) h.did.does)
-    (walk.resumes HeldBack in_held)
-call_did s t (call.Take slots) a none h =
-    did _ s t (with_accepted []) h.outcome 0 0 h.did (walk.takes MakesBlocks in_blocks slots h.outcome)
-    (takes_lose_nothing slots h.outcome (ring_fields s) h.did.list (ring_fields t) h.did.does)
-    (walk.takes HeldBack in_held slots h.outcome)
-call_did s t call.Service a none h =
-    did _ s t (with_accepted []) [] 0 0 h.did (walk.services MakesBlocks in_blocks h.outcome)
-    (services_lose_nothing h.outcome (ring_fields s) h.did.list (ring_fields t) h.did.does)
-    (walk.services HeldBack in_held h.outcome)
-call_did s t (call.Handle limit) a none h =
-    did _ s t (with_accepted []) [] 0 0 h.did (walk.handles MakesBlocks in_blocks limit h.outcome)
-    (handles_lose_nothing limit h.outcome (ring_fields s) h.did.list (ring_fields t) h.did.does)
-    (walk.handles HeldBack in_held limit h.outcome)
-call_did s t call.Retrigger a none h =
-    did _ s t (with_accepted []) [] 0 0 h.did (walk.retriggers MakesBlocks in_blocks)
-    (retriggers_lose_nothing (ring_fields s) h.did.list (ring_fields t) h.did.does)
-    (walk.retriggers HeldBack in_held)
-call_did s t call.TakeLine a none h =
-    did _ s t (with_accepted []) [] h.outcome 0 h.did (walk.takes_line MakesBlocks in_blocks h.outcome)
-    (takes_line_loses_nothing h.outcome (ring_fields s) h.did.list (ring_fields t) h.did.does)
-    (walk.takes_line HeldBack in_held h.outcome)
-call_did s t call.TakeModem a none h =
-    did _ s t (with_accepted []) [] 0 h.outcome h.did (walk.takes_modem MakesBlocks in_blocks h.outcome)
-    (takes_modem_loses_nothing h.outcome (ring_fields s) h.did.list (ring_fields t) h.did.does)
-    (walk.takes_modem HeldBack in_held h.outcome)
-call_did s t call.HoldTransmit a none h =
-    did _ s t (with_accepted []) [] 0 0 h.did (walk.holds MakesBlocks in_blocks)
-    (holds_lose_nothing (ring_fields s) h.did.list (ring_fields t) h.did.does)
-    (walk.holds HeldBack in_held)
-call_did s t call.ReleaseTransmit a none h =
-    did _ s t (with_accepted []) [] 0 0 h.did (walk.releases MakesBlocks in_blocks)
-    (releases_lose_nothing (ring_fields s) h.did.list (ring_fields t) h.did.does)
-    (walk.releases HeldBack in_held)
-call_did s t (call.QueueUrgent byte) a none h =
-    did _ s t (overtaken_by byte h.outcome) [] 0 0 h.did (walk.queues_urgent MakesBlocks in_blocks byte h.outcome)
-    (queues_urgent_loses_only byte h.outcome (ring_fields s) h.did.list (ring_fields t) h.did.does)
-    (walk.queues_urgent HeldBack in_held byte h.outcome)
-call_did s t call.ClearTransmit a none h =
-    did _ s t (without_dropped h.outcome) [] 0 0 h.did (walk.clears_transmit MakesBlocks in_blocks h.outcome)
-    (clears_transmit_loses_only h.outcome (ring_fields s) h.did.list (ring_fields t) h.did.does)
-    (walk.clears_transmit HeldBack in_held h.outcome)
-call_did s t call.ClearReceive a none h =
-    did _ s t (with_accepted []) (to_take s) 0 0 h.did (walk.clears_receive MakesBlocks in_blocks h.outcome)
-    (clears_receive_loses_nothing (ring_fields s) h.outcome h.did.list (ring_fields t) h.did.does)
-    (walk.clears_receive HeldBack in_held h.outcome)
-call_did s t (call.SetLowMark mark) a none h =
-    did _ s t (with_accepted []) [] 0 0 h.did (walk.sets_low_mark MakesBlocks in_blocks mark)
-    (sets_low_mark_loses_nothing mark (ring_fields s) h.did.list (ring_fields t) h.did.does)
-    (walk.sets_low_mark HeldBack in_held mark)
-call_did s t call.TakeLow a none h =
-    did _ s t (with_accepted []) [] 0 0 h.did (walk.takes_low MakesBlocks in_blocks h.outcome)
-    (takes_low_loses_nothing h.outcome (ring_fields s) h.did.list (ring_fields t) h.did.does)
-    (walk.takes_low HeldBack in_held h.outcome)
-call_did s t (call.TryHandle limit rounds) a none h =
-    did _ s t (with_accepted []) [] 0 0 h.did (walk.tries MakesBlocks in_blocks limit rounds h.outcome)
-    (tries_lose_nothing limit rounds h.outcome (ring_fields s) h.did.list (ring_fields t) h.did.does)
-    (walk.tries HeldBack in_held limit rounds h.outcome)
-call_did s t (call.Restart interrupts) a none h =
-    did _ s t (with_accepted []) [] 0 0 h.did (walk.restarts MakesBlocks in_blocks interrupts.0)
-    (restarts_lose_nothing interrupts.0 (ring_fields s) h.did.list (ring_fields t) h.did.does)
-    (walk.restarts HeldBack in_held interrupts.0)
+call_did s t other a none h = inl (did s t other a (meaning_of s t other a tt h))
 
 -- ---- what it does to the chip
 

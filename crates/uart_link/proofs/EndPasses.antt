@@ -27,7 +27,7 @@ use Rattle.uart_ring_runs.specs.RingBytes.{to_send, to_take, queued_by, gone_in,
 use Rattle.uart_ring_runs.proofs.RingLasts.{wired_call}
 use Rattle.uart_ring_runs.proofs.RingRts.{modes_at, InRingSession}
 use Rattle.uart_ring_runs.proofs.RingPasses.{RingPasses, InLine, ring_passes_call, untold_line_of}
-use Rattle.uart_ring_runs.proofs.RingGoes.{in_order}
+use Rattle.uart_ring_runs.proofs.RingMeanings.{in_order}
 
 -- from s to t these events came and these accesses were made: what was written to DATA, and then what waits, is what
 -- waited and what was queued, if the order was kept; what left the receive ring and what is left of it was there or was

@@ -1,6 +1,6 @@
 -- From the chip to the receive ring, and from there to the caller.
 use Rattle.std.specs.Prelude.{◌≡◌, ℕ, Bool, true, false, List, [], ◌∷◌, length, take, min, nat_lt, nat_le, MatchBool}
-use Rattle.std.specs.Prelude.{Option, Some, None, if◌then◌else◌}
+use Rattle.std.specs.Prelude.{not, Option, Some, None, if◌then◌else◌}
 use Rattle.uart_spec.specs.declared.access.Access.{Access}
 use Rattle.uart_spec.specs.declared.access.Access.TheVariants.{Read, Write}
 use Rattle.uart_spec.specs.Bits.{has}
@@ -15,7 +15,8 @@ use Rattle.uart_16550.specs.Receive.{Receives}
 use Rattle.uart_16550.specs.Status.{Enables, Disables}
 use Rattle.uart_ring.specs.declared.ring.receive.ReceiveMarks.{ReceiveMarks}
 use Rattle.uart_ring.specs.Ring.{RingDoing, OnDriver, Stays, RingNext, IfAny, free, is_full, unchanged}
-use Rattle.uart_ring.specs.Ring.{with_received, without_taken, with_paused}
+use Rattle.uart_ring.specs.Ring.{with_received, without_taken, with_paused, with_told_xoff}
+use Rattle.uart_ring.specs.Transmit.{QueuesUrgent}
 
 -- if the receive ring is full, DATA_READY is disabled and receiving is paused
 abbrev pub PausesIfFull : RingDoing
@@ -75,3 +76,38 @@ MakesRtsIfAny (Some on) = OnDriver (Saving (MakesRts on)) unchanged
 -- more, and else stays. For this MCR is read, and written only if it shows RTS otherwise
 abbrev pub AdjustsRts : ReceiveMarks → RingDoing
 AdjustsRts marks f l after = MakesRtsIfAny (rts_at marks (free f.receive)) f l after
+
+-- ---- the same by characters
+
+-- what tells the other end to go on, and to stop
+abbrev pub xon : ℕ
+xon = 0x11
+
+abbrev pub xoff : ℕ
+xoff = 0x13
+
+abbrev pub flow_character : (on : Bool) → ℕ
+flow_character true = xon
+flow_character false = xoff
+
+-- what of this is told: nothing while an urgent byte waits, and not again what was told last. At first nothing was, and
+-- the other end sends
+abbrev pub to_tell : (wanted : Option Bool) → (urgent : Option ℕ) → (has_told_xoff : Bool) → Option Bool
+to_tell None urgent has_told_xoff = None
+to_tell (Some on) (Some byte) has_told_xoff = None
+to_tell (Some true) None has_told_xoff = if has_told_xoff then Some true else None
+to_tell (Some false) None has_told_xoff = if has_told_xoff then None else Some false
+
+-- the character for this is the urgent byte, and it is what was told last; the result is that character. Or nothing is
+-- done
+abbrev pub TellsIfAny : Option Bool → Option ℕ → RingDoing
+TellsIfAny None told f l after = (told ≡ None) × Stays f l after
+TellsIfAny (Some on) told f l after =
+    (told ≡ Some (flow_character on)) × QueuesUrgent (flow_character on) None (with_told_xoff (not on) f) l after
+
+-- `adjust_xoff`: the other end is told XOFF if the receive ring has room for fewer bytes than `hold`, and XON if it has
+-- room for `release` or more, as a `queue_urgent` sends it. What was told last is not told again, and nothing is told
+-- while another urgent byte waits. The result is what was told
+abbrev pub AdjustsXoff : ReceiveMarks → Option ℕ → RingDoing
+AdjustsXoff marks told f l after =
+    TellsIfAny (to_tell (rts_at marks (free f.receive)) f.urgent f.has_told_xoff) told f l after

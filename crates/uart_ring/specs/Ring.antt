@@ -53,6 +53,8 @@ pub record RingFields : Type 0 where
   -- the urgent byte that waits, and whether the transmit ring is held
   pub urgent : Option ℕ
   pub is_held : Bool
+  -- whether `adjust_xoff` told the other end XOFF, and not XON since
+  pub has_told_xoff : Bool
   -- the low mark, and whether the transmit ring fell to it
   pub low_mark : ℕ
   pub is_low : Bool
@@ -71,13 +73,14 @@ ring_fields r = record {
   is_paused = r.is_paused;
   urgent = r.urgent;
   is_held = r.is_held;
+  has_told_xoff = r.has_told_xoff;
   low_mark = r.low_mark;
   is_low = r.is_low;
   rounds = r.rounds;
   stuck = r.stuck;
 }
 
--- empty rings of these capacities over this driver, in which nothing is held, paused or stuck
+-- empty rings of these capacities over this driver, in which nothing is held, paused or stuck, and XOFF was never told
 pub record AreEmpty {B : Type 0} (r : Uart16550Ring B) (driver : Uart16550 B) (transmit receive : ℕ) : Type 0 where
   pub uart : driver_of r ≡ driver
   pub begins : ring_fields r ≡ record {
@@ -89,6 +92,7 @@ pub record AreEmpty {B : Type 0} (r : Uart16550Ring B) (driver : Uart16550 B) (t
     is_paused = false;
     urgent = None;
     is_held = false;
+    has_told_xoff = false;
     low_mark = 0;
     is_low = false;
     rounds = 0;
@@ -170,12 +174,16 @@ without_sent_bytes count r =
 abbrev pub cleared : RingFields → RingFields
 cleared f = with_less (queue [] f.transmit.capacity) f
 
--- the fields with this urgent byte; with the transmit ring held or not; with this low mark; with a fall noted or not
+-- the fields with this urgent byte; with the transmit ring held or not; with XOFF told last or not; with this low mark;
+-- with a fall noted or not
 abbrev pub with_urgent : Option ℕ → RingFields → RingFields
 with_urgent urgent f = record f { urgent = urgent }
 
 abbrev pub with_hold : Bool → RingFields → RingFields
 with_hold held f = record f { is_held = held }
+
+abbrev pub with_told_xoff : Bool → RingFields → RingFields
+with_told_xoff told f = record f { has_told_xoff = told }
 
 abbrev pub with_low_mark : ℕ → RingFields → RingFields
 with_low_mark mark f = record f { low_mark = mark }

@@ -1,13 +1,14 @@
 //! Laws about the ring calls, over any backend. They follow from the contracts of the calls.
 //!
 //! The contract of each function is a law that callers can cite. The functions do nothing.
-ghost use Rattle.std.specs.Prelude.{◌≡◌, ◌<◌, ⊤, ℕ, Bool, List, [], Option, Result, Ok, Err, take};
+ghost use Rattle.std.specs.Prelude.{◌≡◌, ◌<◌, ⊤, ℕ, Bool, List, [], ◌++◌, Option, Result, Ok, Err, take};
+ghost use Rattle.std.specs.Prelude.{option_to_list};
 ghost use Rattle.uart_spec.specs.declared.access.Access.{Access};
 ghost use Rattle.uart_ring.specs.Ring.{RingFields};
 ghost use Rattle.uart_ring.specs.Transmit.{Queues, ResumesTransmit};
 ghost use Rattle.uart_ring.specs.Transmit.{Holds, Releases, QueuesUrgent, ClearsTransmit};
 ghost use Rattle.uart_ring.specs.Transmit.{SetsLowMark, TakesLow};
-ghost use Rattle.uart_ring.specs.Receive.{TakesBytes, ClearsReceive, AdjustsRts};
+ghost use Rattle.uart_ring.specs.Receive.{TakesBytes, ClearsReceive, AdjustsRts, AdjustsXoff};
 ghost use Rattle.uart_ring.specs.Storm.{TriesToHandle, Restarts, LeavesOff};
 ghost use Rattle.uart_ring.specs.Storm.{CountsOrIsIdle, IsLastStill};
 ghost use Rattle.uart_ring.specs.Status.{TakesLine, TakesModem, DumpsRegisters};
@@ -226,6 +227,18 @@ pub fn line_calls_are_ring_calls()
         LeavesNoRingChoice (LowersLine limit rounds) }
     ensures raise_leaves_no_choice { (bits : ℕ) →
         LeavesNoRingChoice (λ (_ : ⊤). RaisesLine bits) }
+{}
+
+/// What is said of the ring calls holds of `adjust_xoff` too: it loses nothing, makes few accesses,
+/// has no choice and leaves the rings armed. What it tells goes before all bytes that wait.
+pub fn adjust_xoff_is_a_ring_call()
+    ensures loses_only { (marks : ReceiveMarks) (told : Option ℕ) → Implies (AdjustsXoff marks told)
+        (LosesOnly (λ waiting. option_to_list told ++ waiting) [] 0 0) }
+    ensures leaves_armed { (marks : ReceiveMarks) (told : Option ℕ) →
+        Implies (AdjustsXoff marks told) LeavesArmed }
+    ensures is_bounded { (marks : ReceiveMarks) (told : Option ℕ) →
+        Implies (AdjustsXoff marks told) (MakesAtMost most_of_pump) }
+    ensures leaves_no_choice { (marks : ReceiveMarks) → LeavesNoRingChoice (AdjustsXoff marks) }
 {}
 
 /// The values of the limits.

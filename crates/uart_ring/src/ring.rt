@@ -72,6 +72,8 @@ pub struct Uart16550Ring<B> {
     // XON or XOFF makes an older one that still waits pointless.
     urgent: Option<u8>,
     is_held: bool,
+    // What `adjust_xoff` told the other end last: XOFF, or XON or nothing.
+    has_told_xoff: bool,
     low_mark: usize,
     // The transmit ring fell to the low mark since this was taken.
     is_low: bool,
@@ -140,6 +142,7 @@ impl<B: Backend> Uart16550Ring<B> {
             is_paused: false,
             urgent: None,
             is_held: false,
+            has_told_xoff: false,
             low_mark: 0,
             is_low: false,
             rounds: 0,

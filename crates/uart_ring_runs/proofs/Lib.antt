@@ -4,6 +4,7 @@ pub mod RingLasts
 pub mod RingOwn
 pub mod OwnSessions
 pub mod RingRts
+pub mod RingMeanings
 pub mod RingPasses
 pub mod RingGoes
 pub mod RingTold

@@ -1,24 +1,24 @@
 -- A ring call leaves the THR-empty interrupt armed over the chip.
-use Rattle.std.proofs.Common.{◌<◌, ◌⊎◌, ℕ, List, [], ◌∷◌, length, length-take, take, inl, inr, sym, ◌∙◌, subst, arith}
+use Rattle.std.proofs.Common.{◌<◌, ◌⊎◌, ℕ, List, [], ◌∷◌, length, inl, inr, sym, ◌∙◌, subst, arith}
+use Rattle.uart_spec.specs.Access.{Path}
+use Rattle.uart_spec.specs.declared.access.Access.{Access}
 use Rattle.uart_events.specs.declared.call.Call.{Call}
 use Rattle.uart_chip.specs.Machine.{MachineState, MachineStep, at_mark}
 use Rattle.uart_chip.proofs.conservation.Went.{Modes, dlab-in, loopback-in}
 use Rattle.uart_run.specs.Progress.{IsUnchecked}
 use Rattle.uart_run.specs.Ready.{Ready}
 use Rattle.uart_run.proofs.CallLaws.{InSession}
-use Rattle.uart_ring.specs.Ring.{RingDoing, RingDid, RingFields, ring_fields, free}
+use Rattle.uart_ring.specs.Ring.{RingFields, ring_fields, free}
 use Rattle.uart_ring.specs.Armed.{ThrEmpty, known_after_all, IsArmed, LeavesArmed, Arms}
-use Rattle.uart_ring.proofs.Arming.{queues_leave, queues_arm, resumes_arm, takes_leave, services_leave, takes_line_leave, takes_modem_leave}
-use Rattle.uart_ring.proofs.Arming.{handles_leave, retriggers_leave, holds_leave, releases_arm, queues_urgent_arm, clears_transmit_leave}
-use Rattle.uart_ring.proofs.Arming.{clears_receive_leave, sets_low_mark_leave, takes_low_leave, tries_leave, restarts_arm, adjusts_leave}
+use Rattle.uart_ring.proofs.Arming.{adjusts_leave}
 use Rattle.uart_ring.specs.Receive.{rts_at}
 use Rattle.uart_ring_runs.specs.declared.call.RingCall.{RingCall}
 use Rattle.uart_ring_runs.specs.declared.call.RingCall.TheVariants as call
 use Rattle.uart_ring_runs.specs.declared.call.RingAnswer.{RingAnswer}
 use Rattle.uart_ring_runs.specs.RingRun.{RingState, under, ring_machine, DriverCalled, IsOfRings, RingCallStep, RingLink, RingChain}
 use Rattle.uart_ring_runs.specs.RingArmed.{thr_empty_of, IsRingArmed, LeavesThrEmpty, KeepsArmed, RearmsRing, AllLeaveRingArmed}
-use Rattle.uart_ring_runs.proofs.RingWalk as walk
-use Rattle.uart_ring_runs.proofs.RingBlocks.{AllLeaveLcr, MakesRingBlocks, MakesBlocks, in_blocks}
+use Rattle.uart_ring_runs.proofs.RingBlocks.{AllLeaveLcr, MakesBlocks, in_blocks}
+use Rattle.uart_ring_runs.proofs.RingMeanings.{Meant, meaning_of}
 use Rattle.uart_ring_runs.specs.RingSession.{AllWithinRingSession}
 use Rattle.uart_ring_runs.proofs.DriverArms.{driver_arms}
 use Rattle.uart_ring_runs.proofs.RingLasts.{driver_step, first_within}
@@ -35,25 +35,29 @@ known_itself : (m : MachineState) → Holds (thr_empty_of m) m
 known_itself m = (λ e. e, λ e. e)
 
 -- a call whose list leaves it armed does
-list_leaves : (G : RingDoing) (s t : RingState) → IsUnchecked (under s) → IsDlabOff (ring_machine s) → (did : RingDid MachineStep G s t) →
-    AllLeaveLcr did.list → LeavesArmed (ring_fields s) did.list (ring_fields t) → IsRingArmed s → IsRingArmed t
-list_leaves G s t unchecked off did lcr leaves armed =
-    let known = thr_empty_of (ring_machine s) in
-    let after = path_holds known did.list (ring_machine s) (ring_machine t) lcr off (known_itself (ring_machine s)) did.path in
-    known_armed (known_after_all known did.list) (ring_fields t) (ring_machine t) after.1 (leaves unchecked known after.0 armed)
-
-did_leaves : (G : RingDoing) (s t : RingState) → IsUnchecked (under s) → IsDlabOff (ring_machine s) → (did : RingDid MachineStep G s t) →
-    MakesRingBlocks (ring_fields s) did.list (ring_fields t) → LeavesArmed (ring_fields s) did.list (ring_fields t) →
+list_leaves : (s t : RingState) (list : List Access) → IsUnchecked (under s) → IsDlabOff (ring_machine s) →
+    Path MachineStep (ring_machine s) list (ring_machine t) → AllLeaveLcr list → LeavesArmed (ring_fields s) list (ring_fields t) →
     IsRingArmed s → IsRingArmed t
-did_leaves G s t unchecked off did makes leaves armed = list_leaves G s t unchecked off did makes.lcr leaves armed
+list_leaves s t list unchecked off path lcr leaves armed =
+    let known = thr_empty_of (ring_machine s) in
+    let after = path_holds known list (ring_machine s) (ring_machine t) lcr off (known_itself (ring_machine s)) path in
+    known_armed (known_after_all known list) (ring_fields t) (ring_machine t) after.1 (leaves unchecked known after.0 armed)
 
 -- one whose list arms it does, however it was
-did_arms : (G : RingDoing) (s t : RingState) → IsUnchecked (under s) → IsDlabOff (ring_machine s) → (did : RingDid MachineStep G s t) →
-    MakesRingBlocks (ring_fields s) did.list (ring_fields t) → Arms (ring_fields s) did.list (ring_fields t) → IsRingArmed t
-did_arms G s t unchecked off did makes arms =
+list_arms : (s t : RingState) (list : List Access) → IsUnchecked (under s) → IsDlabOff (ring_machine s) →
+    Path MachineStep (ring_machine s) list (ring_machine t) → AllLeaveLcr list → Arms (ring_fields s) list (ring_fields t) → IsRingArmed t
+list_arms s t list unchecked off path lcr arms =
     let known = thr_empty_of (ring_machine s) in
-    let after = path_holds known did.list (ring_machine s) (ring_machine t) makes.lcr off (known_itself (ring_machine s)) did.path in
-    known_armed (known_after_all known did.list) (ring_fields t) (ring_machine t) after.1 (arms unchecked known)
+    let after = path_holds known list (ring_machine s) (ring_machine t) lcr off (known_itself (ring_machine s)) path in
+    known_armed (known_after_all known list) (ring_fields t) (ring_machine t) after.1 (arms unchecked known)
+
+-- a usual call
+meant_leaves : (s t : RingState) (c : RingCall) (a : RingAnswer) → IsUnchecked (under s) → IsDlabOff (ring_machine s) → Meant c a s t →
+    IsRingArmed s ⊎ RearmsRing c a → IsRingArmed t
+meant_leaves s t c a unchecked off k (inl is) =
+    list_leaves s t k.list unchecked off k.path (k.walks MakesBlocks in_blocks).lcr k.leaves is
+meant_leaves s t c a unchecked off k (inr rearms) =
+    list_arms s t k.list unchecked off k.path (k.walks MakesBlocks in_blocks).lcr (k.arms rearms)
 
 -- no byte is accepted
 none_accepted : {T : Type 0} → T ⊎ (0 < length {A = ℕ} []) → T
@@ -63,78 +67,9 @@ none_accepted (inr some) = absurd (omega (arith, some))
 -- each call of the rings themselves
 pub call_leaves : (s t : RingState) (call : RingCall) (a : RingAnswer) → IsOfRings call → IsUnchecked (under s) →
     IsDlabOff (ring_machine s) → RingCallStep s call a t → IsRingArmed s ⊎ RearmsRing call a → IsRingArmed t
-call_leaves s t (call.Queue bytes) a own unchecked off h armed =
-    let makes = (walk.queues MakesBlocks in_blocks) bytes.items h.outcome _ _ _ h.did.does in
-    go makes (rw h.answered at armed)
-  where
-    go : MakesRingBlocks (ring_fields s) h.did.list (ring_fields t) →
-        IsRingArmed s ⊎ (0 < length (take h.outcome bytes.items)) → IsRingArmed t
-    go makes (inl is) = did_leaves _ s t unchecked off h.did makes (queues_leave bytes.items h.outcome _ _ _ h.did.does) is
-    go makes (inr some) =
-        did_arms _ s t unchecked off h.did makes
-        (queues_arm bytes.items h.outcome (omega (arith, some, length-take h.outcome bytes.items)) _ _ _ h.did.does)
-call_leaves s t call.ResumeTransmit a own unchecked off h armed =
-    did_arms _ s t unchecked off h.did
-    (walk.resumes MakesBlocks in_blocks (ring_fields s) h.did.list (ring_fields t) h.did.does)
-    (resumes_arm (ring_fields s) h.did.list (ring_fields t) h.did.does)
-call_leaves s t (call.Take slots) a own unchecked off h armed =
-    did_leaves _ s t unchecked off h.did (walk.takes MakesBlocks in_blocks slots h.outcome _ _ _ h.did.does)
-    (takes_leave slots h.outcome _ _ _ h.did.does)
-    (none_accepted armed)
-call_leaves s t call.Service a own unchecked off h armed =
-    did_leaves _ s t unchecked off h.did (walk.services MakesBlocks in_blocks h.outcome _ _ _ h.did.does)
-    (services_leave h.outcome _ _ _ h.did.does)
-    (none_accepted armed)
-call_leaves s t (call.Handle limit) a own unchecked off h armed =
-    did_leaves _ s t unchecked off h.did (walk.handles MakesBlocks in_blocks limit h.outcome _ _ _ h.did.does)
-    (handles_leave limit h.outcome _ _ _ h.did.does)
-    (none_accepted armed)
-call_leaves s t call.Retrigger a own unchecked off h armed =
-    did_leaves _ s t unchecked off h.did (walk.retriggers MakesBlocks in_blocks _ _ _ h.did.does) (retriggers_leave _ _ _ h.did.does)
-    (none_accepted armed)
-call_leaves s t call.TakeLine a own unchecked off h armed =
-    did_leaves _ s t unchecked off h.did (walk.takes_line MakesBlocks in_blocks h.outcome _ _ _ h.did.does)
-    (takes_line_leave h.outcome _ _ _ h.did.does)
-    (none_accepted armed)
-call_leaves s t call.TakeModem a own unchecked off h armed =
-    did_leaves _ s t unchecked off h.did (walk.takes_modem MakesBlocks in_blocks h.outcome _ _ _ h.did.does)
-    (takes_modem_leave h.outcome _ _ _ h.did.does)
-    (none_accepted armed)
-call_leaves s t call.HoldTransmit a own unchecked off h armed =
-    did_leaves _ s t unchecked off h.did
-    (walk.holds MakesBlocks in_blocks (ring_fields s) h.did.list (ring_fields t) h.did.does)
-    (holds_leave (ring_fields s) h.did.list (ring_fields t) h.did.does) (none_accepted armed)
-call_leaves s t call.ReleaseTransmit a own unchecked off h armed =
-    did_arms _ s t unchecked off h.did
-    (walk.releases MakesBlocks in_blocks (ring_fields s) h.did.list (ring_fields t) h.did.does)
-    (releases_arm (ring_fields s) h.did.list (ring_fields t) h.did.does)
-call_leaves s t (call.QueueUrgent byte) a own unchecked off h armed =
-    did_arms _ s t unchecked off h.did (walk.queues_urgent MakesBlocks in_blocks byte h.outcome _ _ _ h.did.does)
-    (queues_urgent_arm byte h.outcome _ _ _ h.did.does)
-call_leaves s t call.ClearTransmit a own unchecked off h armed =
-    did_leaves _ s t unchecked off h.did (walk.clears_transmit MakesBlocks in_blocks h.outcome _ _ _ h.did.does)
-    (clears_transmit_leave h.outcome _ _ _ h.did.does) (none_accepted armed)
-call_leaves s t call.ClearReceive a own unchecked off h armed =
-    did_leaves _ s t unchecked off h.did (walk.clears_receive MakesBlocks in_blocks h.outcome _ _ _ h.did.does)
-    (clears_receive_leave h.outcome _ _ _ h.did.does) (none_accepted armed)
-call_leaves s t (call.SetLowMark mark) a own unchecked off h armed =
-    did_leaves _ s t unchecked off h.did
-    (walk.sets_low_mark MakesBlocks in_blocks mark (ring_fields s) h.did.list (ring_fields t) h.did.does)
-    (sets_low_mark_leave mark (ring_fields s) h.did.list (ring_fields t) h.did.does)
-    (none_accepted armed)
-call_leaves s t call.TakeLow a own unchecked off h armed =
-    did_leaves _ s t unchecked off h.did (walk.takes_low MakesBlocks in_blocks h.outcome _ _ _ h.did.does)
-    (takes_low_leave h.outcome _ _ _ h.did.does)
-    (none_accepted armed)
-call_leaves s t (call.TryHandle limit rounds) a own unchecked off h armed =
-    did_leaves _ s t unchecked off h.did (walk.tries MakesBlocks in_blocks limit rounds h.outcome _ _ _ h.did.does)
-    (tries_leave limit rounds h.outcome _ _ _ h.did.does) (none_accepted armed)
-call_leaves s t (call.Restart interrupts) a own unchecked off h armed =
-    did_arms _ s t unchecked off h.did (walk.restarts MakesBlocks in_blocks interrupts.0 _ _ _ h.did.does)
-    (restarts_arm interrupts.0 _ _ _ h.did.does)
 call_leaves s t (call.AdjustRts marks) a own unchecked off h armed =
     let wanted = rts_at marks (free (ring_fields s).receive) in
-    list_leaves _ s t unchecked off h.did (rts_leaves_lcr wanted (ring_fields s) h.did.list (ring_fields t) h.did.does)
+    list_leaves s t h.did.list unchecked off h.did.path (rts_leaves_lcr wanted (ring_fields s) h.did.list (ring_fields t) h.did.does)
     (adjusts_leave marks (ring_fields s) h.did.list (ring_fields t) h.did.does) (none_accepted armed)
 call_leaves s t (call.Driver c) a own unchecked off h armed = absurd own
 call_leaves s t call.Next a own unchecked off h armed =
@@ -143,6 +78,7 @@ call_leaves s t call.Next a own unchecked off h armed =
     let M : MachineState → Type 0 = λ m. IsArmed (thr_empty_of m) (ring_fields s) in
     subst F (sym h.rings) (subst M (sym h.machine) (known_armed known (ring_fields s) (at_mark (ring_machine s))
     (mark_holds known (ring_machine s) (known_itself (ring_machine s))) (none_accepted armed)))
+call_leaves s t other a own unchecked off h armed = meant_leaves s t other a unchecked off (meaning_of s t other a tt h) armed
 
 -- a call of the driver, in a ready state
 pub driver_leaves : (s t : RingState) (c : Call) (a : RingAnswer) → Ready (under s) → LeavesThrEmpty c → DriverCalled MachineStep c a s t →

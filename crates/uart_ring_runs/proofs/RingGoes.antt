@@ -40,6 +40,7 @@ use Rattle.uart_ring_runs.specs.RingBytes.{KeepsOrder, AllKeepOrder, SendsNothin
 use Rattle.uart_ring_runs.specs.RingSession.{IsWithinRingSession, AllWithinRingSession}
 use Rattle.uart_ring_runs.specs.RingStatuses.{NeitherIs}
 use Rattle.uart_run.specs.Chains.{NoneIs}
+use Rattle.uart_ring_runs.proofs.RingMeanings.{none_sent, in_order}
 use Rattle.uart_ring_runs.proofs.RingLasts.{driver_step, first_within}
 use Rattle.uart_ring_runs.proofs.RingRts.{modes_at, begins_session}
 use Rattle.uart_ring_runs.proofs.RingPasses.{RingPasses, InLine, ring_passes_call, untold_line_of, untold_modem_of}
@@ -157,14 +158,6 @@ none_received (driver.ReceiveWithErrors slots) a n = absurd n
 none_received (driver.Read slots) a n = absurd n
 none_received other a n = refl
 
-none_sent : (c : Call) (a : Answer) → SendsNothing c → reported_by c a ≡ []
-none_sent (driver.TrySend byte) a n = absurd n
-none_sent (driver.Send bytes) a n = absurd n
-none_sent (driver.SendExact bytes) a n = absurd n
-none_sent (driver.Write bytes) a n = absurd n
-none_sent (driver.Text text) a n = absurd n
-none_sent other a n = refl
-
 -- what it received comes after what is in the receive ring
 in_turn : (got there : List ℕ) → (got ≡ []) ⊎ (there ≡ []) → got ++ there ≡ there ++ got
 in_turn got there (inl none) = rw none (sym (append-nil there))
@@ -224,18 +217,6 @@ in_session-gone x Sent T N M s t u w g = record {
 }
 
 -- ---- calls in turn
-
--- a call that does not overtake or drop adds what it queues to what waits
-before_driver : (c : Call) (a : RingAnswer) (bytes : List ℕ) → SendsNothing c →
-    to_send_with (call.Driver c) a bytes ≡ bytes ++ queued_by (call.Driver c) a
-before_driver c (answers.Driver a) bytes o = rw (none_sent c a o) (sym (append-nil bytes))
-before_driver c other bytes o = refl
-
-pub in_order : (c : RingCall) (a : RingAnswer) (bytes : List ℕ) → KeepsOrder c → to_send_with c a bytes ≡ bytes ++ queued_by c a
-in_order (call.QueueUrgent byte) a bytes o = absurd o
-in_order call.ClearTransmit a bytes o = absurd o
-in_order (call.Driver c) a bytes o = before_driver c a bytes o
-in_order other a bytes o = refl
 
 -- only a call that clears the receive ring drops what was received
 all_returned : (c : RingCall) (a : RingAnswer) (there : List ℕ) → c ≢ call.ClearReceive → gone_in c a there ≡ taken_by c a

@@ -29,9 +29,10 @@ use Rattle.uart_ring_runs.specs.declared.call.RingCall.{RingCall}
 use Rattle.uart_ring_runs.specs.declared.call.RingCall.TheVariants as call
 use Rattle.uart_ring_runs.specs.declared.call.RingAnswer.{RingAnswer}
 use Rattle.uart_ring_runs.specs.RingRun.{RingState, ring_machine, RingCallStep, RingLink, RingChain}
-use Rattle.uart_ring_runs.specs.RingBytes.{to_send, to_take, queued, KeepsOrder, AllKeepOrder, TakesInTurn, AllTakeInTurn}
+use Rattle.uart_ring_runs.specs.RingBytes.{to_send, to_take, queued, AllKeepOrder, TakesInTurn, AllTakeInTurn}
 use Rattle.uart_ring_runs.specs.RingArmed.{thr_empty_of, IsRingArmed, KeepsArmed, AllLeaveRingArmed}
 use Rattle.uart_ring_runs.specs.RingSession.{RingConserves}
+use Rattle.uart_ring_runs.proofs.RingMeanings.{keeps_order}
 use Rattle.uart_ring_runs.specs.RingPlain.{AreUntold, IsPlain, ArePlain, in_transmit_ring, IsEmptyOrDue, AllLeaveEmptyOrDue}
 use Rattle.uart_ring_runs.specs.RingPlain.{ConservesPlainly}
 
@@ -196,12 +197,6 @@ sent_from_ring f w =
     ap (λ stuck. allowed stuck f.is_held f.urgent f.transmit.items) w.2 ∙
     (ap (λ held. option_to_list f.urgent ++ unless_held held f.transmit.items) w.1 ∙
     ap (λ u. option_to_list u ++ f.transmit.items) w.0)
-
-keeps_order : (c : RingCall) → IsPlain c → KeepsOrder c
-keeps_order (call.QueueUrgent byte) plain = absurd plain
-keeps_order call.ClearTransmit plain = absurd plain
-keeps_order (call.Driver c) plain = plain.0
-keeps_order other plain = tt
 
 all_keep_order : (links : List RingLink) → ArePlain links → AllKeepOrder links
 all_keep_order [] plain = tt

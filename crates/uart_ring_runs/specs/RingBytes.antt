@@ -1,5 +1,5 @@
 -- The bytes that ring calls accept and return, and those that the rings hold.
-use Rattle.std.specs.Prelude.{◌≡◌, ◌⊎◌, ⊤, ℕ, List, [], ◌∷◌, ◌++◌, take, flat_map}
+use Rattle.std.specs.Prelude.{◌≡◌, ◌⊎◌, ⊤, ℕ, List, [], ◌∷◌, ◌++◌, take, flat_map, option_to_list}
 use Rattle.std.specs.List.{AllByRecursion}
 use Rattle.uart_events.specs.declared.call.Call.{Call}
 use Rattle.uart_events.specs.declared.call.Call.TheVariants as driver
@@ -30,10 +30,12 @@ taken_by (call.Take slots) (answer.Bytes bytes) = bytes.items
 taken_by (call.Driver c) (answer.Driver a) = received_by c a
 taken_by other a = []
 
--- what a call makes of the bytes that wait, before it sends any: an urgent byte overtakes them, and so does what a call
--- of the driver sends; those that are dropped are the last ones, and those that are accepted come last
+-- what a call makes of the bytes that wait, before it sends any: an urgent byte overtakes them, and so does what the
+-- other end is told, and what a call of the driver sends; those that are dropped are the last ones, and those that are
+-- accepted come last
 abbrev pub to_send_with : RingCall → RingAnswer → List ℕ → List ℕ
 to_send_with (call.QueueUrgent byte) (answer.Replaced replaced) bytes = overtaken_by byte replaced bytes
+to_send_with (call.AdjustXoff marks) (answer.Told told) bytes = option_to_list told ++ bytes
 to_send_with call.ClearTransmit (answer.Count count) bytes = without_dropped count bytes
 to_send_with (call.Driver c) (answer.Driver a) bytes = reported_by c a ++ bytes
 to_send_with other a bytes = with_accepted (queued_by other a) bytes
@@ -59,6 +61,7 @@ ReceivesNothing other = ⊤
 abbrev pub KeepsOrder : RingCall → Type 0
 KeepsOrder (call.QueueUrgent byte) = ⊥
 KeepsOrder call.ClearTransmit = ⊥
+KeepsOrder (call.AdjustXoff marks) = ⊥
 KeepsOrder (call.Driver c) = SendsNothing c
 KeepsOrder other = ⊤
 

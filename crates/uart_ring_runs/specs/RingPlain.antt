@@ -24,6 +24,7 @@ IsPlain (call.QueueUrgent byte) = ⊥
 IsPlain call.ClearTransmit = ⊥
 IsPlain call.ClearReceive = ⊥
 IsPlain (call.TryHandle limit rounds) = ⊥
+IsPlain (call.AdjustXoff marks) = ⊥
 IsPlain (call.Driver c) = SendsNothing c × ReceivesNothing c × LeavesThrEmpty c
 IsPlain other = ⊤
 

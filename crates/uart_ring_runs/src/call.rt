@@ -1,12 +1,14 @@
-//! Calls of the rings, and their answers, as data.
+//! Calls of the rings, and their answers, as data, and how one is made.
 
-ghost use Rattle.std.specs.Prelude.{◌↔◌, IsTrue};
+ghost use Rattle.std.specs.Prelude.{◌≡◌, ◌≤◌, ◌↔◌, IsTrue, length};
 ghost use Rattle.uart_calls.specs.Meaning.{IsOfDriver};
 ghost use Rattle.uart_ring_runs.specs.RingRun.{IsOfRings, IsRingRunnable};
+ghost use Rattle.uart_ring_runs.specs.RingRun.{RingPerformed, TakesInto};
 
 use arrayvec::ArrayVec;
-use uart_calls::{Answer, CALL_BYTES, Call};
-use uart_ring::{Handled, ReceiveMarks, StuckError};
+use uart_16550::backend::Backend;
+use uart_calls::{Answer, CALL_BYTES, Call, perform_on_driver};
+use uart_ring::{Handled, ReceiveMarks, StuckError, Uart16550Ring};
 use uart_spec::registers::{IER, LSR, MSR};
 
 /// A call of the rings as data.
@@ -51,6 +53,8 @@ pub enum RingCall {
     Restart(IER),
     /// `adjust_rts` at these marks.
     AdjustRts(ReceiveMarks),
+    /// `adjust_xoff` at these marks.
+    AdjustXoff(ReceiveMarks),
     /// This call of the driver, through `inner_mut`: any but [`Call::Next`], which is one of the
     /// device, and [`Call::Text`], which is one of a terminal.
     Driver(Call),
@@ -101,6 +105,8 @@ pub enum RingAnswer {
     Modem(MSR),
     /// The urgent byte that was replaced.
     Replaced(Option<u8>),
+    /// What `adjust_xoff` told the other end.
+    Told(Option<u8>),
     /// What `take_low` returned.
     Low(bool),
     /// What `try_handle` returned.
@@ -109,4 +115,75 @@ pub enum RingAnswer {
     Driver(Answer),
     /// The call returned nothing.
     Done,
+}
+
+// Takes into these slots.
+fn take<B: Backend>(ring: &mut Uart16550Ring<B>, slots: &mut [u8]) -> RingAnswer
+    requires { length slots.old ≤ CALL_BYTES }
+    ensures { TakesInto B.step (length slots.old) result ring.old ring.new }
+{
+    let count = ring.take(slots);
+    let mut bytes = ArrayVec::new();
+    let _ = bytes.try_extend_from_slice(&slots[..count]);
+    RingAnswer::Bytes(bytes)
+}
+
+/// Makes one ring call, over any backend, and returns its answer. Allocates no memory.
+///
+/// For [`RingCall::Next`] this makes no access and returns `Done`, since a real chip has no
+/// schedule. If the device has one, the caller must make that call itself.
+///
+/// # Examples
+///
+/// ```
+/// perform_ring(ring, &RingCall::Retrigger)
+/// ```
+pub fn perform_ring<B: Backend>(ring: &mut Uart16550Ring<B>, call: &RingCall) -> RingAnswer
+    requires { IsRingRunnable call.now }
+    ensures { RingPerformed B.step ring.old call.now result ring.new }
+{
+    match call {
+        RingCall::Queue(bytes) => RingAnswer::Count(ring.queue(bytes.as_slice())),
+        RingCall::ResumeTransmit => {
+            ring.resume_transmit();
+            RingAnswer::Done
+        }
+        RingCall::Take(slots) => take(ring, &mut [0; CALL_BYTES][..*slots]),
+        RingCall::Service => RingAnswer::Count(ring.service()),
+        RingCall::Handle(limit) => RingAnswer::Handled(ring.handle(*limit)),
+        RingCall::Retrigger => {
+            ring.retrigger();
+            RingAnswer::Done
+        }
+        RingCall::TakeLine => RingAnswer::Line(ring.take_line()),
+        RingCall::TakeModem => RingAnswer::Modem(ring.take_modem()),
+        RingCall::HoldTransmit => {
+            ring.hold_transmit();
+            RingAnswer::Done
+        }
+        RingCall::ReleaseTransmit => {
+            ring.release_transmit();
+            RingAnswer::Done
+        }
+        RingCall::QueueUrgent(byte) => RingAnswer::Replaced(ring.queue_urgent(*byte)),
+        RingCall::ClearTransmit => RingAnswer::Count(ring.clear_transmit()),
+        RingCall::ClearReceive => RingAnswer::Count(ring.clear_receive()),
+        RingCall::SetLowMark(mark) => {
+            ring.set_low_mark(*mark);
+            RingAnswer::Done
+        }
+        RingCall::TakeLow => RingAnswer::Low(ring.take_low()),
+        RingCall::TryHandle(limit, rounds) => RingAnswer::Tried(ring.try_handle(*limit, *rounds)),
+        RingCall::Restart(interrupts) => {
+            ring.restart(*interrupts);
+            RingAnswer::Done
+        }
+        RingCall::AdjustRts(marks) => {
+            ring.adjust_rts(*marks);
+            RingAnswer::Done
+        }
+        RingCall::AdjustXoff(marks) => RingAnswer::Told(ring.adjust_xoff(*marks)),
+        RingCall::Driver(call) => RingAnswer::Driver(perform_on_driver(ring.inner_mut(), call)),
+        RingCall::Next => RingAnswer::Done,
+    }
 }

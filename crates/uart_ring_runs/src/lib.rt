@@ -4,9 +4,7 @@
 
 mod call;
 pub mod laws;
-mod performing;
 mod running;
 
-pub use call::{RingAnswer, RingCall};
-pub use performing::perform_ring;
+pub use call::{RingAnswer, RingCall, perform_ring};
 pub use running::run_ring;

@@ -3,8 +3,7 @@ ghost use Rattle.std.specs.Prelude.{◌≡◌, length, All};
 ghost use Rattle.uart_ring_runs.specs.RingRun.{IsRingRunnable, RingCallStep};
 ghost use Rattle.uart_ring_runs.specs.RingSession.{RanRing};
 
-use crate::call::{RingAnswer, RingCall};
-use crate::performing::perform_ring;
+use crate::call::{RingAnswer, RingCall, perform_ring};
 use uart_chip::Device16550;
 use uart_ring::Uart16550Ring;
 
@@ -33,9 +32,9 @@ fn run_ring_call(ring: &mut Uart16550Ring<Device16550>, call: &RingCall) -> Ring
 ///
 /// - what has been sent, what is in the transmitter, and then the bytes that wait have grown by
 ///   exactly the bytes that were queued, and no data write meets a full transmitter. This holds if
-///   no call is a `QueueUrgent` or a `ClearTransmit`, or a `Driver` that sends. Of these the first
-///   puts its byte before all that wait, and so does the last; `ClearTransmit` drops as many bytes
-///   of the transmit ring as it returns;
+///   each call keeps the order: none puts a byte before all that wait, as a `QueueUrgent` and a
+///   `Driver` that sends do, or drops some of them, as a `ClearTransmit` does, which returns how
+///   many;
 /// - the bytes taken, or dropped by a `ClearReceive`, then the receive ring, then those in the
 ///   chip's receiver are those of the receive ring at the start, those that were in the receiver,
 ///   and those that arrived, in order, without those that the chip dropped. This holds if no

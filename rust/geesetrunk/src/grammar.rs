@@ -308,7 +308,7 @@ const ALONE: [&str; 21] = [
 ];
 
 // The lines that only a script with rings has, and that have fields.
-const FORMS_OF_RINGS: [Form; 9] = [
+const FORMS_OF_RINGS: [Form; 10] = [
     Form {
         usage: "rings T R",
         fields: &[Field::Capacity, Field::Capacity],
@@ -343,6 +343,10 @@ const FORMS_OF_RINGS: [Form; 9] = [
     },
     Form {
         usage: "adjust-rts N M",
+        fields: &[Field::Mark, Field::Mark],
+    },
+    Form {
+        usage: "adjust-xoff N M",
         fields: &[Field::Mark, Field::Mark],
     },
 ];

@@ -64,7 +64,7 @@ impl AnyScript {
 }
 
 // The words that only a script with rings has, and how many words a line of each has.
-const WORDS: [(&str, usize); 19] = [
+const WORDS: [(&str, usize); 20] = [
     ("rings", 3),
     ("queue", 2),
     ("resume-transmit", 1),
@@ -84,6 +84,7 @@ const WORDS: [(&str, usize); 19] = [
     ("try-handle", 3),
     ("restart", 2),
     ("adjust-rts", 3),
+    ("adjust-xoff", 3),
 ];
 
 fn word(line: &[u8], index: usize) -> &[u8] {
@@ -119,6 +120,12 @@ fn capacities_in(line: &[u8]) -> Result<Capacities, Cause> {
 fn ring_call(name: &str, line: &[u8]) -> Result<Option<RingCall>, Cause> {
     let limit = |index| number_in(0, MOST_LIMIT, word(line, index));
     let mark = |index| number_in(0, MAX_CAPACITY as u64, word(line, index));
+    let marks = || -> Result<ReceiveMarks, Cause> {
+        Ok(ReceiveMarks {
+            hold: mark(1)? as usize,
+            release: mark(2)? as usize,
+        })
+    };
     let field = word(line, 1);
     let call = match name {
         "rings" => {
@@ -142,10 +149,8 @@ fn ring_call(name: &str, line: &[u8]) -> Result<Option<RingCall>, Cause> {
         "take-low" => RingCall::TakeLow,
         "try-handle" => RingCall::TryHandle(limit(1)? as usize, limit(2)? as u32),
         "restart" => RingCall::Restart(interrupts_in(field)?),
-        "adjust-rts" => RingCall::AdjustRts(ReceiveMarks {
-            hold: mark(1)? as usize,
-            release: mark(2)? as usize,
-        }),
+        "adjust-rts" => RingCall::AdjustRts(marks()?),
+        "adjust-xoff" => RingCall::AdjustXoff(marks()?),
         _ => return Err(Cause::UnknownWord),
     };
     Ok(Some(call))

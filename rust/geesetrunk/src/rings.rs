@@ -76,8 +76,10 @@ fn push_ring_answer(out: &mut List<u8>, answer: RingAnswer) -> Result<(), AllocE
         RingAnswer::Bytes(bytes) => Answer::Bytes(bytes),
         RingAnswer::Line(bits) => Answer::Register(bits.bits()),
         RingAnswer::Modem(bits) => Answer::Register(bits.bits()),
-        RingAnswer::Replaced(Some(byte)) => Answer::Register(byte),
-        RingAnswer::Replaced(None) => return out.extend_from_slice(b"ok -"),
+        RingAnswer::Replaced(Some(byte)) | RingAnswer::Told(Some(byte)) => Answer::Register(byte),
+        RingAnswer::Replaced(None) | RingAnswer::Told(None) => {
+            return out.extend_from_slice(b"ok -");
+        }
         RingAnswer::Low(is_low) => Answer::Flag(is_low),
         RingAnswer::Driver(answer) => answer,
         RingAnswer::Done => Answer::Done,

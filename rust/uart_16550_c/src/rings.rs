@@ -252,6 +252,18 @@ pub unsafe extern "C" fn u16550_ring_adjust_rts(
 }
 
 #[unsafe(no_mangle)]
+pub unsafe extern "C" fn u16550_ring_adjust_xoff(
+    uart: *mut Memory,
+    hold: usize,
+    release: usize,
+    told: *mut CUrgent,
+) -> c_int {
+    let marks = ReceiveMarks { hold, release };
+    // SAFETY: the caller promises that pointers are null or valid.
+    unsafe { report(uart, told, |ring| Ok(ring.adjust_xoff(marks).into())) }
+}
+
+#[unsafe(no_mangle)]
 pub unsafe extern "C" fn u16550_ring_try_handle(
     uart: *mut Memory,
     limit: usize,

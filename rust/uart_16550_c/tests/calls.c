@@ -1285,6 +1285,29 @@ static void pacing(void)
     IS(d.registers[MCR], WITH_RTS);
 }
 
+/* XOFF and XON follow the room for 24 received bytes. */
+static void stopping(void)
+{
+    enum { XON = 0x11, XOFF = 0x13 };
+    struct u16550_urgent told = { 9, 9 };
+    size_t count = 99;
+    uint8_t slots[24];
+    rings_ready();
+    OK(u16550_ring_adjust_xoff(&uart, 10, 20, &told));
+    IS(told.waits, 0);
+    device_arrive(&d, "0123456789abcde");
+    OK(u16550_ring_service(&uart, &count));
+    OK(u16550_ring_adjust_xoff(&uart, 10, 20, &told));
+    IS(told.waits, 1);
+    IS(told.byte, XOFF);
+    OK(u16550_ring_adjust_xoff(&uart, 10, 20, &told));
+    IS(told.waits, 0);
+    OK(u16550_ring_take(&uart, slots, 11, &count));
+    OK(u16550_ring_adjust_xoff(&uart, 10, 20, &told));
+    IS(told.waits, 1);
+    IS(told.byte, XON);
+}
+
 /* A chip that shows interrupts for ever. */
 static void storms(void)
 {
@@ -1504,6 +1527,7 @@ static void ring_errors(void)
     MISUSE(u16550_ring_set_low_mark(&uart, 1), U16550_NO_RINGS);
     MISUSE(u16550_ring_take_low(&uart, &value), U16550_NO_RINGS);
     MISUSE(u16550_ring_adjust_rts(&uart, 1, 2), U16550_NO_RINGS);
+    MISUSE(u16550_ring_adjust_xoff(&uart, 1, 2, &urgent), U16550_NO_RINGS);
     MISUSE(u16550_ring_try_handle(&uart, 1, 1, &handled), U16550_NO_RINGS);
     MISUSE(u16550_ring_stuck(&uart, &stuck), U16550_NO_RINGS);
     MISUSE(u16550_ring_restart(&uart, 1), U16550_NO_RINGS);
@@ -1683,6 +1707,7 @@ static void nulls(void)
     MISUSE(u16550_ring_is_held(&uart, NULL), null);
     MISUSE(u16550_ring_queue_urgent(&uart, 1, NULL), null);
     MISUSE(u16550_ring_urgent(&uart, NULL), null);
+    MISUSE(u16550_ring_adjust_xoff(&uart, 1, 2, NULL), null);
     MISUSE(u16550_ring_clear_transmit(&uart, NULL), null);
     MISUSE(u16550_ring_clear_receive(&uart, NULL), null);
     MISUSE(u16550_ring_take_low(&uart, NULL), null);
@@ -1926,6 +1951,7 @@ int main(void)
     handling();
     telling();
     pacing();
+    stopping();
     storms();
     shared_line();
     line_falls();

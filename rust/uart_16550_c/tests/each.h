@@ -76,6 +76,7 @@
     RING(u16550_ring_take_low, DRIVER, BYTE_AT)                                                                \
     RING(u16550_ring_take, DRIVER, BUFFER, LEN, SIZE_AT)                                                       \
     RING(u16550_ring_adjust_rts, DRIVER, HOLD, RELEASE)                                                        \
+    RING(u16550_ring_adjust_xoff, DRIVER, HOLD, RELEASE, URGENT_AT)                                            \
     RING(u16550_ring_resume_transmit, DRIVER)                                                                  \
     RING(u16550_ring_handle, DRIVER, LIMIT, HANDLED_AT)                                                        \
     RING(u16550_ring_try_handle, DRIVER, LIMIT, ROUNDS, HANDLED_AT)                                            \

@@ -748,7 +748,11 @@ static void call_rings(struct u16550 *u, uint32_t which)
         told(u16550_ring_take_modem(u, OUT(&value)));
         break;
     case 19:
-        told(u16550_ring_adjust_rts(u, len % 20, below(20)));
+        which = below(20);
+        if (below(2))
+            told(u16550_ring_adjust_rts(u, len % 20, which));
+        else
+            told(u16550_ring_adjust_xoff(u, len % 20, which, OUT(&urgent)));
         break;
     case 20:
         if (told(u16550_ring_config_register_dump(u, OUT(&dump))) == U16550_OK)

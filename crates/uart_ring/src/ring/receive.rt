@@ -4,6 +4,8 @@ ghost use Rattle.uart_ring.specs.Ring.{IfAny, RingDid, ring_fields};
 ghost use Rattle.uart_ring.specs.Receive.{PausesIfFull, FillsReceiveRing, EndsPause};
 ghost use Rattle.uart_ring.specs.Receive.{TakesBytes, ClearsReceive};
 ghost use Rattle.uart_ring.specs.Receive.{AdjustsRts, MakesRtsIfAny};
+ghost use Rattle.uart_ring.specs.Receive.{AdjustsXoff, TellsIfAny, rts_at, to_tell};
+ghost use Rattle.uart_ring.specs.Ring.{free};
 ghost use Rattle.uart_16550.specs.Frame.{switched};
 
 use super::Uart16550Ring;
@@ -12,7 +14,12 @@ use uart_16550::backend::Backend;
 use uart_spec::FIFO_SIZE;
 use uart_spec::registers::{IER, MCR};
 
-/// How much room in the receive ring turns RTS off, and how much turns it on again.
+// What tells the other end to go on, and to stop.
+const XON: u8 = 0x11;
+const XOFF: u8 = 0x13;
+
+/// How much room in the receive ring turns RTS off, and how much turns it on again. With XOFF and
+/// XON it is the same.
 ///
 /// Between the two RTS stays as it is, so it does not change with each byte. If `release` is less
 /// than `hold`, RTS is off below `hold` and on from there.
@@ -110,6 +117,22 @@ impl<B: Backend> Uart16550Ring<B> {
         self.end_pause(count);
         count
     }
+    // Returns whether the other end may send, or `None` if that is to stay as it is.
+    fn may_send(&self, marks: ReceiveMarks) -> Option<bool>
+        ensures { result ≡ rts_at marks (free (ring_fields self.now).receive) }
+    {
+        let room = self.receive.capacity() - self.receive.len();
+        // The first test comes first, so that marks the wrong way round do not let bytes come for
+        // which there is no room.
+        if room < marks.hold {
+            Some(false)
+        } else if room >= marks.release {
+            Some(true)
+        } else {
+            None
+        }
+    }
+
     // Asserts or clears RTS, unless it is so already.
     fn make_rts(&mut self, on: bool)
         ensures { RingDid B.step (MakesRtsIfAny (Some on)) self.old self.new }
@@ -146,13 +169,57 @@ impl<B: Backend> Uart16550Ring<B> {
     pub fn adjust_rts(&mut self, marks: ReceiveMarks)
         ensures { RingDid B.step (AdjustsRts marks) self.old self.new }
     {
-        let room = self.receive.capacity() - self.receive.len();
-        // The first test comes first, so that marks the wrong way round do not let bytes come for
-        // which there is no room.
-        if room < marks.hold {
-            self.make_rts(false);
-        } else if room >= marks.release {
-            self.make_rts(true);
+        if let Some(on) = self.may_send(marks) {
+            self.make_rts(on);
         }
+    }
+
+    // Tells the other end to go on, or to stop, unless it was told so last. Returns what was told.
+    fn tell(&mut self, on: bool) -> Option<u8>
+        ensures { RingDid B.step (TellsIfAny (to_tell (Some on) (ring_fields self.old).urgent
+            (ring_fields self.old).has_told_xoff) result) self.old self.new }
+    {
+        // An urgent byte that waits is not replaced: it may be the caller's, who would not be told.
+        // Its interrupt is to come, and then the handler adjusts again.
+        if self.urgent.is_some() || self.has_told_xoff != on {
+            return None;
+        }
+        self.has_told_xoff = !on;
+        let byte = if on { XON } else { XOFF };
+        self.queue_urgent(byte);
+        Some(byte)
+    }
+
+    /// Holds the other end back, or lets it go on, by XOFF and XON, where RTS is not wired: tells
+    /// it XOFF if the receive ring has room for fewer than `marks.hold` bytes, and XON if it has
+    /// room for at least `marks.release`. Returns the character, or `None` if none was to be told.
+    ///
+    /// The character goes out before all bytes that wait, also while the transmit ring is held, as
+    /// that of a `queue_urgent`. What was told last is not told again. While another urgent byte
+    /// waits, nothing is told; the next call does it. Once XOFF was told, marks of 0 let the other
+    /// end go on in any case.
+    ///
+    /// The other end sends on until it has read the XOFF, which comes after what is in the chip.
+    /// So choose `hold` with room for that, and `release` not above the capacity of the receive
+    /// ring, or the other end would stop for ever. The other end takes each byte of the value of an
+    /// XON or XOFF for one: this is for text.
+    ///
+    /// Call it at the end of the interrupt handler, and after each `take` and `clear_receive`, as
+    /// [`adjust_rts`](Uart16550Ring::adjust_rts).
+    ///
+    /// Does not wait. If it tells something, it makes the accesses of a `queue_urgent`. Otherwise
+    /// it makes none.
+    ///
+    /// # Examples
+    ///
+    /// ```
+    /// ring.take(&mut slots);
+    /// ring.adjust_xoff(MARKS);
+    /// ```
+    pub fn adjust_xoff(&mut self, marks: ReceiveMarks) -> Option<u8>
+        ensures { RingDid B.step (AdjustsXoff marks result) self.old self.new }
+    {
+        let on = self.may_send(marks)?;
+        self.tell(on)
     }
 }

@@ -83,8 +83,9 @@ fn make_link_call(link: &mut Link, call: &LinkCall) -> RingAnswer {
 /// - the bytes taken, or dropped by a `ClearReceive`, each with which of the two, then those in the
 ///   receive ring and in the receiver, and then those on their way are, in this order, those that
 ///   were there and those that were queued, less those that the receiver dropped. On their way are
-///   bytes on the cable, in the sender's transmitter and in its rings. This holds if no call of the
-///   sender is a `QueueUrgent` or a `ClearTransmit`;
+///   bytes on the cable, in the sender's transmitter and in its rings. This holds if each call of
+///   the sender keeps the order: none puts a byte before all that wait, as a `QueueUrgent` does,
+///   or drops some of them, as a `ClearTransmit` does;
 /// - the first `TakeLine` of an end shows a drop there as the overrun flag;
 /// - no character is dropped, if both programs keep to flow control in this direction: the sender
 ///   checks CTS, and the receiver's `AdjustRts` follows each run of the handler, with marks that

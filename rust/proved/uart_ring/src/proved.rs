@@ -90,6 +90,7 @@ pub mod queue {}
 ///   is_paused = r.is_paused;
 ///   urgent = r.urgent;
 ///   is_held = r.is_held;
+///   has_told_xoff = r.has_told_xoff;
 ///   low_mark = r.low_mark;
 ///   is_low = r.is_low;
 ///   rounds = r.rounds;
@@ -103,7 +104,7 @@ pub mod queue {}
 ///
 /// # `AreEmpty`
 ///
-/// Empty rings of these capacities over this driver, in which nothing is held, paused or stuck.
+/// Empty rings of these capacities over this driver, in which nothing is held, paused or stuck, and XOFF was never told.
 ///
 /// ```text
 /// pub record AreEmpty {B : Type 0} (r : Uart16550Ring B) (driver : Uart16550 B) (transmit receive : ℕ) : Type 0 where
@@ -117,6 +118,7 @@ pub mod queue {}
 ///     is_paused = false;
 ///     urgent = None;
 ///     is_held = false;
+///     has_told_xoff = false;
 ///     low_mark = 0;
 ///     is_low = false;
 ///     rounds = 0;
@@ -383,7 +385,21 @@ pub mod transmit {}
 /// ```
 ///
 /// It uses [`free`](crate::proved::ring#free); `RingDoing` of `crates/uart_ring/specs/Ring.antt`; `MakesRtsIfAny`, `rts_at` of this file.
-#[doc(alias("TakesBytes", "ClearsReceive", "AdjustsRts"))]
+///
+/// <span id="AdjustsXoff"></span>
+///
+/// # `AdjustsXoff`
+///
+/// `adjust_xoff`: the other end is told XOFF if the receive ring has room for fewer bytes than `hold`, and XON if it has room for `release` or more, as a `queue_urgent` sends it. What was told last is not told again, and nothing is told while another urgent byte waits. The result is what was told.
+///
+/// ```text
+/// abbrev pub AdjustsXoff : ReceiveMarks → Option ℕ → RingDoing
+/// AdjustsXoff marks told f l after =
+///     TellsIfAny (to_tell (rts_at marks (free f.receive)) f.urgent f.has_told_xoff) told f l after
+/// ```
+///
+/// It uses [`free`](crate::proved::ring#free); `RingDoing` of `crates/uart_ring/specs/Ring.antt`; `TellsIfAny`, `to_tell`, `rts_at` of this file.
+#[doc(alias("TakesBytes", "ClearsReceive", "AdjustsRts", "AdjustsXoff"))]
 pub mod receive {}
 
 /// Line errors and changes of the modem lines: noted when their interrupts are served, and taken by the caller. And all registers at once.

@@ -85,6 +85,8 @@ pub struct Uart16550Ring<B> {
     // XON or XOFF makes an older one that still waits pointless.
     urgent: Option<u8>,
     is_held: bool,
+    // What `adjust_xoff` told the other end last: XOFF, or XON or nothing.
+    has_told_xoff: bool,
     low_mark: usize,
     // The transmit ring fell to the low mark since this was taken.
     is_low: bool,
@@ -129,7 +131,7 @@ impl<B: Backend> Uart16550Ring<B> {
     ///
     /// # Proved
     ///
-    /// - *made*: if it returns `Ok ring`: [`AreEmpty`](crate::proved::ring#AreEmpty) `ring uart tx_capacity rx_capacity`: empty rings of these capacities over this driver, in which nothing is held, paused or stuck.
+    /// - *made*: if it returns `Ok ring`: [`AreEmpty`](crate::proved::ring#AreEmpty) `ring uart tx_capacity rx_capacity`: empty rings of these capacities over this driver, in which nothing is held, paused or stuck, and XOFF was never told.
     /// - *refused*: unless [`IsCapacity`](crate::proved::ring#IsCapacity) `tx_capacity` and [`IsCapacity`](crate::proved::ring#IsCapacity) `rx_capacity`: returns `Err (uart, RingError.BadCapacity)`.
     ///   - [`IsCapacity`](crate::proved::ring#IsCapacity): how many bytes a ring can be made for: 1 to 4096.
     /// - *accepted*: if [`IsCapacity`](crate::proved::ring#IsCapacity) `tx_capacity` and [`IsCapacity`](crate::proved::ring#IsCapacity) `rx_capacity`: returns `Ok`, or `Err` of `(uart, RingError.OutOfMemory)`.
@@ -170,6 +172,7 @@ impl<B: Backend> Uart16550Ring<B> {
             is_paused: false,
             urgent: None,
             is_held: false,
+            has_told_xoff: false,
             low_mark: 0,
             is_low: false,
             rounds: 0,

@@ -4,8 +4,8 @@
 mod lists;
 
 use lists::Step::{Burst, Changed, Read, Received, Write};
-use lists::{DATA_READY, FULL, NONE, THR_EMPTY, UNKNOWN, answers_in, assert_made, rings};
-use proved_uart_ring::{HandleEnd, Handled, StuckError};
+use lists::{DATA_READY, EMPTY, FULL, NONE, THR_EMPTY, UNKNOWN, answers_in, assert_made, rings};
+use proved_uart_ring::{HandleEnd, Handled, ReceiveMarks, StuckError};
 use uart_spec::registers::offsets::{IER, ISR, LSR};
 use uart_spec::registers::{self, InterruptType};
 
@@ -62,6 +62,86 @@ fn an_urgent_byte_overtakes() {
     assert_eq!(ring.queue_urgent(XOFF), None);
     assert_eq!(ring.urgent(), Some(XOFF));
     assert_eq!(ring.queue_urgent(XON), Some(XOFF));
+    assert_eq!(ring.service(), 1);
+    assert_eq!(ring.urgent(), None);
+    assert_made(ring.inner().backend(), &steps);
+}
+
+#[test]
+fn xoff_follows_the_room() {
+    let steps = [
+        Read(ISR, DATA_READY), // room for 3, the mark
+        Received(b"ABCDE"),
+        Read(LSR, EMPTY),
+        Read(ISR, NONE),
+        Read(ISR, DATA_READY), // room for 2
+        Received(b"F"),
+        Read(LSR, EMPTY),
+        Read(ISR, NONE),
+        Burst(b"\x13"),
+        Changed(IER, 0x01, 0x01),
+        Burst(b"\x11"), // room for 6 again
+        Changed(IER, 0x01, 0x01),
+    ];
+    let answers = answers_in(&steps);
+    let mut ring = rings(&answers, 32, 8);
+    let marks = ReceiveMarks {
+        hold: 3,
+        release: 6,
+    };
+    let mut slots = [0xee; 8];
+    ring.hold_transmit(); // it holds no character of flow control
+    assert_eq!(ring.adjust_xoff(marks), None);
+    assert_eq!(ring.service(), 1);
+    assert_eq!(ring.adjust_xoff(marks), None);
+    assert_eq!(ring.service(), 1);
+    assert_eq!(ring.adjust_xoff(marks), Some(XOFF));
+    assert_eq!(ring.adjust_xoff(marks), None);
+    assert_eq!(ring.take(&mut slots[..3]), 3);
+    assert_eq!(ring.adjust_xoff(marks), None); // room for 5
+    assert_eq!(ring.take(&mut slots[..1]), 1);
+    assert_eq!(ring.adjust_xoff(marks), Some(XON));
+    assert_eq!(ring.adjust_xoff(marks), None);
+    assert_made(ring.inner().backend(), &steps);
+}
+
+#[test]
+fn xoff_waits_for_an_urgent_byte() {
+    let steps = [
+        Burst(b"hello, world! 12"),
+        Changed(IER, 0x01, 0x03),
+        Read(LSR, FULL),
+        Changed(IER, 0x03, 0x03),
+        Read(ISR, THR_EMPTY),
+        Burst(b"!3456"),
+        Changed(IER, 0x03, 0x01),
+        Read(ISR, NONE),
+        Read(LSR, FULL),
+        Changed(IER, 0x01, 0x03),
+        Read(ISR, THR_EMPTY),
+        Burst(b"\x13"),
+        Changed(IER, 0x03, 0x01),
+        Read(ISR, NONE),
+    ];
+    let answers = answers_in(&steps);
+    let mut ring = rings(&answers, 32, 4);
+    let (stop, go_on) = (
+        ReceiveMarks {
+            hold: 5,
+            release: 5,
+        },
+        ReceiveMarks {
+            hold: 0,
+            release: 0,
+        },
+    );
+    assert_eq!(ring.queue(b"hello, world! 123456"), 20);
+    assert_eq!(ring.queue_urgent(b'!'), None);
+    assert_eq!(ring.adjust_xoff(stop), None);
+    assert_eq!(ring.urgent(), Some(b'!'));
+    assert_eq!(ring.service(), 1);
+    assert_eq!(ring.adjust_xoff(stop), Some(XOFF));
+    assert_eq!(ring.adjust_xoff(go_on), None); // it still waits
     assert_eq!(ring.service(), 1);
     assert_eq!(ring.urgent(), None);
     assert_made(ring.inner().backend(), &steps);

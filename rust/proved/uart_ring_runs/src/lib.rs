@@ -13,9 +13,7 @@ extern crate geesetrunk_kit as bitflags;
 extern crate geesetrunk_kit as arrayvec;
 
 mod call;
-mod performing;
 mod running;
 
-pub use call::{RingAnswer, RingCall};
-pub use performing::perform_ring;
+pub use call::{RingAnswer, RingCall, perform_ring};
 pub use running::run_ring;

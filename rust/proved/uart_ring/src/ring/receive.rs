@@ -6,7 +6,12 @@ use uart_16550::backend::Backend;
 use uart_spec::FIFO_SIZE;
 use uart_spec::registers::{IER, MCR};
 
-/// How much room in the receive ring turns RTS off, and how much turns it on again.
+// What tells the other end to go on, and to stop.
+const XON: u8 = 0x11;
+const XOFF: u8 = 0x13;
+
+/// How much room in the receive ring turns RTS off, and how much turns it on again. With XOFF and
+/// XON it is the same.
 ///
 /// Between the two RTS stays as it is, so it does not change with each byte. If `release` is less
 /// than `hold`, RTS is off below `hold` and on from there.
@@ -131,6 +136,20 @@ impl<B: Backend> Uart16550Ring<B> {
         self.end_pause(count);
         count
     }
+    // Returns whether the other end may send, or `None` if that is to stay as it is.
+    fn may_send(&self, marks: ReceiveMarks) -> Option<bool> {
+        let room = self.receive.capacity() - self.receive.len();
+        // The first test comes first, so that marks the wrong way round do not let bytes come for
+        // which there is no room.
+        if room < marks.hold {
+            Some(false)
+        } else if room >= marks.release {
+            Some(true)
+        } else {
+            None
+        }
+    }
+
     // Asserts or clears RTS, unless it is so already.
     fn make_rts(&mut self, on: bool) {
         // A handler adjusts RTS each time that it runs, and RTS changes seldom. So one read shows
@@ -183,13 +202,72 @@ impl<B: Backend> Uart16550Ring<B> {
     ///
     /// </details>
     pub fn adjust_rts(&mut self, marks: ReceiveMarks) {
-        let room = self.receive.capacity() - self.receive.len();
-        // The first test comes first, so that marks the wrong way round do not let bytes come for
-        // which there is no room.
-        if room < marks.hold {
-            self.make_rts(false);
-        } else if room >= marks.release {
-            self.make_rts(true);
+        if let Some(on) = self.may_send(marks) {
+            self.make_rts(on);
         }
+    }
+
+    // Tells the other end to go on, or to stop, unless it was told so last. Returns what was told.
+    fn tell(&mut self, on: bool) -> Option<u8> {
+        // An urgent byte that waits is not replaced: it may be the caller's, who would not be told.
+        // Its interrupt is to come, and then the handler adjusts again.
+        if self.urgent.is_some() || self.has_told_xoff != on {
+            return None;
+        }
+        self.has_told_xoff = !on;
+        let byte = if on { XON } else { XOFF };
+        self.queue_urgent(byte);
+        Some(byte)
+    }
+
+    /// Holds the other end back, or lets it go on, by XOFF and XON, where RTS is not wired: tells
+    /// it XOFF if the receive ring has room for fewer than `marks.hold` bytes, and XON if it has
+    /// room for at least `marks.release`. Returns the character, or `None` if none was to be told.
+    ///
+    /// The character goes out before all bytes that wait, also while the transmit ring is held, as
+    /// that of a `queue_urgent`. What was told last is not told again. While another urgent byte
+    /// waits, nothing is told; the next call does it. Once XOFF was told, marks of 0 let the other
+    /// end go on in any case.
+    ///
+    /// The other end sends on until it has read the XOFF, which comes after what is in the chip.
+    /// So choose `hold` with room for that, and `release` not above the capacity of the receive
+    /// ring, or the other end would stop for ever. The other end takes each byte of the value of an
+    /// XON or XOFF for one: this is for text.
+    ///
+    /// Call it at the end of the interrupt handler, and after each `take` and `clear_receive`, as
+    /// [`adjust_rts`](Uart16550Ring::adjust_rts).
+    ///
+    /// Does not wait. If it tells something, it makes the accesses of a `queue_urgent`. Otherwise
+    /// it makes none.
+    ///
+    /// # Examples
+    ///
+    /// ```
+    /// # include!(concat!(env!("CARGO_MANIFEST_DIR"), "/examples.rs"));
+    /// # fn main() {}
+    /// # use facade::ring;
+    /// # const MARKS: ring::ReceiveMarks = ring::ReceiveMarks { hold: 48, release: 64 };
+    /// # fn example(ring: &mut ring::Uart16550Ring<Device>, mut slots: [u8; 2]) -> Outcome<()> {
+    /// ring.take(&mut slots);
+    /// ring.adjust_xoff(MARKS);
+    /// # Ok(()) }
+    /// ```
+    ///
+    /// # Proved
+    ///
+    /// - [Does as](crate::proved::ring#RingDid) [`AdjustsXoff`](crate::proved::receive#AdjustsXoff) `marks result`: the other end is told XOFF if the receive ring has room for fewer bytes than `hold`, and XON if it has room for `release` or more, as a `queue_urgent` sends it. What was told last is not told again, and nothing is told while another urgent byte waits. The result is what was told.
+    ///
+    /// <details><summary>The clauses</summary>
+    ///
+    /// [How to read them](uart_spec::proved):
+    ///
+    /// ```text
+    /// ensures { RingDid B.step (AdjustsXoff marks result) self.old self.new }
+    /// ```
+    ///
+    /// </details>
+    pub fn adjust_xoff(&mut self, marks: ReceiveMarks) -> Option<u8> {
+        let on = self.may_send(marks)?;
+        self.tell(on)
     }
 }

@@ -1,0 +1,198 @@
+-- What each call of the rings does, in one place: it is made of doings of the driver, it loses nothing, and it leaves the rings armed.
+use Rattle.std.proofs.Common.{◌≡◌, ◌≢◌, ◌<◌, ℕ, Bool, not, Option, Some, None, List, [], ◌++◌, append-nil, length, length-take, take}
+use Rattle.std.proofs.Common.{refl, sym, arith}
+use Rattle.std.specs.Prelude.{⊤}
+use Rattle.uart_spec.specs.Access.{Path}
+use Rattle.uart_spec.specs.declared.access.Access.{Access}
+use Rattle.uart_16550.specs.Driver.{Doing}
+use Rattle.uart_events.specs.declared.call.Call.{Call}
+use Rattle.uart_events.specs.declared.call.Call.TheVariants as driver
+use Rattle.uart_events.specs.declared.call.Answer.{Answer}
+use Rattle.uart_chip.specs.Machine.{MachineStep}
+use Rattle.uart_run.specs.Session.{reported_by}
+use Rattle.uart_ring.specs.Ring.{RingDoing, RingDid, RingFields, ring_fields, with_told_xoff}
+use Rattle.uart_ring.specs.Receive.{flow_character, TellsIfAny, AdjustsXoff}
+use Rattle.uart_ring.specs.declared.ring.receive.ReceiveMarks.{ReceiveMarks}
+use Rattle.uart_ring.specs.Lossless.{LosesOnly, Implies}
+use Rattle.uart_ring.specs.Armed.{LeavesArmed, Arms}
+use Rattle.uart_ring.proofs.Arming as arming
+use Rattle.uart_ring.proofs.Losses as losses
+use Rattle.uart_ring.proofs.laws.adjust_xoff_is_a_ring_call.Answers.{at_marks, adjusts_xoff_loses_only, adjusts_xoff_leave}
+use Rattle.uart_ring_runs.specs.declared.call.RingCall.{RingCall}
+use Rattle.uart_ring_runs.specs.declared.call.RingCall.TheVariants as call
+use Rattle.uart_ring_runs.specs.declared.call.RingAnswer.{RingAnswer}
+use Rattle.uart_ring_runs.specs.declared.call.RingAnswer.TheVariants as answers
+use Rattle.uart_ring_runs.specs.RingRun.{RingState, ring_machine, RingCallStep}
+use Rattle.uart_ring_runs.specs.RingBytes.{to_take, queued_by, gone_in, to_send_with, KeepsOrder, SendsNothing}
+use Rattle.uart_ring_runs.specs.RingArmed.{RearmsRing}
+use Rattle.uart_ring_runs.specs.RingPlain.{IsPlain}
+use Rattle.uart_ring_runs.proofs.RingWalk as walk
+use Rattle.uart_ring_runs.proofs.RingWalk.{Walks, InRings}
+
+-- the call is one of the rings themselves that leaves MCR as it is. `adjust_rts` may write it, and has proofs of its own
+abbrev pub IsUsual : RingCall → Type 0
+IsUsual (call.AdjustRts marks) = ⊥
+IsUsual (call.Driver c) = ⊥
+IsUsual call.Next = ⊥
+IsUsual other = ⊤
+
+-- what is known of a call: its accesses, of which holds what holds of each doing of the driver; what it makes of the bytes that
+-- wait, what left the receive ring, and which bits of LSR and MSR it told; and that it leaves the rings armed, or arms them
+pub record Meant (c : RingCall) (a : RingAnswer) (s t : RingState) : Type 1 where
+  pub list : List Access
+  pub path : Path MachineStep (ring_machine s) list (ring_machine t)
+  pub line : ℕ
+  pub modem : ℕ
+  pub walks : (P : Doing) → Walks P → InRings P (ring_fields s) list (ring_fields t)
+  pub loses : LosesOnly (to_send_with c a) (gone_in c a (to_take s)) line modem (ring_fields s) list (ring_fields t)
+  pub no_line : c ≢ call.TakeLine → line ≡ 0
+  pub no_modem : c ≢ call.TakeModem → modem ≡ 0
+  pub leaves : LeavesArmed (ring_fields s) list (ring_fields t)
+  pub arms : RearmsRing c a → Arms (ring_fields s) list (ring_fields t)
+
+-- a call that did this, and arms the rings only if it accepts bytes
+of_did : {G : RingDoing} (c : RingCall) (a : RingAnswer) (s t : RingState) (line modem : ℕ) → (did : RingDid MachineStep G s t) →
+    ((P : Doing) → Walks P → Implies G (InRings P)) →
+    LosesOnly (to_send_with c a) (gone_in c a (to_take s)) line modem (ring_fields s) did.list (ring_fields t) →
+    (c ≢ call.TakeLine → line ≡ 0) → (c ≢ call.TakeModem → modem ≡ 0) → Implies G LeavesArmed → (RearmsRing c a → Implies G Arms) →
+    Meant c a s t
+of_did c a s t line modem did walks loses no_line no_modem leaves arms = record {
+  list = did.list;
+  path = did.path;
+  line = line;
+  modem = modem;
+  walks = λ P w. walks P w (ring_fields s) did.list (ring_fields t) did.does;
+  loses = loses;
+  no_line = no_line;
+  no_modem = no_modem;
+  leaves = leaves (ring_fields s) did.list (ring_fields t) did.does;
+  arms = λ r. arms r (ring_fields s) did.list (ring_fields t) did.does;
+}
+
+-- what arms in any case leaves armed
+left_armed : {G : RingDoing} → Implies G Arms → Implies G LeavesArmed
+left_armed arms f l after t = λ unchecked known keeps armed. arms f l after t unchecked known
+
+-- no byte was accepted
+none : {T : Type 0} → 0 < length {A = ℕ} [] → T
+none some = absurd (omega (arith, some))
+
+-- `adjust_xoff` is a `queue_urgent`, or nothing
+tells : (wanted : Option Bool) (told : Option ℕ) (P : Doing) → Walks P → Implies (TellsIfAny wanted told) (InRings P)
+tells None told P w f l after t = walk.stays P w f l after t.1
+tells (Some on) told P w f l after t = walk.queues_urgent P w (flow_character on) None (with_told_xoff (not on) f) l after t.1
+
+adjusts_xoff : (marks : ReceiveMarks) (told : Option ℕ) (P : Doing) → Walks P → Implies (AdjustsXoff marks told) (InRings P)
+adjusts_xoff marks told P w f l after t = tells (at_marks marks f) told P w f l after t
+
+-- each call
+pub meaning_of : (s t : RingState) (c : RingCall) (a : RingAnswer) → IsUsual c → RingCallStep s c a t → Meant c a s t
+meaning_of s t (call.Queue bytes) a usual h = rw h.answered (
+  of_did (call.Queue bytes) _ s t 0 0 h.did (λ P w. walk.queues P w bytes.items h.outcome)
+  (losses.queues_lose_nothing bytes.items h.outcome (ring_fields s) h.did.list (ring_fields t) h.did.does) (λ n. refl) (λ m. refl)
+  (arming.queues_leave bytes.items h.outcome)
+  (λ some. arming.queues_arm bytes.items h.outcome (omega (arith, some, length-take h.outcome bytes.items)))
+)
+meaning_of s t call.ResumeTransmit a usual h =
+    of_did call.ResumeTransmit a s t 0 0 h.did (λ P w. walk.resumes P w)
+    (losses.resumes_lose_nothing (ring_fields s) h.did.list (ring_fields t) h.did.does) (λ n. refl) (λ m. refl)
+    (left_armed arming.resumes_arm) (λ r. arming.resumes_arm)
+meaning_of s t (call.Take slots) a usual h =
+    rw h.answered (of_did (call.Take slots) _ s t 0 0 h.did (λ P w. walk.takes P w slots h.outcome)
+    (losses.takes_lose_nothing slots h.outcome (ring_fields s) h.did.list (ring_fields t) h.did.does) (λ n. refl) (λ m. refl)
+    (arming.takes_leave slots h.outcome) none)
+meaning_of s t call.Service a usual h =
+    of_did call.Service a s t 0 0 h.did (λ P w. walk.services P w h.outcome)
+    (losses.services_lose_nothing h.outcome (ring_fields s) h.did.list (ring_fields t) h.did.does) (λ n. refl) (λ m. refl)
+    (arming.services_leave h.outcome) none
+meaning_of s t (call.Handle limit) a usual h =
+    of_did (call.Handle limit) a s t 0 0 h.did (λ P w. walk.handles P w limit h.outcome)
+    (losses.handles_lose_nothing limit h.outcome (ring_fields s) h.did.list (ring_fields t) h.did.does) (λ n. refl) (λ m. refl)
+    (arming.handles_leave limit h.outcome) none
+meaning_of s t call.Retrigger a usual h =
+    of_did call.Retrigger a s t 0 0 h.did (λ P w. walk.retriggers P w)
+    (losses.retriggers_lose_nothing (ring_fields s) h.did.list (ring_fields t) h.did.does) (λ n. refl) (λ m. refl)
+    arming.retriggers_leave none
+meaning_of s t call.TakeLine a usual h =
+    of_did call.TakeLine a s t h.outcome 0 h.did (λ P w. walk.takes_line P w h.outcome)
+    (losses.takes_line_loses_nothing h.outcome (ring_fields s) h.did.list (ring_fields t) h.did.does) (λ n. absurd (n refl)) (λ m. refl)
+    (arming.takes_line_leave h.outcome) none
+meaning_of s t call.TakeModem a usual h =
+    of_did call.TakeModem a s t 0 h.outcome h.did (λ P w. walk.takes_modem P w h.outcome)
+    (losses.takes_modem_loses_nothing h.outcome (ring_fields s) h.did.list (ring_fields t) h.did.does) (λ n. refl) (λ m. absurd (m refl))
+    (arming.takes_modem_leave h.outcome) none
+meaning_of s t call.HoldTransmit a usual h =
+    of_did call.HoldTransmit a s t 0 0 h.did (λ P w. walk.holds P w)
+    (losses.holds_lose_nothing (ring_fields s) h.did.list (ring_fields t) h.did.does) (λ n. refl) (λ m. refl)
+    arming.holds_leave none
+meaning_of s t call.ReleaseTransmit a usual h =
+    of_did call.ReleaseTransmit a s t 0 0 h.did (λ P w. walk.releases P w)
+    (losses.releases_lose_nothing (ring_fields s) h.did.list (ring_fields t) h.did.does) (λ n. refl) (λ m. refl)
+    (left_armed arming.releases_arm) (λ r. arming.releases_arm)
+meaning_of s t (call.QueueUrgent byte) a usual h =
+    rw h.answered (of_did (call.QueueUrgent byte) _ s t 0 0 h.did (λ P w. walk.queues_urgent P w byte h.outcome)
+    (losses.queues_urgent_loses_only byte h.outcome (ring_fields s) h.did.list (ring_fields t) h.did.does) (λ n. refl) (λ m. refl)
+    (left_armed (arming.queues_urgent_arm byte h.outcome)) (λ r. arming.queues_urgent_arm byte h.outcome))
+meaning_of s t call.ClearTransmit a usual h =
+    rw h.answered (of_did call.ClearTransmit _ s t 0 0 h.did (λ P w. walk.clears_transmit P w h.outcome)
+    (losses.clears_transmit_loses_only h.outcome (ring_fields s) h.did.list (ring_fields t) h.did.does) (λ n. refl) (λ m. refl)
+    (arming.clears_transmit_leave h.outcome) none)
+meaning_of s t call.ClearReceive a usual h =
+    of_did call.ClearReceive a s t 0 0 h.did (λ P w. walk.clears_receive P w h.outcome)
+    (losses.clears_receive_loses_nothing (ring_fields s) h.outcome h.did.list (ring_fields t) h.did.does) (λ n. refl) (λ m. refl)
+    (arming.clears_receive_leave h.outcome) none
+meaning_of s t (call.SetLowMark mark) a usual h =
+    of_did (call.SetLowMark mark) a s t 0 0 h.did (λ P w. walk.sets_low_mark P w mark)
+    (losses.sets_low_mark_loses_nothing mark (ring_fields s) h.did.list (ring_fields t) h.did.does) (λ n. refl) (λ m. refl)
+    (arming.sets_low_mark_leave mark) none
+meaning_of s t call.TakeLow a usual h =
+    of_did call.TakeLow a s t 0 0 h.did (λ P w. walk.takes_low P w h.outcome)
+    (losses.takes_low_loses_nothing h.outcome (ring_fields s) h.did.list (ring_fields t) h.did.does) (λ n. refl) (λ m. refl)
+    (arming.takes_low_leave h.outcome) none
+meaning_of s t (call.TryHandle limit rounds) a usual h =
+    of_did (call.TryHandle limit rounds) a s t 0 0 h.did (λ P w. walk.tries P w limit rounds h.outcome)
+    (losses.tries_lose_nothing limit rounds h.outcome (ring_fields s) h.did.list (ring_fields t) h.did.does) (λ n. refl) (λ m. refl)
+    (arming.tries_leave limit rounds h.outcome) none
+meaning_of s t (call.Restart interrupts) a usual h =
+    of_did (call.Restart interrupts) a s t 0 0 h.did (λ P w. walk.restarts P w interrupts.0)
+    (losses.restarts_lose_nothing interrupts.0 (ring_fields s) h.did.list (ring_fields t) h.did.does) (λ n. refl) (λ m. refl)
+    (left_armed (arming.restarts_arm interrupts.0)) (λ r. arming.restarts_arm interrupts.0)
+meaning_of s t (call.AdjustXoff marks) a usual h =
+    rw h.answered (of_did (call.AdjustXoff marks) _ s t 0 0 h.did (adjusts_xoff marks h.outcome)
+    (adjusts_xoff_loses_only marks h.outcome (ring_fields s) h.did.list (ring_fields t) h.did.does) (λ n. refl) (λ m. refl)
+    (adjusts_xoff_leave marks h.outcome) none)
+meaning_of s t (call.AdjustRts marks) a usual h = absurd usual
+meaning_of s t (call.Driver c) a usual h = absurd usual
+meaning_of s t call.Next a usual h = absurd usual
+
+-- ---- bytes in order
+
+-- a call of the driver that sends nothing has sent nothing
+pub none_sent : (c : Call) (a : Answer) → SendsNothing c → reported_by c a ≡ []
+none_sent (driver.TrySend byte) a n = absurd n
+none_sent (driver.Send bytes) a n = absurd n
+none_sent (driver.SendExact bytes) a n = absurd n
+none_sent (driver.Write bytes) a n = absurd n
+none_sent (driver.Text text) a n = absurd n
+none_sent other a n = refl
+
+-- a call that does not overtake or drop adds what it queues to what waits
+before_driver : (c : Call) (a : RingAnswer) (bytes : List ℕ) → SendsNothing c →
+    to_send_with (call.Driver c) a bytes ≡ bytes ++ queued_by (call.Driver c) a
+before_driver c (answers.Driver a) bytes o = rw (none_sent c a o) (sym (append-nil bytes))
+before_driver c other bytes o = refl
+
+pub in_order : (c : RingCall) (a : RingAnswer) (bytes : List ℕ) → KeepsOrder c → to_send_with c a bytes ≡ bytes ++ queued_by c a
+in_order (call.QueueUrgent byte) a bytes o = absurd o
+in_order call.ClearTransmit a bytes o = absurd o
+in_order (call.AdjustXoff marks) a bytes o = absurd o
+in_order (call.Driver c) a bytes o = before_driver c a bytes o
+in_order other a bytes o = refl
+
+-- what tells the rings nothing keeps the order
+pub keeps_order : (c : RingCall) → IsPlain c → KeepsOrder c
+keeps_order (call.QueueUrgent byte) plain = absurd plain
+keeps_order call.ClearTransmit plain = absurd plain
+keeps_order (call.AdjustXoff marks) plain = absurd plain
+keeps_order (call.Driver c) plain = plain.0
+keeps_order other plain = tt
