@@ -22,6 +22,7 @@ use uart_16550::emergency::EmergencyConsole;
 use uart_16550::ring::{
     ErrorNotes, Global, Handled, LinePort, LinePorts, Lowered, Memory, ReceiveMarks, RingError, StuckError, Uart16550Ring, UnnotedError,
 };
+use uart_16550::rs485::{BusyError, Direction, HalfDuplex, NotSendingError, SendError};
 use uart_16550::shared::{CriticalSection, Shared, SharedError, SharedLine, StartError, Unfinished, Wait};
 use uart_16550::spec::registers::{
     DLL, DLM, FCR, FifoTriggerLevel, IER, ISR, InterruptType, LCR, LSR, MCR, MSR, PSD, Parity, SPR,
@@ -236,6 +237,21 @@ calls! {
     design_ware_fault(backend: &DesignWare<DesignWareMemory>) -> Option<DesignWareFault> { backend.fault() }
     design_ware_registers_mut(backend: &mut DesignWare<DesignWareMemory>) -> &mut DesignWareMemory { backend.registers_mut() }
     design_ware_init(uart: &mut Uart16550<DesignWare<DesignWareMemory>>, config: Config) -> Result<(), InitError> { uart.checked_init(config) }
+    direction_receiving(direction: Direction, outputs: MCR) -> MCR { direction.receiving(outputs) }
+    half_duplex_new(uart: Uart16550<Device>, direction: Direction) -> Result<HalfDuplex<Device>, (Uart16550<Device>, BusyError)> { HalfDuplex::new(uart, direction) }
+    half_duplex_start_sending(bus: &mut HalfDuplex<Device>) { bus.start_sending() }
+    half_duplex_try_finish(bus: &mut HalfDuplex<Device>) -> Result<(), BusyError> { bus.try_finish() }
+    half_duplex_is_idle(bus: &mut HalfDuplex<Device>) -> bool { bus.is_idle() }
+    half_duplex_flush(bus: &mut HalfDuplex<Device>) -> Result<(), StalledError> { bus.flush() }
+    half_duplex_is_sending(bus: &HalfDuplex<Device>) -> bool { bus.is_sending() }
+    half_duplex_direction(bus: &HalfDuplex<Device>) -> Direction { bus.direction() }
+    half_duplex_inner(bus: &HalfDuplex<Device>) -> &Uart16550<Device> { bus.inner() }
+    half_duplex_into_inner(bus: HalfDuplex<Device>) -> Uart16550<Device> { bus.into_inner() }
+    half_duplex_send_bytes(bus: &mut HalfDuplex<Device>, bytes: &[u8]) -> Result<usize, NotSendingError> { bus.send_bytes(bytes) }
+    half_duplex_send_bytes_exact(bus: &mut HalfDuplex<Device>, bytes: &[u8]) -> Result<(), SendError> { bus.send_bytes_exact(bytes) }
+    half_duplex_receive_bytes(bus: &mut HalfDuplex<Device>, buffer: &mut [u8]) -> usize { bus.receive_bytes(buffer) }
+    half_duplex_receive_with_errors(bus: &mut HalfDuplex<Device>, slots: &mut [Received]) -> usize { bus.receive_with_errors(slots) }
+    half_duplex_lsr(bus: &mut HalfDuplex<Device>) -> LSR { bus.lsr() }
     wide_read(backend: &mut WideMemory, offset: u8) -> u8 { backend.read(offset) }
     wide_write(backend: &mut WideMemory, offset: u8, value: u8) { backend.write(offset, value) }
     wide_base(backend: &WideMemory) -> core::ptr::NonNull<u8> { backend.base() }
@@ -394,6 +410,9 @@ texts! {
     text_of_frame: FrameError;
     text_of_nearest: NearestDivisorError;
     text_of_tty: Uart16550TtyError;
+    text_of_busy: BusyError;
+    text_of_not_sending: NotSendingError;
+    text_of_at_bus: SendError;
     text_of_ring: RingError;
 }
 

@@ -125,6 +125,14 @@ def of_rings(path, text):
     return compiles(RING + ", mut slots: [u8; 2]" * bool(re.search(r"\bslots\b", text)), items=["use facade::ring;", *items])
 
 
+BUS = "bus: &mut HalfDuplex<Device>"
+
+
+def at_bus(parameters):
+    """An example that is the body of a function with a driver at a bus."""
+    return compiles(parameters, items=["use facade::rs485::*;"])
+
+
 def in_port():
     """An example that is the body of a method of a port."""
     return INCLUDE + [f"# {line}" for line in PORT] + ["# fn example(&mut self) {"], ["# } }"]
@@ -260,6 +268,23 @@ EXAMPLES = {
     "uart_design_ware::state::DesignWare::new": runs(*REGISTERS),
     "uart_design_ware::state::DesignWare::fault": runs(*DESIGN_WARE),
     "uart_design_ware::state::DesignWare::registers_mut": runs(*DESIGN_WARE),
+    "uart_rs485::direction::Direction": runs("use facade::rs485::*;"),
+    "uart_rs485::direction::Direction::receiving": at_bus(f"{UART}, direction: Direction"),
+    "uart_rs485::bus::HalfDuplex": at_bus(f"{BUS}, wait: fn(u32)"),
+    "uart_rs485::bus::HalfDuplex::new": at_bus("uart: Uart16550<Device>, direction: Direction"),
+    "uart_rs485::bus::HalfDuplex::start_sending": at_bus(BUS),
+    "uart_rs485::bus::HalfDuplex::try_finish": at_bus(BUS),
+    "uart_rs485::bus::HalfDuplex::is_idle": at_bus(BUS),
+    "uart_rs485::bus::HalfDuplex::flush": at_bus(BUS),
+    "uart_rs485::state::HalfDuplex::is_sending": at_bus(BUS),
+    "uart_rs485::state::HalfDuplex::direction": at_bus(f"{BUS}, direction: Direction"),
+    "uart_rs485::state::HalfDuplex::inner": at_bus(BUS),
+    "uart_rs485::state::HalfDuplex::into_inner": at_bus("bus: HalfDuplex<Device>"),
+    "uart_rs485::transfer::HalfDuplex::send_bytes": at_bus(f"{BUS}, bytes: &[u8]"),
+    "uart_rs485::transfer::HalfDuplex::send_bytes_exact": at_bus(BUS),
+    "uart_rs485::transfer::HalfDuplex::receive_bytes": at_bus(f"{BUS}, mut slots: [u8; 4]"),
+    "uart_rs485::transfer::HalfDuplex::receive_with_errors": at_bus(f"{BUS}, mut slots: [Received; 4]"),
+    "uart_rs485::transfer::HalfDuplex::lsr": at_bus(BUS),
     "uart_ring::ring::noted::Uart16550Ring::take_with_errors": compiles(
         NOTING_RING + ", mut slots: [Received; 2], mut breaks: u32", items=["use facade::{native::Received, ring, spec::registers::LSR};"]
     ),
@@ -435,7 +460,7 @@ EXAMPLES |= {
 # The package of the users that the examples of a crate name, under which name, and the shared file. The rings have a crate `uart_16550`.
 SHARED = {
     **{name: ("uart_16550", "uart_16550", FOR_DRIVER) for name in ("uart_spec", "uart_16550")},
-    **{name: ("uart_16550", "facade", FOR_DRIVER) for name in ("uart_design_ware", "uart_ring")},
+    **{name: ("uart_16550", "facade", FOR_DRIVER) for name in ("uart_design_ware", "uart_rs485", "uart_ring")},
     **{name: ("uart_16550_chip", "uart_16550_chip", FOR_CHIP) for name in ("uart_live", "uart_virtual")},
 }
 

@@ -23,6 +23,7 @@ ABOUT_CALLS = {
     "TerminalMade": "makes accesses as",
     "Did": "does as",
     "RingDid": "does as",
+    "BusDid": "does as",
     "TerminalDid": "does as",
 }
 UNIQUE = {"IsOnly": "returns the one value for which", "IsOnlyIfAny": "returns the one value, if there is one, for which"}

@@ -37,7 +37,7 @@ RULES = [
 # The crates that become packages. What ships is part of a program of a user, on any target. The others are parts of this repository's
 # programs. Of them, those of a page in a browser are also compiled for WebAssembly, where `usize` has 32 bits; the rest are of targets of
 # 64 bits.
-SHIPS = "uart_spec uart_16550 uart_design_ware uart_ring uart_waits uart_events uart_chip uart_live uart_virtual".split()
+SHIPS = "uart_spec uart_16550 uart_design_ware uart_rs485 uart_ring uart_waits uart_events uart_chip uart_live uart_virtual".split()
 OF_PROGRAMS = "uart_calls uart_run uart_ring_runs uart_link uart_language uart_play uart_judges uart_trace uart_port uart_machine".split()
 OF_THE_PAGE = "uart_calls uart_run uart_ring_runs uart_language uart_play uart_judges uart_trace uart_port".split()
 CRATES = SHIPS + OF_PROGRAMS
@@ -53,6 +53,7 @@ MAKE_RINGS = ["uart_ring", "uart_link", "uart_machine"]
 OF_TESTS = {
     "uart_16550": ["uart_calls", "uart_chip"],
     "uart_ring": ["uart_calls", "uart_live"],
+    "uart_rs485": ["uart_calls", "uart_live"],
     "uart_machine": ["uart_16550", "uart_ring", "uart_spec"],
 }
 

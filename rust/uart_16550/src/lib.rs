@@ -12,6 +12,7 @@ pub mod emergency;
 mod io;
 pub mod native;
 pub mod ring;
+pub mod rs485;
 #[cfg(target_has_atomic = "8")]
 pub mod shared;
 
@@ -37,6 +38,8 @@ pub mod proved {
     pub use uart_driver::proved as driver;
     #[doc(inline)]
     pub use uart_ring::proved as rings;
+    #[doc(inline)]
+    pub use uart_rs485::proved as rs485;
     #[doc(inline)]
     pub use uart_spec::proved as spec;
 }

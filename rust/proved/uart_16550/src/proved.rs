@@ -373,6 +373,19 @@ pub mod patience {}
 ///
 /// It uses [`fields`](crate::proved::driver#fields); `Doing` of this file; `Path` of `crates/uart_spec/specs/Access.antt`.
 ///
+/// <span id="Saving"></span>
+///
+/// # `Saving`
+///
+/// A list of the language whose reads are saved.
+///
+/// ```text
+/// abbrev pub Saving : Language → Doing
+/// Saving L f l after = L (settings_of f) l × (after ≡ saving f l)
+/// ```
+///
+/// It uses `Language` of `crates/uart_16550/specs/Grammar.antt`; `Doing`, `settings_of`, `saving` of this file.
+///
 /// <span id="Sets"></span>
 ///
 /// # `Sets`
@@ -398,7 +411,7 @@ pub mod patience {}
 /// ```
 ///
 /// It uses `Fields` of this file.
-#[doc(alias("backend_of", "fields", "IsFresh", "Made", "Did", "Sets", "with_limit"))]
+#[doc(alias("backend_of", "fields", "IsFresh", "Made", "Did", "Saving", "Sets", "with_limit"))]
 pub mod driver {}
 
 /// The state of a driver without its backend, as a value.
@@ -609,7 +622,7 @@ pub mod status {}
 ///     Next (Begins config divisor fifo) (Saving (WaitsFor LSR.TRANSMITTER_EMPTY.0 false)) f l after
 /// ```
 ///
-/// It uses [`Sets`](crate::proved::driver#Sets), [`ChecksPresence`](crate::proved::init#ChecksPresence); `Doing`, `Next`, `Saving`, `with_config` of `crates/uart_16550/specs/Driver.antt`; `DivisorOf`, `Begins`, `Ends` of this file; `WaitsFor` of `crates/uart_16550/specs/Transmit.antt`.
+/// It uses [`Saving`](crate::proved::driver#Saving), [`Sets`](crate::proved::driver#Sets), [`ChecksPresence`](crate::proved::init#ChecksPresence); `Doing`, `Next`, `with_config` of `crates/uart_16550/specs/Driver.antt`; `DivisorOf`, `Begins`, `Ends` of this file; `WaitsFor` of `crates/uart_16550/specs/Transmit.antt`.
 #[doc(alias("ChecksPresence", "Inits"))]
 pub mod init {}
 
@@ -651,7 +664,7 @@ pub mod checked {}
 /// SetsFrame config (Err cause) f l after = DivisorOf config (Err cause) × (l ≡ []) × (after ≡ f)
 /// ```
 ///
-/// It uses [`Sets`](crate::proved::driver#Sets), [`Only`](crate::proved::grammar#Only); `Doing`, `Next`, `Saving` of `crates/uart_16550/specs/Driver.antt`; `DivisorOf`, `frame_bits` of `crates/uart_16550/specs/Init.antt`; `with_frame`, `frame_writes` of this file.
+/// It uses [`Sets`](crate::proved::driver#Sets), [`Saving`](crate::proved::driver#Saving), [`Only`](crate::proved::grammar#Only); `Doing`, `Next` of `crates/uart_16550/specs/Driver.antt`; `DivisorOf`, `frame_bits` of `crates/uart_16550/specs/Init.antt`; `with_frame`, `frame_writes` of this file.
 ///
 /// <span id="ShowsIdle"></span>
 ///
@@ -666,6 +679,17 @@ pub mod checked {}
 ///
 /// It uses `Language`, `Asks` of `crates/uart_16550/specs/Grammar.antt`.
 ///
+/// <span id="switched"></span>
+///
+/// # `switched`
+///
+/// A value with these bits set, or cleared.
+///
+/// ```text
+/// abbrev pub switched : (on : Bool) → (bits value : ℕ) → ℕ
+/// switched on bits value = if on then bit_or value bits else without 8 value bits
+/// ```
+///
 /// <span id="SetsBreak"></span>
 ///
 /// # `SetsBreak`
@@ -677,7 +701,7 @@ pub mod checked {}
 /// SetsBreak on = Modifies offsets.LCR (switched on LCR.SET_BREAK.0)
 /// ```
 ///
-/// It uses `Language`, `Modifies` of `crates/uart_16550/specs/Grammar.antt`; `switched` of this file.
+/// It uses [`switched`](crate::proved::frame#switched); `Language`, `Modifies` of `crates/uart_16550/specs/Grammar.antt`.
 ///
 /// <span id="SetsControl"></span>
 ///
@@ -703,8 +727,8 @@ pub mod checked {}
 /// SetsOutput output on = Modifies offsets.MCR (λ mcr. unlooped (switched on output mcr))
 /// ```
 ///
-/// It uses `Language`, `Modifies` of `crates/uart_16550/specs/Grammar.antt`; `unlooped`, `switched` of this file.
-#[doc(alias("SetsFrame", "ShowsIdle", "SetsBreak", "SetsControl", "SetsOutput"))]
+/// It uses [`switched`](crate::proved::frame#switched); `Language`, `Modifies` of `crates/uart_16550/specs/Grammar.antt`; `unlooped` of this file.
+#[doc(alias("SetsFrame", "ShowsIdle", "switched", "SetsBreak", "SetsControl", "SetsOutput"))]
 pub mod frame {}
 
 /// Taking a port as it was set up.
@@ -726,7 +750,7 @@ pub mod frame {}
 /// Attaches (Err NoDivisor) f l after = Saving (FindsDivisor 0 0) f l after
 /// ```
 ///
-/// It uses [`Sets`](crate::proved::driver#Sets); `Doing`, `Next`, `Saving`, `with_fifo` of `crates/uart_16550/specs/Driver.antt`; `FindsPort`, `FindsLatch`, `FindsLoopback`, `FindsDivisor` of this file.
+/// It uses [`Saving`](crate::proved::driver#Saving), [`Sets`](crate::proved::driver#Sets); `Doing`, `Next`, `with_fifo` of `crates/uart_16550/specs/Driver.antt`; `FindsPort`, `FindsLatch`, `FindsLoopback`, `FindsDivisor` of this file.
 #[doc(alias("Attaches"))]
 pub mod attach {}
 
@@ -747,7 +771,7 @@ pub mod attach {}
 /// SetsTrigger level (Err e) f l after = (f.fifo ≡ false) × (l ≡ []) × (after ≡ f)
 /// ```
 ///
-/// It uses [`Sets`](crate::proved::driver#Sets), [`Only`](crate::proved::grammar#Only); `Doing`, `Next`, `Saving` of `crates/uart_16550/specs/Driver.antt`; `with_level`, `level_bits` of this file.
+/// It uses [`Sets`](crate::proved::driver#Sets), [`Saving`](crate::proved::driver#Saving), [`Only`](crate::proved::grammar#Only); `Doing`, `Next` of `crates/uart_16550/specs/Driver.antt`; `with_level`, `level_bits` of this file.
 ///
 /// <span id="SetsFrameWhenIdle"></span>
 ///
@@ -766,7 +790,7 @@ pub mod attach {}
 ///     Saving (WaitsFor LSR.TRANSMITTER_EMPTY.0 false) f l after
 /// ```
 ///
-/// It uses [`Sets`](crate::proved::driver#Sets), [`Only`](crate::proved::grammar#Only); `Doing`, `Next`, `Saving` of `crates/uart_16550/specs/Driver.antt`; `DivisorOf`, `frame_bits` of `crates/uart_16550/specs/Init.antt`; `WaitsFor` of `crates/uart_16550/specs/Transmit.antt`; `with_frame`, `frame_writes` of `crates/uart_16550/specs/Frame.antt`.
+/// It uses [`Saving`](crate::proved::driver#Saving), [`Sets`](crate::proved::driver#Sets), [`Only`](crate::proved::grammar#Only); `Doing`, `Next` of `crates/uart_16550/specs/Driver.antt`; `DivisorOf`, `frame_bits` of `crates/uart_16550/specs/Init.antt`; `WaitsFor` of `crates/uart_16550/specs/Transmit.antt`; `with_frame`, `frame_writes` of `crates/uart_16550/specs/Frame.antt`.
 ///
 /// <span id="InitsWith"></span>
 ///
@@ -791,7 +815,7 @@ pub mod attach {}
 ///     (Next (SetsUp setup config divisor fifo) (Saving (WaitsIf (is_last setup.wait) false)))) f l after))
 /// ```
 ///
-/// It uses [`Sets`](crate::proved::driver#Sets); `Doing`, `Next`, `with_config`, `Saving` of `crates/uart_16550/specs/Driver.antt`; `DivisorOf`, `Ends` of `crates/uart_16550/specs/Init.antt`; `Looks`, `SetsUp`, `WaitsIf`, `is_last`, `ChecksIf` of this file.
+/// It uses [`Sets`](crate::proved::driver#Sets), [`Saving`](crate::proved::driver#Saving); `Doing`, `Next`, `with_config` of `crates/uart_16550/specs/Driver.antt`; `DivisorOf`, `Ends` of `crates/uart_16550/specs/Init.antt`; `Looks`, `SetsUp`, `WaitsIf`, `is_last`, `ChecksIf` of this file.
 ///
 /// <span id="Quiesces"></span>
 ///
@@ -808,7 +832,7 @@ pub mod attach {}
 ///     (Sets (with_fifo (stays_on action f.fifo)))) f
 /// ```
 ///
-/// It uses [`Sets`](crate::proved::driver#Sets), [`Only`](crate::proved::grammar#Only); `Doing`, `Next`, `with_interrupts`, `Saving`, `with_fifo` of `crates/uart_16550/specs/Driver.antt`; `unlooped` of `crates/uart_16550/specs/Frame.antt`; `fifo_writes`, `stays_on` of this file.
+/// It uses [`Sets`](crate::proved::driver#Sets), [`Saving`](crate::proved::driver#Saving), [`Only`](crate::proved::grammar#Only); `Doing`, `Next`, `with_interrupts`, `with_fifo` of `crates/uart_16550/specs/Driver.antt`; `unlooped` of `crates/uart_16550/specs/Frame.antt`; `fifo_writes`, `stays_on` of this file.
 ///
 /// <span id="Restores"></span>
 ///
@@ -825,7 +849,7 @@ pub mod attach {}
 ///     (Sets (with_fifo fifo))) f l after
 /// ```
 ///
-/// It uses [`Sets`](crate::proved::driver#Sets), [`Only`](crate::proved::grammar#Only), [`divisor_of`](uart_spec::proved::dump#divisor_of); `Doing`, `Next`, `with_interrupts`, `Saving`, `with_fifo` of `crates/uart_16550/specs/Driver.antt`; `Then` of `crates/uart_16550/specs/Grammar.antt`; `line_writes`, `SetsFifo` of `crates/uart_16550/specs/Init.antt`; `dumped_level`, `last_writes` of this file.
+/// It uses [`Sets`](crate::proved::driver#Sets), [`Saving`](crate::proved::driver#Saving), [`Only`](crate::proved::grammar#Only), [`divisor_of`](uart_spec::proved::dump#divisor_of); `Doing`, `Next`, `with_interrupts`, `with_fifo` of `crates/uart_16550/specs/Driver.antt`; `Then` of `crates/uart_16550/specs/Grammar.antt`; `line_writes`, `SetsFifo` of `crates/uart_16550/specs/Init.antt`; `dumped_level`, `last_writes` of this file.
 #[doc(alias("SetsTrigger", "SetsFrameWhenIdle", "InitsWith", "Quiesces", "Restores"))]
 pub mod setup {}
 
@@ -888,7 +912,21 @@ pub mod expansion {}
 /// got (Ok count) slots = take count slots
 /// got (Err e) slots = []
 /// ```
-#[doc(alias("got"))]
+///
+/// <span id="Flushes"></span>
+///
+/// # `Flushes`
+///
+/// `flush`: a wait for an empty transmitter.
+///
+/// ```text
+/// abbrev pub Flushes : {T : Type 0} → Result T StalledError → Language
+/// Flushes (Ok x) s l = WaitsFor LSR.TRANSMITTER_EMPTY.0 true s l
+/// Flushes (Err e) s l = (e.done ≡ 0) × WaitsFor LSR.TRANSMITTER_EMPTY.0 false s l
+/// ```
+///
+/// It uses `Language` of `crates/uart_16550/specs/Grammar.antt`; `WaitsFor` of `crates/uart_16550/specs/Transmit.antt`.
+#[doc(alias("got", "Flushes"))]
 pub mod io {}
 
 /// The driver under a terminal, and how a terminal is set up.
@@ -1101,6 +1139,6 @@ pub mod mmio {}
 ///     ⊎ Next (Saving (BeginsTest mcr ier true)) (Tests mcr ier result) f l after)
 /// ```
 ///
-/// It uses `Doing`, `Saving`, `Next` of `crates/uart_16550/specs/Driver.antt`; `IsStalled`, `BeginsTest`, `Tests` of this file.
+/// It uses [`Saving`](crate::proved::driver#Saving); `Doing`, `Next` of `crates/uart_16550/specs/Driver.antt`; `IsStalled`, `BeginsTest`, `Tests` of this file.
 #[doc(alias("TestsLoopback"))]
 pub mod loopback {}

@@ -484,7 +484,7 @@ pub mod service {}
 /// Retriggers = OnDriver (Saving status.Retriggers) unchanged
 /// ```
 ///
-/// It uses [`Retriggers`](uart_16550::proved::status#Retriggers); `RingDoing`, `OnDriver`, `unchanged` of `crates/uart_ring/specs/Ring.antt`; `Saving` of `crates/uart_16550/specs/Driver.antt`.
+/// It uses [`Saving`](uart_16550::proved::driver#Saving), [`Retriggers`](uart_16550::proved::status#Retriggers); `RingDoing`, `OnDriver`, `unchanged` of `crates/uart_ring/specs/Ring.antt`.
 ///
 /// <span id="Handles"></span>
 ///

@@ -1,0 +1,155 @@
+-- That calls keep the direction.
+use Rattle.std.proofs.Common.{◌≡◌, ℕ, Bool, true, false, List, [], ◌∷◌, ◌++◌, Result, Ok, Err, arith, sym, ◌∙◌, ap, subst}
+use Rattle.uart_spec.specs.declared.access.Access.{Access}
+use Rattle.uart_spec.specs.declared.access.Access.TheVariants.{Read, Write}
+use Rattle.uart_spec.specs.declared.registers.line_status.TheConstants.LSR
+use Rattle.uart_spec.specs.declared.registers.offsets.TheConstants as offsets
+use Rattle.uart_spec.specs.Bits.{has}
+use Rattle.uart_16550.specs.Frame.{switched, unlooped}
+use Rattle.uart_rs485.specs.Bus.{BusFields, SendsBytes, SendsBytesExact, Stays, TriesToFinish, Turns, with_driver}
+use Rattle.uart_rs485.specs.Directions.{bit_of, level, sends_after}
+use Rattle.uart_rs485.specs.Laws.{BusCall, DoesCall, DoesCalls, CallsKeepDirection, KeepsFromNew}
+use Rattle.uart_rs485.specs.declared.direction.Direction.{Direction}
+use Rattle.uart_rs485.specs.declared.errors.BusyError.{BusyError}
+use Rattle.uart_rs485.specs.declared.errors.NotSendingError.{NotSendingError}
+use Rattle.uart_rs485.specs.declared.errors.SendError.{SendError}
+use Rattle.uart_rs485.specs.declared.errors.SendError.TheVariants.{NotSending, Stalled}
+use Rattle.uart_rs485.proofs.Allowing.{AllowsAll, allows_append, keeps_all, sends_after-append}
+use Rattle.uart_rs485.proofs.Quiet.{AllQuiet, quiet_allows, quiet_stays, idle_quiet, flush_quiet, sends_quiet, exact_quiet}
+use Rattle.uart_rs485.proofs.Quiet.{receives_quiet, receives_noted_quiet}
+use Rattle.uart_rs485.proofs.Turning.{switches_turn}
+
+-- the accesses are allowed, and afterwards a bus is taken to be sending exactly if it is
+record Kept (d : Direction) (before : Bool) (l : List Access) (after : BusFields) : Type 0 where
+  allows : AllowsAll d before false l
+  sends : after.sends ≡ sends_after d before l
+  direction : after.direction ≡ d
+
+abbrev KeptFrom : BusFields → List Access → BusFields → Type 0
+KeptFrom f l after = Kept f.direction f.sends l after
+
+-- no register but DATA is written, and that only while the transceiver sends
+quiet_kept : (f : BusFields) (l : List Access) (after : BusFields) → AllQuiet f.sends l → after ≡ with_driver after.driver f →
+    KeptFrom f l after
+quiet_kept f l after t same = record {
+  allows = quiet_allows f.direction f.sends false l t;
+  sends = ap (λ (x : BusFields). x.sends) same ∙ sym (quiet_stays f.direction f.sends l t);
+  direction = ap (λ (x : BusFields). x.direction) same;
+}
+
+stays_kept : (f : BusFields) (l : List Access) (after : BusFields) → Stays f l after → KeptFrom f l after
+stays_kept f l after t = rw t.0 (record {
+  allows = tt;
+  sends = ap (λ (x : BusFields). x.sends) t.1;
+  direction = ap (λ (x : BusFields). x.direction) t.1;
+})
+
+-- one list and then another
+then_kept : (d : Direction) (before : Bool) (l m : List Access) (mid after : BusFields) → Kept d before l mid → KeptFrom mid m after →
+    Kept d before (l ++ m) after
+then_kept d before l m mid after p q =
+    let P : Direction → Type 0 = λ e. AllowsAll e mid.sends false m in
+    let Q : Bool → Type 0 = λ sends. AllowsAll d sends false m in
+    record {
+      allows = allows_append d before false l m p.allows (subst Q p.sends (subst P p.direction q.allows));
+      sends = q.sends ∙ (λ i. sends_after (p.direction i) (p.sends i) m) ∙ sym (sends_after-append d before l m);
+      direction = q.direction ∙ p.direction;
+    }
+
+-- ---- the transceiver is switched
+
+-- what is written to MCR in this direction
+abbrev turned : Direction → (sends : Bool) → ℕ → ℕ
+turned d sends mcr = unlooped (switched (level d sends) (bit_of d.line) mcr)
+
+apart : offsets.MCR ≡ offsets.DATA → ⊥
+apart same = absurd (omega arith)
+
+turn_allows : (d : Direction) (before empty sends : Bool) (mcr : ℕ) → (sends ≡ false → empty ≡ true) →
+    AllowsAll d before empty (Read offsets.MCR mcr ∷ Write offsets.MCR (turned d sends mcr) ∷ [])
+turn_allows d before empty sends mcr due =
+    (tt, ((λ at. absurd (apart at), λ at off. due (sym (switches_turn d sends mcr) ∙ off)), tt))
+
+never : (e : Bool) → true ≡ false → e ≡ true
+never e wrong = absurd cc
+
+turns_kept : (f : BusFields) (l : List Access) (after : BusFields) → Turns true f l after → KeptFrom f l after
+turns_kept f l after t =
+    let made = t.0.0 in
+    record {
+      allows = rw made.1 (turn_allows f.direction f.sends false true made.0 (never false));
+      sends = ap (λ (x : BusFields). x.sends) t.1 ∙ rw made.1 (sym (switches_turn f.direction true made.0));
+      direction = ap (λ (x : BusFields). x.direction) t.1;
+    }
+
+-- LSR shows an empty transmitter, and the transceiver is switched to receive
+finished : (d : Direction) (before : Bool) (lsr mcr : ℕ) (l : List Access) → has lsr LSR.TRANSMITTER_EMPTY.0 ≡ true →
+    l ≡ Read offsets.LSR lsr ∷ Read offsets.MCR mcr ∷ Write offsets.MCR (turned d false mcr) ∷ [] →
+    AllowsAll d before false l × (sends_after d before l ≡ false)
+finished d before lsr mcr l shows is = rw is (
+  (tt, turn_allows d before (has lsr LSR.TRANSMITTER_EMPTY.0) false mcr (λ off. shows)),
+  switches_turn d false mcr,
+)
+
+finishes_kept : (f : BusFields) (l : List Access) (after : BusFields) (before : Bool) → TriesToFinish {T = Unit {0}} (Ok tt) f l after →
+    Kept f.direction before l after
+finishes_kept f l after before t =
+    let looked = t.first.0.0 in
+    let made = t.second.0.0 in
+    let way : t.mid.direction ≡ f.direction = ap (λ (x : BusFields). x.direction) t.first.1 in
+    let is : l ≡ Read offsets.LSR looked.answer ∷ Read offsets.MCR made.0 ∷
+    Write offsets.MCR (turned f.direction false made.0) ∷ [] =
+    t.whole ∙ (λ i. looked.is i ++ made.1 i)
+    ∙ ap (λ (d : Direction). Read offsets.LSR looked.answer ∷ Read offsets.MCR made.0 ∷
+    Write offsets.MCR (turned d false made.0) ∷ []) way in
+    let done = finished f.direction before looked.answer made.0 l looked.shows is in
+    record {
+      allows = done.0;
+      sends = ap (λ (x : BusFields). x.sends) t.second.1 ∙ sym done.1;
+      direction = ap (λ (x : BusFields). x.direction) t.second.1 ∙ way;
+    }
+
+-- ---- each call, and all of them
+
+tries_kept : (result : Result (Unit {0}) BusyError) (f : BusFields) (l : List Access) (after : BusFields) → TriesToFinish result f l after →
+    KeptFrom f l after
+tries_kept (Ok x) f l after t = finishes_kept f l after f.sends t
+tries_kept (Err e) f l after t = quiet_kept f l after (idle_quiet f.sends false _ l t.0.0) t.1
+
+sends_kept : (bytes : List ℕ) (result : Result ℕ NotSendingError) (f : BusFields) (l : List Access) (after : BusFields) →
+    SendsBytes bytes result f l after → KeptFrom f l after
+sends_kept bytes (Ok count) f l after t = quiet_kept f l after (sends_quiet f.sends t.0 bytes count _ l t.1.0.0) t.1.1
+sends_kept bytes (Err e) f l after t = stays_kept f l after t.1
+
+exact_kept : (bytes : List ℕ) (result : Result (Unit {0}) SendError) (f : BusFields) (l : List Access) (after : BusFields) →
+    SendsBytesExact bytes result f l after → KeptFrom f l after
+exact_kept bytes (Ok x) f l after t = quiet_kept f l after (exact_quiet f.sends t.0 bytes (Ok tt) _ l t.1.0.0) t.1.1
+exact_kept bytes (Err (Stalled e)) f l after t = quiet_kept f l after (exact_quiet f.sends t.0 bytes (Err e) _ l t.1.0.0) t.1.1
+exact_kept bytes (Err NotSending) f l after t = stays_kept f l after t.1
+
+call_kept : (call : BusCall) (f : BusFields) (l : List Access) (after : BusFields) → DoesCall call f l after → KeptFrom f l after
+call_kept BusCall.start_sending f l after t = turns_kept f l after t
+call_kept BusCall.try_finish f l after (result, t) = tries_kept result f l after t
+call_kept BusCall.is_idle f l after (idle, t) = quiet_kept f l after (idle_quiet f.sends idle _ l t.0.0) t.1
+call_kept BusCall.flush f l after (result, t) = quiet_kept f l after (flush_quiet f.sends result _ l t.0.0) t.1
+call_kept BusCall.lsr f l after (status, t) = quiet_kept f l after (rw t.0.1 (tt, tt)) t.1
+call_kept (BusCall.send_bytes bytes) f l after (result, t) = sends_kept bytes result f l after t
+call_kept (BusCall.send_bytes_exact bytes) f l after (result, t) = exact_kept bytes result f l after t
+call_kept (BusCall.receive_bytes slots) f l after (bytes, t) =
+    quiet_kept f l after (receives_quiet f.sends slots bytes _ l t.0.0) t.1
+call_kept (BusCall.receive_with_errors slots) f l after (items, t) =
+    quiet_kept f l after (receives_noted_quiet f.sends slots items _ l t.0.0) t.1
+
+calls_kept : (calls : List BusCall) (f : BusFields) (l : List Access) (after : BusFields) → DoesCalls calls f l after → KeptFrom f l after
+calls_kept [] f l after t = stays_kept f l after t
+calls_kept (call ∷ calls) f l after t = rw t.whole (then_kept f.direction f.sends t.front t.back t.mid after
+    (call_kept call f t.front t.mid t.first) (calls_kept calls t.mid t.back after t.second))
+
+pub calls_keep : CallsKeepDirection
+calls_keep calls f l after t =
+    let kept = calls_kept calls f l after t in (keeps_all f.direction f.sends l kept.allows, kept.sends)
+
+pub keeps_from_new : KeepsFromNew
+keeps_from_new d sends driver calls l m mid after t u =
+    let kept = then_kept d sends l m mid after (finishes_kept _ l mid sends t) (calls_kept calls mid m after u) in
+    (keeps_all d sends (l ++ m) kept.allows, kept.sends)

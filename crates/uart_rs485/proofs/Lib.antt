@@ -1,0 +1,5 @@
+pub mod Turning
+pub mod Allowing
+pub mod Quiet
+pub mod Keeping
+pub mod BusDoings

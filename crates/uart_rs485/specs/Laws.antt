@@ -1,0 +1,79 @@
+-- What all calls keep: the order of the accesses that switch the direction, write bytes, and look at the transmitter.
+use Rattle.std.specs.Prelude.{◌≡◌, ℕ, Bool, true, false, List, [], ◌∷◌, ◌++◌, Result, Ok}
+use Rattle.uart_spec.specs.declared.access.Access.{Access}
+use Rattle.uart_spec.specs.declared.access.Access.TheVariants.{Write}
+use Rattle.uart_spec.specs.declared.errors.StalledError.{StalledError}
+use Rattle.uart_spec.specs.declared.received.Received.{Received}
+use Rattle.uart_spec.specs.declared.registers.offsets.TheConstants as offsets
+use Rattle.uart_16550.specs.Driver.{Fields, Next, Saving}
+use Rattle.uart_16550.specs.Frame.{ShowsIdle, switched, unlooped}
+use Rattle.uart_16550.specs.Io.{Flushes}
+use Rattle.uart_16550.specs.Receive.{Receives, ReceivesWithErrors}
+use Rattle.uart_16550.specs.Status.{TakesLsr}
+use Rattle.uart_rs485.specs.Bus.{BusDoing, BusFields, OnDriver, SendsBytes, SendsBytesExact, Stays, TriesToFinish}
+use Rattle.uart_rs485.specs.Bus.{Turns, unchanged}
+use Rattle.uart_rs485.specs.Directions.{bit_of, empty_after, level, sends_after, sends_by}
+use Rattle.uart_rs485.specs.declared.direction.Direction.{Direction}
+use Rattle.uart_rs485.specs.declared.errors.BusyError.{BusyError}
+use Rattle.uart_rs485.specs.declared.errors.NotSendingError.{NotSendingError}
+use Rattle.uart_rs485.specs.declared.errors.SendError.{SendError}
+
+-- in this list, which begins while the transceiver sends or does not, each byte is written to DATA while it sends. And
+-- it is switched to receive only behind a look at LSR that showed an empty transmitter, with no byte written in between
+pub record KeepsDirection (d : Direction) (sends : Bool) (l : List Access) : Type 0 where
+  pub bytes : (before behind : List Access) (byte : ℕ) → l ≡ before ++ Write offsets.DATA byte ∷ behind →
+      sends_after d sends before ≡ true
+  pub turns : (before behind : List Access) (mcr : ℕ) → l ≡ before ++ Write offsets.MCR mcr ∷ behind →
+      sends_by d mcr ≡ false → empty_after false before ≡ true
+
+-- the calls at a bus that make accesses
+pub data BusCall : Type 0 where
+  start_sending try_finish is_idle flush lsr : BusCall
+  send_bytes send_bytes_exact : (bytes : List ℕ) → BusCall
+  receive_bytes receive_with_errors : (slots : ℕ) → BusCall
+
+-- what a call did, whatever it returned
+abbrev pub DoesCall : BusCall → BusDoing
+DoesCall start_sending f l after = Turns true f l after
+DoesCall try_finish f l after = (result : Result (Unit {0}) BusyError) × TriesToFinish result f l after
+DoesCall is_idle f l after = (idle : Bool) × OnDriver (Saving (ShowsIdle idle)) unchanged f l after
+DoesCall flush f l after =
+    (result : Result (Unit {0}) StalledError) × OnDriver (Saving (Flushes result)) unchanged f l after
+DoesCall lsr f l after = (status : ℕ) × OnDriver (TakesLsr status) unchanged f l after
+DoesCall (send_bytes bytes) f l after = (result : Result ℕ NotSendingError) × SendsBytes bytes result f l after
+DoesCall (send_bytes_exact bytes) f l after =
+    (result : Result (Unit {0}) SendError) × SendsBytesExact bytes result f l after
+DoesCall (receive_bytes slots) f l after =
+    (bytes : List ℕ) × OnDriver (Saving (Receives slots bytes)) unchanged f l after
+DoesCall (receive_with_errors slots) f l after =
+    (items : List Received) × OnDriver (Saving (ReceivesWithErrors slots items)) unchanged f l after
+
+-- what calls did, one after another
+abbrev pub DoesCalls : List BusCall → BusDoing
+DoesCalls [] = Stays
+DoesCalls (call ∷ calls) = Next (DoesCall call) (DoesCalls calls)
+
+-- any calls, in any order, keep the direction: and afterwards a bus is taken to be sending exactly if it is
+abbrev pub CallsKeepDirection : Type 0
+CallsKeepDirection = (calls : List BusCall) (f : BusFields) (l : List Access) (after : BusFields) →
+    DoesCalls calls f l after →
+    KeepsDirection f.direction f.sends l × (after.sends ≡ sends_after f.direction f.sends l)
+
+-- a `new` that succeeds, and then any calls, in any order, keep the direction, whatever it was before
+abbrev pub KeepsFromNew : Type 0
+KeepsFromNew = (d : Direction) (sends : Bool) (driver : Fields) (calls : List BusCall) (l m : List Access)
+    (mid after : BusFields) →
+    TriesToFinish {T = Unit {0}} (Ok tt) (record { driver = driver; direction = d; sends = true }) l mid →
+    DoesCalls calls mid m after →
+    KeepsDirection d sends (l ++ m) × (after.sends ≡ sends_after d sends (l ++ m))
+
+-- what is written to MCR, whatever was read of it, switches the transceiver as asked
+abbrev pub SwitchesTurn : Type 0
+SwitchesTurn = (d : Direction) (sends : Bool) (mcr : ℕ) →
+    sends_by d (unlooped (switched (level d sends) (bit_of d.line) mcr)) ≡ sends
+
+-- with the outputs of `receiving`, and also without loopback, the transceiver does not send
+abbrev pub OutputsReceive : Type 0
+OutputsReceive = (d : Direction) (outputs : ℕ) →
+    (sends_by d (switched (level d false) (bit_of d.line) outputs) ≡ false)
+    × (sends_by d (unlooped (switched (level d false) (bit_of d.line) outputs)) ≡ false)

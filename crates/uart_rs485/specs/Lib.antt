@@ -1,0 +1,3 @@
+pub mod Directions
+pub mod Bus
+pub mod Laws

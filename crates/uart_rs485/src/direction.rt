@@ -1,0 +1,88 @@
+//! Which output of the chip switches the transceiver, and how.
+ghost use Rattle.std.specs.Prelude.{◌≡◌, false};
+ghost use Rattle.uart_16550.specs.Frame.{switched};
+ghost use Rattle.uart_rs485.specs.Directions.{bit_of, level};
+
+use bitflags::Flags;
+use uart_spec::registers::MCR;
+
+/// The output of the chip that switches the transceiver.
+#[derive(Clone, Copy, Debug, PartialEq, Eq, Hash)]
+pub enum DirectionLine {
+    /// RTS, which most boards use.
+    Rts,
+    /// DTR.
+    Dtr,
+}
+
+/// How the transceiver is switched between its two directions.
+///
+/// The pin of an output is the other way round: it is low while the bit in MCR is set. So a
+/// transceiver at the pin itself, whose driver is on while its input DE is high, sends while the
+/// bit is clear. With an inverter between them it sends while the bit is set.
+///
+/// # Examples
+///
+/// ```
+/// // The transceiver sends while RTS is asserted.
+/// let direction = Direction {
+///     line: DirectionLine::Rts,
+///     sends_when_set: true,
+/// };
+/// ```
+#[derive(Clone, Copy, Debug, PartialEq, Eq, Hash)]
+pub struct Direction {
+    /// The output that switches the transceiver.
+    pub line: DirectionLine,
+    /// Whether the transceiver sends while the bit of the output is set in MCR. Else it sends while
+    /// the bit is clear.
+    pub sends_when_set: bool,
+}
+
+impl Direction {
+    // Returns the bit of the output.
+    fn bit(self) -> MCR
+        ensures { result.0 ≡ bit_of self.line }
+    {
+        match self.line {
+            DirectionLine::Rts => MCR::RTS,
+            DirectionLine::Dtr => MCR::DTR,
+        }
+    }
+
+    // Returns whether the bit of the output is set in this direction.
+    pub(crate) fn level(self, sends: bool) -> bool
+        ensures { result ≡ level self sends }
+    {
+        if sends {
+            self.sends_when_set
+        } else {
+            !self.sends_when_set
+        }
+    }
+
+    /// Returns these outputs with the line as it is to be while the transceiver receives.
+    ///
+    /// `init` raises RTS and DTR. On a bus with other ends that may send, initialise the chip with
+    /// these outputs instead, by `init_with`: else this end may hold the bus until
+    /// [`HalfDuplex::new`](crate::HalfDuplex::new).
+    ///
+    /// # Examples
+    ///
+    /// ```
+    /// let setup = Setup {
+    ///     outputs: direction.receiving(MCR::READY),
+    ///     ..Setup::DEFAULT
+    /// };
+    /// uart.init_with(Config::DEFAULT, &setup)?;
+    /// ```
+    pub fn receiving(self, outputs: MCR) -> MCR
+        ensures { result.0 ≡ switched (level self false) (bit_of self.line) outputs.0 }
+    {
+        if self.level(false) {
+            outputs.union(self.bit())
+        } else {
+            outputs.difference(self.bit())
+        }
+    }
+}

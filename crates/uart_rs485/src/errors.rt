@@ -1,0 +1,25 @@
+//! Why a call at the bus failed.
+use std::fmt;
+use thiserror::Error;
+use uart_spec::StalledError;
+
+/// The transmitter is not empty, so the bus was not given back.
+#[derive(Clone, Copy, Debug, PartialEq, Eq, Hash, Drop, Error)]
+#[error("the transmitter is not empty")]
+pub struct BusyError;
+
+/// The direction is not to send, so nothing was written.
+#[derive(Clone, Copy, Debug, PartialEq, Eq, Hash, Drop, Error)]
+#[error("the direction is not to send")]
+pub struct NotSendingError;
+
+/// Why not all bytes were sent.
+#[derive(Clone, Debug, PartialEq, Eq, Hash, Drop, Error)]
+pub enum SendError {
+    /// The direction is not to send. Nothing was written.
+    #[error("the direction is not to send")]
+    NotSending,
+    /// A wait for room ended at the spin limit.
+    #[error("{0}")]
+    Stalled(StalledError),
+}

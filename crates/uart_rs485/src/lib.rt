@@ -1,0 +1,17 @@
+//! A driver at a bus on which one end at a time may send, as RS-485 with two wires.
+//!
+//! A transceiver between the chip and the bus has two directions, and an output of the chip
+//! switches it. [`HalfDuplex`] is a driver whose calls switch it: no byte is written while the
+//! direction is not to send, and the bus is given back only when the transmitter is empty.
+#![tactic(auto)]
+
+mod bus;
+mod direction;
+mod errors;
+pub mod laws;
+mod state;
+mod transfer;
+
+pub use bus::HalfDuplex;
+pub use direction::{Direction, DirectionLine};
+pub use errors::{BusyError, NotSendingError, SendError};

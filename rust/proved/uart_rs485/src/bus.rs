@@ -1,0 +1,278 @@
+//! The driver with its direction: what it holds, the constructor, and the calls that switch.
+
+use crate::direction::{Direction, DirectionLine};
+use crate::errors::BusyError;
+use uart_16550::Uart16550;
+use uart_16550::backend::Backend;
+use uart_16550::embedded_io::Write;
+use uart_spec::StalledError;
+
+/// A driver at a bus on which one end at a time may send, as RS-485 with two wires.
+///
+/// `start_sending` switches the transceiver to send, and `try_finish` gives the bus back once the
+/// transmitter is empty. While the direction is not to send, `send_bytes` and `send_bytes_exact`
+/// write nothing and return an error. No call writes a byte or switches the direction otherwise,
+/// in whatever order they are made: that is proved.
+///
+/// The two delays are the caller's, by a clock of its own:
+///
+/// - Between `start_sending` and the first byte: as long as the transceiver takes to drive the bus,
+///   often some microseconds.
+/// - Between the end of the last byte and `try_finish`. `flush` and `is_idle` tell when the
+///   transmitter is empty. Some chips show that when the last stop bit begins, so wait as long as
+///   this bit takes, or two of them: at 9,600 baud 104 microseconds a bit. Most protocols let a
+///   remote wait longer than that before it answers.
+///
+/// No interrupt tells that the transmitter is empty: THR_EMPTY comes while the last byte is still
+/// in the shift register. So somebody polls, or waits for the time that the bytes take.
+///
+/// Whether the receiver hears what this end sends depends on the board. If it does, as many bytes
+/// as were sent are received: take them by `receive_bytes` between calls that send, before they
+/// overrun the receiver. If other bytes come, two ends sent at once. No call drops received bytes.
+///
+/// Only calls of this type keep the direction, so it lends no driver that could write. For other
+/// calls, as `set_frame`, take the driver back by `into_inner`, and give it to `new` again. The
+/// direction is by software: leave flow control by the chip off, which would drive RTS itself.
+///
+/// # Examples
+///
+/// ```
+/// # include!(concat!(env!("CARGO_MANIFEST_DIR"), "/examples.rs"));
+/// # fn main() {}
+/// # use facade::rs485::*;
+/// # fn example(bus: &mut HalfDuplex<Device>, wait: fn(u32)) -> Outcome<()> {
+/// // `wait` is a wait of this program's clock, in microseconds.
+/// bus.start_sending();
+/// wait(10);
+/// bus.send_bytes_exact(b"question")?;
+/// bus.flush()?;
+/// wait(208);
+/// bus.try_finish()?;
+/// # Ok(()) }
+/// ```
+// There is no model, as there is none of the driver: clauses speak of the fields through
+// `bus_fields` and `driver_of`.
+#[derive(Debug)]
+pub struct HalfDuplex<B> {
+    pub(crate) uart: Uart16550<B>,
+    pub(crate) direction: Direction,
+    pub(crate) is_sending: bool,
+}
+
+impl<B: Backend> HalfDuplex<B> {
+    /// Returns a driver at a bus that it may drive, with the transceiver switched to receive.
+    ///
+    /// Makes the accesses of `try_finish`, since an `init` or whoever had the port before may have
+    /// left the transceiver so that it sends, and may have sent. Does not wait. Initialise the
+    /// driver before, with the outputs of [`Direction::receiving`].
+    ///
+    /// # Errors
+    ///
+    /// `BusyError` if the transmitter is not empty. Nothing was written then, and the driver is
+    /// returned: `flush` it, and try again.
+    ///
+    /// # Examples
+    ///
+    /// ```
+    /// # include!(concat!(env!("CARGO_MANIFEST_DIR"), "/examples.rs"));
+    /// # fn main() {}
+    /// # use facade::rs485::*;
+    /// # fn example(uart: Uart16550<Device>, direction: Direction) -> Outcome<()> {
+    /// let mut bus = match HalfDuplex::new(uart, direction) {
+    ///     Ok(bus) => bus,
+    ///     Err((_uart, busy)) => return Err(busy.into()),
+    /// };
+    /// # Ok(()) }
+    /// ```
+    ///
+    /// # Proved
+    ///
+    /// - [`Begins`](crate::proved::bus#Begins) `B.step uart direction result`: as `try_finish` of a driver of whose direction nothing is known, so that it is taken to be to send. If the transmitter is not empty, the driver is returned.
+    ///
+    /// <details><summary>The clauses</summary>
+    ///
+    /// [How to read them](uart_spec::proved):
+    ///
+    /// ```text
+    /// ensures { Begins B.step uart direction result }
+    /// ```
+    ///
+    /// </details>
+    pub fn new(uart: Uart16550<B>, direction: Direction) -> Result<Self, (Uart16550<B>, BusyError)> {
+        // Nothing is known of the direction. If it is to send, it may be taken back only while the
+        // transmitter is empty.
+        let mut bus = HalfDuplex {
+            uart,
+            direction,
+            is_sending: true,
+        };
+        match bus.try_finish() {
+            Ok(()) => Ok(bus),
+            Err(busy) => Err((bus.uart, busy)),
+        }
+    }
+
+    // Switches the transceiver to send, or to receive.
+    fn turn(&mut self, sends: bool) {
+        let on = self.direction.level(sends);
+        match self.direction.line {
+            DirectionLine::Rts => self.uart.set_rts(on),
+            DirectionLine::Dtr => self.uart.set_dtr(on),
+        }
+        self.is_sending = sends;
+    }
+
+    /// Switches the transceiver to send: reads MCR, and writes it with the line so, as `set_rts` or
+    /// `set_dtr` of the driver do. From now on bytes may be sent.
+    ///
+    /// Does not wait. Before the first byte wait as long as the transceiver takes.
+    ///
+    /// # Examples
+    ///
+    /// ```
+    /// # include!(concat!(env!("CARGO_MANIFEST_DIR"), "/examples.rs"));
+    /// # fn main() {}
+    /// # use facade::rs485::*;
+    /// # fn example(bus: &mut HalfDuplex<Device>) -> Outcome<()> {
+    /// bus.start_sending();
+    /// assert!(bus.is_sending());
+    /// # Ok(()) }
+    /// ```
+    ///
+    /// # Proved
+    ///
+    /// - [Does as](crate::proved::bus#BusDid) [`Turns`](crate::proved::bus#Turns) `true`: the transceiver is switched: MCR is read, and written with the line as it is to be in this direction, without loopback, as by the driver's `set_rts` or `set_dtr`.
+    ///
+    /// <details><summary>The clauses</summary>
+    ///
+    /// [How to read them](uart_spec::proved):
+    ///
+    /// ```text
+    /// ensures { BusDid B.step (Turns true) self.old self.new }
+    /// ```
+    ///
+    /// </details>
+    pub fn start_sending(&mut self) {
+        self.turn(true);
+    }
+
+    /// Gives the bus back if the transmitter is empty: reads LSR once and, if it shows
+    /// `TRANSMITTER_EMPTY`, MCR, and writes that with the line so that the transceiver receives.
+    ///
+    /// Does not wait. The error bits that the read of LSR clears are saved for the next `lsr`. Call
+    /// it some time after `is_idle` was true or `flush` returned: some chips show an empty
+    /// transmitter while the last stop bit is still on the line.
+    ///
+    /// # Errors
+    ///
+    /// `BusyError` if the transmitter is not empty. Nothing was written, and the direction is as it
+    /// was.
+    ///
+    /// # Examples
+    ///
+    /// ```
+    /// # include!(concat!(env!("CARGO_MANIFEST_DIR"), "/examples.rs"));
+    /// # fn main() {}
+    /// # use facade::rs485::*;
+    /// # fn example(bus: &mut HalfDuplex<Device>) -> Outcome<()> {
+    /// bus.try_finish()?;
+    /// assert!(!bus.is_sending());
+    /// # Ok(()) }
+    /// ```
+    ///
+    /// # Proved
+    ///
+    /// - [Does as](crate::proved::bus#BusDid) [`TriesToFinish`](crate::proved::bus#TriesToFinish) `result`: a look at LSR shows that the transmitter is empty, and the transceiver is switched to receive; or it shows that it is not, and nothing else is done.
+    ///
+    /// <details><summary>The clauses</summary>
+    ///
+    /// [How to read them](uart_spec::proved):
+    ///
+    /// ```text
+    /// ensures { BusDid B.step (TriesToFinish result) self.old self.new }
+    /// ```
+    ///
+    /// </details>
+    pub fn try_finish(&mut self) -> Result<(), BusyError> {
+        // The look is part of the call that switches. A look of an earlier call would tell nothing
+        // of bytes that were sent after it.
+        if !self.uart.is_idle() {
+            return Err(BusyError);
+        }
+        self.turn(false);
+        Ok(())
+    }
+
+    /// Returns whether the transmitter is empty, as `is_idle` of the driver does: reads LSR once.
+    ///
+    /// Does not wait. The error bits that this clears are saved for the next `lsr`.
+    ///
+    /// # Examples
+    ///
+    /// ```
+    /// # include!(concat!(env!("CARGO_MANIFEST_DIR"), "/examples.rs"));
+    /// # fn main() {}
+    /// # use facade::rs485::*;
+    /// # fn example(bus: &mut HalfDuplex<Device>) -> Outcome<()> {
+    /// assert!(bus.is_idle());
+    /// # Ok(()) }
+    /// ```
+    ///
+    /// # Proved
+    ///
+    /// - [Does as](crate::proved::bus#BusDid) [`OnDriver`](crate::proved::bus#OnDriver) `(Saving (ShowsIdle result)) unchanged`: the driver does this, and of the other fields only this changes.
+    ///   - [`Saving`](uart_16550::proved::driver#Saving): a list of the language whose reads are saved.
+    ///   - [`ShowsIdle`](uart_16550::proved::frame#ShowsIdle): one read of LSR, which shows whether the transmitter is empty.
+    ///   - [`unchanged`](crate::proved::bus#unchanged): the fields as they are; with another driver; with this direction.
+    ///
+    /// <details><summary>The clauses</summary>
+    ///
+    /// [How to read them](uart_spec::proved):
+    ///
+    /// ```text
+    /// ensures { BusDid B.step (OnDriver (Saving (ShowsIdle result)) unchanged) self.old self.new }
+    /// ```
+    ///
+    /// </details>
+    pub fn is_idle(&mut self) -> bool {
+        self.uart.is_idle()
+    }
+
+    /// Waits until the transmitter is empty, at most `spin_limit` polls of LSR, as `flush` of the
+    /// driver does. The direction stays as it is.
+    ///
+    /// # Errors
+    ///
+    /// `StalledError`, with `done` 0, after `spin_limit` unsuccessful polls in a row.
+    ///
+    /// # Examples
+    ///
+    /// ```
+    /// # include!(concat!(env!("CARGO_MANIFEST_DIR"), "/examples.rs"));
+    /// # fn main() {}
+    /// # use facade::rs485::*;
+    /// # fn example(bus: &mut HalfDuplex<Device>) -> Outcome<()> {
+    /// bus.flush()?;
+    /// # Ok(()) }
+    /// ```
+    ///
+    /// # Proved
+    ///
+    /// - [Does as](crate::proved::bus#BusDid) [`OnDriver`](crate::proved::bus#OnDriver) `(Saving (Flushes result)) unchanged`: the driver does this, and of the other fields only this changes.
+    ///   - [`Saving`](uart_16550::proved::driver#Saving): a list of the language whose reads are saved.
+    ///   - [`Flushes`](uart_16550::proved::io#Flushes): a wait for an empty transmitter.
+    ///   - [`unchanged`](crate::proved::bus#unchanged): the fields as they are; with another driver; with this direction.
+    ///
+    /// <details><summary>The clauses</summary>
+    ///
+    /// [How to read them](uart_spec::proved):
+    ///
+    /// ```text
+    /// ensures { BusDid B.step (OnDriver (Saving (Flushes result)) unchanged) self.old self.new }
+    /// ```
+    ///
+    /// </details>
+    pub fn flush(&mut self) -> Result<(), StalledError> {
+        self.uart.flush()
+    }
+}
