@@ -6,6 +6,7 @@
 use core::fmt::{self, Write as _};
 use core::num::{NonZeroU64, NonZeroUsize};
 use uart_16550::Flags;
+use uart_16550::discovery::{self, OptionError, PciError, PortDescription, TableError, TreeError};
 use uart_16550::native::backend::{
     Backend, ByteAccess, ByteOrder, InvalidLayoutError, MmioBackend, PioBackend, PortAccess,
     DesignWare, DesignWareFault, DesignWareMemory, DesignWareRegisters, RegisterLayout, RegisterWidth, VolatileMemory, WideMemory,
@@ -318,6 +319,14 @@ calls! {
     dump_baud_rate(dump: &ConfigRegisterDump, config: &Config) -> Result<BaudRate, NonIntegerBaudRateError> { dump.baud_rate(config) }
     dump_checked_baud_rate(dump: &ConfigRegisterDump, config: &Config) -> Result<BaudRate, NonIntegerBaudRateError> { dump.checked_baud_rate(config) }
     config_is_computable(config: &Config) -> bool { config.is_computable() }
+    read_spcr(table: &[u8]) -> Result<PortDescription, TableError> { discovery::read_spcr(table) }
+    read_dbg2(table: &[u8]) -> Result<PortDescription, TableError> { discovery::read_dbg2(table) }
+    read_earlycon(text: &[u8]) -> Result<PortDescription, OptionError> { discovery::read_earlycon(text) }
+    read_console(text: &[u8]) -> Result<PortDescription, OptionError> { discovery::read_console(text) }
+    read_pci(header: &[u8], port: u8) -> Result<PortDescription, PciError> { discovery::read_pci(header, port) }
+    read_device_tree(blob: &[u8], native: ByteOrder) -> Result<PortDescription, TreeError> { discovery::read_device_tree(blob, native) }
+    read_tree_node(blob: &[u8], path: &[u8], native: ByteOrder) -> Result<PortDescription, TreeError> { discovery::read_tree_node(blob, path, native) }
+    config_of(port: &PortDescription) -> Config { discovery::config_of(port) }
     config_nearest(config: Config, per_mille: u32) -> Result<Config, NearestDivisorError> { config.nearest(per_mille) }
     config_checked_nearest(config: Config, per_mille: u32) -> Result<Config, NearestDivisorError> { config.checked_nearest(per_mille) }
     config_cmp(config: &Config, other: &Config) -> core::cmp::Ordering { config.cmp(other) }

@@ -15,7 +15,7 @@ OF_KIT = {packages.KIT: packages.KIT, packages.KIT_OF_RINGS: packages.KIT_OF_RIN
 USES = {
     "rust/kit": {},
     "rust/kit_of_rings": {packages.KIT: packages.KIT},
-    "rust/uart_16550": {**OF_KIT, "uart_spec": "uart_spec", "uart_driver": "uart_16550", "uart_design_ware": "uart_design_ware", "uart_rs485": "uart_rs485", "uart_ring": "uart_ring", "uart_waits": "uart_waits"},
+    "rust/uart_16550": {**OF_KIT, "uart_spec": "uart_spec", "uart_driver": "uart_16550", "uart_design_ware": "uart_design_ware", "uart_rs485": "uart_rs485", "uart_ring": "uart_ring", "uart_waits": "uart_waits", "uart_discovery": "uart_discovery"},
     "rust/uart_16550_chip": {packages.KIT: packages.KIT, **{name: name for name in ("uart_spec", "uart_live", "uart_virtual")}},
 }
 ODD = re.compile(r"\b(macro_use|no_implicit_prelude|register_tool|no_core|extern\s+crate)\b|#!?\[\s*(path)\b|\b(feature)\s*\(")

@@ -98,6 +98,9 @@ PORT = [
 LINE = ["use facade::ring::{self, *};", "const MAX_UNFINISHED_ROUNDS: u32 = 100;"]
 
 SPEC = "use facade::native::{*, spec::*};"
+DISCOVERY = "use facade::{discovery::*, native::backend::ByteOrder};"
+# An example that runs, in which `?` is of an option of a command line.
+FOUND = [f"# {DISCOVERY}"], ["# Ok::<(), OptionError>(())"]
 # The registers of a DesignWare UART in memory in place of a device, and a backend over them.
 REGISTERS = [
     "use core::num::NonZeroU64;",
@@ -237,6 +240,14 @@ EXAMPLES = {
     "uart_spec::checked::PSD::checked_set_pdf": runs("use facade::spec::registers::*;"),
     "uart_spec::layout::RegisterWidth::bytes": runs("use facade::native::backend::*;"),
     "uart_spec::layout::RegisterLayout": runs("use facade::native::backend::*;"),
+    "uart_discovery::port::PortDescription": FOUND,
+    "uart_discovery::acpi::spcr::read_spcr": runs(DISCOVERY),
+    "uart_discovery::acpi::dbg2::read_dbg2": runs(DISCOVERY),
+    "uart_discovery::command_line::read_earlycon": FOUND,
+    "uart_discovery::command_line::read_console": FOUND,
+    "uart_discovery::pci::read_pci": runs(DISCOVERY),
+    "uart_discovery::tree::console::read_tree_node": runs(DISCOVERY),
+    "uart_discovery::tree::console::read_device_tree": runs(DISCOVERY),
     "uart_16550::embedded_io::Uart16550::read": compiles(UART + ", slots: &mut [u8]"),
     "uart_16550::embedded_io::Uart16550::write": (
         INCLUDE + ["# fn example(writer: &mut Uart16550<Device>, bytes: &[u8], mut done: usize) -> Result<(), StalledError> {"],
@@ -460,7 +471,7 @@ EXAMPLES |= {
 # The package of the users that the examples of a crate name, under which name, and the shared file. The rings have a crate `uart_16550`.
 SHARED = {
     **{name: ("uart_16550", "uart_16550", FOR_DRIVER) for name in ("uart_spec", "uart_16550")},
-    **{name: ("uart_16550", "facade", FOR_DRIVER) for name in ("uart_design_ware", "uart_rs485", "uart_ring")},
+    **{name: ("uart_16550", "facade", FOR_DRIVER) for name in ("uart_design_ware", "uart_rs485", "uart_ring", "uart_discovery")},
     **{name: ("uart_16550_chip", "uart_16550_chip", FOR_CHIP) for name in ("uart_live", "uart_virtual")},
 }
 

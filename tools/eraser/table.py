@@ -37,7 +37,7 @@ RULES = [
 # The crates that become packages. What ships is part of a program of a user, on any target. The others are parts of this repository's
 # programs. Of them, those of a page in a browser are also compiled for WebAssembly, where `usize` has 32 bits; the rest are of targets of
 # 64 bits.
-SHIPS = "uart_spec uart_16550 uart_design_ware uart_rs485 uart_ring uart_waits uart_events uart_chip uart_live uart_virtual".split()
+SHIPS = "uart_spec uart_16550 uart_design_ware uart_rs485 uart_ring uart_waits uart_discovery uart_events uart_chip uart_live uart_virtual".split()
 OF_PROGRAMS = "uart_calls uart_run uart_ring_runs uart_link uart_language uart_play uart_judges uart_trace uart_port uart_machine".split()
 OF_THE_PAGE = "uart_calls uart_run uart_ring_runs uart_language uart_play uart_judges uart_trace uart_port".split()
 CRATES = SHIPS + OF_PROGRAMS
@@ -92,9 +92,11 @@ MAY_GROW = [
     "uart_ring::ring::storm::StuckError",
     "uart_spec::layout::InvalidLayoutError",
     *(f"uart_waits::errors::{name}Error" for name in ("Shared", "Start")),
+    *(f"uart_discovery::errors::{name}" for name in ("TableFault", "OptionError", "PciError", "TreeError")),
+    "uart_discovery::port::Interrupt",
 ]
 # Of these, the crates that others match, and the crates that do.
-GROWING = ["uart_spec", "uart_design_ware", "uart_ring", "uart_waits"]
+GROWING = ["uart_spec", "uart_design_ware", "uart_ring", "uart_waits", "uart_discovery"]
 NAME_EACH = ["uart_language"]
 
 # The functions that are `const fn`, so that callers can make a driver or a configuration in a `static`.
@@ -428,6 +430,25 @@ GUARDS |= {
     ),
 }
 # The backend for UARTs of DesignWare: what makes an access tests the offset.
+HEADER = ["requires { 64 ≤ length header.now }"]
+SPCR = ["requires { 80 ≤ length table.now }"]
+GUARDS |= {
+    "uart_discovery::acpi::address::registers_at": Guard(["requires { at + 12 ≤ length table.now }"], reason=INSIDE),
+    "uart_discovery::acpi::dbg2::device_at": Guard(["requires { at + 22 ≤ length table.now }"], reason=IN_FILE),
+    **{f"uart_discovery::acpi::spcr::{name}": Guard(SPCR, reason=IN_FILE) for name in ("precise_rate", "rate_of", "clock_of", "interrupt_of")},
+    "uart_discovery::bytes::le16": Guard(["requires { at + 2 ≤ length bytes.now }"], reason=INSIDE),
+    "uart_discovery::bytes::le32": Guard(["requires { at + 4 ≤ length bytes.now }"], reason=INSIDE),
+    "uart_discovery::bytes::le64": Guard(["requires { at + 8 ≤ length bytes.now }"], reason=INSIDE),
+    "uart_discovery::numbers::hexadecimal_digit": Guard(["requires { IsTrue (is_ascii_hexdigit digit) }"], reason=IN_FILE),
+    "uart_discovery::numbers::decimal_digit": Guard(["requires { IsTrue (is_ascii_digit digit) }"], reason=IN_FILE),
+    "uart_discovery::numbers::hexadecimal": Guard(
+        ["requires digits { IsTrue (list_all is_ascii_hexdigit word.now) }", "requires short { length word.now ≤ 16 }"], reason=IN_FILE
+    ),
+    "uart_discovery::numbers::decimal": Guard(
+        ["requires digits { IsTrue (list_all is_ascii_digit word.now) }", "requires short { length word.now ≤ 9 }"], reason=IN_FILE
+    ),
+    **{f"uart_discovery::pci::{name}": Guard(HEADER, reason=IN_FILE) for name in ("class_of", "base_of", "pin_of", "card_in", "distance")},
+}
 GUARDS["uart_design_ware::kept::KeptCharacters::keep"] = Guard(["requires { length self.old < KEPT }"], reason=INSIDE)
 for access in ("load", "store"):
     GUARDS[f"uart_design_ware::state::DesignWare::{access}"] = Guard(
@@ -578,14 +599,22 @@ CASTS = {
     **{f"uart_calls::replay::Replay::{name}": ["register_offset"] for name in ("read", "write")},
     **{f"uart_calls::tape::Tape::{name}": ["register_offset"] for name in ("read", "write")},
     **{f"uart_trace::recorder::Recorder::{name}": ["register_offset"] for name in ("read", "write")},
+    "uart_discovery::acpi::table::checked_table": ["le32 ( bytes , LENGTH )"],
+    "uart_discovery::acpi::dbg2::read_dbg2": ["le32 ( table , DEVICES )"],
+    "uart_discovery::tree::blob::field": ["number"],
+    "uart_discovery::tree::address::address_cells": ["cells . unwrap_or ( ADDRESS_CELLS )"],
+    "uart_discovery::tree::address::size_cells": ["cells . unwrap_or ( SIZE_CELLS )"],
     "uart_language::rendering::push_divisor_error": ["* divisor"],
     "uart_language::fields::count_in": ["count"],
     "uart_language::fields::wire_capacity_in": ["capacity"],
 }
-# Numbers above 65,535 that are no constants of `u32` or `u64`: the file, and the numbers. They are baud rates, the largest wire, and the
-# most bytes of a script.
+# Numbers above 65,535 that are no constants of `u32` or `u64`: the file, and the numbers. They are baud rates, the largest wire, the
+# most bytes of a script, and places of bytes in numbers of `u32` and `u64`.
 LARGE = {
     "uart_spec/src/config.rt": ["115_200"],
+    "uart_discovery/src/acpi/spcr.rt": ["115_200"],
+    "uart_discovery/src/pci.rt": ["0x1_0000", "0x1_0000_0000"],
+    "uart_discovery/src/tree/address.rt": ["0x1_0000_0000"],
     **{file: ["65_536"] for file in ("uart_events/src/event.rt", "uart_language/src/limits.rt")},
 }
 # Words that no emitted code has: what is unsafe, what depends on the target or on how it is compiled, and what is a proof's.

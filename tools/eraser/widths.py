@@ -10,6 +10,8 @@ from words import KEYWORDS
 U8, U16, U32, U64 = "of u8", "of u16", "of u32", "of u64"
 OF_A_SLICE = "counts bytes of a slice, and says what it does above usize::MAX"
 AT_MOST = "no more than what is before it, and not below 0"
+OF_A_PLACE = "a place in a blob: what does not fit is behind its end, and refused"
+AT_MOST_PLACES = "of at most 16 nodes, and what is below 0 is refused"
 OF_ADDRESSES = "an address: `new` refuses what does not fit"
 LISTED = {
     "uart_spec/src/baud.rt": {
@@ -47,6 +49,21 @@ LISTED = {
     "uart_16550/src/pio.rt": {"base . checked_add": U16},
     "uart_16550/src/tty.rt": {"done . saturating_add": OF_A_SLICE},
     "uart_design_ware/src/kept.rt": {"cells . rotate_left": "of a slice: moves its cells, by one"},
+    "uart_discovery/src/bytes.rt": {"sum . wrapping_add": U8},
+    "uart_discovery/src/numbers.rt": {"value * 16": U64, "value * 10": U32},
+    "uart_discovery/src/pci.rt": {") * 0x1_0000": U32, ") * 0x100": U32, ") * 0x1_0000_0000": U64, ") * u64": U64, "address . checked_add": U64},
+    "uart_discovery/src/tree/address.rt": {
+        "at . checked_add": OF_A_PLACE,
+        ") * 0x1_0000_0000": U64,
+        "address . checked_sub": U64,
+        "to . checked_add": U64,
+        "4 * inner": "at most 8",
+        "4 * (": "at most 24",
+    },
+    "uart_discovery/src/tree/blob.rt": {"at . checked_add": OF_A_PLACE},
+    "uart_discovery/src/tree/console.rt": {"count . wrapping_add": U8, "? . checked_add": U64},
+    "uart_discovery/src/tree/node.rt": {"depth . checked_add": U32, "depth . checked_sub": U32},
+    "uart_discovery/src/tree/path.rt": {"count . checked_sub": AT_MOST_PLACES, "last . checked_sub": AT_MOST_PLACES},
     "uart_chip/src/controlling.rt": {"u16 * 256": U16},
     "uart_chip/src/receiver.rt": {"4 * char_ticks": U16},
     "uart_chip/src/receiving.rt": {"ticks . saturating_add": U32, ") . saturating_sub": AT_MOST},

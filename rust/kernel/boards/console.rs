@@ -23,6 +23,12 @@ mod start;
 
 use core::fmt::{self, Write};
 use core::num::NonZeroU64;
+#[cfg(any(found_by = "tree", found_by = "pci", found_by = "command line"))]
+use uart_16550::discovery;
+#[cfg(found_by = "tree")]
+use uart_16550::native::backend::ByteOrder;
+#[cfg(not(reached_by = "ports"))]
+use uart_16550::native::backend::RegisterLayout;
 use uart_16550::native::spec::registers::LSR;
 use uart_16550::native::{
     BaudRate, Config, InitError, LoopbackError, NearestDivisorError, StalledError, Uart16550,
@@ -119,19 +125,102 @@ fn stop() -> ! {
     }
 }
 
+/// Where the chip is, how its registers lie, and its clock.
+struct Place {
+    base: usize,
+    #[cfg(not(reached_by = "ports"))]
+    layout: RegisterLayout,
+    frequency: u32,
+}
+
+// Of a board that says nothing to a kernel this is known from its table.
+#[cfg(not(any(found_by = "tree", found_by = "pci", found_by = "command line")))]
+fn place(_first: usize, _second: usize) -> Result<Place, Failure> {
+    Ok(Place {
+        base: board::BASE,
+        #[cfg(not(reached_by = "ports"))]
+        layout: board::LAYOUT,
+        frequency: board::FREQUENCY,
+    })
+}
+
+// A device tree's address is in the first register of a call on PowerPC, and in the second one on RISC-V, behind the processor's number.
+#[cfg(found_by = "tree")]
+fn place(first: usize, second: usize) -> Result<Place, Failure> {
+    let address = if cfg!(target_arch = "powerpc") {
+        first
+    } else {
+        second
+    };
+    let start = core::ptr::with_exposed_provenance::<u8>(address);
+    // SAFETY: whoever started this program has put a device tree there, whose size is in its second word.
+    let tree = unsafe {
+        let size = u32::from_be(start.cast::<u32>().add(1).read_unaligned());
+        core::slice::from_raw_parts(start, size as usize)
+    };
+    found(&discovery::read_device_tree(tree, ByteOrder::NATIVE).map_err(|_| Failure::NoRegisters)?)
+}
+
+// The command line of a kernel that is started by PVH: its address is at offset 24 of the loader's information.
+#[cfg(found_by = "command line")]
+fn place(information: usize, _second: usize) -> Result<Place, Failure> {
+    const COMMAND_LINE: usize = 24;
+    const LONGEST: usize = 256;
+    let mut line = [0; LONGEST];
+    // SAFETY: the loader has put its information and the command line there, which ends with a byte 0.
+    unsafe {
+        let information = core::ptr::with_exposed_provenance::<u8>(information);
+        let address = information.add(COMMAND_LINE).cast::<u32>().read_unaligned();
+        let text = core::ptr::with_exposed_provenance::<u8>(address as usize);
+        for (index, slot) in line.iter_mut().enumerate() {
+            match text.add(index).read() {
+                0 => break,
+                byte => *slot = byte,
+            }
+        }
+    }
+    let console = line
+        .split(|byte| matches!(byte, 0 | b' '))
+        .find_map(|word| word.strip_prefix(b"console="))
+        .ok_or(Failure::NoRegisters)?;
+    found(&discovery::read_console(console).map_err(|_| Failure::NoRegisters)?)
+}
+
+#[cfg(found_by = "pci")]
+fn place(_first: usize, _second: usize) -> Result<Place, Failure> {
+    let port = pci::find_serial().ok_or(Failure::NoRegisters)?;
+    let place = found(&port)?;
+    // The board shows its I/O space in memory.
+    Ok(Place {
+        base: place.base + pci::IO_SPACE,
+        ..place
+    })
+}
+
+// What a description says to this program.
+#[cfg(any(found_by = "tree", found_by = "pci", found_by = "command line"))]
+fn found(port: &discovery::PortDescription) -> Result<Place, Failure> {
+    Ok(Place {
+        base: usize::try_from(port.base).map_err(|_| Failure::NoRegisters)?,
+        #[cfg(not(reached_by = "ports"))]
+        layout: port.layout,
+        frequency: discovery::config_of(port).frequency,
+    })
+}
+
 #[cfg(reached_by = "ports")]
-fn registers() -> Result<Registers, Failure> {
+fn registers(place: &Place) -> Result<Registers, Failure> {
     // SAFETY: the board has its chip there, and this program alone uses it.
-    unsafe { Registers::new(board::BASE as u16) }.map_err(|_| Failure::NoRegisters)
+    unsafe { Registers::new(place.base as u16) }.map_err(|_| Failure::NoRegisters)
 }
 
 #[cfg(not(reached_by = "ports"))]
-fn registers() -> Result<Registers, Failure> {
-    let base = core::num::NonZeroUsize::new(board::BASE).ok_or(Failure::NoRegisters)?;
+fn registers(place: &Place) -> Result<Registers, Failure> {
+    let base = core::num::NonZeroUsize::new(place.base).ok_or(Failure::NoRegisters)?;
     #[cfg(reached_by = "bytes")]
-    let layout = board::LAYOUT.stride;
+    let layout = place.layout.stride;
     #[cfg(reached_by = "registers")]
-    let layout = board::LAYOUT;
+    let layout = place.layout;
     // SAFETY: the board has its chip there, and this program alone uses it.
     unsafe { Registers::from_address(base, layout) }.map_err(|_| Failure::NoRegisters)
 }
@@ -192,10 +281,10 @@ fn send_pattern(console: &mut Console) -> Result<u32, Failure> {
     Ok(stalls)
 }
 
-fn run(console: &mut Console) -> Result<(), Failure> {
+fn run(console: &mut Console, frequency: u32) -> Result<(), Failure> {
     console.set_spin_limit(SPIN_LIMIT);
     let config = Config {
-        frequency: board::FREQUENCY,
+        frequency,
         baud_rate: BaudRate::Baud115200,
         ..Config::DEFAULT
     };
@@ -213,12 +302,17 @@ fn run(console: &mut Console) -> Result<(), Failure> {
 }
 
 #[unsafe(no_mangle)]
-extern "C" fn kernel_main() -> ! {
+extern "C" fn kernel_main(first: usize, second: usize) -> ! {
     #[cfg(needs = "pci")]
     pci::place_serial();
-    let Ok(registers) = registers() else { stop() };
+    let Ok(place) = place(first, second) else {
+        stop()
+    };
+    let Ok(registers) = registers(&place) else {
+        stop()
+    };
     let mut console = Uart16550::new_with_backend(registers);
-    if let Err(failure) = run(&mut console) {
+    if let Err(failure) = run(&mut console, place.frequency) {
         // The chip may send even though it is not as it should be.
         let _ = say(&mut console, format_args!("{failure}"));
         stop()

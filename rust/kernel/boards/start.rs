@@ -14,6 +14,9 @@ global_asm!(
     ".globl start32",
     "start32:",
     "mov esp, offset stack_end",
+    // The loader's information is the first argument.
+    "sub esp, 12",
+    "push ebx",
     "call kernel_main",
     ".section .bss, \"aw\", @nobits",
     ".balign 16",
@@ -161,23 +164,24 @@ global_asm!(
     "bl kernel_main",
 );
 
-// An e500 has the memory of its devices not yet mapped: 16 MiB from 0xe0000000 on, not cached, guarded.
+// An e500 has the memory of its devices not yet mapped: 16 MiB from 0xe0000000 on, not cached, guarded. The register 3 has the address of
+// the device tree, and keeps it.
 #[cfg(all(target_arch = "powerpc", needs = "e500"))]
 global_asm!(
     ".section .text.start, \"ax\"",
     ".globl start",
     "start:",
-    "lis 3, 0x100f",
-    "mtspr 624, 3",
-    "lis 3, 0x8000",
-    "ori 3, 3, 0x0700",
-    "mtspr 625, 3",
-    "lis 3, 0xe000",
-    "ori 3, 3, 0x000a",
-    "mtspr 626, 3",
-    "lis 3, 0xe000",
-    "ori 3, 3, 0x003f",
-    "mtspr 627, 3",
+    "lis 5, 0x100f",
+    "mtspr 624, 5",
+    "lis 5, 0x8000",
+    "ori 5, 5, 0x0700",
+    "mtspr 625, 5",
+    "lis 5, 0xe000",
+    "ori 5, 5, 0x000a",
+    "mtspr 626, 5",
+    "lis 5, 0xe000",
+    "ori 5, 5, 0x003f",
+    "mtspr 627, 5",
     "isync",
     "tlbwe",
     "isync",

@@ -7,6 +7,7 @@
 mod access;
 #[cfg(feature = "compat")]
 pub mod compat;
+pub mod discovery;
 pub mod emergency;
 #[cfg(all(feature = "compat", feature = "embedded-io"))]
 mod io;
@@ -34,6 +35,8 @@ pub use native::*;
 pub mod proved {
     #[doc(inline)]
     pub use uart_design_ware::proved as design_ware;
+    #[doc(inline)]
+    pub use uart_discovery::proved as discovery;
     #[doc(inline)]
     pub use uart_driver::proved as driver;
     #[doc(inline)]

@@ -1,0 +1,9 @@
+use Rattle.std.proofs.Common.{rules, eqb}
+use Rattle.std.proofs.lemmas.Iterator.Consumers.{count_from_yields_List}
+use Rattle.std.proofs.lemmas.Iterator.Splits.{YieldsList-from_slice_split}
+use Rattle.uart_discovery.proofs.command_line.part_count.Goals as goal
+
+pub returns : goal.returns
+returns c =
+    count_from_yields_List _ _ c.count.ensures.ran (YieldsList-from_slice_split _ (λ b. eqb b 44) c.args.text.now c.split.ensures.rest
+    c.split.ensures.done c.split.ensures.closure (λ x b q k. search rules))

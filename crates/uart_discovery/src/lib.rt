@@ -1,0 +1,23 @@
+//! Where a serial port is and how it is set up, from the bytes by which firmware and boot loaders
+//! say it.
+//!
+//! Each function takes bytes and returns a [`PortDescription`], or what is wrong with the bytes. It
+//! returns for any bytes, allocates nothing, and does not call itself.
+#![tactic(auto)]
+
+mod acpi;
+mod bytes;
+mod command_line;
+mod errors;
+mod numbers;
+mod pci;
+mod port;
+mod tree;
+
+pub use acpi::dbg2::read_dbg2;
+pub use acpi::spcr::read_spcr;
+pub use command_line::{read_console, read_earlycon};
+pub use errors::{OptionError, PciError, TableError, TableFault, TreeError};
+pub use pci::read_pci;
+pub use port::{AddressSpace, Interrupt, PortDescription};
+pub use tree::console::{read_device_tree, read_tree_node};

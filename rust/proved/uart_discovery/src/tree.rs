@@ -1,0 +1,7 @@
+//! Device trees, in the form of a blob.
+
+pub mod address;
+pub mod blob;
+pub mod console;
+pub mod node;
+pub mod path;
