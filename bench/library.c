@@ -133,6 +133,14 @@ static void port_byte_in_and_read(void)
     }
 }
 
+/* With all interrupts enabled: the line goes up and down. */
+static void port_byte_in_and_read_enabled(void)
+{
+    uart_port_write(&port, UART_OFFSET_IER, ALL_INTERRUPTS, &todo);
+    digest += uart_port_read(&port, UART_OFFSET_ISR, &todo);
+    port_byte_in_and_read();
+}
+
 __attribute__((noinline)) static void save(void)
 {
     saved = chip;
@@ -169,6 +177,7 @@ static const struct {
     { "port-lsr", port_lsr },
     { "port-data-write", port_data_write },
     { "port-byte-in-and-read", port_byte_in_and_read },
+    { "port-byte-in-and-read-enabled", port_byte_in_and_read_enabled },
     { "save-and-restore", save_and_restore },
 };
 

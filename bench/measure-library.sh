@@ -41,5 +41,6 @@ each interrupt-enabled uart_chip_is_interrupting
 each port-lsr uart_port_read
 each port-data-write uart_port_write uart_port_take_output
 each port-byte-in-and-read uart_port_receive uart_port_read
+each port-byte-in-and-read-enabled uart_port_receive uart_port_read
 each save-and-restore save
 each save-and-restore restore

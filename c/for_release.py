@@ -1,8 +1,8 @@
 #!/usr/bin/env python3
 """Makes the archive of the C for a release: c/for_release.py [--unreleased] FOLDER
 
-FOLDER, which is made if it is not there, gets u16550-VERSION.tar.gz: the pairs of files, what builds and installs them, the example, the page
-on how they are used, and the licences. The same commit always gives the same bytes. Prints the path of the archive.
+FOLDER, which is made if it is not there, gets u16550-VERSION.tar.gz: the pairs of files, what builds and installs them, the example, the
+pages on how they are installed and used, and the licences. The same commit always gives the same bytes. Prints the path of the archive.
 
 The version is that of the packages of Rust. Refuses a checkout that has what is in no commit, a changelog of the driver whose newest section
 is not this version with a date, and an address that nobody has; `--unreleased` lets these be, as `integration/c` does, which tries all of
@@ -12,6 +12,7 @@ import argparse
 import gzip
 import io
 import pathlib
+import posixpath
 import re
 import subprocess
 import sys
@@ -19,8 +20,8 @@ import tarfile
 import tomllib
 
 TOP = pathlib.Path(__file__).resolve().parent.parent
-# What is beside the files of this folder. Links of the page lead out of the archive, into the repository.
-BESIDE = {"LICENSE-APACHE": "LICENSE-APACHE", "LICENSE-MIT": "LICENSE-MIT", "README.md": "docs/C.md"}
+# What is beside the files of this folder. Links of its pages lead to what is in the archive, or out of it, into the repository.
+BESIDE = {"LICENSE-APACHE": "LICENSE-APACHE", "LICENSE-MIT": "LICENSE-MIT", "C.md": "docs/C.md"}
 NOT_SHIPPED = {"for_release.py"}
 CHANGES = "rust/uart_16550/CHANGELOG.md"
 # The host of an address that nobody has: https://www.rfc-editor.org/rfc/rfc2606
@@ -57,18 +58,21 @@ def causes():
 def files():
     """The names in the archive, in order, with what they have."""
     listed = subprocess.run(["git", "-C", TOP, "ls-files", "-z", "c"], capture_output=True, text=True, check=True).stdout
-    found = {name.removeprefix("c/"): (TOP / name).read_bytes() for name in filter(None, listed.split("\0")) if name.removeprefix("c/") not in NOT_SHIPPED}
-    for name, source in BESIDE.items():
-        found[name] = (TOP / source).read_bytes()
-    found["README.md"] = LINK.sub(lambda link: f"]({target(link[1])})", found["README.md"].decode("utf-8")).encode("utf-8")
+    names = {name: name.removeprefix("c/") for name in filter(None, listed.split("\0")) if name.removeprefix("c/") not in NOT_SHIPPED}
+    names |= {source: name for name, source in BESIDE.items()}
+    found = {name: (TOP / source).read_bytes() for source, name in names.items()}
+    for source, name in names.items():
+        if name.endswith(".md"):
+            text = LINK.sub(lambda link, page=source: f"]({target(page, link[1], names)})", found[name].decode("utf-8"))
+            found[name] = text.encode("utf-8")
     return dict(sorted(found.items()))
 
 
-def target(link):
-    """Where a link of the page leads from the archive: to a file of it, or into the repository."""
-    if link.startswith("../c/"):
-        return link.removeprefix("../c/")
-    return f"{address()}/{link.removeprefix('../') if link.startswith('../') else f'docs/{link}'}"
+def target(page, link, names):
+    """Where a link of a page leads from the archive, whose files have these names: to one of them, or into the repository."""
+    path, mark, place = link.partition("#")
+    source = posixpath.normpath(posixpath.join(posixpath.dirname(page), path))
+    return f"{names.get(source) or f'{address()}/{source}'}{mark}{place}"
 
 
 def archive(folder):

@@ -1373,7 +1373,7 @@ static inline bool uart_receiver_has_errors(const struct uart_receiver *uart_rec
 }
 
 /* Does what a read of LSR does: clears the overrun and the errors of the front. */
-static inline void uart_report(struct uart_receiver *parts)
+static inline void uart_receiving_report(struct uart_receiver *parts)
 {
     parts->is_overrun = (uint8_t)false;
     if (0 < uart_receiver_queue_len(parts))
@@ -1384,7 +1384,7 @@ static inline void uart_report(struct uart_receiver *parts)
 static inline uint8_t uart_read_errors(struct uart_chip *parts)
 {
     uint8_t status = uart_lsr(parts);
-    uart_report(&parts->receiver);
+    uart_receiving_report(&parts->receiver);
     return status;
 }
 
@@ -1395,7 +1395,7 @@ static inline uint8_t uart_read_line_status(struct uart_chip *parts)
         return uart_read_errors(parts);
     uint8_t receiver_status = uart_receiver_status(&parts->receiver);
     uint8_t transmitter_status = uart_transmitter_status(&parts->transmitter);
-    uart_report(&parts->receiver);
+    uart_receiving_report(&parts->receiver);
     return receiver_status | transmitter_status;
 }
 
@@ -2587,18 +2587,18 @@ uart_port_load(struct uart_port *port, const struct uart_chip *saved, struct uar
 }
 
 /*
- * Lets the time of a call pass, and says what is to be told.
+ * Lets the time of a call pass. If the transmitter holds nothing, as in most calls, a reception
+ * timeout is all that time brings.
  *
  * Proved: the whole chip, but for bytes behind the end of a queue and those of an empty
  * shift register.
- * Proved: a port whose data are the one value for their meaning, but for bytes of its chip
- * that mean nothing.
  */
-static inline void
-uart_finish(struct uart_port *port, bool was_up, struct uart_kind kind, struct uart_todo *todo)
+static inline void uart_settle(struct uart_chip *chip)
 {
-    uart_advance(&port->chip, 22);
-    uart_decide(port, was_up, kind, todo);
+    if (uart_held_len(&chip->transmitter) == 0)
+        uart_count_up(&chip->receiver, 22);
+    else
+        uart_advance(chip, 22);
 }
 
 /* Makes a port after power on. */
@@ -2613,19 +2613,81 @@ void uart_port_new(struct uart_port *port, uint8_t model)
     uart_told.has_looked = 0;
     uart_told.spare = 0;
     port->told = uart_told;
-    struct uart_virtual_todo todo;
-    todo.signal = false;
-    todo.level = false;
-    todo.has_moved = false;
-    todo.has_room = false;
-    todo.ready = 0;
-    struct uart_todo todo2 = uart_shown(todo);
+    uart_settle(&port->chip);
+    struct uart_todo uart_todo;
+    uart_todo.ready = 0;
+    uart_todo.signal = 0;
+    uart_todo.level = 0;
+    uart_todo.has_moved = 0;
+    uart_todo.has_room = 0;
+    struct uart_todo todo = uart_todo;
     struct uart_kind kind;
     kind.brings = false;
     kind.looks = false;
     kind.moves_data = false;
     kind.may_make_room = true;
-    uart_finish(port, true, kind, &todo2);
+    uart_decide(port, true, kind, &todo);
+}
+
+/*
+ * Returns whether a call of this kind leaves nothing to be told, as most do that find no interrupt.
+ */
+static inline bool uart_leaves_nothing(const struct uart_port *port, struct uart_kind kind)
+{
+    return !kind.looks &&
+        (port->told.line == 0 &&
+        (port->told.spare == 0 &&
+        (port->told.has_room != 0 &&
+        (uart_controlling_receive_room(&port->chip) != 0 && !uart_is_interrupting(&port->chip)))));
+}
+
+/*
+ * Does the same as decide, which is called only if something is new: it writes all that the
+ * monitor was told, which takes as long as the rest of a call.
+ *
+ * Proved: a port whose data are the one value for their meaning, but for bytes of its chip
+ * that mean nothing.
+ */
+static inline void
+uart_port_report(struct uart_port *port, bool was_up, struct uart_kind kind, struct uart_todo *todo)
+{
+    if (uart_leaves_nothing(port, kind)) {
+        struct uart_todo uart_todo;
+        uart_todo.ready = uart_wire_len(&port->chip.transmitter.wire);
+        uart_todo.signal = 0;
+        uart_todo.level = 0;
+        uart_todo.has_moved = 0;
+        uart_todo.has_room = 0;
+        *todo = uart_todo;
+    } else {
+        uart_decide(port, was_up, kind, todo);
+    }
+}
+
+/*
+ * Lets the time of a call pass, and says what is to be told.
+ *
+ * Proved: a port whose data are the one value for their meaning, but for bytes of its chip
+ * that mean nothing.
+ */
+static inline void
+uart_finish(struct uart_port *port, bool was_up, struct uart_kind kind, struct uart_todo *todo)
+{
+    uart_settle(&port->chip);
+    uart_port_report(port, was_up, kind, todo);
+}
+
+/*
+ * Does the same as finish, if what happened is all that the line was to show. If the monitor was
+ * told that it was down, it does not matter whether it was up meanwhile.
+ *
+ * Proved: a port whose data are the one value for their meaning, but for bytes of its chip
+ * that mean nothing.
+ */
+static inline void
+uart_conclude(struct uart_port *port, struct uart_kind kind, struct uart_todo *todo)
+{
+    uart_finish(port, port->told.line != 0 && uart_is_interrupting(&port->chip), kind, todo);
 }
 
 /* The guest reads a register. */
@@ -2635,8 +2697,7 @@ uint8_t uart_port_read(struct uart_port *port, uint8_t offset, struct uart_todo 
         return 0;
     uint8_t offset2 = (uint8_t)(offset % 8);
     uint8_t value = uart_read(&port->chip, offset2);
-    bool was_up = uart_is_interrupting(&port->chip);
-    uart_finish(port, was_up, uart_kind_of_read(offset2), todo);
+    uart_conclude(port, uart_kind_of_read(offset2), todo);
     return value;
 }
 
@@ -2666,7 +2727,7 @@ uart_port_receive(struct uart_port *port, const uint8_t *bytes, size_t len, stru
     kind.moves_data = false;
     kind.may_make_room = false;
     uart_arrive_all(&port->chip, bytes, number);
-    uart_finish(port, uart_is_interrupting(&port->chip), kind, todo);
+    uart_conclude(port, kind, todo);
     return number;
 }
 
@@ -2686,7 +2747,7 @@ uart_port_receive_one(struct uart_port *port, uint8_t byte, uint8_t errors, stru
     kind.looks = false;
     kind.moves_data = false;
     kind.may_make_room = false;
-    uart_finish(port, uart_is_interrupting(&port->chip), kind, todo);
+    uart_conclude(port, kind, todo);
     return UART_OK;
 }
 
@@ -2711,7 +2772,7 @@ uint32_t uart_port_set_lines(struct uart_port *port, uint8_t inputs, struct uart
     kind.looks = false;
     kind.moves_data = false;
     kind.may_make_room = false;
-    uart_finish(port, uart_is_interrupting(&port->chip), kind, todo);
+    uart_conclude(port, kind, todo);
     return UART_OK;
 }
 
@@ -2744,7 +2805,70 @@ void uart_port_take_output(struct uart_port *port, size_t count, struct uart_tod
     kind.moves_data = false;
     kind.may_make_room = false;
     uart_transmitter_remove_wire(&port->chip.transmitter, count);
-    uart_finish(port, uart_is_interrupting(&port->chip), kind, todo);
+    uart_conclude(port, kind, todo);
+}
+
+/* Returns whether a transmitter holds nothing, and its wire has room. */
+static inline bool uart_is_ready(const struct uart_transmitter *parts)
+{
+    bool is_so = uart_transmitter_queue_len(parts) == 0;
+    if (is_so) {
+        bool is_so2 = uart_transmitter_shifting(parts).is_some;
+        is_so = !is_so2 && uart_transmitter_has_room(parts);
+    }
+    return is_so;
+}
+
+/*
+ * Returns whether a byte that is written to DATA can go onto the wire at once: outside of
+ * loopback, with nothing in the transmitter and with room on the wire.
+ */
+static inline bool uart_sends_at_once(const struct uart_chip *parts)
+{
+    return (uart_chip_lcr(parts) & UART_LCR_DLAB) == 0 &&
+        (!uart_is_loopback(parts) && uart_is_ready(&parts->transmitter));
+}
+
+/*
+ * Returns whether a write can be made by send: it is a byte that meets an idle transmitter, and
+ * what is told does not depend on the level of the line in between.
+ */
+static inline bool uart_is_fast(const struct uart_port *port, uint8_t offset)
+{
+    return (uint64_t)offset == UART_OFFSET_DATA &&
+        (uart_sends_at_once(&port->chip) &&
+        (uart_is_settled(&port->chip) && ((port->told.line == 0) || (port->told.spare != 0))));
+}
+
+/* Puts a byte onto the wire. THR is as empty as before, and that counts as a new interrupt. */
+static inline void uart_put_on_wire(struct uart_transmitter *parts, uint8_t byte)
+{
+    uart_transmitter_send(parts, byte);
+    parts->is_thr_pending = (uint8_t)true;
+}
+
+/*
+ * Puts a byte that is written to DATA onto the wire, cut to the word length if the chip does so.
+ * The caller must have asked sends_at_once.
+ */
+static inline void uart_send_at_once(struct uart_chip *parts, uint8_t value)
+{
+    uint8_t byte = uart_cut(parts, value);
+    uart_put_on_wire(&parts->transmitter, byte);
+}
+
+/*
+ * Does the same as write_slowly for a byte that can be sent at once: queue, shift register and
+ * time are passed over.
+ *
+ * Proved: a port whose data are the one value for their meaning, but for bytes of its chip
+ * that mean nothing.
+ */
+static inline void uart_send(struct uart_port *port, uint8_t value, struct uart_todo *todo)
+{
+    struct uart_kind kind = uart_kind_of_write(0);
+    uart_send_at_once(&port->chip, value);
+    uart_port_report(port, false, kind, todo);
 }
 
 /*
@@ -2762,15 +2886,30 @@ static inline void uart_write_and_raise(struct uart_chip *chip, uint8_t offset, 
         chip->transmitter.is_thr_pending = (uint8_t)true;
 }
 
+/*
+ * Writes a register, and lets the time of a call pass.
+ *
+ * Proved: a port whose data are the one value for their meaning, but for bytes of its chip
+ * that mean nothing.
+ */
+static inline void
+uart_write_slowly(struct uart_port *port, uint8_t offset, uint8_t value, struct uart_todo *todo)
+{
+    uart_write_and_raise(&port->chip, offset, value);
+    bool is_so = uart_is_interrupting(&port->chip) && !uart_is_loopback(&port->chip);
+    uart_finish(port, is_so, uart_kind_of_write(offset), todo);
+}
+
 /* The guest writes a register. */
 void uart_port_write(struct uart_port *port, uint8_t offset, uint8_t value, struct uart_todo *todo)
 {
     if (port == NULL || todo == NULL)
         return;
     uint8_t offset2 = (uint8_t)(offset % 8);
-    uart_write_and_raise(&port->chip, offset2, value);
-    bool is_so = uart_is_interrupting(&port->chip) && !uart_is_loopback(&port->chip);
-    uart_finish(port, is_so, uart_kind_of_write(offset2), todo);
+    if (uart_is_fast(port, offset2))
+        uart_send(port, value, todo);
+    else
+        uart_write_slowly(port, offset2, value, todo);
 }
 
 /* --------------------------------------------------------------- what is by hand: a chip as bytes */

@@ -68,7 +68,11 @@ IN_TRANSLATOR_OF_DRIVER = [
 IN_PORT = [
     ("another register", "return uart_read(chip, (uint8_t)(offset % 8));", "return uart_read(chip, (uint8_t)(offset % 7));"),
     ("an overrun is not told", "        parts->is_overrun = (uint8_t)true;\n    }\n", "    }\n"),
-    ("a call lets less time pass", "uart_advance(&port->chip, 22);", "uart_advance(&port->chip, 16);"),
+    ("a call lets less time pass", "uart_advance(chip, 22);", "uart_advance(chip, 16);"),
+    ("a call lets no time pass while nothing is sent", "uart_count_up(&chip->receiver, 22);", "uart_count_up(&chip->receiver, 2);"),
+    ("what a signal covers is forgotten", "port->told.spare == 0 &&", "port->told.spare <= 1 &&"),
+    ("a byte is sent at once although the line fell", "((port->told.line == 0) || (port->told.spare != 0))",
+     "((port->told.line != 0) || (port->told.spare != 0))"),
     ("input that leaves no room is no signal", "(kind.brings && !seen.has_room)", "(kind.brings && seen.has_room)"),
     ("a signal covers one access less", "number = 15;", "number = 14;"),
     ("a port that is not still is taken", "if (!uart_is_sound(saved) || !uart_is_settled(saved))", "if (!uart_is_sound(saved))"),

@@ -4,6 +4,7 @@ pub mod Lengths
 pub mod Levels
 pub mod Marks
 pub mod Ports
+pub mod Quick
 pub mod Queues
 pub mod Runnable
 pub mod Saved

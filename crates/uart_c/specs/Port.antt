@@ -1,5 +1,5 @@
 -- The port for a monitor that the data of C are, and what its monitor has to do.
-use Rattle.std.specs.Prelude.{◌≡◌, ℕ, ◌<◌}
+use Rattle.std.specs.Prelude.{◌≡◌, ℕ, ◌<◌, ◌==◌, ◌&&◌, not, Bool, false}
 use Rattle.uart_c.specs.Canonical.{IsCanonical}
 use Rattle.uart_c.specs.Queue.{is_on}
 use Rattle.uart_c.specs.State.{chip_of}
@@ -13,7 +13,8 @@ use Rattle.uart_spec.specs.Bits.{IsWithin, flag}
 use Rattle.uart_spec.specs.declared.registers.line_status.TheConstants.LSR
 use Rattle.uart_spec.specs.declared.registers.modem_status.TheConstants.MSR
 use Rattle.uart_virtual.specs.Port.{PortState, PortCall, Write, ReceiveOne, SetLines, IsPort, IsStill}
-use Rattle.uart_virtual.specs.Port.{after, begun, fresh}
+use Rattle.uart_virtual.specs.Port.{after, begun, fresh, has_room, is_up}
+use Rattle.uart_virtual.specs.declared.told.Kind.{Kind}
 use Rattle.uart_virtual.specs.declared.told.Todo.{Todo}
 use Rattle.uart_virtual.specs.declared.told.Told.{Told}
 
@@ -56,6 +57,19 @@ asked t =
 -- a port whose data are the one value for their meaning, but for bytes of its chip that mean nothing
 abbrev pub IsCanonicalPort : UartPort → Type 0
 IsCanonicalPort p = IsCanonical p.chip × (p.told ≡ kept (told_of p.told))
+
+-- ---- calls of which nothing is to be told
+
+-- a call of this kind leaves nothing to be told: it is no look; the line is down, as the monitor was told; no signal
+-- covers others; and there is room, of which the monitor knows
+abbrev pub leaves_nothing : Kind → (ended : ChipState) → Told → Bool
+leaves_nothing kind ended told =
+    not kind.looks && (not told.line && ((told.spare == 0) && (told.has_room && (has_room ended && not (is_up ended)))))
+
+-- the monitor has nothing to do, but to take the output
+abbrev pub nothing_but : (ready : ℕ) → UartTodo
+nothing_but ready =
+    shown (record { signal = false; level = false; has_moved = false; has_room = false; ready = ready })
 
 -- ---- ports that monitors have
 

@@ -11,11 +11,13 @@ ghost use Rattle.uart_c.specs.State.{chip_of, model_of};
 ghost use Rattle.uart_c.specs.declared.codes.TheConstants.{UART_OK, UART_BAD_PORT};
 ghost use Rattle.uart_c.specs.declared.codes.TheConstants.{UART_BAD_ERRORS, UART_BAD_LINES};
 ghost use Rattle.uart_chip.specs.Chip as chip_spec;
+ghost use Rattle.uart_chip.specs.Sending.{sends_at_once};
 ghost use Rattle.uart_live.specs.Live.{IsLive};
 ghost use Rattle.uart_spec.specs.Bits.{IsWithin, flag};
 ghost use Rattle.uart_spec.specs.declared.baud.TheConstants.{NUM_REGISTERS};
 ghost use Rattle.uart_spec.specs.declared.registers.line_status.TheConstants.LSR;
 ghost use Rattle.uart_spec.specs.declared.registers.modem_status.TheConstants.MSR;
+ghost use Rattle.uart_spec.specs.declared.registers.offsets.TheConstants as offsets;
 ghost use Rattle.uart_virtual.specs.Port as spec;
 ghost use Rattle.uart_virtual.specs.Port.{Read, Write, Receive, ReceiveOne, SetLines, TakeOutput};
 ghost use Rattle.uart_virtual.specs.Port.{IsStill};
@@ -29,7 +31,8 @@ use uart_chip::controlling::{
     ChipParts, advance, arrive_live, change_lines, is_interrupting, is_loopback, read,
     receive_room, write,
 };
-use uart_chip::receiving::ReceiverParts;
+use uart_chip::receiving::{ReceiverParts, count_up};
+use uart_chip::sending::{send_at_once, sends_at_once};
 use uart_chip::transmitting::{TransmitterParts, held_len, next_move};
 use uart_spec::NUM_REGISTERS;
 use uart_spec::registers::{LSR, MSR, offsets};
@@ -169,6 +172,62 @@ fn decide(port: &mut UartPort, was_up: bool, kind: Kind, todo: &mut UartTodo)
     port.told = UartTold::of(told);
 }
 
+// Nothing to do, but to take the output.
+fn nothing_but(ready: usize) -> UartTodo
+    ensures { result ≡ port_spec.nothing_but ready }
+{
+    UartTodo {
+        ready,
+        signal: 0,
+        level: 0,
+        has_moved: 0,
+        has_room: 0,
+    }
+}
+
+// Returns whether a call of this kind leaves nothing to be told, as most do that find no interrupt.
+fn leaves_nothing(port: &UartPort, kind: Kind) -> bool
+    ensures { result ≡
+        port_spec.leaves_nothing kind (chip_of port.now.chip) (told_of port.now.told) }
+{
+    // What is known is asked first: if the line was up, the chip is asked for it once.
+    !kind.looks
+        && (!is_on(port.told.line)
+            && (port.told.spare == 0
+                && (is_on(port.told.has_room)
+                    && (receive_room(&port.chip) != 0 && !is_interrupting(&port.chip)))))
+}
+
+// Does the same as `decide`, which is called only if something is new: it writes all that the
+// monitor was told, which takes as long as the rest of a call.
+fn report(port: &mut UartPort, was_up: bool, kind: Kind, todo: &mut UartTodo)
+    ensures chip { port.new.chip ≡ port.old.chip }
+    ensures told { told_of port.new.told ≡
+        spec.tell kind was_up (chip_of port.old.chip) (told_of port.old.told) }
+    ensures todo { todo.new ≡ port_spec.shown
+        (spec.todo_of kind was_up (chip_of port.old.chip) (told_of port.old.told)) }
+    ensures canonical { IsCanonicalPort port.old → IsCanonicalPort port.new }
+{
+    if leaves_nothing(port, kind) {
+        *todo = nothing_but(port.chip.transmitter.wire.len());
+    } else {
+        decide(port, was_up, kind, todo);
+    }
+}
+
+// Lets the time of a call pass. If the transmitter holds nothing, as in most calls, a reception
+// timeout is all that time brings.
+fn settle(chip: &mut UartChip)
+    ensures after { chip_of chip.new ≡ spec.settle (chip_of chip.old) }
+    ensures canonical { IsCanonical chip.old → IsCanonical chip.new }
+{
+    if held_len(&chip.transmitter) == 0 {
+        count_up(&mut chip.receiver, settle_ticks());
+    } else {
+        advance(chip, settle_ticks());
+    }
+}
+
 // Lets the time of a call pass, and says what is to be told.
 fn finish(port: &mut UartPort, was_up: bool, kind: Kind, todo: &mut UartTodo)
     ensures chip { chip_of port.new.chip ≡ spec.settle (chip_of port.old.chip) }
@@ -176,10 +235,26 @@ fn finish(port: &mut UartPort, was_up: bool, kind: Kind, todo: &mut UartTodo)
         spec.tell kind was_up (spec.settle (chip_of port.old.chip)) (told_of port.old.told) }
     ensures todo { todo.new ≡ port_spec.shown
         (spec.todo_of kind was_up (spec.settle (chip_of port.old.chip)) (told_of port.old.told)) }
-    ensures canonical { IsCanonical port.old.chip → IsCanonicalPort port.new }
+    ensures canonical { IsCanonicalPort port.old → IsCanonicalPort port.new }
 {
-    advance(&mut port.chip, settle_ticks());
-    decide(port, was_up, kind, todo);
+    settle(&mut port.chip);
+    report(port, was_up, kind, todo);
+}
+
+// Does the same as `finish`, if what happened is all that the line was to show. If the monitor was
+// told that it was down, it does not matter whether it was up meanwhile.
+fn conclude(port: &mut UartPort, kind: Kind, todo: &mut UartTodo)
+    ensures chip { chip_of port.new.chip ≡ spec.settle (chip_of port.old.chip) }
+    ensures told { let c = chip_of port.old.chip in
+        told_of port.new.told ≡
+        spec.tell kind (spec.is_up c) (spec.settle c) (told_of port.old.told) }
+    ensures todo { let c = chip_of port.old.chip in
+        todo.new ≡ port_spec.shown
+        (spec.todo_of kind (spec.is_up c) (spec.settle c) (told_of port.old.told)) }
+    ensures canonical { IsCanonicalPort port.old → IsCanonicalPort port.new }
+{
+    let was_up = is_on(port.told.line) && is_interrupting(&port.chip);
+    finish(port, was_up, kind, todo);
 }
 
 /// Makes a port after power on.
@@ -190,14 +265,9 @@ pub extern "C" fn uart_port_new(port: &mut UartPort, model: u8)
 {
     port.chip = UartChip::new(model, CHAR_TICKS, WIRE_ROOM as u8, 0);
     port.told = UNTOLD;
-    let mut todo = shown(Todo {
-        signal: false,
-        level: false,
-        has_moved: false,
-        has_room: false,
-        ready: 0,
-    });
-    finish(port, true, RENEWED, &mut todo);
+    settle(&mut port.chip);
+    let mut todo = nothing_but(0);
+    decide(port, true, RENEWED, &mut todo);
 }
 
 /// The guest reads a register.
@@ -212,8 +282,7 @@ pub extern "C" fn uart_port_read(port: &mut UartPort, offset: u8, todo: &mut Uar
 {
     let offset = offset % NUM_REGISTERS as u8;
     let value = read(&mut port.chip, offset);
-    let was_up = is_interrupting(&port.chip);
-    finish(port, was_up, kind_of_read(offset), todo);
+    conclude(port, kind_of_read(offset), todo);
     value
 }
 
@@ -231,6 +300,48 @@ fn write_and_raise(chip: &mut UartChip, offset: u8, value: u8)
     }
 }
 
+// Writes a register, and lets the time of a call pass.
+fn write_slowly(port: &mut UartPort, offset: u8, value: u8, todo: &mut UartTodo)
+    requires { offset < NUM_REGISTERS }
+    ensures after { port_of port.new ≡ spec.after (Write offset value) (port_of port.old) }
+    ensures todo { todo.new ≡
+        port_spec.shown (spec.todo (Write offset value) (port_of port.old)) }
+    ensures canonical { IsCanonicalPort port.old → IsCanonicalPort port.new }
+{
+    write_and_raise(&mut port.chip, offset, value);
+    // What comes back in loopback can take the line down for a moment, while time passes.
+    let was_up = is_interrupting(&port.chip) && !is_loopback(&port.chip);
+    finish(port, was_up, kind_of_write(offset), todo);
+}
+
+// Returns whether a write can be made by `send`: it is a byte that meets an idle transmitter, and
+// what is told does not depend on the level of the line in between.
+fn is_fast(port: &UartPort, offset: u8) -> bool
+    ensures { result ≡ true → (offset ≡ offsets.DATA) ×
+        ((sends_at_once (chip_of port.now.chip) ≡ true) × (IsStill (chip_of port.now.chip) ×
+        (spec.ignores_falls (told_of port.now.told) ≡ true))) }
+{
+    offset as usize == offsets::DATA
+        && (sends_at_once(&port.chip)
+            && (is_settled(&port.chip) && (!is_on(port.told.line) || port.told.spare != 0)))
+}
+
+// Does the same as `write_slowly` for a byte that can be sent at once: queue, shift register and
+// time are passed over.
+fn send(port: &mut UartPort, value: u8, todo: &mut UartTodo)
+    requires sends { sends_at_once (chip_of port.old.chip) ≡ true }
+    requires still { IsStill (chip_of port.old.chip) }
+    requires covered { spec.ignores_falls (told_of port.old.told) ≡ true }
+    ensures after { port_of port.new ≡ spec.after (Write offsets.DATA value) (port_of port.old) }
+    ensures todo { todo.new ≡
+        port_spec.shown (spec.todo (Write offsets.DATA value) (port_of port.old)) }
+    ensures canonical { IsCanonicalPort port.old → IsCanonicalPort port.new }
+{
+    let kind = kind_of_write(offsets::DATA as u8);
+    send_at_once(&mut port.chip, value);
+    report(port, false, kind, todo);
+}
+
 /// The guest writes a register.
 #[unsafe(no_mangle)]
 pub extern "C" fn uart_port_write(port: &mut UartPort, offset: u8, value: u8, todo: &mut UartTodo)
@@ -241,10 +352,11 @@ pub extern "C" fn uart_port_write(port: &mut UartPort, offset: u8, value: u8, to
     ensures canonical { IsCanonicalPort port.old → IsCanonicalPort port.new }
 {
     let offset = offset % NUM_REGISTERS as u8;
-    write_and_raise(&mut port.chip, offset, value);
-    // What comes back in loopback can take the line down for a moment, while time passes.
-    let was_up = is_interrupting(&port.chip) && !is_loopback(&port.chip);
-    finish(port, was_up, kind_of_write(offset), todo);
+    if is_fast(port, offset) {
+        send(port, value, todo);
+    } else {
+        write_slowly(port, offset, value, todo);
+    }
 }
 
 // These characters arrive, without errors.
@@ -275,8 +387,7 @@ pub extern "C" fn uart_port_receive(port: &mut UartPort, bytes: &[u8], todo: &mu
         may_make_room: false,
     };
     arrive_all(&mut port.chip, &bytes[..count]);
-    let was_up = is_interrupting(&port.chip);
-    finish(port, was_up, kind, todo);
+    conclude(port, kind, todo);
     count
 }
 
@@ -308,8 +419,7 @@ pub extern "C" fn uart_port_receive_one(
         return UART_BAD_ERRORS;
     }
     arrive_live(&mut port.chip, byte, errors);
-    let was_up = is_interrupting(&port.chip);
-    finish(port, was_up, INPUT, todo);
+    conclude(port, INPUT, todo);
     UART_OK
 }
 
@@ -328,8 +438,7 @@ pub extern "C" fn uart_port_set_lines(port: &mut UartPort, inputs: u8, todo: &mu
         return UART_BAD_LINES;
     }
     change_lines(&mut port.chip, inputs);
-    let was_up = is_interrupting(&port.chip);
-    finish(port, was_up, INPUT, todo);
+    conclude(port, INPUT, todo);
     UART_OK
 }
 
@@ -349,8 +458,7 @@ pub extern "C" fn uart_port_take_output(port: &mut UartPort, count: usize, todo:
         may_make_room: false,
     };
     port.chip.transmitter.remove_wire(count);
-    let was_up = is_interrupting(&port.chip);
-    finish(port, was_up, kind, todo);
+    conclude(port, kind, todo);
 }
 
 /// The level of the interrupt line.

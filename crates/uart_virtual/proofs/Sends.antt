@@ -82,7 +82,7 @@ with_idle c s =
     (sym (nowhere c.transmitter.shift_register s.free))
 
 -- two ticks after a write of DATA
-two_ticks : (value : ℕ) (c : ChipState) → IsStill c → Sends c →
+pub two_ticks : (value : ℕ) (c : ChipState) → IsStill c → Sends c →
     tick (tick (after_write offsets.DATA value c)) ≡ send_at_once value c
 two_ticks value c still s =
     let t : TransmitterState = c.transmitter in

@@ -607,14 +607,15 @@ def gives_up_a_broken_chip(bench):
 def debugs(bench):
     """A module that is built for a kernel with kgdb. In the emulator's transmitter there is always room."""
     bench.run("rmmod u16550_tty; insmod /modules/debugged.ko ports=0x2f8 irqs=3")
-    task = bench.task(f"(echo ready; sleep 5) < /dev/{HERE}").ready()
+    # The port is open until all this is done, however long that takes.
+    bench.run(f"sleep 1000 < /dev/{HERE} & echo $! > /tmp/keeper")
     bench.here.drain(0.3)
     bench.run("insmod /modules/faults.ko fault=debugger symbol=debugged:read_register")
     stop = bench.task(f"stty -F /dev/{HERE} 9600")
-    came = bench.here.until(b"stopped\n", 10)
+    came = bench.here.until(b"stopped\n", 60)
     bench.here.send(b"g")
-    came += bench.here.until(b"g", 20)
-    told = stop.result() + bench.run("rmmod faults") + task.result()
+    came += bench.here.until(b"g", 60)
+    told = stop.result() + bench.run("rmmod faults; kill $(cat /tmp/keeper); usleep 200000")
     good, more = bench.transfer(HERE, 500, 500)
     bench.judge("a debugger talks from the middle of a call, and the port goes on",
                 came.endswith(b"stopped\ng") and good, f"{came}{told}{more}")

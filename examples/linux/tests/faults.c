@@ -19,7 +19,7 @@ module_param(symbol, charp, 0444);
  * How often a debugger asks for a character. An access takes about a microsecond, and in an emulator some: for longer than the test waits,
  * whose host may be slow.
  */
-#define MOST_ASKED 6000000
+#define MOST_ASKED 60000000
 
 static bool has_stopped;
 

@@ -23,8 +23,9 @@ class Unexpected(Exception):
 
 
 class Clock:
-    """Time in which the emulator, or this program, could do something. While one of their threads waits for a processor it stands still, so
-    that a bound of so many seconds is a bound on what was done, and not on what else the machine does."""
+    """Time in which the emulator, or this program, could do something. While their threads wait for a processor, one after the other, it all
+    but stands still, so that a bound of so many seconds is a bound on what was done, and not on what else the machine does. It goes on by a
+    twentieth, so that each wait has an end."""
 
     def __init__(self):
         self.process, self.time, self.waited, self.spent = None, time.monotonic(), {}, 0
@@ -37,8 +38,8 @@ class Clock:
                     waited[path] = int(file.read().split()[1]) / 1e9
             except (OSError, IndexError):
                 pass  # the thread has ended, or the kernel does not tell
-        most = max((waited[path] - self.waited.get(path, waited[path]) for path in waited), default=0)
-        self.spent += max(0, time_now - self.time - most)
+        without = sum(waited[path] - self.waited.get(path, waited[path]) for path in waited)
+        self.spent += max((time_now - self.time) / 20, time_now - self.time - without)
         self.time, self.waited = time_now, waited
         return self.spent
 

@@ -15,7 +15,8 @@
  * chip DEVICE TYPE IRQ                   sets the type of the chip, as linux/serial_core.h has it, and the interrupt; 0 is none
  * set DEVICE NAME=NUMBER..               sets these of type, port, irq, flags and divisor, as setserial does, and prints all of them
  *
- * A transfer ends when nothing has moved for ten seconds. Each command says `ready` when the port is open, and prints one line at its end.
+ * A transfer ends when nothing has moved for ten seconds, and it has looked for something as often as it does in so long: while the machine
+ * sleeps, or has no time for the emulator, it does not look. Each command says `ready` when the port is open, and prints one line at its end.
  */
 #define _GNU_SOURCE
 #include <asm/ioctls.h>
@@ -33,6 +34,8 @@
 #include <unistd.h>
 
 enum { SENT = 3, RECEIVED = 9, PATIENCE = 10, RATE = 115200 };
+/* How many milliseconds a look takes if there is nothing. */
+enum { LOOK = 200, SHORT_LOOK = 50 };
 
 /* Of the kernel, which has it in a header that does not go with these. */
 enum { LOOP = 0x8000 };
@@ -48,6 +51,25 @@ static double now(void)
     struct timespec time;
     clock_gettime(CLOCK_MONOTONIC, &time);
     return time.tv_sec + time.tv_nsec / 1e9;
+}
+
+/* Since when nothing has come or gone, and how often it was looked since then. */
+struct quiet {
+    double since;
+    uint32_t looks;
+};
+
+/* Something has moved. */
+static void moved(struct quiet *quiet)
+{
+    quiet->since = now();
+    quiet->looks = 0;
+}
+
+/* Looks again, and says whether that is worth it. A look takes so many milliseconds. */
+static int goes_on(struct quiet *quiet, int look)
+{
+    return quiet->looks++ < (uint32_t)(PATIENCE * 1000 / look) || now() - quiet->since < PATIENCE;
 }
 
 static void fail(const char *what)
@@ -106,17 +128,17 @@ static void transfer(int port, uint32_t send, uint32_t receive, int crtscts, uin
 {
     static uint8_t out[4096], in[65536];
     uint32_t sent = 0, received = 0, wrong = 0, i;
-    double last;
+    struct quiet quiet;
 
     set_rate(port, TCSETS2, RATE, 0, CS8 | (crtscts ? CRTSCTS : 0));
     if (seed == RECEIVED)
         ioctl(port, TCFLSH, 2);
     ready(port);
-    for (last = now(); (sent < send || received < receive) && now() - last < PATIENCE;) {
+    for (moved(&quiet); (sent < send || received < receive) && goes_on(&quiet, LOOK);) {
         struct pollfd events = { port, (sent < send ? POLLOUT : 0) | (received < receive ? POLLIN : 0), 0 };
         ssize_t count;
 
-        poll(&events, 1, 200);
+        poll(&events, 1, LOOK);
         if (events.revents & POLLHUP) {
             printf("hangup, ");
             break;
@@ -124,7 +146,7 @@ static void transfer(int port, uint32_t send, uint32_t receive, int crtscts, uin
         if (events.revents & POLLIN && (count = read(port, in, sizeof in)) > 0) {
             for (i = 0; i < count; i++, received++)
                 wrong += in[i] != byte_of(received, seed);
-            last = now();
+            moved(&quiet);
         }
         if (events.revents & POLLOUT) {
             uint32_t len = send - sent < sizeof out ? send - sent : sizeof out;
@@ -132,7 +154,7 @@ static void transfer(int port, uint32_t send, uint32_t receive, int crtscts, uin
                 out[i] = byte_of(sent + i, SENT);
             if ((count = write(port, out, len)) > 0) {
                 sent += count;
-                last = now();
+                moved(&quiet);
             }
         }
     }
@@ -145,16 +167,17 @@ static void transfer(int port, uint32_t send, uint32_t receive, int crtscts, uin
 static void marks(int port, int wanted, unsigned iflag)
 {
     uint8_t bytes[256];
-    double end = now() + PATIENCE;
+    struct quiet quiet;
+    double end = 0;
 
     set_rate(port, TCSETS2, RATE, iflag, CS8);
     ready(port);
     printf("marks:");
-    while (now() < end) {
+    for (moved(&quiet); wanted > 0 ? goes_on(&quiet, SHORT_LOOK) : now() < end;) {
         struct pollfd events = { port, POLLIN, 0 };
         ssize_t count, i;
 
-        poll(&events, 1, 50);
+        poll(&events, 1, SHORT_LOOK);
         count = read(port, bytes, sizeof bytes);
         for (i = 0; i < count; i++) {
             printf(" %02x", bytes[i]);

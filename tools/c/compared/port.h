@@ -156,6 +156,15 @@ static void spoil(struct uart_chip *chip)
     chip->cuts = small(2);
 }
 
+/* What the monitor was told last, which need not be so. */
+static void spoil_told(struct uart_told *told)
+{
+    told->line = small(2);
+    told->has_room = small(2);
+    told->has_looked = small(2);
+    told->spare = small(4);
+}
+
 /* Changes one field of a chip that is sound, so that what refuses one comes to each of its questions. */
 static void spoil_one(struct uart_chip *chip)
 {
@@ -490,8 +499,8 @@ static void call(void)
     struct uart_port *port = &ports[below(PORTS)];
     if (below(400) == 0)
         spoil(below(2) ? chip : &port->chip);
-    if (below(800) == 0)
-        port->told.has_looked = any_byte();
+    if (below(200) == 0)
+        spoil_told(&port->told);
     if (which == 0 && arm < 2 && below(8))
         which = 1 + below(counts[arm] - 1);
     times[arm][which]++;
