@@ -88,11 +88,11 @@ adjusts_xoff marks told P w f l after t = tells (at_marks marks f) told P w f l 
 -- each call
 pub meaning_of : (s t : RingState) (c : RingCall) (a : RingAnswer) → IsUsual c → RingCallStep s c a t → Meant c a s t
 meaning_of s t (call.Queue bytes) a usual h = rw h.answered (
-  of_did (call.Queue bytes) _ s t 0 0 h.did (λ P w. walk.queues P w bytes.items h.outcome)
-  (losses.queues_lose_nothing bytes.items h.outcome (ring_fields s) h.did.list (ring_fields t) h.did.does) (λ n. refl) (λ m. refl)
-  (arming.queues_leave bytes.items h.outcome)
-  (λ some. arming.queues_arm bytes.items h.outcome (omega (arith, some, length-take h.outcome bytes.items)))
-)
+    of_did (call.Queue bytes) _ s t 0 0 h.did (λ P w. walk.queues P w bytes.items h.outcome)
+    (losses.queues_lose_nothing bytes.items h.outcome (ring_fields s) h.did.list (ring_fields t) h.did.does) (λ n. refl) (λ m. refl)
+    (arming.queues_leave bytes.items h.outcome)
+    (λ some. arming.queues_arm bytes.items h.outcome (omega (arith, some, length-take h.outcome bytes.items)))
+    )
 meaning_of s t call.ResumeTransmit a usual h =
     of_did call.ResumeTransmit a s t 0 0 h.did (λ P w. walk.resumes P w)
     (losses.resumes_lose_nothing (ring_fields s) h.did.list (ring_fields t) h.did.does) (λ n. refl) (λ m. refl)
