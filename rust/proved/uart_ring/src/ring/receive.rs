@@ -8,6 +8,7 @@ use uart_spec::registers::{IER, MCR};
 
 // What tells the other end to go on, and to stop.
 const XON: u8 = 0x11;
+
 const XOFF: u8 = 0x13;
 
 /// How much room in the receive ring turns RTS off, and how much turns it on again. With XOFF and
