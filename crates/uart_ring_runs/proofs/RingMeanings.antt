@@ -17,7 +17,7 @@ use Rattle.uart_ring.specs.Lossless.{LosesOnly, Implies}
 use Rattle.uart_ring.specs.Armed.{LeavesArmed, Arms}
 use Rattle.uart_ring.proofs.Arming as arming
 use Rattle.uart_ring.proofs.Losses as losses
-use Rattle.uart_ring.proofs.laws.adjust_xoff_is_a_ring_call.Answers.{at_marks, adjusts_xoff_loses_only, adjusts_xoff_leave}
+use Rattle.uart_ring.proofs.Rts.{at_marks, adjusts_xoff_loses_only, adjusts_xoff_leave}
 use Rattle.uart_ring_runs.specs.declared.call.RingCall.{RingCall}
 use Rattle.uart_ring_runs.specs.declared.call.RingCall.TheVariants as call
 use Rattle.uart_ring_runs.specs.declared.call.RingAnswer.{RingAnswer}
@@ -161,9 +161,7 @@ meaning_of s t (call.AdjustXoff marks) a usual h =
     rw h.answered (of_did (call.AdjustXoff marks) _ s t 0 0 h.did (adjusts_xoff marks h.outcome)
     (adjusts_xoff_loses_only marks h.outcome (ring_fields s) h.did.list (ring_fields t) h.did.does) (λ n. refl) (λ m. refl)
     (adjusts_xoff_leave marks h.outcome) none)
-meaning_of s t (call.AdjustRts marks) a usual h = absurd usual
-meaning_of s t (call.Driver c) a usual h = absurd usual
-meaning_of s t call.Next a usual h = absurd usual
+meaning_of s t other a usual h = absurd usual
 
 -- ---- bytes in order
 

@@ -6,6 +6,7 @@
 #include "u16550.h"
 
 #include "choices.h"
+#include "../../../rust/uart_16550_c/tests/each.h"
 
 /* Now and then a call gets null for what it is to write. */
 static int is_null;
@@ -682,6 +683,31 @@ static void call_registers(struct u16550 *u, uint32_t which)
     }
 }
 
+/*
+ * What each call of the rings takes and gives: those that the table of the interface alone has are made by it. At most one argument of a
+ * call is a choice: in which order arguments are computed is up to the compiler.
+ */
+#define DRIVER u
+#define BUFFER bytes
+#define LEN len
+#define BYTE any_byte()
+#define INTERRUPTS any_byte()
+#define LIMIT (len % 10)
+#define ROUNDS below(4)
+#define MARK below(30)
+#define HOLD (len % 20)
+#define RELEASE below(20)
+#define BYTE_AT OUT(&value)
+#define SIZE_AT OUT(&count)
+#define URGENT_AT OUT(&urgent)
+#define HANDLED_AT OUT(&handled)
+#define DUMP_AT OUT(&dump)
+#define NO_CALL(name, ...)
+#define ONE_MORE(name, ...) +1
+#define MAKE(name, ...)    \
+    if (which-- == 0)      \
+        told(name(__VA_ARGS__));
+
 static void call_rings(struct u16550 *u, uint32_t which)
 {
     struct u16550_handled handled = { 0, 0 };
@@ -748,11 +774,8 @@ static void call_rings(struct u16550 *u, uint32_t which)
         told(u16550_ring_take_modem(u, OUT(&value)));
         break;
     case 19:
-        which = below(20);
-        if (below(2))
-            told(u16550_ring_adjust_rts(u, len % 20, which));
-        else
-            told(u16550_ring_adjust_xoff(u, len % 20, which, OUT(&urgent)));
+        which = below(0 EACH_CALL(NO_CALL, ONE_MORE));
+        EACH_CALL(NO_CALL, MAKE)
         break;
     case 20:
         if (told(u16550_ring_config_register_dump(u, OUT(&dump))) == U16550_OK)
