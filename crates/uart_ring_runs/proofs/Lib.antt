@@ -25,3 +25,4 @@ pub mod NotedAccesses
 pub mod NotedBlocks
 pub mod NotedCalls
 pub mod NotedSessions
+pub mod NotedInit

@@ -2,7 +2,6 @@
 use Rattle.std.proofs.Common.{◌≡◌, ◌⊎◌, ℕ, ◌<◌, Bool, true, false, not, ◌||◌, ◌==◌, inl, inr, List, [], ◌∷◌, ◌++◌, length, nat_lt}
 use Rattle.std.proofs.Common.{refl, sym, ◌∙◌, ap, subst, arith, append-nil, append_assoc, length-append, bit_and, bit_or}
 use Rattle.std.proofs.Common.{if◌then◌else◌}
-use Rattle.std.proofs.Common.{None}
 use Rattle.std.specs.List.{AllByRecursion}
 use Rattle.std.proofs.lemmas.Bool.{false≢true}
 use Rattle.std.proofs.lemmas.Grind.{common_steps}
@@ -235,7 +234,7 @@ read_kept m n offset answer s = kept_step (Read offset answer) m n s
 pub read_sound : (m n : MachineState) (offset answer : ℕ) → IsSound m → MachineStep m (Read offset answer) n → IsSound n
 read_sound m n offset answer w s = subst IsSound (sym s.0) (sound_read offset (at_access m) (sound_access m w))
 
-write_sound : (m n : MachineState) (offset value : ℕ) → IsSound m → MachineStep m (Write offset value) n → IsSound n
+pub write_sound : (m n : MachineState) (offset value : ℕ) → IsSound m → MachineStep m (Write offset value) n → IsSound n
 write_sound m n offset value w s = subst IsSound (sym s) (sound_write offset value (at_access m) (sound_access m w))
 
 -- a read of another register than LSR and DATA, or of DATA under DLAB
@@ -247,7 +246,7 @@ read_still a m n offset answer w s same =
     (ap (λ (v : Kept). v.fifo) k ∙ w.fifo) (ap (λ (v : Kept). is_loopback v.latches) k ∙ w.loopback)
     (w.latch ∙ sym (ap (λ (v : Kept). is_dlab_set v.latches) k)) refl refl
 
-other_read : (offset : ℕ) (c d : ChipState) → (offset == offsets.LSR) ≡ false → (offset == offsets.DATA) ≡ false → ReadMove offset c d →
+pub other_read : (offset : ℕ) (c d : ChipState) → (offset == offsets.LSR) ≡ false → (offset == offsets.DATA) ≡ false → ReadMove offset c d →
     d.receiver ≡ c.receiver
 other_read offset c d no_look no_data (takes e q) = let is : (offset == offsets.DATA) ≡ true = rw e refl in absurd (cc)
 other_read offset c d no_look no_data (looks e) = let is : (offset == offsets.LSR) ≡ true = rw e refl in absurd (cc)
@@ -403,16 +402,20 @@ all_tame_noted (access ∷ accesses) a m n tame w p =
 
 -- ---- where the notes begin
 
+pub front_until : (m : MachineState) → IsSound m → m.chip.fifo ≡ true → is_loopback m.chip.latches ≡ false → (errors : ℕ) →
+    shown_of (reported_front m.chip.receiver) ≡ errors → shown_of (reported_front (at_access m).chip.receiver) ≡ errors
+front_until m sound on off errors e =
+    front_events m (at_access m) (λ P idles arrives. access_lasts P idles arrives m sound on off) errors e
+
 -- after the first look, if nothing was shown before of a character that waits
 pub notes_begin : (a : Notes) (m n : MachineState) (line : ℕ) → IsSound m → m.chip.fifo ≡ true → is_loopback m.chip.latches ≡ false →
-    AreUnlooked a → reported_front m.chip.receiver ≡ None → MachineStep m (Read offsets.LSR line) n →
+    AreUnlooked a → shown_of (reported_front m.chip.receiver) ≡ 0 → MachineStep m (Read offsets.LSR line) n →
     IsInStep (with_access (Read offsets.LSR line) a) n.chip.receiver
 notes_begin a m n line sound on off begins none s =
     let c = (at_access m).chip in
     let same : n.chip.receiver ≡ report c.receiver = ap (λ (v : MachineState). v.chip.receiver) s.0 in
-    let lasts : Elapses m (at_access m) = λ P idles arrives. access_lasts P idles arrives m sound on off in
     let before : character_errors a.shown ≡ shown_of (reported_front c.receiver) =
-    ap character_errors begins.shown ∙ sym (front_events m (at_access m) lasts 0 (ap shown_of none)) in
+    ap character_errors begins.shown ∙ sym (front_until m sound on off 0 none) in
     let told = told_errors a.is_overrun_old in
     let shows : character_errors (bit_or a.shown (bit_and line told)) ≡ shown_of (reported_front n.chip.receiver) =
     ap (λ (v : ℕ). character_errors (bit_or a.shown (bit_and v told))) s.1

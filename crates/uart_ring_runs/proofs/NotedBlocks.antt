@@ -32,7 +32,7 @@ use Rattle.uart_run.proofs.Latches.{Kept}
 use Rattle.uart_run.proofs.Overruns.{Behind, HitTells, hit_tells}
 use Rattle.uart_ring.specs.Notes.{Notes, with_access}
 use Rattle.uart_ring.specs.Queue.{with_latest}
-use Rattle.uart_ring_runs.specs.NotedErrors.{shown_of, only_bytes}
+use Rattle.uart_ring_runs.specs.NotedErrors.{shown_of, only_bytes, IsInStep}
 use Rattle.uart_ring_runs.proofs.NotedAccesses.{Along, Noted, Tame, Looks, Reads, Sends, Enables, Frames, Keeps, AllTame, all_tame_noted}
 use Rattle.uart_ring_runs.proofs.NotedAccesses.{either, either_shown, look_noted, tame_noted, latch_noted, noted_then, noted_start}
 use Rattle.uart_ring_runs.proofs.NotedAccesses.{with_accesses, with_append, fits_access, read_kept, read_sound}
@@ -180,6 +180,30 @@ hit_noted x a m n line byte o on w along h (m₁, s₁, (m₂, s₂, e)) =
         );
         stays = tells.stays;
       };
+    }))
+
+-- after a byte that was read behind a look, whatever was noted before
+pub hit_begins : (x : Modes) (a : Notes) (m n : MachineState) (line byte : ℕ) → IsOpen x → x.fifo ≡ true → Stands x m →
+    a.is_latch ≡ false → has_any line LSR.DATA_READY.0 ≡ true → Path MachineStep m (Read offsets.LSR line ∷ Read offsets.DATA byte ∷ []) n →
+    IsInStep (with_accesses (Read offsets.LSR line ∷ Read offsets.DATA byte ∷ []) a) n.chip.receiver
+hit_begins x a m n line byte o on w closed h (m₁, s₁, (m₂, s₂, e)) =
+    let a₁ : Notes = with_access (Read offsets.LSR line) a in
+    let stands = stands-after x m m₁ _ _ _ (passed-look x m m₁ line o.loopback w s₁) in
+    let t : nat_lt 0 (length m₁.chip.receiver.queue) ≡ true = sym (look_data m m₁ line s₁) ∙ h in
+    let some : 0 < length m₁.chip.receiver.queue = grind (arith, common_steps) in
+    let b : Took x m₁ m₂ byte = took x m₁ m₂ byte o stands (look_reported x.fifo m m₁ line s₁ some) s₂ in
+    let events = passed-access x m₁ o.loopback stands.sound stands.modes in
+    let off : is_dlab_set (at_access m₁).chip.latches ≡ false = dlab-in x (at_access m₁).chip events.went.modes ∙ o.dlab in
+    let tells : HitTells line b.front m m₂ = hit_tells x m m₁ m₂ line byte b.front b.rest on o w stands s₁ s₂ b.queue off in
+    let cleared : m₂.chip.receiver.is_front_reported ≡ false = rw (s₂.0, off, b.queue) refl in
+    let a₂ : Notes = record a₁ { noted = with_latest a₁.shown a₁.noted; shown = 0 } in
+    let same : a₂ ≡ with_access (Read offsets.DATA byte) a₁ = rw closed refl in
+    let I : Notes → Type 0 = λ v. IsInStep v n.chip.receiver in
+    subst I same (rw e (record {
+      latch = closed;
+      shown = sym (ap shown_of (none_reported m₂.chip.receiver cleared));
+      lost = λ set. absurd (cc);
+      flag = tells.flag;
     }))
 
 noted_block : (x : Modes) (block : Block) (a : Notes) (m n : MachineState) → IsOpen x → x.fifo ≡ true → Stands x m → Along a m →

@@ -51,11 +51,11 @@ use Rattle.uart_ring_runs.proofs.RingWalk as walk
 -- ---- the machine under the notes
 
 -- a path with notes is one of the machine under them, and the notes follow it
-record Parted (l : List Access) (p q : ErrorNotes MachineState) : Type 0 where
+pub record Parted (l : List Access) (p q : ErrorNotes MachineState) : Type 0 where
   pub path : Path MachineStep p.backend l q.backend
   pub notes : notes_of q ≡ with_accesses l (notes_of p)
 
-parted : (l : List Access) (p q : ErrorNotes MachineState) → Path (NotesErrors MachineStep) p l q → Parted l p q
+pub parted : (l : List Access) (p q : ErrorNotes MachineState) → Path (NotesErrors MachineStep) p l q → Parted l p q
 parted [] p q h = record {
   path = ap (λ (v : ErrorNotes MachineState). v.backend) h;
   notes = ap (λ (v : ErrorNotes MachineState). notes_of v) h;

@@ -1,12 +1,15 @@
 -- Which errors the bytes of the receive ring have after calls of the rings themselves, and what `take_with_errors` returns.
-use Rattle.std.proofs.Common.{◌≡◌, ℕ, zero, suc, ◌+◌, ◌-◌, ◌≤◌, true, min, List, [], ◌∷◌, ◌++◌, length, take, drop, None, refl, sym}
+use Rattle.std.proofs.Common.{◌≡◌, ℕ, zero, suc, ◌+◌, ◌-◌, ◌≤◌, true, false, min, List, [], ◌∷◌, ◌++◌, length, take, drop, None, refl, sym}
 use Rattle.std.proofs.Common.{◌∙◌, ap, subst}
 use Rattle.std.proofs.Common.{arith, append_assoc, length-append, length-drop, length-take, take-append-drop}
 use Rattle.std.specs.Prelude.{All}
 use Rattle.std.proofs.Math.Seq.{drop-append-add, drop-append_seam, take-append_seam}
 use Rattle.std.proofs.lemmas.List.{map-append, length-map, take_min}
 use Rattle.uart_spec.specs.declared.received.Received.{Received}
+use Rattle.uart_spec.specs.Access.{Path}
+use Rattle.uart_spec.specs.Bits.{has_any}
 use Rattle.uart_spec.specs.declared.access.Access.TheVariants.{Read}
+use Rattle.uart_spec.specs.declared.registers.line_status.TheConstants.LSR
 use Rattle.uart_spec.specs.declared.registers.offsets.TheConstants as offsets
 use Rattle.uart_chip.specs.Laws.{reported_front}
 use Rattle.uart_chip.specs.Machine.{MachineState, MachineStep}
@@ -24,12 +27,14 @@ use Rattle.uart_ring.specs.Receive.{TakesBytes}
 use Rattle.uart_ring.specs.Ring.{RingDid, ring_fields, ring_backend_of}
 use Rattle.uart_ring.specs.declared.notes.ErrorNotes.{ErrorNotes}
 use Rattle.uart_ring_runs.specs.NotedErrors.{NotedState, without_notes, notes_in, receiver_of, only_bytes, AreTheirs, Holds, AreExact}
-use Rattle.uart_ring_runs.specs.NotedErrors.{AreUnlooked, IsInStep, MayBegin, NotedLink, NotedChain, links_without_notes, NotesExactly}
+use Rattle.uart_ring_runs.specs.NotedErrors.{shown_of, AreUnlooked, IsInStep, MayBegin, NotedLink, NotedChain, NotesExactly}
+use Rattle.uart_ring_runs.specs.NotedErrors.{links_without_notes}
 use Rattle.uart_ring_runs.specs.RingBytes.{to_take, gone}
 use Rattle.uart_ring_runs.specs.RingRun.{under, ring_machine, IsOfRings}
 use Rattle.uart_ring_runs.specs.RingSession.{AllWithinRingSession}
 use Rattle.uart_ring_runs.proofs.NotedAccesses.{Along, notes_begin, theirs_later, theirs_append}
-use Rattle.uart_ring_runs.proofs.NotedCalls.{CallNoted, chain_noted, in_session_noted}
+use Rattle.uart_ring_runs.proofs.NotedBlocks.{hit_begins}
+use Rattle.uart_ring_runs.proofs.NotedCalls.{CallNoted, parted, chain_noted, in_session_noted}
 use Rattle.uart_ring_runs.proofs.RingRts.{modes_at, begins_session}
 
 -- ---- some of them
@@ -226,4 +231,17 @@ pub step_begins : (s : NotedState) → IsSound (ring_machine (without_notes s)) 
 step_begins s sound line after ready on begins none step =
     let I : Notes → Type 0 = λ v. IsInStep v after.backend.chip.receiver in
     subst I (sym step.noted) (notes_begin (notes_in s) (ring_machine (without_notes s)) after.backend line sound (ready.fifo ∙ on)
-    ready.loopback begins none step.made)
+    ready.loopback begins (ap shown_of none) step.made)
+
+pub byte_begins : (s : NotedState) → IsSound (ring_machine (without_notes s)) → (line byte : ℕ) (after : ErrorNotes MachineState) →
+    Ready (under (without_notes s)) → (ring_fields s).driver.fifo ≡ true → (notes_in s).is_latch ≡ false →
+    has_any line LSR.DATA_READY.0 ≡ true →
+    Path (NotesErrors MachineStep) (ring_backend_of s) (Read offsets.LSR line ∷ Read offsets.DATA byte ∷ []) after →
+    IsInStep (notes_of after) after.backend.chip.receiver
+byte_begins s sound line byte after ready on closed shows path =
+    let plain = under (without_notes s) in
+    let w = in_session plain ready sound in
+    let parts = parted (Read offsets.LSR line ∷ Read offsets.DATA byte ∷ []) (ring_backend_of s) after path in
+    let I : Notes → Type 0 = λ v. IsInStep v after.backend.chip.receiver in
+    subst I (sym parts.notes) (hit_begins (modes_of plain) (notes_in s) (ring_machine (without_notes s)) after.backend line byte
+    w.open_modes (sym w.fifo ∙ on) w.stands closed shows parts.path)

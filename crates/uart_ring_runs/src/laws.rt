@@ -1,13 +1,15 @@
 //! Laws of rings, driver and machine together. They follow from the contracts.
 //!
 //! The contract of each function is a law that callers can cite.
-ghost use Rattle.std.specs.Prelude.{◌≡◌, ◌≤◌, ◌+◌, ℕ, suc, Bool, true, false, List, None};
+ghost use Rattle.std.specs.Prelude.{◌≡◌, ◌≤◌, ◌+◌, ℕ, suc, Bool, true, false, List, [], ◌∷◌};
+ghost use Rattle.std.specs.Prelude.{None, Some};
 ghost use Rattle.std.specs.Prelude.{Result, Ok, Err, All, length, map, take};
 ghost use Rattle.uart_events.specs.declared.call.Call.{Call};
-ghost use Rattle.uart_16550.specs.Driver.{Did};
+ghost use Rattle.uart_events.specs.declared.event.Chip.TheVariants.{Uart16550A};
+ghost use Rattle.uart_16550.specs.Driver.{Did, backend_of};
 ghost use Rattle.uart_16550.specs.Init.{Inits};
 ghost use Rattle.uart_16550.specs.declared.driver.Uart16550.{Uart16550};
-ghost use Rattle.uart_chip.specs.Chip.{is_dlab_set};
+ghost use Rattle.uart_chip.specs.Chip.{is_dlab_set, is_loopback};
 ghost use Rattle.uart_chip.specs.Laws.{reported_front};
 ghost use Rattle.uart_chip.specs.Machine.{MachineState, MachineStep};
 ghost use Rattle.uart_chip.specs.declared.receiver.Character.{Character};
@@ -48,9 +50,13 @@ ghost use Rattle.uart_ring_runs.specs.declared.call.RingCall.TheVariants.{Driver
 ghost use Rattle.uart_run.specs.Chains.{NoneIs, calls_of};
 ghost use Rattle.uart_run.specs.Ready.{Ready};
 ghost use Rattle.uart_run.specs.Wired.{IsWired};
+ghost use Rattle.uart_spec.specs.Access.{Path};
+ghost use Rattle.uart_spec.specs.Bits.{has_any};
 ghost use Rattle.uart_spec.specs.declared.access.Access.TheVariants.{Read};
 ghost use Rattle.uart_spec.specs.declared.config.Config.{Config};
 ghost use Rattle.uart_spec.specs.declared.received.Received.{Received};
+ghost use Rattle.uart_spec.specs.declared.registers.fifo_trigger_level.FifoTriggerLevel.{FifoTriggerLevel};
+ghost use Rattle.uart_spec.specs.declared.registers.line_status.TheConstants.LSR;
 ghost use Rattle.uart_spec.specs.declared.registers.offsets.TheConstants as offsets;
 
 use uart_16550::Uart16550;
@@ -236,7 +242,8 @@ pub fn own_sessions_conserve()
 ///
 /// The notes have to be in step with the chip when the calls begin. They are after the first look
 /// at LSR since the notes were made or the receiver was reset, if no earlier look has shown the
-/// character in front. After a reset there is none, and an `init` looks behind it.
+/// character in front. So they are after an `init`: [`init_leaves_notes_in_step`]. And they are
+/// after each byte that was read behind a look, whatever was noted before.
 ///
 /// # Examples
 ///
@@ -248,6 +255,12 @@ pub fn noted_errors_are_exact(ring: &Uart16550Ring<ErrorNotes<Device16550>>)
         Ready (under (without_notes ring.now)) → (ring_fields ring.now).driver.fifo ≡ true →
         AreUnlooked (notes_in ring.now) → reported_front (receiver_of ring.now) ≡ None →
         NotesErrors MachineStep (ring_backend_of ring.now) (Read offsets.LSR line) after →
+        IsInStep (notes_of after) after.backend.chip.receiver }
+    ensures with_a_byte { (line byte : ℕ) (after : ErrorNotes MachineState) →
+        Ready (under (without_notes ring.now)) → (ring_fields ring.now).driver.fifo ≡ true →
+        (notes_in ring.now).is_latch ≡ false → has_any line LSR.DATA_READY.0 ≡ true →
+        Path (NotesErrors MachineStep) (ring_backend_of ring.now)
+        (Read offsets.LSR line ∷ Read offsets.DATA byte ∷ []) after →
         IsInStep (notes_of after) after.backend.chip.receiver }
     ensures session { (before : List Character) (links : List NotedLink) (t : NotedState) →
         MayBegin before ring.now →
@@ -262,4 +275,26 @@ pub fn noted_errors_are_exact(ring: &Uart16550Ring<ErrorNotes<Device16550>>)
 {
     // The contract of this call states what holds of every machine.
     let _fifo = ring.inner().backend().backend().fifo_enabled();
+}
+
+/// If an `init` of a driver over noted errors returns `Ok`, the notes are in step with the chip, so
+/// calls of rings over this driver may begin for which [`noted_errors_are_exact`] holds. The chip
+/// has a FIFO, a trigger level is configured, and the chip was not left in loopback before.
+///
+/// # Examples
+///
+/// ```
+/// init_leaves_notes_in_step(&uart);
+/// ```
+pub fn init_leaves_notes_in_step(uart: &Uart16550<ErrorNotes<Device16550>>)
+    ensures { (config : Config) (level : FifoTriggerLevel)
+        (after : Uart16550 (ErrorNotes MachineState)) →
+        is_loopback (backend_of uart.now).backend.chip.latches ≡ false →
+        (backend_of uart.now).backend.chip.model ≡ Uart16550A →
+        config.fifo_trigger_level ≡ Some level →
+        Did (NotesErrors MachineStep) (Inits {T = Unit {0}} config (Ok tt)) uart.now after →
+        IsInStep (notes_of (backend_of after)) (backend_of after).backend.chip.receiver }
+{
+    // The contract of this call states what holds of every machine.
+    let _fifo = uart.backend().backend().fifo_enabled();
 }
