@@ -11,6 +11,13 @@
 
 #include <stdbool.h>
 
+/* For a function that is to stand in the place of its calls, unless it is to be small. */
+#if defined(__GNUC__) && !defined(__OPTIMIZE_SIZE__)
+#define UART_INLINE static inline __attribute__((always_inline))
+#else
+#define UART_INLINE static inline
+#endif
+
 
 /* The number of data bits of a character. */
 enum uart_word_length {
@@ -2648,7 +2655,7 @@ static inline bool uart_leaves_nothing(const struct uart_port *port, struct uart
  * Proved: a port whose data are the one value for their meaning, but for bytes of its chip
  * that mean nothing.
  */
-static inline void
+UART_INLINE void
 uart_port_report(struct uart_port *port, bool was_up, struct uart_kind kind, struct uart_todo *todo)
 {
     if (uart_leaves_nothing(port, kind)) {
@@ -2670,7 +2677,7 @@ uart_port_report(struct uart_port *port, bool was_up, struct uart_kind kind, str
  * Proved: a port whose data are the one value for their meaning, but for bytes of its chip
  * that mean nothing.
  */
-static inline void
+UART_INLINE void
 uart_finish(struct uart_port *port, bool was_up, struct uart_kind kind, struct uart_todo *todo)
 {
     uart_settle(&port->chip);
@@ -2684,7 +2691,7 @@ uart_finish(struct uart_port *port, bool was_up, struct uart_kind kind, struct u
  * Proved: a port whose data are the one value for their meaning, but for bytes of its chip
  * that mean nothing.
  */
-static inline void
+UART_INLINE void
 uart_conclude(struct uart_port *port, struct uart_kind kind, struct uart_todo *todo)
 {
     uart_finish(port, port->told.line != 0 && uart_is_interrupting(&port->chip), kind, todo);

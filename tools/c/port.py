@@ -17,6 +17,17 @@ OWN = ("uart_spec", "uart_events", "uart_chip", "uart_live", "uart_virtual", "ua
 EXPORTS = "uart_c"
 # A function of no more lines is `inline`: a call of a port goes through some thirty, and a compiler would call a dozen of them.
 SHORT = 20
+# What a call of a port does last. In the place of its calls little of it is left, and a compiler would not put it there by itself: that is a
+# seventh of a call.
+ALWAYS = ["uart_port_report", "uart_finish", "uart_conclude"]
+INLINE = """/* For a function that is to stand in the place of its calls, unless it is to be small. */
+#if defined(__GNUC__) && !defined(__OPTIMIZE_SIZE__)
+#define UART_INLINE static inline __attribute__((always_inline))
+#else
+#define UART_INLINE static inline
+#endif
+
+"""
 # The registers at the eight offsets, as they are read and as they are written.
 READ, WRITTEN = "DATA IER ISR LCR MCR LSR MSR SPR".split(), "DATA IER FCR LCR MCR LSR MSR SPR".split()
 INCLUDE = ROOT / "crates" / EXPORTS / "include"
@@ -78,7 +89,7 @@ def made(folder):
         if header.numbers.get(name, value) != value:
             sys.exit(f"emit: {name} is {header.numbers[name]:#x} in the header, and {value:#x} in what is proved")
     own = named_in(library.types.declarations, library.text())
-    texts = [TOP + constants(library, header.numbers), "\n".join(own), guarded(library.text()), guarded(header.functions_by_hand())]
+    texts = [TOP + INLINE + constants(library, header.numbers), "\n".join(own), inlined(guarded(library.text())), guarded(header.functions_by_hand())]
     return {"uart_port.h": header.made(library), "uart_port.c": "\n".join(texts)}, library
 
 
@@ -110,6 +121,15 @@ def guarded(text):
 
     # An inline function of the header is one of a port alone.
     return re.sub(r"(?m)^((?:static inline (?=[^\n]*\(const struct uart_port \*port\)))?(?!static)\w[\w ]*?(?:[ *]\*?|\n))(uart_\w+)\(([^(){};]*)\)\n\{\n", guard, text)
+
+
+def inlined(text):
+    """A text in which the functions that are to be inlined in any case say so."""
+    for name in ALWAYS:
+        text, count = re.subn(rf"(?m)^static inline (?=[\w ]+\n?{name}\()", "UART_INLINE ", text)
+        if count != 1:
+            sys.exit(f"emit: there is no {name} to be inlined")
+    return text
 
 
 def named_in(declarations, text):
