@@ -293,7 +293,8 @@ struct uart_maybe_lsr {
 };
 
 /*
- * How much room in the receive ring turns RTS off, and how much turns it on again.
+ * How much room in the receive ring turns RTS off, and how much turns it on again. With XOFF and
+ * XON it is the same.
  *
  * Between the two RTS stays as it is, so it does not change with each byte. If release is less
  * than hold, RTS is off below hold and on from there.
@@ -301,6 +302,11 @@ struct uart_maybe_lsr {
 struct uart_receive_marks {
     size_t hold;
     size_t release;
+};
+
+struct uart_maybe_bool {
+    bool is_some;
+    bool value;
 };
 
 struct uart_slice {
@@ -873,6 +879,24 @@ static inline struct u16550_core_maybe_design_ware_fault uart_no_design_ware_fau
 {
     struct u16550_core_maybe_design_ware_fault made =
         { false, U16550_CORE_DESIGN_WARE_FAULT_LINE_CONTROL_IGNORED };
+    return made;
+}
+
+static inline struct uart_maybe_bool uart_some_bool(void)
+{
+    struct uart_maybe_bool made = { true, false };
+    return made;
+}
+
+static inline struct uart_maybe_bool uart_some_bool_2(void)
+{
+    struct uart_maybe_bool made = { true, true };
+    return made;
+}
+
+static inline struct uart_maybe_bool uart_no_bool(void)
+{
+    struct uart_maybe_bool made = { false, false };
     return made;
 }
 
@@ -4233,6 +4257,19 @@ static inline size_t uart_byte_queue_capacity(const struct u16550_core_byte_queu
     return byte_queue->cells.len;
 }
 
+/* Returns whether the other end may send, or None if that is to stay as it is. */
+static struct uart_maybe_bool
+uart_ring_may_send(const struct u16550_core_ring *ring, struct uart_receive_marks marks)
+{
+    size_t byte_queue_capacity = uart_byte_queue_capacity(&ring->receive);
+    size_t room = byte_queue_capacity - ring->receive.len;
+    if (room < marks.hold)
+        return uart_some_bool();
+    if (marks.release <= room)
+        return uart_some_bool_2();
+    return uart_no_bool();
+}
+
 /* Returns MCR with RTS asserted or clear. */
 static inline uint8_t uart_with_rts(uint8_t mcr, bool on)
 {
@@ -4278,98 +4315,9 @@ static inline void uart_ring_make_rts(struct u16550_core_ring *ring, bool on)
 static inline void
 uart_ring_adjust_rts(struct u16550_core_ring *ring, struct uart_receive_marks marks)
 {
-    size_t byte_queue_capacity = uart_byte_queue_capacity(&ring->receive);
-    size_t room = byte_queue_capacity - ring->receive.len;
-    if (room < marks.hold) {
-        uart_ring_make_rts(ring, false);
-    } else if (marks.release <= room)
-        uart_ring_make_rts(ring, true);
-}
-
-/*
- * Returns the cell that is count behind cell, of so many cells.
- *
- * Proved: this is the cell that is count behind cell, of so many cells: behind the last one
- * is the first.
- */
-static inline size_t uart_cell_behind(size_t cell, size_t count, size_t cells)
-{
-    size_t to_end = cells - cell;
-    return count < to_end ? cell + count : count - to_end;
-}
-
-/* Drops this number of bytes from the front. */
-static inline void
-uart_byte_queue_drop_front(struct u16550_core_byte_queue *byte_queue, size_t count)
-{
-    size_t number = byte_queue->front;
-    byte_queue->front = uart_cell_behind(number, count, uart_byte_queue_capacity(byte_queue));
-    byte_queue->len -= count;
-}
-
-/*
- * Ends a pause if so many bytes have left the receive ring.
- *
- * Proved: this if the count is more than 0, else nothing at all.
- * Proved: if receiving is paused, DATA_READY is enabled, and the pause ends.
- */
-static inline void uart_ring_end_pause(struct u16550_core_ring *ring, size_t count)
-{
-    if (0 < count && ring->is_paused) {
-        uart_enable_interrupts(&ring->uart, U16550_IER_DATA_READY);
-        ring->is_paused = false;
-    }
-}
-
-/*
- * Drops the bytes of the receive ring, and returns how many. What is in the chip stays there.
- *
- * Does not wait. If it drops at least one byte and receiving is paused, it enables
- * DATA_READY again and ends the pause, as take does. Otherwise it makes no access.
- *
- * Proved: the receive ring is emptied, and the result is how many bytes it had; if it had
- * any, a pause of receiving ends.
- */
-static inline size_t uart_ring_clear_receive(struct u16550_core_ring *ring)
-{
-    size_t number = ring->receive.len;
-    uart_byte_queue_drop_front(&ring->receive, number);
-    uart_ring_end_pause(ring, number);
-    return number;
-}
-
-/*
- * Drops bytes from the front of the transmit ring, and notes it if the ring falls to the low
- * mark.
- */
-static inline void uart_ring_drop_queued(struct u16550_core_ring *ring, size_t count)
-{
-    bool was_above = ring->low_mark < ring->transmit.len;
-    uart_byte_queue_drop_front(&ring->transmit, count);
-    bool is_at_mark = ring->transmit.len <= ring->low_mark;
-    ring->is_low = ring->is_low || (was_above && is_at_mark);
-}
-
-/*
- * Drops the bytes of the transmit ring, and returns how many.
- *
- * An urgent byte, and what is in the chip, still go out. Makes no access: if THR_EMPTY is
- * enabled, it is disabled when its next interrupt is served.
- *
- * Proved: the transmit ring is emptied without an access, and the result is how many bytes
- * it had.
- */
-static inline size_t uart_ring_clear_transmit(struct u16550_core_ring *ring)
-{
-    size_t number = ring->transmit.len;
-    uart_ring_drop_queued(ring, number);
-    return number;
-}
-
-/* Returns whether there is no byte. */
-static inline bool uart_byte_queue_is_empty(const struct u16550_core_byte_queue *byte_queue)
-{
-    return byte_queue->len == 0;
+    struct uart_maybe_bool found = uart_ring_may_send(ring, marks);
+    if (found.is_some)
+        uart_ring_make_rts(ring, found.value);
 }
 
 /* Returns the bytes in order, as two slices. */
@@ -4438,6 +4386,39 @@ uart_ring_copy_sendable(const struct u16550_core_ring *ring, uint8_t *slots, siz
     return uart_ring_copy_queued(ring, slots, slots_len);
 }
 
+/*
+ * Returns the cell that is count behind cell, of so many cells.
+ *
+ * Proved: this is the cell that is count behind cell, of so many cells: behind the last one
+ * is the first.
+ */
+static inline size_t uart_cell_behind(size_t cell, size_t count, size_t cells)
+{
+    size_t to_end = cells - cell;
+    return count < to_end ? cell + count : count - to_end;
+}
+
+/* Drops this number of bytes from the front. */
+static inline void
+uart_byte_queue_drop_front(struct u16550_core_byte_queue *byte_queue, size_t count)
+{
+    size_t number = byte_queue->front;
+    byte_queue->front = uart_cell_behind(number, count, uart_byte_queue_capacity(byte_queue));
+    byte_queue->len -= count;
+}
+
+/*
+ * Drops bytes from the front of the transmit ring, and notes it if the ring falls to the low
+ * mark.
+ */
+static inline void uart_ring_drop_queued(struct u16550_core_ring *ring, size_t count)
+{
+    bool was_above = ring->low_mark < ring->transmit.len;
+    uart_byte_queue_drop_front(&ring->transmit, count);
+    bool is_at_mark = ring->transmit.len <= ring->low_mark;
+    ring->is_low = ring->is_low || (was_above && is_at_mark);
+}
+
 /* Drops bytes that were sent. The urgent byte is the first of them. */
 static void uart_ring_drop_sent(struct u16550_core_ring *ring, size_t count)
 {
@@ -4449,6 +4430,12 @@ static void uart_ring_drop_sent(struct u16550_core_ring *ring, size_t count)
         uart_ring_drop_queued(ring, count - 1);
     else
         uart_ring_drop_queued(ring, count);
+}
+
+/* Returns whether there is no byte. */
+static inline bool uart_byte_queue_is_empty(const struct u16550_core_byte_queue *byte_queue)
+{
+    return byte_queue->len == 0;
 }
 
 /* Returns whether a byte waits that may be sent. */
@@ -4487,6 +4474,126 @@ static void uart_ring_pump(struct u16550_core_ring *ring)
         uart_enable_interrupts(&ring->uart, U16550_IER_THR_EMPTY);
     else
         uart_disable_interrupts(&ring->uart, U16550_IER_THR_EMPTY);
+}
+
+/*
+ * Puts this byte before all bytes that wait to be sent, and sends if the chip has room.
+ * Returns the urgent byte that still waited, which this one replaces.
+ *
+ * This is for the flow control of a terminal: an XON or XOFF goes out after what is in the
+ * chip, even while the transmit ring is held. The newest one counts, so it replaces one that
+ * waits. With CTS checking it waits, as all bytes do, until the remote is clear to send.
+ *
+ * Does not wait.
+ *
+ * Proved: the byte is the urgent one, in place of one that waited, which is returned; and
+ * what the chip takes at once is sent.
+ */
+static inline struct u16550_core_maybe_u8
+uart_ring_queue_urgent(struct u16550_core_ring *ring, uint8_t byte)
+{
+    struct u16550_core_maybe_u8 found = ring->urgent;
+    ring->urgent = uart_some_u8(byte);
+    uart_ring_pump(ring);
+    return found;
+}
+
+/*
+ * Tells the other end to go on, or to stop, unless it was told so last. Returns what was told.
+ *
+ * Proved: the character for this is the urgent byte, and it is what was told last; the
+ * result is that character. Or nothing is done.
+ */
+static inline struct u16550_core_maybe_u8 uart_ring_tell(struct u16550_core_ring *ring, bool on)
+{
+    if (ring->urgent.is_some || (ring->has_told_xoff != on))
+        return uart_no_u8();
+    ring->has_told_xoff = !on;
+    uint8_t number = on ? 17 : 19;
+    uart_ring_queue_urgent(ring, number);
+    return uart_some_u8(number);
+}
+
+/*
+ * Holds the other end back, or lets it go on, by XOFF and XON, where RTS is not wired: tells
+ * it XOFF if the receive ring has room for fewer than marks.hold bytes, and XON if it has
+ * room for at least marks.release. Returns the character, or None if none was to be told.
+ *
+ * The character goes out before all bytes that wait, also while the transmit ring is held, as
+ * that of a queue_urgent. What was told last is not told again. While another urgent byte
+ * waits, nothing is told; the next call does it. Once XOFF was told, marks of 0 let the other
+ * end go on in any case.
+ *
+ * The other end sends on until it has read the XOFF, which comes after what is in the chip.
+ * So choose hold with room for that, and release not above the capacity of the receive
+ * ring, or the other end would stop for ever. The other end takes each byte of the value of an
+ * XON or XOFF for one: this is for text.
+ *
+ * Call it at the end of the interrupt handler, and after each take and clear_receive, as
+ * adjust_rts.
+ *
+ * Does not wait. If it tells something, it makes the accesses of a queue_urgent. Otherwise
+ * it makes none.
+ *
+ * Proved: the other end is told XOFF if the receive ring has room for fewer bytes than hold,
+ * and XON if it has room for release or more, as a queue_urgent sends it. What was told last
+ * is not told again, and nothing is told while another urgent byte waits. The result is what
+ * was told.
+ */
+static inline struct u16550_core_maybe_u8
+uart_ring_adjust_xoff(struct u16550_core_ring *ring, struct uart_receive_marks marks)
+{
+    struct uart_maybe_bool found = uart_ring_may_send(ring, marks);
+    if (!found.is_some)
+        return uart_no_u8();
+    return uart_ring_tell(ring, found.value);
+}
+
+/*
+ * Ends a pause if so many bytes have left the receive ring.
+ *
+ * Proved: this if the count is more than 0, else nothing at all.
+ * Proved: if receiving is paused, DATA_READY is enabled, and the pause ends.
+ */
+static inline void uart_ring_end_pause(struct u16550_core_ring *ring, size_t count)
+{
+    if (0 < count && ring->is_paused) {
+        uart_enable_interrupts(&ring->uart, U16550_IER_DATA_READY);
+        ring->is_paused = false;
+    }
+}
+
+/*
+ * Drops the bytes of the receive ring, and returns how many. What is in the chip stays there.
+ *
+ * Does not wait. If it drops at least one byte and receiving is paused, it enables
+ * DATA_READY again and ends the pause, as take does. Otherwise it makes no access.
+ *
+ * Proved: the receive ring is emptied, and the result is how many bytes it had; if it had
+ * any, a pause of receiving ends.
+ */
+static inline size_t uart_ring_clear_receive(struct u16550_core_ring *ring)
+{
+    size_t number = ring->receive.len;
+    uart_byte_queue_drop_front(&ring->receive, number);
+    uart_ring_end_pause(ring, number);
+    return number;
+}
+
+/*
+ * Drops the bytes of the transmit ring, and returns how many.
+ *
+ * An urgent byte, and what is in the chip, still go out. Makes no access: if THR_EMPTY is
+ * enabled, it is disabled when its next interrupt is served.
+ *
+ * Proved: the transmit ring is emptied without an access, and the result is how many bytes
+ * it had.
+ */
+static inline size_t uart_ring_clear_transmit(struct u16550_core_ring *ring)
+{
+    size_t number = ring->transmit.len;
+    uart_ring_drop_queued(ring, number);
+    return number;
 }
 
 /*
@@ -5059,6 +5166,7 @@ uart_ring_new(struct uart_memory *alloc, struct u16550_core_driver uart, size_t 
     made.value.is_paused = false;
     made.value.urgent = uart_no_u8();
     made.value.is_held = false;
+    made.value.has_told_xoff = false;
     made.value.low_mark = 0;
     made.value.is_low = false;
     made.value.rounds = 0;
@@ -5089,28 +5197,6 @@ uart_ring_queue(struct u16550_core_ring *ring, const uint8_t *bytes, size_t byte
     if (0 < count)
         uart_ring_pump(ring);
     return count;
-}
-
-/*
- * Puts this byte before all bytes that wait to be sent, and sends if the chip has room.
- * Returns the urgent byte that still waited, which this one replaces.
- *
- * This is for the flow control of a terminal: an XON or XOFF goes out after what is in the
- * chip, even while the transmit ring is held. The newest one counts, so it replaces one that
- * waits. With CTS checking it waits, as all bytes do, until the remote is clear to send.
- *
- * Does not wait.
- *
- * Proved: the byte is the urgent one, in place of one that waited, which is returned; and
- * what the chip takes at once is sent.
- */
-static inline struct u16550_core_maybe_u8
-uart_ring_queue_urgent(struct u16550_core_ring *ring, uint8_t byte)
-{
-    struct u16550_core_maybe_u8 found = ring->urgent;
-    ring->urgent = uart_some_u8(byte);
-    uart_ring_pump(ring);
-    return found;
 }
 
 /*
@@ -7753,6 +7839,21 @@ int u16550_ring_adjust_rts(struct u16550 *uart, size_t hold, size_t release)
         return status;
     uart_ring_adjust_rts(&uart->ring, uart_marks(hold, release));
     return uart_leave(uart, U16550_OK);
+}
+
+int u16550_ring_adjust_xoff(struct u16550 *uart, size_t hold, size_t release,
+    struct u16550_urgent *told)
+{
+    struct u16550_urgent found;
+    int status = uart_if(told == NULL, U16550_NULL_POINTER);
+    if (status == U16550_OK)
+        status = uart_enter_rings(uart);
+    if (status != U16550_OK)
+        return status;
+    found = uart_encode_urgent(uart_ring_adjust_xoff(&uart->ring, uart_marks(hold, release)));
+    uart_leave(uart, U16550_OK);
+    *told = found;
+    return U16550_OK;
 }
 
 int u16550_ring_resume_transmit(struct u16550 *uart)

@@ -577,6 +577,7 @@ struct u16550_core_ring {
     bool is_paused;
     struct u16550_core_maybe_u8 urgent;
     bool is_held;
+    bool has_told_xoff;
     size_t low_mark;
     bool is_low;
     uint32_t rounds;
@@ -1143,6 +1144,20 @@ int u16550_ring_take(struct u16550 *uart, uint8_t *buffer, size_t len, size_t *c
  * shows RTS otherwise.
  */
 int u16550_ring_adjust_rts(struct u16550 *uart, size_t hold, size_t release);
+
+/*
+ * The same by XOFF and XON, where RTS is not wired. The character goes out before all that wait, as that of a u16550_ring_queue_urgent,
+ * also during a hold. What was told last is not told again, and nothing is told while another urgent byte waits: the next call does it.
+ * *told is the character. Choose hold with room for what comes until the other end has read an XOFF that goes out after what is in the
+ * chip. Marks of 0 let the other end go on in any case.
+ */
+/*
+ * Proved: the other end is told XOFF if the receive ring has room for fewer bytes than hold,
+ * and XON if it has room for release or more, as a queue_urgent sends it. What was told last
+ * is not told again, and nothing is told while another urgent byte waits. The result is what
+ * was told.
+ */
+int u16550_ring_adjust_xoff(struct u16550 *uart, size_t hold, size_t release, struct u16550_urgent *told);
 
 /*
  * Starts sending again if bytes wait with no interrupt to come: when CTS came back and the configuration checks it; and after each

@@ -58,6 +58,10 @@ def version():
     return tomllib.loads(manifest)["package"]["version"]
 
 
+# What the original crate has otherwise is for programs in Rust. Its types have the names of the driver's.
+OF_THE_ORIGINAL = "uart_spec::original::"
+
+
 def of_table():
     """The files that need no proof, by their paths: the header and the numbers of the library that is made of Rust, and each call for its
     tests."""
@@ -71,7 +75,7 @@ def wanted(library, text):
     """The functions of our crates that a text of C calls, by their C names."""
     called = set(re.findall(r"\b(uart_\w+)\(", text))
     for name in library.forest.program.functions:
-        information = library.source.find(name) if name.split("::")[0] in OWN else None
+        information = library.source.find(name) if name.split("::")[0] in OWN and not name.startswith(OF_THE_ORIGINAL) else None
         if information and (information.is_public or OF_TRAITS.search(name)) and library.name_of((name, (), ())) in called:
             yield name
 

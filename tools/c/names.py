@@ -67,6 +67,13 @@ class Function:
         return Function(self.parameters, self.result, self.is_public, other.comment, self.bindings, self.cited) if other else self
 
 
+def sources(top):
+    """The sources of a crate. Those of modules that its root exports as modules come first: what the root names itself hides what has the same
+    name in such a one, as the errors of the driver those of the original."""
+    exported = re.findall(r"(?m)^pub mod (\w+);", (top / "lib.rt").read_text(encoding="utf-8"))
+    return sorted(top.rglob("*.rt"), key=lambda file: (file.relative_to(top).parts[0].removesuffix(".rt") not in exported, file))
+
+
 class Source:
     def __init__(self, root, crates):
         self.fields, self.types_of_fields, self.variants, self.functions, self.bits, self.comments = {}, {}, {}, {}, {}, {}
@@ -75,7 +82,7 @@ class Source:
         for crate in crates:
             for file in sorted((root / "crates" / crate / "specs").glob("*.antt")):
                 self.define(crate, file.stem, file.read_text(encoding="utf-8").split("\n"))
-            for file in sorted((root / "crates" / crate / "src").rglob("*.rt")):
+            for file in sources(root / "crates" / crate / "src"):
                 text = file.read_text(encoding="utf-8")
                 self.read(crate, file.stem, re.sub(r"(?m)^\s*ghost use [^;]*;\n", "", text), used(text))
 

@@ -26,6 +26,7 @@ TABLE = types.SimpleNamespace(
         "CONSTANT": [],
         "IN_ORDER": [],
         "MAY_GROW": [],
+        "IS_OPEN": [],
         "GUARDS": {},
         "IMPLEMENTED": {},
         "LARGE": {"corpus/src/values.rt": ["115_200"]},

@@ -293,6 +293,8 @@ class File:
             self.insert("order", self.code[first].start, "#[repr(C)]\n")
         if f"{path}::{name}" in self.table.MAY_GROW:
             self.insert("grows", self.code[first].start, '#[cfg_attr(not(feature = "exhaustive"), non_exhaustive)]\n')
+        if f"{path}::{name}" in self.table.IS_OPEN:
+            self.insert("grows", self.code[first].start, "#[non_exhaustive]\n")
         if self.word(at) == "{":
             close = self.closing(at)
             self.fields(at + 1, close, f"{path}::{name}")

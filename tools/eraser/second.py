@@ -282,7 +282,7 @@ ROOT = (
 )
 ANYWHERE = (
     r"use std :: fmt :: Write as _ ;|use std :: \{ [\w, ]+ \} ;|(pub )?mod by_hand ;|# \[ repr \( C \) \]"
-    r"|# \[ cfg_attr \( not \( feature = \"exhaustive\" \) , non_exhaustive \) \]"
+    r"|# \[ (cfg_attr \( not \( feature = \"exhaustive\" \) , )?non_exhaustive( \))? \]"
 )
 GAINED = re.compile(rf"(?:{ANYWHERE})(?= |$)")
 GAINED_ROOT = re.compile(rf"(?:{ROOT}|{ANYWHERE})(?= |$)")

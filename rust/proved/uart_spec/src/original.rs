@@ -14,7 +14,7 @@ use crate::registers::{DLL, DLM, IER, ISR, LCR, LSR, MCR, MSR, SPR};
 /// Why there is no divisor for a baud rate.
 ///
 /// The original may get more cases, so a match has to have one for all others.
-#[cfg_attr(not(feature = "exhaustive"), non_exhaustive)]
+#[non_exhaustive]
 #[derive(Clone, Debug, PartialEq, Eq, PartialOrd, Hash)]
 pub enum InvalidDivisorError {
     /// No whole divisor gives the baud rate.
@@ -53,7 +53,7 @@ impl From<errors::InvalidDivisorError> for InvalidDivisorError {
 /// Why an initialisation failed.
 ///
 /// The original may get more cases, so a match has to have one for all others.
-#[cfg_attr(not(feature = "exhaustive"), non_exhaustive)]
+#[non_exhaustive]
 #[derive(Clone, Debug, PartialEq, Eq, Hash)]
 pub enum InitError {
     /// No device is at the address.
