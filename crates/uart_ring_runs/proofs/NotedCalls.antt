@@ -1,7 +1,7 @@
 -- What each call of the rings themselves does to the machine and to the notes, with the FIFO on.
 use Rattle.std.proofs.Common.{◌≡◌, ℕ, Bool, true, false, List, [], ◌∷◌, ◌++◌, append-nil, append_assoc, refl, sym, ◌∙◌, ap, subst, take}
 use Rattle.std.proofs.Common.{Option, Some, None, bit_and}
-use Rattle.std.specs.Prelude.{All, ⊤}
+use Rattle.std.specs.Prelude.{All, ⊤, option_to_list}
 use Rattle.std.proofs.lemmas.List.{map-append}
 use Rattle.std.proofs.lemmas.List.Elements.{All-head, All-tail}
 use Rattle.uart_spec.specs.Access.{Path}
@@ -32,6 +32,7 @@ use Rattle.uart_ring.proofs.Losses.{takes_line_loses_nothing, takes_modem_loses_
 use Rattle.uart_ring.proofs.Losses.{holds_lose_nothing, releases_lose_nothing, queues_urgent_loses_only, clears_transmit_loses_only}
 use Rattle.uart_ring.proofs.Losses.{clears_receive_loses_nothing, sets_low_mark_loses_nothing, takes_low_loses_nothing, tries_lose_nothing}
 use Rattle.uart_ring.proofs.Losses.{restarts_lose_nothing, adjusts_lose_nothing}
+use Rattle.uart_ring.proofs.Rts.{adjusts_xoff_loses_only}
 use Rattle.uart_ring_runs.specs.declared.call.RingAnswer.{RingAnswer}
 use Rattle.uart_ring_runs.specs.declared.call.RingCall.{RingCall}
 use Rattle.uart_ring_runs.specs.declared.call.RingCall.TheVariants as call
@@ -45,6 +46,7 @@ use Rattle.uart_ring_runs.proofs.NotedAccesses.{with_accesses}
 use Rattle.uart_ring_runs.proofs.NotedBlocks.{no_bytes, noted_in_blocks}
 use Rattle.uart_ring_runs.proofs.RingBlocks.{MakesRingBlocks, MakesBlocks, in_blocks}
 use Rattle.uart_ring_runs.proofs.RingLasts.{first_within}
+use Rattle.uart_ring_runs.proofs.RingMeanings.{adjusts_xoff}
 use Rattle.uart_ring_runs.proofs.RingRts.{with_mcr_of, modes_at, InRingSession, came_rts}
 use Rattle.uart_ring_runs.proofs.RingWalk as walk
 
@@ -174,6 +176,10 @@ call_moved s t (call.TryHandle limit rounds) a b h =
 call_moved s t (call.Restart interrupts) a b h =
     moved _ (with_accepted []) _ 0 0 s t h.did (walk.restarts MakesBlocks in_blocks interrupts.0 _ _ _ h.did.does)
     (restarts_lose_nothing interrupts.0 _ _ _ h.did.does)
+call_moved s t (call.AdjustXoff marks) a b h =
+    moved _ (λ waiting. option_to_list h.outcome ++ waiting) _ 0 0 s t h.did
+    (adjusts_xoff marks h.outcome MakesBlocks in_blocks _ _ _ h.did.does)
+    (adjusts_xoff_loses_only marks h.outcome _ _ _ h.did.does)
 call_moved s t _ a b h = absurd b
 
 -- ---- what a call does

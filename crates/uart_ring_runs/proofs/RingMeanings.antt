@@ -82,7 +82,7 @@ tells : (wanted : Option Bool) (told : Option ℕ) (P : Doing) → Walks P → I
 tells None told P w f l after t = walk.stays P w f l after t.1
 tells (Some on) told P w f l after t = walk.queues_urgent P w (flow_character on) None (with_told_xoff (not on) f) l after t.1
 
-adjusts_xoff : (marks : ReceiveMarks) (told : Option ℕ) (P : Doing) → Walks P → Implies (AdjustsXoff marks told) (InRings P)
+pub adjusts_xoff : (marks : ReceiveMarks) (told : Option ℕ) (P : Doing) → Walks P → Implies (AdjustsXoff marks told) (InRings P)
 adjusts_xoff marks told P w f l after t = tells (at_marks marks f) told P w f l after t
 
 -- each call

@@ -47,6 +47,7 @@ without_notes s = record {
   is_paused = s.is_paused;
   urgent = s.urgent;
   is_held = s.is_held;
+  has_told_xoff = s.has_told_xoff;
   low_mark = s.low_mark;
   is_low = s.is_low;
   rounds = s.rounds;
