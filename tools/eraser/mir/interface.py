@@ -210,6 +210,8 @@ class Rules:
             text = text.replace("Debug, ", "")
         if path in self.table.IN_ORDER:
             text = f"#[repr ( C )] {text}"
+        if path in self.table.IS_OPEN:
+            text = f"#[non_exhaustive] {text}"
         return f"const {text}" if path in self.table.CONSTANT else text
 
     def is_of_pages(self, name, text):

@@ -45,7 +45,7 @@ DIFFER = {
     r"^uart_design_ware::kept::KeptCharacters?Debug::fmt": SHOWS_REGISTER,
     r"^uart_waits::errors::(SharedError|Unfinished)(Debug|Display)::fmt": SHOWS_REGISTER,
     r"::config::ConfigDebug::fmt": SHOWS_REGISTER,
-    r"::dump::ConfigRegisterDumpDebug::fmt": SHOWS_REGISTER,
+    r"::(dump|original)::ConfigRegisterDumpDebug::fmt": SHOWS_REGISTER,
 }
 
 # Emitted functions that no case compares or reaches: a pattern of the name and of the cause that the program gives, and why.
@@ -55,6 +55,7 @@ SKIPPED = {
     r"^uart_chip::receiver::Receiver::(arrive|waiting_at|arrivals): generic": SCHEDULED,
     r"^uart_chip::transmitter::Transmitter::held_at: generic": SCHEDULED,
     r"^uart_(16550|design_ware|ring)::.*Debug::fmt .*: printed and generic": "prints a backend, which the MIR's formatter does not know",
+    r"^uart_ring::shown::\w+Debug::fmt: printed or generic": "prints rings over whatever backend: rust/uart_16550/tests/traits.rs has what is shown",
     r"^uart_ring::line::handle_line: generic": "over ports that its caller has: rust/uart_16550/tests/shared_line.rs calls it",
 }
 
@@ -75,6 +76,7 @@ IN_JUMPS = "time passes for a live chip in jumps, which end where something happ
 NOT_REACHED = {
     r"(PartialEq::eq|PartialOrd::partial_cmp|Ord::cmp) \d+ case \d+(\|\d+)*$": "another variant: their numbers were compared before",
     r"Clone::clone \d+ case 1$": "no memory: what is cloned has none",
+    r"^uart_spec::original::ConfigRegisterDump::baud_rate 2 case 1$": "a rate that cannot be had, which its contract refuses",
     r"^uart_16550::driver::Uart16550::check_registers \d+ case \d$": "a device that shows three registers as the arguments ask: "
     "the tests of `check_configured` have one, on both sides",
     r"^uart_chip::controlling::read_register 8 case 5$": "LSR, which `read` looks for before",

@@ -65,6 +65,8 @@ class Names:
         crate = function.module.split("::")[0] + "::"
         found = [one for one in self.by_end.get(function.name, []) if one.startswith(crate)]
         if function.trait:
+            # Two modules may have a type of one name: that of the function's own comes first.
+            found.sort(key=lambda one: not one.startswith(f"{function.module}::"))
             path = re.match(r"(?:::)?[\w:]+", function.trait)[0].split("::")[-1]
             given = function.trait[function.trait.find("<") :] if "<" in function.trait else ""
             # A parameter of a parameter may be left out. Of a path each part begins with a large letter.
