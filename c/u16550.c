@@ -124,6 +124,44 @@ enum uart_remote_ready_to_receive_error {
     UART_REMOTE_READY_TO_RECEIVE_ERROR_REMOTE_NOT_CLEAR_TO_SEND = 3
 };
 
+enum uart_fifo_size_error_kind {
+    UART_FIFO_SIZE_ERROR_NONE = 0,
+    UART_FIFO_SIZE_ERROR_FIFOS_OFF = 1,
+    UART_FIFO_SIZE_ERROR_TOO_FEW = 2,
+    UART_FIFO_SIZE_ERROR_STALLED = 3
+};
+
+/* Why the size of the FIFOs was not found. */
+struct uart_fifo_size_error {
+    enum uart_fifo_size_error_kind kind;
+    uint64_t too_few;
+};
+
+/*
+ * How many characters the transmitter FIFO of a chip holds, for Uart16550_send_burst.
+ *
+ * A 16550 has 16. No register that all chips have shows the size, so it is taken from the
+ * datasheet, or Uart16550_find_fifo_size finds it. If a size is given that is larger than the
+ * chip's, bytes are lost.
+ */
+enum uart_fifo_size {
+    UART_FIFO_SIZE_SIXTEEN = 0,
+    UART_FIFO_SIZE_THIRTY_TWO = 1,
+    UART_FIFO_SIZE_SIXTY_FOUR = 2,
+    UART_FIFO_SIZE_ONE_HUNDRED_TWENTY_EIGHT = 3,
+    UART_FIFO_SIZE_TWO_HUNDRED_FIFTY_SIX = 4
+};
+
+struct uart_fifo_size_or_fifo_size_error {
+    struct uart_fifo_size_error error;
+    enum uart_fifo_size value;
+};
+
+struct uart_maybe_fifo_size {
+    bool is_some;
+    enum uart_fifo_size value;
+};
+
 struct uart_maybe_stalled_error {
     bool is_error;
     size_t error;
@@ -190,20 +228,6 @@ enum uart_byte_send_error {
 struct uart_maybe_received {
     bool is_some;
     struct u16550_received value;
-};
-
-/*
- * How many characters the transmitter FIFO of a chip holds, for Uart16550_send_burst.
- *
- * A 16550 has 16. No register that all chips have shows the size, so it is taken from the
- * datasheet. If a size is given that is larger than the chip's, bytes are lost.
- */
-enum uart_fifo_size {
-    UART_FIFO_SIZE_SIXTEEN = 0,
-    UART_FIFO_SIZE_THIRTY_TWO = 1,
-    UART_FIFO_SIZE_SIXTY_FOUR = 2,
-    UART_FIFO_SIZE_ONE_HUNDRED_TWENTY_EIGHT = 3,
-    UART_FIFO_SIZE_TWO_HUNDRED_FIFTY_SIX = 4
 };
 
 struct uart_maybe_u64 {
@@ -292,6 +316,34 @@ struct uart_maybe_lsr {
     uint8_t value;
 };
 
+/* Why no rings were made: the first reason in this order. */
+enum uart_ring_error {
+    UART_RING_ERROR_NONE = 0,
+    UART_RING_ERROR_BAD_CAPACITY = 1,
+    UART_RING_ERROR_OUT_OF_MEMORY = 2
+};
+
+struct uart_pair_of_ring_error {
+    struct u16550_device first;
+    enum uart_ring_error second;
+};
+
+struct uart_error_notes_or_pair_of_ring_error {
+    bool is_error;
+    struct uart_pair_of_ring_error error;
+    struct u16550_core_error_notes value;
+};
+
+struct uart_maybe_byte_queue {
+    bool is_some;
+    struct u16550_core_byte_queue value;
+};
+
+struct uart_maybe_vec_u8 {
+    bool is_some;
+    struct u16550_core_vec_u8 value;
+};
+
 /*
  * How much room in the receive ring turns RTS off, and how much turns it on again. With XOFF and
  * XON it is the same.
@@ -317,6 +369,12 @@ struct uart_slice {
 struct uart_pair_of_slice {
     struct uart_slice first;
     struct uart_slice second;
+};
+
+struct uart_u64_or_unnoted_error {
+    bool is_error;
+    size_t error;
+    uint64_t value;
 };
 
 /* Why a call of handle ended. */
@@ -348,13 +406,6 @@ struct uart_lowered {
     uint8_t enabled;
 };
 
-/* Why no rings were made: the first reason in this order. */
-enum uart_ring_error {
-    UART_RING_ERROR_NONE = 0,
-    UART_RING_ERROR_BAD_CAPACITY = 1,
-    UART_RING_ERROR_OUT_OF_MEMORY = 2
-};
-
 struct uart_pair_of_driver_ring_error {
     struct u16550_core_driver first;
     enum uart_ring_error second;
@@ -366,14 +417,26 @@ struct uart_ring_or_pair_of_driver_ring_error {
     struct u16550_core_ring value;
 };
 
-struct uart_maybe_byte_queue {
-    bool is_some;
-    struct u16550_core_byte_queue value;
+struct uart_pair_of_driver_busy_error {
+    struct u16550_core_driver first;
 };
 
-struct uart_maybe_vec_u8 {
-    bool is_some;
-    struct u16550_core_vec_u8 value;
+struct uart_half_duplex_or_pair_of_driver_busy_error {
+    bool is_error;
+    struct uart_pair_of_driver_busy_error error;
+    struct u16550_core_half_duplex value;
+};
+
+enum uart_send_error_kind {
+    UART_SEND_ERROR_NONE = 0,
+    UART_SEND_ERROR_NOT_SENDING = 1,
+    UART_SEND_ERROR_STALLED = 2
+};
+
+/* Why not all bytes were sent. */
+struct uart_send_error {
+    enum uart_send_error_kind kind;
+    size_t stalled;
 };
 
 enum uart_nearest_divisor_error_kind {
@@ -646,6 +709,76 @@ uart_configuration_error_fifos(bool fifos_expected, bool fifos_shown)
     return made;
 }
 
+static inline struct uart_fifo_size_error uart_fifo_size_error_fifos_off(void)
+{
+    struct uart_fifo_size_error made = { UART_FIFO_SIZE_ERROR_FIFOS_OFF, 0 };
+    return made;
+}
+
+static inline struct uart_fifo_size_or_fifo_size_error
+uart_bad_fifo_size_or_fifo_size_error(struct uart_fifo_size_error error)
+{
+    struct uart_fifo_size_or_fifo_size_error made = { error, UART_FIFO_SIZE_SIXTEEN };
+    return made;
+}
+
+static inline struct uart_fifo_size_error uart_fifo_size_error_stalled(void)
+{
+    struct uart_fifo_size_error made = { UART_FIFO_SIZE_ERROR_STALLED, 0 };
+    return made;
+}
+
+static inline struct u16550_core_maybe_fifo_trigger_level
+uart_some_fifo_trigger_level(enum u16550_core_fifo_trigger_level value)
+{
+    struct u16550_core_maybe_fifo_trigger_level made = { true, value };
+    return made;
+}
+
+static inline struct u16550_core_maybe_fifo_trigger_level uart_no_fifo_trigger_level(void)
+{
+    struct u16550_core_maybe_fifo_trigger_level made =
+        { false, U16550_CORE_FIFO_TRIGGER_LEVEL_ONE };
+    return made;
+}
+
+static inline struct u16550_core_maybe_u8 uart_no_u8(void)
+{
+    struct u16550_core_maybe_u8 made = { false, 0 };
+    return made;
+}
+
+static inline struct u16550_core_maybe_u8 uart_some_u8(uint8_t value)
+{
+    struct u16550_core_maybe_u8 made = { true, value };
+    return made;
+}
+
+static inline struct uart_maybe_fifo_size uart_no_fifo_size(void)
+{
+    struct uart_maybe_fifo_size made = { false, UART_FIFO_SIZE_SIXTEEN };
+    return made;
+}
+
+static inline struct uart_maybe_fifo_size uart_some_fifo_size(enum uart_fifo_size value)
+{
+    struct uart_maybe_fifo_size made = { true, value };
+    return made;
+}
+
+static inline struct uart_fifo_size_or_fifo_size_error
+uart_good_fifo_size_or_fifo_size_error(enum uart_fifo_size value)
+{
+    struct uart_fifo_size_or_fifo_size_error made = { { UART_FIFO_SIZE_ERROR_NONE, 0 }, value };
+    return made;
+}
+
+static inline struct uart_fifo_size_error uart_fifo_size_error_too_few(uint64_t too_few)
+{
+    struct uart_fifo_size_error made = { UART_FIFO_SIZE_ERROR_TOO_FEW, too_few };
+    return made;
+}
+
 static inline struct uart_maybe_stalled_error uart_no_stalled_error(void)
 {
     struct uart_maybe_stalled_error made = { false, 0 };
@@ -687,35 +820,9 @@ static inline struct uart_init_error uart_init_error_none(void)
     return made;
 }
 
-static inline struct u16550_core_maybe_fifo_trigger_level
-uart_some_fifo_trigger_level(enum u16550_core_fifo_trigger_level value)
-{
-    struct u16550_core_maybe_fifo_trigger_level made = { true, value };
-    return made;
-}
-
 static inline struct u16550_core_baud_rate uart_baud_rate_baud9600(void)
 {
     struct u16550_core_baud_rate made = { U16550_CORE_BAUD_RATE_BAUD9600, 0 };
-    return made;
-}
-
-static inline struct u16550_core_maybe_fifo_trigger_level uart_no_fifo_trigger_level(void)
-{
-    struct u16550_core_maybe_fifo_trigger_level made =
-        { false, U16550_CORE_FIFO_TRIGGER_LEVEL_ONE };
-    return made;
-}
-
-static inline struct u16550_core_maybe_u8 uart_no_u8(void)
-{
-    struct u16550_core_maybe_u8 made = { false, 0 };
-    return made;
-}
-
-static inline struct u16550_core_maybe_u8 uart_some_u8(uint8_t value)
-{
-    struct u16550_core_maybe_u8 made = { true, value };
     return made;
 }
 
@@ -882,6 +989,25 @@ static inline struct u16550_core_maybe_design_ware_fault uart_no_design_ware_fau
     return made;
 }
 
+static inline struct uart_maybe_byte_queue uart_no_byte_queue(void)
+{
+    struct uart_maybe_byte_queue made = { false, { { NULL, 0, 0 }, 0, 0 } };
+    return made;
+}
+
+static inline struct u16550_core_byte_queue
+uart_make_byte_queue(struct u16550_core_vec_u8 cells, size_t front, size_t len)
+{
+    struct u16550_core_byte_queue made = { cells, front, len };
+    return made;
+}
+
+static inline struct uart_maybe_byte_queue uart_some_byte_queue(struct u16550_core_byte_queue value)
+{
+    struct uart_maybe_byte_queue made = { true, value };
+    return made;
+}
+
 static inline struct uart_maybe_bool uart_some_bool(void)
 {
     struct uart_maybe_bool made = { true, false };
@@ -910,6 +1036,18 @@ static inline struct uart_pair_of_slice
 uart_make_pair_of_slice(struct uart_slice first, struct uart_slice second)
 {
     struct uart_pair_of_slice made = { first, second };
+    return made;
+}
+
+static inline struct uart_u64_or_unnoted_error uart_bad_u64_or_unnoted_error(size_t error)
+{
+    struct uart_u64_or_unnoted_error made = { true, error, 0 };
+    return made;
+}
+
+static inline struct uart_u64_or_unnoted_error uart_good_u64_or_unnoted_error(uint64_t value)
+{
+    struct uart_u64_or_unnoted_error made = { false, 0, value };
     return made;
 }
 
@@ -986,22 +1124,28 @@ uart_make_lowered(struct uart_handled_or_stuck_error handled, uint8_t enabled)
     return made;
 }
 
-static inline struct uart_maybe_byte_queue uart_no_byte_queue(void)
+static inline struct u16550_core_half_duplex
+uart_make_half_duplex(struct u16550_core_driver uart, struct u16550_core_direction direction)
 {
-    struct uart_maybe_byte_queue made = { false, { { NULL, 0, 0 }, 0, 0 } };
+    struct u16550_core_half_duplex made = { uart, direction, true };
     return made;
 }
 
-static inline struct u16550_core_byte_queue
-uart_make_byte_queue(struct u16550_core_vec_u8 cells, size_t front, size_t len)
+static inline struct uart_send_error uart_send_error_not_sending(void)
 {
-    struct u16550_core_byte_queue made = { cells, front, len };
+    struct uart_send_error made = { UART_SEND_ERROR_NOT_SENDING, 0 };
     return made;
 }
 
-static inline struct uart_maybe_byte_queue uart_some_byte_queue(struct u16550_core_byte_queue value)
+static inline struct uart_send_error uart_send_error_stalled(size_t stalled)
 {
-    struct uart_maybe_byte_queue made = { true, value };
+    struct uart_send_error made = { UART_SEND_ERROR_STALLED, stalled };
+    return made;
+}
+
+static inline struct uart_send_error uart_send_error_none(void)
+{
+    struct uart_send_error made = { UART_SEND_ERROR_NONE, 0 };
     return made;
 }
 
@@ -1827,8 +1971,8 @@ static inline void uart_enable_interrupts(struct u16550_core_driver *uart, uint8
 
 /*
  * Returns whether the chip has a FIFO that is on, as the last call that sets the FIFO up read
- * it from ISR: init, init_with, attach, test_loopback or restore. After a quiesce
- * that disables the FIFOs it is off. Makes no access.
+ * it from ISR: init, init_with, attach, test_loopback, find_fifo_size or restore.
+ * After a quiesce that disables the FIFOs it is off. Makes no access.
  *
  * A driver that was never initialised takes the FIFO to be on. If it is on, a send check is
  * followed by up to 16 bytes, else by one.
@@ -1836,6 +1980,372 @@ static inline void uart_enable_interrupts(struct u16550_core_driver *uart, uint8
 static inline bool uart_fifo_enabled(const struct u16550_core_driver *uart)
 {
     return uart->fifo_enabled;
+}
+
+/*
+ * Polls LSR until it shows these bits, or until the limit. Each wait has a loop of its own over
+ * the limit, so the polls that count are those in a row: progress begins a new count.
+ *
+ * Proved: a wait for these bits of LSR: fewer reads without them than the limit and then one
+ * with them; or as many without them.
+ */
+static inline bool uart_wait_for(struct u16550_core_driver *uart, uint8_t bits)
+{
+    uint64_t number = uart->spin_limit;
+    for (uint64_t turn = 0; turn < number; turn++) {
+        if ((uart_read_lsr(uart) & bits) == bits)
+            return true;
+    }
+    return false;
+}
+
+/*
+ * Returns the trigger level for FIFOs that are on: the configured one, or one byte if none is
+ * configured, as on a port that was taken by attach.
+ */
+static inline struct u16550_core_maybe_fifo_trigger_level
+uart_level_of(const struct u16550_core_driver *uart, bool on)
+{
+    if (on) {
+        struct u16550_core_maybe_fifo_trigger_level found = uart->config.fifo_trigger_level;
+        return uart_some_fifo_trigger_level(found.is_some ? found.value
+            : U16550_CORE_FIFO_TRIGGER_LEVEL_ONE);
+    }
+    return uart_no_fifo_trigger_level();
+}
+
+/*
+ * Returns the code of this trigger level, in the low two bits.
+ *
+ * Proved: the two bits from the lowest on are the code of this trigger level.
+ */
+static uint8_t
+uart_fifo_trigger_level_to_raw_bits(enum u16550_core_fifo_trigger_level fifo_trigger_level)
+{
+    switch (fifo_trigger_level) {
+    case U16550_CORE_FIFO_TRIGGER_LEVEL_ONE:
+        return 0;
+    case U16550_CORE_FIFO_TRIGGER_LEVEL_FOUR:
+        return 1;
+    case U16550_CORE_FIFO_TRIGGER_LEVEL_EIGHT:
+        return 2;
+    case U16550_CORE_FIFO_TRIGGER_LEVEL_FOURTEEN:
+    default:
+        return 3;
+    }
+}
+
+/*
+ * Returns the register with this trigger level. No other bit changes.
+ *
+ * Proved: the two bits from the lowest on are the code of this trigger level.
+ * Proved: the eight bits are the same in both values, except those of a field.
+ */
+static inline uint8_t
+uart_fcr_set_fifo_trigger_level(uint8_t fcr, enum u16550_core_fifo_trigger_level level)
+{
+    return (fcr & 63) | (uint8_t)(uart_fifo_trigger_level_to_raw_bits(level) << 6);
+}
+
+/* Returns FCR for a trigger level. */
+static inline uint8_t uart_fifo_control_of(struct u16550_core_maybe_fifo_trigger_level level)
+{
+    uint8_t resets = U16550_FCR_RX_FIFO_RESET | U16550_FCR_TX_FIFO_RESET;
+    if (level.is_some)
+        return uart_fcr_set_fifo_trigger_level(resets | U16550_FCR_FIFO_ENABLE, level.value);
+    return resets;
+}
+
+/*
+ * Resets the FIFOs, enables them if there is a level, and returns whether they are on then.
+ *
+ * Proved: the FIFO step: FCR is written and, if a level is configured, ISR shows whether the
+ * FIFO is on.
+ */
+static inline bool
+uart_set_fifo(struct u16550_core_driver *uart, struct u16550_core_maybe_fifo_trigger_level level)
+{
+    uart_write_register(uart, UART_FCR, uart_fifo_control_of(level));
+    return level.is_some && uart_isr_fifo_enabled(uart_isr(uart));
+}
+
+/*
+ * Reads the modem lines, and sets the device to loopback with interrupts off, and with FIFOs of
+ * this level, if there is one.
+ *
+ * Proved: MSR is read, interrupts are switched off, loopback is switched on, and the FIFO
+ * step is made with this level.
+ */
+static inline uint8_t
+uart_enter_loopback(struct u16550_core_driver *uart,
+    struct u16550_core_maybe_fifo_trigger_level level)
+{
+    uint8_t before = uart_read_msr(uart);
+    uart_write_register(uart, UART_IER, 0);
+    uart_write_register(uart, UART_MCR, U16550_MCR_LOOP_BACK);
+    uart->fifo_enabled = uart_set_fifo(uart, level);
+    return before;
+}
+
+/*
+ * Checks whether a received byte is available: whether LSR shows DATA_READY.
+ *
+ * Does not wait: reads LSR once. The error bits that this clears are saved for the next lsr.
+ *
+ * Errors
+ *
+ * ByteReceiveError if no byte is available.
+ *
+ * Proved: one read of LSR, which shows a received byte exactly if the result is Ok.
+ */
+static inline bool uart_ready_to_receive(struct u16550_core_driver *uart)
+{
+    if ((uart_read_lsr(uart) & U16550_LSR_DATA_READY) == 0)
+        return false;
+    return true;
+}
+
+/*
+ * Receives one byte if one is available: reads LSR, and if it shows DATA_READY, RBR.
+ *
+ * Does not wait. The error bits that the read of LSR clears are saved for the next lsr; they
+ * belong to the byte that is then received, except for an overrun.
+ *
+ * Errors
+ *
+ * ByteReceiveError if no byte is available. RBR was not read then.
+ *
+ * Proved: LSR shows a received byte, which is read from DATA and returned; or LSR shows
+ * none.
+ */
+static inline struct u16550_core_maybe_u8 uart_try_receive_byte(struct u16550_core_driver *uart)
+{
+    if (!uart_ready_to_receive(uart))
+        return uart_no_u8();
+    return uart_some_u8(uart_read_register(uart, UART_DATA));
+}
+
+/*
+ * Discards received bytes until none is available: a byte from before the test would be taken
+ * for the first that returns. Returns false after as many bytes as the spin limit, right after
+ * the last of them. So with a limit of 1 one byte is too many, even if none is behind it.
+ *
+ * Proved: bytes that were received before the test are taken until none is available; or as
+ * many as the limit were taken.
+ */
+static inline bool uart_drain_received(struct u16550_core_driver *uart)
+{
+    uint64_t number = uart->spin_limit;
+    for (uint64_t turn = 0; turn < number; turn++) {
+        if (!uart_try_receive_byte(uart).is_some)
+            return true;
+    }
+    return false;
+}
+
+/* Writes a byte to DATA. */
+static inline void uart_write_byte(struct u16550_core_driver *uart, uint8_t byte)
+{
+    uart_device_write(&uart->backend, UART_DATA, byte);
+}
+
+/*
+ * Writes the test byte so many times, with no look between: what does not fit is lost.
+ *
+ * Proved: n lists of the language.
+ */
+static inline void uart_flood(struct u16550_core_driver *uart, size_t count)
+{
+    for (size_t turn = 0; turn < count; turn++)
+        uart_write_byte(uart, 66);
+}
+
+/*
+ * Takes what came back, and returns how many bytes that were. No more can come back than were
+ * sent, so no look follows the last of so many.
+ *
+ * Proved: bytes that came back are taken, until LSR shows none, or as many as were sent were
+ * taken: so many.
+ */
+static inline size_t uart_take_back(struct u16550_core_driver *uart)
+{
+    for (size_t count = 0; count < 257; count++) {
+        if (!uart_try_receive_byte(uart).is_some)
+            return count;
+    }
+    return 257;
+}
+
+/*
+ * Returns the largest size of no more than so many characters, or None if there is none.
+ *
+ * So a burst of the size that is returned is safe on a chip that holds so many.
+ *
+ * Proved: the largest size of no more than so many characters; none, if the smallest has
+ * more.
+ */
+static struct uart_maybe_fifo_size uart_fifo_size_largest_up_to(size_t characters)
+{
+    if (characters < 16)
+        return uart_no_fifo_size();
+    if (characters < 32)
+        return uart_some_fifo_size(UART_FIFO_SIZE_SIXTEEN);
+    if (characters < 64)
+        return uart_some_fifo_size(UART_FIFO_SIZE_THIRTY_TWO);
+    if (characters < 128)
+        return uart_some_fifo_size(UART_FIFO_SIZE_SIXTY_FOUR);
+    if (characters < 256)
+        return uart_some_fifo_size(UART_FIFO_SIZE_ONE_HUNDRED_TWENTY_EIGHT);
+    return uart_some_fifo_size(UART_FIFO_SIZE_TWO_HUNDRED_FIFTY_SIX);
+}
+
+/*
+ * Floods the transmitter, and tells the size by what comes back, while the device is in
+ * loopback.
+ *
+ * Proved: bytes from before are taken, the transmitter is flooded, and, once it is empty,
+ * what came back is counted; or one of the two waits reaches the limit.
+ */
+static struct uart_fifo_size_or_fifo_size_error uart_find_size(struct u16550_core_driver *uart)
+{
+    if (!uart_drain_received(uart))
+        return uart_bad_fifo_size_or_fifo_size_error(uart_fifo_size_error_stalled());
+    uart_flood(uart, 257);
+    if (!uart_wait_for(uart, U16550_LSR_TRANSMITTER_EMPTY))
+        return uart_bad_fifo_size_or_fifo_size_error(uart_fifo_size_error_stalled());
+    size_t returned = uart_take_back(uart);
+    struct uart_maybe_fifo_size found = uart_fifo_size_largest_up_to(returned);
+    if (found.is_some)
+        return uart_good_fifo_size_or_fifo_size_error(found.value);
+    return uart_bad_fifo_size_or_fifo_size_error(uart_fifo_size_error_too_few(returned));
+}
+
+/*
+ * Measures, and resets the FIFOs then. What a wait that reached the limit has left in the
+ * transmitter would go out otherwise, as soon as loopback is left.
+ *
+ * Proved: the measure, and then the FIFO step, which discards what is left of it.
+ */
+static inline struct uart_fifo_size_or_fifo_size_error
+uart_find_and_reset(struct u16550_core_driver *uart,
+    struct u16550_core_maybe_fifo_trigger_level level)
+{
+    struct uart_fifo_size_or_fifo_size_error found = uart_find_size(uart);
+    uart->fifo_enabled = uart_set_fifo(uart, level);
+    return found;
+}
+
+/*
+ * Reads a register, and saves none of its bits.
+ *
+ * Proved: a list of the language whose reads are not saved.
+ */
+static inline uint8_t uart_read_plain(struct u16550_core_driver *uart, size_t offset)
+{
+    return uart_device_read(&uart->backend, (uint8_t)offset);
+}
+
+/* Returns whether this line has changed. */
+static inline bool uart_msr_is_changed(uint8_t msr, uint8_t before, uint8_t line)
+{
+    return (before & line) != (msr & line);
+}
+
+/* Returns these bits if the condition holds, else none. */
+static inline uint8_t uart_flag(bool on, uint8_t bits)
+{
+    return on ? bits : 0;
+}
+
+/*
+ * Returns the changes of the lines since an earlier reading, as their bits: of RI only its
+ * trailing edge, from set to clear.
+ */
+static uint8_t uart_msr_changes_since(uint8_t msr, uint8_t before)
+{
+    uint8_t ri = uart_flag(uart_msr_is_changed(msr, before, U16550_MSR_CTS), U16550_MSR_DELTA_CTS);
+    uint8_t cd = uart_flag(uart_msr_is_changed(msr, before, U16550_MSR_DSR), U16550_MSR_DELTA_DSR);
+    uint8_t flag =
+        uart_flag((before & U16550_MSR_RI) != 0 && (msr & U16550_MSR_RI) == 0,
+        U16550_MSR_TRAILING_EDGE_RI);
+    return ri | cd |
+        (flag | uart_flag(uart_msr_is_changed(msr, before, U16550_MSR_CD), U16550_MSR_DELTA_CD));
+}
+
+/*
+ * Leaves loopback, restores MCR and IER, and saves the changes of the lines that are not due to
+ * the test.
+ *
+ * Proved: loopback is left, MCR and IER are restored, changes of the lines are saved, and
+ * the saved errors are those noted before.
+ */
+static void
+uart_leave_loopback(struct u16550_core_driver *uart, uint8_t mcr, uint8_t ier, uint8_t before,
+    uint8_t noted)
+{
+    uart_write_register(uart, UART_MCR, mcr & (uint8_t)~U16550_MCR_OUT_2_INT_ENABLE);
+    uint8_t plain = uart_read_plain(uart, 6);
+    uart_write_register(uart, UART_MCR, mcr);
+    uart_write_register(uart, UART_IER, ier);
+    uint8_t msr_changes_since = uart_msr_changes_since(plain, before);
+    uart->saved_msr |= msr_changes_since;
+    uart->saved_lsr = noted;
+}
+
+/*
+ * Finds how many characters the FIFOs of the chip hold as they are set up now: the largest
+ * FifoSize that is safe in send_burst.
+ *
+ * Sends 257 bytes in loopback without looking, and counts those that come back: they are as
+ * many as the smaller of the two FIFOs holds, or few more. A count between two sizes gives the
+ * lower one. Call it after init, on a chip that passed test_loopback, and keep the answer:
+ * it holds until something changes the mode of the FIFOs, as another driver or a reset.
+ *
+ * Nothing goes out on the line, but for what is in the transmitter already: the call waits
+ * until it is empty. Then it takes as long as its bytes need at the baud rate that is set up,
+ * for a FIFO of 256 about 268 ms at 9,600 baud and 22 ms at 115,200. What arrives on the line
+ * meanwhile is lost, and so are bytes that were received before and not taken: take them
+ * first. The divisor and the frame stay as they are.
+ *
+ * Waits at most spin_limit polls each time. The errors that are found in loopback are those
+ * of its own bytes, the overrun among them, and are discarded; error bits that were saved
+ * before it stay saved. Changes of the modem lines are saved as by test_loopback. The FIFOs
+ * are reset and set up again, with the level of the configuration, or one byte if none is
+ * configured, and fifo_enabled is read again. Afterwards MCR and IER are as before.
+ *
+ * A chip whose transmitter holds fewer characters than its receiver is measured right only if
+ * the transmitter sends little while the bytes are written, that is at usual baud rates.
+ *
+ * Errors
+ *
+ * - FifosOff if the FIFOs are off (fifo_enabled). No access was made.
+ * - Stalled after spin_limit unsuccessful polls in a row. If the first wait failed,
+ *   nothing was written, and what the polls cleared is saved. Later the FIFOs are reset, so
+ *   that of the bytes in the transmitter at most the rest of one character goes out.
+ * - TooFew if fewer than 16 bytes came back. Call test_loopback to see whether any does.
+ *
+ * Except for the first wait, MCR and IER are restored before the error is returned.
+ *
+ * Proved: nothing is done if the FIFOs are off. Else MCR and IER are read, and there is a
+ * wait for an empty transmitter. If it reaches the limit, nothing is written, and the result
+ * is a stall; else loopback is entered, the transmitter is flooded, what comes back is
+ * counted, the FIFOs are reset, and MCR and IER are restored. The result is the largest size
+ * of no more characters than came back.
+ */
+static struct uart_fifo_size_or_fifo_size_error uart_find_fifo_size(struct u16550_core_driver *uart)
+{
+    if (!uart->fifo_enabled)
+        return uart_bad_fifo_size_or_fifo_size_error(uart_fifo_size_error_fifos_off());
+    uint8_t mcr = uart_mcr(uart);
+    uint8_t ier = uart_ier(uart);
+    if (!uart_wait_for(uart, U16550_LSR_TRANSMITTER_EMPTY))
+        return uart_bad_fifo_size_or_fifo_size_error(uart_fifo_size_error_stalled());
+    uint8_t noted = uart->saved_lsr;
+    struct u16550_core_maybe_fifo_trigger_level level = uart_level_of(uart, true);
+    uint8_t before = uart_enter_loopback(uart, level);
+    struct uart_fifo_size_or_fifo_size_error found = uart_find_and_reset(uart, level);
+    uart_leave_loopback(uart, mcr, ier, before, noted);
+    return found;
 }
 
 /*
@@ -1908,71 +2418,6 @@ static void uart_set_line(struct u16550_core_driver *uart, uint16_t divisor, uin
 }
 
 /*
- * Returns the code of this trigger level, in the low two bits.
- *
- * Proved: the two bits from the lowest on are the code of this trigger level.
- */
-static uint8_t
-uart_fifo_trigger_level_to_raw_bits(enum u16550_core_fifo_trigger_level fifo_trigger_level)
-{
-    switch (fifo_trigger_level) {
-    case U16550_CORE_FIFO_TRIGGER_LEVEL_ONE:
-        return 0;
-    case U16550_CORE_FIFO_TRIGGER_LEVEL_FOUR:
-        return 1;
-    case U16550_CORE_FIFO_TRIGGER_LEVEL_EIGHT:
-        return 2;
-    case U16550_CORE_FIFO_TRIGGER_LEVEL_FOURTEEN:
-    default:
-        return 3;
-    }
-}
-
-/*
- * Returns the register with this trigger level. No other bit changes.
- *
- * Proved: the two bits from the lowest on are the code of this trigger level.
- * Proved: the eight bits are the same in both values, except those of a field.
- */
-static inline uint8_t
-uart_fcr_set_fifo_trigger_level(uint8_t fcr, enum u16550_core_fifo_trigger_level level)
-{
-    return (fcr & 63) | (uint8_t)(uart_fifo_trigger_level_to_raw_bits(level) << 6);
-}
-
-/* Returns FCR for a trigger level. */
-static inline uint8_t uart_fifo_control_of(struct u16550_core_maybe_fifo_trigger_level level)
-{
-    uint8_t resets = U16550_FCR_RX_FIFO_RESET | U16550_FCR_TX_FIFO_RESET;
-    if (level.is_some)
-        return uart_fcr_set_fifo_trigger_level(resets | U16550_FCR_FIFO_ENABLE, level.value);
-    return resets;
-}
-
-/*
- * Resets the FIFOs, enables them if there is a level, and returns whether they are on then.
- *
- * Proved: the FIFO step: FCR is written and, if a level is configured, ISR shows whether the
- * FIFO is on.
- */
-static inline bool
-uart_set_fifo(struct u16550_core_driver *uart, struct u16550_core_maybe_fifo_trigger_level level)
-{
-    uart_write_register(uart, UART_FCR, uart_fifo_control_of(level));
-    return level.is_some && uart_isr_fifo_enabled(uart_isr(uart));
-}
-
-/*
- * Reads a register, and saves none of its bits.
- *
- * Proved: a list of the language whose reads are not saved.
- */
-static inline uint8_t uart_read_plain(struct u16550_core_driver *uart, size_t offset)
-{
-    return uart_device_read(&uart->backend, (uint8_t)offset);
-}
-
-/*
  * Discards received bytes until none is available, or as many as the receiver can hold. More
  * are not discarded: a remote that never stops sending must not hold init for ever. What the
  * reads clear is not saved, since those errors are of bytes that nobody gets.
@@ -1988,23 +2433,6 @@ static inline void uart_drain(struct u16550_core_driver *uart)
             return;
         uart_read_plain(uart, 0);
     }
-}
-
-/*
- * Polls LSR until it shows these bits, or until the limit. Each wait has a loop of its own over
- * the limit, so the polls that count are those in a row: progress begins a new count.
- *
- * Proved: a wait for these bits of LSR: fewer reads without them than the limit and then one
- * with them; or as many without them.
- */
-static inline bool uart_wait_for(struct u16550_core_driver *uart, uint8_t bits)
-{
-    uint64_t number = uart->spin_limit;
-    for (uint64_t turn = 0; turn < number; turn++) {
-        if ((uart_read_lsr(uart) & bits) == bits)
-            return true;
-    }
-    return false;
 }
 
 /*
@@ -2329,21 +2757,6 @@ static inline uint8_t uart_peek_modem(struct u16550_core_driver *uart)
     return uart_read_msr(uart);
 }
 
-/*
- * Returns the trigger level for FIFOs that are on: the configured one, or one byte if none is
- * configured, as on a port that was taken by attach.
- */
-static inline struct u16550_core_maybe_fifo_trigger_level
-uart_level_of(const struct u16550_core_driver *uart, bool on)
-{
-    if (on) {
-        struct u16550_core_maybe_fifo_trigger_level found = uart->config.fifo_trigger_level;
-        return uart_some_fifo_trigger_level(found.is_some ? found.value
-            : U16550_CORE_FIFO_TRIGGER_LEVEL_ONE);
-    }
-    return uart_no_fifo_trigger_level();
-}
-
 /* Writes FCR as is asked for, and returns whether the FIFOs are on then. */
 static bool uart_change_fifos(struct u16550_core_driver *uart, enum uart_fifo_action action)
 {
@@ -2379,24 +2792,6 @@ uart_quiesce(struct u16550_core_driver *uart, uint8_t outputs, enum uart_fifo_ac
     uart_write_register(uart, UART_IER, 0);
     uart_set_modem_control(uart, outputs);
     uart->fifo_enabled = uart_change_fifos(uart, fifos);
-}
-
-/*
- * Checks whether a received byte is available: whether LSR shows DATA_READY.
- *
- * Does not wait: reads LSR once. The error bits that this clears are saved for the next lsr.
- *
- * Errors
- *
- * ByteReceiveError if no byte is available.
- *
- * Proved: one read of LSR, which shows a received byte exactly if the result is Ok.
- */
-static inline bool uart_ready_to_receive(struct u16550_core_driver *uart)
-{
-    if ((uart_read_lsr(uart) & U16550_LSR_DATA_READY) == 0)
-        return false;
-    return true;
 }
 
 /*
@@ -2438,26 +2833,6 @@ static inline enum uart_byte_send_error uart_ready_to_send(struct u16550_core_dr
     if (!uart_is_clear_to_send(uart))
         return UART_BYTE_SEND_ERROR_REMOTE_NOT_CLEAR_TO_SEND;
     return UART_BYTE_SEND_ERROR_NONE;
-}
-
-/*
- * Receives one byte if one is available: reads LSR, and if it shows DATA_READY, RBR.
- *
- * Does not wait. The error bits that the read of LSR clears are saved for the next lsr; they
- * belong to the byte that is then received, except for an overrun.
- *
- * Errors
- *
- * ByteReceiveError if no byte is available. RBR was not read then.
- *
- * Proved: LSR shows a received byte, which is read from DATA and returned; or LSR shows
- * none.
- */
-static inline struct u16550_core_maybe_u8 uart_try_receive_byte(struct u16550_core_driver *uart)
-{
-    if (!uart_ready_to_receive(uart))
-        return uart_no_u8();
-    return uart_some_u8(uart_read_register(uart, UART_DATA));
 }
 
 /*
@@ -2723,12 +3098,6 @@ static inline size_t uart_room(const struct u16550_core_driver *uart, enum uart_
     if (uart->fifo_enabled)
         return uart_fifo_size_characters(size);
     return 1;
-}
-
-/* Writes a byte to DATA. */
-static inline void uart_write_byte(struct u16550_core_driver *uart, uint8_t byte)
-{
-    uart_device_write(&uart->backend, UART_DATA, byte);
 }
 
 /* Writes the bytes to DATA in order. */
@@ -3198,39 +3567,6 @@ static struct uart_driver_state uart_state(const struct u16550_core_driver *uart
 }
 
 /*
- * Reads the modem lines, and sets the device to loopback with interrupts off.
- *
- * Proved: MSR is read, interrupts are switched off, loopback is switched on, and the FIFO
- * step is made.
- */
-static inline uint8_t uart_enter_loopback(struct u16550_core_driver *uart)
-{
-    uint8_t before = uart_read_msr(uart);
-    uart_write_register(uart, UART_IER, 0);
-    uart_write_register(uart, UART_MCR, U16550_MCR_LOOP_BACK);
-    uart->fifo_enabled = uart_set_fifo(uart, uart->config.fifo_trigger_level);
-    return before;
-}
-
-/*
- * Discards received bytes until none is available: a byte from before the test would be taken
- * for the first that returns. Returns false after as many bytes as the spin limit, right after
- * the last of them. So with a limit of 1 one byte is too many, even if none is behind it.
- *
- * Proved: bytes that were received before the test are taken until none is available; or as
- * many as the limit were taken.
- */
-static inline bool uart_drain_received(struct u16550_core_driver *uart)
-{
-    uint64_t number = uart->spin_limit;
-    for (uint64_t turn = 0; turn < number; turn++) {
-        if (!uart_try_receive_byte(uart).is_some)
-            return true;
-    }
-    return false;
-}
-
-/*
  * Sends one byte if there is room: makes one check as ready_to_send, and one write to THR.
  *
  * Does not wait.
@@ -3380,53 +3716,6 @@ static inline struct uart_loopback_error uart_exchange(struct u16550_core_driver
     return uart_exchange_message(uart);
 }
 
-/* Returns whether this line has changed. */
-static inline bool uart_msr_is_changed(uint8_t msr, uint8_t before, uint8_t line)
-{
-    return (before & line) != (msr & line);
-}
-
-/* Returns these bits if the condition holds, else none. */
-static inline uint8_t uart_flag(bool on, uint8_t bits)
-{
-    return on ? bits : 0;
-}
-
-/*
- * Returns the changes of the lines since an earlier reading, as their bits: of RI only its
- * trailing edge, from set to clear.
- */
-static uint8_t uart_msr_changes_since(uint8_t msr, uint8_t before)
-{
-    uint8_t ri = uart_flag(uart_msr_is_changed(msr, before, U16550_MSR_CTS), U16550_MSR_DELTA_CTS);
-    uint8_t cd = uart_flag(uart_msr_is_changed(msr, before, U16550_MSR_DSR), U16550_MSR_DELTA_DSR);
-    uint8_t flag =
-        uart_flag((before & U16550_MSR_RI) != 0 && (msr & U16550_MSR_RI) == 0,
-        U16550_MSR_TRAILING_EDGE_RI);
-    return ri | cd |
-        (flag | uart_flag(uart_msr_is_changed(msr, before, U16550_MSR_CD), U16550_MSR_DELTA_CD));
-}
-
-/*
- * Leaves loopback, restores MCR and IER, and saves the changes of the lines that are not due to
- * the test.
- *
- * Proved: loopback is left, MCR and IER are restored, changes of the lines are saved, and
- * the saved errors are those noted before.
- */
-static void
-uart_leave_loopback(struct u16550_core_driver *uart, uint8_t mcr, uint8_t ier, uint8_t before,
-    uint8_t noted)
-{
-    uart_write_register(uart, UART_MCR, mcr & (uint8_t)~U16550_MCR_OUT_2_INT_ENABLE);
-    uint8_t plain = uart_read_plain(uart, 6);
-    uart_write_register(uart, UART_MCR, mcr);
-    uart_write_register(uart, UART_IER, ier);
-    uint8_t msr_changes_since = uart_msr_changes_since(plain, before);
-    uart->saved_msr |= msr_changes_since;
-    uart->saved_lsr = noted;
-}
-
 /*
  * Tests whether bytes that are sent return while the device is in loopback: first one byte,
  * and then a message of 16.
@@ -3469,7 +3758,7 @@ static struct uart_loopback_error uart_test_loopback(struct u16550_core_driver *
     if (!uart_wait_for(uart, U16550_LSR_TRANSMITTER_EMPTY))
         return uart_loopback_error_stalled();
     uint8_t noted = uart->saved_lsr;
-    uint8_t before = uart_enter_loopback(uart);
+    uint8_t before = uart_enter_loopback(uart, uart->config.fifo_trigger_level);
     struct uart_loopback_error outcome = uart_exchange(uart);
     uart_leave_loopback(uart, mcr, ier, before, noted);
     return outcome;
@@ -4251,10 +4540,204 @@ static bool uart_handle_line(struct uart_line_ports *ports, size_t limit, uint32
     return has_served;
 }
 
+/*
+ * Returns whether a ring can have this capacity.
+ *
+ * Proved: how many bytes a ring can be made for: 1 to 4096.
+ */
+static inline bool uart_is_capacity(size_t capacity)
+{
+    return 1 <= capacity && capacity <= 4096;
+}
+
+/* Returns an empty queue with room for this number of bytes. */
+static inline struct uart_maybe_byte_queue
+uart_byte_queue_with_capacity(struct uart_memory *alloc, size_t capacity)
+{
+    struct uart_maybe_vec_u8 found = uart_cells_in_memory(alloc, 0, capacity);
+    if (!found.is_some)
+        return uart_no_byte_queue();
+    return uart_some_byte_queue(uart_make_byte_queue(found.value, 0, 0));
+}
+
+/*
+ * Returns a backend over this one, with room for the errors of so many bytes: as many as the
+ * receive ring has room for. Makes no access.
+ *
+ * Allocates its memory; nothing later allocates.
+ *
+ * Errors
+ *
+ * - BadCapacity if the capacity is 0 or more than
+ *   MAX_CAPACITY.
+ * - OutOfMemory if memory could not be allocated.
+ *
+ * The backend is returned with the error, unchanged.
+ *
+ * Proved: notes of nothing over this backend, with room for the errors of so many bytes.
+ * Proved: how many bytes a ring can be made for: 1 to 4096.
+ */
+static struct uart_error_notes_or_pair_of_ring_error
+uart_error_notes_new(struct uart_memory *alloc, struct u16550_device backend, size_t capacity)
+{
+    struct uart_error_notes_or_pair_of_ring_error made;
+    if (!uart_is_capacity(capacity)) {
+        made.is_error = true;
+        made.error.first = backend;
+        made.error.second = UART_RING_ERROR_BAD_CAPACITY;
+        return made;
+    }
+    struct uart_maybe_byte_queue found = uart_byte_queue_with_capacity(alloc, capacity);
+    if (!found.is_some) {
+        made.is_error = true;
+        made.error.first = backend;
+        made.error.second = UART_RING_ERROR_OUT_OF_MEMORY;
+        return made;
+    }
+    made.value.backend = backend;
+    made.value.noted = found.value;
+    made.value.shown = 0;
+    made.value.is_latch = false;
+    made.value.is_overrun_old = true;
+    made.is_error = false;
+    return made;
+}
+
 /* Returns the largest number of bytes. */
 static inline size_t uart_byte_queue_capacity(const struct u16550_core_byte_queue *byte_queue)
 {
     return byte_queue->cells.len;
+}
+
+/* Returns how many bytes make way for one more: the first one, if there is no room. */
+static inline size_t uart_byte_queue_in_the_way(const struct u16550_core_byte_queue *byte_queue)
+{
+    size_t number = byte_queue->len;
+    if (number < uart_byte_queue_capacity(byte_queue))
+        return 0;
+    size_t number2 = byte_queue->len;
+    return 1 < number2 ? 1 : number2;
+}
+
+/*
+ * Returns the cell that is count behind cell, of so many cells.
+ *
+ * Proved: this is the cell that is count behind cell, of so many cells: behind the last one
+ * is the first.
+ */
+static inline size_t uart_cell_behind(size_t cell, size_t count, size_t cells)
+{
+    size_t to_end = cells - cell;
+    return count < to_end ? cell + count : count - to_end;
+}
+
+/* Drops this number of bytes from the front. */
+static inline void
+uart_byte_queue_drop_front(struct u16550_core_byte_queue *byte_queue, size_t count)
+{
+    size_t number = byte_queue->front;
+    byte_queue->front = uart_cell_behind(number, count, uart_byte_queue_capacity(byte_queue));
+    byte_queue->len -= count;
+}
+
+/* Copies bytes to the slots from place on, as many as both have, and returns how many. */
+static inline size_t
+uart_copy(const uint8_t *bytes, size_t bytes_len, uint8_t *slots, size_t slots_len, size_t place)
+{
+    size_t number = slots_len - place;
+    size_t number2 = number < bytes_len ? number : bytes_len;
+    if (0 < number2)
+        uart_copy_bytes(&slots[place], bytes, place + number2 - place);
+    return number2;
+}
+
+/*
+ * Appends bytes from the front of the slice, as many as there is room for, and returns how
+ * many.
+ */
+static size_t
+uart_byte_queue_fill_from_slice(struct u16550_core_byte_queue *byte_queue, const uint8_t *bytes,
+    size_t bytes_len)
+{
+    size_t byte_queue_capacity = uart_byte_queue_capacity(byte_queue);
+    size_t number = byte_queue_capacity - byte_queue->len;
+    size_t number2 = number < bytes_len ? number : bytes_len;
+    size_t number3 = byte_queue->front;
+    size_t number4 = byte_queue->len;
+    size_t behind = uart_cell_behind(number3, number4, uart_byte_queue_capacity(byte_queue));
+    uint8_t *cells = byte_queue->cells.data;
+    size_t cells_len = byte_queue->cells.len;
+    size_t before = uart_copy(bytes, number2, cells, cells_len, behind);
+    size_t count = before + uart_copy(&bytes[before], number2 - before, cells, cells_len, 0);
+    byte_queue->len += count;
+    return count;
+}
+
+/* Appends a byte. If there is no room for it, the first one makes way. */
+static inline void
+uart_byte_queue_push_last(struct u16550_core_byte_queue *byte_queue, uint8_t byte)
+{
+    uart_byte_queue_drop_front(byte_queue, uart_byte_queue_in_the_way(byte_queue));
+    struct uart_bytes1 bytes;
+    bytes.bytes[0] = byte;
+    uart_byte_queue_fill_from_slice(byte_queue, bytes.bytes, 1);
+}
+
+/* Notes what a read showed. */
+static void
+uart_error_notes_note_read(struct u16550_core_error_notes *error_notes, size_t offset,
+    uint8_t answer)
+{
+    if (offset == 5) {
+        error_notes->shown |= answer & (error_notes->is_overrun_old
+            ? U16550_LSR_PARITY_ERROR | U16550_LSR_FRAMING_ERROR | U16550_LSR_BREAK_INTERRUPT
+            : U16550_LSR_OVERRUN_ERROR | U16550_LSR_PARITY_ERROR | U16550_LSR_FRAMING_ERROR |
+            U16550_LSR_BREAK_INTERRUPT);
+        error_notes->is_overrun_old = false;
+    } else if (offset == 0 && !error_notes->is_latch) {
+        uart_byte_queue_push_last(&error_notes->noted, error_notes->shown);
+        error_notes->shown = 0;
+    }
+}
+
+/*
+ * Reads the register at an offset of 0 to 7, and returns its value.
+ *
+ * Called once for each read that the driver makes. A read may change the device: one of LSR
+ * clears its error bits.
+ */
+static inline uint8_t
+uart_error_notes_read(struct u16550_core_error_notes *error_notes, uint8_t register_offset)
+{
+    uint8_t answer = uart_device_read(&error_notes->backend, register_offset);
+    uart_error_notes_note_read(error_notes, (size_t)register_offset, answer);
+    return answer;
+}
+
+/* Notes what a write changes. */
+static inline void
+uart_error_notes_note_write(struct u16550_core_error_notes *error_notes, size_t offset,
+    uint8_t value)
+{
+    if (offset == 3) {
+        error_notes->is_latch = (value & U16550_LCR_DLAB) != 0;
+    } else if (offset == 2 && (value & U16550_FCR_RX_FIFO_RESET) != 0) {
+        error_notes->shown = 0;
+        error_notes->is_overrun_old = true;
+    }
+}
+
+/*
+ * Writes a value to the register at an offset of 0 to 7.
+ *
+ * Called once for each write that the driver makes, in the driver's order.
+ */
+static inline void
+uart_error_notes_write(struct u16550_core_error_notes *error_notes, uint8_t register_offset,
+    uint8_t value)
+{
+    uart_device_write(&error_notes->backend, register_offset, value);
+    uart_error_notes_note_write(error_notes, (size_t)register_offset, value);
 }
 
 /* Returns whether the other end may send, or None if that is to stay as it is. */
@@ -4333,17 +4816,6 @@ uart_byte_queue_as_slices(const struct u16550_core_byte_queue *byte_queue)
         uart_make_slice(cells, byte_queue->len - number4));
 }
 
-/* Copies bytes to the slots from place on, as many as both have, and returns how many. */
-static inline size_t
-uart_copy(const uint8_t *bytes, size_t bytes_len, uint8_t *slots, size_t slots_len, size_t place)
-{
-    size_t number = slots_len - place;
-    size_t number2 = number < bytes_len ? number : bytes_len;
-    if (0 < number2)
-        uart_copy_bytes(&slots[place], bytes, place + number2 - place);
-    return number2;
-}
-
 /*
  * Copies bytes from the front, as many as there are slots, and returns how many. Leaves the
  * other slots unchanged.
@@ -4384,27 +4856,6 @@ uart_ring_copy_sendable(const struct u16550_core_ring *ring, uint8_t *slots, siz
         return 1 + uart_ring_copy_queued(ring, &slots[1], slots_len - 1);
     }
     return uart_ring_copy_queued(ring, slots, slots_len);
-}
-
-/*
- * Returns the cell that is count behind cell, of so many cells.
- *
- * Proved: this is the cell that is count behind cell, of so many cells: behind the last one
- * is the first.
- */
-static inline size_t uart_cell_behind(size_t cell, size_t count, size_t cells)
-{
-    size_t to_end = cells - cell;
-    return count < to_end ? cell + count : count - to_end;
-}
-
-/* Drops this number of bytes from the front. */
-static inline void
-uart_byte_queue_drop_front(struct u16550_core_byte_queue *byte_queue, size_t count)
-{
-    size_t number = byte_queue->front;
-    byte_queue->front = uart_cell_behind(number, count, uart_byte_queue_capacity(byte_queue));
-    byte_queue->len -= count;
 }
 
 /*
@@ -4643,6 +5094,79 @@ static inline struct u16550_dump uart_ring_config_register_dump(struct u16550_co
     return dump;
 }
 
+/* Returns the byte at this place, from the front on. */
+static inline uint8_t
+uart_byte_queue_byte_at(const struct u16550_core_byte_queue *byte_queue, size_t place)
+{
+    struct uart_pair_of_slice pair = uart_byte_queue_as_slices(byte_queue);
+    return place < pair.first.len ? pair.first.data[place]
+        : pair.second.data[place - pair.first.len];
+}
+
+/*
+ * Copies the first bytes with the errors that are noted of them to the slots, as many as both have,
+ * and returns how many. More may be noted before the first byte.
+ */
+static size_t
+uart_copy_with_errors(const struct u16550_core_byte_queue *bytes,
+    const struct u16550_core_byte_queue *noted, struct u16550_received *slots, size_t slots_len)
+{
+    size_t before = noted->len - bytes->len;
+    for (size_t place = 0; place < slots_len; place++) {
+        if (place == bytes->len)
+            return place;
+        uint8_t byte = uart_byte_queue_byte_at(bytes, place);
+        slots[place] = uart_make_received(byte, uart_byte_queue_byte_at(noted, before + place));
+    }
+    return slots_len;
+}
+
+/*
+ * Copies the first bytes with the errors that are noted of them, as many as there are slots, and
+ * returns how many, unless fewer errors are noted than there are bytes.
+ */
+static inline struct uart_u64_or_unnoted_error
+uart_copy_noted(const struct u16550_core_byte_queue *bytes,
+    const struct u16550_core_byte_queue *noted, struct u16550_received *slots, size_t slots_len)
+{
+    if (noted->len < bytes->len)
+        return uart_bad_u64_or_unnoted_error(bytes->len - noted->len);
+    return uart_good_u64_or_unnoted_error(uart_copy_with_errors(bytes, noted, slots, slots_len));
+}
+
+/*
+ * Copies received bytes from the front of the receive ring, each with the errors that these
+ * notes have of it, as many as there are slots, and returns how many. Takes none of them, and
+ * leaves the other slots unchanged.
+ *
+ * It is for a backend that reaches the notes somewhere else, as through a pointer. What
+ * take_with_errors does, this and a take of so many bytes do.
+ * The notes are those that each access of the driver goes through; others tell of other bytes.
+ *
+ * Errors
+ *
+ * UnnotedError if fewer errors are noted than bytes are in the receive ring. Then nothing is
+ * copied.
+ */
+static inline struct uart_u64_or_unnoted_error
+uart_ring_copy_with_notes(const struct u16550_core_ring *ring,
+    const struct u16550_core_error_notes *notes, struct u16550_received *slots, size_t slots_len)
+{
+    return uart_copy_noted(&ring->receive, &notes->noted, slots, slots_len);
+}
+
+/*
+ * Drops so many bytes that were taken from the front of the receive ring.
+ *
+ * Proved: this if the count is more than 0, else nothing at all.
+ * Proved: if receiving is paused, DATA_READY is enabled, and the pause ends.
+ */
+static inline void uart_ring_drop_taken(struct u16550_core_ring *ring, size_t count)
+{
+    uart_byte_queue_drop_front(&ring->receive, count);
+    uart_ring_end_pause(ring, count);
+}
+
 /*
  * Returns the interrupt that the low nibble of an ISR value identifies.
  *
@@ -4708,28 +5232,6 @@ static inline void uart_ring_note_line(struct u16550_core_ring *ring)
     ring->line |= lsr;
 }
 
-/*
- * Appends bytes from the front of the slice, as many as there is room for, and returns how
- * many.
- */
-static size_t
-uart_byte_queue_fill_from_slice(struct u16550_core_byte_queue *byte_queue, const uint8_t *bytes,
-    size_t bytes_len)
-{
-    size_t byte_queue_capacity = uart_byte_queue_capacity(byte_queue);
-    size_t number = byte_queue_capacity - byte_queue->len;
-    size_t number2 = number < bytes_len ? number : bytes_len;
-    size_t number3 = byte_queue->front;
-    size_t number4 = byte_queue->len;
-    size_t behind = uart_cell_behind(number3, number4, uart_byte_queue_capacity(byte_queue));
-    uint8_t *cells = byte_queue->cells.data;
-    size_t cells_len = byte_queue->cells.len;
-    size_t before = uart_copy(bytes, number2, cells, cells_len, behind);
-    size_t count = before + uart_copy(&bytes[before], number2 - before, cells, cells_len, 0);
-    byte_queue->len += count;
-    return count;
-}
-
 /* Returns whether there is no room for another byte. */
 static inline bool uart_byte_queue_is_full(const struct u16550_core_byte_queue *byte_queue)
 {
@@ -4764,6 +5266,9 @@ static void uart_ring_fill_receive_ring(struct u16550_core_ring *ring)
     size_t byte_queue_capacity = uart_byte_queue_capacity(&ring->receive);
     size_t number = byte_queue_capacity - ring->receive.len;
     size_t count = uart_receive_bytes(&ring->uart, slots.bytes, number < 16 ? number : 16);
+    size_t number2 = ring->unlooked;
+    size_t number3 = ring->receive.len;
+    ring->unlooked = (number3 < number2 ? number3 : number2) + count;
     uart_byte_queue_fill_from_slice(&ring->receive, slots.bytes, count);
     uart_ring_pause_if_full(ring);
 }
@@ -5099,26 +5604,6 @@ uart_ring_lower_line(struct u16550_core_ring *ring, size_t limit, uint32_t round
 }
 
 /*
- * Returns whether a ring can have this capacity.
- *
- * Proved: how many bytes a ring can be made for: 1 to 4096.
- */
-static inline bool uart_is_capacity(size_t capacity)
-{
-    return 1 <= capacity && capacity <= 4096;
-}
-
-/* Returns an empty queue with room for this number of bytes. */
-static inline struct uart_maybe_byte_queue
-uart_byte_queue_with_capacity(struct uart_memory *alloc, size_t capacity)
-{
-    struct uart_maybe_vec_u8 found = uart_cells_in_memory(alloc, 0, capacity);
-    if (!found.is_some)
-        return uart_no_byte_queue();
-    return uart_some_byte_queue(uart_make_byte_queue(found.value, 0, 0));
-}
-
-/*
  * Returns empty rings over this driver, for tx_capacity bytes that are to be sent and
  * rx_capacity received bytes.
  *
@@ -5167,12 +5652,80 @@ uart_ring_new(struct uart_memory *alloc, struct u16550_core_driver uart, size_t 
     made.value.urgent = uart_no_u8();
     made.value.is_held = false;
     made.value.has_told_xoff = false;
+    made.value.unlooked = 0;
     made.value.low_mark = 0;
     made.value.is_low = false;
     made.value.rounds = 0;
     made.value.stuck = uart_no_stuck_error();
     made.is_error = false;
     return made;
+}
+
+/* Returns the last XON or XOFF of the bytes at which obey_xoff has not looked yet. */
+static struct u16550_core_maybe_u8 uart_ring_last_told(const struct u16550_core_ring *ring)
+{
+    struct u16550_core_maybe_u8 told = uart_no_u8();
+    size_t number = ring->receive.len;
+    size_t number2 = ring->unlooked;
+    size_t number3 = number < number2 ? number : number2;
+    for (size_t place = number - number3; place < number; place++) {
+        uint8_t byte = uart_byte_queue_byte_at(&ring->receive, place);
+        if ((byte == 17) || (byte == 19))
+            told = uart_some_u8(byte);
+    }
+    return told;
+}
+
+/*
+ * Ends the hold of the transmit ring, and starts sending again as resume_transmit does, so
+ * that no interrupt is missed which came during the hold.
+ *
+ * Does not wait.
+ *
+ * Proved: the ring is no longer held, and sending resumes.
+ */
+static inline void uart_ring_release_transmit(struct u16550_core_ring *ring)
+{
+    ring->is_held = false;
+    uart_ring_resume_transmit(ring);
+}
+
+/*
+ * Obeys the other end, which holds this end back by XOFF and lets it go on by XON: holds the
+ * transmit ring if it told XOFF last, and releases it if it told XON last. Returns that
+ * character, or None if none came.
+ *
+ * It looks at the bytes that came into the receive ring since it looked last, and were not
+ * taken meanwhile. So it sees each character once, and of several the last one counts. All
+ * bytes stay in the receive ring, in their order and with their errors: a program whose
+ * readers are to see neither character leaves both out of what it takes. Bytes of these values
+ * are taken for the characters, so this is for text.
+ *
+ * The hold is that of hold_transmit. A program that holds the ring for a reason of its own
+ * does not call this meanwhile: the characters wait, and the next call obeys the last one.
+ * What is in the chip goes out after an XOFF, and an urgent byte still does.
+ *
+ * Call it at the end of the interrupt handler, before the program takes what came. While
+ * receiving is paused the characters stay in the chip: so choose a receive ring with room, or
+ * an XON behind a full one is seen only after a take.
+ *
+ * Does not wait. At an XON it makes the accesses of a release_transmit. Otherwise it makes
+ * none.
+ *
+ * Proved: of the bytes that came into the receive ring since it looked last, and are still
+ * there, the last XON or XOFF is obeyed, and is the result. All bytes stay there.
+ */
+static struct u16550_core_maybe_u8 uart_ring_obey_xoff(struct u16550_core_ring *ring)
+{
+    struct u16550_core_maybe_u8 told = uart_ring_last_told(ring);
+    ring->unlooked = 0;
+    if (!told.is_some)
+        return uart_no_u8();
+    if (told.value == 17)
+        uart_ring_release_transmit(ring);
+    else
+        ring->is_held = true;
+    return told;
 }
 
 /*
@@ -5220,20 +5773,6 @@ static inline void uart_ring_raise_line(struct u16550_core_ring *ring, uint8_t e
 static inline size_t uart_ring_receive_len(const struct u16550_core_ring *ring)
 {
     return ring->receive.len;
-}
-
-/*
- * Ends the hold of the transmit ring, and starts sending again as resume_transmit does, so
- * that no interrupt is missed which came during the hold.
- *
- * Does not wait.
- *
- * Proved: the ring is no longer held, and sending resumes.
- */
-static inline void uart_ring_release_transmit(struct u16550_core_ring *ring)
-{
-    ring->is_held = false;
-    uart_ring_resume_transmit(ring);
 }
 
 /* Returns these interrupts, without DATA_READY while receiving is paused. */
@@ -5414,6 +5953,263 @@ static inline size_t uart_ring_transmit_room(const struct u16550_core_ring *ring
 static inline struct u16550_core_maybe_u8 uart_ring_urgent(const struct u16550_core_ring *ring)
 {
     return ring->urgent;
+}
+
+/*
+ * Waits until the transmitter is empty, at most spin_limit polls of LSR, as flush of the
+ * driver does. The direction stays as it is.
+ *
+ * Errors
+ *
+ * StalledError, with done 0, after spin_limit unsuccessful polls in a row.
+ *
+ * Proved: the driver does this, and of the other fields only this changes.
+ * Proved: a list of the language whose reads are saved.
+ * Proved: a wait for an empty transmitter.
+ */
+static inline struct uart_maybe_stalled_error
+uart_half_duplex_flush(struct u16550_core_half_duplex *half_duplex)
+{
+    return uart_flush(&half_duplex->uart);
+}
+
+/* Returns the driver. The direction stays as it is, so finish before. Makes no access. */
+static inline struct u16550_core_driver
+uart_half_duplex_into_inner(struct u16550_core_half_duplex half_duplex)
+{
+    return half_duplex.uart;
+}
+
+/*
+ * Returns whether the transmitter is empty, as is_idle of the driver does: reads LSR once.
+ *
+ * Does not wait. The error bits that this clears are saved for the next lsr.
+ *
+ * Proved: the driver does this, and of the other fields only this changes.
+ * Proved: a list of the language whose reads are saved.
+ * Proved: one read of LSR, which shows whether the transmitter is empty.
+ */
+static inline bool uart_half_duplex_is_idle(struct u16550_core_half_duplex *half_duplex)
+{
+    return uart_is_idle(&half_duplex->uart);
+}
+
+/* Returns whether the direction is to send. Makes no access. */
+static inline bool uart_half_duplex_is_sending(const struct u16550_core_half_duplex *half_duplex)
+{
+    return half_duplex->is_sending;
+}
+
+/*
+ * Reads LSR, and returns it joined with the error bits that all calls before have cleared in
+ * the chip, as lsr of the driver does. Afterwards no error bits are saved.
+ *
+ * Proved: the driver does this, and of the other fields only this changes.
+ * Proved: one read of LSR, which is returned joined with the saved bits, of which none are
+ * left.
+ */
+static inline uint8_t uart_half_duplex_lsr(struct u16550_core_half_duplex *half_duplex)
+{
+    return uart_lsr(&half_duplex->uart);
+}
+
+/* Returns whether the bit of the output is set in this direction. */
+static inline bool uart_direction_level(struct u16550_core_direction direction, bool sends)
+{
+    return sends ? direction.sends_when_set : !direction.sends_when_set;
+}
+
+/*
+ * Switches the transceiver to send, or to receive.
+ *
+ * Proved: the transceiver is switched: MCR is read, and written with the line as it is to be
+ * in this direction, without loopback, as by the driver's set_rts or set_dtr.
+ */
+static inline void uart_half_duplex_turn(struct u16550_core_half_duplex *half_duplex, bool sends)
+{
+    bool on = uart_direction_level(half_duplex->direction, sends);
+    if (half_duplex->direction.line == U16550_CORE_DIRECTION_LINE_RTS)
+        uart_set_rts(&half_duplex->uart, on);
+    else
+        uart_set_dtr(&half_duplex->uart, on);
+    half_duplex->is_sending = sends;
+}
+
+/*
+ * Gives the bus back if the transmitter is empty: reads LSR once and, if it shows
+ * TRANSMITTER_EMPTY, MCR, and writes that with the line so that the transceiver receives.
+ *
+ * Does not wait. The error bits that the read of LSR clears are saved for the next lsr. Call
+ * it some time after is_idle was true or flush returned: some chips show an empty
+ * transmitter while the last stop bit is still on the line.
+ *
+ * Errors
+ *
+ * BusyError if the transmitter is not empty. Nothing was written, and the direction is as it
+ * was.
+ *
+ * Proved: a look at LSR shows that the transmitter is empty, and the transceiver is switched
+ * to receive; or it shows that it is not, and nothing else is done.
+ */
+static inline bool uart_half_duplex_try_finish(struct u16550_core_half_duplex *half_duplex)
+{
+    if (!uart_is_idle(&half_duplex->uart))
+        return false;
+    uart_half_duplex_turn(half_duplex, false);
+    return true;
+}
+
+/*
+ * Returns a driver at a bus that it may drive, with the transceiver switched to receive.
+ *
+ * Makes the accesses of try_finish, since an init or whoever had the port before may have
+ * left the transceiver so that it sends, and may have sent. Does not wait. Initialise the
+ * driver before, with the outputs of Direction_receiving.
+ *
+ * Errors
+ *
+ * BusyError if the transmitter is not empty. Nothing was written then, and the driver is
+ * returned: flush it, and try again.
+ *
+ * Proved: as try_finish of a driver of whose direction nothing is known, so that it is taken
+ * to be to send. If the transmitter is not empty, the driver is returned.
+ */
+static struct uart_half_duplex_or_pair_of_driver_busy_error
+uart_half_duplex_new(struct u16550_core_driver uart, struct u16550_core_direction direction)
+{
+    struct uart_half_duplex_or_pair_of_driver_busy_error made;
+    made.value = uart_make_half_duplex(uart, direction);
+    if (uart_half_duplex_try_finish(&made.value)) {
+        made.is_error = false;
+        return made;
+    }
+    made.is_error = true;
+    made.error.first = made.value.uart;
+    return made;
+}
+
+/*
+ * Receives bytes while some are available and there are free slots, as receive_bytes of the
+ * driver does. Returns how many, and leaves the slots beyond them unchanged.
+ *
+ * Does not wait, in either direction. If the receiver hears what this end sends, these bytes
+ * are among those that are received.
+ *
+ * Proved: the driver does this, and of the other fields only this changes.
+ * Proved: a list of the language whose reads are saved.
+ * Proved: bytes are read from DATA, each after LSR shows it, until the slots are full, or
+ * LSR shows none.
+ */
+static inline size_t
+uart_half_duplex_receive_bytes(struct u16550_core_half_duplex *half_duplex, uint8_t *buffer,
+    size_t buffer_len)
+{
+    return uart_receive_bytes(&half_duplex->uart, buffer, buffer_len);
+}
+
+/*
+ * Receives bytes with their errors while some are available and there are free slots, as
+ * receive_with_errors of the driver does.
+ *
+ * Does not wait. A byte that was received while two ends sent at once has mostly an error, and
+ * while no end drives a bus without resistors that hold it there may be errors and breaks.
+ *
+ * Proved: the driver does this, and of the other fields only this changes.
+ * Proved: a list of the language whose reads are saved.
+ * Proved: bytes are read from DATA, each after LSR shows it and its errors, until the slots
+ * are full, or LSR shows none.
+ */
+static inline size_t
+uart_half_duplex_receive_with_errors(struct u16550_core_half_duplex *half_duplex,
+    struct u16550_received *slots, size_t slots_len)
+{
+    return uart_receive_with_errors(&half_duplex->uart, slots, slots_len);
+}
+
+/*
+ * Sends bytes from the front of the slice if there is room, and returns how many, as
+ * send_bytes of the driver does: up to 16 if the FIFO is on, else one.
+ *
+ * Does not wait. Call it again with the rest of the slice to send more.
+ *
+ * Errors
+ *
+ * NotSendingError if the direction is not to send. No access was made.
+ *
+ * Proved: while the direction is to send, a send_bytes of the driver; else nothing, and the
+ * error.
+ */
+static inline struct uart_maybe_u64
+uart_half_duplex_send_bytes(struct u16550_core_half_duplex *half_duplex, const uint8_t *buffer,
+    size_t buffer_len)
+{
+    if (!half_duplex->is_sending)
+        return uart_no_u64();
+    return uart_some_u64(uart_send_bytes(&half_duplex->uart, buffer, buffer_len));
+}
+
+/*
+ * Sends all of the bytes, and waits for room before each burst, as send_bytes_exact of the
+ * driver does.
+ *
+ * It returns when the last burst is in THR or the FIFO. flush waits until all of it has left
+ * the chip.
+ *
+ * Errors
+ *
+ * - NotSending if the direction is not to send. No access was made.
+ * - Stalled after spin_limit unsuccessful checks in a row. The first done bytes were
+ *   written to the chip.
+ *
+ * Proved: while the direction is to send, a send_bytes_exact of the driver; else nothing,
+ * and the error.
+ */
+static struct uart_send_error
+uart_half_duplex_send_bytes_exact(struct u16550_core_half_duplex *half_duplex,
+    const uint8_t *bytes, size_t bytes_len)
+{
+    if (!half_duplex->is_sending)
+        return uart_send_error_not_sending();
+    struct uart_maybe_stalled_error found =
+        uart_send_bytes_exact(&half_duplex->uart, bytes, bytes_len);
+    if (found.is_error)
+        return uart_send_error_stalled(found.error);
+    return uart_send_error_none();
+}
+
+/*
+ * Switches the transceiver to send: reads MCR, and writes it with the line so, as set_rts or
+ * set_dtr of the driver do. From now on bytes may be sent.
+ *
+ * Does not wait. Before the first byte wait as long as the transceiver takes.
+ *
+ * Proved: the transceiver is switched: MCR is read, and written with the line as it is to be
+ * in this direction, without loopback, as by the driver's set_rts or set_dtr.
+ */
+static inline void uart_half_duplex_start_sending(struct u16550_core_half_duplex *half_duplex)
+{
+    uart_half_duplex_turn(half_duplex, true);
+}
+
+/* Returns the bit of the output. */
+static inline uint8_t uart_direction_bit(struct u16550_core_direction direction)
+{
+    return direction.line == U16550_CORE_DIRECTION_LINE_RTS ? U16550_MCR_RTS : U16550_MCR_DTR;
+}
+
+/*
+ * Returns these outputs with the line as it is to be while the transceiver receives.
+ *
+ * init raises RTS and DTR. On a bus with other ends that may send, initialise the chip with
+ * these outputs instead, by init_with: else this end may hold the bus until
+ * HalfDuplex_new.
+ */
+static inline uint8_t
+uart_direction_receiving(struct u16550_core_direction direction, uint8_t outputs)
+{
+    if (uart_direction_level(direction, false))
+        return outputs | uart_direction_bit(direction);
+    return outputs & (uint8_t)~uart_direction_bit(direction);
 }
 
 /*
@@ -5656,6 +6452,8 @@ UART_ALIGNMENT(difference, struct u16550_difference);
 UART_ALIGNMENT(handled, struct u16550_handled);
 UART_ALIGNMENT(port, struct u16550_line_port);
 UART_ALIGNMENT(chip, struct u16550_design_ware);
+UART_ALIGNMENT(notes, struct u16550_notes);
+UART_ALIGNMENT(bus, struct u16550_bus);
 UART_ALIGNMENT(size, size_t);
 UART_ALIGNMENT(u64, uint64_t);
 UART_ALIGNMENT(u32, uint32_t);
@@ -5911,6 +6709,37 @@ static int uart_decode_fifo_size(uint16_t from, enum uart_fifo_size *to)
     }
 }
 
+static uint16_t uart_encode_fifo_size(enum uart_fifo_size from)
+{
+    switch (from) {
+    case UART_FIFO_SIZE_SIXTEEN:
+        return 16;
+    case UART_FIFO_SIZE_THIRTY_TWO:
+        return 32;
+    case UART_FIFO_SIZE_SIXTY_FOUR:
+        return 64;
+    case UART_FIFO_SIZE_ONE_HUNDRED_TWENTY_EIGHT:
+        return 128;
+    case UART_FIFO_SIZE_TWO_HUNDRED_FIFTY_SIX:
+    default:
+        return 256;
+    }
+}
+
+static int uart_decode_direction_line(uint8_t from, enum u16550_core_direction_line *to)
+{
+    switch (from) {
+    case U16550_DIRECTION_RTS:
+        *to = U16550_CORE_DIRECTION_LINE_RTS;
+        return U16550_OK;
+    case U16550_DIRECTION_DTR:
+        *to = U16550_CORE_DIRECTION_LINE_DTR;
+        return U16550_OK;
+    default:
+        return U16550_BAD_CODE;
+    }
+}
+
 static int uart_encode_design_ware_fault(enum u16550_core_design_ware_fault from)
 {
     switch (from) {
@@ -5981,6 +6810,21 @@ static int uart_status_of_configuration_error(const struct uart_configuration_er
     case UART_CONFIGURATION_ERROR_FIFOS:
     default:
         return U16550_CONFIGURATION_FIFOS;
+    }
+}
+
+static int uart_status_of_fifo_size_error(const struct uart_fifo_size_error *error)
+{
+    switch (error->kind) {
+    case UART_FIFO_SIZE_ERROR_NONE:
+        return U16550_OK;
+    case UART_FIFO_SIZE_ERROR_FIFOS_OFF:
+        return U16550_FIFOS_OFF;
+    case UART_FIFO_SIZE_ERROR_TOO_FEW:
+        return U16550_FIFOS_TOO_FEW;
+    case UART_FIFO_SIZE_ERROR_STALLED:
+    default:
+        return U16550_FIFOS_STALLED;
     }
 }
 
@@ -6083,6 +6927,19 @@ static int uart_status_of_ring_error(const enum uart_ring_error *error)
     case UART_RING_ERROR_OUT_OF_MEMORY:
     default:
         return U16550_RING_OUT_OF_MEMORY;
+    }
+}
+
+static int uart_status_of_send_error(const struct uart_send_error *error)
+{
+    switch (error->kind) {
+    case UART_SEND_ERROR_NONE:
+        return U16550_OK;
+    case UART_SEND_ERROR_NOT_SENDING:
+        return U16550_BUS_NOT_SENDING;
+    case UART_SEND_ERROR_STALLED:
+    default:
+        return U16550_STALLED;
     }
 }
 
@@ -6885,6 +7742,331 @@ int u16550_design_ware_fault(struct u16550 *uart, struct u16550_design_ware *chi
     return uart_leave(uart, fault.is_some ? uart_encode_design_ware_fault(fault.value) : U16550_OK);
 }
 
+/* --------------------------------------------------------------- notes of the errors of received bytes */
+
+/* The functions by which a driver reaches its device through the notes in its context. */
+static uint8_t uart_noted_read(void *context, uintptr_t offset)
+{
+    struct u16550_notes *notes = (struct u16550_notes *)context;
+    return uart_error_notes_read(&notes->notes, (uint8_t)offset);
+}
+
+static void uart_noted_write(void *context, uintptr_t offset, uint8_t value)
+{
+    struct u16550_notes *notes = (struct u16550_notes *)context;
+    uart_error_notes_write(&notes->notes, (uint8_t)offset, value);
+}
+
+/* The notes through which a driver reaches its device, or null. No other driver has these functions. */
+static struct u16550_notes *uart_notes_of(const struct u16550 *uart)
+{
+    const struct u16550_io *io = &uart->ring.uart.backend.io;
+    return io->read == uart_noted_read && io->write == uart_noted_write ? (struct u16550_notes *)io->context : NULL;
+}
+
+int u16550_note_errors(struct u16550 *uart, struct u16550_notes *notes, uint8_t *memory, size_t capacity)
+{
+    struct uart_error_notes_or_pair_of_ring_error made;
+    struct uart_memory cells = { memory, capacity };
+    struct u16550_device *device;
+    int status = UART_USABLE(notes, notes);
+    if (status == U16550_OK)
+        status = uart_enter(uart);
+    if (status != U16550_OK)
+        return status;
+    status = uart_notes_of(uart) != NULL ? U16550_HAS_NOTES : uart_array(memory, capacity, 1, 1);
+    if (status != U16550_OK)
+        return uart_leave(uart, status);
+    device = uart_backend_mut(&uart->ring.uart);
+    made = uart_error_notes_new(&cells, *device, capacity);
+    if (made.is_error)
+        return uart_leave(uart, uart_status_of_ring_error(&made.error.second));
+    notes->notes = made.value;
+    device->io.context = notes;
+    device->io.read = uart_noted_read;
+    device->io.write = uart_noted_write;
+    device->base = 0;
+    device->stride = 1;
+    return uart_leave(uart, U16550_OK);
+}
+
+int u16550_end_notes(struct u16550 *uart)
+{
+    struct u16550_notes *notes;
+    int status = uart_enter(uart);
+    if (status != U16550_OK)
+        return status;
+    notes = uart_notes_of(uart);
+    if (notes == NULL)
+        return uart_leave(uart, U16550_NO_NOTES);
+    *uart_backend_mut(&uart->ring.uart) = notes->notes.backend;
+    return uart_leave(uart, U16550_OK);
+}
+
+int u16550_ring_take_with_errors(struct u16550 *uart, struct u16550_received *received, size_t len, size_t *count)
+{
+    struct uart_u64_or_unnoted_error copied;
+    const struct u16550_notes *notes;
+    int status = UART_USABLE(count, size);
+    if (status == U16550_OK)
+        status = uart_enter_rings(uart);
+    if (status != U16550_OK)
+        return status;
+    notes = uart_notes_of(uart);
+    status = notes == NULL ? U16550_NO_NOTES : uart_array(received, len, sizeof(struct u16550_received), 1);
+    if (status != U16550_OK)
+        return uart_leave(uart, status);
+    copied = uart_ring_copy_with_notes(&uart->ring, &notes->notes, received, len);
+    if (!copied.is_error)
+        uart_ring_drop_taken(&uart->ring, (size_t)copied.value);
+    status = uart_leave(uart, uart_if(copied.is_error, U16550_RING_UNNOTED));
+    *count = (size_t)(copied.is_error ? copied.error : copied.value);
+    return status;
+}
+
+/* --------------------------------------------------------------- a driver at a bus of two wires */
+
+/* Marks memory with a bus in it. */
+#define UART_BUS_MARK UINT32_C(0x16550b05)
+
+/* Begins a call over a bus, as uart_enter does over a driver. One copy is enough: the time at a bus is that of the line. The name of the
+ * attribute has underscores, since kernels and U-Boot have a macro with the other name. */
+#if defined(__GNUC__)
+__attribute__((__noinline__))
+#endif
+static int uart_enter_bus(struct u16550_bus *bus)
+{
+    int status = UART_USABLE(bus, bus);
+    if (status != U16550_OK)
+        return status;
+    if (bus->mark != UART_BUS_MARK)
+        return U16550_NOT_MADE;
+    if (bus->is_busy != 0)
+        return U16550_BUSY;
+    bus->is_busy = UART_BUSY;
+    UART_FENCE();
+    /* A handler that came before the sign was set may have ended the bus. */
+    if (bus->mark != UART_BUS_MARK) {
+        bus->is_busy = 0;
+        return U16550_NOT_MADE;
+    }
+    return U16550_OK;
+}
+
+static int uart_leave_bus(struct u16550_bus *bus, int status)
+{
+    UART_FENCE();
+    bus->is_busy = 0;
+    return status;
+}
+
+static int uart_decode_direction(const struct u16550_direction *from, struct u16550_core_direction *to)
+{
+    int status = from == NULL ? U16550_NULL_POINTER : uart_check_flag(from->sends_when_set);
+    if (status == U16550_OK)
+        status = uart_decode_direction_line(from->line, &to->line);
+    if (status == U16550_OK)
+        to->sends_when_set = from->sends_when_set == 1;
+    return status;
+}
+
+int u16550_direction_receiving(const struct u16550_direction *direction, uint8_t outputs, uint8_t *receiving)
+{
+    struct u16550_core_direction decoded;
+    int status = receiving == NULL ? U16550_NULL_POINTER : uart_decode_direction(direction, &decoded);
+    if (status == U16550_OK)
+        *receiving = uart_direction_receiving(decoded, outputs);
+    return status;
+}
+
+int u16550_bus_new(struct u16550_bus *bus, struct u16550 *uart, const struct u16550_direction *direction)
+{
+    struct uart_half_duplex_or_pair_of_driver_busy_error made;
+    struct u16550_core_direction decoded;
+    uint32_t before;
+    int status = UART_USABLE(bus, bus);
+    if (status == U16550_OK && bus->is_busy == UART_BUSY)
+        status = U16550_BUSY;
+    if (status == U16550_OK)
+        status = uart_enter(uart);
+    if (status != U16550_OK)
+        return status;
+    status = uart->has_rings ? U16550_HAS_RINGS : uart_decode_direction(direction, &decoded);
+    if (status != U16550_OK)
+        return uart_leave(uart, status);
+    /* A handler that comes from now on finds a call that is not done, at a bus that was there too. */
+    before = bus->is_busy;
+    bus->is_busy = UART_BUSY;
+    UART_FENCE();
+    made = uart_half_duplex_new(uart->ring.uart, decoded);
+    if (made.is_error) {
+        uart->ring.uart = made.error.first;
+        bus->is_busy = before;
+        return uart_leave(uart, U16550_BUS_BUSY);
+    }
+    bus->mark = UART_BUS_MARK;
+    bus->bus = made.value;
+    uart->mark = 0;
+    uart_leave(uart, U16550_OK);
+    return uart_leave_bus(bus, U16550_OK);
+}
+
+int u16550_bus_end(struct u16550_bus *bus, struct u16550 *uart)
+{
+    struct u16550_core_half_duplex ended;
+    int status = uart_check_memory(uart);
+    if (status == U16550_OK)
+        status = uart_enter_bus(bus);
+    if (status != U16550_OK)
+        return status;
+    uart_begin(uart);
+    uart->mark = UART_MARK;
+    uart->has_rings = false;
+    /* By way of a place of its own: for two places that may overlap clang calls memmove, which few kernels have. */
+    ended = bus->bus;
+    UART_FENCE();
+    uart->ring.uart = uart_half_duplex_into_inner(ended);
+    bus->mark = 0;
+    uart_leave_bus(bus, U16550_OK);
+    return uart_leave(uart, U16550_OK);
+}
+
+int u16550_bus_start_sending(struct u16550_bus *bus)
+{
+    int status = uart_enter_bus(bus);
+    if (status != U16550_OK)
+        return status;
+    uart_half_duplex_start_sending(&bus->bus);
+    return uart_leave_bus(bus, U16550_OK);
+}
+
+int u16550_bus_try_finish(struct u16550_bus *bus)
+{
+    int status = uart_enter_bus(bus);
+    if (status != U16550_OK)
+        return status;
+    return uart_leave_bus(bus, uart_unless(uart_half_duplex_try_finish(&bus->bus), U16550_BUS_BUSY));
+}
+
+int u16550_bus_flush(struct u16550_bus *bus)
+{
+    int status = uart_enter_bus(bus);
+    if (status != U16550_OK)
+        return status;
+    return uart_leave_bus(bus, uart_if(uart_half_duplex_flush(&bus->bus).is_error, U16550_STALLED));
+}
+
+int u16550_bus_is_idle(struct u16550_bus *bus, uint8_t *idle)
+{
+    uint8_t found;
+    int status = idle == NULL ? U16550_NULL_POINTER : uart_enter_bus(bus);
+    if (status != U16550_OK)
+        return status;
+    found = uart_half_duplex_is_idle(&bus->bus);
+    uart_leave_bus(bus, U16550_OK);
+    *idle = found;
+    return U16550_OK;
+}
+
+int u16550_bus_is_sending(struct u16550_bus *bus, uint8_t *sending)
+{
+    uint8_t found;
+    int status = sending == NULL ? U16550_NULL_POINTER : uart_enter_bus(bus);
+    if (status != U16550_OK)
+        return status;
+    found = uart_half_duplex_is_sending(&bus->bus);
+    uart_leave_bus(bus, U16550_OK);
+    *sending = found;
+    return U16550_OK;
+}
+
+int u16550_bus_lsr(struct u16550_bus *bus, uint8_t *value)
+{
+    uint8_t found;
+    int status = value == NULL ? U16550_NULL_POINTER : uart_enter_bus(bus);
+    if (status != U16550_OK)
+        return status;
+    found = uart_half_duplex_lsr(&bus->bus);
+    uart_leave_bus(bus, U16550_OK);
+    *value = found;
+    return U16550_OK;
+}
+
+int u16550_bus_send_bytes(struct u16550_bus *bus, const uint8_t *buffer, size_t len, size_t *count)
+{
+    struct uart_maybe_u64 sent;
+    int status = UART_USABLE(count, size);
+    if (status == U16550_OK)
+        status = uart_enter_bus(bus);
+    if (status != U16550_OK)
+        return status;
+    status = uart_array(buffer, len, 1, 1);
+    if (status != U16550_OK)
+        return uart_leave_bus(bus, status);
+    sent = uart_half_duplex_send_bytes(&bus->bus, buffer, len);
+    status = uart_leave_bus(bus, uart_unless(sent.is_some, U16550_BUS_NOT_SENDING));
+    if (status == U16550_OK)
+        *count = (size_t)sent.value;
+    return status;
+}
+
+int u16550_bus_send_bytes_exact(struct u16550_bus *bus, const uint8_t *buffer, size_t len, size_t *done)
+{
+    struct uart_send_error error;
+    size_t sent = len;
+    int status = UART_ALIGNED(done, size);
+    if (status == U16550_OK)
+        status = uart_enter_bus(bus);
+    if (status != U16550_OK)
+        return status;
+    status = uart_array(buffer, len, 1, 1);
+    if (status != U16550_OK)
+        return uart_leave_bus(bus, status);
+    error = uart_half_duplex_send_bytes_exact(&bus->bus, buffer, len);
+    if (error.kind == UART_SEND_ERROR_NOT_SENDING)
+        sent = 0;
+    else if (error.kind == UART_SEND_ERROR_STALLED)
+        sent = error.stalled;
+    status = uart_leave_bus(bus, uart_status_of_send_error(&error));
+    if (done != NULL)
+        *done = sent;
+    return status;
+}
+
+int u16550_bus_receive_bytes(struct u16550_bus *bus, uint8_t *buffer, size_t len, size_t *count)
+{
+    size_t found;
+    int status = UART_USABLE(count, size);
+    if (status == U16550_OK)
+        status = uart_enter_bus(bus);
+    if (status != U16550_OK)
+        return status;
+    status = uart_array(buffer, len, 1, 1);
+    if (status != U16550_OK)
+        return uart_leave_bus(bus, status);
+    found = uart_half_duplex_receive_bytes(&bus->bus, buffer, len);
+    uart_leave_bus(bus, U16550_OK);
+    *count = found;
+    return U16550_OK;
+}
+
+int u16550_bus_receive_with_errors(struct u16550_bus *bus, struct u16550_received *received, size_t len, size_t *count)
+{
+    size_t found;
+    int status = UART_USABLE(count, size);
+    if (status == U16550_OK)
+        status = uart_enter_bus(bus);
+    if (status != U16550_OK)
+        return status;
+    status = uart_array(received, len, sizeof(struct u16550_received), 1);
+    if (status != U16550_OK)
+        return uart_leave_bus(bus, status);
+    found = uart_half_duplex_receive_with_errors(&bus->bus, received, len);
+    uart_leave_bus(bus, U16550_OK);
+    *count = found;
+    return U16550_OK;
+}
+
 int u16550_get_config(struct u16550 *uart, struct u16550_config *config)
 {
     struct u16550_config found;
@@ -6997,6 +8179,21 @@ int u16550_init_with(struct u16550 *uart, const struct u16550_config *config,
         return uart_leave(uart, status);
     error = uart_init_with(&uart->ring.uart, decoded, &setup_of);
     return uart_leave(uart, uart_status_of_init_error(&error));
+}
+
+int u16550_find_fifo_size(struct u16550 *uart, uint16_t *fifo_size)
+{
+    struct uart_fifo_size_or_fifo_size_error found;
+    int status = uart_if(fifo_size == NULL, U16550_NULL_POINTER);
+    if (status == U16550_OK)
+        status = uart_enter(uart);
+    if (status != U16550_OK)
+        return status;
+    found = uart_find_fifo_size(&uart->ring.uart);
+    status = uart_leave(uart, uart_status_of_fifo_size_error(&found.error));
+    if (status == U16550_OK)
+        *fifo_size = uart_encode_fifo_size(found.value);
+    return status;
 }
 
 int u16550_check_connected(struct u16550 *uart)
@@ -7856,6 +9053,20 @@ int u16550_ring_adjust_xoff(struct u16550 *uart, size_t hold, size_t release,
     return U16550_OK;
 }
 
+int u16550_ring_obey_xoff(struct u16550 *uart, struct u16550_urgent *told)
+{
+    struct u16550_urgent found;
+    int status = uart_if(told == NULL, U16550_NULL_POINTER);
+    if (status == U16550_OK)
+        status = uart_enter_rings(uart);
+    if (status != U16550_OK)
+        return status;
+    found = uart_encode_urgent(uart_ring_obey_xoff(&uart->ring));
+    uart_leave(uart, U16550_OK);
+    *told = found;
+    return U16550_OK;
+}
+
 int u16550_ring_resume_transmit(struct u16550 *uart)
 {
     int status = uart_enter_rings(uart);
@@ -7996,6 +9207,10 @@ const char *u16550_text(int status)
         return "the driver has no rings";
     case U16550_HAS_RINGS:
         return "the driver has rings already";
+    case U16550_NO_NOTES:
+        return "the driver notes no errors";
+    case U16550_HAS_NOTES:
+        return "the driver notes errors already";
     case U16550_BAD_BASE:
         return "the registers do not fit behind the base address";
     case U16550_BAD_STRIDE:
@@ -8048,6 +9263,8 @@ const char *u16550_text(int status)
         return "the chip shows an unknown interrupt for ever";
     case U16550_RING_STUCK_PENDING:
         return "an interrupt does not go away";
+    case U16550_RING_UNNOTED:
+        return "bytes of the receive ring have no note of their errors";
     case U16550_FRAME_NON_INTEGER_DIVISOR:
         return "frame: no whole divisor gives the baud rate";
     case U16550_FRAME_DIVISOR_OUT_OF_RANGE:
@@ -8066,6 +9283,10 @@ const char *u16550_text(int status)
         return "attach: the port has no divisor";
     case U16550_FIFOS_OFF:
         return "the FIFOs are off";
+    case U16550_FIFOS_TOO_FEW:
+        return "FIFO size: too few bytes came back";
+    case U16550_FIFOS_STALLED:
+        return "FIFO size: the device did not respond in time";
     case U16550_CONFIGURATION_NO_DIVISOR:
         return "configured: there is no divisor for the baud rate";
     case U16550_CONFIGURATION_LINE_CONTROL:
@@ -8078,6 +9299,10 @@ const char *u16550_text(int status)
         return "configured: the divisor latch has another divisor";
     case U16550_CONFIGURATION_FIFOS:
         return "configured: the FIFOs are not as the driver takes them to be";
+    case U16550_BUS_BUSY:
+        return "the transmitter is not empty";
+    case U16550_BUS_NOT_SENDING:
+        return "the direction is not to send";
     case U16550_DESIGN_WARE_LINE_CONTROL:
         return "the UART stayed busy, and ignored LCR";
     case U16550_DESIGN_WARE_INTERRUPT:

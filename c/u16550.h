@@ -60,7 +60,9 @@ enum u16550_misuse {
     U16550_ZERO_LIMIT = -8,       /* a spin limit of 0 */
     U16550_NOT_UTF8 = -9,
     U16550_NO_RINGS = -10,
-    U16550_HAS_RINGS = -11
+    U16550_HAS_RINGS = -11,
+    U16550_NO_NOTES = -12,
+    U16550_HAS_NOTES = -13
 };
 
 /* Why the registers cannot be there. */
@@ -120,6 +122,8 @@ enum u16550_stuck_error {
     U16550_RING_STUCK_PENDING = 93 /* ISR shows an interrupt that was served and does not go away */
 };
 
+enum u16550_unnoted_error { U16550_RING_UNNOTED = 94 }; /* bytes of the receive ring have no note of their errors */
+
 /* Why no frame was set. */
 enum u16550_frame_error {
     U16550_FRAME_NON_INTEGER_DIVISOR = 100, /* no whole divisor gives the baud rate; no access was made */
@@ -140,7 +144,12 @@ enum u16550_attach_error {
     U16550_ATTACH_NO_DIVISOR = 122 /* the divisor latch reads as 0: no port is set up there, or there is none */
 };
 
-enum u16550_fifos_error { U16550_FIFOS_OFF = 130 }; /* the FIFOs are off, so they have no trigger level */
+/* Why the FIFOs have no trigger level, or why their size was not found. */
+enum u16550_fifos_error {
+    U16550_FIFOS_OFF = 130,       /* no access was made */
+    U16550_FIFOS_TOO_FEW = 131,   /* fewer than 16 bytes came back in loopback */
+    U16550_FIFOS_STALLED = 132    /* a wait came to the spin limit */
+};
 
 /* What a chip does not show of what was written to it. The first difference is told, in this order. */
 enum u16550_configuration_error {
@@ -150,6 +159,12 @@ enum u16550_configuration_error {
     U16550_CONFIGURATION_INTERRUPTS = 143,
     U16550_CONFIGURATION_DIVISOR = 144,
     U16550_CONFIGURATION_FIFOS = 145 /* ISR shows otherwise than u16550_fifo_enabled whether they are on */
+};
+
+/* Why a call at a bus was not done. */
+enum u16550_bus_error {
+    U16550_BUS_BUSY = 160,        /* the transmitter is not empty; nothing was written */
+    U16550_BUS_NOT_SENDING = 161  /* the direction is not to send; no access was made */
 };
 
 /* What a DesignWare UART did that could not be mended. */
@@ -285,6 +300,21 @@ struct u16550_line_port {
 struct u16550_urgent {
     uint8_t waits;                      /* whether there is one */
     uint8_t byte;                       /* 0 if there is none */
+};
+
+/* The output that switches the transceiver at a bus. */
+enum u16550_direction_line {
+    U16550_DIRECTION_RTS = 0,
+    U16550_DIRECTION_DTR = 1
+};
+
+/*
+ * How the transceiver at a bus is switched. The pin of an output is low while its bit in MCR is set: a transceiver at the pin itself, which
+ * drives the bus while its input DE is high, sends while the bit is clear; with an inverter between them it sends while the bit is set.
+ */
+struct u16550_direction {
+    uint8_t line;                       /* an enum u16550_direction_line */
+    uint8_t sends_when_set;             /* 0 or 1: it sends while the bit is set in MCR */
 };
 
 /* Whether a chip is stuck. */
@@ -433,14 +463,14 @@ struct u16550_core_config {
  * call, or attach on a port that is set up already. test_loopback then tests whether the chip
  * works, and check_connected whether a remote is ready.
  *
- * No call blocks forever. init, init_with, test_loopback, set_frame_when_idle,
- * send_bytes_exact, receive_bytes_exact, and the calls read, write and flush of the
- * traits in embedded_io poll LSR, and return an error after spin_limit
- * unsuccessful polls in a row. The other calls do not wait.
+ * No call blocks forever. init, init_with, test_loopback, find_fifo_size,
+ * set_frame_when_idle, send_bytes_exact, receive_bytes_exact, and the calls read, write
+ * and flush of the traits in embedded_io poll LSR, and return an error
+ * after spin_limit unsuccessful polls in a row. The other calls do not wait.
  *
  * A read of LSR clears its error bits in the chip, and a read of MSR its change bits. The driver
  * saves those that its own reads clear, and the next lsr or msr returns them. So a poll loses
- * no error and no change. init and the loopback test discard some.
+ * no error and no change. init, the loopback test and find_fifo_size discard some.
  */
 struct u16550_core_driver {
     struct u16550_device backend;
@@ -529,6 +559,28 @@ struct u16550_core_byte_queue {
     size_t len;
 };
 
+/*
+ * A backend that notes the errors of each received byte, for
+ * Uart16550Ring_take_with_errors.
+ *
+ * It makes each access that it is asked for over the backend under it, and no other. Rings without
+ * it cost what they cost before; with it they take one byte of memory more for each byte of the
+ * receive ring.
+ *
+ * LSR shows the errors of the character that is the next to be read, once, to whoever looks: to
+ * the handler that serves a line status interrupt, to a pump that looks for room, to a
+ * take_line. So the errors of a byte are all that LSR has shown since the byte before it was
+ * read, and this backend sees each look. Only an overrun that the first look shows, since the
+ * notes were made or the receiver was reset, is of no byte: it may be of before.
+ */
+struct u16550_core_error_notes {
+    struct u16550_device backend;
+    struct u16550_core_byte_queue noted;
+    uint8_t shown;
+    bool is_latch;
+    bool is_overrun_old;
+};
+
 enum u16550_core_stuck_error_kind {
     U16550_CORE_STUCK_ERROR_NONE = 0,
     U16550_CORE_STUCK_ERROR_UNKNOWN = 1,
@@ -578,10 +630,63 @@ struct u16550_core_ring {
     struct u16550_core_maybe_u8 urgent;
     bool is_held;
     bool has_told_xoff;
+    size_t unlooked;
     size_t low_mark;
     bool is_low;
     uint32_t rounds;
     struct u16550_core_maybe_stuck_error stuck;
+};
+
+/* The output of the chip that switches the transceiver. */
+enum u16550_core_direction_line {
+    U16550_CORE_DIRECTION_LINE_RTS = 0,
+    U16550_CORE_DIRECTION_LINE_DTR = 1
+};
+
+/*
+ * How the transceiver is switched between its two directions.
+ *
+ * The pin of an output is the other way round: it is low while the bit in MCR is set. So a
+ * transceiver at the pin itself, whose driver is on while its input DE is high, sends while the
+ * bit is clear. With an inverter between them it sends while the bit is set.
+ */
+struct u16550_core_direction {
+    enum u16550_core_direction_line line;
+    bool sends_when_set;
+};
+
+/*
+ * A driver at a bus on which one end at a time may send, as RS-485 with two wires.
+ *
+ * start_sending switches the transceiver to send, and try_finish gives the bus back once the
+ * transmitter is empty. While the direction is not to send, send_bytes and send_bytes_exact
+ * write nothing and return an error. No call writes a byte or switches the direction otherwise,
+ * in whatever order they are made: that is proved.
+ *
+ * The two delays are the caller's, by a clock of its own:
+ *
+ * - Between start_sending and the first byte: as long as the transceiver takes to drive the bus,
+ *   often some microseconds.
+ * - Between the end of the last byte and try_finish. flush and is_idle tell when the
+ *   transmitter is empty. Some chips show that when the last stop bit begins, so wait as long as
+ *   this bit takes, or two of them: at 9,600 baud 104 microseconds a bit. Most protocols let a
+ *   remote wait longer than that before it answers.
+ *
+ * No interrupt tells that the transmitter is empty: THR_EMPTY comes while the last byte is still
+ * in the shift register. So somebody polls, or waits for the time that the bytes take.
+ *
+ * Whether the receiver hears what this end sends depends on the board. If it does, as many bytes
+ * as were sent are received: take them by receive_bytes between calls that send, before they
+ * overrun the receiver. If other bytes come, two ends sent at once. No call drops received bytes.
+ *
+ * Only calls of this type keep the direction, so it lends no driver that could write. For other
+ * calls, as set_frame, take the driver back by into_inner, and give it to new again. The
+ * direction is by software: leave flow control by the chip off, which would drive RTS itself.
+ */
+struct u16550_core_half_duplex {
+    struct u16550_core_driver uart;
+    struct u16550_core_direction direction;
+    bool is_sending;
 };
 
 /*
@@ -602,6 +707,21 @@ struct u16550 {
 /* The memory of a DesignWare UART: what the library keeps of it. It stays where it is as long as the driver is used. */
 struct u16550_design_ware {
     struct u16550_core_design_ware chip;
+};
+
+/*
+ * The memory of a driver at a bus. As for a driver: it may be copied to another place between two calls, if only one of the copies is used
+ * from then on, and it is zero before a first bus is made in it.
+ */
+struct u16550_bus {
+    volatile uint32_t mark;
+    volatile uint32_t is_busy;
+    struct u16550_core_half_duplex bus;
+};
+
+/* The memory of notes of errors, which is the library's. It stays where it is as long as the driver notes errors. */
+struct u16550_notes {
+    struct u16550_core_error_notes notes;
 };
 
 /* --------------------------------------------------------------- numbers and the version as texts */
@@ -728,6 +848,21 @@ int u16550_init_with(struct u16550 *uart, const struct u16550_config *config, co
  * are exchanged up to the first error, and MCR and IER are restored.
  */
 int u16550_test_loopback(struct u16550 *uart, struct u16550_loopback_failure *failure);
+
+/*
+ * Finds how many characters the FIFOs hold as they are set up now, for u16550_send_burst: 16, 32, 64, 128 or 256. Sends 257
+ * bytes in loopback without looking, and counts those that come back. Nothing goes out on the line. Bytes that were received
+ * before and not taken are lost, and so is what arrives meanwhile. It takes as long as the characters need on the line. Returns
+ * an enum u16550_fifos_error if no size was found.
+ */
+/*
+ * Proved: nothing is done if the FIFOs are off. Else MCR and IER are read, and there is a
+ * wait for an empty transmitter. If it reaches the limit, nothing is written, and the result
+ * is a stall; else loopback is entered, the transmitter is flooded, what comes back is
+ * counted, the FIFOs are reset, and MCR and IER are restored. The result is the largest size
+ * of no more characters than came back.
+ */
+int u16550_find_fifo_size(struct u16550 *uart, uint16_t *fifo_size);
 
 /*
  * Whether the chip shows what was written to it: the frame, these outputs, which after u16550_init are 0x0b, the interrupts, the
@@ -1038,6 +1173,64 @@ int u16550_config_register_dump(struct u16550 *uart, struct u16550_dump *dump);
 int u16550_dump_divisor(const struct u16550_dump *dump, uint16_t *divisor);
 int u16550_dump_baud_rate(const struct u16550_dump *dump, const struct u16550_config *config, uint32_t *baud_rate);
 
+/* --------------------------------------------------------------- a bus of two wires, as RS-485
+ *
+ * One end at a time sends at such a bus, and RTS or DTR switches the transceiver of this end. A bus takes a driver, and has the calls that keep
+ * the direction: no byte is written while it is not to send, and it is given back only while the transmitter is empty. That is proved of the
+ * code that this is made from, for these calls in any order. Delays are the caller's: between start_sending and the first byte as long as the
+ * transceiver takes, and between the end of the last byte and try_finish about a bit, since some chips are empty when the stop bit begins.
+ */
+
+/*
+ * The outputs with the line as it is to be while the transceiver receives. Give them to u16550_init_with: u16550_init raises RTS and DTR, and
+ * this end might hold the bus.
+ */
+int u16550_direction_receiving(const struct u16550_direction *direction, uint8_t outputs, uint8_t *receiving);
+
+/*
+ * Makes a bus of a driver that is set up: makes the accesses of u16550_bus_try_finish, and there is no driver in the memory of the driver any
+ * more. Returns U16550_BUS_BUSY if the transmitter is not empty; the driver then stays. Refused by U16550_HAS_RINGS if it has rings. If a call
+ * over a bus that is there is not done, it returns U16550_BUSY.
+ */
+int u16550_bus_new(struct u16550_bus *bus, struct u16550 *uart, const struct u16550_direction *direction);
+
+/*
+ * Ends a bus, and makes a driver of it again, in this memory, as the constructors do: for other calls, as u16550_set_frame. Makes no access.
+ * The direction stays as it is, so finish before.
+ */
+int u16550_bus_end(struct u16550_bus *bus, struct u16550 *uart);
+
+/* Switches the transceiver to send: reads MCR, and writes it with the line so. From now on bytes may be sent. */
+int u16550_bus_start_sending(struct u16550_bus *bus);
+
+/*
+ * Gives the bus back if the transmitter is empty: reads LSR once, and then MCR, which it writes with the line so that the transceiver
+ * receives. Returns U16550_BUS_BUSY if it is not empty, and the direction stays. Does not wait.
+ */
+int u16550_bus_try_finish(struct u16550_bus *bus);
+
+/* Whether the direction is to send. Makes no access. */
+int u16550_bus_is_sending(struct u16550_bus *bus, uint8_t *sending);
+
+/* As u16550_flush and u16550_is_idle: a wait until the transmitter is empty, and a look at it. The direction stays. */
+int u16550_bus_flush(struct u16550_bus *bus);
+int u16550_bus_is_idle(struct u16550_bus *bus, uint8_t *idle);
+
+/*
+ * As u16550_send_bytes and u16550_send_bytes_exact. Both return U16550_BUS_NOT_SENDING, without an access, if the direction is not to send;
+ * *done is 0 then, and after U16550_STALLED how many bytes were written. done may be null.
+ */
+int u16550_bus_send_bytes(struct u16550_bus *bus, const uint8_t *buffer, size_t len, size_t *count);
+int u16550_bus_send_bytes_exact(struct u16550_bus *bus, const uint8_t *buffer, size_t len, size_t *done);
+
+/*
+ * As u16550_receive_bytes, u16550_receive_with_errors and u16550_lsr, in either direction. If the board hears what this end sends, those bytes
+ * are received too.
+ */
+int u16550_bus_receive_bytes(struct u16550_bus *bus, uint8_t *buffer, size_t len, size_t *count);
+int u16550_bus_receive_with_errors(struct u16550_bus *bus, struct u16550_received *received, size_t len, size_t *count);
+int u16550_bus_lsr(struct u16550_bus *bus, uint8_t *value);
+
 /* --------------------------------------------------------------- rings, for use with interrupts
  *
  * Rings keep bytes until the chip has room for them, and received bytes until they are taken. Initialise the driver with
@@ -1132,6 +1325,31 @@ int u16550_ring_take_low(struct u16550 *uart, uint8_t *low);
 int u16550_ring_take(struct u16550 *uart, uint8_t *buffer, size_t len, size_t *count);
 
 /*
+ * Has the driver note the errors of each received byte from now on, for u16550_ring_take_with_errors. Call it before u16550_init. The
+ * memory has room for the errors of so many bytes, one byte each: as many as the receive ring has room for. Refused by
+ * U16550_RING_BAD_CAPACITY. It makes no access, and no call makes another one for it; rings without it cost what they cost before.
+ *
+ * The notes lie between the driver and its functions until u16550_end_notes or u16550_end, and are in no other use so long; their
+ * memory too. Meanwhile u16550_get_io returns functions of the library, u16550_set_io is to be given no others, and
+ * u16550_design_ware_fault finds no chip. u16550_end_notes gives the driver its functions back.
+ */
+int u16550_note_errors(struct u16550 *uart, struct u16550_notes *notes, uint8_t *memory, size_t capacity);
+int u16550_end_notes(struct u16550 *uart);
+
+/*
+ * Takes received bytes as u16550_ring_take does, each with its errors; the two may be called in turn. With the FIFO on, the parity
+ * error, the framing error and the break of a byte are exactly those of its character. An overrun of before the notes were made, or of
+ * before u16550_init, is at no byte: u16550_ring_take_line alone tells of it.
+ *
+ * A call that receives passes the rings by, and its bytes are the last that were read. So make one only while the receive ring is
+ * empty; else errors stand at the wrong bytes until all bytes of the ring are taken.
+ *
+ * Returns U16550_RING_UNNOTED if fewer errors are noted than bytes are in the receive ring: the notes have room for fewer, or were
+ * made later. Then nothing is taken, and *count is how many bytes at the front have no note: u16550_ring_take takes them.
+ */
+int u16550_ring_take_with_errors(struct u16550 *uart, struct u16550_received *received, size_t len, size_t *count);
+
+/*
  * Holds the other end back by RTS, or lets it go on: RTS goes off if there is room for fewer received bytes than hold, and on if there
  * is room for at least release. Between the two it stays as it is. The other end has to check CTS. Call it at the end of the handler,
  * and after each u16550_ring_take and u16550_ring_clear_receive: while the other end is held back no byte arrives, so nothing calls
@@ -1158,6 +1376,17 @@ int u16550_ring_adjust_rts(struct u16550 *uart, size_t hold, size_t release);
  * was told.
  */
 int u16550_ring_adjust_xoff(struct u16550 *uart, size_t hold, size_t release, struct u16550_urgent *told);
+
+/*
+ * Obeys the other end that tells this one XOFF and XON: holds the bytes that are queued at an XOFF, and releases them at an XON. Of the
+ * bytes that came since the last call and are not taken yet, the last XON or XOFF counts, and *told is that one. All bytes stay to be
+ * taken. The hold is that of u16550_ring_hold_transmit. Call it at the end of the handler.
+ */
+/*
+ * Proved: of the bytes that came into the receive ring since it looked last, and are still
+ * there, the last XON or XOFF is obeyed, and is the result. All bytes stay there.
+ */
+int u16550_ring_obey_xoff(struct u16550 *uart, struct u16550_urgent *told);
 
 /*
  * Starts sending again if bytes wait with no interrupt to come: when CTS came back and the configuration checks it; and after each

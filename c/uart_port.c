@@ -18,6 +18,20 @@
 #define UART_INLINE static inline
 #endif
 
+/* For a function that is not to stand there: it would take registers from what is done often, or be there in many places. */
+#if defined(__GNUC__) && !defined(__OPTIMIZE_SIZE__)
+#define UART_APART __attribute__((__noinline__))
+#else
+#define UART_APART
+#endif
+
+/* For a function that is seldom called: it is to be small, also where all else is to be fast. */
+#if defined(__GNUC__)
+#define UART_SELDOM __attribute__((__cold__))
+#else
+#define UART_SELDOM
+#endif
+
 
 /* The number of data bits of a character. */
 enum uart_word_length {
@@ -44,6 +58,21 @@ struct uart_chip_character {
     uint8_t byte;
     uint8_t errors;
     struct uart_origin origin;
+};
+
+/*
+ * How many characters the transmitter FIFO of a chip holds, for Uart16550_send_burst.
+ *
+ * A 16550 has 16. No register that all chips have shows the size, so it is taken from the
+ * datasheet, or Uart16550_find_fifo_size finds it. If a size is given that is larger than the
+ * chip's, bytes are lost.
+ */
+enum uart_fifo_size {
+    UART_FIFO_SIZE_SIXTEEN = 0,
+    UART_FIFO_SIZE_THIRTY_TWO = 1,
+    UART_FIFO_SIZE_SIXTY_FOUR = 2,
+    UART_FIFO_SIZE_ONE_HUNDRED_TWENTY_EIGHT = 3,
+    UART_FIFO_SIZE_TWO_HUNDRED_FIFTY_SIX = 4
 };
 
 struct uart_maybe_chip_character {
@@ -186,6 +215,34 @@ static inline void uart_fill_bytes(uint8_t *to, uint8_t value, size_t count)
 {
     for (size_t i = 0; i < count; i++)
         to[i] = value;
+}
+
+/* Moves so many bytes towards the front of their array, by way of a place of their own. */
+static inline void
+uart_move_down_bytes(uint8_t *items, size_t from, size_t to, size_t count)
+{
+    uint8_t moved[64];
+    for (size_t done = 0; done < count; done += 64) {
+        size_t some = count - done < 64 ? count - done : 64;
+        for (size_t i = 0; i < some; i++)
+            moved[i] = items[from + done + i];
+        for (size_t i = 0; i < some; i++)
+            items[to + done + i] = moved[i];
+    }
+}
+
+/* Moves so many characters towards the front of their array, by way of a place of their own. */
+static inline void
+uart_move_down_characters(struct uart_character *items, size_t from, size_t to, size_t count)
+{
+    struct uart_character moved[16];
+    for (size_t done = 0; done < count; done += 16) {
+        size_t some = count - done < 16 ? count - done : 16;
+        for (size_t i = 0; i < some; i++)
+            moved[i] = items[from + done + i];
+        for (size_t i = 0; i < some; i++)
+            items[to + done + i] = moved[i];
+    }
 }
 
 static inline struct uart_origin uart_origin_live(void)
@@ -428,13 +485,33 @@ static inline size_t uart_receiver_queue_len(const struct uart_receiver *uart_re
     return uart_count_character(uart_receiver->queue.len, uart_receiver->queue.items, 16);
 }
 
-/*
- * Returns the number of characters that a queue has room for. Without FIFO that is one, although
- * it could hold more.
- */
-static inline size_t uart_room_of(bool fifo)
+/* Returns the number of characters. */
+static inline size_t uart_fifo_size_characters(enum uart_fifo_size fifo_size)
 {
-    return fifo ? 16 : 1;
+    switch (fifo_size) {
+    case UART_FIFO_SIZE_SIXTEEN:
+        return 16;
+    case UART_FIFO_SIZE_THIRTY_TWO:
+        return 32;
+    case UART_FIFO_SIZE_SIXTY_FOUR:
+        return 64;
+    case UART_FIFO_SIZE_ONE_HUNDRED_TWENTY_EIGHT:
+        return 128;
+    case UART_FIFO_SIZE_TWO_HUNDRED_FIFTY_SIX:
+    default:
+        return 256;
+    }
+}
+
+/*
+ * Returns the number of characters that a queue has room for, with a FIFO of this size. Without
+ * FIFO that is one, although it could hold more.
+ */
+static inline size_t uart_room_of(bool fifo, enum uart_fifo_size size)
+{
+    if (fifo)
+        return uart_fifo_size_characters(size);
+    return 1;
 }
 
 /*
@@ -453,7 +530,8 @@ static inline void
 uart_push_character(uint8_t *len, struct uart_character *items, size_t items_len,
     struct uart_character item)
 {
-    size_t last = uart_count_character(*len, items, items_len);
+    (void)items_len;
+    size_t last = (size_t)*len;
     items[last] = item;
     *len = (uint8_t)((uint8_t)last + 1);
 }
@@ -472,21 +550,12 @@ uart_receiver_put(struct uart_receiver *uart_receiver, struct uart_chip_characte
     uart_push_character(&uart_receiver->queue.len, at, 16, character);
 }
 
-static inline void
-uart_shifts_copy_down_character(struct uart_character *items, size_t items_len, size_t from,
-    size_t to, size_t count)
-{
-    (void)items_len;
-    for (size_t number = 0; number < count; number++)
-        items[to + number] = items[from + number];
-}
-
 /* The items behind the front move down by one place. */
 static inline void
 uart_drop_front_character(uint8_t *len, struct uart_character *items, size_t items_len)
 {
     size_t count = uart_count_character(*len, items, items_len);
-    uart_shifts_copy_down_character(items, items_len, 1, 0, items_len - 1);
+    uart_move_down_characters(items, 1, 0, items_len - 1);
     *len = (uint8_t)((uint8_t)count - 1);
 }
 
@@ -536,14 +605,13 @@ uart_receiver_pop(struct uart_receiver *uart_receiver)
 }
 
 /* Replaces the character in the receiver, which is dropped. */
-static inline void uart_replace(struct uart_receiver *parts, struct uart_chip_character new_)
+static UART_APART void uart_replace(struct uart_receiver *parts, struct uart_chip_character new_)
 {
-    struct uart_chip_character old = new_;
     struct uart_maybe_chip_character found = uart_receiver_pop(parts);
     if (!found.is_some)
         return;
     parts->queue.len = 0;
-    uart_receiver_put(parts, old);
+    uart_receiver_put(parts, new_);
     parts->is_overrun = (uint8_t)true;
     parts->timeout_ticks = 0;
 }
@@ -555,13 +623,12 @@ static inline void uart_replace(struct uart_receiver *parts, struct uart_chip_ch
 static inline void
 uart_enter(struct uart_receiver *parts, bool fifo, struct uart_chip_character new_)
 {
-    struct uart_chip_character chip_character = new_;
     size_t receiver_queue_len = uart_receiver_queue_len(parts);
-    if (receiver_queue_len < uart_room_of(fifo)) {
-        uart_receiver_put(parts, chip_character);
+    if (receiver_queue_len < uart_room_of(fifo, UART_FIFO_SIZE_SIXTEEN)) {
+        uart_receiver_put(parts, new_);
     } else {
         if (!fifo) {
-            uart_replace(parts, chip_character);
+            uart_replace(parts, new_);
             return;
         }
         parts->is_overrun = (uint8_t)true;
@@ -806,8 +873,12 @@ uart_receiver_trigger(const struct uart_receiver *uart_receiver)
     return uart_trigger_of(uart_receiver->trigger);
 }
 
-/* Returns the number of characters of a trigger level. */
-static inline uint8_t uart_characters_of(enum uart_fifo_trigger_level level)
+/*
+ * Returns the number of characters of a trigger level, for a FIFO of 16.
+ * Apart from by_level: of constants a compiler makes a table, and of numbers that are passed one
+ * test for each level, which in C takes five instructions more for each look at the interrupts.
+ */
+static inline uint8_t uart_characters_of_16(enum uart_fifo_trigger_level level)
 {
     switch (level) {
     case UART_FIFO_TRIGGER_LEVEL_ONE:
@@ -822,11 +893,52 @@ static inline uint8_t uart_characters_of(enum uart_fifo_trigger_level level)
     }
 }
 
+/* Returns one of four numbers, for the lowest trigger level to the highest. */
+static inline uint8_t
+uart_by_level(uint8_t first, uint8_t second, uint8_t third, uint8_t fourth,
+    enum uart_fifo_trigger_level level)
+{
+    switch (level) {
+    case UART_FIFO_TRIGGER_LEVEL_ONE:
+        return first;
+    case UART_FIFO_TRIGGER_LEVEL_FOUR:
+        return second;
+    case UART_FIFO_TRIGGER_LEVEL_EIGHT:
+        return third;
+    case UART_FIFO_TRIGGER_LEVEL_FOURTEEN:
+    default:
+        return fourth;
+    }
+}
+
+/*
+ * Returns the number of characters of a trigger level, for a FIFO of this size.
+ * The levels have the names of their numbers for a 16550.
+ */
+static inline uint8_t
+uart_characters_of(enum uart_fifo_size size, enum uart_fifo_trigger_level level)
+{
+    switch (size) {
+    case UART_FIFO_SIZE_SIXTEEN:
+        return uart_characters_of_16(level);
+    case UART_FIFO_SIZE_THIRTY_TWO:
+        return uart_by_level(8, 16, 24, 28, level);
+    case UART_FIFO_SIZE_SIXTY_FOUR:
+        return uart_by_level(1, 16, 32, 56, level);
+    case UART_FIFO_SIZE_ONE_HUNDRED_TWENTY_EIGHT:
+        return uart_by_level(16, 32, 112, 120, level);
+    case UART_FIFO_SIZE_TWO_HUNDRED_FIFTY_SIX:
+    default:
+        return uart_by_level(1, 64, 128, 254, level);
+    }
+}
+
 /* Returns whether there are as many characters as the trigger level, or without FIFO any. */
 static inline bool uart_is_data_pending(const struct uart_receiver *parts, bool fifo)
 {
     if (fifo) {
-        size_t trigger = (size_t)uart_characters_of(uart_receiver_trigger(parts));
+        size_t trigger =
+            (size_t)uart_characters_of(UART_FIFO_SIZE_SIXTEEN, uart_receiver_trigger(parts));
         return trigger <= uart_receiver_queue_len(parts);
     }
     return 0 < uart_receiver_queue_len(parts);
@@ -1086,7 +1198,8 @@ static inline bool
 uart_is_sound_receiver(const struct uart_receiver *receiver, bool fifo, uint16_t char_ticks)
 {
     size_t receiver_queue_len = uart_receiver_queue_len(receiver);
-    bool is_so = receiver_queue_len <= uart_room_of(fifo) && uart_is_sound_queue(receiver);
+    bool is_so = receiver_queue_len <= uart_room_of(fifo, UART_FIFO_SIZE_SIXTEEN) &&
+        uart_is_sound_queue(receiver);
     return is_so && (uint32_t)receiver->timeout_ticks <= 4 * (uint32_t)char_ticks;
 }
 
@@ -1133,7 +1246,7 @@ static inline bool uart_is_sound_transmitter(const struct uart_transmitter *tran
     bool is_so2 = is_so;
     if (is_so2) {
         size_t transmitter_queue_len = uart_transmitter_queue_len(transmitter);
-        is_so2 = transmitter_queue_len <= uart_room_of(fifo);
+        is_so2 = transmitter_queue_len <= uart_room_of(fifo, UART_FIFO_SIZE_SIXTEEN);
     }
     bool is_so3 = is_so2;
     if (is_so3) {
@@ -1163,7 +1276,7 @@ static inline bool uart_are_sound(const struct uart_chip *chip)
 }
 
 /* The data are those of a sound chip. No function of this library makes another of one. */
-static inline bool uart_is_sound(const struct uart_chip *chip)
+static UART_APART bool uart_is_sound(const struct uart_chip *chip)
 {
     return uart_are_sound(chip);
 }
@@ -1171,7 +1284,8 @@ static inline bool uart_is_sound(const struct uart_chip *chip)
 /* Puts an item last. */
 static inline void uart_push_u8(uint8_t *len, uint8_t *items, size_t items_len, uint8_t item)
 {
-    size_t last = uart_count_u8(*len, items, items_len);
+    (void)items_len;
+    size_t last = (size_t)*len;
     items[last * sizeof(uint8_t)] = item;
     *len = (uint8_t)((uint8_t)last + 1);
 }
@@ -1213,6 +1327,25 @@ uart_transmitter_restore(struct uart_transmitter *uart_transmitter,
     size_t transmitter_queue_len = uart_transmitter_queue_len(saved);
     uart_put_all(&uart_transmitter->queue.len, uart_transmitter->queue.items, 16,
         saved->queue.items, transmitter_queue_len);
+}
+
+/*
+ * The number of characters by which C names a trigger level: as many as it is for with a FIFO of
+ * 16.
+ */
+static inline uint8_t uart_number_of(enum uart_fifo_trigger_level trigger)
+{
+    switch (trigger) {
+    case UART_FIFO_TRIGGER_LEVEL_ONE:
+        return 1;
+    case UART_FIFO_TRIGGER_LEVEL_FOUR:
+        return 4;
+    case UART_FIFO_TRIGGER_LEVEL_EIGHT:
+        return 8;
+    case UART_FIFO_TRIGGER_LEVEL_FOURTEEN:
+    default:
+        return 14;
+    }
 }
 
 /*
@@ -1258,7 +1391,7 @@ uart_receiver_restore(struct uart_receiver *uart_receiver, const struct uart_rec
     uart_receiver->is_overrun = (uint8_t)(saved->is_overrun != 0);
     uart_receiver->is_front_reported = (uint8_t)(saved->is_front_reported != 0);
     uart_receiver->last_byte = saved->last_byte;
-    uart_receiver->trigger = uart_characters_of(uart_trigger_of(saved->trigger));
+    uart_receiver->trigger = uart_number_of(uart_trigger_of(saved->trigger));
     uart_characters_restore(&uart_receiver->queue, &saved->queue);
 }
 
@@ -1280,7 +1413,7 @@ static inline void uart_chip_restore(struct uart_chip *uart_chip, const struct u
 }
 
 /* Makes a chip like one that was saved, unless the data are those of no sound chip. */
-uint32_t uart_chip_load(struct uart_chip *chip, const struct uart_chip *saved)
+UART_SELDOM uint32_t uart_chip_load(struct uart_chip *chip, const struct uart_chip *saved)
 {
     if (chip == NULL || saved == NULL)
         return UART_NULL_POINTER;
@@ -1358,7 +1491,7 @@ uart_new_chip(uint8_t model, uint16_t char_ticks, uint8_t capacity, uint8_t cuts
 }
 
 /* Makes a chip after power on. */
-uint32_t
+UART_SELDOM uint32_t
 uart_chip_new(struct uart_chip *chip, uint8_t model, uint16_t char_ticks, uint8_t wire_capacity,
     uint8_t cuts)
 {
@@ -1388,7 +1521,7 @@ static inline void uart_receiving_report(struct uart_receiver *parts)
 }
 
 /* Reads LSR while some character has errors. */
-static inline uint8_t uart_read_errors(struct uart_chip *parts)
+static UART_APART uint8_t uart_read_errors(struct uart_chip *parts)
 {
     uint8_t status = uart_lsr(parts);
     uart_receiving_report(&parts->receiver);
@@ -1532,7 +1665,7 @@ static inline uint8_t uart_chip_read_modem(struct uart_chip *uart_chip)
     return uart_modem_read(&uart_chip->modem);
 }
 
-static inline uint8_t uart_read_register(struct uart_chip *parts, uint8_t offset)
+static UART_APART uint8_t uart_read_register(struct uart_chip *parts, uint8_t offset)
 {
     switch (offset) {
     case UART_OFFSET_DATA:
@@ -1578,7 +1711,7 @@ uint8_t uart_chip_read(struct uart_chip *chip, uint8_t offset)
 /* Returns how many characters can be received before one is lost. */
 static inline size_t uart_receiving_receive_room(const struct uart_receiver *parts, bool fifo)
 {
-    size_t room_of = uart_room_of(fifo);
+    size_t room_of = uart_room_of(fifo, UART_FIFO_SIZE_SIXTEEN);
     size_t receiver_queue_len = uart_receiver_queue_len(parts);
     return receiver_queue_len <= room_of ? room_of - receiver_queue_len : 0;
 }
@@ -1600,7 +1733,7 @@ size_t uart_chip_receive_room(const struct uart_chip *chip)
 }
 
 /* Saves a chip. */
-void uart_chip_save(const struct uart_chip *chip, struct uart_chip *saved)
+UART_SELDOM void uart_chip_save(const struct uart_chip *chip, struct uart_chip *saved)
 {
     if (chip == NULL || saved == NULL)
         return;
@@ -1686,13 +1819,13 @@ static inline void uart_chip_change_inputs(struct uart_chip *uart_chip, uint8_t 
 }
 
 /* Sets the inputs of the modem, as bits of MSR. */
-static inline void uart_change_lines(struct uart_chip *parts, uint8_t inputs)
+static UART_APART void uart_change_lines(struct uart_chip *parts, uint8_t inputs)
 {
     uart_chip_change_inputs(parts, uart_chip_mcr(parts), inputs);
 }
 
 /* The modem's inputs become these. */
-uint32_t uart_chip_set_lines(struct uart_chip *chip, uint8_t inputs)
+UART_SELDOM uint32_t uart_chip_set_lines(struct uart_chip *chip, uint8_t inputs)
 {
     if (chip == NULL)
         return UART_NULL_POINTER;
@@ -1702,19 +1835,11 @@ uint32_t uart_chip_set_lines(struct uart_chip *chip, uint8_t inputs)
     return UART_OK;
 }
 
-static inline void
-uart_shifts_copy_down_u8(uint8_t *items, size_t items_len, size_t from, size_t to, size_t count)
-{
-    (void)items_len;
-    for (size_t number = 0; number < count; number++)
-        items[(to + number) * sizeof(uint8_t)] = items[(from + number) * sizeof(uint8_t)];
-}
-
 /* The items behind the front move down by one place. */
 static inline void uart_drop_front_u8(uint8_t *len, uint8_t *items, size_t items_len)
 {
     size_t count = uart_count_u8(*len, items, items_len);
-    uart_shifts_copy_down_u8(items, items_len, 1, 0, items_len - 1);
+    uart_move_down_bytes(items, 1, 0, items_len - 1);
     *len = (uint8_t)((uint8_t)count - 1);
 }
 
@@ -1931,8 +2056,8 @@ static inline void uart_controlling_tick(struct uart_chip *parts)
  * A jump ends at the tick in which a character enters or leaves the shift register, or takes all
  * ticks that are left. So its cost does not grow with the number of ticks.
  * A jump skips the ticks before that tick, and then makes it as any other tick. So the start and
- * the end of a character have no second definition. At most 17 characters move, and one jump takes
- * what is left: 18 jumps are enough for any number of ticks.
+ * the end of a character have no second definition. With FIFOs of 16 at most 17 characters move,
+ * and one jump takes what is left: 18 jumps are enough for any number of ticks.
  */
 static inline size_t uart_advance(struct uart_chip *parts, uint16_t n)
 {
@@ -1986,264 +2111,6 @@ size_t uart_chip_wire_room(const struct uart_chip *chip)
     size_t wire_capacity = uart_wire_capacity(&chip->transmitter.wire);
     size_t wire_len = uart_wire_len(&chip->transmitter.wire);
     return wire_len <= wire_capacity ? wire_capacity - wire_len : 0;
-}
-
-/* Sets the registers that keep what is written to them. */
-static inline void
-uart_chip_set_latches(struct uart_chip *uart_chip, struct uart_chip_latches latches)
-{
-    struct uart_latches uart_latches;
-    uart_latches.ier = latches.ier;
-    uart_latches.lcr = latches.lcr;
-    uart_latches.mcr = latches.mcr;
-    uart_latches.scr = latches.scr;
-    uart_latches.dll = latches.dll;
-    uart_latches.dlm = latches.dlm;
-    uart_chip->latches = uart_latches;
-}
-
-/* Appends a byte to the queue. The caller must show that there is room. */
-static inline void uart_transmitter_put(struct uart_transmitter *uart_transmitter, uint8_t byte)
-{
-    uart_push_u8(&uart_transmitter->queue.len, uart_transmitter->queue.items, 16, byte);
-}
-
-/* Counts a byte that was written while there was no room. The count saturates. */
-static inline void uart_transmitter_count_overflow(struct uart_transmitter *uart_transmitter)
-{
-    uint64_t number = uart_transmitter->overflows;
-    uart_transmitter->overflows = number <= UINT64_C(0xffffffffffffffff) - 1 ? number + 1
-        : UINT64_C(0xffffffffffffffff);
-}
-
-/*
- * Takes a byte that is written to DATA. If there is no room, the FIFO loses it, and THR loses the
- * byte that it held.
- * A write clears a pending THR_EMPTY interrupt even if there is no room.
- */
-static inline void uart_load(struct uart_transmitter *parts, bool fifo, uint8_t byte)
-{
-    if (fifo) {
-        if (uart_transmitter_queue_len(parts) < 16)
-            uart_transmitter_put(parts, byte);
-        else
-            uart_transmitter_count_overflow(parts);
-    } else {
-        if (0 < uart_transmitter_queue_len(parts)) {
-            parts->queue.len = 0;
-            uart_transmitter_count_overflow(parts);
-        }
-        uart_transmitter_put(parts, byte);
-    }
-    parts->is_thr_pending = (uint8_t)false;
-}
-
-/* Writes DATA. */
-static inline void uart_write_data(struct uart_chip *parts, uint8_t value)
-{
-    if (uart_is_dlab_set(parts)) {
-        struct uart_chip_latches latches = uart_chip_latches_of(parts);
-        latches.dll = value;
-        uart_chip_set_latches(parts, latches);
-    } else {
-        uint8_t byte = uart_cut(parts, value);
-        bool fifo = uart_chip_fifo(parts);
-        uart_load(&parts->transmitter, fifo, byte);
-    }
-}
-
-/* Writes IER. */
-static inline void uart_enable(struct uart_chip *parts, uint8_t interrupts)
-{
-    struct uart_chip_latches chip_latches = uart_chip_latches_of(parts);
-    if ((chip_latches.ier & UART_IER_THR_EMPTY) == 0 &&
-        ((interrupts & UART_IER_THR_EMPTY) != 0 &&
-        uart_transmitter_queue_len(&parts->transmitter) == 0)) {
-        parts->transmitter.is_thr_pending = (uint8_t)true;
-    }
-    struct uart_chip_latches latches = chip_latches;
-    latches.ier = uart_kept_interrupts(interrupts);
-    uart_chip_set_latches(parts, latches);
-}
-
-/* Empties the queue. Its characters are discarded. */
-static inline void uart_clear(struct uart_receiver *parts)
-{
-    parts->queue.len = 0;
-}
-
-/*
- * Switches the FIFOs on or off, which empties both. No THR_EMPTY interrupt is raised by that, but
- * by the reset of the transmitter.
- */
-static inline void uart_switch(struct uart_chip *parts, bool on)
-{
-    parts->fifo = (uint8_t)on;
-    uart_clear(&parts->receiver);
-    parts->transmitter.queue.len = 0;
-}
-
-static inline void uart_reset_receiver(struct uart_chip *parts, uint8_t value)
-{
-    if ((value & UART_FCR_RX_FIFO_RESET) != 0)
-        uart_clear(&parts->receiver);
-}
-
-static inline void uart_reset_transmitter(struct uart_chip *parts, uint8_t value)
-{
-    if ((value & UART_FCR_TX_FIFO_RESET) != 0) {
-        parts->transmitter.queue.len = 0;
-        parts->transmitter.is_thr_pending = (uint8_t)true;
-    }
-}
-
-/*
- * Returns the trigger level with this code, which is in the low two bits. Higher bits are
- * ignored.
- *
- * Proved: this value and no other has the property.
- * Proved: the two bits from the lowest on are the code of this trigger level.
- */
-static inline enum uart_fifo_trigger_level uart_fifo_trigger_level_from_raw_bits(uint8_t bits)
-{
-    switch (bits & 3) {
-    case 0:
-        return UART_FIFO_TRIGGER_LEVEL_ONE;
-    case 1:
-        return UART_FIFO_TRIGGER_LEVEL_FOUR;
-    case 2:
-        return UART_FIFO_TRIGGER_LEVEL_EIGHT;
-    default:
-        return UART_FIFO_TRIGGER_LEVEL_FOURTEEN;
-    }
-}
-
-/*
- * Returns the trigger level of the receiver FIFO.
- *
- * Proved: this value and no other has the property.
- * Proved: the two bits from the lowest on are the code of this trigger level.
- */
-static inline enum uart_fifo_trigger_level uart_fcr_fifo_trigger_level(uint8_t fcr)
-{
-    return uart_fifo_trigger_level_from_raw_bits((uint8_t)(fcr >> 6));
-}
-
-/* Returns the trigger level of a value of FCR. */
-static inline enum uart_fifo_trigger_level uart_trigger_level(uint8_t fcr)
-{
-    return uart_fcr_fifo_trigger_level(fcr);
-}
-
-/* Sets the trigger level. */
-static inline void
-uart_receiver_set_trigger(struct uart_receiver *uart_receiver, enum uart_fifo_trigger_level trigger)
-{
-    uart_receiver->trigger = uart_characters_of(trigger);
-}
-
-/*
- * Without the enable bit nothing but the switch is done: a chip whose FIFOs are off ignores the
- * resets. Neither the character in the shift register nor the overrun flag changes. The trigger
- * level survives when the FIFOs are switched off.
- */
-static inline void uart_set_fifo(struct uart_chip *parts, uint8_t value)
-{
-    bool is_so = (value & UART_FCR_FIFO_ENABLE) != 0;
-    if (uart_chip_fifo(parts) != is_so)
-        uart_switch(parts, is_so);
-    if (is_so) {
-        uart_reset_receiver(parts, value);
-        uart_reset_transmitter(parts, value);
-        uart_receiver_set_trigger(&parts->receiver, uart_trigger_level(value));
-    }
-}
-
-/* Writes FCR. */
-static inline void uart_control(struct uart_chip *parts, uint8_t value)
-{
-    if (uart_chip_model(parts) != UART_EVENTS_CHIP_UART16450)
-        uart_set_fifo(parts, value);
-}
-
-/* Renews the lines under this modem control register. */
-static inline void uart_modem_renew(struct uart_modem *uart_modem, uint8_t mcr)
-{
-    struct uart_chip_modem modem = uart_restored(*uart_modem);
-    uart_chip_modem_renew(&modem, mcr);
-    *uart_modem = uart_saved(&modem);
-}
-
-/* Computes the modem lines anew under this value of MCR, and adds their changes. */
-static inline void uart_chip_renew_modem(struct uart_chip *uart_chip, uint8_t mcr)
-{
-    uart_modem_renew(&uart_chip->modem, mcr);
-}
-
-/* Writes MCR. */
-static inline void uart_control_modem(struct uart_chip *parts, uint8_t value)
-{
-    uint8_t mcr = uart_kept_modem_control(value);
-    struct uart_chip_latches latches = uart_chip_latches_of(parts);
-    latches.mcr = mcr;
-    uart_chip_set_latches(parts, latches);
-    uart_chip_renew_modem(parts, mcr);
-}
-
-static void uart_write_register(struct uart_chip *parts, uint8_t offset, uint8_t value)
-{
-    struct uart_chip_latches latches = uart_chip_latches_of(parts);
-    switch (offset) {
-    case UART_OFFSET_DATA:
-        uart_write_data(parts, value);
-        break;
-    case UART_OFFSET_IER:
-        if (uart_is_dlab_set(parts)) {
-            struct uart_chip_latches latches2 = latches;
-            latches2.dlm = value;
-            uart_chip_set_latches(parts, latches2);
-        } else {
-            uart_enable(parts, value);
-        }
-        break;
-    case UART_OFFSET_FCR:
-        uart_control(parts, value);
-        break;
-    case UART_OFFSET_LCR: {
-        struct uart_chip_latches latches3 = latches;
-        latches3.lcr = value;
-        uart_chip_set_latches(parts, latches3);
-        break;
-    }
-    case UART_OFFSET_MCR:
-        uart_control_modem(parts, value);
-        break;
-    case UART_OFFSET_SPR: {
-        struct uart_chip_latches latches4 = latches;
-        latches4.scr = value;
-        uart_chip_set_latches(parts, latches4);
-        break;
-    }
-    default:
-        break;
-    }
-}
-
-/* Writes a value to the register at this offset. */
-static inline void uart_write(struct uart_chip *parts, uint8_t offset, uint8_t value)
-{
-    if (offset == UART_OFFSET_DATA)
-        uart_write_data(parts, value);
-    else
-        uart_write_register(parts, offset, value);
-}
-
-/* The guest writes a register. */
-void uart_chip_write(struct uart_chip *chip, uint8_t offset, uint8_t value)
-{
-    if (chip == NULL)
-        return;
-    uart_write(chip, (uint8_t)(offset % 8), value);
 }
 
 /* Returns what is owed as a clock of uart_virtual has it. */
@@ -2570,7 +2437,7 @@ uart_decide(struct uart_port *port, bool was_up, struct uart_kind kind, struct u
 }
 
 /* Makes a port with a chip that was saved, unless the data are those of no port. */
-uint32_t
+UART_SELDOM uint32_t
 uart_port_load(struct uart_port *port, const struct uart_chip *saved, struct uart_todo *todo)
 {
     if (port == NULL || saved == NULL || todo == NULL)
@@ -2609,7 +2476,7 @@ static inline void uart_settle(struct uart_chip *chip)
 }
 
 /* Makes a port after power on. */
-void uart_port_new(struct uart_port *port, uint8_t model)
+UART_SELDOM void uart_port_new(struct uart_port *port, uint8_t model)
 {
     if (port == NULL)
         return;
@@ -2697,6 +2564,13 @@ uart_conclude(struct uart_port *port, struct uart_kind kind, struct uart_todo *t
     uart_finish(port, port->told.line != 0 && uart_is_interrupting(&port->chip), kind, todo);
 }
 
+/* The same, for calls that are not to have all of it in their place. */
+static UART_APART void
+uart_conclude_apart(struct uart_port *port, struct uart_kind kind, struct uart_todo *todo)
+{
+    uart_conclude(port, kind, todo);
+}
+
 /* The guest reads a register. */
 uint8_t uart_port_read(struct uart_port *port, uint8_t offset, struct uart_todo *todo)
 {
@@ -2754,12 +2628,12 @@ uart_port_receive_one(struct uart_port *port, uint8_t byte, uint8_t errors, stru
     kind.looks = false;
     kind.moves_data = false;
     kind.may_make_room = false;
-    uart_conclude(port, kind, todo);
+    uart_conclude_apart(port, kind, todo);
     return UART_OK;
 }
 
 /* Saves the chip of a port. */
-void uart_port_save(const struct uart_port *port, struct uart_chip *saved)
+UART_SELDOM void uart_port_save(const struct uart_port *port, struct uart_chip *saved)
 {
     if (port == NULL || saved == NULL)
         return;
@@ -2767,7 +2641,8 @@ void uart_port_save(const struct uart_port *port, struct uart_chip *saved)
 }
 
 /* The modem's inputs become these. */
-uint32_t uart_port_set_lines(struct uart_port *port, uint8_t inputs, struct uart_todo *todo)
+UART_SELDOM uint32_t
+uart_port_set_lines(struct uart_port *port, uint8_t inputs, struct uart_todo *todo)
 {
     if (port == NULL || todo == NULL)
         return UART_NULL_POINTER;
@@ -2779,7 +2654,7 @@ uint32_t uart_port_set_lines(struct uart_port *port, uint8_t inputs, struct uart
     kind.looks = false;
     kind.moves_data = false;
     kind.may_make_room = false;
-    uart_conclude(port, kind, todo);
+    uart_conclude_apart(port, kind, todo);
     return UART_OK;
 }
 
@@ -2812,7 +2687,295 @@ void uart_port_take_output(struct uart_port *port, size_t count, struct uart_tod
     kind.moves_data = false;
     kind.may_make_room = false;
     uart_transmitter_remove_wire(&port->chip.transmitter, count);
-    uart_conclude(port, kind, todo);
+    uart_conclude_apart(port, kind, todo);
+}
+
+/* Sets the registers that keep what is written to them. */
+static inline void
+uart_chip_set_latches(struct uart_chip *uart_chip, struct uart_chip_latches latches)
+{
+    struct uart_latches uart_latches;
+    uart_latches.ier = latches.ier;
+    uart_latches.lcr = latches.lcr;
+    uart_latches.mcr = latches.mcr;
+    uart_latches.scr = latches.scr;
+    uart_latches.dll = latches.dll;
+    uart_latches.dlm = latches.dlm;
+    uart_chip->latches = uart_latches;
+}
+
+/* Appends a byte to the queue. The caller must show that there is room. */
+static inline void uart_transmitter_put(struct uart_transmitter *uart_transmitter, uint8_t byte)
+{
+    uart_push_u8(&uart_transmitter->queue.len, uart_transmitter->queue.items, 16, byte);
+}
+
+/* Counts a byte that was written while there was no room. The count saturates. */
+static inline void uart_transmitter_count_overflow(struct uart_transmitter *uart_transmitter)
+{
+    uint64_t number = uart_transmitter->overflows;
+    uart_transmitter->overflows = number <= UINT64_C(0xffffffffffffffff) - 1 ? number + 1
+        : UINT64_C(0xffffffffffffffff);
+}
+
+/*
+ * Takes a byte that is written to DATA. If there is no room, the FIFO loses it, and THR loses the
+ * byte that it held.
+ * A write clears a pending THR_EMPTY interrupt even if there is no room.
+ */
+static inline void uart_load(struct uart_transmitter *parts, bool fifo, uint8_t byte)
+{
+    if (fifo) {
+        size_t transmitter_queue_len = uart_transmitter_queue_len(parts);
+        if (transmitter_queue_len < uart_fifo_size_characters(UART_FIFO_SIZE_SIXTEEN))
+            uart_transmitter_put(parts, byte);
+        else
+            uart_transmitter_count_overflow(parts);
+    } else {
+        if (0 < uart_transmitter_queue_len(parts)) {
+            parts->queue.len = 0;
+            uart_transmitter_count_overflow(parts);
+        }
+        uart_transmitter_put(parts, byte);
+    }
+    parts->is_thr_pending = (uint8_t)false;
+}
+
+/* Writes DATA. */
+static inline void uart_write_data(struct uart_chip *parts, uint8_t value)
+{
+    if (uart_is_dlab_set(parts)) {
+        struct uart_chip_latches latches = uart_chip_latches_of(parts);
+        latches.dll = value;
+        uart_chip_set_latches(parts, latches);
+    } else {
+        uint8_t byte = uart_cut(parts, value);
+        bool fifo = uart_chip_fifo(parts);
+        uart_load(&parts->transmitter, fifo, byte);
+    }
+}
+
+/* Writes IER. */
+static inline void uart_enable(struct uart_chip *parts, uint8_t interrupts)
+{
+    struct uart_chip_latches chip_latches = uart_chip_latches_of(parts);
+    if ((chip_latches.ier & UART_IER_THR_EMPTY) == 0 &&
+        ((interrupts & UART_IER_THR_EMPTY) != 0 &&
+        uart_transmitter_queue_len(&parts->transmitter) == 0)) {
+        parts->transmitter.is_thr_pending = (uint8_t)true;
+    }
+    struct uart_chip_latches latches = chip_latches;
+    latches.ier = uart_kept_interrupts(interrupts);
+    uart_chip_set_latches(parts, latches);
+}
+
+/* Empties the queue. Its characters are discarded. */
+static inline void uart_clear(struct uart_receiver *parts)
+{
+    parts->queue.len = 0;
+}
+
+/*
+ * Switches the FIFOs on or off, which empties both. No THR_EMPTY interrupt is raised by that, but
+ * by the reset of the transmitter.
+ */
+static inline void uart_switch(struct uart_chip *parts, bool on)
+{
+    parts->fifo = (uint8_t)on;
+    uart_clear(&parts->receiver);
+    parts->transmitter.queue.len = 0;
+}
+
+static inline void uart_reset_receiver(struct uart_chip *parts, uint8_t value)
+{
+    if ((value & UART_FCR_RX_FIFO_RESET) != 0)
+        uart_clear(&parts->receiver);
+}
+
+static inline void uart_reset_transmitter(struct uart_chip *parts, uint8_t value)
+{
+    if ((value & UART_FCR_TX_FIFO_RESET) != 0) {
+        parts->transmitter.queue.len = 0;
+        parts->transmitter.is_thr_pending = (uint8_t)true;
+    }
+}
+
+/*
+ * Returns the trigger level with this code, which is in the low two bits. Higher bits are
+ * ignored.
+ *
+ * Proved: this value and no other has the property.
+ * Proved: the two bits from the lowest on are the code of this trigger level.
+ */
+static inline enum uart_fifo_trigger_level uart_fifo_trigger_level_from_raw_bits(uint8_t bits)
+{
+    switch (bits & 3) {
+    case 0:
+        return UART_FIFO_TRIGGER_LEVEL_ONE;
+    case 1:
+        return UART_FIFO_TRIGGER_LEVEL_FOUR;
+    case 2:
+        return UART_FIFO_TRIGGER_LEVEL_EIGHT;
+    default:
+        return UART_FIFO_TRIGGER_LEVEL_FOURTEEN;
+    }
+}
+
+/*
+ * Returns the trigger level of the receiver FIFO.
+ *
+ * Proved: this value and no other has the property.
+ * Proved: the two bits from the lowest on are the code of this trigger level.
+ */
+static inline enum uart_fifo_trigger_level uart_fcr_fifo_trigger_level(uint8_t fcr)
+{
+    return uart_fifo_trigger_level_from_raw_bits((uint8_t)(fcr >> 6));
+}
+
+/* Returns the trigger level of a value of FCR. */
+static inline enum uart_fifo_trigger_level uart_trigger_level(uint8_t fcr)
+{
+    return uart_fcr_fifo_trigger_level(fcr);
+}
+
+/* Sets the trigger level. */
+static inline void
+uart_receiver_set_trigger(struct uart_receiver *uart_receiver, enum uart_fifo_trigger_level trigger)
+{
+    uart_receiver->trigger = uart_number_of(trigger);
+}
+
+/*
+ * Without the enable bit nothing but the switch is done: a chip whose FIFOs are off ignores the
+ * resets. Neither the character in the shift register nor the overrun flag changes. The trigger
+ * level survives when the FIFOs are switched off.
+ */
+static inline void uart_set_fifo(struct uart_chip *parts, uint8_t value)
+{
+    bool is_so = (value & UART_FCR_FIFO_ENABLE) != 0;
+    if (uart_chip_fifo(parts) != is_so)
+        uart_switch(parts, is_so);
+    if (is_so) {
+        uart_reset_receiver(parts, value);
+        uart_reset_transmitter(parts, value);
+        uart_receiver_set_trigger(&parts->receiver, uart_trigger_level(value));
+    }
+}
+
+/* Writes FCR. */
+static inline void uart_control(struct uart_chip *parts, uint8_t value)
+{
+    if (uart_chip_model(parts) != UART_EVENTS_CHIP_UART16450)
+        uart_set_fifo(parts, value);
+}
+
+/* Renews the lines under this modem control register. */
+static inline void uart_modem_renew(struct uart_modem *uart_modem, uint8_t mcr)
+{
+    struct uart_chip_modem modem = uart_restored(*uart_modem);
+    uart_chip_modem_renew(&modem, mcr);
+    *uart_modem = uart_saved(&modem);
+}
+
+/* Computes the modem lines anew under this value of MCR, and adds their changes. */
+static inline void uart_chip_renew_modem(struct uart_chip *uart_chip, uint8_t mcr)
+{
+    uart_modem_renew(&uart_chip->modem, mcr);
+}
+
+/* Writes MCR. */
+static inline void uart_control_modem(struct uart_chip *parts, uint8_t value)
+{
+    uint8_t mcr = uart_kept_modem_control(value);
+    struct uart_chip_latches latches = uart_chip_latches_of(parts);
+    latches.mcr = mcr;
+    uart_chip_set_latches(parts, latches);
+    uart_chip_renew_modem(parts, mcr);
+}
+
+static UART_APART void uart_write_register(struct uart_chip *parts, uint8_t offset, uint8_t value)
+{
+    struct uart_chip_latches latches = uart_chip_latches_of(parts);
+    switch (offset) {
+    case UART_OFFSET_DATA:
+        uart_write_data(parts, value);
+        break;
+    case UART_OFFSET_IER:
+        if (uart_is_dlab_set(parts)) {
+            struct uart_chip_latches latches2 = latches;
+            latches2.dlm = value;
+            uart_chip_set_latches(parts, latches2);
+        } else {
+            uart_enable(parts, value);
+        }
+        break;
+    case UART_OFFSET_FCR:
+        uart_control(parts, value);
+        break;
+    case UART_OFFSET_LCR: {
+        struct uart_chip_latches latches3 = latches;
+        latches3.lcr = value;
+        uart_chip_set_latches(parts, latches3);
+        break;
+    }
+    case UART_OFFSET_MCR:
+        uart_control_modem(parts, value);
+        break;
+    case UART_OFFSET_SPR: {
+        struct uart_chip_latches latches4 = latches;
+        latches4.scr = value;
+        uart_chip_set_latches(parts, latches4);
+        break;
+    }
+    default:
+        break;
+    }
+}
+
+/* Writes a value to the register at this offset. */
+static inline void uart_write(struct uart_chip *parts, uint8_t offset, uint8_t value)
+{
+    if (offset == UART_OFFSET_DATA)
+        uart_write_data(parts, value);
+    else
+        uart_write_register(parts, offset, value);
+}
+
+/*
+ * Returns whether a byte that is written to DATA goes into the queue of a FIFO as it is, as most
+ * do: DATA is not the divisor latch, characters are not cut, and there is room.
+ */
+static inline bool uart_queues_whole(const struct uart_chip *chip)
+{
+    bool has_room = uart_transmitter_queue_len(&chip->transmitter) < 16;
+    return !uart_is_dlab_set(chip) && (!uart_chip_cuts(chip) && (uart_chip_fifo(chip) && has_room));
+}
+
+/*
+ * Writes DATA, whatever that is and does, out of line: most bytes need none of it.
+ *
+ * Proved: the whole chip, but for bytes behind the end of a queue and those of an empty
+ * shift register.
+ */
+static UART_APART void uart_write_data_slowly(struct uart_chip *chip, uint8_t value)
+{
+    uart_write(chip, 0, value);
+}
+
+/* The guest writes a register. */
+void uart_chip_write(struct uart_chip *chip, uint8_t offset, uint8_t value)
+{
+    if (chip == NULL)
+        return;
+    uint8_t offset2 = (uint8_t)(offset % 8);
+    if (offset2 != 0) {
+        uart_write(chip, offset2, value);
+    } else if (uart_queues_whole(chip)) {
+        uart_transmitter_put(&chip->transmitter, value);
+        chip->transmitter.is_thr_pending = (uint8_t)false;
+    } else {
+        uart_write_data_slowly(chip, value);
+    }
 }
 
 /* Returns whether a transmitter holds nothing, and its wire has room. */
@@ -2899,7 +3062,7 @@ static inline void uart_write_and_raise(struct uart_chip *chip, uint8_t offset, 
  * Proved: a port whose data are the one value for their meaning, but for bytes of its chip
  * that mean nothing.
  */
-static inline void
+static UART_APART void
 uart_write_slowly(struct uart_port *port, uint8_t offset, uint8_t value, struct uart_todo *todo)
 {
     uart_write_and_raise(&port->chip, offset, value);

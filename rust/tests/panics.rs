@@ -8,13 +8,13 @@ use core::num::{NonZeroU64, NonZeroUsize};
 use uart_16550::Flags;
 use uart_16550::discovery::{self, OptionError, PciError, PortDescription, TableError, TreeError};
 use uart_16550::native::backend::{
-    Backend, ByteAccess, ByteOrder, InvalidLayoutError, MmioBackend, PioBackend, PortAccess,
+    self, Backend, ByteAccess, ByteOrder, InvalidLayoutError, MmioBackend, PioBackend, PortAccess,
     DesignWare, DesignWareFault, DesignWareMemory, DesignWareRegisters, RegisterLayout, RegisterWidth, VolatileMemory, WideMemory,
 };
 use uart_16550::native::embedded_io::{Read, ReadReady, Write, WriteReady};
 use uart_16550::native::{
     AttachError, BaudRate, ByteReceiveError, ByteSendError, Config, ConfigRegisterDump,
-    ConfigurationError, FifoAction, FifoSize, FifosOffError, FrameError, Setup, DriverState, InitError, InvalidAddressError, InvalidDivisorError, LoopbackError,
+    ConfigurationError, FifoAction, FifoSize, FifoSizeError, FifosOffError, FrameError, Setup, DriverState, InitError, InvalidAddressError, InvalidDivisorError, LoopbackError,
     NearestDivisorError, NonIntegerBaudRateError, NonIntegerDivisorError, Received,
     RemoteReadyToReceiveError, StalledError, Uart16550, Uart16550Tty, Uart16550TtyError,
 };
@@ -151,6 +151,8 @@ calls! {
     uart_quiesce(uart: &mut Uart, outputs: MCR, fifos: FifoAction) { uart.quiesce(outputs, fifos) }
     uart_restore(uart: &mut Uart, dump: &ConfigRegisterDump) { uart.restore(dump) }
     size_characters(size: FifoSize) -> usize { size.characters() }
+    size_largest_up_to(characters: usize) -> Option<FifoSize> { FifoSize::largest_up_to(characters) }
+    design_ware_fifo_size_of(cpr: u32) -> Option<FifoSize> { backend::fifo_size_of(cpr) }
     uart_check_configured(uart: &mut Uart, outputs: MCR) -> Result<(), ConfigurationError> { uart.check_configured(outputs) }
     uart_attach(uart: &mut Uart) -> Result<(DLL, DLM), AttachError> { uart.attach() }
     uart_is_idle(uart: &mut Uart) -> bool { uart.is_idle() }
@@ -160,6 +162,7 @@ calls! {
     uart_set_rts(uart: &mut Uart, on: bool) { uart.set_rts(on) }
     uart_set_dtr(uart: &mut Uart, on: bool) { uart.set_dtr(on) }
     uart_test_loopback(uart: &mut Uart) -> Result<(), LoopbackError> { uart.test_loopback() }
+    uart_find_fifo_size(uart: &mut Uart) -> Result<FifoSize, FifoSizeError> { uart.find_fifo_size() }
     uart_check_connected(uart: &mut Uart) -> Result<(), RemoteReadyToReceiveError> { uart.check_connected() }
     uart_ready_to_receive(uart: &mut Uart) -> Result<(), ByteReceiveError> { uart.ready_to_receive() }
     uart_ready_to_send(uart: &mut Uart) -> Result<(), ByteSendError> { uart.ready_to_send() }
@@ -271,6 +274,7 @@ calls! {
     ring_into_inner(ring: Ring) -> Uart { ring.into_inner() }
     // panics makes a line of each other call of the rings here.
     ring_take_with_errors(ring: &mut NotingRing, slots: &mut [Received]) -> Result<usize, UnnotedError> { ring.take_with_errors(slots) }
+    ring_copy_with_notes(ring: &Ring, notes: &ErrorNotes<Device>, slots: &mut [Received]) -> Result<usize, UnnotedError> { ring.copy_with_notes(notes, slots) }
     error_notes_new(memory: Global<'_>, backend: Device, capacity: usize) -> Result<ErrorNotes<Device>, (Device, RingError)> { ErrorNotes::new(memory, backend, capacity) }
     error_notes_backend(notes: &ErrorNotes<Device>) -> &Device { notes.backend() }
     error_notes_backend_mut(notes: &mut ErrorNotes<Device>) -> &mut Device { notes.backend_mut() }

@@ -16,6 +16,7 @@ FIRST_CHUNK = "core::slice::arrays::slice+T::first_chunk"
 COPY_SLICE = "core::slice::edits::slice+T::copy_from_slice"
 SAME_ARRAYS = "core::cmp::arrays::ArrayPartialEq::eq"
 ROTATE = "core::slice::edits::slice+T::rotate_left"
+COPY_DOWN = "std_alloc::shifts::copy_down"
 ALL_BITS = "bitflags::traits::Flags::all"
 # What is by hand in C, by the method of the MIR.
 OF_C = {
@@ -33,10 +34,10 @@ FILLED = "std_alloc::vec::Vec::from_elem"
 OVER_SLICES = ("std_alloc::shifts::", "std::slices::")
 # Returns the range that it is given, if that is within: it is proved to be, where this is called.
 RANGE_WITHIN = "core::slice::ranges::range"
-NATIVE = {*BRANCH, RANGE_WITHIN, FILLED, NO_RESIDUAL, FIRST_CHUNK, COPY_SLICE, SAME_ARRAYS, ROTATE, ALL_BITS}
+NATIVE = {*BRANCH, RANGE_WITHIN, FILLED, NO_RESIDUAL, FIRST_CHUNK, COPY_SLICE, SAME_ARRAYS, ROTATE, COPY_DOWN, ALL_BITS}
 U64 = c.Width(False)
 # The parameters of functions of libraries whose sources are not read.
-PARAMETERS = {"std_alloc::shifts::copy_down": ("items", "from", "to", "count"), "std_alloc::shifts::copy_up": ("items", "from", "to", "count")}
+PARAMETERS = {"std_alloc::shifts::copy_up": ("items", "from", "to", "count")}
 
 
 class Pair:
@@ -563,6 +564,11 @@ class Body:
             if not (isinstance(count, c.Literal) and count.value == 1 and items.pointer.of.to.text() == "struct u16550_received"):
                 raise Unknown("a rotation by more than one, or of other items than characters")
             return self.library.helper("uart_first_to_last", [items.pointer, items.length], c.VOID)
+        if name == COPY_DOWN:
+            items, *places = arguments
+            for one in places:
+                self.join(one, c.Literal(0, c.Number(64, c.SIZE)), "=")
+            return self.library.move_down(items.pointer, places)
         if name == SAME_ARRAYS:
             count = c.Literal(one.function[1][1][1], c.Number(64, c.SIZE))
             return self.library.helper("uart_same_bytes", [*arguments, count], c.BOOL)

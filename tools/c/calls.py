@@ -22,6 +22,12 @@ may look like a driver, or like a call that is not done."""
 
 CHIP = "The memory of a DesignWare UART: what the library keeps of it. It stays where it is as long as the driver is used."
 
+BUS = """
+The memory of a driver at a bus. As for a driver: it may be copied to another place between two calls, if only one of the copies is used
+from then on, and it is zero before a first bus is made in it."""
+
+NOTES = "The memory of notes of errors, which is the library's. It stays where it is as long as the driver notes errors."
+
 # What functions return. Negative numbers are misuses. `of` names the variants of errors of the proved code: each variant of an error that a
 # function returns has a number here, or `emit` makes nothing.
 NUMBERS = [
@@ -43,6 +49,8 @@ NUMBERS = [
         Number("NOT_UTF8", -9, "the text is not UTF-8"),
         Number("NO_RINGS", -10, "the driver has no rings"),
         Number("HAS_RINGS", -11, "the driver has rings already"),
+        Number("NO_NOTES", -12, "the driver notes no errors"),
+        Number("HAS_NOTES", -13, "the driver notes errors already"),
     ]),
     Numbers("address_error", "Why the registers cannot be there.", [
         Number("BAD_BASE", 10, "the registers do not fit behind the base address",
@@ -86,7 +94,7 @@ NUMBERS = [
         Number("RECEIVE_NO_DATA", 60, "no byte was received"),
     ]),
     Numbers("stalled_error", "", [
-        Number("STALLED", 70, "a wait came to the spin limit", note=SAME),
+        Number("STALLED", 70, "a wait came to the spin limit", note=SAME, of=("SendError.Stalled",)),
     ]),
     Numbers("baud_rate_error", "", [
         Number("NON_INTEGER_BAUD_RATE", 80, "the divisor gives no whole baud rate", note="the divisor is 0, or gives no whole baud rate"),
@@ -102,6 +110,9 @@ NUMBERS = [
             of=("StuckError.Unknown",)),
         Number("RING_STUCK_PENDING", 93, "an interrupt does not go away",
             note="ISR shows an interrupt that was served and does not go away", of=("StuckError.Pending",)),
+    ]),
+    Numbers("unnoted_error", "", [
+        Number("RING_UNNOTED", 94, "bytes of the receive ring have no note of their errors", note=SAME),
     ]),
     Numbers("frame_error", "Why no frame was set.", [
         Number("FRAME_NON_INTEGER_DIVISOR", 100, "frame: no whole divisor gives the baud rate",
@@ -125,8 +136,12 @@ NUMBERS = [
         Number("ATTACH_NO_DIVISOR", 122, "attach: the port has no divisor",
             note="the divisor latch reads as 0: no port is set up there, or there is none", of=("AttachError.NoDivisor",)),
     ]),
-    Numbers("fifos_error", "", [
-        Number("FIFOS_OFF", 130, "the FIFOs are off", note="the FIFOs are off, so they have no trigger level"),
+    Numbers("fifos_error", "Why the FIFOs have no trigger level, or why their size was not found.", [
+        Number("FIFOS_OFF", 130, "the FIFOs are off", note="no access was made", of=("FifoSizeError.FifosOff",)),
+        Number("FIFOS_TOO_FEW", 131, "FIFO size: too few bytes came back",
+            note="fewer than 16 bytes came back in loopback", of=("FifoSizeError.TooFew",)),
+        Number("FIFOS_STALLED", 132, "FIFO size: the device did not respond in time",
+            note="a wait came to the spin limit", of=("FifoSizeError.Stalled",)),
     ]),
     Numbers("configuration_error", "What a chip does not show of what was written to it. The first difference is told, in this order.", [
         Number("CONFIGURATION_NO_DIVISOR", 140, "configured: there is no divisor for the baud rate",
@@ -139,6 +154,11 @@ NUMBERS = [
         Number("CONFIGURATION_DIVISOR", 144, "configured: the divisor latch has another divisor", of=("ConfigurationError.Divisor",)),
         Number("CONFIGURATION_FIFOS", 145, "configured: the FIFOs are not as the driver takes them to be",
             note="ISR shows otherwise than u16550_fifo_enabled whether they are on", of=("ConfigurationError.Fifos",)),
+    ]),
+    Numbers("bus_error", "Why a call at a bus was not done.", [
+        Number("BUS_BUSY", 160, "the transmitter is not empty", note="the transmitter is not empty; nothing was written"),
+        Number("BUS_NOT_SENDING", 161, "the direction is not to send", note="the direction is not to send; no access was made",
+            of=("SendError.NotSending",)),
     ]),
     Numbers("design_ware_fault", "What a DesignWare UART did that could not be mended.", [
         Number("DESIGN_WARE_LINE_CONTROL", 150, "the UART stayed busy, and ignored LCR",
@@ -245,6 +265,16 @@ a character was lost: with the FIFO on right behind the 15th or the 16th charact
         Field("uint8_t waits", "whether there is one"),
         Field("uint8_t byte", "0 if there is none"),
     ]),
+    Enum("direction_line", "The output that switches the transceiver at a bus.", [
+        Member("DIRECTION_RTS", 0),
+        Member("DIRECTION_DTR", 1),
+    ]),
+    Struct("direction", """
+How the transceiver at a bus is switched. The pin of an output is low while its bit in MCR is set: a transceiver at the pin itself, which
+drives the bus while its input DE is high, sends while the bit is clear; with an inverter between them it sends while the bit is set.""", [
+        Field("uint8_t line", "an enum u16550_direction_line"),
+        Field("uint8_t sends_when_set", "0 or 1: it sends while the bit is set in MCR"),
+    ]),
     Struct("stuck", "Whether a chip is stuck.", [
         Field("uint8_t is_stuck"),
         Field("uint8_t isr", "bits 3 to 0 of ISR, which showed why; 0 if it is not stuck"),
@@ -296,7 +326,8 @@ CODES = [
     Codes("TransmitterWait", "uint8_t", {"First": "WAIT_FIRST", "Last": "WAIT_LAST", "Never": "WAIT_NEVER"}, got=False),
     Codes("FifoAction", "uint8_t", {"Keep": "FIFOS_KEEP", "Reset": "FIFOS_RESET", "Disable": "FIFOS_DISABLE"}, got=False),
     Codes("FifoSize", "uint16_t", {"Sixteen": 16, "ThirtyTwo": 32, "SixtyFour": 64, "OneHundredTwentyEight": 128,
-                                   "TwoHundredFiftySix": 256}, got=False),
+                                   "TwoHundredFiftySix": 256}),
+    Codes("DirectionLine", "uint8_t", {"Rts": "DIRECTION_RTS", "Dtr": "DIRECTION_DTR"}, got=False),
     Codes("DesignWareFault", "int", {"LineControlIgnored": "DESIGN_WARE_LINE_CONTROL", "InterruptWithoutEnd": "DESIGN_WARE_INTERRUPT"},
           given=False),
     Codes("HandleEnd", "uint8_t", {"Idle": "HANDLE_IDLE", "Unknown": "HANDLE_UNKNOWN", "Limit": "HANDLE_LIMIT"}, given=False),
@@ -422,6 +453,14 @@ with other outputs. If the wait that comes first ends by U16550_INIT_STALLED, no
 Tests the chip in loopback. Returns an enum u16550_loopback_error if it fails; *failure then has what came back. failure
 may be null.""", [
             ByHand("test_loopback", "struct u16550 *uart, struct u16550_loopback_failure *failure"),
+        ]),
+        Group("""
+Finds how many characters the FIFOs hold as they are set up now, for u16550_send_burst: 16, 32, 64, 128 or 256. Sends 257
+bytes in loopback without looking, and counts those that come back. Nothing goes out on the line. Bytes that were received
+before and not taken are lost, and so is what arrives meanwhile. It takes as long as the characters need on the line. Returns
+an enum u16550_fifos_error if no size was found.""", [
+            Call("find_fifo_size", "struct u16550 *uart, uint16_t *fifo_size", gives="fifo_size", error="FifoSizeError", encode="fifo_size",
+                outcome="struct uart_fifo_size_or_fifo_size_error"),
         ]),
         Group("""
 Whether the chip shows what was written to it: the frame, these outputs, which after u16550_init are 0x0b, the interrupts, the
@@ -600,6 +639,56 @@ The divisor of a dump, and the baud rate that it gives with the frequency and th
             ByHand("dump_baud_rate", "const struct u16550_dump *dump, const struct u16550_config *config, uint32_t *baud_rate"),
         ]),
     ]),
+    Section("a bus of two wires, as RS-485", """
+One end at a time sends at such a bus, and RTS or DTR switches the transceiver of this end. A bus takes a driver, and has the calls that keep
+the direction: no byte is written while it is not to send, and it is given back only while the transmitter is empty. That is proved of the
+code that this is made from, for these calls in any order. Delays are the caller's: between start_sending and the first byte as long as the
+transceiver takes, and between the end of the last byte and try_finish about a bit, since some chips are empty when the stop bit begins.""", [
+        Group("""
+The outputs with the line as it is to be while the transceiver receives. Give them to u16550_init_with: u16550_init raises RTS and DTR, and
+this end might hold the bus.""", [
+            ByHand("direction_receiving", "const struct u16550_direction *direction, uint8_t outputs, uint8_t *receiving"),
+        ]),
+        Group("""
+Makes a bus of a driver that is set up: makes the accesses of u16550_bus_try_finish, and there is no driver in the memory of the driver any
+more. Returns U16550_BUS_BUSY if the transmitter is not empty; the driver then stays. Refused by U16550_HAS_RINGS if it has rings. If a call
+over a bus that is there is not done, it returns U16550_BUSY.""", [
+            ByHand("bus_new", "struct u16550_bus *bus, struct u16550 *uart, const struct u16550_direction *direction"),
+        ]),
+        Group("""
+Ends a bus, and makes a driver of it again, in this memory, as the constructors do: for other calls, as u16550_set_frame. Makes no access.
+The direction stays as it is, so finish before.""", [
+            ByHand("bus_end", "struct u16550_bus *bus, struct u16550 *uart"),
+        ]),
+        Group("Switches the transceiver to send: reads MCR, and writes it with the line so. From now on bytes may be sent.", [
+            ByHand("bus_start_sending", "struct u16550_bus *bus"),
+        ]),
+        Group("""
+Gives the bus back if the transmitter is empty: reads LSR once, and then MCR, which it writes with the line so that the transceiver
+receives. Returns U16550_BUS_BUSY if it is not empty, and the direction stays. Does not wait.""", [
+            ByHand("bus_try_finish", "struct u16550_bus *bus"),
+        ]),
+        Group("Whether the direction is to send. Makes no access.", [
+            ByHand("bus_is_sending", "struct u16550_bus *bus, uint8_t *sending"),
+        ]),
+        Group("As u16550_flush and u16550_is_idle: a wait until the transmitter is empty, and a look at it. The direction stays.", [
+            ByHand("bus_flush", "struct u16550_bus *bus"),
+            ByHand("bus_is_idle", "struct u16550_bus *bus, uint8_t *idle"),
+        ]),
+        Group("""
+As u16550_send_bytes and u16550_send_bytes_exact. Both return U16550_BUS_NOT_SENDING, without an access, if the direction is not to send;
+*done is 0 then, and after U16550_STALLED how many bytes were written. done may be null.""", [
+            ByHand("bus_send_bytes", "struct u16550_bus *bus, const uint8_t *buffer, size_t len, size_t *count"),
+            ByHand("bus_send_bytes_exact", "struct u16550_bus *bus, const uint8_t *buffer, size_t len, size_t *done"),
+        ]),
+        Group("""
+As u16550_receive_bytes, u16550_receive_with_errors and u16550_lsr, in either direction. If the board hears what this end sends, those bytes
+are received too.""", [
+            ByHand("bus_receive_bytes", "struct u16550_bus *bus, uint8_t *buffer, size_t len, size_t *count"),
+            ByHand("bus_receive_with_errors", "struct u16550_bus *bus, struct u16550_received *received, size_t len, size_t *count"),
+            ByHand("bus_lsr", "struct u16550_bus *bus, uint8_t *value"),
+        ]),
+    ]),
     Section("rings, for use with interrupts", """
 Rings keep bytes until the chip has room for them, and received bytes until they are taken. Initialise the driver with
 DATA_READY and RECEIVER_LINE_STATUS enabled, and call u16550_ring_try_handle in the interrupt handler. No ring call waits. All
@@ -659,6 +748,29 @@ below since the last call. Ask at the end of the handler, and wake who waits for
             Call("ring_take", "struct u16550 *uart, uint8_t *buffer, size_t len, size_t *count", gives="count"),
         ]),
         Group("""
+Has the driver note the errors of each received byte from now on, for u16550_ring_take_with_errors. Call it before u16550_init. The
+memory has room for the errors of so many bytes, one byte each: as many as the receive ring has room for. Refused by
+U16550_RING_BAD_CAPACITY. It makes no access, and no call makes another one for it; rings without it cost what they cost before.
+
+The notes lie between the driver and its functions until u16550_end_notes or u16550_end, and are in no other use so long; their
+memory too. Meanwhile u16550_get_io returns functions of the library, u16550_set_io is to be given no others, and
+u16550_design_ware_fault finds no chip. u16550_end_notes gives the driver its functions back.""", [
+            ByHand("note_errors", "struct u16550 *uart, struct u16550_notes *notes, uint8_t *memory, size_t capacity"),
+            ByHand("end_notes", "struct u16550 *uart"),
+        ]),
+        Group("""
+Takes received bytes as u16550_ring_take does, each with its errors; the two may be called in turn. With the FIFO on, the parity
+error, the framing error and the break of a byte are exactly those of its character. An overrun of before the notes were made, or of
+before u16550_init, is at no byte: u16550_ring_take_line alone tells of it.
+
+A call that receives passes the rings by, and its bytes are the last that were read. So make one only while the receive ring is
+empty; else errors stand at the wrong bytes until all bytes of the ring are taken.
+
+Returns U16550_RING_UNNOTED if fewer errors are noted than bytes are in the receive ring: the notes have room for fewer, or were
+made later. Then nothing is taken, and *count is how many bytes at the front have no note: u16550_ring_take takes them.""", [
+            ByHand("ring_take_with_errors", "struct u16550 *uart, struct u16550_received *received, size_t len, size_t *count"),
+        ]),
+        Group("""
 Holds the other end back by RTS, or lets it go on: RTS goes off if there is room for fewer received bytes than hold, and on if there
 is room for at least release. Between the two it stays as it is. The other end has to check CTS. Call it at the end of the handler,
 and after each u16550_ring_take and u16550_ring_clear_receive: while the other end is held back no byte arrives, so nothing calls
@@ -673,6 +785,12 @@ also during a hold. What was told last is not told again, and nothing is told wh
 chip. Marks of 0 let the other end go on in any case.""", [
             Call("ring_adjust_xoff", "struct u16550 *uart, size_t hold, size_t release, struct u16550_urgent *told",
                 arguments="uart_marks(hold, release)", gives="told", encode="urgent"),
+        ]),
+        Group("""
+Obeys the other end that tells this one XOFF and XON: holds the bytes that are queued at an XOFF, and releases them at an XON. Of the
+bytes that came since the last call and are not taken yet, the last XON or XOFF counts, and *told is that one. All bytes stay to be
+taken. The hold is that of u16550_ring_hold_transmit. Call it at the end of the handler.""", [
+            Call("ring_obey_xoff", "struct u16550 *uart, struct u16550_urgent *told", gives="told", encode="urgent"),
         ]),
         Group("""
 Starts sending again if bytes wait with no interrupt to come: when CTS came back and the configuration checks it; and after each

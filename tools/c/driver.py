@@ -19,7 +19,7 @@ from tree import DEVICE
 FOLDER = pathlib.Path(__file__).resolve().parent
 ROOT = FOLDER.parent.parent
 # The crates whose functions stay functions in C.
-OWN = ("uart_spec", "uart_16550", "uart_design_ware", "uart_ring")
+OWN = ("uart_spec", "uart_16550", "uart_design_ware", "uart_rs485", "uart_ring")
 # Types of the source that the header has already, part for part.
 PUBLIC = {
     ("Named", "uart_spec::received::Received", ()): "u16550_received",
@@ -28,12 +28,14 @@ PUBLIC = {
 }
 RING = ("Named", "uart_ring::ring::Uart16550Ring", (DEVICE,))
 DESIGN_WARE = ("Named", "uart_design_ware::state::DesignWare", (DEVICE,))
+BUS = ("Named", "uart_rs485::bus::HalfDuplex", (DEVICE,))
+NOTES = ("Named", "uart_ring::notes::ErrorNotes", (DEVICE,))
 # The types of the code that is proved which the structs of the header are made of.
-IN_HEADER = (RING, DESIGN_WARE)
-# Functions that implement traits, by which callers call them.
-OF_TRAITS = re.compile(r"::embedded_io::|::DesignWareBackend::")
+IN_HEADER = (RING, DESIGN_WARE, NOTES, BUS)
+# Functions that implement traits, by which callers call them; and one that is inside of a call of rings over notes of errors.
+OF_TRAITS = re.compile(r"::embedded_io::|::DesignWareBackend::|::ErrorNotesBackend::|::drop_taken$")
 # What is by hand, in front of what is made of the table, and behind the first part of it.
-GUARDS, BY_HAND = ["guards"], ["bottom", "memory", "design_ware"]
+GUARDS, BY_HAND = ["guards"], ["bottom", "memory", "design_ware", "notes", "bus"]
 TOP = """/*
  * u16550.c - a driver for serial chips of the 16550 family, with rings for interrupts. u16550.h says how it is used.
  *
@@ -83,7 +85,7 @@ def wanted(library, text):
 def made(folder):
     """The texts of the header and of the source, and the library that was translated."""
     table.check(calls)
-    library = Library(program_of(OWN, folder, "./prove uart_ring && ./prove uart_design_ware"), names.Source(ROOT, OWN), PUBLIC, OWN, "U16550")
+    library = Library(program_of(OWN, folder, "./prove uart_ring && ./prove uart_design_ware && ./prove uart_rs485"), names.Source(ROOT, OWN), PUBLIC, OWN, "U16550")
     for one in IN_HEADER:
         library.types.put_into_header(one)
     guards, by_hand = ("\n".join(text_of(f"layer_{one}.c") for one in which) for which in (GUARDS, BY_HAND))

@@ -93,7 +93,7 @@ def filled(template, number, convention, kept="", proved=lambda call: ""):
     """A template with what the table says."""
     parts = {"RULES": "".join(f" * {one}".rstrip() + "\n" for one in calls.RULES.strip().split("\n")), "VERSION": version(number),
              "NUMBERS": numbers(), "TYPES": types(convention), "KEPT": kept, "HANDLE": comment(calls.HANDLE), "CHIP": comment(calls.CHIP),
-             "CALLS": functions(convention, proved)}
+             "NOTES": comment(calls.NOTES), "BUS": comment(calls.BUS), "CALLS": functions(convention, proved)}
     for name, text in parts.items():
         template = template.replace(f"@{name}@", text)
     return template

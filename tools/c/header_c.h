@@ -59,6 +59,16 @@ struct u16550_device {
     struct u16550_core_design_ware chip;
 };
 
+@BUS@struct u16550_bus {
+    volatile uint32_t mark;
+    volatile uint32_t is_busy;
+    struct u16550_core_half_duplex bus;
+};
+
+@NOTES@struct u16550_notes {
+    struct u16550_core_error_notes notes;
+};
+
 @CALLS@
 #if defined(__cplusplus)
 }

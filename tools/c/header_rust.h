@@ -76,8 +76,19 @@ U16550_NORETURN void u16550_panic(void);
     uint64_t opaque[28];
 };
 
+@BUS@struct u16550_bus {
+    uint64_t opaque[28];
+};
+
+@NOTES@struct u16550_notes {
+    uint64_t opaque[12];
+};
+
 U16550_ASSERT(sizeof(struct u16550) == 224, "struct u16550");
 U16550_ASSERT(sizeof(struct u16550_design_ware) == 224, "struct u16550_design_ware");
+U16550_ASSERT(sizeof(struct u16550_bus) == 224, "struct u16550_bus");
+U16550_ASSERT(sizeof(struct u16550_notes) == 96, "struct u16550_notes");
+U16550_ASSERT(sizeof(struct u16550_direction) == 2, "struct u16550_direction");
 U16550_ASSERT(sizeof(struct u16550_io) == 3 * sizeof(void *), "struct u16550_io");
 U16550_ASSERT(sizeof(struct u16550_layout) == 3, "struct u16550_layout");
 U16550_ASSERT(sizeof(struct u16550_config) == 20, "struct u16550_config");

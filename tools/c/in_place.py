@@ -65,4 +65,11 @@ def expanded(statements, made):
 
 def without_itself(statements):
     """Without the assignments of a place to itself."""
-    return [one for one in statements if not (isinstance(one, c.Set) and c.text(one.to) == c.text(one.value))]
+    out = []
+    for one in statements:
+        if isinstance(one, c.Set) and c.text(one.to) == c.text(one.value):
+            continue
+        if isinstance(one, c.If):
+            one.yes, one.no = without_itself(one.yes), without_itself(one.no)
+        out.append(one)
+    return out

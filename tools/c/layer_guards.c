@@ -38,6 +38,8 @@ UART_ALIGNMENT(difference, struct u16550_difference);
 UART_ALIGNMENT(handled, struct u16550_handled);
 UART_ALIGNMENT(port, struct u16550_line_port);
 UART_ALIGNMENT(chip, struct u16550_design_ware);
+UART_ALIGNMENT(notes, struct u16550_notes);
+UART_ALIGNMENT(bus, struct u16550_bus);
 UART_ALIGNMENT(size, size_t);
 UART_ALIGNMENT(u64, uint64_t);
 UART_ALIGNMENT(u32, uint32_t);

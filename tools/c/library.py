@@ -20,7 +20,7 @@ OF_TRAITS = {
     "uart_design_ware::registers::DesignWareRegisters": DEVICE,
 }
 # The structs of C that are large, as are those that have one of them.
-HOLD_A_DRIVER = {"u16550_core_driver"}
+LARGE = {"u16550_core_driver", "u16550_core_error_notes"}
 HELPERS = {
     "uart_copy_bytes": """/* Copies so many bytes between two places that do not overlap. */
 static inline void uart_copy_bytes(uint8_t *to, const uint8_t *from, size_t count)
@@ -56,6 +56,24 @@ static inline bool uart_same_bytes(const uint8_t *one, const uint8_t *other, siz
 }
 """,
 }
+# What moves items towards the front of their array. Of one loop gcc makes a call of memmove, around which a function has to keep its
+# registers: a tick takes 38 instructions then, and not 26. So many at once are as many as such an array of the chip has: gcc moves them by a
+# few registers, and calls nothing.
+MOVE_DOWN = """/* Moves so many items towards the front of their array, by way of a place of their own. */
+static inline void
+NAME(ITEM *items, size_t from, size_t to, size_t count)
+{
+    ITEM moved[MOST];
+    for (size_t done = 0; done < count; done += MOST) {
+        size_t some = count - done < MOST ? count - done : MOST;
+        for (size_t i = 0; i < some; i++)
+            moved[i] = items[from + done + i];
+        for (size_t i = 0; i < some; i++)
+            items[to + done + i] = moved[i];
+    }
+}
+"""
+MOST_BYTES, MOST_STRUCTS = 64, 16
 # The functions whose second argument is the offset of a register, and the names of these.
 READ = dict(enumerate("DATA IER ISR LCR MCR LSR MSR SPR".split()))
 WRITTEN = {**READ, 2: "FCR"}
@@ -74,7 +92,8 @@ class Written:
 
     def __init__(self, name, parameters, result, comment, proved):
         self.name, self.parameters, self.result, self.comment, self.proved = name, parameters, result, comment, proved
-        self.statements, self.is_public = [], False
+        # Whether it is not to stand in the place of its calls.
+        self.statements, self.is_public, self.is_apart = [], False, False
 
     def publish(self, names):
         """Makes it one of the header, whose parameters have the names that they have there."""
@@ -90,11 +109,12 @@ class Written:
         inside = [statement for loop in loops for statement in c.all_statements([loop])]
         return {part.name for one in inside for whole in c.expressions(one) for part in c.every(whole) if isinstance(part, c.CallOf)}
 
-    def text(self, in_loops, short):
-        """Its text. `in_loops` are the functions that are called in loops, and `short` is how many lines a short one has at most."""
+    def text(self, in_loops, short, apart, words):
+        """Its text. `in_loops` are the functions that are called in loops, `short` is how many lines a short one has at most, `apart` is what
+        one is declared as that is not to stand in the place of its calls, and `words` has what is said of some by their names."""
         body = c.lines(self.statements)
         is_short = len(body) <= (max(short, SHORT_IN_LOOP) if self.name in in_loops else short)
-        word = "" if self.is_public else "static inline" if is_short else "static"
+        word = words[self.name] if self.name in words else "" if self.is_public else apart if self.is_apart else "static inline" if is_short else "static"
         first = top(word, self.result, self.name, [c.declared(one.of, one.name) for one in self.parameters])
         return "\n".join([self.comment + "\n".join(first), "{", *body, "}", ""])
 
@@ -123,9 +143,11 @@ class Library:
         self.types = Representation(self.forest, source, public)
         self.functions, self.order, self.failed, self.exports = {}, [], [], {}
         self.makers, self.helpers, self.bits, self.offsets, self.statics = {}, set(), {}, {}, {}
+        # The functions that move items, by their names.
+        self.movers = {}
         # What the header calls the offsets of registers that are read, and of those that are written; and the numbers that functions return.
         self.registers, self.returned = None, {}
-        self.short = SHORT
+        self.short, self.apart, self.words = SHORT, "static", {}
         # Keys of one function by what they have in common, and the functions that only compute.
         self.same, self.quiet = {}, set()
 
@@ -167,12 +189,14 @@ class Library:
             # What is proved of a function of the header is said there.
             proved = [] if is_public else self.source.proved(info)
             written = Written(self.name_of(key), parameters, body.result, comment_of(info.comment, proved=proved) if info else "", proved)
+            written.is_apart = info is not None and info.is_apart
             if is_public:
                 written.publish(self.exports[key[0]][1])
             written.statements = in_place.run(passes.run(body.statements, body.result, self.with_names), self.is_large)
             if self.exports:
                 written.statements = passes.without_quiet(written.statements, self.quiet)
-                while passes.remove_dead(written.statements):
+                # What nobody reads may have been all that kept a parameter from being one value for ever.
+                while passes.remove_dead(written.statements) or passes.propagate(written.statements, self.with_names):
                     pass
                 if all(passes.is_quiet(one, self.quiet) for one in written.statements):
                     self.quiet.add(written.name)
@@ -267,8 +291,8 @@ class Library:
         return one
 
     def is_large(self, of):
-        """Whether a type of C is a struct that has a driver in it."""
-        structs = in_place.large(self.types.declarations, HOLD_A_DRIVER)
+        """Whether a type of C is a large struct."""
+        structs = in_place.large(self.types.declarations, LARGE)
         return isinstance(of, c.Named) and of.name.removeprefix("struct ") in structs
 
     def name_registers(self, written):
@@ -300,6 +324,15 @@ class Library:
     def helper(self, name, arguments, of):
         self.helpers.add(name)
         return c.CallOf(name, arguments, of)
+
+    def move_down(self, items, places):
+        """The call that moves items towards the front of their array: from where, to where, and how many."""
+        item = items.of.to.text()
+        is_byte = item == "uint8_t"
+        name = f"uart_move_down_{'byte' if is_byte else re.sub(r'^struct (uart_|u16550_)?', '', item)}s"
+        shown = MOVE_DOWN.replace("MOST", str(MOST_BYTES if is_byte else MOST_STRUCTS)).replace("NAME", name).replace("ITEM", item)
+        self.movers[name] = shown.replace("items towards", f"{'bytes' if is_byte else name.rsplit('_', 1)[1]} towards")
+        return c.CallOf(name, [items, *places], c.VOID)
 
     def register(self, literal, table):
         """The offset of a register by its name."""
@@ -495,7 +528,7 @@ class Library:
         for one in reversed(self.order):
             if text is None or one.is_public or re.search(rf"\b{one.name}\(", text):
                 out.insert(0, one)
-                text = None if text is None else text + one.text(in_loops, self.short)
+                text = None if text is None else text + one.text(in_loops, self.short, self.apart, self.words)
         return out
 
     def called_in_loops(self):
@@ -512,7 +545,8 @@ class Library:
             shown = ", ".join(map(str, values))
             out.append("\n".join(c.wrapped(f"static const uint8_t {name}[{len(values)}] = {{ {shown} }};")) + "\n")
         in_loops = self.called_in_loops()
-        functions = "\n".join(one.text(in_loops, self.short) for one in self.called())
+        functions = "\n".join(one.text(in_loops, self.short, self.apart, self.words) for one in self.called())
+        out += [text for name, text in sorted(self.movers.items()) if f"{name}(" in functions]
         # What was made on the way and is gone again has left makers that nobody calls.
         makers, called = [], functions
         for text in reversed(list(self.makers.values())):

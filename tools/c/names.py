@@ -42,14 +42,17 @@ def bare(text):
     return re.sub(r"#\[[^\]]*\]", "", re.sub(r"//[^\n]*", "", text))
 
 
-def documentation(text, at):
-    """The lines of the comment in front of a place."""
+def in_front(text, at):
+    """The lines of comments and attributes in front of a place."""
     before, out = text[:at].rstrip("\n").split("\n"), []
     while before and re.match(r"\s*(///|#\[|//)", before[-1]):
-        line = before.pop().strip()
-        if line.startswith("//"):
-            out.insert(0, re.sub(r"^///? ?", "", line))
+        out.insert(0, before.pop().strip())
     return out
+
+
+def documentation(text, at):
+    """The lines of the comment in front of a place."""
+    return [re.sub(r"^///? ?", "", line) for line in in_front(text, at) if line.startswith("//")]
 
 
 class Function:
@@ -61,10 +64,16 @@ class Function:
         self.cited = cited
         # Its clauses, with their names, and where the definitions are that its file uses.
         self.ensures, self.uses = [], {}
+        # Whether it is not to stand in the place of its calls.
+        self.is_apart = False
 
     def with_comment(self, other):
         """The same with the comment of another one, if there is such a one."""
-        return Function(self.parameters, self.result, self.is_public, other.comment, self.bindings, self.cited) if other else self
+        if not other:
+            return self
+        made = Function(self.parameters, self.result, self.is_public, other.comment, self.bindings, self.cited)
+        made.is_apart = self.is_apart
+        return made
 
 
 def sources(top):
@@ -172,6 +181,7 @@ class Source:
         made = Function(parameters, (result[1] if result else "").strip(), found[2] == "pub ",
                         documentation(text, found.start()), bindings(body), cited(text[end:opened]) if has_body else [])
         made.ensures = ensured(text[end:opened]) if has_body else []
+        made.is_apart = "#[inline(never)]" in in_front(text, found.start())
         return made
 
     def find(self, name):

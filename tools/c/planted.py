@@ -34,6 +34,14 @@ IN_DRIVER = [
     ("an overrun is told twice", "    design_ware->cleared &= (uint8_t)~overrun;\n", ""),
     ("a fault does not end", "        design_ware->fault = uart_no_design_ware_fault();\n", ""),
     ("characters change places", "        items[i - 1] = items[i];\n", "        items[i - 1] = items[count - i];\n"),
+    ("errors of a byte are those of the next one too", "error_notes->noted, error_notes->shown);\n        error_notes->shown = 0;\n",
+     "error_notes->noted, error_notes->shown);\n"),
+    ("the oldest notes are taken", "uart_byte_queue_byte_at(noted, before + place)", "uart_byte_queue_byte_at(noted, place)"),
+    ("notes over notes", "uart_notes_of(uart) != NULL ? U16550_HAS_NOTES : uart_array(", "uart_array("),
+    ("a byte in the wrong direction", "    if (!half_duplex->is_sending)\n        return uart_no_u64();\n", ""),
+    ("a bus is given back too early", "    if (!uart_is_idle(&half_duplex->uart))\n        return false;\n", ""),
+    ("a bus over rings", "uart->has_rings ? U16550_HAS_RINGS : uart_decode_direction(direction, &decoded)",
+     "uart_decode_direction(direction, &decoded)"),
     ("last words in loopback", "kept | U16550_MCR_DTR | U16550_MCR_RTS);", "kept | U16550_MCR_DTR);"),
 ]
 
@@ -83,8 +91,8 @@ IN_PORT = [
      "return wire_len <= uart_wire_capacity(&uart_transmitter->wire);"),
     ("a wire of 65 bytes", "if (64 < (uint64_t)wire_capacity)", "if (65 < (uint64_t)wire_capacity)"),
     ("any write of FCR is an interrupt", "uart_held_len(&chip->transmitter) < held)", "uart_held_len(&chip->transmitter) <= held)"),
-    ("the last byte of a queue stays", "uart_shifts_copy_down_u8(items, items_len, 1, 0, items_len - 1);",
-     "uart_shifts_copy_down_u8(items, items_len, 1, 0, items_len - 2);"),
+    ("the last byte of a queue stays", "uart_move_down_bytes(items, 1, 0, items_len - 1);",
+     "uart_move_down_bytes(items, 1, 0, items_len - 2);"),
     ("five bits are six", "(uint8_t)(1 << 5)", "(uint8_t)(1 << 6)"),
     ("a tick too many", "return uart_some_u16(1 < found.value.ticks_left ? found.value.ticks_left : 1);",
      "return uart_some_u16(2 < found.value.ticks_left ? found.value.ticks_left : 2);"),
@@ -108,6 +116,7 @@ IN_TRANSLATOR_OF_PORT = [
      "        count = c.Literal(value.count - 1, c.Number(64, c.SIZE))"),
     ("the second half of a comparison", "body.py", '"Lt": "<", "Le": "<="', '"Lt": "<=", "Le": "<="'),
     ("a choice over a narrower number", "passes.py", "switch.on = on.operand\n", "switch.on = c.Binary(\"&\", on.operand, c.Literal(3, on.operand.of), on.operand.of)\n"),
+    ("items that move become one item", "library.py", "moved[i] = items[from + done + i];", "moved[i] = items[from + done];"),
     ("an item of three bytes is one of one", "body.py", "return Int(index.value // self.library.size_of(item), index.bits)", "return index"),
 ]
 

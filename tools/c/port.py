@@ -20,11 +20,32 @@ SHORT = 20
 # What a call of a port does last. In the place of its calls little of it is left, and a compiler would not put it there by itself: that is a
 # seventh of a call.
 ALWAYS = ["uart_port_report", "uart_finish", "uart_conclude"]
+# The last of them is some 290 bytes of code in each place. These functions share one that is out of line. Two of them are seldom called, and a byte
+# that is written and taken takes no more than it took, since a write by the longer way does not stand beside it any more.
+SHARED, SHARE = "uart_conclude", ["uart_port_receive_one", "uart_port_set_lines", "uart_port_take_output"]
+# What is large, and would stand in two places, or beside what is done often.
+APART = ["uart_is_sound", "uart_change_lines", "uart_write_slowly"]
+# What is done once, or when somebody plugs a cable. A compiler makes such a function small.
+SELDOM = [f"uart_{of}_{name}" for of in ("chip", "port") for name in ("new", "load", "save", "set_lines")]
 INLINE = """/* For a function that is to stand in the place of its calls, unless it is to be small. */
 #if defined(__GNUC__) && !defined(__OPTIMIZE_SIZE__)
 #define UART_INLINE static inline __attribute__((always_inline))
 #else
 #define UART_INLINE static inline
+#endif
+
+/* For a function that is not to stand there: it would take registers from what is done often, or be there in many places. */
+#if defined(__GNUC__) && !defined(__OPTIMIZE_SIZE__)
+#define UART_APART __attribute__((__noinline__))
+#else
+#define UART_APART
+#endif
+
+/* For a function that is seldom called: it is to be small, also where all else is to be fast. */
+#if defined(__GNUC__)
+#define UART_SELDOM __attribute__((__cold__))
+#else
+#define UART_SELDOM
 #endif
 
 """
@@ -85,11 +106,15 @@ def made(folder):
     clashes = library.clashes()
     if clashes:
         library = translated(program, source, public, exports, header, clashes)
+    missing = library.words.keys() - {one.name for one in library.called()}
+    if missing:
+        sys.exit(f"emit: there is no {', '.join(sorted(missing))} to be apart or seldom")
     for name, value in library.bits.items():
         if header.numbers.get(name, value) != value:
             sys.exit(f"emit: {name} is {header.numbers[name]:#x} in the header, and {value:#x} in what is proved")
     own = named_in(library.types.declarations, library.text())
-    texts = [TOP + INLINE + constants(library, header.numbers), "\n".join(own), inlined(guarded(library.text())), guarded(header.functions_by_hand())]
+    texts = [TOP + INLINE + constants(library, header.numbers), "\n".join(own), shared(inlined(guarded(library.text()))),
+             guarded(header.functions_by_hand())]
     return {"uart_port.h": header.made(library), "uart_port.c": "\n".join(texts)}, library
 
 
@@ -97,7 +122,8 @@ def translated(program, source, public, exports, header, clashes):
     """The functions of the header and all that they need, with these names for those that would have one with another."""
     library = Library(program, source, public, OWN, "UART", clashes)
     library.registers, library.returned = header.registers, header.statuses
-    library.short = SHORT
+    library.short, library.apart = SHORT, "static UART_APART"
+    library.words = {**dict.fromkeys(APART, library.apart), **dict.fromkeys(SELDOM, "UART_SELDOM")}
     for name, function in exports.items():
         library.export(function, name, header.prototypes[name])
     for function in exports.values():
@@ -129,6 +155,20 @@ def inlined(text):
         text, count = re.subn(rf"(?m)^static inline (?=[\w ]+\n?{name}\()", "UART_INLINE ", text)
         if count != 1:
             sys.exit(f"emit: there is no {name} to be inlined")
+    return text
+
+
+def shared(text):
+    """A text in which the functions of SHARE call one that is out of line, in the place of one that is inlined."""
+    found = re.search(rf"(?m)^UART_INLINE void\n{SHARED}\(([^()]*)\)\n\{{\n[\s\S]*?^\}}\n", text)
+    name, given = f"{SHARED}_apart", ", ".join(re.findall(r"\w+(?=,|$)", found[1]))
+    comment = "/* The same, for calls that are not to have all of it in their place. */"
+    made = f"\n{comment}\nstatic UART_APART void\n{name}({found[1]})\n{{\n    {SHARED}({given});\n}}\n"
+    text = text[:found.end()] + made + text[found.end():]
+    for one in SHARE:
+        text, count = re.subn(rf"(?m)(^[^\n]*\b{one}\([^;{{}}]*\)\n\{{\n(?:(?!\}}\n).*\n)*?    ){SHARED}\(", rf"\1{name}(", text)
+        if count != 1:
+            sys.exit(f"emit: {one} has {count} calls of {SHARED}, and not one")
     return text
 
 

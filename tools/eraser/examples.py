@@ -171,6 +171,7 @@ EXAMPLES = {
     "uart_16550::driver::init::Uart16550::check_present": compiles(UART),
     "uart_16550::driver::init::Uart16550::init": compiles(UART),
     "uart_16550::driver::loopback::Uart16550::test_loopback": compiles(UART),
+    "uart_16550::driver::sizing::Uart16550::find_fifo_size": compiles(UART + ", bytes: &[u8]"),
     "uart_16550::driver::receive::Uart16550::ready_to_receive": compiles(UART),
     "uart_16550::driver::receive::Uart16550::try_receive_byte": compiles(UART, "Option<u8>", True),
     "uart_16550::driver::receive::Uart16550::receive_bytes": compiles(UART),
@@ -272,10 +273,12 @@ EXAMPLES = {
     "uart_spec::config::Config::nearest": compiles(UART),
     "uart_spec::setup::Setup": runs(SPEC, "use uart_16550::spec::registers::MCR;"),
     "uart_spec::setup::FifoSize": runs(SPEC),
+    "uart_spec::setup::FifoSize::largest_up_to": runs(SPEC),
     "uart_design_ware::state::DesignWare": compiles(
         "registers: DesignWareMemory",
         items=["use facade::native::backend::{DesignWare, DesignWareMemory};"],
     ),
+    "uart_design_ware::parameters::fifo_size_of": runs("use facade::native::FifoSize;", "use facade::native::backend::fifo_size_of;"),
     "uart_design_ware::state::DesignWare::new": runs(*REGISTERS),
     "uart_design_ware::state::DesignWare::fault": runs(*DESIGN_WARE),
     "uart_design_ware::state::DesignWare::registers_mut": runs(*DESIGN_WARE),
@@ -296,6 +299,10 @@ EXAMPLES = {
     "uart_rs485::transfer::HalfDuplex::receive_bytes": at_bus(f"{BUS}, mut slots: [u8; 4]"),
     "uart_rs485::transfer::HalfDuplex::receive_with_errors": at_bus(f"{BUS}, mut slots: [Received; 4]"),
     "uart_rs485::transfer::HalfDuplex::lsr": at_bus(BUS),
+    "uart_ring::ring::noted::Uart16550Ring::copy_with_notes": compiles(
+        "ring: &ring::Uart16550Ring<Device>, notes: &ring::ErrorNotes<Device>, mut slots: [Received; 2]",
+        items=["use facade::{native::Received, ring};"],
+    ),
     "uart_ring::ring::noted::Uart16550Ring::take_with_errors": compiles(
         NOTING_RING + ", mut slots: [Received; 2], mut breaks: u32", items=["use facade::{native::Received, ring, spec::registers::LSR};"]
     ),

@@ -318,6 +318,9 @@ GUARDS = {
         ["requires cell { cell ≤ cells }", "requires count { count ≤ cells }"], reason=IN_FILE
     ),
     "uart_ring::queue::copy": Guard(["requires { place ≤ length slots.old }"], reason=IN_FILE),
+    "uart_ring::ring::noted::Uart16550Ring::drop_taken": Guard(
+        ["requires { count ≤ length (ring_fields self.old).receive.items }"], reason=INSIDE
+    ),
     "uart_ring::ring::noted::copy_with_errors": Guard(
         ["requires { length bytes.now.items ≤ length noted.now.items }"], reason=IN_FILE
     ),
@@ -411,14 +414,14 @@ GUARDS |= {
     "uart_chip::fifo::Fifo::push": Guard(["requires { length (items self.old) < FIFO_SIZE }"], reason=NO_BODY),
     "uart_chip::wire::Wire::push": Guard(["requires { length (sent self.old) < most self.old }"], reason=NO_BODY),
     "uart_chip::transmitting::TransmitterParts::put": Guard(
-        ["requires { length (state self.old).queue < FIFO_SIZE }"], reason=NO_BODY
+        ["requires { length (state self.old).queue < characters (state self.old).size }"], reason=NO_BODY
     ),
     "uart_chip::receiving::replace": Guard(
         ["requires { (is_unscheduled new.origin || R.is_scheduled) ≡ true }"], reason=INSIDE
     ),
     "uart_chip::receiving::ReceiverParts::put": Guard(
         [
-            "requires room { length (state self.old).queue < FIFO_SIZE }",
+            "requires room { length (state self.old).queue < characters (state self.old).size }",
             "requires origin { (is_unscheduled new.origin || is_scheduled) ≡ true }",
         ],
         reason=NO_BODY,
@@ -593,9 +596,10 @@ CASTS = {
     "uart_16550::mmio::MmioBackend::new": ["stride . get ( )"],
     "uart_16550::mmio::MmioBackend::address": ["register_offset", "self . stride . get ( )"],
     **{f"uart_design_ware::serving::DesignWare::{name}": ["register_offset"] for name in ("read", "write")},
+    "uart_design_ware::parameters::fifo_size_of": ["characters"],
     **{f"uart_ring::notes::ErrorNotes::{name}": ["register_offset"] for name in ("read", "write")},
     **{f"uart_chip::controlling::{name}": ["offset"] for name in ("read_register", "write_register")},
-    "uart_chip::receiving::is_data_pending": ["characters_of ( parts . trigger ( ) )"],
+    "uart_chip::receiving::is_data_pending": ["characters_of ( parts . size ( ) , parts . trigger ( ) )"],
     **{f"uart_virtual::port::{name}": ["offset"] for name in ("kind_of_read", "kind_of_write", "is_quiet", "is_fast", "write_and_raise")},
     **{f"uart_calls::replay::Replay::{name}": ["register_offset"] for name in ("read", "write")},
     **{f"uart_calls::tape::Tape::{name}": ["register_offset"] for name in ("read", "write")},

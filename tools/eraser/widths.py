@@ -48,6 +48,7 @@ LISTED = {
     },
     "uart_16550/src/pio.rt": {"base . checked_add": U16},
     "uart_16550/src/tty.rt": {"done . saturating_add": OF_A_SLICE},
+    "uart_design_ware/src/parameters.rt": {"16 * mode": U16},
     "uart_design_ware/src/kept.rt": {"cells . rotate_left": "of a slice: moves its cells, by one"},
     "uart_discovery/src/bytes.rt": {"sum . wrapping_add": U8},
     "uart_discovery/src/numbers.rt": {"value * 16": U64, "value * 10": U32},

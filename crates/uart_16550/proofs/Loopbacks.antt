@@ -1,6 +1,6 @@
 -- The pieces of the loopback test.
-use Rattle.std.proofs.Common.{◌≡◌, ◌++◌, ◌+◌, ◌<◌, ℕ, true, List, [], ◌∷◌, Option, Some, None, Result, Ok, Err, inr, ap, ◌∙◌, length, map}
-use Rattle.std.proofs.Common.{take, drop, get_or, add-one, drop-cons}
+use Rattle.std.proofs.Common.{◌≡◌, ◌++◌, ◌+◌, ◌<◌, ℕ, Bool, true, List, [], ◌∷◌, Option, Some, None, Result, Ok, Err, inr, ap, ◌∙◌, length}
+use Rattle.std.proofs.Common.{map, take, drop, get_or, add-one, drop-cons}
 use Rattle.std.proofs.lemmas.List.{take-append-drop, map-append}
 use Rattle.uart_spec.specs.declared.errors.LoopbackError.{LoopbackError}
 use Rattle.uart_spec.specs.declared.access.Access.{Access}
@@ -8,8 +8,8 @@ use Rattle.uart_spec.specs.declared.access.Access.TheVariants.{Write}
 use Rattle.uart_16550.specs.Grammar.{Settings, Only, Then}
 use Rattle.uart_16550.specs.Receive.{Awaits}
 use Rattle.uart_16550.specs.Transmit.{Round}
-use Rattle.uart_16550.specs.Driver.{Made, Did, Next, Saving, fields}
-use Rattle.uart_16550.specs.Loopback.{HasEchoed, DrainsLoopback, ExchangesByte, ExchangesMessage, Exchanges, Enters, Leaves, Tests}
+use Rattle.uart_16550.specs.Driver.{Made, Did, Doing, Next, Saving, fields}
+use Rattle.uart_16550.specs.Loopback.{HasEchoed, DrainsLoopback, ExchangesByte, ExchangesMessage, Exchanges, Enters, Leaves, Inside, Tests}
 use Rattle.uart_16550.specs.declared.driver.Uart16550.{Uart16550}
 use Rattle.uart_16550.proofs.Making.{made_among}
 use Rattle.uart_16550.proofs.Doings.{did_then}
@@ -47,3 +47,11 @@ pub tested : {T B : Type 0} {step : B → Access → B → Type 0} (mcr ier befo
 tested mcr ier before result {b = b} p q =
     let all = did_then p q in
     record { list = all.list; path = all.path; does = (before, (fields b).fifo, all.does) }
+
+-- something that is done in loopback
+pub inside : {B : Type 0} {step : B → Access → B → Type 0} {enters : ℕ → Bool → Doing} {during : Doing} (mcr ier before : ℕ) (fifo : Bool)
+    {a b c d : Uart16550 B} → Did step (enters before fifo) a b → Did step during b c →
+    Did step (Leaves mcr ier before (fields a).lsr) c d → Did step (Inside enters during mcr ier) a d
+inside mcr ier before fifo p q r =
+    let all = did_then p (did_then q r) in
+    record { list = all.list; path = all.path; does = (before, fifo, all.does) }

@@ -12,6 +12,7 @@ pub mod Setup
 pub mod Configured
 pub mod Io
 pub mod Loopback
+pub mod Sizing
 pub mod Tty
 pub mod Waiting
 pub mod Backends

@@ -7,6 +7,7 @@ use Rattle.uart_spec.specs.declared.errors.AttachError.{AttachError}
 use Rattle.uart_spec.specs.declared.errors.ByteReceiveError.{ByteReceiveError}
 use Rattle.uart_spec.specs.declared.errors.ByteSendError.{ByteSendError}
 use Rattle.uart_spec.specs.declared.errors.ConfigurationError.{ConfigurationError}
+use Rattle.uart_spec.specs.declared.errors.FifoSizeError.{FifoSizeError}
 use Rattle.uart_spec.specs.declared.errors.FifosOffError.{FifosOffError}
 use Rattle.uart_spec.specs.declared.errors.FrameError.{FrameError}
 use Rattle.uart_spec.specs.declared.errors.InitError.{InitError}
@@ -34,6 +35,7 @@ use Rattle.uart_16550.specs.Frame.{SetsFrame, ShowsIdle, SetsBreak, SetsControl,
 use Rattle.uart_16550.specs.Attach.{Attaches}
 use Rattle.uart_16550.specs.Setup.{SetsTrigger, SetsFrameWhenIdle, InitsWith, Quiesces, Restores}
 use Rattle.uart_16550.specs.Loopback.{TestsLoopback}
+use Rattle.uart_16550.specs.Sizing.{FindsFifoSize}
 use Rattle.uart_16550.specs.Io.{Writes, Flushes, AnswersRead, AnswersWrite}
 use Rattle.uart_16550.specs.Expansion.{SendsText, SendsStr}
 use Rattle.uart_16550.specs.Tty.{Starts}
@@ -151,7 +153,7 @@ pub data ChangingCall : Type 0 where
   set_trigger_level : (level : FifoTriggerLevel) → ChangingCall
   quiesce : (outputs : ℕ) (fifos : FifoAction) → ChangingCall
   restore : (dump : ConfigRegisterDump) → ChangingCall
-  test_loopback attach : ChangingCall
+  test_loopback find_fifo_size attach : ChangingCall
 
 -- the outcomes that a call which changes fields may have
 abbrev pub ChangingOutcome : ChangingCall → Type 0
@@ -171,6 +173,7 @@ ChangingOutcome (quiesce outputs fifos) = Unit {0}
 ChangingOutcome (restore dump) = Unit {0}
 ChangingOutcome attach = Result (ℕ × ℕ) AttachError
 ChangingOutcome test_loopback = Result (Unit {0}) LoopbackError
+ChangingOutcome find_fifo_size = Result FifoSize FifoSizeError
 
 -- what it did for this outcome
 abbrev pub ChangingDoing : (call : ChangingCall) → ChangingOutcome call → Doing
@@ -190,3 +193,4 @@ ChangingDoing (quiesce outputs fifos) result = Quiesces outputs fifos
 ChangingDoing (restore dump) result = Restores dump
 ChangingDoing attach result = Attaches result
 ChangingDoing test_loopback result = TestsLoopback result
+ChangingDoing find_fifo_size result = FindsFifoSize result

@@ -19,5 +19,6 @@ pub mod Backend
 pub mod Pio
 pub mod Mmio
 pub mod Loopback
+pub mod Sizing
 pub mod Choice
 pub mod DriverCalls

@@ -12,6 +12,7 @@ use Rattle.uart_spec.specs.declared.errors.LoopbackError.TheVariants.{
   UnexpectedLoopbackByte,
   UnexpectedLoopbackMsg,
 }
+use Rattle.uart_spec.specs.declared.registers.fifo_trigger_level.FifoTriggerLevel.{FifoTriggerLevel}
 use Rattle.uart_spec.specs.declared.registers.offsets.TheConstants as offsets
 use Rattle.uart_spec.specs.declared.registers.line_status.TheConstants.LSR
 use Rattle.uart_spec.specs.declared.registers.modem_control.TheConstants.MCR
@@ -116,12 +117,16 @@ Exchanges (Err e) s l = ((e ≡ Stalled) × DrainsLoopback false s l)
     ⊎ Then (DrainsLoopback true)
     (Then (ExchangesByte {T = Unit {0}} (Ok tt)) (ExchangesMessage {T = Unit {0}} (Err e))) s l)
 
--- MSR is read, interrupts are switched off, loopback is switched on, and the FIFO step is made
-abbrev pub Enters : (before : ℕ) → (fifo : Bool) → Doing
-Enters before fifo f l after =
+-- MSR is read, interrupts are switched off, loopback is switched on, and the FIFO step is made with this level
+abbrev pub EntersAt : Option FifoTriggerLevel → (before : ℕ) → (fifo : Bool) → Doing
+EntersAt level before fifo =
     Next (Saving (Then (Only (Read offsets.MSR before ∷ Write offsets.IER 0 ∷ Write offsets.MCR MCR.LOOP_BACK.0 ∷ []))
-    (SetsFifo f.config.fifo_trigger_level fifo)))
-    (Sets (with_fifo fifo)) f l after
+    (SetsFifo level fifo)))
+    (Sets (with_fifo fifo))
+
+-- the same with the configured level
+abbrev pub Enters : (before : ℕ) → (fifo : Bool) → Doing
+Enters before fifo f l after = EntersAt f.config.fifo_trigger_level before fifo f l after
 
 -- these changes are added to the saved ones, and the saved errors are those noted before the test
 abbrev pub with_changes : (noted changes : ℕ) → Fields → Fields
@@ -141,10 +146,21 @@ abbrev pub BeginsTest : (mcr ier : ℕ) → Bool → Language
 BeginsTest mcr ier empty =
     Then (Only (Read offsets.MCR mcr ∷ Read offsets.IER ier ∷ [])) (WaitsFor LSR.TRANSMITTER_EMPTY.0 empty)
 
+-- loopback is entered so, this is done in it, and it is left; the errors that are noted are those saved before it
+abbrev pub Inside : (enters : ℕ → Bool → Doing) → (during : Doing) → (mcr ier : ℕ) → Doing
+Inside enters during mcr ier f l after = (before : ℕ) × (fifo : Bool) ×
+    Next (enters before fifo) (Next during (Leaves mcr ier before f.lsr)) f l after
+
 -- what follows the first wait; the end of that wait decides which errors are noted
 abbrev pub Tests : {T : Type 0} → (mcr ier : ℕ) → Result T LoopbackError → Doing
-Tests mcr ier result f l after = (before : ℕ) × (fifo : Bool) ×
-    Next (Enters before fifo) (Next (Saving (Exchanges result)) (Leaves mcr ier before f.lsr)) f l after
+Tests mcr ier result = Inside Enters (Saving (Exchanges result)) mcr ier
+
+-- MCR and IER are read, and there is a wait for an empty transmitter. If it reaches the limit, nothing is written, and
+-- the call has stalled; else this follows, which knows what MCR and IER were
+abbrev pub FromEmpty : (stalled : Type 0) → (ℕ → ℕ → Doing) → Doing
+FromEmpty stalled follows f l after = (mcr : ℕ) × (ier : ℕ) ×
+    ((stalled × Saving (BeginsTest mcr ier false) f l after)
+    ⊎ Next (Saving (BeginsTest mcr ier true)) (follows mcr ier) f l after)
 
 -- the result is a stall
 abbrev pub IsStalled : {T : Type 0} → Result T LoopbackError → Type 0
@@ -155,6 +171,4 @@ IsStalled (Err e) = e ≡ Stalled
 -- is written, and the result is a stall; else loopback is entered, bytes are exchanged up to the first error, and MCR
 -- and IER are restored
 abbrev pub TestsLoopback : {T : Type 0} → Result T LoopbackError → Doing
-TestsLoopback result f l after = (mcr : ℕ) × (ier : ℕ) ×
-    ((IsStalled result × Saving (BeginsTest mcr ier false) f l after)
-    ⊎ Next (Saving (BeginsTest mcr ier true)) (Tests mcr ier result) f l after)
+TestsLoopback result = FromEmpty (IsStalled result) (λ mcr ier. Tests mcr ier result)

@@ -19,6 +19,7 @@ mod loopback;
 mod patient;
 mod receive;
 mod setup;
+mod sizing;
 mod state;
 mod status;
 mod transmit;
@@ -40,14 +41,14 @@ pub const DEFAULT_SPIN_LIMIT: u64 = 1_000_000;
 /// call, or `attach` on a port that is set up already. `test_loopback` then tests whether the chip
 /// works, and `check_connected` whether a remote is ready.
 ///
-/// No call blocks forever. `init`, `init_with`, `test_loopback`, `set_frame_when_idle`,
-/// `send_bytes_exact`, `receive_bytes_exact`, and the calls `read`, `write` and `flush` of the
-/// traits in [`embedded_io`](crate::embedded_io) poll LSR, and return an error after `spin_limit`
-/// unsuccessful polls in a row. The other calls do not wait.
+/// No call blocks forever. `init`, `init_with`, `test_loopback`, `find_fifo_size`,
+/// `set_frame_when_idle`, `send_bytes_exact`, `receive_bytes_exact`, and the calls `read`, `write`
+/// and `flush` of the traits in [`embedded_io`](crate::embedded_io) poll LSR, and return an error
+/// after `spin_limit` unsuccessful polls in a row. The other calls do not wait.
 ///
 /// A read of LSR clears its error bits in the chip, and a read of MSR its change bits. The driver
 /// saves those that its own reads clear, and the next `lsr` or `msr` returns them. So a poll loses
-/// no error and no change. `init` and the loopback test discard some.
+/// no error and no change. `init`, the loopback test and `find_fifo_size` discard some.
 ///
 /// # Examples
 ///
@@ -151,8 +152,8 @@ impl<B: Backend> Uart16550<B> {
     }
 
     /// Returns whether the chip has a FIFO that is on, as the last call that sets the FIFO up read
-    /// it from ISR: `init`, `init_with`, `attach`, `test_loopback` or `restore`. After a `quiesce`
-    /// that disables the FIFOs it is off. Makes no access.
+    /// it from ISR: `init`, `init_with`, `attach`, `test_loopback`, `find_fifo_size` or `restore`.
+    /// After a `quiesce` that disables the FIFOs it is off. Makes no access.
     ///
     /// A driver that was never initialised takes the FIFO to be on. If it is on, a send check is
     /// followed by up to 16 bytes, else by one.

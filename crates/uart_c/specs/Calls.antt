@@ -3,7 +3,7 @@ use Rattle.std.specs.Prelude.{◌≡◌, ℕ, List, [], ◌∷◌, ◌++◌, ◌
 use Rattle.uart_spec.specs.declared.dump.ConfigRegisterDump.{ConfigRegisterDump}
 use Rattle.uart_c.specs.Driver.{config_of}
 use Rattle.uart_c.specs.Queue.{is_on}
-use Rattle.uart_chip.specs.Receiver.{characters_of}
+use Rattle.uart_c.specs.State.{number_of}
 use Rattle.uart_c.specs.declared.access.UartAccess.{UartAccess}
 use Rattle.uart_c.specs.declared.answer.UartAnswer.{UartAnswer}
 use Rattle.uart_c.specs.declared.codes.TheConstants as code
@@ -119,7 +119,7 @@ IsCall c (call.ReceiveWithErrors count) = (c.kind ≡ code.UART_RECEIVE_WITH_ERR
 IsCall c (call.InitWith config setup) =
     (c.kind ≡ code.UART_INIT_WITH) × (config ≡ config_of c.config) × IsSetup c.setup setup
 IsCall c (call.SetFrameWhenIdle config) = (c.kind ≡ code.UART_SET_FRAME_WHEN_IDLE) × (config ≡ config_of c.config)
-IsCall c (call.SetTriggerLevel level) = (c.kind ≡ code.UART_SET_TRIGGER_LEVEL) × (c.byte ≡ characters_of level)
+IsCall c (call.SetTriggerLevel level) = (c.kind ≡ code.UART_SET_TRIGGER_LEVEL) × (c.byte ≡ number_of level)
 IsCall c (call.Quiesce outputs fifos) =
     (c.kind ≡ code.UART_QUIESCE) × (outputs.0 ≡ c.byte) × (c.fifos ≡ fifos_code fifos)
 IsCall c (call.Restore dump) = (c.kind ≡ code.UART_RESTORE) × IsGiven c (registers_of dump)

@@ -1,13 +1,12 @@
 -- Data of C with one value for each meaning.
 use Rattle.std.specs.Prelude.{◌≡◌, ℕ, ◌≤◌, All, take}
-use Rattle.uart_c.specs.State.{trigger_of}
+use Rattle.uart_c.specs.State.{number_of, trigger_of}
 use Rattle.uart_c.specs.declared.chip.UartChip.{UartChip}
 use Rattle.uart_c.specs.declared.queue.UartCharacters.{UartCharacters}
 use Rattle.uart_c.specs.declared.queue.UartWire.{UartWire}
 use Rattle.uart_c.specs.declared.queue.TheConstants.{WIRE_ROOM}
 use Rattle.uart_c.specs.declared.receiver.UartReceiver.{UartReceiver}
 use Rattle.uart_c.specs.declared.transmitter.UartTransmitter.{UartTransmitter}
-use Rattle.uart_chip.specs.Receiver.{characters_of}
 use Rattle.uart_spec.specs.declared.baud.TheConstants.{FIFO_SIZE}
 
 -- What the library writes is one value for each meaning, though it reads any bytes. So a caller may compare structs
@@ -33,7 +32,7 @@ IsCanonicalQueue q = (q.len ≤ FIFO_SIZE) × All (λ character. IsFlag characte
 -- the trigger is the number of characters of its level
 abbrev pub IsCanonicalReceiver : UartReceiver → Type 0
 IsCanonicalReceiver r =
-    IsFlag r.is_overrun × IsFlag r.is_front_reported × (r.trigger ≡ characters_of (trigger_of r.trigger)) ×
+    IsFlag r.is_overrun × IsFlag r.is_front_reported × (r.trigger ≡ number_of (trigger_of r.trigger)) ×
     IsCanonicalQueue r.queue
 
 -- the whole chip, but for bytes behind the end of a queue and those of an empty shift register

@@ -2,12 +2,11 @@
 use Rattle.std.specs.Prelude.{ℕ, max, ◌==◌, Option, Some, None, is_some, unwrap_or, if◌then◌else◌}
 use Rattle.uart_16550.specs.Driver.{Fields}
 use Rattle.uart_c.specs.Queue.{is_on}
-use Rattle.uart_c.specs.State.{trigger_of}
+use Rattle.uart_c.specs.State.{number_of, trigger_of}
 use Rattle.uart_c.specs.declared.codes.TheConstants.{UART_PARITY_NONE, UART_PARITY_ODD, UART_PARITY_EVEN}
 use Rattle.uart_c.specs.declared.codes.TheConstants.{UART_PARITY_FORCED_1, UART_PARITY_FORCED_0}
 use Rattle.uart_c.specs.declared.driver.UartConfig.{UartConfig}
 use Rattle.uart_c.specs.declared.driver.UartDriver.{UartDriver}
-use Rattle.uart_chip.specs.Receiver.{characters_of}
 use Rattle.uart_spec.specs.BaudRate.{to_integer}
 use Rattle.uart_spec.specs.Bits.{flag}
 use Rattle.uart_spec.specs.Fields.{word_length_bits}
@@ -72,7 +71,7 @@ numbered f = record f { config = record f.config { baud_rate = Custom (to_intege
 -- the number that is written for a trigger level, 0 for none; for a parity
 abbrev pub number_of_level : Option FifoTriggerLevel → ℕ
 number_of_level None = 0
-number_of_level (Some level) = characters_of level
+number_of_level (Some level) = number_of level
 
 abbrev pub number_of_parity : Parity → ℕ
 number_of_parity Disabled = UART_PARITY_NONE

@@ -17,12 +17,14 @@ use Rattle.uart_chip.specs.declared.transmitter.TransmitterData.{TransmitterData
 use Rattle.uart_chip.specs.Chip.{ChipState, LatchesState}
 use Rattle.uart_chip.specs.Data as parts
 use Rattle.uart_chip.specs.Modem.{ModemState}
+use Rattle.uart_chip.specs.Receiver as receiver
 use Rattle.uart_chip.specs.Receiver.{ReceiverState}
 use Rattle.uart_chip.specs.Snapshot as snapshot
 use Rattle.uart_chip.specs.Transmitter.{TransmitterState}
 use Rattle.uart_spec.specs.declared.registers.fifo_trigger_level.FifoTriggerLevel.{FifoTriggerLevel}
 use Rattle.uart_spec.specs.declared.registers.fifo_trigger_level.FifoTriggerLevel.TheVariants.{One, Four, Eight}
 use Rattle.uart_spec.specs.declared.registers.fifo_trigger_level.FifoTriggerLevel.TheVariants.{Fourteen}
+use Rattle.uart_spec.specs.declared.setup.FifoSize.TheVariants.{Sixteen}
 
 -- ---- the data of C as a live chip is saved
 
@@ -47,6 +49,10 @@ modem_data m =
 abbrev pub trigger_of : (characters : ℕ) → FifoTriggerLevel
 trigger_of characters =
     if characters == 1 then One else if characters == 4 then Four else if characters == 8 then Eight else Fourteen
+
+-- the number of characters by which C names a trigger level: as many as it is for with a FIFO of 16
+abbrev pub number_of : FifoTriggerLevel → ℕ
+number_of level = receiver.characters_of Sixteen level
 
 -- the receiver as a live chip saves it, without the limit of its idle ticks
 abbrev pub receiver_data : UartReceiver → ReceiverData

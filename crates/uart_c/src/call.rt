@@ -1,7 +1,7 @@
 //! A call of the driver, as plain data.
 ghost use Rattle.std.specs.Prelude.{◌≡◌, ℕ, Bool, List, IfSome, IfNone};
 ghost use Rattle.uart_c.specs.Calls.{IsCall, IsGiven, IsSetup, fifos_code, registers_of, wait_code};
-ghost use Rattle.uart_chip.specs.Receiver.{characters_of};
+ghost use Rattle.uart_c.specs.State.{number_of};
 ghost use Rattle.uart_spec.specs.Bits.{flag};
 ghost use Rattle.uart_spec.specs.declared.dump.ConfigRegisterDump.{ConfigRegisterDump};
 ghost use Rattle.uart_spec.specs.declared.registers.fifo_trigger_level.FifoTriggerLevel.{FifoTriggerLevel};
@@ -119,9 +119,9 @@ fn fifos_of(fifos: u8) -> Option<FifoAction>
 // takes any number, since 0 there is no FIFO, and a chip has some level whatever its data are. A
 // call that sets a level has no such excuse.
 fn level_of(characters: u8) -> Option<FifoTriggerLevel>
-    ensures some { IfSome result (λ meant. characters ≡ characters_of meant) }
+    ensures some { IfSome result (λ meant. characters ≡ number_of meant) }
     ensures none { IfNone result ((meant : FifoTriggerLevel) →
-        characters ≡ characters_of meant → ⊥) }
+        characters ≡ number_of meant → ⊥) }
 {
     match characters {
         1 => Some(FifoTriggerLevel::One),

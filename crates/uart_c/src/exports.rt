@@ -1,6 +1,6 @@
 //! The functions of the chip that C calls. The header says what each does.
-ghost use Rattle.std.specs.Prelude.{◌≡◌, ◌≢◌, ◌++◌, ◌-◌, ◌%◌, take, drop};
-ghost use Rattle.std.specs.Prelude.{min, length, is_some, bit_and};
+ghost use Rattle.std.specs.Prelude.{◌≡◌, ◌≢◌, ◌++◌, ◌-◌, ◌%◌, ◌<◌, ◌&&◌, take, drop};
+ghost use Rattle.std.specs.Prelude.{min, length, is_some, bit_and, not, nat_lt};
 ghost use Rattle.uart_c.specs.Canonical.{IsCanonical};
 ghost use Rattle.uart_c.specs.Queue as queue_spec;
 ghost use Rattle.uart_c.specs.State.{chip_of, model_of};
@@ -11,7 +11,7 @@ ghost use Rattle.uart_chip.specs.Chip as spec;
 ghost use Rattle.uart_spec.specs.Bits.{IsWithin, flag};
 ghost use Rattle.uart_chip.specs.Transmitter.{held};
 ghost use Rattle.uart_live.specs.Live.{IsLive};
-ghost use Rattle.uart_spec.specs.declared.baud.TheConstants.{NUM_REGISTERS};
+ghost use Rattle.uart_spec.specs.declared.baud.TheConstants.{FIFO_SIZE, NUM_REGISTERS};
 ghost use Rattle.uart_spec.specs.declared.registers.line_status.TheConstants.LSR;
 ghost use Rattle.uart_spec.specs.declared.registers.modem_status.TheConstants.MSR;
 
@@ -24,12 +24,13 @@ use crate::sound::is_sound;
 use bitflags::Flags;
 use uart_chip::MAX_CHAR_TICKS;
 use uart_chip::controlling::{
-    advance, arrive_live, change_lines, divisor, is_interrupting, read, receive_room, write,
+    ChipParts, advance, arrive_live, change_lines, divisor, is_dlab_set, is_interrupting, read,
+    receive_room, write,
 };
 use uart_chip::receiving::ReceiverParts;
-use uart_chip::transmitting::held_len;
-use uart_spec::NUM_REGISTERS;
-use uart_spec::registers::{LSR, MSR};
+use uart_chip::transmitting::{TransmitterParts, held_len};
+use uart_spec::registers::{LSR, MSR, offsets};
+use uart_spec::{FIFO_SIZE, NUM_REGISTERS};
 
 /// Makes a chip after power on.
 #[unsafe(no_mangle)]
@@ -92,6 +93,26 @@ pub extern "C" fn uart_chip_read(chip: &mut UartChip, offset: u8) -> u8
     read(chip, offset % NUM_REGISTERS as u8)
 }
 
+// Returns whether a byte that is written to DATA goes into the queue of a FIFO as it is, as most
+// do: DATA is not the divisor latch, characters are not cut, and there is room.
+fn queues_whole(chip: &UartChip) -> bool
+    ensures { result ≡ (not (spec.is_dlab_set (chip_of chip.now).latches)
+        && (not (chip_of chip.now).cuts && ((chip_of chip.now).fifo
+        && nat_lt (length (chip_of chip.now).transmitter.queue) FIFO_SIZE))) }
+{
+    let has_room = chip.transmitter.queue_len() < FIFO_SIZE;
+    !is_dlab_set(chip) && (!chip.cuts() && (chip.fifo() && has_room))
+}
+
+// Writes DATA, whatever that is and does, out of line: most bytes need none of it.
+#[inline(never)]
+fn write_data_slowly(chip: &mut UartChip, value: u8)
+    ensures after { chip_of chip.new ≡ spec.write_data value (chip_of chip.old) }
+    ensures canonical { IsCanonical chip.old → IsCanonical chip.new }
+{
+    write(chip, offsets::DATA as u8, value);
+}
+
 /// The guest writes a register.
 #[unsafe(no_mangle)]
 pub extern "C" fn uart_chip_write(chip: &mut UartChip, offset: u8, value: u8)
@@ -99,7 +120,15 @@ pub extern "C" fn uart_chip_write(chip: &mut UartChip, offset: u8, value: u8)
         spec.after_write (offset % NUM_REGISTERS) value (chip_of chip.old) }
     ensures canonical { IsCanonical chip.old → IsCanonical chip.new }
 {
-    write(chip, offset % NUM_REGISTERS as u8, value);
+    let offset = offset % NUM_REGISTERS as u8;
+    if offset != offsets::DATA as u8 {
+        write(chip, offset, value);
+    } else if queues_whole(chip) {
+        chip.transmitter.put(value);
+        chip.transmitter.set_thr_pending(false);
+    } else {
+        write_data_slowly(chip, value);
+    }
 }
 
 /// So many ticks pass.

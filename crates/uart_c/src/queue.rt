@@ -113,7 +113,8 @@ pub fn push<T: Copy>(len: &mut u8, items: &mut [T], item: T)
     ensures len { len.new ≤ length items.old }
     ensures items { take len.new items.new ≡ take len.old items.old ++ item ∷ [] }
 {
-    let last = count(*len, items);
+    // There is room, so the length is within the array.
+    let last = *len as usize;
     items[last] = item;
     *len = last as u8 + 1;
 }

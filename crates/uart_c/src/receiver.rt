@@ -3,18 +3,19 @@ ghost use Rattle.std.specs.Prelude.{◌≡◌, ◌≤◌, false};
 ghost use Rattle.std.specs.List.{list_any};
 ghost use Rattle.uart_c.specs.Canonical.{IsCanonicalReceiver};
 ghost use Rattle.uart_c.specs.Queue.{character_of};
-ghost use Rattle.uart_c.specs.State.{receiver_of, trigger_of};
+ghost use Rattle.uart_c.specs.State.{number_of, receiver_of, trigger_of};
 ghost use Rattle.uart_chip.specs.Receiver as spec;
 ghost use Rattle.uart_chip.specs.Receiver.{front_errors, has_errors};
 ghost use Rattle.uart_events.specs.declared.event.TheConstants.{MAX_CHAR_TICKS};
+ghost use Rattle.uart_spec.specs.declared.setup.FifoSize.TheVariants.{Sixteen};
 
 use crate::queue::{UartCharacter, UartCharacters, count, is_on, pop_front, push};
 use bitflags::Flags;
-use uart_chip::receiving::{ReceiverParts, characters_of};
+use uart_chip::receiving::ReceiverParts;
 use uart_chip::{ArrivalMark, Character, Origin, Timeout, flag};
 use uart_live::sound::TIMEOUT_CHARACTERS;
-use uart_spec::FIFO_SIZE;
 use uart_spec::registers::{FifoTriggerLevel, LSR};
+use uart_spec::{FIFO_SIZE, FifoSize};
 
 /// What receives: characters wait in the queue for a read of the data register.
 #[repr(C)]
@@ -50,11 +51,24 @@ pub fn trigger_of(characters: u8) -> FifoTriggerLevel
     }
 }
 
+/// The number of characters by which C names a trigger level: as many as it is for with a FIFO of
+/// 16.
+pub fn number_of(trigger: FifoTriggerLevel) -> u8
+    ensures { result ≡ number_of trigger }
+{
+    match trigger {
+        FifoTriggerLevel::One => 1,
+        FifoTriggerLevel::Four => 4,
+        FifoTriggerLevel::Eight => 8,
+        FifoTriggerLevel::Fourteen => 14,
+    }
+}
+
 impl UartReceiver {
     /// A receiver to which nothing has come yet.
     pub fn new(char_ticks: u16) -> Self
         requires { char_ticks ≤ MAX_CHAR_TICKS }
-        ensures fresh { receiver_of result ≡ spec.fresh char_ticks 0 }
+        ensures fresh { receiver_of result ≡ spec.fresh Sixteen char_ticks 0 }
         ensures canonical { IsCanonicalReceiver result }
     {
         UartReceiver {
@@ -86,7 +100,7 @@ impl UartReceiver {
         self.is_overrun = is_on(saved.is_overrun) as u8;
         self.is_front_reported = is_on(saved.is_front_reported) as u8;
         self.last_byte = saved.last_byte;
-        self.trigger = characters_of(trigger_of(saved.trigger));
+        self.trigger = number_of(trigger_of(saved.trigger));
         self.queue.restore(&saved.queue);
     }
 
@@ -108,6 +122,10 @@ impl ReceiverParts for UartReceiver {
     ghost canonical = { λ r. IsCanonicalReceiver r };
 
     ghost is_scheduled = { false };
+
+    fn size(&self) -> FifoSize {
+        FifoSize::Sixteen
+    }
 
     fn queue_len(&self) -> usize {
         count(self.queue.len, &self.queue.items)
@@ -200,6 +218,6 @@ impl ReceiverParts for UartReceiver {
 
     #[tactic(auto, using(crate::proofs::Levels::same_level))]
     fn set_trigger(&mut self, trigger: FifoTriggerLevel) {
-        self.trigger = characters_of(trigger);
+        self.trigger = number_of(trigger);
     }
 }

@@ -50,7 +50,7 @@ fn is_sound_queue(receiver: &UartReceiver) -> bool
 fn is_sound_receiver(receiver: &UartReceiver, fifo: bool, char_ticks: u16) -> bool
     ensures { result ≡ spec.is_sound_receiver fifo char_ticks (state.receiver_data receiver.now) }
 {
-    receiver.queue_len() <= room_of(fifo)
+    receiver.queue_len() <= room_of(fifo, receiver.size())
         && is_sound_queue(receiver)
         && receiver.timeout_ticks as u32 <= TIMEOUT_CHARACTERS as u32 * char_ticks as u32
 }
@@ -62,7 +62,7 @@ fn is_sound_transmitter(transmitter: &UartTransmitter, fifo: bool) -> bool
 {
     is_char_time(transmitter.char_ticks)
         && is_ticking(transmitter.char_ticks, transmitter.shifting())
-        && transmitter.queue_len() <= room_of(fifo)
+        && transmitter.queue_len() <= room_of(fifo, transmitter.size())
         && transmitter.wire.len() <= transmitter.wire.capacity()
         && transmitter.wire.capacity() <= MAX_WIRE_CAPACITY
 }

@@ -4,13 +4,14 @@ ghost use Rattle.uart_c.specs.declared.queue.TheConstants.{WIRE_ROOM};
 ghost use Rattle.uart_c.specs.Canonical.{IsCanonicalTransmitter};
 ghost use Rattle.uart_c.specs.State.{transmitter_of};
 ghost use Rattle.uart_chip.specs.Transmitter as spec;
+ghost use Rattle.uart_spec.specs.declared.setup.FifoSize.TheVariants.{Sixteen};
 
 use crate::queue::{UartBytes, UartWire, WIRE_ROOM, count, is_on, pop_front, push, put_all};
 use bitflags::Flags;
 use uart_chip::transmitting::TransmitterParts;
 use uart_chip::{Shifting, flag};
-use uart_spec::FIFO_SIZE;
 use uart_spec::registers::LSR;
+use uart_spec::{FIFO_SIZE, FifoSize};
 
 /// What sends: bytes wait in the queue, one is shifted out, and then it is on the wire.
 #[repr(C)]
@@ -30,7 +31,7 @@ impl UartTransmitter {
     /// A transmitter that has sent nothing yet.
     pub fn new(char_ticks: u16, capacity: u8) -> Self
         requires { capacity ≤ WIRE_ROOM }
-        ensures fresh { transmitter_of result ≡ spec.fresh char_ticks capacity }
+        ensures fresh { transmitter_of result ≡ spec.fresh Sixteen char_ticks capacity }
         ensures canonical { IsCanonicalTransmitter result }
     {
         UartTransmitter {
@@ -94,6 +95,10 @@ impl TransmitterParts for UartTransmitter {
     ghost state = { λ t. transmitter_of t };
 
     ghost canonical = { λ t. IsCanonicalTransmitter t };
+
+    fn size(&self) -> FifoSize {
+        FifoSize::Sixteen
+    }
 
     fn queue_len(&self) -> usize {
         count(self.queue.len, &self.queue.items)

@@ -1,3 +1,4 @@
+pub mod Sizes
 pub mod Jumps
 pub mod Bits
 pub mod Snapshots

@@ -6,4 +6,5 @@ pub mod TransmitterSounds
 pub mod Sounds
 pub mod Schedules
 pub mod Builds
+pub mod Sixteen
 pub mod Idle

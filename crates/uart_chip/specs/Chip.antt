@@ -24,6 +24,8 @@ use Rattle.uart_spec.specs.declared.registers.line_control.TheConstants.LCR
 use Rattle.uart_spec.specs.declared.registers.modem_control.TheConstants.MCR
 use Rattle.uart_spec.specs.declared.registers.line_status.TheConstants.LSR
 use Rattle.uart_spec.specs.declared.registers.offsets.TheConstants as offsets
+use Rattle.uart_spec.specs.declared.setup.FifoSize.{FifoSize}
+use Rattle.uart_spec.specs.declared.setup.FifoSize.TheVariants.{Sixteen}
 use Rattle.uart_chip.specs.Masks.{ier_bits, mcr_bits}
 use Rattle.uart_chip.specs.Transmitter as transmitter
 use Rattle.uart_chip.specs.Transmitter.{TransmitterState, looped_byte, load}
@@ -56,6 +58,10 @@ pub record ChipState : Type 0 where
   pub modem : ModemState
   pub cuts : Bool
 
+-- the size of the FIFOs of a model; a 16450 has none, and nothing that it does depends on its size
+abbrev pub size_of : Chip → FifoSize
+size_of _ = Sixteen
+
 -- a chip after power-on, for a schedule with this number of arrivals
 abbrev pub fresh : Chip → ℕ → ℕ → ℕ → ChipState
 fresh model char_ticks capacity arrivals =
@@ -63,8 +69,8 @@ fresh model char_ticks capacity arrivals =
       model = model;
       latches = record { ier = 0; lcr = 0; mcr = 0; scr = 0; dll = 0; dlm = 0 };
       fifo = false;
-      transmitter = transmitter.fresh char_ticks capacity;
-      receiver = receiver.fresh char_ticks arrivals;
+      transmitter = transmitter.fresh (size_of model) char_ticks capacity;
+      receiver = receiver.fresh (size_of model) char_ticks arrivals;
       modem = modem.fresh;
       cuts = false;
     }
@@ -122,7 +128,7 @@ arrive_live byte errors c =
 -- how many characters can arrive before one is lost; in loopback each one is lost
 abbrev pub receive_room : ChipState → ℕ
 receive_room c =
-    if is_loopback c.latches then 0 else transmitter.room c.fifo - length c.receiver.queue
+    if is_loopback c.latches then 0 else transmitter.room c.fifo c.receiver.size - length c.receiver.queue
 
 -- a number of bytes are taken from the front of the wire
 abbrev pub take_wire : ℕ → ChipState → ChipState

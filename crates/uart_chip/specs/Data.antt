@@ -1,5 +1,6 @@
--- The parts of a chip as plain data.
+-- The parts of a chip as plain data. They are those of chips whose FIFOs hold 16 characters: the arrays of the data do.
 use Rattle.std.specs.Prelude.{ℕ, ◌*◌, false, List, []}
+use Rattle.uart_spec.specs.declared.setup.FifoSize.TheVariants.{Sixteen}
 use Rattle.uart_chip.specs.declared.transmitter.TransmitterData.{TransmitterData}
 use Rattle.uart_chip.specs.declared.receiver.ReceiverData.{ReceiverData}
 use Rattle.uart_chip.specs.declared.modem.ModemData.{ModemData}
@@ -11,6 +12,7 @@ use Rattle.uart_chip.specs.Modem.{ModemState}
 abbrev pub transmitter_of : TransmitterData → List ℕ → TransmitterState
 transmitter_of t wire =
     record {
+      size = Sixteen;
       queue = t.queue.items;
       shift_register = t.shift_register;
       wire = wire;
@@ -24,6 +26,7 @@ transmitter_of t wire =
 abbrev pub receiver_of : ℕ → ReceiverData → ReceiverState
 receiver_of char_ticks r =
     record {
+      size = Sixteen;
       queue = r.queue.items;
       is_overrun = r.is_overrun;
       is_front_reported = r.is_front_reported;

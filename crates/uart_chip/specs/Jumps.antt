@@ -5,6 +5,8 @@ use Rattle.std.specs.Prelude.{ℕ, ◌+◌, ◌-◌, ◌==◌, min, max, zero, s
 use Rattle.std.specs.Prelude.{Option, Some, None, nat_lt}
 use Rattle.std.specs.Prelude.{if◌then◌else◌}
 use Rattle.uart_chip.specs.declared.transmitter.Shifting.{Shifting}
+use Rattle.uart_spec.specs.FifoSize.{characters}
+use Rattle.uart_spec.specs.declared.setup.FifoSize.{FifoSize}
 use Rattle.uart_chip.specs.Transmitter.{TransmitterState}
 use Rattle.uart_chip.specs.Receiver.{ReceiverState}
 use Rattle.uart_chip.specs.Chip.{ChipState, is_loopback, tick}
@@ -76,7 +78,7 @@ moves_of (Some s) queue = suc (length queue)
 abbrev pub moves : TransmitterState → ℕ
 moves t = moves_of t.shift_register t.queue
 
--- the most jumps that any number of ticks takes: one for each of 16 characters in the queue, and for the one that
--- enters or leaves the shift register, and one for what is left
-abbrev pub most_jumps : ℕ
-most_jumps = 18
+-- the most jumps that any number of ticks takes with a FIFO of this size, which are 18 with one of 16: one for each
+-- character in the queue, and for the one that enters or leaves the shift register, and one for what is left
+abbrev pub most_jumps : FifoSize → ℕ
+most_jumps size = characters size + 2

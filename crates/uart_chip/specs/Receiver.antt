@@ -9,6 +9,9 @@ use Rattle.uart_events.specs.declared.event.ArrivalMark.{ArrivalMark}
 use Rattle.uart_events.specs.declared.event.ArrivalMark.TheVariants.{Pending, Waiting, Read, Discarded, Dropped}
 use Rattle.uart_chip.specs.Transmitter.{room}
 use Rattle.uart_spec.specs.Bits.{has_any}
+use Rattle.uart_spec.specs.declared.setup.FifoSize.{FifoSize}
+use Rattle.uart_spec.specs.declared.setup.FifoSize.TheVariants.{Sixteen, ThirtyTwo, SixtyFour, OneHundredTwentyEight}
+use Rattle.uart_spec.specs.declared.setup.FifoSize.TheVariants.{TwoHundredFiftySix}
 use Rattle.uart_spec.specs.declared.registers.fifo_trigger_level.FifoTriggerLevel.{FifoTriggerLevel}
 use Rattle.uart_spec.specs.declared.registers.fifo_trigger_level.FifoTriggerLevel.TheVariants.{One, Four, Eight}
 use Rattle.uart_spec.specs.declared.registers.fifo_trigger_level.FifoTriggerLevel.TheVariants.{Fourteen}
@@ -16,6 +19,8 @@ use Rattle.uart_spec.specs.declared.registers.line_status.TheConstants.LSR
 
 -- a receiver, and what it knows of a schedule
 pub record ReceiverState : Type 0 where
+  -- the size of the FIFO
+  pub size : FifoSize
   -- the characters that wait, the first one first
   pub queue : List Character
   pub is_overrun : Bool
@@ -37,9 +42,10 @@ pub record ReceiverState : Type 0 where
 -- full FIFO. So the note is set only while no looped character waits.
 
 -- a receiver that has received nothing, for a schedule with this number of arrivals
-abbrev pub fresh : ℕ → ℕ → ReceiverState
-fresh char_ticks arrivals =
+abbrev pub fresh : FifoSize → ℕ → ℕ → ReceiverState
+fresh size char_ticks arrivals =
     record {
+      size = size;
       queue = [];
       is_overrun = false;
       is_front_reported = false;
@@ -87,7 +93,7 @@ replace (old ∷ others) new r =
 -- a character is received: it is put last; or it is dropped if the FIFO is full; or it replaces the one without FIFO
 abbrev pub enter : Bool → Character → ReceiverState → ReceiverState
 enter fifo new r =
-    if nat_lt (length r.queue) (room fifo)
+    if nat_lt (length r.queue) (room fifo r.size)
     then record r {
       queue = r.queue ++ new ∷ [];
       is_front_reported = if length r.queue == 0 then false else r.is_front_reported;
@@ -171,16 +177,29 @@ discard (character ∷ characters) marks = discard characters (set_mark characte
 abbrev pub clear : ReceiverState → ReceiverState
 clear r = record r { queue = []; marks = discard r.queue r.marks }
 
--- the number of characters of a trigger level
-abbrev pub characters_of : FifoTriggerLevel → ℕ
-characters_of One = 1
-characters_of Four = 4
-characters_of Eight = 8
-characters_of Fourteen = 14
+-- A trigger level has the name of the number of characters that it is for a 16550. A chip with larger FIFOs has other
+-- numbers for the same four codes.
+
+-- one of four numbers, for the lowest trigger level to the highest
+abbrev pub by_level : (first second third fourth : ℕ) → FifoTriggerLevel → ℕ
+by_level first second third fourth One = first
+by_level first second third fourth Four = second
+by_level first second third fourth Eight = third
+by_level first second third fourth Fourteen = fourth
+
+-- the number of characters of a trigger level, for a FIFO of this size: as a 16550, a 16650, a 16750 and a 16950 have
+-- them, and those of DesignWare: one, a quarter, a half, and two less than full
+abbrev pub characters_of : FifoSize → FifoTriggerLevel → ℕ
+characters_of Sixteen = by_level 1 4 8 14
+characters_of ThirtyTwo = by_level 8 16 24 28
+characters_of SixtyFour = by_level 1 16 32 56
+characters_of OneHundredTwentyEight = by_level 16 32 112 120
+characters_of TwoHundredFiftySix = by_level 1 64 128 254
 
 -- there are as many characters as the trigger level, or without FIFO any
 abbrev pub is_data_pending : Bool → ReceiverState → Bool
-is_data_pending fifo r = if fifo then nat_le (characters_of r.trigger) (length r.queue) else nat_lt 0 (length r.queue)
+is_data_pending fifo r =
+    if fifo then nat_le (characters_of r.size r.trigger) (length r.queue) else nat_lt 0 (length r.queue)
 
 -- A timeout that is due is withdrawn when a character arrives. A real chip holds it until the FIFO is read.
 

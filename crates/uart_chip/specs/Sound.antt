@@ -18,7 +18,7 @@ use Rattle.uart_spec.specs.Bits.{IsWithin}
 use Rattle.uart_chip.specs.Transmitter.{TransmitterState, room}
 use Rattle.uart_chip.specs.Receiver.{ReceiverState, mark_at}
 use Rattle.uart_chip.specs.Modem.{ModemState}
-use Rattle.uart_chip.specs.Chip.{LatchesState, ChipState}
+use Rattle.uart_chip.specs.Chip.{LatchesState, ChipState, size_of}
 use Rattle.uart_chip.specs.Machine.{MachineState, arrivals}
 use Rattle.uart_events.specs.Build.{IsLegal}
 
@@ -67,7 +67,7 @@ pub record IsMarked (fifo : Bool) (r : ReceiverState) : Type 0 where
   pub wait : AllInQueue r.arrived r.marks r.is_unscheduled_lost r.queue
   pub distinct : Distinct r.queue
   pub to_come : (number : ℕ) → r.arrived ≤ number → mark_at r.marks number ≡ Pending
-  pub in_room : length r.queue ≤ room fifo
+  pub in_room : length r.queue ≤ room fifo r.size
   pub counted : r.arrived ≤ length r.marks
 
 -- the marks say what became of each arrival: one that has arrived is not Pending, and only those in the queue are
@@ -88,7 +88,7 @@ IsTicking char_ticks (Some s) = (1 ≤ s.ticks_left) × (s.ticks_left ≤ char_t
 
 -- queue and wire hold no more than they have room for; a character takes 1 to 1000 ticks
 pub record IsSoundTransmitter (fifo : Bool) (t : TransmitterState) : Type 0 where
-  pub in_room : length t.queue ≤ room fifo
+  pub in_room : length t.queue ≤ room fifo t.size
   pub ticking : IsTicking t.char_ticks t.shift_register
   pub at_least_one : 1 ≤ t.char_ticks
   pub at_most : t.char_ticks ≤ MAX_CHAR_TICKS
@@ -118,12 +118,14 @@ pub record HoldBytes (l : LatchesState) : Type 0 where
 
 -- That only a chip with a FIFO has it on is a part of soundness, so what an `init` leaves follows from any state.
 
--- the parts are sound, only a chip that has a FIFO has it on, and the idle limit is four character times
+-- the parts are sound, their FIFOs have the size of the model, only a chip that has a FIFO has it on, and the idle
+-- limit is four character times
 pub record IsSoundChip (c : ChipState) : Type 0 where
   pub receiver : IsSoundReceiver c.fifo c.receiver
   pub transmitter : IsSoundTransmitter c.fifo c.transmitter
   pub modem : IsSoundModem c.modem
   pub latches : IsSoundLatches c.latches
+  pub sizes : (c.transmitter.size ≡ size_of c.model) × (c.receiver.size ≡ size_of c.model)
   pub implemented : c.fifo ≡ true → c.model ≡ Uart16550A
   pub limit : c.receiver.timeout_limit ≡ 4 * c.transmitter.char_ticks
 

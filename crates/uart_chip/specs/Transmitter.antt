@@ -2,10 +2,14 @@
 use Rattle.std.specs.Prelude.{ℕ, ◌+◌, ◌-◌, ◌^◌, min, Bool, true, false, List, [], ◌∷◌, ◌++◌, length, Option, Some, None}
 use Rattle.std.specs.Prelude.{drop, nat_lt, if◌then◌else◌}
 use Rattle.uart_chip.specs.declared.transmitter.Shifting.{Shifting}
+use Rattle.uart_spec.specs.FifoSize.{characters}
+use Rattle.uart_spec.specs.declared.setup.FifoSize.{FifoSize}
 
--- the queue that data writes fill, the shift register, from which a character is shifted out, the wire and its
--- capacity, the ticks of a character, how many bytes met a full queue, and whether a THR-empty interrupt is pending
+-- the size of the FIFO, the queue that data writes fill, the shift register, from which a character is shifted out, the
+-- wire and its capacity, the ticks of a character, how many bytes met a full queue, and whether a THR-empty interrupt
+-- is pending
 pub record TransmitterState : Type 0 where
+  pub size : FifoSize
   pub queue : List ℕ
   pub shift_register : Option Shifting
   pub wire : List ℕ
@@ -14,14 +18,15 @@ pub record TransmitterState : Type 0 where
   pub overflows : ℕ
   pub is_thr_pending : Bool
 
--- how many characters a queue has room for: 16 with the FIFO, one without it
-abbrev pub room : Bool → ℕ
-room fifo = if fifo then 16 else 1
+-- how many characters a queue has room for: those of the FIFO, or one without it
+abbrev pub room : (fifo : Bool) → FifoSize → ℕ
+room fifo size = if fifo then characters size else 1
 
 -- a transmitter that has sent nothing
-abbrev pub fresh : ℕ → ℕ → TransmitterState
-fresh char_ticks capacity =
+abbrev pub fresh : FifoSize → ℕ → ℕ → TransmitterState
+fresh size char_ticks capacity =
     record {
+      size = size;
       queue = [];
       shift_register = None;
       wire = [];
@@ -69,7 +74,7 @@ tick loopback t = let u = shift loopback t.shift_register t in refill u.shift_re
 -- replaces the one that waits
 abbrev pub load : Bool → ℕ → TransmitterState → TransmitterState
 load fifo byte t =
-    if nat_lt (length t.queue) (room fifo)
+    if nat_lt (length t.queue) (room fifo t.size)
     then record t { queue = t.queue ++ byte ∷ []; is_thr_pending = false }
     else record t {
       queue = if fifo then t.queue else byte ∷ [];

@@ -3,25 +3,36 @@ ghost use Rattle.std.specs.Prelude.{◌≡◌, ◌==◌, ◌<◌, ◌≤◌, Lis
 ghost use Rattle.std.specs.Prelude.{length, drop, slice_get, IfOk};
 ghost use Rattle.uart_spec.specs.declared.baud.TheConstants.{FIFO_SIZE};
 ghost use Rattle.uart_chip.specs.Transmitter.{room};
+ghost use Rattle.uart_spec.specs.FifoSize.{characters};
+ghost use Rattle.uart_spec.specs.declared.setup.FifoSize.TheVariants.{Sixteen};
 
 use arrayvec::ArrayVec;
 use circular_buffer::HeapCircularBuffer;
 use std::alloc::{AllocError, Global};
 use std::marker::Model;
-use uart_spec::FIFO_SIZE;
+use uart_spec::{FIFO_SIZE, FifoSize};
 
-/// Returns the number of characters that a queue has room for. Without FIFO that is one, although
-/// it could hold more.
-pub fn room_of(fifo: bool) -> usize
-    ensures { result ≡ room fifo }
+/// Returns the number of characters that a queue has room for, with a FIFO of this size. Without
+/// FIFO that is one, although it could hold more.
+#[tactic(auto, using(crate::proofs::Sizes::room_within))]
+pub fn room_of(fifo: bool, size: FifoSize) -> usize
+    ensures room { result ≡ room fifo size }
+    ensures within { result ≤ characters size }
 {
-    if fifo { FIFO_SIZE } else { 1 }
+    if fifo { size.characters() } else { 1 }
 }
 
 /// A queue that has room for each character of a FIFO, wherever its items are.
 pub trait Fifo<T> {
     // The items, from the front.
     ghost items: { Self → List T };
+
+    /// Returns the size of the FIFO: the queue has room for as many items.
+    fn size(&self) -> FifoSize
+        ensures { result ≡ Sixteen }
+    {
+        FifoSize::Sixteen
+    }
 
     /// Returns the number of items.
     fn len(&self) -> usize

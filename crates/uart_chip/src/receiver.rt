@@ -5,6 +5,7 @@ ghost use Rattle.uart_chip.specs.Receiver as spec;
 ghost use Rattle.uart_chip.specs.Receiver.{waiting};
 ghost use Rattle.uart_chip.specs.Status.{receiver_status};
 ghost use Rattle.uart_spec.specs.declared.baud.TheConstants.{FIFO_SIZE};
+ghost use Rattle.uart_spec.specs.declared.setup.FifoSize.TheVariants.{Sixteen};
 ghost use Rattle.uart_events.specs.declared.event.TheConstants.{MAX_CHAR_TICKS};
 
 use crate::characters::Characters;
@@ -16,8 +17,8 @@ use arrayvec::ArrayVec;
 use bitflags::Flags;
 use std::marker::Model;
 use uart_events::ArrivalMark;
-use uart_spec::FIFO_SIZE;
 use uart_spec::registers::{FifoTriggerLevel, LSR};
+use uart_spec::{FIFO_SIZE, FifoSize};
 
 /// Where a character is from.
 #[derive(Clone, Copy, Default)]
@@ -70,10 +71,12 @@ pub struct Receiver<Q: Fifo<Character> + Drop, J: Journal + Drop> {
 
 impl<Q: Fifo<Character> + Drop, J: Journal + Drop> Model for Receiver<Q, J> {
     ghost use Rattle.uart_chip.specs.Receiver.{ReceiverState};
+    ghost use Rattle.uart_spec.specs.declared.setup.FifoSize.TheVariants.{Sixteen};
 
     ghost Value = { ReceiverState };
 
     ghost view = { λ r. record {
+      size = Sixteen;
       queue = r.queue;
       is_overrun = r.is_overrun;
       is_front_reported = r.is_front_reported;
@@ -166,7 +169,7 @@ impl<Q: Fifo<Character> + Drop, J: Journal + Drop> Receiver<Q, J> {
     pub fn new(queue: Q, journal: J, char_ticks: u16) -> Self
         requires char_ticks { char_ticks ≤ MAX_CHAR_TICKS }
         requires empty { Q.items queue ≡ [] }
-        ensures { result ≡ record (spec.fresh char_ticks 0) { marks = J.recorded journal } }
+        ensures { result ≡ record (spec.fresh Sixteen char_ticks 0) { marks = J.recorded journal } }
     {
         Self {
             queue: Characters::new(queue),
@@ -289,6 +292,10 @@ impl<Q: Fifo<Character> + Drop, J: Journal + Drop> ReceiverParts for Receiver<Q,
     ghost canonical = { λ r. Unit {0} };
 
     ghost is_scheduled = { true };
+
+    fn size(&self) -> FifoSize {
+        self.queue.size()
+    }
 
     fn queue_len(&self) -> usize {
         self.queue.len()

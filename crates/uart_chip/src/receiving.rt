@@ -7,12 +7,13 @@ ghost use Rattle.uart_chip.specs.Receiver as spec;
 ghost use Rattle.uart_chip.specs.Receiver.{ReceiverState, has_errors, is_unscheduled, unreported};
 ghost use Rattle.uart_chip.specs.Status.{receiver_status};
 ghost use Rattle.uart_chip.specs.Transmitter.{room};
-ghost use Rattle.uart_spec.specs.declared.baud.TheConstants.{FIFO_SIZE};
+ghost use Rattle.uart_spec.specs.FifoSize.{characters};
+ghost use Rattle.uart_spec.specs.declared.setup.FifoSize.TheVariants.{Sixteen};
 
 use crate::fifo::room_of;
 use crate::receiver::{Character, Origin, Timeout};
 use uart_events::ArrivalMark;
-use uart_spec::FIFO_SIZE;
+use uart_spec::FifoSize;
 use uart_spec::registers::{FifoTriggerLevel, LSR};
 
 /// What a receiver is made of: a queue of characters and what is known of them, and how each is
@@ -27,15 +28,19 @@ pub trait ReceiverParts {
     // Whether the parts have a place for arrivals of a schedule.
     ghost is_scheduled: { Bool };
 
+    /// Returns the size of the FIFO.
+    fn size(&self) -> FifoSize
+        ensures { result ≡ (state self.now).size };
+
     /// Returns the number of characters in the queue.
     fn queue_len(&self) -> usize
         ensures len { result ≡ length (state self.now).queue }
-        ensures within { result ≤ FIFO_SIZE };
+        ensures within { result ≤ characters (state self.now).size };
 
     /// Appends a character to the queue. The errors of one that is at the front have not been
     /// reported. The caller must show that there is room, and that the character has a place.
     fn put(&mut self, new: Character)
-        requires room { length (state self.old).queue < FIFO_SIZE }
+        requires room { length (state self.old).queue < characters (state self.old).size }
         requires origin { (is_unscheduled new.origin || is_scheduled) ≡ true }
         ensures after { let r = state self.old in state self.new ≡ record r {
           queue = r.queue ++ new ∷ [];
@@ -142,15 +147,43 @@ impl Origin {
     }
 }
 
-/// Returns the number of characters of a trigger level.
-pub fn characters_of(level: FifoTriggerLevel) -> u8
-    ensures { result ≡ spec.characters_of level }
+// Returns one of four numbers, for the lowest trigger level to the highest.
+fn by_level(first: u8, second: u8, third: u8, fourth: u8, level: FifoTriggerLevel) -> u8
+    ensures { result ≡ spec.by_level first second third fourth level }
+{
+    match level {
+        FifoTriggerLevel::One => first,
+        FifoTriggerLevel::Four => second,
+        FifoTriggerLevel::Eight => third,
+        FifoTriggerLevel::Fourteen => fourth,
+    }
+}
+
+// Returns the number of characters of a trigger level, for a FIFO of 16.
+// Apart from `by_level`: of constants a compiler makes a table, and of numbers that are passed one
+// test for each level, which in C takes five instructions more for each look at the interrupts.
+fn characters_of_16(level: FifoTriggerLevel) -> u8
+    ensures { result ≡ spec.characters_of Sixteen level }
 {
     match level {
         FifoTriggerLevel::One => 1,
         FifoTriggerLevel::Four => 4,
         FifoTriggerLevel::Eight => 8,
         FifoTriggerLevel::Fourteen => 14,
+    }
+}
+
+/// Returns the number of characters of a trigger level, for a FIFO of this size.
+// The levels have the names of their numbers for a 16550.
+pub fn characters_of(size: FifoSize, level: FifoTriggerLevel) -> u8
+    ensures { result ≡ spec.characters_of size level }
+{
+    match size {
+        FifoSize::Sixteen => characters_of_16(level),
+        FifoSize::ThirtyTwo => by_level(8, 16, 24, 28, level),
+        FifoSize::SixtyFour => by_level(1, 16, 32, 56, level),
+        FifoSize::OneHundredTwentyEight => by_level(16, 32, 112, 120, level),
+        FifoSize::TwoHundredFiftySix => by_level(1, 64, 128, 254, level),
     }
 }
 
@@ -162,7 +195,7 @@ pub fn enter<R: ReceiverParts>(parts: &mut R, fifo: bool, new: Character)
     ensures after { R.state parts.new ≡ spec.enter fifo new (R.state parts.old) }
     ensures canonical { R.canonical parts.old → R.canonical parts.new }
 {
-    if parts.queue_len() < room_of(fifo) {
+    if parts.queue_len() < room_of(fifo, parts.size()) {
         parts.put(new);
         parts.set_mark(new.origin, ArrivalMark::Waiting);
     } else if fifo {
@@ -180,6 +213,7 @@ pub fn enter<R: ReceiverParts>(parts: &mut R, fifo: bool, new: Character)
 
 // Replaces the character in the receiver, which is dropped.
 #[inline(never)]
+#[tactic(auto, using(crate::proofs::Sizes::at_least_16))]
 fn replace<R: ReceiverParts>(parts: &mut R, new: Character)
     requires { (is_unscheduled new.origin || R.is_scheduled) ≡ true }
     ensures after { R.state parts.new ≡
@@ -310,7 +344,7 @@ pub fn is_data_pending<R: ReceiverParts>(parts: &R, fifo: bool) -> bool
     ensures { result ≡ spec.is_data_pending fifo (R.state parts.now) }
 {
     if fifo {
-        let trigger = characters_of(parts.trigger()) as usize;
+        let trigger = characters_of(parts.size(), parts.trigger()) as usize;
         trigger <= parts.queue_len()
     } else {
         parts.queue_len() > 0
@@ -327,7 +361,7 @@ pub fn is_timed_out<R: ReceiverParts>(parts: &R, fifo: bool) -> bool
 
 /// Returns how many characters can be received before one is lost.
 pub fn receive_room<R: ReceiverParts>(parts: &R, fifo: bool) -> usize
-    ensures { result ≡ room fifo - length (R.state parts.now).queue }
+    ensures { result ≡ room fifo (R.state parts.now).size - length (R.state parts.now).queue }
 {
-    room_of(fifo).saturating_sub(parts.queue_len())
+    room_of(fifo, parts.size()).saturating_sub(parts.queue_len())
 }

@@ -5,6 +5,7 @@ ghost use Rattle.uart_chip.specs.Status.{transmitter_status};
 ghost use Rattle.uart_chip.specs.Transmitter as spec;
 ghost use Rattle.uart_chip.specs.Transmitter.{held};
 ghost use Rattle.uart_spec.specs.declared.baud.TheConstants.{FIFO_SIZE};
+ghost use Rattle.uart_spec.specs.declared.setup.FifoSize.TheVariants.{Sixteen};
 
 use crate::fifo::{Fifo, fill, items_of};
 use crate::transmitting::{TransmitterParts, held_len};
@@ -12,8 +13,8 @@ use crate::wire::Wire;
 use arrayvec::ArrayVec;
 use bitflags::Flags;
 use std::marker::Model;
-use uart_spec::FIFO_SIZE;
 use uart_spec::registers::LSR;
+use uart_spec::{FIFO_SIZE, FifoSize};
 
 /// The character in the shift register.
 #[derive(Clone, Copy)]
@@ -56,10 +57,12 @@ pub struct TransmitterData {
 
 impl<Q: Fifo<u8> + Drop, W: Wire + Drop> Model for Transmitter<Q, W> {
     ghost use Rattle.uart_chip.specs.Transmitter.{TransmitterState};
+    ghost use Rattle.uart_spec.specs.declared.setup.FifoSize.TheVariants.{Sixteen};
 
     ghost Value = { TransmitterState };
 
     ghost view = { λ t. record {
+      size = Sixteen;
       queue = Q.items t.queue;
       shift_register = t.shift_register;
       wire = W.sent t.wire;
@@ -94,7 +97,7 @@ impl<Q: Fifo<u8> + Drop, W: Wire + Drop> Transmitter<Q, W> {
     pub fn new(queue: Q, wire: W, char_ticks: u16) -> Self
         requires queue { Q.items queue ≡ [] }
         requires wire { W.sent wire ≡ [] }
-        ensures { result ≡ spec.fresh char_ticks (W.most wire) }
+        ensures { result ≡ spec.fresh Sixteen char_ticks (W.most wire) }
     {
         Self {
             queue,
@@ -194,6 +197,10 @@ impl<Q: Fifo<u8> + Drop, W: Wire + Drop> TransmitterParts for Transmitter<Q, W> 
     ghost state = { λ t. t };
 
     ghost canonical = { λ t. Unit {0} };
+
+    fn size(&self) -> FifoSize {
+        self.queue.size()
+    }
 
     fn queue_len(&self) -> usize {
         self.queue.len()

@@ -5,10 +5,10 @@ ghost use Rattle.uart_chip.specs.Jumps as jumps;
 ghost use Rattle.uart_chip.specs.Status.{transmitter_status};
 ghost use Rattle.uart_chip.specs.Transmitter as spec;
 ghost use Rattle.uart_chip.specs.Transmitter.{TransmitterState, held, looped_byte};
-ghost use Rattle.uart_spec.specs.declared.baud.TheConstants.{FIFO_SIZE};
+ghost use Rattle.uart_spec.specs.FifoSize.{characters};
 
 use crate::transmitter::Shifting;
-use uart_spec::FIFO_SIZE;
+use uart_spec::FifoSize;
 use uart_spec::registers::LSR;
 
 /// What a transmitter is made of: a queue, the shift register, a wire, and how each is read and
@@ -20,14 +20,18 @@ pub trait TransmitterParts {
     // Whether the parts have the one value for this transmitter. It stays so.
     ghost canonical: { Self → Type 0 };
 
+    /// Returns the size of the FIFO.
+    fn size(&self) -> FifoSize
+        ensures { result ≡ (state self.now).size };
+
     /// Returns the number of bytes in the queue.
     fn queue_len(&self) -> usize
         ensures len { result ≡ length (state self.now).queue }
-        ensures within { result ≤ FIFO_SIZE };
+        ensures within { result ≤ characters (state self.now).size };
 
     /// Appends a byte to the queue. The caller must show that there is room.
     fn put(&mut self, byte: u8)
-        requires { length (state self.old).queue < FIFO_SIZE }
+        requires { length (state self.old).queue < characters (state self.old).size }
         ensures after { state self.new ≡
             record (state self.old) { queue = (state self.old).queue ++ byte ∷ [] } }
         ensures canonical { canonical self.old → canonical self.new };
@@ -181,12 +185,13 @@ pub fn count_down<T: TransmitterParts>(parts: &mut T, ticks: u16)
 /// Takes a byte that is written to DATA. If there is no room, the FIFO loses it, and THR loses the
 /// byte that it held.
 // A write clears a pending THR_EMPTY interrupt even if there is no room.
+#[tactic(auto, using(crate::proofs::Sizes::at_least_16))]
 pub fn load<T: TransmitterParts>(parts: &mut T, fifo: bool, byte: u8)
     ensures after { T.state parts.new ≡ spec.load fifo byte (T.state parts.old) }
     ensures canonical { T.canonical parts.old → T.canonical parts.new }
 {
     if fifo {
-        if parts.queue_len() < FIFO_SIZE {
+        if parts.queue_len() < parts.size().characters() {
             parts.put(byte);
         } else {
             parts.count_overflow();
@@ -202,6 +207,7 @@ pub fn load<T: TransmitterParts>(parts: &mut T, fifo: bool, byte: u8)
 }
 
 /// Returns the number of bytes that are still to be sent.
+#[tactic(auto, using(crate::proofs::Sizes::at_most_256))]
 pub fn held_len<T: TransmitterParts>(parts: &T) -> usize
     ensures { result ≡ length (held (T.state parts.now)) }
 {

@@ -5,3 +5,4 @@ pub mod Faults
 pub mod Line
 pub mod Serving
 pub mod Laws
+pub mod Parameters

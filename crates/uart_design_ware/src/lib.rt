@@ -8,11 +8,13 @@ mod fault;
 mod kept;
 pub mod laws;
 mod line;
+mod parameters;
 mod recovery;
 mod registers;
 mod serving;
 mod state;
 
 pub use fault::DesignWareFault;
+pub use parameters::fifo_size_of;
 pub use registers::{DesignWareRegisters, USR};
 pub use state::DesignWare;

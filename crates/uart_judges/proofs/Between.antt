@@ -102,7 +102,7 @@ has-replace (old ∷ others) new r h = refl
 
 has-enter : (fifo : Bool) (new : Character) (r : ReceiverState) → HasCharacter r → HasCharacter (enter fifo new r)
 has-enter fifo new r h =
-    has_if _ _ (nat_lt (length r.queue) (room fifo)) (longer r.queue new) (has_if _ _ fifo h (has-replace r.queue new r h))
+    has_if _ _ (nat_lt (length r.queue) (room fifo r.size)) (longer r.queue new) (has_if _ _ fifo h (has-replace r.queue new r h))
 
 has-come_back : (fifo : Bool) (looped : Option ℕ) (r : ReceiverState) → HasCharacter r → HasCharacter (come_back fifo looped r)
 has-come_back fifo None r h = h

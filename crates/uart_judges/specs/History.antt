@@ -1,6 +1,7 @@
 -- What the entries of a recording show about the chip and its driver. The latest is the first of a list.
 use Rattle.std.specs.Prelude.{ℕ, ◌+◌, ◌-◌, ◌^◌, Bool, true, false, ◌&&◌, ◌||◌, not, if◌then◌else◌, max, min, nat_lt}
 use Rattle.std.specs.Prelude.{◌==◌, Option, Some, None, is_some, List, [], ◌∷◌}
+use Rattle.uart_spec.specs.declared.setup.FifoSize.TheVariants.{Sixteen}
 use Rattle.uart_chip.specs.Receiver.{characters_of}
 use Rattle.uart_spec.specs.Bits.{has}
 use Rattle.uart_spec.specs.declared.registers.fifo_control.TheConstants.FCR as fcr_bits
@@ -152,9 +153,9 @@ looped past = since (λ s. sets_modem s.action || receives s.action) loops past
 
 -- ---- the receiver
 
--- the number of bytes at which a data interrupt comes
+-- the number of bytes at which a data interrupt comes from a FIFO of 16
 abbrev pub level : Option Bool → Option FifoTriggerLevel → ℕ
-level (Some true) (Some trigger) = characters_of trigger
+level (Some true) (Some trigger) = characters_of Sixteen trigger
 level fifo trigger = 1
 
 -- how many bytes an interrupt shows to wait, with this interrupt level

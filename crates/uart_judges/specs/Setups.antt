@@ -2,6 +2,7 @@
 use Rattle.std.specs.Prelude.{ℕ, Bool, true, false, ◌==◌, ◌&&◌, Option, Some, None}
 use Rattle.std.specs.Int.RustNames.{bit_or}
 use Rattle.std.specs.Option.{option_map, option_or}
+use Rattle.uart_spec.specs.declared.setup.FifoSize.TheVariants.{Sixteen}
 use Rattle.uart_chip.specs.Receiver.{characters_of}
 use Rattle.uart_spec.specs.Bits.{flag, has}
 use Rattle.uart_spec.specs.declared.registers.interrupt_enable.IER.{IER}
@@ -69,5 +70,5 @@ same_setup a b =
     && (same a.divisor.high b.divisor.high
     && (same (option_map (λ lcr. lcr.0) a.line) (option_map (λ lcr. lcr.0) b.line)
     && (same (option_map (λ on. flag on 1) a.has_fifo) (option_map (λ on. flag on 1) b.has_fifo)
-    && (same (option_map characters_of a.trigger) (option_map characters_of b.trigger)
+    && (same (option_map (characters_of Sixteen) a.trigger) (option_map (characters_of Sixteen) b.trigger)
     && same (option_map besides_thr_empty a.interrupts) (option_map besides_thr_empty b.interrupts)))))

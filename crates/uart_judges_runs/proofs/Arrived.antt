@@ -18,7 +18,10 @@ use Rattle.uart_chip.specs.Machine.{MachineState, perform}
 use Rattle.uart_chip.specs.Receiver.{ReceiverState, enter, replace}
 use Rattle.uart_chip.specs.Receiver as receiver
 use Rattle.uart_chip.specs.Sound.{IsSound}
+use Rattle.uart_spec.specs.declared.setup.FifoSize.TheVariants.{Sixteen}
+use Rattle.uart_spec.specs.FifoSize.{characters}
 use Rattle.uart_chip.specs.Transmitter.{room}
+use Rattle.uart_chip.proofs.Sizes.{room_least}
 use Rattle.uart_chip.proofs.lasting.Lasting.{LastsInEvents}
 use Rattle.uart_chip.proofs.soundness.Sounds.{sound_perform}
 use Rattle.uart_run.proofs.Latches.{Kept, kept_in}
@@ -87,8 +90,8 @@ replaced n [] new r e h = absurd (omega (arith, h))
 replaced n (x ∷ xs) new r e h = omega arith
 
 one_arrives : (n : ℕ) (fifo : Bool) (new : Character) (r : ReceiverState) → n ≤ length r.queue →
-    min (n + 1) (room fifo) ≤ length (enter fifo new r).queue
-one_arrives n fifo new r h = go (nat_lt (length r.queue) (room fifo)) refl
+    min (n + 1) (room fifo r.size) ≤ length (enter fifo new r).queue
+one_arrives n fifo new r h = go (nat_lt (length r.queue) (room fifo r.size)) refl
   where
     at_least : (q space : ℕ) → nat_lt q space ≡ false → space ≤ q
     at_least q space e = grind (arith, common_steps)
@@ -96,20 +99,20 @@ one_arrives n fifo new r h = go (nat_lt (length r.queue) (room fifo)) refl
     least : (space q : ℕ) → space ≤ q → min (n + 1) space ≤ q
     least space q h = omega (arith, h)
 
-    full : (fifo : Bool) → nat_lt (length r.queue) (room fifo) ≡ false →
-        min (n + 1) (room fifo) ≤ length (if fifo then r.queue else (replace r.queue new r).queue)
-    full true e = least 16 (length r.queue) (at_least (length r.queue) 16 e)
+    full : (fifo : Bool) → nat_lt (length r.queue) (room fifo r.size) ≡ false →
+        min (n + 1) (room fifo r.size) ≤ length (if fifo then r.queue else (replace r.queue new r).queue)
+    full true e = least (characters r.size) (length r.queue) (at_least (length r.queue) (characters r.size) e)
     full false e = replaced n r.queue new r refl (at_least (length r.queue) 1 e)
 
     in_full : (b : Bool) (x y : ReceiverState) (k : ℕ) → k ≤ length (if b then x.queue else y.queue) → k ≤ length (if b then x else y).queue
     in_full true x y k h = h
     in_full false x y k h = h
 
-    go : (b : Bool) → nat_lt (length r.queue) (room fifo) ≡ b → min (n + 1) (room fifo) ≤ length (enter fifo new r).queue
-    go true e = rw e (more_in n (room fifo) r.queue new h)
-    go false e = rw e (in_full fifo _ _ (min (n + 1) (room fifo)) (full fifo e))
+    go : (b : Bool) → nat_lt (length r.queue) (room fifo r.size) ≡ b → min (n + 1) (room fifo r.size) ≤ length (enter fifo new r).queue
+    go true e = rw e (more_in n (room fifo r.size) r.queue new h)
+    go false e = rw e (in_full fifo _ _ (min (n + 1) (room fifo r.size)) (full fifo e))
 
-least_fits : (o : Option Bool) (on : Bool) → IsSo o (λ b. on ≡ b) → least_depth o ≤ room on
+least_fits : (o : Option Bool) (on : Bool) → IsSo o (λ b. on ≡ b) → least_depth o ≤ room on Sixteen
 least_fits (Some true) true so = omega arith
 least_fits (Some true) false so = absurd (cc)
 least_fits _ true so = omega arith
@@ -131,13 +134,14 @@ counted n (Some mcr) has_fifo loopback fifo byte errors r e f h still = go (has 
     go true e = still
     go false e =
         subst (λ (b : Bool). min (n + 1) (least_depth has_fifo) ≤ length (receiver.arrive b fifo byte errors r).queue) (sym e)
-        (smaller (n + 1) (least_depth has_fifo) (room fifo) _ (least_fits has_fifo fifo f)
+        (smaller (n + 1) (least_depth has_fifo) (room fifo r.size) _
+        (let least = least_fits has_fifo fifo f in let any = room_least fifo r.size in omega (arith, least, any))
         (one_arrives n fifo (record { byte = byte; errors = errors; origin = Arrived r.arrived }) (record r { arrived = r.arrived + 1 }) h))
 
-still_left : (n left : ℕ) (rests : Bool) (before queued : ℕ) (fifo on : Bool) → on ≡ fifo → min n (room fifo) ≤ before + left →
-    min (next_count n rests false) (room on) ≤ queued + (if rests then 0 else left + (before - queued))
-still_left n left true before queued fifo on e h = none_sent (room on) (queued + 0)
-still_left n left false before queued fifo on e h = rw e (left_grows n (room fifo) queued left before h)
+still_left : (n left : ℕ) (rests : Bool) (before queued : ℕ) (fifo on : Bool) → on ≡ fifo → min n (room fifo Sixteen) ≤ before + left →
+    min (next_count n rests false) (room on Sixteen) ≤ queued + (if rests then 0 else left + (before - queued))
+still_left n left true before queued fifo on e h = none_sent (room on Sixteen) (queued + 0)
+still_left n left false before queued fifo on e h = rw e (left_grows n (room fifo Sixteen) queued left before h)
 
 -- ---- all of it
 

@@ -5,6 +5,7 @@ use Rattle.uart_spec.specs.declared.access.Access.{Access as RegisterAccess}
 use Rattle.uart_spec.specs.declared.access.Access.TheVariants.{Read, Write}
 use Rattle.uart_spec.specs.declared.registers.line_control.TheConstants.LCR as lcr_bits
 use Rattle.uart_spec.specs.declared.registers.offsets.TheConstants as offsets
+use Rattle.uart_spec.specs.declared.setup.FifoSize.TheVariants.{Sixteen}
 use Rattle.uart_chip.specs.Transmitter.{room as room_of}
 use Rattle.uart_chip.proofs.conservation.Blocks.{AllFit, AllQuiet, Block, Look, Hit, Burst, Other, Divisor, IsFit, accesses_of, flat}
 use Rattle.uart_judges.specs.declared.audit.auditor.Auditor.{Auditor}
@@ -26,7 +27,7 @@ goes_on P Q R x l p q moves rest = goes_then P Q R (x ∷ []) l (goes_one P Q x 
 
 -- ---- a burst
 
-sent_all : (fifo : Bool) (k : ℕ) (bytes : List ℕ) → k + length bytes ≤ room_of fifo →
+sent_all : (fifo : Bool) (k : ℕ) (bytes : List ℕ) → k + length bytes ≤ room_of fifo Sixteen →
     Goes (Sending fifo k) (map (Write offsets.DATA) bytes) (KnowsAsTaken fifo)
 sent_all fifo k [] few = λ past entries is p.
     let r = goes_none (Sending fifo k) (stays_sending fifo k) past entries is p in (r.0, r.1.knows)
@@ -36,7 +37,7 @@ sent_all fifo k (byte ∷ bytes) few =
     (sent_all fifo (k + 1) bytes (omega arith))
 
 checked : (fifo : Bool) (checks : List RegisterAccess) (bytes : List ℕ) → AllQuiet checks → AreTaken fifo checks →
-    length bytes ≤ room_of fifo →
+    length bytes ≤ room_of fifo Sixteen →
     Goes (Sending fifo 0) (checks ++ map (Write offsets.DATA) bytes) (KnowsAsTaken fifo)
 checked fifo [] bytes q t few = sent_all fifo 0 bytes (omega arith)
 checked fifo (x ∷ checks) bytes q t few =

@@ -10,6 +10,7 @@ use Rattle.uart_spec.specs.declared.registers.interrupt_status.TheConstants.ISR 
 use Rattle.uart_spec.specs.declared.registers.line_control.TheConstants.LCR as lcr_bits
 use Rattle.uart_spec.specs.declared.registers.modem_control.MCR.{MCR}
 use Rattle.uart_spec.specs.declared.registers.modem_control.TheConstants.MCR as mcr_bits
+use Rattle.uart_spec.specs.declared.setup.FifoSize.TheVariants.{Sixteen}
 use Rattle.uart_chip.specs.Transmitter.{room as room_of}
 use Rattle.uart_judges.specs.Actions.{action}
 use Rattle.uart_judges.specs.Findings.{changed, is_at_rest, is_open, latched, put_out, sent_before, taken_from, when}
@@ -117,14 +118,14 @@ still_loop fifo m (SetsModem mcr) i e = absurd i
 still_loop fifo m (ReadsModem mcr) i e = i
 still_loop fifo m _ i e = e
 
-room_of_same : (fifo on : Bool) → on ≡ fifo → room_of fifo ≤ depth (Some on)
+room_of_same : (fifo on : Bool) → on ≡ fifo → room_of fifo Sixteen ≤ depth (Some on)
 room_of_same true true e = omega arith
 room_of_same true false e = absurd (cc)
 room_of_same false true e = omega arith
 room_of_same false false e = omega arith
 
-still_room : (fifo : Bool) (h : Option Bool) (x : Action) → IsStill fifo x → room_of fifo ≤ depth h →
-    room_of fifo ≤ depth (option_or (fifo_of x) h)
+still_room : (fifo : Bool) (h : Option Bool) (x : Action) → IsStill fifo x → room_of fifo Sixteen ≤ depth h →
+    room_of fifo Sixteen ≤ depth (option_or (fifo_of x) h)
 still_room fifo h (ControlsFifo fcr) i e = absurd i
 still_room fifo h (IdentifiesInterrupt isr) i e = room_of_same fifo _ i
 still_room fifo h _ i e = e
@@ -221,7 +222,7 @@ stays_reading fifo e i a w =
 pub record Opened (fifo : Bool) (a : Auditor) : Type 0 where
   pub opened : a.setup.is_open ≡ Some true
   pub loopback : loops_back a.setup.modem ≡ false
-  pub room : room_of fifo ≤ depth a.setup.has_fifo
+  pub room : room_of fifo Sixteen ≤ depth a.setup.has_fifo
   pub not_looked : a.latch.has_looked ≡ false
   pub not_low : a.latch.has_low ≡ false
 

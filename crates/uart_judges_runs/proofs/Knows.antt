@@ -8,7 +8,6 @@ use Rattle.uart_spec.specs.Bits.{flag, has, has_any}
 use Rattle.uart_spec.specs.declared.registers.fifo_control.FCR.{FCR}
 use Rattle.uart_spec.specs.declared.registers.fifo_control.TheConstants.FCR as fcr_bits
 use Rattle.uart_spec.specs.declared.registers.fifo_trigger_level.FifoTriggerLevel.{FifoTriggerLevel}
-use Rattle.uart_spec.specs.declared.registers.fifo_trigger_level.FifoTriggerLevel.TheVariants.{One}
 use Rattle.uart_spec.specs.declared.registers.interrupt_enable.TheConstants.IER as ier_bits
 use Rattle.uart_spec.specs.declared.registers.interrupt_status.TheConstants.ISR as isr_bits
 use Rattle.uart_spec.specs.declared.registers.interrupt_type.InterruptType.{InterruptType}
@@ -23,7 +22,9 @@ use Rattle.uart_chip.specs.declared.receiver.Character.{Character}
 use Rattle.uart_chip.specs.Chip.{ChipState, identification, interrupt, is_dlab_set, is_loopback, is_same, line_status, trigger_level}
 use Rattle.uart_chip.specs.Masks as masks
 use Rattle.uart_chip.specs.Receiver.{ReceiverState, characters_of, is_data_pending, is_timed_out, take_front}
+use Rattle.uart_spec.specs.declared.setup.FifoSize.TheVariants.{Sixteen}
 use Rattle.uart_chip.specs.Transmitter.{room}
+use Rattle.uart_chip.proofs.Sizes.{level_least, some_characters}
 use Rattle.uart_chip.proofs.Bits.{has_and, has_one}
 use Rattle.uart_chip.proofs.FifoBits.{all_shown}
 use Rattle.uart_chip.proofs.statuses.Status.{status_data}
@@ -251,19 +252,19 @@ module _ (c : ChipState) where
   abbrev modem_on : Bool
   modem_on = has_any c.latches.ier ier_bits.MODEM_STATUS.0 && not (c.modem.deltas == 0)
 
-some_characters : (level : FifoTriggerLevel) (n : ℕ) → characters_of level ≤ n → 1 ≤ n
-some_characters One n h = h
-some_characters _ n h = omega (arith, h)
-
 one_at_least : (r : ReceiverState) (fifo : Bool) → is_data_pending fifo r ≡ true → 1 ≤ length r.queue
-one_at_least r true e = some_characters r.trigger (length r.queue) (leb-true (characters_of r.trigger) (length r.queue) e)
+one_at_least r true e =
+    let some = some_characters r.size r.trigger in
+    let wide = leb-true (characters_of r.size r.trigger) (length r.queue) e in omega (arith, some, wide)
 one_at_least r false e = let some : 0 < length r.queue = ltb-true 0 (length r.queue) e in omega (arith, some)
 
 shown_data : (fifo : Option Bool) (trigger : Option FifoTriggerLevel) (on : Bool) (r : ReceiverState) → IsSo fifo (λ b. on ≡ b) →
     IsSo trigger (λ level. r.trigger ≡ level) → is_data_pending on r ≡ true → level fifo trigger ≤ length r.queue
 shown_data (Some true) (Some t) on r f k e =
     let wide : is_data_pending true r ≡ true = sym (ap (λ (b : Bool). is_data_pending b r) f) ∙ e in
-    subst (λ (t : FifoTriggerLevel). characters_of t ≤ length r.queue) k (leb-true (characters_of r.trigger) (length r.queue) wide)
+    let least = level_least r.size r.trigger in
+    let enough = leb-true (characters_of r.size r.trigger) (length r.queue) wide in
+    subst (λ (t : FifoTriggerLevel). characters_of Sixteen t ≤ length r.queue) k (omega (arith, least, enough))
 shown_data (Some true) None on r f k e = one_at_least r on e
 shown_data (Some false) trigger on r f k e = one_at_least r on e
 shown_data None trigger on r f k e = one_at_least r on e
@@ -347,14 +348,14 @@ after_waiting n c d s _ is h f k w = as_long n _ _ h.0.waiting w
 -- ---- the bytes that were sent
 
 abbrev pub IsSent : (n left : ℕ) → ChipState → Type 0
-IsSent n left c = min n (room c.fifo) ≤ length c.transmitter.queue + left
+IsSent n left c = min n (room c.fifo Sixteen) ≤ length c.transmitter.queue + left
 
 pub none_sent : (space waiting : ℕ) → min 0 space ≤ waiting
 none_sent space waiting = omega arith
 
 still_sent : (n left : ℕ) (rests : Bool) (c d : ChipState) → d.fifo ≡ c.fifo → d.transmitter.queue ≡ c.transmitter.queue →
     IsSent n left c → IsSent (next_count n rests false) (if rests then 0 else left) d
-still_sent n left true c d e f h = none_sent (room d.fifo) (length d.transmitter.queue + 0)
+still_sent n left true c d e f h = none_sent (room d.fifo Sixteen) (length d.transmitter.queue + 0)
 still_sent n left false c d e f h = rw (e, f) h
 
 one_sent : (n left before after space : ℕ) (rests : Bool) → (after ≡ before + 1) ⊎ (space ≤ after) → 1 ≤ space →
@@ -369,7 +370,7 @@ controlled_sent : (n left : ℕ) (rests cleared on same reset : Bool) (c d : Chi
     cleared ≡ (not same || (on && reset)) → same ≡ is_same c.fifo on → d.fifo ≡ on →
     d.transmitter.queue ≡ (if cleared then [] else c.transmitter.queue) → IsSent n left c →
     IsSent (next_count n rests false) (if rests then 0 else left) d
-controlled_sent n left true cleared on same reset c d f e i fifo queue h = none_sent (room d.fifo) (length d.transmitter.queue + 0)
+controlled_sent n left true cleared on same reset c d f e i fifo queue h = none_sent (room d.fifo Sixteen) (length d.transmitter.queue + 0)
 controlled_sent n left false true on same reset c d f e i fifo queue h = absurd (let g : true ≡ false = f refl in cc)
 controlled_sent n left false false on true reset c d f e i fifo queue h =
     still_sent n left false c d (fifo ∙ sym (same_true c.fifo on (sym i))) queue h
@@ -378,8 +379,8 @@ controlled_sent n left false false on false reset c d f e i fifo queue h = absur
 -- a byte may have been sent, or taken
 maybe_sent : (n left : ℕ) (rests : Bool) (most : ℕ) (c d : ChipState) → MayMove most c d → IsSent n left c →
     IsSent (next_count n rests false) (if rests then 0 else left) d
-maybe_sent n left true most c d h w = none_sent (room d.fifo) (length d.transmitter.queue + 0)
-maybe_sent n left false most c d h w = rw h.fifo (as_many n left (length c.transmitter.queue) _ (room c.fifo) h.queued w)
+maybe_sent n left true most c d h w = none_sent (room d.fifo Sixteen) (length d.transmitter.queue + 0)
+maybe_sent n left false most c d h w = rw h.fifo (as_many n left (length c.transmitter.queue) _ (room c.fifo Sixteen) h.queued w)
   where
     as_many : (n left before after space : ℕ) → min before space ≤ after → min n space ≤ before + left → min n space ≤ after + left
     as_many n left before after space p q = omega (arith, p, q)
@@ -394,7 +395,8 @@ pub after_sent : (n left : ℕ) (c d : ChipState) (s : Step) (x : Action) → s.
     IsSent (next_count n (shows_room s) (sends x)) (if shows_room s then 0 else left) d
 after_sent n left c d s (Sends byte) is h f w =
     subst (λ (d : ChipState). IsSent (next_count n (shows_room s) true) (if shows_room s then 0 else left) d) (sym h)
-    (one_sent n left (length c.transmitter.queue) _ (room c.fifo) (shows_room s) (loaded c.fifo _ c.transmitter) (one_fits c.fifo) w)
+    (one_sent n left (length c.transmitter.queue) _ (room c.fifo Sixteen) (shows_room s) (loaded c.fifo _ c.transmitter)
+    (one_fits c.fifo) w)
 after_sent n left c d s (Receives byte) is h f w =
     still_sent n left (shows_room s) c d (ap (λ (c : ChipState). c.fifo) h) (ap (λ (c : ChipState). c.transmitter.queue) h) w
 after_sent n left c d s (ControlsFifo fcr) is h f w =

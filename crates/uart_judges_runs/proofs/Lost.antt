@@ -17,7 +17,9 @@ use Rattle.uart_spec.specs.declared.registers.interrupt_type.InterruptType.TheVa
 use Rattle.uart_chip.specs.Chip.{ChipState, cut_of, is_dlab_set, is_loopback}
 use Rattle.uart_chip.specs.Machine.{MachineState, MachineStep, at_access}
 use Rattle.uart_chip.specs.Sound.{IsSound}
+use Rattle.uart_spec.specs.declared.setup.FifoSize.TheVariants.{Sixteen}
 use Rattle.uart_chip.specs.Transmitter.{TransmitterState, load, room as room_of}
+use Rattle.uart_chip.proofs.soundness.Sixteen.{queue_room_16, sends_16}
 use Rattle.uart_chip.proofs.soundness.Sounds.{sound_access, sound_step}
 use Rattle.uart_run.proofs.Latches.{Kept, kept_access}
 use Rattle.uart_judges.specs.Setups.{next_is_open}
@@ -90,7 +92,7 @@ positive n e = let h : 0 < n = grind (arith, common_steps) in omega (arith, h)
 
 -- ---- a byte beyond the room
 
-room_known : (o : Option Bool) (on : Bool) → IsSo o (λ b. on ≡ b) → room_of on ≤ depth o
+room_known : (o : Option Bool) (on : Bool) → IsSo o (λ b. on ≡ b) → room_of on Sixteen ≤ depth o
 room_known None true so = omega arith
 room_known None false so = omega arith
 room_known (Some true) true so = omega arith
@@ -110,7 +112,7 @@ counted_sent false sent least one h = h
 is_full : (space most sent queued left : ℕ) → space ≤ most → most ≤ sent → min sent space ≤ queued + left → space ≤ queued + left
 is_full space most sent queued left p q h = omega (arith, p, q, h)
 
-same_length : (fifo : Bool) (byte : ℕ) (queue : List ℕ) → room_of fifo ≤ length queue → length queue ≤ room_of fifo →
+same_length : (fifo : Bool) (byte : ℕ) (queue : List ℕ) → room_of fifo Sixteen ≤ length queue → length queue ≤ room_of fifo Sixteen →
     length (if fifo then queue else byte ∷ []) ≡ length queue
 same_length true byte queue p q = refl
 same_length false byte queue p q = one (length queue) p q
@@ -125,12 +127,17 @@ same_queue false byte queue e = absurd (cc)
 not_less : (n m : ℕ) → m ≤ n → nat_lt n m ≡ false
 not_less n m h = grind (arith, common_steps)
 
-dropped : (c : ChipState) (byte : ℕ) → length c.transmitter.queue ≤ room_of c.fifo → room_of c.fifo ≤ length c.transmitter.queue →
+-- what the queue holds fits into one of 16
+abbrev pub Fits : ChipState → Type 0
+Fits c = (c.transmitter.size ≡ Sixteen) × (length c.transmitter.queue ≤ room_of c.fifo Sixteen)
+
+dropped : (c : ChipState) (byte : ℕ) → Fits c → room_of c.fifo Sixteen ≤ length c.transmitter.queue →
     IsDropped c (record c { transmitter = load c.fifo byte c.transmitter })
 dropped c byte fits full =
-    rw (not_less (length c.transmitter.queue) (room_of c.fifo) full) (record {
+    let here : room_of c.fifo c.transmitter.size ≤ length c.transmitter.queue = rw fits.0 full in
+    rw (not_less (length c.transmitter.queue) (room_of c.fifo c.transmitter.size) here) (record {
       counted = refl;
-      no_more = same_length c.fifo byte c.transmitter.queue full fits;
+      no_more = same_length c.fifo byte c.transmitter.queue full fits.1;
       with_fifo = λ on. same_queue c.fifo byte c.transmitter.queue on;
     })
 
@@ -138,20 +145,20 @@ no_bytes_left : (space queued left : ℕ) → space ≤ queued + left → left �
 no_bytes_left space queued left h e = omega (arith, h, e)
 
 module _ (a : Auditor) (left : ℕ) (c : ChipState) (n : MachineState) (s : Step) (same : s.setup ≡ a.setup) (k : KnowsWhatIs a left c)
-    (fits : length c.transmitter.queue ≤ room_of c.fifo) where
+    (fits : Fits c) where
   fifos : IsSo s.setup.has_fifo (λ on. c.fifo ≡ on)
   fifos = subst (λ (setup : Setup). IsSo setup.has_fifo (λ on. c.fifo ≡ on)) (sym same) k.fifos
 
   beyond : (byte : ℕ) → Does (Sends byte) c n.chip → nat_le (depth s.setup.has_fifo) (sent_before a s) ≡ true →
-      (room_of c.fifo ≤ length c.transmitter.queue + left) × (left ≡ 0 → IsDropped c n.chip)
+      (room_of c.fifo Sixteen ≤ length c.transmitter.queue + left) × (left ≡ 0 → IsDropped c n.chip)
   beyond byte h e =
       let most : depth s.setup.has_fifo ≤ a.sent =
       counted_sent s.has_rested a.sent (depth s.setup.has_fifo) (some_depth s.setup.has_fifo) (leb-true _ (sent_before a s) e) in
-      let full : room_of c.fifo ≤ length c.transmitter.queue + left =
-      is_full (room_of c.fifo) (depth s.setup.has_fifo) a.sent _ left (room_known s.setup.has_fifo c.fifo fifos) most k.sent in (
+      let full : room_of c.fifo Sixteen ≤ length c.transmitter.queue + left =
+      is_full (room_of c.fifo Sixteen) (depth s.setup.has_fifo) a.sent _ left (room_known s.setup.has_fifo c.fifo fifos) most k.sent in (
         full,
         λ none. subst (λ (d : ChipState). IsDropped c d) (sym h)
-            (dropped c (cut_of c byte) fits (no_bytes_left (room_of c.fifo) (length c.transmitter.queue) left full none)),
+            (dropped c (cut_of c byte) fits (no_bytes_left (room_of c.fifo Sixteen) (length c.transmitter.queue) left full none)),
       )
 
   room_lost : (x : Action) → Does x c n.chip → Lost a left c n
@@ -180,7 +187,7 @@ module _ (a : Auditor) (left : ℕ) (c : ChipState) (n : MachineState) (s : Step
       let on : is_loopback c.latches ≡ true = is_looping s.setup.modem loopback (and_parts _ _ e).0 in
       stays_inside c.transmitter.wire n (ap (λ (c : ChipState). is_loopback c.latches) h ∙ on)
       (ap (λ (c : ChipState). c.transmitter.wire) h
-      ∙ wire_load (nat_lt (length c.transmitter.queue) (room_of c.fifo)) c.transmitter _ _ refl refl)
+      ∙ wire_load (nat_lt (length c.transmitter.queue) (room_of c.fifo c.transmitter.size)) c.transmitter _ _ refl refl)
 
   given_lost : (byte : ℕ) → Does (Sends byte) c n.chip → Lost a left c n (given a s.setup byte)
   given_lost byte h =
@@ -216,17 +223,17 @@ module _ (a : Auditor) (left : ℕ) (c : ChipState) (n : MachineState) (s : Step
       (nat_lt 0 a.sent && action_empties fcr_bits.TX_FIFO_RESET.0 s.setup.has_fifo (ControlsFifo fcr)) ≡ true →
       Loses found.ResetWhileSending a left c n
   reset fcr h e = (
-    one (length c.transmitter.queue) (room_of c.fifo) a.sent (positive a.sent (and_parts _ _ e).0) some_room k.sent,
+    one (length c.transmitter.queue) (room_of c.fifo Sixteen) a.sent (positive a.sent (and_parts _ _ e).0) some_room k.sent,
     queue_gone c.transmitter.queue n.chip.transmitter.queue _ (is_cleared 2 s.setup.has_fifo fcr c fifos (and_parts _ _ e).1) h.queued,
   )
     where
       one : (queued space sent : ℕ) → 1 ≤ sent → 1 ≤ space → min sent space ≤ queued + left → 1 ≤ queued + left
       one queued space sent p q h = omega (arith, p, q, h)
 
-      some_room : 1 ≤ room_of c.fifo
+      some_room : 1 ≤ room_of c.fifo Sixteen
       some_room = some c.fifo
         where
-          some : (fifo : Bool) → 1 ≤ room_of fifo
+          some : (fifo : Bool) → 1 ≤ room_of fifo Sixteen
           some true = omega arith
           some false = omega arith
 
@@ -345,7 +352,7 @@ module _ (a : Auditor) (left : ℕ) (c : ChipState) (n : MachineState) where
 -- ---- an access
 
 lost_at : (a : Auditor) (left : ℕ) (c : ChipState) (n : MachineState) (s : Step) (x : Action) → s.action ≡ x → s.setup ≡ a.setup →
-    KnowsWhatIs a left c → length c.transmitter.queue ≤ room_of c.fifo → Does x c n.chip → AllLose (all_found a s) a left c n
+    KnowsWhatIs a left c → Fits c → Does x c n.chip → AllLose (all_found a s) a left c n
 lost_at a left c n s x is same k fits h =
     all_lost a left c n s (record {
       room =
@@ -441,8 +448,11 @@ record Shown (past : List Entry) (left : ℕ) (m : MachineState) (e : Entry) (n 
   pub sound : IsSound n
   pub knows : KnowsWhatIs (known (e ∷ past)) (left_after past e left m n) n.chip
 
-fits_in : (m : MachineState) → IsSound m → length (at_access m).chip.transmitter.queue ≤ room_of (at_access m).chip.fifo
-fits_in m sound = (sound_access m sound).chip.transmitter.in_room
+fits_in : (m : MachineState) → IsSound m → Fits (at_access m).chip
+fits_in m sound =
+    let c = (at_access m).chip in
+    let w = (sound_access m sound).chip in
+    (sends_16 c w, queue_room_16 c w)
 
 made : (past : List Entry) (left : ℕ) (m : MachineState) (e : Entry) (n : MachineState) (access : RegisterAccess) (x : Action) →
     e.happening ≡ Access access → IsSound m → KnowsWhatIs (known past) left m.chip → MachineStep m access n →
@@ -554,7 +564,7 @@ nothing_known c model = record {
   fifos = tt;
   trigger = tt;
   waiting = none (length c.receiver.queue);
-  sent = no_bytes (room_of c.fifo) (length c.transmitter.queue);
+  sent = no_bytes (room_of c.fifo Sixteen) (length c.transmitter.queue);
 }
   where
     none : (n : ℕ) → 0 ≤ n

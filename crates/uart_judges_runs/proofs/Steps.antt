@@ -14,6 +14,7 @@ use Rattle.uart_spec.specs.declared.registers.line_control.LCR.{LCR}
 use Rattle.uart_spec.specs.declared.registers.line_control.TheConstants.LCR as lcr_bits
 use Rattle.uart_spec.specs.declared.registers.line_status.TheConstants.LSR as lsr_bits
 use Rattle.uart_spec.specs.declared.registers.offsets.TheConstants as offsets
+use Rattle.uart_spec.specs.declared.setup.FifoSize.TheVariants.{Sixteen}
 use Rattle.uart_chip.specs.Transmitter.{room as room_of}
 use Rattle.uart_chip.proofs.Bits.{has_one, has_or}
 use Rattle.uart_chip.proofs.conservation.Blocks.{is_quiet}
@@ -112,12 +113,12 @@ looked_now (Some false) x line is e = rw is refl
 -- ---- what is known after an access, by its action
 
 knows_at : (fifo : Bool) (a : Auditor) (s : Step) (x : Action) → s.action ≡ x → is_open (next_is_open a.setup.is_open x) ≡ false →
-    loops_back (option_or (modem_of x) a.setup.modem) ≡ false → room_of fifo ≤ depth (option_or (fifo_of x) a.setup.has_fifo) →
+    loops_back (option_or (modem_of x) a.setup.modem) ≡ false → room_of fifo Sixteen ≤ depth (option_or (fifo_of x) a.setup.has_fifo) →
     KnowsAsTaken fifo (next a s)
 knows_at fifo a s x is dlab loopback room = record {
   dlab = subst (λ (x : Action). is_open (next_is_open a.setup.is_open x) ≡ false) (sym is) dlab;
   loopback = subst (λ (x : Action). loops_back (option_or (modem_of x) a.setup.modem) ≡ false) (sym is) loopback;
-  room = subst (λ (x : Action). room_of fifo ≤ depth (option_or (fifo_of x) a.setup.has_fifo)) (sym is) room;
+  room = subst (λ (x : Action). room_of fifo Sixteen ≤ depth (option_or (fifo_of x) a.setup.has_fifo)) (sym is) room;
 }
 
 -- ---- a byte is read
@@ -212,12 +213,13 @@ count_one : (b k : ℕ) (r h : Bool) → h ≡ true → b ≤ k → next_count b
 count_one b k true h e few = rw e (omega arith)
 count_one b k false h e few = rw e (omega arith)
 
-pub sending_sends : (fifo : Bool) (k byte : ℕ) → k < room_of fifo → Moves (Sending fifo k) (Write offsets.DATA byte) (Sending fifo (k + 1))
+pub sending_sends : (fifo : Bool) (k byte : ℕ) → k < room_of fifo Sixteen →
+    Moves (Sending fifo k) (Write offsets.DATA byte) (Sending fifo (k + 1))
 sending_sends fifo k byte room e is a w =
     let s = step_from a e in
     let x : s.action ≡ Sends byte = ap (action a.setup.is_open) is ∙ ap (λ (o : Option Bool). data_written o byte) w.looked in
     let few : sent_before a s ≤ k = few_before s.has_rested a.sent k w.sent in
-    let fits : room_of fifo ≤ depth s.setup.has_fifo = w.knows.room in (
+    let fits : room_of fifo Sixteen ≤ depth s.setup.has_fifo = w.knows.room in (
       all_spared a s (six_at a s (Sends byte) x (record {
         room = has_room (depth s.setup.has_fifo) (sent_before a s) _ (omega (arith, few, fits, room));
         output = goes_out a s byte w.knows.loopback;
@@ -260,7 +262,7 @@ opens fifo lcr e is a k =
       record {
         opened = ap (next_is_open a.setup.is_open) x ∙ ap Some on;
         loopback = subst (λ (x : Action). loops_back (option_or (modem_of x) a.setup.modem) ≡ false) (sym x) k.loopback;
-        room = subst (λ (x : Action). room_of fifo ≤ depth (option_or (fifo_of x) a.setup.has_fifo)) (sym x) k.room;
+        room = subst (λ (x : Action). room_of fifo Sixteen ≤ depth (option_or (fifo_of x) a.setup.has_fifo)) (sym x) k.room;
         not_looked = since_reset a.latch.has_looked _ _ (ap opens_action x ∙ on) (ap looks_at_line x);
         not_low = since_reset a.latch.has_low _ _ (ap opens_action x ∙ on) (ap sets_low x);
       },
@@ -284,7 +286,7 @@ reads_divisor fifo e a x w =
       record {
         opened = ap (next_is_open a.setup.is_open) x ∙ w.opened;
         loopback = subst (λ (x : Action). loops_back (option_or (modem_of x) a.setup.modem) ≡ false) (sym x) w.loopback;
-        room = subst (λ (x : Action). room_of fifo ≤ depth (option_or (fifo_of x) a.setup.has_fifo)) (sym x) w.room;
+        room = subst (λ (x : Action). room_of fifo Sixteen ≤ depth (option_or (fifo_of x) a.setup.has_fifo)) (sym x) w.room;
         not_looked = since_none a.latch.has_looked _ _ w.not_looked (ap looks_at_line x);
         not_low = since_none a.latch.has_low _ _ w.not_low (ap sets_low x);
       },
@@ -350,7 +352,7 @@ shows_open fifo shown on e is a w =
       record {
         opened = ap (next_is_open a.setup.is_open) x ∙ ap Some on;
         loopback = subst (λ (x : Action). loops_back (option_or (modem_of x) a.setup.modem) ≡ false) (sym x) w.loopback;
-        room = subst (λ (x : Action). room_of fifo ≤ depth (option_or (fifo_of x) a.setup.has_fifo)) (sym x) w.room;
+        room = subst (λ (x : Action). room_of fifo Sixteen ≤ depth (option_or (fifo_of x) a.setup.has_fifo)) (sym x) w.room;
         not_looked = since_none a.latch.has_looked _ _ w.not_looked (ap looks_at_line x);
         not_low = since_none a.latch.has_low _ _ w.not_low (ap sets_low x);
       },
@@ -392,7 +394,7 @@ pub record IsLevel (value : ℕ) : Type 0 where
   pub keeps_queued : has value fcr_bits.TX_FIFO_RESET.0 ≡ false
 
 empties_none : (reset value : ℕ) (h : Option Bool) → has value fcr_bits.FIFO_ENABLE.0 ≡ true → has value reset ≡ false →
-    room_of true ≤ depth h → empties reset h (record { 0 = value }) ≡ false
+    room_of true Sixteen ≤ depth h → empties reset h (record { 0 = value }) ≡ false
 empties_none reset value None on e room = rw (on, e) refl
 empties_none reset value (Some true) on e room = rw (on, e) refl
 empties_none reset value (Some false) on e room = absurd (omega arith)
@@ -419,6 +421,6 @@ sets_level value level e is a k =
       knows_at true a s (ControlsFifo v) x k.dlab k.loopback (on_room _ level.on),
     )
   where
-    on_room : (on : Bool) → on ≡ true → room_of true ≤ depth (Some on)
+    on_room : (on : Bool) → on ≡ true → room_of true Sixteen ≤ depth (Some on)
     on_room true e = omega arith
     on_room false e = absurd (cc)

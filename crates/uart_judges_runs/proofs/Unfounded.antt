@@ -7,6 +7,7 @@ use Rattle.uart_16550.specs.Driver.{Fields}
 use Rattle.uart_events.specs.declared.call.Answer.{Answer}
 use Rattle.uart_events.specs.declared.call.Call.{Call}
 use Rattle.uart_calls.specs.Lists.{IsListOf}
+use Rattle.uart_spec.specs.declared.setup.FifoSize.TheVariants.{Sixteen}
 use Rattle.uart_chip.specs.Transmitter.{room}
 use Rattle.uart_judges.specs.Findings.{findings_at, is_held, is_open}
 use Rattle.uart_judges.specs.History.{known}
@@ -131,7 +132,7 @@ shut : (o : Option Bool) → is_open o ≡ false → IsSo o (λ on. on ≡ false
 shut None e = tt
 shut (Some on) e = e
 
-on_room : (fifo : Bool) (o : Option Bool) → fifo ≡ true → room fifo ≤ depth o → IsSo o (λ on. on ≡ true)
+on_room : (fifo : Bool) (o : Option Bool) → fifo ≡ true → room fifo Sixteen ≤ depth o → IsSo o (λ on. on ≡ true)
 on_room true None e few = tt
 on_room true (Some true) e few = refl
 on_room true (Some false) e few = absurd (omega arith)

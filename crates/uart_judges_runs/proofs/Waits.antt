@@ -11,6 +11,7 @@ use Rattle.uart_chip.specs.Receiver.{ReceiverState, come_back, enter, replace}
 use Rattle.uart_events.specs.declared.event.ArrivalMark.TheVariants.{Dropped}
 use Rattle.uart_chip.specs.Receiver as receiver
 use Rattle.uart_chip.specs.Sound.{IsSound}
+use Rattle.uart_spec.specs.declared.setup.FifoSize.TheVariants.{Sixteen}
 use Rattle.uart_chip.specs.Transmitter.{looped_byte, room}
 use Rattle.uart_chip.proofs.lasting.Lasting.{LastsInEvents, chip_lasts-before}
 use Rattle.uart_run.proofs.Latches.{Kept, kept_access}
@@ -21,7 +22,7 @@ use Rattle.uart_judges_runs.proofs.Knows.{dlab_as, fifos_as, looping_as, trigger
 -- as many characters wait, at least, and no more than there is room for
 pub record Waits (n : ℕ) (level : FifoTriggerLevel) (fifo : Bool) (r : ReceiverState) : Type 0 where
   pub at_least : n ≤ length r.queue
-  pub in_room : length r.queue ≤ room fifo
+  pub in_room : length r.queue ≤ room fifo r.size
   pub trigger : r.trigger ≡ level
 
 module _ (n : ℕ) (level : FifoTriggerLevel) where
@@ -51,12 +52,12 @@ module _ (n : ℕ) (level : FifoTriggerLevel) where
   fits_more queue new space e = let free : length queue < space = grind (arith, common_steps) in simp length-append (omega arith)
 
   waits_enter : (fifo : Bool) (new : Character) (r : ReceiverState) → Waits n level fifo r → Waits n level fifo (enter fifo new r)
-  waits_enter fifo new r w = go (nat_lt (length r.queue) (room fifo)) refl
+  waits_enter fifo new r w = go (nat_lt (length r.queue) (room fifo r.size)) refl
     where
-      go : (b : Bool) → nat_lt (length r.queue) (room fifo) ≡ b → Waits n level fifo (enter fifo new r)
+      go : (b : Bool) → nat_lt (length r.queue) (room fifo r.size) ≡ b → Waits n level fifo (enter fifo new r)
       go true e = rw e (record {
         at_least = one_more r.queue new w.at_least;
-        in_room = fits_more r.queue new (room fifo) e;
+        in_room = fits_more r.queue new (room fifo r.size) e;
         trigger = w.trigger;
       })
       go false e = rw e (waits_full fifo new r w)
@@ -104,9 +105,10 @@ at_the_access a left m sound k =
       sent = grown d.fifo fifo;
     }
   where
-    grown : (fifo : Bool) → fifo ≡ m.chip.fifo → min a.sent (room fifo) ≤
+    grown : (fifo : Bool) → fifo ≡ m.chip.fifo → min a.sent (room fifo Sixteen) ≤
         length (at_access m).chip.transmitter.queue +
         (left + (length m.chip.transmitter.queue - length (at_access m).chip.transmitter.queue))
     grown fifo e =
         rw e
-        (left_grows a.sent (room m.chip.fifo) (length (at_access m).chip.transmitter.queue) left (length m.chip.transmitter.queue) k.sent)
+        (left_grows a.sent (room m.chip.fifo Sixteen) (length (at_access m).chip.transmitter.queue) left
+        (length m.chip.transmitter.queue) k.sent)

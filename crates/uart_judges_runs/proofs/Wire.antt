@@ -57,7 +57,7 @@ wire_accesses : (wire : List ℕ) → LastsInAccesses (λ t. t.wire ≡ wire)
 wire_accesses wire = record { pending = λ t pending h. h; cleared = λ t pending h. h }
 
 wire_load : (fifo : Bool) (byte : ℕ) (t : TransmitterState) → (load fifo byte t).wire ≡ t.wire
-wire_load fifo byte t = wire_if t _ _ (nat_lt (length t.queue) (room fifo)) refl refl
+wire_load fifo byte t = wire_if t _ _ (nat_lt (length t.queue) (room fifo t.size)) refl refl
 
 wire_data : (c : ChipState) (value : ℕ) → (write_data value c).transmitter.wire ≡ c.transmitter.wire
 wire_data c value = go (is_dlab_set c.latches)

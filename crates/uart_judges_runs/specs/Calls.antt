@@ -9,6 +9,7 @@ use Rattle.uart_spec.specs.declared.registers.modem_control.TheConstants.MCR
 use Rattle.uart_spec.specs.declared.registers.offsets.TheConstants as offsets
 use Rattle.uart_events.specs.declared.call.Call.{Call}
 use Rattle.uart_events.specs.declared.call.Call.TheVariants as call
+use Rattle.uart_spec.specs.declared.setup.FifoSize.TheVariants.{Sixteen}
 use Rattle.uart_chip.specs.Transmitter.{room}
 use Rattle.uart_judges.specs.Findings.{is_open}
 use Rattle.uart_judges.specs.Steps.{depth, loops_back}
@@ -61,4 +62,4 @@ AreTaken fifo accesses = AreTakenFrom fifo false accesses
 pub record KnowsAsTaken (fifo : Bool) (a : Auditor) : Type 0 where
   pub dlab : is_open a.setup.is_open ≡ false
   pub loopback : loops_back a.setup.modem ≡ false
-  pub room : room fifo ≤ depth a.setup.has_fifo
+  pub room : room fifo Sixteen ≤ depth a.setup.has_fifo

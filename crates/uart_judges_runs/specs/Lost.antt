@@ -13,6 +13,7 @@ use Rattle.uart_events.specs.declared.event.Event.{Event as ScheduleEvent}
 use Rattle.uart_events.specs.declared.event.Event.TheVariants as scheduled
 use Rattle.uart_chip.specs.Chip.{ChipState, arrive, is_dlab_set, is_loopback}
 use Rattle.uart_chip.specs.Machine.{MachineState, MachineStep, at_access, perform}
+use Rattle.uart_spec.specs.declared.setup.FifoSize.TheVariants.{Sixteen}
 use Rattle.uart_chip.specs.Transmitter.{room}
 use Rattle.uart_judges.specs.Findings.{findings_at}
 use Rattle.uart_judges.specs.History.{known, step_from}
@@ -41,7 +42,7 @@ pub record KnowsWhatIs (a : Auditor) (left : ℕ) (c : ChipState) : Type 0 where
   pub fifos : IsSo a.setup.has_fifo (λ on. c.fifo ≡ on)
   pub trigger : IsSo a.setup.trigger (λ level. c.receiver.trigger ≡ level)
   pub waiting : a.waiting ≤ length c.receiver.queue
-  pub sent : min a.sent (room c.fifo) ≤ length c.transmitter.queue + left
+  pub sent : min a.sent (room c.fifo Sixteen) ≤ length c.transmitter.queue + left
 
 -- the same, and it does know DLAB
 pub record KnowsDlab (a : Auditor) (left : ℕ) (c : ChipState) : Type 0 where
@@ -75,7 +76,7 @@ StaysOnWire wire m =
 -- which as many bytes waited as the judge knows of, and one at least
 abbrev pub Loses : Finding → Auditor → (left : ℕ) → ChipState → MachineState → Type 0
 Loses (found.SentBeyondRoom sent space) a left c n =
-    (room c.fifo ≤ length c.transmitter.queue + left) × (left ≡ 0 → IsDropped c n.chip)
+    (room c.fifo Sixteen ≤ length c.transmitter.queue + left) × (left ≡ 0 → IsDropped c n.chip)
 Loses (found.SentIntoLatch byte) a left c n = n.chip.transmitter ≡ c.transmitter
 Loses (found.SentInLoopback byte) a left c n = StaysOnWire c.transmitter.wire n
 Loses found.ResetWhileSending a left c n =

@@ -27,6 +27,8 @@ use Rattle.uart_chip.specs.Chip.{ChipState, is_loopback, is_dlab_set, interrupt,
 use Rattle.uart_chip.specs.Chip.{after_read, after_write, cut_of, control_modem, with_latches}
 use Rattle.uart_chip.specs.Machine.{MachineState, MachineStep, before_access, after_access, at_access, before_mark}
 use Rattle.uart_chip.specs.Sound.{IsSound}
+use Rattle.uart_spec.specs.FifoSize.{characters}
+use Rattle.uart_chip.proofs.Sizes.{at_least_16}
 use Rattle.uart_chip.proofs.Bits.{has_one, has_or, has_not}
 use Rattle.uart_chip.proofs.Lists.{each-append}
 use Rattle.uart_chip.proofs.conservation.Blocks.{is_quiet, Block, Look, Hit, Burst, Other, Divisor, accesses_of, AllQuiet, IsFit}
@@ -288,15 +290,16 @@ record Enters (r s : ReceiverState) : Type 0 where
   pub whole : length r.queue < 16 → Drop r s → ⊥
 
 enters : (r : ReceiverState) (byte errors : ℕ) → Enters r (receiver.arrive false true byte errors r)
-enters r byte errors = go (nat_lt (length r.queue) 16) refl
+enters r byte errors = go (nat_lt (length r.queue) (characters r.size)) refl
   where
-    go : (b : Bool) → nat_lt (length r.queue) 16 ≡ b → Enters r (receiver.arrive false true byte errors r)
+    go : (b : Bool) → nat_lt (length r.queue) (characters r.size) ≡ b → Enters r (receiver.arrive false true byte errors r)
     go true e = rw e (record {
       arrived = refl;
       fuller = λ few. simp length-append (omega arith);
       whole = λ few d. no_drop-set r _ (Arrived r.arrived) marks.Waiting (λ q. cc) refl refl d;
     })
     go false e =
+        let least = at_least_16 r.size in
         let full : 16 ≤ length r.queue = grind (arith, common_steps) in
         rw e (record {
           arrived = refl;

@@ -76,7 +76,7 @@ record CallDid (s t : RingState) : Type 0 where
   pub path : Path MachineStep (ring_machine s) list (ring_machine t)
   pub facts : CallFacts (ring_fields s) list (ring_fields t)
 
-did : (s t : RingState) (c : RingCall) (a : RingAnswer) → Meant c a s t → CallDid s t
+did : (s t : RingState) (c : RingCall) (a : RingAnswer) → Meant MachineStep c a s t → CallDid s t
 did s t c a k = record {
   list = k.list;
   path = k.path;

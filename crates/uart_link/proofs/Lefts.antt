@@ -98,7 +98,7 @@ module _ (bytes : List ℕ) where
               (if b then record c { latches = record c.latches { dll = value } }
               else record c { transmitter = load c.fifo (cut_of c value) c.transmitter }).transmitter
           latched true = p
-          latched false = either_grown _ _ (nat_lt (length c.transmitter.queue) (room c.fifo)) p p
+          latched false = either_grown _ _ (nat_lt (length c.transmitter.queue) (room c.fifo c.transmitter.size)) p p
 
   grown_path : (made : List Access) (m n : MachineState) → Grown bytes m.chip.transmitter → Path MachineStep m made n →
       Grown bytes n.chip.transmitter

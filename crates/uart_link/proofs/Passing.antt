@@ -7,7 +7,8 @@ use Rattle.uart_events.specs.declared.event.Event.TheVariants.{Ticks, Arrive, Li
 use Rattle.uart_spec.specs.declared.access.Access.TheVariants.{Write}
 use Rattle.uart_spec.specs.declared.registers.offsets.TheConstants as offsets
 use Rattle.uart_chip.proofs.conservation.Sends.{sends-tick}
-use Rattle.uart_chip.proofs.soundness.Sounds.{steady_tick, steady_ticks, steady_arrive, steady_read, steady_write, latches-read}
+use Rattle.uart_chip.proofs.soundness.Sounds.{steady_tick, steady_ticks, steady_arrive, steady_read, steady_write, latches-read, size-tick}
+use Rattle.uart_spec.specs.declared.setup.FifoSize.{FifoSize}
 use Rattle.uart_chip.specs.Chip.{ChipState, is_loopback, is_dlab_set, is_thr_empty, interrupt, tick, ticks, after_read, after_write, cut_of}
 use Rattle.uart_chip.specs.Chip.{control_modem, with_latches}
 use Rattle.uart_chip.specs.Machine.{perform}
@@ -232,9 +233,10 @@ record Keeps (t u : TransmitterState) : Type 0 where
   pub queue : length t.queue ≤ length u.queue
   pub capacity : u.capacity ≡ t.capacity
   pub char_ticks : u.char_ticks ≡ t.char_ticks
+  pub size : u.size ≡ t.size
 
 keeps-refl : (t : TransmitterState) → Keeps t t
-keeps-refl t = record { wire = refl; place = refl; queue = omega arith; capacity = refl; char_ticks = refl }
+keeps-refl t = record { wire = refl; place = refl; queue = omega arith; capacity = refl; char_ticks = refl; size = refl }
 
 due_kept : (goal : ℕ) (c d : ChipState) (n : ℕ) → is_loopback d.latches ≡ false → Keeps c.transmitter d.transmitter →
     DueTicks goal c n → DueTicks goal d n
@@ -265,7 +267,7 @@ keeps_if t c d false p q = q
 
 -- only the interrupt is told or not
 keeps_pending : (t : TransmitterState) (pending : Bool) → Keeps t (record t { is_thr_pending = pending })
-keeps_pending t pending = record { wire = refl; place = refl; queue = omega arith; capacity = refl; char_ticks = refl }
+keeps_pending t pending = record { wire = refl; place = refl; queue = omega arith; capacity = refl; char_ticks = refl; size = refl }
 
 read_keeps : (offset : ℕ) (c : ChipState) → Keeps c.transmitter (after_read offset c).transmitter
 read_keeps offset c =
@@ -277,21 +279,22 @@ read_keeps offset c =
 
 -- a byte is put last, or one that waits without FIFO is replaced
 load_keeps : (fifo : Bool) (byte : ℕ) (t : TransmitterState) → IsSoundTransmitter fifo t → Keeps t (load fifo byte t)
-load_keeps fifo byte t w = go (nat_lt (length t.queue) (room fifo)) refl
+load_keeps fifo byte t w = go (nat_lt (length t.queue) (room fifo t.size)) refl
   where
-    kept : (on : Bool) → length t.queue ≤ room on → length t.queue ≤ length (if on then t.queue else byte ∷ [])
+    kept : (on : Bool) → length t.queue ≤ room on t.size → length t.queue ≤ length (if on then t.queue else byte ∷ [])
     kept true r = omega arith
     kept false r = r
 
-    go : (free : Bool) → nat_lt (length t.queue) (room fifo) ≡ free → Keeps t (load fifo byte t)
+    go : (free : Bool) → nat_lt (length t.queue) (room fifo t.size) ≡ free → Keeps t (load fifo byte t)
     go true e = rw e (record {
       wire = refl;
       place = refl;
       queue = let k = length-append t.queue (byte ∷ []) in omega (arith, k);
       capacity = refl;
       char_ticks = refl;
+      size = refl;
     })
-    go false e = rw e (record { wire = refl; place = refl; queue = kept fifo w.in_room; capacity = refl; char_ticks = refl })
+    go false e = rw e (record { wire = refl; place = refl; queue = kept fifo w.in_room; capacity = refl; char_ticks = refl; size = refl })
 
 write_keeps : (offset value : ℕ) (c : ChipState) → IsMild (Write offset value) → IsSoundChip c →
     Keeps c.transmitter (after_write offset value c).transmitter
@@ -383,17 +386,18 @@ arrivals_spend goal = record {
 
 -- ---- the room of an end
 
--- outside of loopback: how many bytes the wire has room for, how many arrivals the journal has, and the ticks of a
--- character. Nothing changes them
-pub record HasRooms (bytes arrivals ticks : ℕ) (c : ChipState) (none : ℕ) : Type 0 where
+-- outside of loopback: how many bytes the wire has room for, how many arrivals the journal has, the ticks of a
+-- character, and the size of the FIFO. Nothing changes them
+pub record HasRooms (bytes arrivals ticks : ℕ) (size : FifoSize) (c : ChipState) (none : ℕ) : Type 0 where
   pub loopback : is_loopback c.latches ≡ false
   pub capacity : c.transmitter.capacity ≡ bytes
   pub marks : length c.receiver.marks ≡ arrivals
   pub char_ticks : c.transmitter.char_ticks ≡ ticks
+  pub same_size : c.transmitter.size ≡ size
 
-module _ (bytes arrivals ticks_each : ℕ) where
+module _ (bytes arrivals ticks_each : ℕ) (size : FifoSize) where
   abbrev Rooms : ChipState → ℕ → Type 0
-  Rooms = HasRooms bytes arrivals ticks_each
+  Rooms = HasRooms bytes arrivals ticks_each size
 
   rooms_kept : (c d : ChipState) (n k : ℕ) → is_loopback d.latches ≡ false → Keeps c.transmitter d.transmitter →
       length d.receiver.marks ≡ length c.receiver.marks → Rooms c n → Rooms d k
@@ -402,6 +406,7 @@ module _ (bytes arrivals ticks_each : ℕ) where
     capacity = kept.capacity ∙ h.capacity;
     marks = known ∙ h.marks;
     char_ticks = kept.char_ticks ∙ h.char_ticks;
+    same_size = kept.size ∙ h.same_size;
   }
 
   rooms_tick : (c : ChipState) (n k : ℕ) → IsSoundChip c → Rooms c n → Rooms (tick c) k
@@ -414,6 +419,7 @@ module _ (bytes arrivals ticks_each : ℕ) where
         capacity = ap (λ (u : TransmitterState). u.capacity) same ∙ (s.capacity ∙ h.capacity);
         marks = (steady_tick c w).known ∙ h.marks;
         char_ticks = ap (λ (u : TransmitterState). u.char_ticks) same ∙ (s.char_ticks ∙ h.char_ticks);
+        same_size = size-tick (is_loopback c.latches) t ∙ h.same_size;
       }
 
   rooms_ticks : (count : ℕ) (c : ChipState) (n k : ℕ) → IsSoundChip c → Rooms c n → Rooms (ticks count c) k

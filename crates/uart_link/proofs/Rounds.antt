@@ -236,7 +236,7 @@ roomy_after x y end ticks total steps a b g chain r =
     let here = same_rooms x y end steps a b g chain in
     let there = same_rooms x y (other end) steps a b g chain in
     record {
-      pace = ap (λ n. 17 * n) here.char_ticks ∙ r.pace;
+      pace = rw (here.size, here.char_ticks) r.pace;
       wire = let h = r.wire in let e = here.capacity in omega (arith, h, e);
       arrivals = let h = r.arrivals in let e = there.marks in omega (arith, h, e);
     }

@@ -3,6 +3,7 @@ use Rattle.std.proofs.Common.{◌≡◌, ℕ, zero, suc, ◌+◌, ◌-◌, ◌�
 use Rattle.std.proofs.Common.{refl, sym, ◌∙◌, ap, subst, arith}
 use Rattle.std.proofs.lemmas.List.{length-drop, length-take}
 use Rattle.uart_events.specs.declared.event.Event.{Event}
+use Rattle.uart_spec.specs.declared.setup.FifoSize.{FifoSize}
 use Rattle.uart_chip.proofs.conservation.Went.{Modes, loopback-in}
 use Rattle.uart_chip.specs.Chip.{ChipState}
 use Rattle.uart_chip.specs.Machine.{MachineState, arrivals}
@@ -181,7 +182,7 @@ time_passes x y end steps a b g chain happened enough room =
     let first : need goal m.chip.transmitter ≡ left m.chip.transmitter =
     ap (need_of m.chip.transmitter.char_ticks m.chip.transmitter.shift_register) bytes ∙
     need_all m.chip.transmitter.char_ticks m.chip.transmitter.shift_register m.chip.transmitter.queue in
-    let most = left-most m.chip.fifo m.chip.transmitter sound.chip.transmitter in
+    let most = left-most m.chip sound.chip in
     let due : DueTicks goal m.chip (ahead_of ticks_of m.ahead + (in_calls_at ticks_in end steps + 0)) = record {
       loopback = loopback-in _ m.chip e.1.session.stands.modes ∙ e.1.session.open_modes.loopback;
       have = omega arith;
@@ -270,6 +271,7 @@ pub record SameRooms (c d : ChipState) : Type 0 where
   pub capacity : d.transmitter.capacity ≡ c.transmitter.capacity
   pub marks : length d.receiver.marks ≡ length c.receiver.marks
   pub char_ticks : d.transmitter.char_ticks ≡ c.transmitter.char_ticks
+  pub size : d.transmitter.size ≡ c.transmitter.size
 
 pub same_rooms : (x y : Modes) (end : Side) (steps : List Step) (a b : Link) → Going x y a → LinkChain a steps b →
     SameRooms (ring_machine (at_end end a)).chip (ring_machine (at_end end b)).chip
@@ -279,14 +281,22 @@ same_rooms x y end steps a b g chain =
     let k = c.transmitter.capacity in
     let l = length c.receiver.marks in
     let t = c.transmitter.char_ticks in
-    let first : HasRooms k l t c (ahead_of arrives_of (ring_machine (at_end end a)).ahead + (in_calls_at arrives_in end steps + 0)) =
+    let z = c.transmitter.size in
+    let first : HasRooms k l t z c (ahead_of arrives_of (ring_machine (at_end end a)).ahead + (in_calls_at arrives_in end steps + 0)) =
     record {
       loopback = loopback-in _ c e.1.session.stands.modes ∙ e.1.session.open_modes.loopback;
       capacity = refl;
       marks = refl;
       char_ticks = refl;
+      same_size = refl;
     } in
-    let after = spend_chain arrives_of (HasRooms k l t) (rooms_spend k l t) arrives_in Always x y end (λ steps a b g chain holds. tt)
-    (λ o moments n holds h. record { loopback = h.loopback; capacity = h.capacity; marks = h.marks; char_ticks = h.char_ticks })
+    let after = spend_chain arrives_of (HasRooms k l t z) (rooms_spend k l t z) arrives_in Always x y end (λ steps a b g chain holds. tt)
+    (λ o moments n holds h. record {
+      loopback = h.loopback;
+      capacity = h.capacity;
+      marks = h.marks;
+      char_ticks = h.char_ticks;
+      same_size = h.same_size;
+    })
     steps a b 0 g tt chain first in
-    record { capacity = after.capacity; marks = after.marks; char_ticks = after.char_ticks }
+    record { capacity = after.capacity; marks = after.marks; char_ticks = after.char_ticks; size = after.same_size }

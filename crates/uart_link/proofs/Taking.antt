@@ -7,14 +7,13 @@ use Rattle.std.proofs.lemmas.Bool.Decides.{nat_tests}
 use Rattle.std.proofs.lemmas.List.{length-take, drop_all}
 use Rattle.uart_spec.specs.Bits.{has_any}
 use Rattle.uart_spec.specs.declared.access.Access.{Access}
-use Rattle.uart_spec.specs.declared.registers.fifo_trigger_level.FifoTriggerLevel.TheVariants.{One}
 use Rattle.uart_spec.specs.declared.registers.interrupt_enable.TheConstants.IER
 use Rattle.uart_spec.specs.declared.registers.interrupt_type.InterruptType.{InterruptType}
 use Rattle.uart_spec.specs.declared.registers.interrupt_type.InterruptType.TheVariants.{ReceiverLineStatus, ReceivedDataReady}
 use Rattle.uart_spec.specs.declared.registers.interrupt_type.InterruptType.TheVariants.{ReceptionTimeout}
 use Rattle.uart_16550.specs.Status.{Enables}
 use Rattle.uart_chip.specs.Chip.{ChipState, interrupt}
-use Rattle.uart_chip.specs.Receiver.{ReceiverState, is_timed_out, is_data_pending}
+use Rattle.uart_chip.specs.Receiver.{ReceiverState, characters_of, is_timed_out, is_data_pending}
 use Rattle.uart_chip.specs.declared.receiver.Character.{Character}
 use Rattle.uart_ring.specs.Receive.{EndsPause}
 use Rattle.uart_ring.specs.Ring.{RingFields, ring_fields, IfAny, OnDriver, Stays, with_paused, without_taken}
@@ -48,7 +47,7 @@ none_pending c e f told = go c.fifo refl told
         by [] q = refl
         by (x ∷ xs) q = let k : length r.queue ≡ suc (length xs) = ap length q in absurd (grind (arith, common_steps))
 
-    go : (b : Bool) → c.fifo ≡ b → (b ≡ false) ⊎ (r.trigger ≡ One) ⊎ (r.timeout_ticks ≡ r.timeout_limit) → r.queue ≡ []
+    go : (b : Bool) → c.fifo ≡ b → (b ≡ false) ⊎ (characters_of r.size r.trigger ≡ 1) ⊎ (r.timeout_ticks ≡ r.timeout_limit) → r.queue ≡ []
     go false g told = empty (rw g at e)
     go true g (inl off) = absurd (cc)
     go true g (inr (inl one)) = empty (rw (g, one) at e)

@@ -5,6 +5,7 @@ use Rattle.std.specs.Prelude.{Some, None}
 use Rattle.std.specs.List.{AllByRecursion}
 use Rattle.uart_spec.specs.declared.baud.TheConstants.{FIFO_SIZE}
 use Rattle.uart_chip.specs.Conserved.{IsDrop, waiting}
+use Rattle.uart_run.specs.Progress.{most_held}
 use Rattle.uart_ring.specs.Ring.{ring_fields, free}
 use Rattle.uart_ring_runs.specs.declared.call.RingCall.{RingCall}
 use Rattle.uart_ring_runs.specs.declared.call.RingCall.TheVariants as call
@@ -18,10 +19,14 @@ use Rattle.uart_link.specs.Cable.{on_cable}
 use Rattle.uart_link.specs.Carried.{receiver_at, to_be_taken, on_the_way, queued_at, bytes_gone, AllKeepOrderAt, OfEnd}
 use Rattle.uart_link.specs.Link.{at_end, other, Step}
 
--- An end that is held back sends no more from its rings, but up to 17 characters may still come from its transmitter,
--- 16 of the FIFO and one that is being shifted out, and those that are on the cable. The receiver's FIFO has room for
--- 16. So the mark has to leave room for one more, for those on the cable, and for those that come before RTS is
--- adjusted.
+-- An end that is held back sends no more from its rings, but what its transmitter holds may still come, which with a
+-- FIFO of 16 is up to 17 characters, 16 of the FIFO and one that is being shifted out; and those that are on the cable.
+-- The receiver's FIFO has room for 16, or more. So the mark has to leave room for what is beyond 16, which is one more
+-- with a FIFO of 16; for those on the cable, and for those that come before RTS is adjusted.
+
+-- how many characters more than 16 the transmitter of an end may hold
+abbrev pub beyond : RingState → ℕ
+beyond s = most_held (ring_machine s).chip.transmitter - FIFO_SIZE
 
 -- the numbers that both programs keep to: the most characters on the cable when an end adjusts RTS, and the most that
 -- arrive at an end between two calls of `adjust_rts`
@@ -44,7 +49,7 @@ hold_of other = None
 -- the handler has run, so nothing waits in the receiver, or the receive ring is full; and few characters are on the
 -- cable
 pub record Adjusts (pace : Pace) (hold : ℕ) (here there : RingState) : Type 0 where
-  pub mark : pace.on_cable + pace.between < hold
+  pub mark : pace.on_cable + pace.between + beyond there ≤ hold
   pub served : (waiting (ring_machine here) ≡ []) ⊎ (receive_room here ≡ 0)
   pub near : length (on_cable (ring_machine there).chip (ring_machine here).chip) ≤ pace.on_cable
 
@@ -97,7 +102,7 @@ pub record BeginsPaced (pace : Pace) (from to : RingState) : Type 0 where
   pub checks : (ring_fields from).driver.config.check_cts_before_sending ≡ true
   pub fifo : (ring_machine to).chip.fifo ≡ true
   pub empty : waiting (ring_machine to) ≡ []
-  pub room : pace.on_cable + pace.between < receive_room to
+  pub room : pace.on_cable + pace.between + beyond from ≤ receive_room to
 
 -- a part of a run in which both programs keep to these numbers in the direction from this end to the other one
 pub record IsPaced (pace : Pace) (end : Side) (a : Link) (steps : List Step) : Type 0 where

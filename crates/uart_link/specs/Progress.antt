@@ -3,13 +3,13 @@ use Rattle.std.specs.List.{AllByRecursion}
 use Rattle.std.specs.Prelude.{◌≡◌, ◌⊎◌, ◌≤◌, ◌<◌, ◌+◌, ◌*◌, ⊤, ℕ, zero, suc, true, false, List, [], ◌∷◌, ◌++◌, length}
 use Rattle.std.specs.Prelude.{None}
 use Rattle.uart_spec.specs.Bits.{has_any}
-use Rattle.uart_spec.specs.declared.registers.fifo_trigger_level.FifoTriggerLevel.TheVariants.{One}
 use Rattle.uart_spec.specs.declared.registers.interrupt_enable.TheConstants.IER
 use Rattle.uart_spec.specs.declared.registers.modem_status.TheConstants.MSR
 use Rattle.uart_chip.specs.Chip.{ChipState}
 use Rattle.uart_chip.specs.Conserved.{out}
+use Rattle.uart_chip.specs.Receiver.{characters_of}
 use Rattle.uart_chip.specs.Transmitter.{TransmitterState}
-use Rattle.uart_run.specs.Progress.{HasRoom}
+use Rattle.uart_run.specs.Progress.{HasRoom, most_held}
 use Rattle.uart_ring.specs.Ring.{ring_fields, sendable, waiting}
 use Rattle.uart_ring.specs.declared.ring.receive.ReceiveMarks.{ReceiveMarks}
 use Rattle.uart_ring.specs.declared.ring.service.HandleEnd.TheVariants.{Idle}
@@ -62,9 +62,10 @@ in_calls_at number_in end [] = 0
 in_calls_at number_in end (step ∷ steps) =
     of_side end step.call.side (number_in step.call.moments.items) + in_calls_at number_in end steps
 
--- the ticks that are enough for a transmitter to send all that it holds, which is 17 characters at most
+-- the ticks that are enough for a transmitter to send all that it holds, which is 17 characters at most with a FIFO of
+-- 16
 abbrev pub enough_ticks : TransmitterState → ℕ
-enough_ticks t = 17 * t.char_ticks
+enough_ticks t = most_held t * t.char_ticks
 
 -- these calls end with a `Next` of an end: all moments of its calls have happened
 pub record EndInNext (end : Side) (steps : List Step) : Type 0 where
@@ -100,11 +101,13 @@ pub record HandlerRuns (end : Side) (step : Step) : Type 0 where
   pub side : step.call.side ≡ end
   pub served : ServedAll step.call.call step.answer
 
--- A chip whose DATA_READY is enabled tells of each character that waits: the FIFO is off, or the trigger level is One,
--- or a reception timeout is due if any waits, since none has come or was read for four character times
+-- A chip whose DATA_READY is enabled tells of each character that waits: the FIFO is off, or the trigger level is one
+-- character, as One is of a FIFO of 16, or a reception timeout is due if any waits, since none has come or was read for
+-- four character times
 abbrev pub IsEachTold : ChipState → Type 0
 IsEachTold c =
-    (c.fifo ≡ false) ⊎ (c.receiver.trigger ≡ One) ⊎ (c.receiver.timeout_ticks ≡ c.receiver.timeout_limit)
+    (c.fifo ≡ false) ⊎ (characters_of c.receiver.size c.receiver.trigger ≡ 1)
+    ⊎ (c.receiver.timeout_ticks ≡ c.receiver.timeout_limit)
 
 -- The handler runs and moves all that waits in the receiver: each character is told of, and DATA_READY is enabled,
 -- which it is not while receiving is paused

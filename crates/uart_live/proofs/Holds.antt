@@ -73,7 +73,7 @@ replace-plain (old ∷ others) new r = refl
 enter-plain : (fifo : Bool) (new : Character) (r : ReceiverState) →
     AlikeReceivers (enter fifo new r) (enter fifo new (plain_receiver r))
 enter-plain fifo new r =
-    both_ifs AlikeReceivers _ _ _ _ (nat_lt (length r.queue) (room fifo)) refl
+    both_ifs AlikeReceivers _ _ _ _ (nat_lt (length r.queue) (room fifo r.size)) refl
     (both_ifs AlikeReceivers _ _ _ _ fifo refl (replace-plain r.queue new r))
 
 come_back-plain : (fifo : Bool) (byte : Option ℕ) (r : ReceiverState) →
@@ -161,7 +161,7 @@ control-plain Uart16450 value c = refl
 control-plain Uart16550A value c = fifo-plain value c
 
 load-plain : (fifo : Bool) (byte : ℕ) (t : TransmitterState) → AlikeTransmitters (load fifo byte t) (load fifo byte (plain_transmitter t))
-load-plain fifo byte t = both_ifs AlikeTransmitters _ _ _ _ (nat_lt (length t.queue) (room fifo)) refl refl
+load-plain fifo byte t = both_ifs AlikeTransmitters _ _ _ _ (nat_lt (length t.queue) (room fifo t.size)) refl refl
 
 write-plain : (offset value : ℕ) (c : ChipState) → Alike (after_write offset value c) (after_write offset value (plain c))
 write-plain offset value c =
@@ -263,7 +263,7 @@ due-ticks (suc n) c l w =
 
 waits-enter : (new : Character) (r : ReceiverState) → 0 < length r.queue → 0 < length (enter true new r).queue
 waits-enter new r w =
-    both_if (λ (s : ReceiverState). 0 < length s.queue) _ _ (nat_lt (length r.queue) (room true))
+    both_if (λ (s : ReceiverState). 0 < length s.queue) _ _ (nat_lt (length r.queue) (room true r.size))
     (rw (length-append r.queue (new ∷ [])) (omega (arith, w))) w
 
 due-arrival : (byte errors : ℕ) (c : ChipState) → Due c → Due (expire (arrive_live byte errors c))

@@ -50,7 +50,7 @@ none_lost-replace (old ∷ others) new r s h = rw s refl
 pub none_lost-enter : (fifo : Bool) (new : Character) (r : ReceiverState) → is_unscheduled new.origin ≡ true → NoneLost r →
     NoneLost (enter fifo new r)
 none_lost-enter fifo new r s h =
-    both_if NoneLost _ _ (nat_lt (length r.queue) (room fifo)) (rw s refl)
+    both_if NoneLost _ _ (nat_lt (length r.queue) (room fifo r.size)) (rw s refl)
     (both_if NoneLost _ _ fifo (rw s refl) (none_lost-replace r.queue new r s h))
 
 none_lost-come_back : (fifo : Bool) (byte : Option ℕ) (r : ReceiverState) → NoneLost r → NoneLost (come_back fifo byte r)
@@ -109,7 +109,8 @@ keeps-read : (offset : ℕ) (c : ChipState) → Keeps c → Keeps (after_read of
 keeps-read offset c k = keeps-reads offset c _ (read_move offset c) k
 
 keeps-writes : (offset value : ℕ) (c d : ChipState) → WriteMove offset value c d → Keeps c → Keeps d
-keeps-writes offset value c d (sends p q) k = (k.0, both_if HasRoom _ _ (nat_lt (length c.transmitter.queue) (room c.fifo)) k.1 k.1)
+keeps-writes offset value c d (sends p q) k =
+    let t : TransmitterState = c.transmitter in (k.0, both_if HasRoom _ _ (nat_lt (length t.queue) (room c.fifo t.size)) k.1 k.1)
 keeps-writes offset value c d _ k = k
 
 keeps-write : (offset value : ℕ) (c : ChipState) → Keeps c → Keeps (after_write offset value c)
@@ -185,6 +186,7 @@ live-expire c w =
       number = refl;
       known = refl;
       limit = refl;
+      size = refl;
     })) refl
     (w.none_lost, w.room)
 
@@ -202,7 +204,8 @@ live-take count c w =
     rw (length-drop count c.transmitter.wire) (omega (arith, t.on_wire)) in
     live-part c (take_wire count c) w
     (steady_transmitter c (transmitter.take_wire count c.transmitter) w.whole.sound.chip
-    (record { in_room = t.in_room; ticking = t.ticking; at_least_one = t.at_least_one; at_most = t.at_most; on_wire = fewer }) refl) refl
+    (record { in_room = t.in_room; ticking = t.ticking; at_least_one = t.at_least_one; at_most = t.at_most; on_wire = fewer })
+    refl refl) refl
     (w.none_lost, w.room)
 
 -- ---- a new chip

@@ -49,7 +49,7 @@ goes-ticks (suc n) c l =
 
 -- a write of another register than FCR
 goes-writes : (offset value : ℕ) (c d : ChipState) → WriteMove offset value c d → offset ≢ offsets.FCR →
-    (is_data offset c ≡ true → length c.transmitter.queue < room c.fifo) →
+    (is_data offset c ≡ true → length c.transmitter.queue < room c.fifo c.transmitter.size) →
     Goes (out c.transmitter ++ sent (Write offset value) c) d
 goes-writes offset value c d (sends e q) f free =
     rw (e, q) (sends-load c.fifo (cut_of c value) c.transmitter (free (rw (e, q) refl))).grows
@@ -104,14 +104,14 @@ passes-same r s q o calm = record { kept = append-nil r.queue ∙ sym q; calm = 
 
 passes-enter : (fifo : Bool) (new : Character) (r : ReceiverState) → (enter fifo new r).is_overrun ≡ false →
     Passes r (enter fifo new r) (new ∷ []) []
-passes-enter fifo new r calm = go (nat_lt (length r.queue) (room fifo)) refl fifo refl calm
+passes-enter fifo new r calm = go (nat_lt (length r.queue) (room fifo r.size)) refl fifo refl calm
   where
     swap : (queue : List Character) → r.queue ≡ queue → nat_lt (length queue) 1 ≡ false → (replace queue new r).is_overrun ≡ false →
         Passes r (replace queue new r) (new ∷ []) []
     swap [] q full calm = absurd (cc)
     swap (old ∷ others) q full calm = absurd (cc)
 
-    go : (b : Bool) → nat_lt (length r.queue) (room fifo) ≡ b → (on : Bool) → fifo ≡ on → (enter fifo new r).is_overrun ≡ false →
+    go : (b : Bool) → nat_lt (length r.queue) (room fifo r.size) ≡ b → (on : Bool) → fifo ≡ on → (enter fifo new r).is_overrun ≡ false →
         Passes r (enter fifo new r) (new ∷ []) []
     go true free on f calm = rw free (record { kept = refl; calm = rw free at calm })
     go false full true f calm = let no : true ≡ false = rw (full, f) at calm in absurd (cc)

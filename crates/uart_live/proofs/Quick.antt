@@ -30,7 +30,7 @@ live-pass c w =
       at_least_one = t.at_least_one;
       at_most = t.at_most;
       on_wire = t.on_wire;
-    }) refl) refl
+    }) refl refl) refl
     (w.none_lost, w.room)
 
 -- ---- reads of LSR

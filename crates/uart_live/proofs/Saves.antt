@@ -22,6 +22,7 @@ use Rattle.uart_chip.specs.Data.{transmitter_of, receiver_of}
 use Rattle.uart_chip.specs.Snapshot.{latches_of, chip_of, unscheduled}
 use Rattle.uart_chip.specs.Sound.{IsInQueue, AllInQueue, NoneHas, Distinct, AllErrorsLegal, IsSoundReceiver, IsTicking}
 use Rattle.uart_chip.specs.Sound.{IsSoundTransmitter, IsSoundChip, IsSound, HoldBytes}
+use Rattle.uart_spec.specs.declared.setup.FifoSize.TheVariants.{Sixteen}
 use Rattle.uart_live.specs.Live.{IsLive}
 use Rattle.uart_live.specs.Saved.{is_within, is_live_character, is_sound_receiver, is_ticking, is_char_time, is_sound_transmitter}
 use Rattle.uart_live.specs.Saved.{is_implemented, is_live}
@@ -91,7 +92,7 @@ all_live (x ∷ xs) h l =
 sound_receiver : (fifo : Bool) (char_ticks : ℕ) (r : ReceiverData) → is_sound_receiver fifo char_ticks r ≡ true →
     IsSoundReceiver fifo (receiver_of char_ticks r)
 sound_receiver fifo char_ticks r e =
-    let first = both-true (nat_le (length r.queue.items) (room fifo)) _ e in
+    let first = both-true (nat_le (length r.queue.items) (room fifo Sixteen)) _ e in
     let second = both-true (list_all is_live_character r.queue.items) _ first.1 in
     record {
       marked = record {
@@ -134,7 +135,7 @@ sound_transmitter fifo t wire e =
     let a = both-true (is_char_time t.char_ticks) _ e in
     let time = both-true (nat_le 1 t.char_ticks) _ a.0 in
     let b = both-true (is_ticking t.char_ticks t.shift_register) _ a.1 in
-    let c = both-true (nat_le (length t.queue.items) (room fifo)) _ b.1 in
+    let c = both-true (nat_le (length t.queue.items) (room fifo Sixteen)) _ b.1 in
     let d = both-true (nat_le (length wire) t.wire_capacity) _ c.1 in
     record {
       sound = record {
@@ -179,6 +180,7 @@ live_of c wire e bytes =
       transmitter = fits.sound;
       modem = record { inputs = within _ _ modem.0; lines = within _ _ lines.0; deltas = within _ _ lines.1 };
       latches = record { ier = within _ _ latches.0; mcr = within _ _ latches.1 };
+      sizes = (refl, refl);
       implemented = implemented c.model c.fifo b.0;
       limit = refl;
     } in
@@ -216,7 +218,3 @@ unscheduled_same c w =
     let none : 0 ≡ c.receiver.arrived = omega (arith, w.whole.sound.foreseen, w.no_marks) in
     same_receiver c (4 * c.transmitter.char_ticks) 0 [] false (sym w.whole.sound.chip.limit) none
     (no_marks c.receiver.marks w.no_marks) (sym w.none_lost)
-
-pub queue_fits : (fifo : Bool) (n : ℕ) → n ≤ room fifo → n ≤ 16
-queue_fits true n h = h
-queue_fits false n h = omega arith

@@ -70,7 +70,7 @@ taken _ c = []
 abbrev pub IsCareful : Act → ChipState → Type 0
 IsCareful (Ticks count) c = is_loopback c.latches ≡ false
 IsCareful (Write offset value) c =
-    (offset ≢ offsets.FCR) × (is_data offset c ≡ true → length c.transmitter.queue < room c.fifo)
+    (offset ≢ offsets.FCR) × (is_data offset c ≡ true → length c.transmitter.queue < room c.fifo c.transmitter.size)
 IsCareful _ c = Unit {0}
 
 -- bytes are sent in the order in which they were written, each once, whether the wire is full or not: what was to be

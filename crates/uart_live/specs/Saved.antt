@@ -1,4 +1,4 @@
--- Whether data are those of a live chip.
+-- Whether data are those of a live chip. Their arrays hold 16 characters, so they are of chips whose FIFOs do.
 use Rattle.std.specs.Prelude.{ℕ, ◌*◌, Bool, true, not, ◌&&◌, ◌==◌, nat_le, bit_and, List, length, Option, Some, None}
 use Rattle.std.specs.List.{list_all}
 use Rattle.uart_chip.specs.declared.chip.ChipData.{ChipData}
@@ -17,6 +17,7 @@ use Rattle.uart_chip.specs.Transmitter.{room}
 use Rattle.uart_live.specs.declared.sound.TheConstants.{TIMEOUT_CHARACTERS}
 use Rattle.uart_spec.specs.declared.registers.line_status.TheConstants.LSR
 use Rattle.uart_spec.specs.declared.registers.modem_status.TheConstants.MSR
+use Rattle.uart_spec.specs.declared.setup.FifoSize.TheVariants.{Sixteen}
 
 -- no bit outside of the mask is set
 abbrev pub is_within : ℕ → ℕ → Bool
@@ -29,7 +30,7 @@ is_live_character character = is_unscheduled character.origin && is_within chara
 -- the queue fits, its characters may be there, and the idle ticks end when a reception timeout is due
 abbrev pub is_sound_receiver : Bool → ℕ → ReceiverData → Bool
 is_sound_receiver fifo char_ticks r =
-    nat_le (length r.queue.items) (room fifo) &&
+    nat_le (length r.queue.items) (room fifo Sixteen) &&
     (list_all is_live_character r.queue.items && nat_le r.timeout_ticks (TIMEOUT_CHARACTERS * char_ticks))
 
 -- a character in the shift register has at least one tick left, and at most its whole time
@@ -45,7 +46,7 @@ is_char_time char_ticks = nat_le 1 char_ticks && nat_le char_ticks MAX_CHAR_TICK
 abbrev pub is_sound_transmitter : Bool → TransmitterData → List ℕ → Bool
 is_sound_transmitter fifo t wire =
     is_char_time t.char_ticks && (is_ticking t.char_ticks t.shift_register &&
-    (nat_le (length t.queue.items) (room fifo) &&
+    (nat_le (length t.queue.items) (room fifo Sixteen) &&
     (nat_le (length wire) t.wire_capacity && nat_le t.wire_capacity MAX_WIRE_CAPACITY)))
 
 -- whether the modem lines and their changes are sound: none has a bit that is not its own

@@ -274,8 +274,9 @@ impl LiveChip {
         ensures arrived { result ≡ true → self.new ≡ spec.arrive_live byte 0 self.old }
         ensures left { result ≡ false → self.new ≡ self.old }
     {
-        let room = room_of(self.uart.fifo());
-        if self.uart.is_loopback() || self.uart.receiver().queue_len() >= room {
+        let receiver = self.uart.receiver();
+        let room = room_of(self.uart.fifo(), receiver.size());
+        if self.uart.is_loopback() || receiver.queue_len() >= room {
             return false;
         }
         // Of what can become of an arrival this is the first case, without a test of the others.
@@ -366,7 +367,7 @@ impl LiveChip {
     pub fn ticks(&mut self, count: u16) -> usize
         ensures after { self.new ≡ spec.ticks count self.old }
         ensures jumps { result ≡ jumps_in count self.old }
-        ensures most { result ≤ most_jumps }
+        ensures most { result ≤ most_jumps (spec.size_of self.old.model) }
     {
         self.uart.ticks(count)
     }

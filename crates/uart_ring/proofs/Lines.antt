@@ -223,6 +223,13 @@ at_set Goes port [] other y within goes = absurd (omega (arith, within))
 at_set Goes zero (x ∷ xs) other y within goes = (goes, all_same xs)
 at_set Goes (suc port) (x ∷ xs) other y within goes = (refl, at_set Goes port xs other y (omega (arith, within)) goes)
 
+-- where a loop over ports stands: a port that is there, as many as there were before; and behind the last one
+pub stands_within : (port few many : ℕ) → few ≡ many → port < many → port < few
+stands_within port few many same within = omega (arith, same, within)
+
+pub stands_behind : (port count : ℕ) → port ≤ count → count ≤ port → port ≡ count
+stands_behind port count before behind = omega (arith, before, behind)
+
 -- ---- one port more
 
 pub serves_more : {S : Type 0} (Does : ℕ → Bool → S → S → Type 0) (number : ℕ) (before here : Bool) (a mid b : S) →

@@ -1,5 +1,5 @@
 -- Bytes between the rings and the driver.
-use Rattle.std.proofs.Common.{◌≡◌, ◌≤◌, ℕ, true, false, ◌==◌, List, [], ◌∷◌, ◌++◌, sym, ◌∙◌, ap, subst, arith}
+use Rattle.std.proofs.Common.{◌≡◌, ◌≤◌, ◌+◌, ℕ, true, false, ◌==◌, List, [], ◌∷◌, ◌++◌, sym, ◌∙◌, ap, subst, arith}
 use Rattle.std.proofs.Common.{length, take, drop, min, not, refl, length-take}
 use Rattle.std.proofs.lemmas.Bool.{false≢true}
 use Rattle.std.proofs.lemmas.Bool.Decides.{nat_tests}
@@ -84,24 +84,29 @@ fits bytes rest count appended room few enough e =
     take_all appended (take count (bytes ++ rest)) all ∙ front
 
 -- bytes were received into the first of some slots, and put at the end of the receive ring
-pub filled : {B : Type 0} {step : B → Access → B → Type 0} (room count appended : ℕ) (empty slots rest : List ℕ) (a : Uart16550Ring B)
-    (u : Uart16550 B) (more : Queue) (b : Uart16550Ring B) →
+pub filled : {B : Type 0} {step : B → Access → B → Type 0} (room count appended unlooked : ℕ) (empty slots rest : List ℕ)
+    (a : Uart16550Ring B) (u : Uart16550 B) (more : Queue) (b : Uart16550Ring B) →
     length empty ≡ FIFO_SIZE → room ≡ min FIFO_SIZE (free a.receive) → length slots ≡ length (take room empty) →
     count ≤ length (take room empty) →
     appended ≡ min (length (take count (slots ++ rest))) (free a.receive) → more ≡ queue
     (a.receive.items ++ take appended (take count (slots ++ rest))) a.receive.capacity →
+    unlooked ≡ min a.unlooked (length a.receive.items) + count →
     Made step (Receives (length (take room empty)) (take count slots)) a.uart u →
-    RingDid step PausesIfFull (record a { uart = u; receive = more }) b → RingDid step FillsReceiveRing a b
-filled room count appended empty slots rest a u more b long is_room same few is_appended is_more made pauses =
+    RingDid step PausesIfFull (record a { uart = u; receive = more; unlooked = unlooked }) b → RingDid step FillsReceiveRing a b
+filled room count appended unlooked empty slots rest a u more b long is_room same few is_appended is_more is_unlooked made pauses =
     let size : length (take room empty) ≡ room = length-take-le room empty (omega (arith, long, is_room)) in
     let bytes : take appended (take count (slots ++ rest)) ≡ take count slots =
     fits slots rest count appended (free a.receive) (omega (arith, few, same)) (omega (arith, same, size, is_room)) is_appended in
     let all : more ≡ queue (a.receive.items ++ take count slots) a.receive.capacity = is_more
     ∙ ap (λ (xs : List ℕ). queue (a.receive.items ++ xs) a.receive.capacity) bytes in
+    let long_bytes : length (take count slots) ≡ count = length-take-le count slots (omega (arith, few, same)) in
+    let fresh : unlooked ≡ min a.unlooked (length a.receive.items) + length (take count slots) =
+    is_unlooked ∙ ap (λ n. min a.unlooked (length a.receive.items) + n) (sym long_bytes) in
     ring_among (λ l t. (take count slots, t))
-    (ring_then (ring_did (with_received (take count slots)) a (record a { uart = u; receive = more })
+    (ring_then (ring_did (with_received (take count slots)) a (record a { uart = u; receive = more; unlooked = unlooked })
     (did_made (rw (size, is_room) at made))
-    (ap (λ (r : Queue). with_driver (fields u) (record (ring_fields a) { receive = r })) all)) pauses)
+    (ap (λ (r : Queue). with_driver (fields u) (record (ring_fields a) { receive = r; unlooked = unlooked })) all ∙
+    ap (λ n. with_driver (fields u) (record (with_received (take count slots) (ring_fields a)) { unlooked = n })) fresh)) pauses)
 
 -- ---- from the receive ring
 

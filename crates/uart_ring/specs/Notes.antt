@@ -79,17 +79,25 @@ AreNew n backend capacity =
 
 -- ---- beside the rings
 
+-- how many bytes of the receive ring have no note among these: those at its front, if more are there than are noted
+abbrev pub unnoted_among : {B : Type 0} → List ℕ → Uart16550Ring B → ℕ
+unnoted_among noted r = length (ring_fields r).receive.items - length noted
+
+-- the errors of the bytes in the receive ring: those that were noted last, as many as there are bytes
+abbrev pub errors_among : {B : Type 0} → List ℕ → Uart16550Ring B → List ℕ
+errors_among noted r = latest (length (ring_fields r).receive.items) noted
+
 -- the errors of the bytes that were read last
 abbrev pub noted_in : {B : Type 0} → Uart16550Ring (ErrorNotes B) → List ℕ
 noted_in r = (ring_backend_of r).noted.items
 
--- how many bytes of the receive ring have no note: those at its front, if more are there than errors are noted
+-- how many bytes of the receive ring have no note in the backend
 abbrev pub unnoted_in : {B : Type 0} → Uart16550Ring (ErrorNotes B) → ℕ
-unnoted_in r = length (ring_fields r).receive.items - length (noted_in r)
+unnoted_in r = unnoted_among (noted_in r) r
 
--- the errors of the bytes in the receive ring: those that were noted last, as many as there are bytes
+-- the errors of the bytes in the receive ring, as the backend has noted them
 abbrev pub errors_in : {B : Type 0} → Uart16550Ring (ErrorNotes B) → List ℕ
-errors_in r = latest (length (ring_fields r).receive.items) (noted_in r)
+errors_in r = errors_among (noted_in r) r
 
 -- the bytes of what was received
 abbrev pub bytes_of : List Received → List ℕ

@@ -1,6 +1,6 @@
 -- From the chip to the receive ring, and from there to the caller.
-use Rattle.std.specs.Prelude.{◌≡◌, ℕ, Bool, true, false, List, [], ◌∷◌, length, take, min, nat_lt, nat_le, MatchBool}
-use Rattle.std.specs.Prelude.{not, Option, Some, None, if◌then◌else◌}
+use Rattle.std.specs.Prelude.{◌≡◌, ◌==◌, ◌||◌, ℕ, Bool, true, false, List, [], ◌∷◌, length, take, min, nat_lt, nat_le}
+use Rattle.std.specs.Prelude.{not, Option, Some, None, MatchBool, if◌then◌else◌}
 use Rattle.uart_spec.specs.declared.access.Access.{Access}
 use Rattle.uart_spec.specs.declared.access.Access.TheVariants.{Read, Write}
 use Rattle.uart_spec.specs.Bits.{has}
@@ -13,10 +13,11 @@ use Rattle.uart_16550.specs.Frame.{switched, unlooped}
 use Rattle.uart_16550.specs.Grammar.{Language}
 use Rattle.uart_16550.specs.Receive.{Receives}
 use Rattle.uart_16550.specs.Status.{Enables, Disables}
+use Rattle.uart_ring.specs.Queue.{latest}
 use Rattle.uart_ring.specs.declared.ring.receive.ReceiveMarks.{ReceiveMarks}
 use Rattle.uart_ring.specs.Ring.{RingDoing, OnDriver, Stays, RingNext, IfAny, free, is_full, unchanged}
-use Rattle.uart_ring.specs.Ring.{with_received, without_taken, with_paused, with_told_xoff}
-use Rattle.uart_ring.specs.Transmit.{QueuesUrgent}
+use Rattle.uart_ring.specs.Ring.{with_received, without_taken, with_paused, with_told_xoff, looked}
+use Rattle.uart_ring.specs.Transmit.{QueuesUrgent, Holds, Releases}
 
 -- if the receive ring is full, DATA_READY is disabled and receiving is paused
 abbrev pub PausesIfFull : RingDoing
@@ -111,3 +112,34 @@ TellsIfAny (Some on) told f l after =
 abbrev pub AdjustsXoff : ReceiveMarks → Option ℕ → RingDoing
 AdjustsXoff marks told f l after =
     TellsIfAny (to_tell (rts_at marks (free f.receive)) f.urgent f.has_told_xoff) told f l after
+
+-- ---- obeying them
+
+-- the byte is XON or XOFF
+abbrev pub is_flow_character : ℕ → Bool
+is_flow_character byte = (byte == xon) || (byte == xoff)
+
+-- the last XON or XOFF of these bytes, or what was the last one before them
+abbrev pub last_told : (before : Option ℕ) → List ℕ → Option ℕ
+last_told before [] = before
+last_told before (byte ∷ bytes) = last_told (if is_flow_character byte then Some byte else before) bytes
+
+-- XON releases the transmit ring, and XOFF holds it; without one nothing is done
+abbrev pub Obeys : Option ℕ → RingDoing
+Obeys None f l after = Stays f l after
+Obeys (Some byte) f l after = MatchBool (byte == xon) (Releases f l after) (Holds f l after)
+
+-- `obey_xoff`: of the bytes that came into the receive ring since it looked last, and are still there, the last XON or
+-- XOFF is obeyed, and is the result. All bytes stay there
+abbrev pub ObeysXoff : Option ℕ → RingDoing
+ObeysXoff told f l after = (told ≡ last_told None (latest f.unlooked f.receive.items)) × Obeys told (looked f) l after
+
+-- whether the transmit ring is held then: unless the character is XON, or as before without one
+abbrev pub held_as_told : Option ℕ → (is_held : Bool) → Bool
+held_as_told None is_held = is_held
+held_as_told (Some byte) is_held = not (byte == xon)
+
+-- the hold is as this character says; the receive ring is as it was, and no byte in it is new
+abbrev pub HoldsAsTold : Option ℕ → RingDoing
+HoldsAsTold told f l after =
+    (after.is_held ≡ held_as_told told f.is_held) × (after.receive ≡ f.receive) × (after.unlooked ≡ 0)

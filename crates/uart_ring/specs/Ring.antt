@@ -1,6 +1,6 @@
 -- The rings over a driver: their contents, and what a ring call does to them and to the backend.
-use Rattle.std.specs.Prelude.{◌≡◌, ◌≤◌, ◌==◌, ◌-◌, ◌&&◌, ◌||◌, ℕ, zero, suc, nat_lt, nat_le, Bool, false, List}
-use Rattle.std.specs.Prelude.{[]}
+use Rattle.std.specs.Prelude.{◌≡◌, ◌≤◌, ◌==◌, ◌-◌, ◌&&◌, ◌||◌, ◌+◌, ℕ, zero, suc, nat_lt, nat_le, min, Bool, false}
+use Rattle.std.specs.Prelude.{List, []}
 use Rattle.std.specs.Prelude.{◌++◌, length, drop, Option, Some, None, if◌then◌else◌}
 use Rattle.std.specs.Prelude.{option_to_list}
 use Rattle.uart_spec.specs.Access.{Path}
@@ -55,6 +55,8 @@ pub record RingFields : Type 0 where
   pub is_held : Bool
   -- whether `adjust_xoff` told the other end XOFF, and not XON since
   pub has_told_xoff : Bool
+  -- at how many bytes at the end of the receive ring `obey_xoff` has not looked: at all of them, if there are fewer
+  pub unlooked : ℕ
   -- the low mark, and whether the transmit ring fell to it
   pub low_mark : ℕ
   pub is_low : Bool
@@ -74,10 +76,30 @@ ring_fields r = record {
   urgent = r.urgent;
   is_held = r.is_held;
   has_told_xoff = r.has_told_xoff;
+  unlooked = r.unlooked;
   low_mark = r.low_mark;
   is_low = r.is_low;
   rounds = r.rounds;
   stuck = r.stuck;
+}
+
+-- the rings that hold this, over this driver
+abbrev pub rings_over : {B : Type 0} → Uart16550 B → RingFields → Uart16550Ring B
+rings_over driver f = record {
+  uart = driver;
+  transmit = f.transmit;
+  receive = f.receive;
+  line = record { 0 = f.line };
+  modem = record { 0 = f.modem };
+  is_paused = f.is_paused;
+  urgent = f.urgent;
+  is_held = f.is_held;
+  has_told_xoff = f.has_told_xoff;
+  unlooked = f.unlooked;
+  low_mark = f.low_mark;
+  is_low = f.is_low;
+  rounds = f.rounds;
+  stuck = f.stuck;
 }
 
 -- empty rings of these capacities over this driver, in which nothing is held, paused or stuck, and XOFF was never told
@@ -93,6 +115,7 @@ pub record AreEmpty {B : Type 0} (r : Uart16550Ring B) (driver : Uart16550 B) (t
     urgent = None;
     is_held = false;
     has_told_xoff = false;
+    unlooked = 0;
     low_mark = 0;
     is_low = false;
     rounds = 0;
@@ -201,12 +224,20 @@ with_stuck error f = record f { rounds = 0; stuck = Some error }
 abbrev pub restarted : RingFields → RingFields
 restarted f = record f { rounds = 0; stuck = None }
 
--- bytes are appended to the receive ring, and removed from its front when they are taken
+-- bytes are appended to the receive ring, and `obey_xoff` has not looked at them; bytes are removed from its front when
+-- they are taken
 abbrev pub with_received : List ℕ → RingFields → RingFields
-with_received bytes f = record f { receive = with_last bytes f.receive }
+with_received bytes f = record f {
+  receive = with_last bytes f.receive;
+  unlooked = min f.unlooked (length f.receive.items) + length bytes;
+}
 
 abbrev pub without_taken : ℕ → RingFields → RingFields
 without_taken count f = record f { receive = without_first count f.receive }
+
+-- `obey_xoff` looked at all bytes of the receive ring
+abbrev pub looked : RingFields → RingFields
+looked f = record f { unlooked = 0 }
 
 -- the fields with these bits of LSR noted; of MSR; with receiving paused or not
 abbrev pub with_line : ℕ → RingFields → RingFields

@@ -9,6 +9,7 @@ ghost use Rattle.uart_ring.specs.Transmit.{Queues, ResumesTransmit};
 ghost use Rattle.uart_ring.specs.Transmit.{Holds, Releases, QueuesUrgent, ClearsTransmit};
 ghost use Rattle.uart_ring.specs.Transmit.{SetsLowMark, TakesLow};
 ghost use Rattle.uart_ring.specs.Receive.{TakesBytes, ClearsReceive, AdjustsRts, AdjustsXoff};
+ghost use Rattle.uart_ring.specs.Receive.{HoldsAsTold, ObeysXoff};
 ghost use Rattle.uart_ring.specs.Storm.{TriesToHandle, Restarts, LeavesOff};
 ghost use Rattle.uart_ring.specs.Storm.{CountsOrIsIdle, IsLastStill};
 ghost use Rattle.uart_ring.specs.Status.{TakesLine, TakesModem, DumpsRegisters};
@@ -229,8 +230,9 @@ pub fn line_calls_are_ring_calls()
         LeavesNoRingChoice (λ (_ : ⊤). RaisesLine bits) }
 {}
 
-/// What is said of the ring calls holds of `adjust_xoff` too: it loses nothing, makes few accesses,
-/// has no choice and leaves the rings armed. What it tells goes before all bytes that wait.
+/// What is said of the ring calls holds of `adjust_xoff` too: it loses nothing, makes at most the
+/// accesses of a `queue_urgent`, has no choice and leaves the rings armed. What it tells goes
+/// before all bytes that wait.
 pub fn adjust_xoff_is_a_ring_call()
     ensures loses_only { (marks : ReceiveMarks) (told : Option ℕ) → Implies (AdjustsXoff marks told)
         (LosesOnly (λ waiting. option_to_list told ++ waiting) [] 0 0) }
@@ -239,6 +241,19 @@ pub fn adjust_xoff_is_a_ring_call()
     ensures is_bounded { (marks : ReceiveMarks) (told : Option ℕ) →
         Implies (AdjustsXoff marks told) (MakesAtMost most_of_pump) }
     ensures leaves_no_choice { (marks : ReceiveMarks) → LeavesNoRingChoice (AdjustsXoff marks) }
+{}
+
+/// What is said of the ring calls holds of `obey_xoff` too: it loses nothing, makes at most the
+/// accesses of a `release_transmit`, has no choice and leaves the rings armed. The hold is then as
+/// the last character says, the receive ring is as it was, and no byte in it is looked at again.
+pub fn obey_xoff_is_a_ring_call()
+    ensures loses_nothing { (told : Option ℕ) →
+        Implies (ObeysXoff told) (LosesNothing [] [] 0 0) }
+    ensures leaves_armed { (told : Option ℕ) → Implies (ObeysXoff told) LeavesArmed }
+    ensures is_bounded { (told : Option ℕ) →
+        Implies (ObeysXoff told) (MakesAtMost most_of_pump) }
+    ensures leaves_no_choice { LeavesNoRingChoice ObeysXoff }
+    ensures holds { (told : Option ℕ) → Implies (ObeysXoff told) (HoldsAsTold told) }
 {}
 
 /// The values of the limits.

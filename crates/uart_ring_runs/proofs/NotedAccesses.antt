@@ -22,6 +22,7 @@ use Rattle.uart_chip.specs.Masks.{mcr_bits}
 use Rattle.uart_chip.specs.Receiver as receiver
 use Rattle.uart_chip.specs.Receiver.{ReceiverState, front_errors, report, grow_timeout}
 use Rattle.uart_chip.specs.Sound.{IsMarked, IsSound}
+use Rattle.uart_spec.specs.declared.setup.FifoSize.{FifoSize}
 use Rattle.uart_chip.specs.Transmitter.{room}
 use Rattle.uart_chip.specs.declared.receiver.Character.{Character}
 use Rattle.uart_chip.proofs.AccessMoves.{both_if, ReadMove, takes, looks, read_move}
@@ -33,7 +34,7 @@ use Rattle.uart_run.specs.ReceivedErrors.{character_errors}
 use Rattle.uart_run.proofs.Between.{access_lasts, mark_lasts}
 use Rattle.uart_run.proofs.ExactErrors.{line_errors, and_twice}
 use Rattle.uart_run.proofs.Latches.{Kept, kept_in, kept_access, kept_step, kept-before_mark}
-use Rattle.uart_run.proofs.Overruns.{Behind, came, behind_came, flag_came}
+use Rattle.uart_run.proofs.Overruns.{Behind, came, behind_came, flag_came, lost_stays}
 use Rattle.uart_ring.specs.Notes.{Notes, with_access, told_errors}
 use Rattle.uart_ring.specs.Queue.{Queue}
 use Rattle.uart_ring_runs.specs.NotedErrors.{shown_of, AreTheirs, AreUnlooked, IsInStep}
@@ -43,7 +44,7 @@ use Rattle.uart_ring_runs.specs.NotedErrors.{shown_of, AreTheirs, AreUnlooked, I
 -- what was shown is of its front, and what was shown of overruns and the flag tell where a character was lost
 pub record Fits (shown : ℕ) (r : ReceiverState) : Type 0 where
   pub front : character_errors shown ≡ shown_of (reported_front r)
-  pub lost : has_any shown LSR.OVERRUN_ERROR.0 ≡ true → IsLost r.queue r.marks
+  pub lost : has_any shown LSR.OVERRUN_ERROR.0 ≡ true → IsLost r.size r.queue r.marks
   pub flag : FlagTells r
 
 abbrev ShownAs : ℕ → ReceiverState → Type 0
@@ -61,7 +62,7 @@ shown_behind errors (front ∷ others) new false e =
 shown_arrives : (errors : ℕ) (r : ReceiverState) (byte line : ℕ) → ShownAs errors r →
     ShownAs errors (receiver.arrive false true byte line r)
 shown_arrives errors r byte line e =
-    both_if (ShownAs errors) _ _ (nat_lt (length r.queue) (room true)) (shown_behind errors r.queue _ r.is_front_reported e) e
+    both_if (ShownAs errors) _ _ (nat_lt (length r.queue) (room true r.size)) (shown_behind errors r.queue _ r.is_front_reported e) e
 
 -- ---- events
 
@@ -72,18 +73,19 @@ Elapses m n = (P : ReceiverState → Type 0) → ((r : ReceiverState) → P r �
     P (receiver.arrive false true byte errors r)) → P m.chip.receiver → P n.chip.receiver
 
 module _ (m n : MachineState) (lasts : Elapses m n) where
-  pub behind_events : (count : ℕ) (taken : List Character) → Behind count taken m.chip.receiver → Behind count taken n.chip.receiver
-  behind_events count taken =
-      lasts (Behind count taken) (λ r p. p)
-      (λ r byte errors marked within p. behind_came count taken byte errors r _ marked (came r byte errors) p)
+  pub behind_events : (size : FifoSize) (count : ℕ) (taken : List Character) → Behind size count taken m.chip.receiver →
+      Behind size count taken n.chip.receiver
+  behind_events size count taken =
+      lasts (Behind size count taken) (λ r p. p)
+      (λ r byte errors marked within p. behind_came size count taken byte errors r _ marked (came r byte errors) p)
 
   -- what was shown of the front
   pub front_events : (errors : ℕ) → shown_of (reported_front m.chip.receiver) ≡ errors → shown_of (reported_front n.chip.receiver) ≡ errors
   front_events errors = lasts (ShownAs errors) (λ r e. e) (λ r byte line marked within e. shown_arrives errors r byte line e)
 
-  lost_events : IsLost m.chip.receiver.queue m.chip.receiver.marks → IsLost n.chip.receiver.queue n.chip.receiver.marks
-  lost_events (inl few) = inl (behind_events 15 [] few)
-  lost_events (inr all) = inr (behind_events 16 [] all)
+  lost_events : IsLost m.chip.receiver.size m.chip.receiver.queue m.chip.receiver.marks →
+      IsLost n.chip.receiver.size n.chip.receiver.queue n.chip.receiver.marks
+  lost_events = lost_stays m.chip.receiver n.chip.receiver [] [] (λ count p. behind_events m.chip.receiver.size count [] p)
 
   pub fits_events : (shown : ℕ) → Fits shown m.chip.receiver → Fits shown n.chip.receiver
   fits_events shown p = record {
@@ -171,8 +173,8 @@ to_access a m w = λ P idles arrives. access_lasts P idles arrives m w.sound w.f
 pub fits_access : (a : Notes) (m : MachineState) → Along a m → Fits a.shown (at_access m).chip.receiver
 fits_access a m w = fits_events m (at_access m) (to_access a m w) a.shown w.fits
 
-behind_access : (a : Notes) (m : MachineState) → Along a m → (count : ℕ) (taken : List Character) → Behind count taken m.chip.receiver →
-    Behind count taken (at_access m).chip.receiver
+behind_access : (a : Notes) (m : MachineState) → Along a m → (size : FifoSize) (count : ℕ) (taken : List Character) →
+    Behind size count taken m.chip.receiver → Behind size count taken (at_access m).chip.receiver
 behind_access a m w = behind_events m (at_access m) (to_access a m w)
 
 -- from m to n these characters were taken, and of each these errors were noted
@@ -183,11 +185,13 @@ pub record Noted (a b : Notes) (m n : MachineState) (takes : List Character) : T
   pub noted : front ++ b.noted.items ≡ a.noted.items ++ errors
   pub as_many : length errors ≡ length takes
   pub theirs : AreTheirs errors takes n.chip.receiver
-  pub stays : (count : ℕ) (taken : List Character) → Behind count taken m.chip.receiver → Behind count (taken ++ takes) n.chip.receiver
+  pub stays : (size : FifoSize) (count : ℕ) (taken : List Character) → Behind size count taken m.chip.receiver →
+      Behind size count (taken ++ takes) n.chip.receiver
 
 -- nothing was taken
 pub noted_none : (a b : Notes) (m n : MachineState) → Along b n → b.noted ≡ a.noted →
-    ((count : ℕ) (taken : List Character) → Behind count taken m.chip.receiver → Behind count taken n.chip.receiver) → Noted a b m n []
+    ((size : FifoSize) (count : ℕ) (taken : List Character) → Behind size count taken m.chip.receiver →
+    Behind size count taken n.chip.receiver) → Noted a b m n []
 noted_none a b m n along same stays = record {
   along = along;
   errors = [];
@@ -195,8 +199,8 @@ noted_none a b m n along same stays = record {
   noted = ap (λ (q : Queue). q.items) same ∙ sym (append-nil a.noted.items);
   as_many = refl;
   theirs = tt;
-  stays = λ count taken p.
-      subst (λ (cs : List Character). Behind count cs n.chip.receiver) (sym (append-nil taken)) (stays count taken p);
+  stays = λ size count taken p.
+      subst (λ (cs : List Character). Behind size count cs n.chip.receiver) (sym (append-nil taken)) (stays size count taken p);
 }
 
 -- an access that leaves receiver and notes to themselves
@@ -213,9 +217,9 @@ noted_still a b m n w same sound on off latch shown noted =
           let F : ReceiverState → Type 0 = λ r. Fits b.shown r in
           let G : ℕ → Type 0 = λ v. Fits v (at_access m).chip.receiver in
           subst F (sym same) (subst G (sym shown) (fits_access a m w));
-    }) noted (λ count taken p.
-    let B : ReceiverState → Type 0 = λ r. Behind count taken r in
-    subst B (sym same) (behind_access a m w count taken p))
+    }) noted (λ size count taken p.
+    let B : ReceiverState → Type 0 = λ r. Behind size count taken r in
+    subst B (sym same) (behind_access a m w size count taken p))
 
 -- the access leaves the receiver to itself, or is a look
 pub data Tame : Access → Type 0 where
@@ -268,9 +272,9 @@ look_noted a m n line w s =
           let F : ReceiverState → Type 0 = λ r. Fits (bit_or a.shown (bit_and line (told_errors a.is_overrun_old))) r in
           let G : ℕ → Type 0 = λ v. Fits (bit_or a.shown (bit_and v (told_errors a.is_overrun_old))) (report c.receiver) in
           subst F (sym same) (subst G (sym s.1) (fits_look c a.is_overrun_old a.shown (fits_access a m w)));
-    }) refl (λ count taken p.
-    let B : ReceiverState → Type 0 = λ r. Behind count taken r in
-    subst B (sym same) (behind_access a m w count taken p))
+    }) refl (λ size count taken p.
+    let B : ReceiverState → Type 0 = λ r. Behind size count taken r in
+    subst B (sym same) (behind_access a m w size count taken p))
 
 -- a write that keeps the receiver, the FIFO's mode and the latch
 write_still : (a b : Notes) (m n : MachineState) (offset value : ℕ) → Along a m → MachineStep m (Write offset value) n →
@@ -339,16 +343,16 @@ latch_noted a m n low w on s =
 
 -- errors stay those of their characters
 pub theirs_later : (errors : List ℕ) (characters more : List Character) (r s : ReceiverState) →
-    ((count : ℕ) (taken : List Character) → Behind count taken r → Behind count (taken ++ more) s) → AreTheirs errors characters r →
-    AreTheirs errors (characters ++ more) s
+    ((size : FifoSize) (count : ℕ) (taken : List Character) → Behind size count taken r → Behind size count (taken ++ more) s) →
+    AreTheirs errors characters r → AreTheirs errors (characters ++ more) s
 theirs_later [] characters more r s stays h = tt
 theirs_later (one ∷ errors) [] more r s stays h = absurd h
-theirs_later (one ∷ errors) (character ∷ characters) more r s stays (same, lost, rest) =
-    (same, (λ shown. later (lost shown)), theirs_later errors characters more r s stays rest)
-  where
-    later : IsLost (character ∷ (characters ++ r.queue)) r.marks → IsLost (character ∷ ((characters ++ more) ++ s.queue)) s.marks
-    later (inl few) = inl (stays 15 (character ∷ characters) few)
-    later (inr all) = inr (stays 16 (character ∷ characters) all)
+theirs_later (one ∷ errors) (character ∷ characters) more r s stays (same, lost, rest) = (
+  same,
+  (λ shown. lost_stays r s (character ∷ characters) (character ∷ (characters ++ more))
+      (λ count p. stays r.size count (character ∷ characters) p) (lost shown)),
+  theirs_later errors characters more r s stays rest,
+)
 
 pub theirs_append : (errors others : List ℕ) (characters more : List Character) (r : ReceiverState) → length errors ≡ length characters →
     AreTheirs errors (characters ++ more) r → AreTheirs others more r → AreTheirs (errors ++ others) (characters ++ more) r
@@ -372,12 +376,12 @@ noted_then a b c m n o ts us p q = record {
       let second = length-append ts us in omega (arith, first, second, p.as_many, q.as_many);
   theirs = theirs_append p.errors q.errors ts us o.chip.receiver p.as_many
       (theirs_later p.errors ts us n.chip.receiver o.chip.receiver q.stays p.theirs) q.theirs;
-  stays = λ count taken h. subst (λ (cs : List Character). Behind count cs o.chip.receiver) (append_assoc taken ts us)
-      (q.stays count (taken ++ ts) (p.stays count taken h));
+  stays = λ size count taken h. subst (λ (cs : List Character). Behind size count cs o.chip.receiver) (append_assoc taken ts us)
+      (q.stays size count (taken ++ ts) (p.stays size count taken h));
 }
 
 pub noted_start : (a : Notes) (m : MachineState) → Along a m → Noted a a m m []
-noted_start a m w = noted_none a a m m w refl (λ count taken p. p)
+noted_start a m w = noted_none a a m m w refl (λ size count taken p. p)
 
 -- what these accesses make of the notes
 abbrev pub with_accesses : List Access → Notes → Notes

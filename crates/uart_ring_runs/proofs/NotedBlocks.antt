@@ -24,12 +24,11 @@ use Rattle.uart_chip.proofs.conservation.BlockLaws.{look_reported, Took, took, P
 use Rattle.uart_chip.proofs.conservation.Passed.{Passed, passed-refl, passed-trans, passed-access}
 use Rattle.uart_chip.proofs.conservation.Went.{Modes, dlab-in}
 use Rattle.uart_chip.proofs.statuses.Reports.{IsReported}
-use Rattle.uart_run.specs.Overruns.{IsLost}
 use Rattle.uart_run.specs.ReceivedErrors.{character_errors}
 use Rattle.uart_run.proofs.CallBlocks.{InBlocks}
 use Rattle.uart_run.proofs.ExactErrors.{none_reported}
 use Rattle.uart_run.proofs.Latches.{Kept}
-use Rattle.uart_run.proofs.Overruns.{Behind, HitTells, hit_tells}
+use Rattle.uart_run.proofs.Overruns.{HitTells, hit_tells, lost_stays}
 use Rattle.uart_ring.specs.Notes.{Notes, with_access}
 use Rattle.uart_ring.specs.Queue.{with_latest}
 use Rattle.uart_ring_runs.specs.NotedErrors.{shown_of, only_bytes, IsInStep}
@@ -116,13 +115,6 @@ front_reported fifo r on told = go told.reported
     go (inl set) = set
     go (inr (off, overrun)) = absurd (cc)
 
--- what was lost is still lost behind as many, once the front is taken
-still_lost : (front : Character) (m n : MachineState) → ((count : ℕ) (taken : List Character) → Behind count taken m.chip.receiver →
-    Behind count (taken ++ front ∷ []) n.chip.receiver) → IsLost m.chip.receiver.queue m.chip.receiver.marks →
-    IsLost (front ∷ ([] ++ n.chip.receiver.queue)) n.chip.receiver.marks
-still_lost front m n stays (inl few) = inl (stays 15 [] few)
-still_lost front m n stays (inr all) = inr (stays 16 [] all)
-
 hit_noted : (x : Modes) (a : Notes) (m n : MachineState) (line byte : ℕ) → IsOpen x → x.fifo ≡ true → Stands x m → Along a m →
     has_any line LSR.DATA_READY.0 ≡ true → Path MachineStep m (Read offsets.LSR line ∷ Read offsets.DATA byte ∷ []) n →
     NotedBlocks x a (with_accesses (Read offsets.LSR line ∷ Read offsets.DATA byte ∷ []) a) m n
@@ -173,7 +165,8 @@ hit_noted x a m n line byte o on w along h (m₁, s₁, (m₂, s₂, e)) =
         theirs = (
           (fits_access a₁ m₁ seen.along).front ∙ front,
           (λ set. elim (either_shown a.is_overrun_old a.shown line set) [
-            | inl before ↦ still_lost b.front m m₂ tells.stays (along.fits.lost before)
+            | inl before ↦ lost_stays m.chip.receiver m₂.chip.receiver [] (b.front ∷ [])
+                (λ count p. tells.stays m.chip.receiver.size count [] p) (along.fits.lost before)
             | inr now ↦ tells.tells along.fits.flag now.1
           ]),
           tt,

@@ -1,7 +1,7 @@
 -- What each call of the rings themselves does to the machine and to the notes, with the FIFO on.
-use Rattle.std.proofs.Common.{◌≡◌, ℕ, Bool, true, false, List, [], ◌∷◌, ◌++◌, append-nil, append_assoc, refl, sym, ◌∙◌, ap, subst, take}
+use Rattle.std.proofs.Common.{◌≡◌, ℕ, Bool, true, false, List, [], ◌∷◌, ◌++◌, append-nil, append_assoc, refl, sym, ◌∙◌, ap, subst}
 use Rattle.std.proofs.Common.{Option, Some, None, bit_and}
-use Rattle.std.specs.Prelude.{All, ⊤, option_to_list}
+use Rattle.std.specs.Prelude.{All}
 use Rattle.std.proofs.lemmas.List.{map-append}
 use Rattle.std.proofs.lemmas.List.Elements.{All-head, All-tail}
 use Rattle.uart_spec.specs.Access.{Path}
@@ -22,33 +22,27 @@ use Rattle.uart_run.specs.Chains.{calls_of}
 use Rattle.uart_run.proofs.CallBlocks.{InBlocks}
 use Rattle.uart_run.proofs.FrameLaws.{unlooped_off}
 use Rattle.uart_run.specs.Wired.{IsWired}
-use Rattle.uart_ring.specs.Lossless.{data_written, data_read, LosesOnly, with_accepted, overtaken_by, without_dropped}
+use Rattle.uart_ring.specs.Lossless.{data_written, data_read, LosesOnly, with_accepted}
 use Rattle.uart_ring.specs.Notes.{Notes, NotesErrors, notes_of}
 use Rattle.uart_ring.specs.Receive.{write_if_other, rts_at, MakesRtsIfAny}
-use Rattle.uart_ring.specs.Ring.{RingDoing, RingDid, RingFields, ring_fields, ring_backend_of, free}
+use Rattle.uart_ring.specs.Ring.{RingDoing, RingFields, ring_fields, ring_backend_of, free}
 use Rattle.uart_ring.specs.declared.notes.ErrorNotes.{ErrorNotes}
-use Rattle.uart_ring.proofs.Losses.{queues_lose_nothing, takes_lose_nothing, services_lose_nothing, resumes_lose_nothing}
-use Rattle.uart_ring.proofs.Losses.{takes_line_loses_nothing, takes_modem_loses_nothing, handles_lose_nothing, retriggers_lose_nothing}
-use Rattle.uart_ring.proofs.Losses.{holds_lose_nothing, releases_lose_nothing, queues_urgent_loses_only, clears_transmit_loses_only}
-use Rattle.uart_ring.proofs.Losses.{clears_receive_loses_nothing, sets_low_mark_loses_nothing, takes_low_loses_nothing, tries_lose_nothing}
-use Rattle.uart_ring.proofs.Losses.{restarts_lose_nothing, adjusts_lose_nothing}
-use Rattle.uart_ring.proofs.Rts.{adjusts_xoff_loses_only}
+use Rattle.uart_ring.proofs.Losses.{adjusts_lose_nothing}
 use Rattle.uart_ring_runs.specs.declared.call.RingAnswer.{RingAnswer}
 use Rattle.uart_ring_runs.specs.declared.call.RingCall.{RingCall}
 use Rattle.uart_ring_runs.specs.declared.call.RingCall.TheVariants as call
 use Rattle.uart_ring_runs.specs.NotedErrors.{NotedState, without_notes, notes_in, only_bytes, NotedCallStep, NotedLink, NotedChain}
 use Rattle.uart_ring_runs.specs.NotedErrors.{link_without_notes, links_without_notes}
 use Rattle.uart_ring_runs.specs.RingBytes.{to_take, gone_in, gone}
-use Rattle.uart_ring_runs.specs.RingRun.{under, ring_machine, IsOfRings, RingCalled, RingCallStep, RingPerformed, RingChain}
+use Rattle.uart_ring_runs.specs.RingRun.{under, ring_machine, IsOfRings, RingCalled, RingCallStep, RingChain}
 use Rattle.uart_ring_runs.specs.RingSession.{IsWithinRingSession, AllWithinRingSession}
 use Rattle.uart_ring_runs.proofs.NotedAccesses.{Along, Noted, Reads, Steers, AllTame, all_tame_noted, noted_then, noted_start, noted_mark}
 use Rattle.uart_ring_runs.proofs.NotedAccesses.{with_accesses}
 use Rattle.uart_ring_runs.proofs.NotedBlocks.{no_bytes, noted_in_blocks}
-use Rattle.uart_ring_runs.proofs.RingBlocks.{MakesRingBlocks, MakesBlocks, in_blocks}
+use Rattle.uart_ring_runs.proofs.RingBlocks.{MakesBlocks, in_blocks}
 use Rattle.uart_ring_runs.proofs.RingLasts.{first_within}
-use Rattle.uart_ring_runs.proofs.RingMeanings.{adjusts_xoff}
+use Rattle.uart_ring_runs.proofs.RingMeanings.{Meant, meaning_of}
 use Rattle.uart_ring_runs.proofs.RingRts.{with_mcr_of, modes_at, InRingSession, came_rts}
-use Rattle.uart_ring_runs.proofs.RingWalk as walk
 
 -- ---- the machine under the notes
 
@@ -94,94 +88,6 @@ plain_chain s t (link ∷ links) own h = (
   plain_chain link.after t links (All-tail IsOfRings link.call (calls_of links) own) h.2,
 )
 
--- ---- what a call did whose accesses are blocks
-
--- what left the receive ring in it, and what is there, was there or was read
-record Moved (s t : NotedState) (left : List ℕ) : Type 0 where
-  pub list : List Access
-  pub path : Path (NotesErrors MachineStep) (ring_backend_of s) list (ring_backend_of t)
-  pub makes : MakesRingBlocks (ring_fields s) list (ring_fields t)
-  pub received : left ++ (ring_fields t).receive.items ≡ (ring_fields s).receive.items ++ data_read list
-
-moved : (G : RingDoing) (change : List ℕ → List ℕ) (left : List ℕ) (line modem : ℕ) (s t : NotedState) →
-    (did : RingDid (NotesErrors MachineStep) G s t) → MakesRingBlocks (ring_fields s) did.list (ring_fields t) →
-    LosesOnly change left line modem (ring_fields s) did.list (ring_fields t) → Moved s t left
-moved G change left line modem s t did makes loses =
-    record { list = did.list; path = did.path; makes = makes; received = loses.received }
-
--- `adjust_rts` writes MCR, `Next` makes no access, and what a call of the driver does is not said here
-abbrev IsOfBlocks : RingCall → Type 0
-IsOfBlocks (call.AdjustRts marks) = ⊥
-IsOfBlocks (call.Driver c) = ⊥
-IsOfBlocks call.Next = ⊥
-IsOfBlocks other = ⊤
-
-call_moved : (s t : NotedState) (c : RingCall) (a : RingAnswer) → IsOfBlocks c → RingPerformed (NotesErrors MachineStep) s c a t →
-    Moved s t (gone_in c a (ring_fields s).receive.items)
-call_moved s t (call.Queue bytes) a b h =
-    moved _ (with_accepted (take h.outcome bytes.items)) _ 0 0 s t h.did
-    (walk.queues MakesBlocks in_blocks bytes.items h.outcome _ _ _ h.did.does)
-    (queues_lose_nothing bytes.items h.outcome _ _ _ h.did.does)
-call_moved s t call.ResumeTransmit a b h =
-    moved _ (with_accepted []) _ 0 0 s t h.did
-    (walk.resumes MakesBlocks in_blocks (ring_fields s) h.did.list (ring_fields t) h.did.does)
-    (resumes_lose_nothing (ring_fields s) h.did.list (ring_fields t) h.did.does)
-call_moved s t (call.Take slots) a b h =
-    rw h.answered (moved _ (with_accepted []) _ 0 0 s t h.did (walk.takes MakesBlocks in_blocks slots h.outcome _ _ _ h.did.does)
-    (takes_lose_nothing slots h.outcome _ _ _ h.did.does))
-call_moved s t call.Service a b h =
-    moved _ (with_accepted []) _ 0 0 s t h.did (walk.services MakesBlocks in_blocks h.outcome _ _ _ h.did.does)
-    (services_lose_nothing h.outcome _ _ _ h.did.does)
-call_moved s t (call.Handle limit) a b h =
-    moved _ (with_accepted []) _ 0 0 s t h.did (walk.handles MakesBlocks in_blocks limit h.outcome _ _ _ h.did.does)
-    (handles_lose_nothing limit h.outcome _ _ _ h.did.does)
-call_moved s t call.Retrigger a b h =
-    moved _ (with_accepted []) _ 0 0 s t h.did (walk.retriggers MakesBlocks in_blocks _ _ _ h.did.does)
-    (retriggers_lose_nothing _ _ _ h.did.does)
-call_moved s t call.TakeLine a b h =
-    moved _ (with_accepted []) _ h.outcome 0 s t h.did (walk.takes_line MakesBlocks in_blocks h.outcome _ _ _ h.did.does)
-    (takes_line_loses_nothing h.outcome _ _ _ h.did.does)
-call_moved s t call.TakeModem a b h =
-    moved _ (with_accepted []) _ 0 h.outcome s t h.did (walk.takes_modem MakesBlocks in_blocks h.outcome _ _ _ h.did.does)
-    (takes_modem_loses_nothing h.outcome _ _ _ h.did.does)
-call_moved s t call.HoldTransmit a b h =
-    moved _ (with_accepted []) _ 0 0 s t h.did
-    (walk.holds MakesBlocks in_blocks (ring_fields s) h.did.list (ring_fields t) h.did.does)
-    (holds_lose_nothing (ring_fields s) h.did.list (ring_fields t) h.did.does)
-call_moved s t call.ReleaseTransmit a b h =
-    moved _ (with_accepted []) _ 0 0 s t h.did
-    (walk.releases MakesBlocks in_blocks (ring_fields s) h.did.list (ring_fields t) h.did.does)
-    (releases_lose_nothing (ring_fields s) h.did.list (ring_fields t) h.did.does)
-call_moved s t (call.QueueUrgent byte) a b h =
-    moved _ (overtaken_by byte h.outcome) _ 0 0 s t h.did
-    (walk.queues_urgent MakesBlocks in_blocks byte h.outcome _ _ _ h.did.does)
-    (queues_urgent_loses_only byte h.outcome _ _ _ h.did.does)
-call_moved s t call.ClearTransmit a b h =
-    moved _ (without_dropped h.outcome) _ 0 0 s t h.did
-    (walk.clears_transmit MakesBlocks in_blocks h.outcome _ _ _ h.did.does)
-    (clears_transmit_loses_only h.outcome _ _ _ h.did.does)
-call_moved s t call.ClearReceive a b h =
-    moved _ (with_accepted []) _ 0 0 s t h.did (walk.clears_receive MakesBlocks in_blocks h.outcome _ _ _ h.did.does)
-    (clears_receive_loses_nothing (ring_fields s) h.outcome _ _ h.did.does)
-call_moved s t (call.SetLowMark mark) a b h =
-    moved _ (with_accepted []) _ 0 0 s t h.did
-    (walk.sets_low_mark MakesBlocks in_blocks mark (ring_fields s) h.did.list (ring_fields t) h.did.does)
-    (sets_low_mark_loses_nothing mark (ring_fields s) h.did.list (ring_fields t) h.did.does)
-call_moved s t call.TakeLow a b h =
-    moved _ (with_accepted []) _ 0 0 s t h.did (walk.takes_low MakesBlocks in_blocks h.outcome _ _ _ h.did.does)
-    (takes_low_loses_nothing h.outcome _ _ _ h.did.does)
-call_moved s t (call.TryHandle limit rounds) a b h =
-    moved _ (with_accepted []) _ 0 0 s t h.did (walk.tries MakesBlocks in_blocks limit rounds h.outcome _ _ _ h.did.does)
-    (tries_lose_nothing limit rounds h.outcome _ _ _ h.did.does)
-call_moved s t (call.Restart interrupts) a b h =
-    moved _ (with_accepted []) _ 0 0 s t h.did (walk.restarts MakesBlocks in_blocks interrupts.0 _ _ _ h.did.does)
-    (restarts_lose_nothing interrupts.0 _ _ _ h.did.does)
-call_moved s t (call.AdjustXoff marks) a b h =
-    moved _ (λ waiting. option_to_list h.outcome ++ waiting) _ 0 0 s t h.did
-    (adjusts_xoff marks h.outcome MakesBlocks in_blocks _ _ _ h.did.does)
-    (adjusts_xoff_loses_only marks h.outcome _ _ _ h.did.does)
-call_moved s t _ a b h = absurd b
-
 -- ---- what a call does
 
 -- from s to t these characters were taken, and of each its errors noted; what left the receive ring, and what is there, was
@@ -207,15 +113,18 @@ open_at : (x : Modes) (mcr : ℕ) (m n : MachineState) (made : List Access) (ws 
 open_at x mcr m n made ws ts o p =
     let O : ℕ → Type 0 = λ v. IsOpen (record x { mcr = v }) in subst O (sym p.went.modes.mcr) o
 
-of_blocks : (x : Modes) (s t : NotedState) (left : List ℕ) → x.fifo ≡ true → InRingSession x (without_notes s) →
-    Along (notes_in s) (ring_machine (without_notes s)) → Moved s t left → CallNoted x s t left
-of_blocks x s t left on w along h =
+-- a usual call: its accesses are blocks
+of_blocks : (x : Modes) (s t : NotedState) (c : RingCall) (a : RingAnswer) → x.fifo ≡ true → InRingSession x (without_notes s) →
+    Along (notes_in s) (ring_machine (without_notes s)) → Meant (NotesErrors MachineStep) c a s t →
+    CallNoted x s t (gone_in c a (to_take (without_notes s)))
+of_blocks x s t c a on w along h =
     let m = ring_machine (without_notes s) in
     let n = ring_machine (without_notes t) in
     let parts = parted h.list (ring_backend_of s) (ring_backend_of t) h.path in
+    let makes = h.walks MakesBlocks in_blocks in
     let I : Bool → Type 0 = λ fifo. InBlocks fifo h.list (data_written h.list) (data_read h.list) in
     let p = noted_in_blocks (modes_at x (without_notes s)) (notes_in s) m n h.list (data_written h.list) (data_read h.list) w.open_modes on
-    w.stands along (subst I w.fifo h.makes.blocks) parts.path in
+    w.stands along (subst I w.fifo makes.blocks) parts.path in
     let N : Notes → Type 0 = λ v. Noted (notes_in s) v m n p.takes in
     record {
       made = h.list;
@@ -223,9 +132,9 @@ of_blocks x s t left on w along h =
       takes = p.takes;
       open_modes = open_at x m.chip.latches.mcr m n h.list (data_written h.list) p.takes w.open_modes p.passed;
       passed = at_mcr x m.chip.latches.mcr m n h.list (data_written h.list) p.takes p.passed;
-      fifo = h.makes.fifo;
+      fifo = makes.fifo;
       noted = subst N (sym parts.notes) p.noted;
-      received = h.received ∙ ap (λ zs. (ring_fields s).receive.items ++ zs) (sym p.bytes);
+      received = h.loses.received ∙ ap (λ zs. (ring_fields s).receive.items ++ zs) (sym p.bytes);
     }
 
 -- ---- `adjust_rts`
@@ -305,7 +214,7 @@ call_noted x s t call.Next a on w along o i (goes, same) =
       noted = subst N (sym same) (subst M (sym goes.machine) (noted_mark (notes_in s) m along));
       received = ap (λ (f : RingFields). f.receive.items) goes.rings ∙ sym (append-nil (to_take (without_notes s)));
     }
-call_noted x s t other a on w along o i h = of_blocks x s t _ on w along (call_moved s t other a tt h)
+call_noted x s t other a on w along o i h = of_blocks x s t other a on w along (meaning_of s t other a tt h)
 
 -- ---- calls in turn
 

@@ -166,7 +166,7 @@ replaced_waits (old ∷ others) new r w = omega arith
 entered_waits : (fifo : Bool) (new : Character) (r : ReceiverState) → 0 < length r.queue → 0 < length (enter fifo new r).queue
 entered_waits fifo new r w =
     let P : ReceiverState → Type 0 = λ s. 0 < length s.queue in
-    both_if P _ _ (nat_lt (length r.queue) (room fifo)) (omega (arith, length-append r.queue (new ∷ [])))
+    both_if P _ _ (nat_lt (length r.queue) (room fifo r.size)) (omega (arith, length-append r.queue (new ∷ [])))
     (both_if P _ _ fifo w (replaced_waits r.queue new r w))
 
 arrived_waits : (loopback fifo : Bool) (byte errors : ℕ) (r : ReceiverState) → 0 < length r.queue →

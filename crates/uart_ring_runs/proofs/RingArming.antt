@@ -52,8 +52,8 @@ list_arms s t list unchecked off path lcr arms =
     known_armed (known_after_all known list) (ring_fields t) (ring_machine t) after.1 (arms unchecked known)
 
 -- a usual call
-meant_leaves : (s t : RingState) (c : RingCall) (a : RingAnswer) → IsUnchecked (under s) → IsDlabOff (ring_machine s) → Meant c a s t →
-    IsRingArmed s ⊎ RearmsRing c a → IsRingArmed t
+meant_leaves : (s t : RingState) (c : RingCall) (a : RingAnswer) → IsUnchecked (under s) → IsDlabOff (ring_machine s) →
+    Meant MachineStep c a s t → IsRingArmed s ⊎ RearmsRing c a → IsRingArmed t
 meant_leaves s t c a unchecked off k (inl is) =
     list_leaves s t k.list unchecked off k.path (k.walks MakesBlocks in_blocks).lcr k.leaves is
 meant_leaves s t c a unchecked off k (inr rearms) =

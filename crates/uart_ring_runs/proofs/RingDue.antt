@@ -25,6 +25,7 @@ use Rattle.uart_chip.specs.Transmitter.{TransmitterState, shift, refill, load, r
 use Rattle.uart_chip.specs.Chip.{ChipState, cut_of, is_dlab_set, interrupt, identification, is_thr_empty}
 use Rattle.uart_chip.specs.Chip.{after_read, enable, with_thr_pending}
 use Rattle.uart_chip.specs.Machine.{MachineState, MachineStep, at_access, at_mark}
+use Rattle.uart_chip.proofs.Sizes.{at_least_16}
 use Rattle.uart_chip.proofs.Bits.{has_one, has_and}
 use Rattle.uart_chip.proofs.conservation.BlockLaws.{look_room}
 use Rattle.uart_chip.proofs.lasting.Lasting.{either, lasts-before, lasts-before_mark}
@@ -77,13 +78,13 @@ due-tick loopback t h =
 
 -- a byte that is written is held
 pub due-load : (fifo : Bool) (byte : ℕ) (t : TransmitterState) → IsDue (load fifo byte t)
-due-load fifo byte t = go (nat_lt (length t.queue) (room fifo)) refl
+due-load fifo byte t = go (nat_lt (length t.queue) (room fifo t.size)) refl
   where
-    full : (b : Bool) → nat_lt (length t.queue) (room b) ≡ false → 0 < length (if b then t.queue else byte ∷ [])
-    full true e = grind (arith, nat_tests)
+    full : (b : Bool) → nat_lt (length t.queue) (room b t.size) ≡ false → 0 < length (if b then t.queue else byte ∷ [])
+    full true e = let some = at_least_16 t.size in grind (arith, nat_tests)
     full false e = omega arith
 
-    go : (fits : Bool) → nat_lt (length t.queue) (room fifo) ≡ fits → IsDue (load fifo byte t)
+    go : (fits : Bool) → nat_lt (length t.queue) (room fifo t.size) ≡ fits → IsDue (load fifo byte t)
     go true e = rw e (inl (omega (arith, length-append t.queue (byte ∷ []))))
     go false e = rw e (inl (full fifo e))
 

@@ -1,29 +1,30 @@
 -- What each call of the rings does, in one place: it is made of doings of the driver, it loses nothing, and it leaves the rings armed.
-use Rattle.std.proofs.Common.{◌≡◌, ◌≢◌, ◌<◌, ℕ, Bool, not, Option, Some, None, List, [], ◌++◌, append-nil, length, length-take, take}
-use Rattle.std.proofs.Common.{refl, sym, arith}
-use Rattle.std.specs.Prelude.{⊤}
+use Rattle.std.proofs.Common.{◌≡◌, ◌≢◌, ◌<◌, ◌==◌, ℕ, Bool, true, false, not, Option, Some, None, List, [], ◌++◌, append-nil, length}
+use Rattle.std.proofs.Common.{length-take, refl, sym, arith}
+use Rattle.std.specs.Prelude.{⊤, MatchBool}
 use Rattle.uart_spec.specs.Access.{Path}
 use Rattle.uart_spec.specs.declared.access.Access.{Access}
 use Rattle.uart_16550.specs.Driver.{Doing}
 use Rattle.uart_events.specs.declared.call.Call.{Call}
 use Rattle.uart_events.specs.declared.call.Call.TheVariants as driver
 use Rattle.uart_events.specs.declared.call.Answer.{Answer}
-use Rattle.uart_chip.specs.Machine.{MachineStep}
 use Rattle.uart_run.specs.Session.{reported_by}
-use Rattle.uart_ring.specs.Ring.{RingDoing, RingDid, RingFields, ring_fields, with_told_xoff}
-use Rattle.uart_ring.specs.Receive.{flow_character, TellsIfAny, AdjustsXoff}
+use Rattle.uart_ring.specs.Ring.{RingDoing, RingDid, ring_fields, ring_backend_of, with_told_xoff, looked}
+use Rattle.uart_ring.specs.Receive.{flow_character, TellsIfAny, AdjustsXoff, xon, Obeys, ObeysXoff}
+use Rattle.uart_ring.specs.Transmit.{Holds, Releases}
 use Rattle.uart_ring.specs.declared.ring.receive.ReceiveMarks.{ReceiveMarks}
+use Rattle.uart_ring.specs.declared.ring.Uart16550Ring.{Uart16550Ring}
 use Rattle.uart_ring.specs.Lossless.{LosesOnly, Implies}
 use Rattle.uart_ring.specs.Armed.{LeavesArmed, Arms}
 use Rattle.uart_ring.proofs.Arming as arming
 use Rattle.uart_ring.proofs.Losses as losses
-use Rattle.uart_ring.proofs.Rts.{at_marks, adjusts_xoff_loses_only, adjusts_xoff_leave}
+use Rattle.uart_ring.proofs.Rts.{at_marks, adjusts_xoff_loses_only, adjusts_xoff_leave, obeys_xoff_loses_nothing, obeys_xoff_leave}
 use Rattle.uart_ring_runs.specs.declared.call.RingCall.{RingCall}
 use Rattle.uart_ring_runs.specs.declared.call.RingCall.TheVariants as call
 use Rattle.uart_ring_runs.specs.declared.call.RingAnswer.{RingAnswer}
 use Rattle.uart_ring_runs.specs.declared.call.RingAnswer.TheVariants as answers
-use Rattle.uart_ring_runs.specs.RingRun.{RingState, ring_machine, RingCallStep}
-use Rattle.uart_ring_runs.specs.RingBytes.{to_take, queued_by, gone_in, to_send_with, KeepsOrder, SendsNothing}
+use Rattle.uart_ring_runs.specs.RingRun.{RingPerformed}
+use Rattle.uart_ring_runs.specs.RingBytes.{queued_by, gone_in, to_send_with, KeepsOrder, SendsNothing}
 use Rattle.uart_ring_runs.specs.RingArmed.{RearmsRing}
 use Rattle.uart_ring_runs.specs.RingPlain.{IsPlain}
 use Rattle.uart_ring_runs.proofs.RingWalk as walk
@@ -36,26 +37,28 @@ IsUsual (call.Driver c) = ⊥
 IsUsual call.Next = ⊥
 IsUsual other = ⊤
 
--- what is known of a call: its accesses, of which holds what holds of each doing of the driver; what it makes of the bytes that
--- wait, what left the receive ring, and which bits of LSR and MSR it told; and that it leaves the rings armed, or arms them
-pub record Meant (c : RingCall) (a : RingAnswer) (s t : RingState) : Type 1 where
+-- what is known of a call, over any backend: its accesses, of which holds what holds of each doing of the driver; what it makes of
+-- the bytes that wait, what left the receive ring, and which bits of LSR and MSR it told; and that it leaves the rings armed, or
+-- arms them
+pub record Meant {B : Type 0} (step : B → Access → B → Type 0) (c : RingCall) (a : RingAnswer) (s t : Uart16550Ring B) : Type 1 where
   pub list : List Access
-  pub path : Path MachineStep (ring_machine s) list (ring_machine t)
+  pub path : Path step (ring_backend_of s) list (ring_backend_of t)
   pub line : ℕ
   pub modem : ℕ
   pub walks : (P : Doing) → Walks P → InRings P (ring_fields s) list (ring_fields t)
-  pub loses : LosesOnly (to_send_with c a) (gone_in c a (to_take s)) line modem (ring_fields s) list (ring_fields t)
+  pub loses : LosesOnly (to_send_with c a) (gone_in c a (ring_fields s).receive.items) line modem (ring_fields s) list (ring_fields t)
   pub no_line : c ≢ call.TakeLine → line ≡ 0
   pub no_modem : c ≢ call.TakeModem → modem ≡ 0
   pub leaves : LeavesArmed (ring_fields s) list (ring_fields t)
   pub arms : RearmsRing c a → Arms (ring_fields s) list (ring_fields t)
 
 -- a call that did this, and arms the rings only if it accepts bytes
-of_did : {G : RingDoing} (c : RingCall) (a : RingAnswer) (s t : RingState) (line modem : ℕ) → (did : RingDid MachineStep G s t) →
+of_did : {B : Type 0} {step : B → Access → B → Type 0} {G : RingDoing} (c : RingCall) (a : RingAnswer) (s t : Uart16550Ring B)
+    (line modem : ℕ) → (did : RingDid step G s t) →
     ((P : Doing) → Walks P → Implies G (InRings P)) →
-    LosesOnly (to_send_with c a) (gone_in c a (to_take s)) line modem (ring_fields s) did.list (ring_fields t) →
+    LosesOnly (to_send_with c a) (gone_in c a (ring_fields s).receive.items) line modem (ring_fields s) did.list (ring_fields t) →
     (c ≢ call.TakeLine → line ≡ 0) → (c ≢ call.TakeModem → modem ≡ 0) → Implies G LeavesArmed → (RearmsRing c a → Implies G Arms) →
-    Meant c a s t
+    Meant step c a s t
 of_did c a s t line modem did walks loses no_line no_modem leaves arms = record {
   list = did.list;
   path = did.path;
@@ -82,11 +85,24 @@ tells : (wanted : Option Bool) (told : Option ℕ) (P : Doing) → Walks P → I
 tells None told P w f l after t = walk.stays P w f l after t.1
 tells (Some on) told P w f l after t = walk.queues_urgent P w (flow_character on) None (with_told_xoff (not on) f) l after t.1
 
-pub adjusts_xoff : (marks : ReceiveMarks) (told : Option ℕ) (P : Doing) → Walks P → Implies (AdjustsXoff marks told) (InRings P)
+adjusts_xoff : (marks : ReceiveMarks) (told : Option ℕ) (P : Doing) → Walks P → Implies (AdjustsXoff marks told) (InRings P)
 adjusts_xoff marks told P w f l after t = tells (at_marks marks f) told P w f l after t
 
+-- `obey_xoff` is a release, a hold, or nothing
+obeys : (told : Option ℕ) (P : Doing) → Walks P → Implies (Obeys told) (InRings P)
+obeys None P w f l after t = walk.stays P w f l after t
+obeys (Some byte) P w f l after t = go (byte == xon) t
+  where
+    go : (on : Bool) → MatchBool on (Releases f l after) (Holds f l after) → InRings P f l after
+    go true t = walk.releases P w f l after t
+    go false t = walk.holds P w f l after t
+
+obeys_xoff : (told : Option ℕ) (P : Doing) → Walks P → Implies (ObeysXoff told) (InRings P)
+obeys_xoff told P w f l after t = obeys told P w (looked f) l after t.1
+
 -- each call
-pub meaning_of : (s t : RingState) (c : RingCall) (a : RingAnswer) → IsUsual c → RingCallStep s c a t → Meant c a s t
+pub meaning_of : {B : Type 0} {step : B → Access → B → Type 0} (s t : Uart16550Ring B) (c : RingCall) (a : RingAnswer) → IsUsual c →
+    RingPerformed step s c a t → Meant step c a s t
 meaning_of s t (call.Queue bytes) a usual h = rw h.answered (
     of_did (call.Queue bytes) _ s t 0 0 h.did (λ P w. walk.queues P w bytes.items h.outcome)
     (losses.queues_lose_nothing bytes.items h.outcome (ring_fields s) h.did.list (ring_fields t) h.did.does) (λ n. refl) (λ m. refl)
@@ -161,6 +177,10 @@ meaning_of s t (call.AdjustXoff marks) a usual h =
     rw h.answered (of_did (call.AdjustXoff marks) _ s t 0 0 h.did (adjusts_xoff marks h.outcome)
     (adjusts_xoff_loses_only marks h.outcome (ring_fields s) h.did.list (ring_fields t) h.did.does) (λ n. refl) (λ m. refl)
     (adjusts_xoff_leave marks h.outcome) none)
+meaning_of s t call.ObeyXoff a usual h =
+    of_did call.ObeyXoff a s t 0 0 h.did (obeys_xoff h.outcome)
+    (obeys_xoff_loses_nothing h.outcome (ring_fields s) h.did.list (ring_fields t) h.did.does) (λ n. refl) (λ m. refl)
+    (obeys_xoff_leave h.outcome) none
 meaning_of s t other a usual h = absurd usual
 
 -- ---- bytes in order
@@ -189,8 +209,9 @@ in_order other a bytes o = refl
 
 -- what tells the rings nothing keeps the order
 pub keeps_order : (c : RingCall) → IsPlain c → KeepsOrder c
-keeps_order (call.QueueUrgent byte) plain = absurd plain
-keeps_order call.ClearTransmit plain = absurd plain
-keeps_order (call.AdjustXoff marks) plain = absurd plain
+keeps_order call.HoldTransmit plain = tt
+keeps_order call.ObeyXoff plain = tt
+keeps_order call.ClearReceive plain = tt
+keeps_order (call.TryHandle limit rounds) plain = tt
 keeps_order (call.Driver c) plain = plain.0
-keeps_order other plain = tt
+keeps_order other plain = plain

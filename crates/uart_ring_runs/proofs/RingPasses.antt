@@ -6,6 +6,7 @@ use Rattle.uart_spec.specs.declared.access.Access.{Access}
 use Rattle.uart_spec.specs.declared.registers.line_status.TheConstants.LSR
 use Rattle.uart_spec.specs.declared.registers.modem_status.TheConstants.MSR
 use Rattle.uart_16550.specs.Driver.{settings_of}
+use Rattle.uart_chip.specs.Machine.{MachineStep}
 use Rattle.uart_chip.proofs.conservation.Went.{Modes}
 use Rattle.uart_chip.proofs.conservation.Passed.{passed-mark}
 use Rattle.uart_chip.proofs.conservation.BlockLaws.{IsOpen, PassedBlocks}
@@ -65,7 +66,7 @@ ring_passes_came x N M change u line modem s t list c loses no_line no_modem = r
 }
 
 -- a usual call
-ring_passes_meant : (x : Modes) (s t : RingState) (c : RingCall) (a : RingAnswer) → InRingSession x s → Meant c a s t →
+ring_passes_meant : (x : Modes) (s t : RingState) (c : RingCall) (a : RingAnswer) → InRingSession x s → Meant MachineStep c a s t →
     RingPasses x (InLine c a s) (c ≢ call.TakeLine) (c ≢ call.TakeModem) s t (gone_in c a (to_take s))
 ring_passes_meant x s t c a w k =
     ring_passes_came x _ _ (to_send_with c a) _ k.line k.modem s t k.list

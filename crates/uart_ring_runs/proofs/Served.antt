@@ -12,8 +12,6 @@ use Rattle.uart_spec.specs.Fields.{Identifies}
 use Rattle.uart_spec.specs.declared.access.Access.{Access}
 use Rattle.uart_spec.specs.declared.access.Access.TheVariants.{Read, Write}
 use Rattle.uart_spec.specs.declared.errors.ByteSendError.TheVariants.{NoCapacity, RemoteNotClearToSend}
-use Rattle.uart_spec.specs.declared.registers.fifo_trigger_level.FifoTriggerLevel.{FifoTriggerLevel}
-use Rattle.uart_spec.specs.declared.registers.fifo_trigger_level.FifoTriggerLevel.TheVariants.{One}
 use Rattle.uart_spec.specs.declared.registers.interrupt_enable.TheConstants.IER
 use Rattle.uart_spec.specs.declared.registers.interrupt_status.TheConstants.ISR
 use Rattle.uart_spec.specs.declared.registers.interrupt_type.InterruptType.{InterruptType}
@@ -26,10 +24,10 @@ use Rattle.uart_16550.specs.Transmit.{LinesAllow, SendMiss, Sends, burst_limit}
 use Rattle.uart_chip.specs.declared.receiver.Character.{Character}
 use Rattle.uart_chip.specs.Masks.{ier_bits}
 use Rattle.uart_chip.specs.Receiver.{ReceiverState, report, front_errors, has_errors, unreported, is_data_pending, is_timed_out}
-use Rattle.uart_chip.specs.Receiver.{characters_of}
 use Rattle.uart_chip.specs.Chip.{ChipState, LatchesState, interrupt, identification, is_thr_empty, after_read, enable, is_dlab_set}
 use Rattle.uart_chip.specs.Chip.{is_loopback, line_status, is_transmitter_empty}
 use Rattle.uart_chip.specs.Machine.{MachineState, MachineStep, at_access}
+use Rattle.uart_chip.proofs.Sizes.{some_characters}
 use Rattle.uart_chip.proofs.AccessMoves.{ReadMove, read_move}
 use Rattle.uart_chip.proofs.AccessMoves as move
 use Rattle.uart_chip.proofs.Bits.{has_and, has_not, has_one, has_or}
@@ -426,12 +424,8 @@ waits_shown : (c : ChipState) → (is_data_pending c.fifo c.receiver ≡ true) �
     0 < length c.receiver.queue
 waits_shown c (inl pending) = go c.fifo pending
   where
-    some : (level : FifoTriggerLevel) → nat_le (characters_of level) (length c.receiver.queue) ≡ true → 0 < length c.receiver.queue
-    some One e = grind (arith, nat_tests)
-    some _ e = grind (arith, nat_tests)
-
     go : (fifo : Bool) → is_data_pending fifo c.receiver ≡ true → 0 < length c.receiver.queue
-    go true e = some c.receiver.trigger e
+    go true e = let least = some_characters c.receiver.size c.receiver.trigger in grind (arith, nat_tests)
     go false e = grind (arith, nat_tests)
 waits_shown c (inr out) =
     let some = and_parts c.fifo (nat_lt 0 (length c.receiver.queue) && (c.receiver.timeout_ticks == c.receiver.timeout_limit)) out in

@@ -4,6 +4,7 @@ use Rattle.std.specs.List.{filter}
 use Rattle.uart_spec.specs.Bits.{has_any}
 use Rattle.uart_spec.specs.declared.received.Received.{Received}
 use Rattle.uart_spec.specs.declared.registers.line_status.TheConstants.LSR
+use Rattle.uart_16550.specs.declared.driver.Uart16550.{Uart16550}
 use Rattle.uart_chip.specs.Conserved.{stands, entered}
 use Rattle.uart_chip.specs.Laws.{reported_front}
 use Rattle.uart_chip.specs.Machine.{MachineState, MachineStep}
@@ -14,7 +15,7 @@ use Rattle.uart_run.specs.Overruns.{IsLost, FlagTells}
 use Rattle.uart_run.specs.Ready.{Ready}
 use Rattle.uart_run.specs.ReceivedErrors.{character_errors}
 use Rattle.uart_ring.specs.Notes.{Notes, notes_of, NotesErrors, unnoted_in, errors_in, bytes_of, errors_of}
-use Rattle.uart_ring.specs.Ring.{ring_fields, ring_backend_of}
+use Rattle.uart_ring.specs.Ring.{ring_fields, ring_backend_of, rings_over}
 use Rattle.uart_ring.specs.declared.notes.ErrorNotes.{ErrorNotes}
 use Rattle.uart_ring.specs.declared.ring.Uart16550Ring.{Uart16550Ring}
 use Rattle.uart_ring_runs.specs.declared.call.RingAnswer.{RingAnswer}
@@ -31,28 +32,16 @@ NotedState = Uart16550Ring (ErrorNotes MachineState)
 
 -- the same rings over the machine itself, to which the definitions about rings and machine apply
 abbrev pub without_notes : NotedState → RingState
-without_notes s = record {
-  uart = record {
-    backend = (ring_backend_of s).backend;
-    config = s.uart.config;
-    fifo_enabled = s.uart.fifo_enabled;
-    saved_lsr = s.uart.saved_lsr;
-    saved_msr = s.uart.saved_msr;
-    spin_limit = s.uart.spin_limit;
-  };
-  transmit = s.transmit;
-  receive = s.receive;
-  line = s.line;
-  modem = s.modem;
-  is_paused = s.is_paused;
-  urgent = s.urgent;
-  is_held = s.is_held;
-  has_told_xoff = s.has_told_xoff;
-  low_mark = s.low_mark;
-  is_low = s.is_low;
-  rounds = s.rounds;
-  stuck = s.stuck;
-}
+without_notes s =
+    let driver : Uart16550 MachineState = record {
+      backend = (ring_backend_of s).backend;
+      config = s.uart.config;
+      fifo_enabled = s.uart.fifo_enabled;
+      saved_lsr = s.uart.saved_lsr;
+      saved_msr = s.uart.saved_msr;
+      spin_limit = s.uart.spin_limit;
+    } in
+    rings_over driver (ring_fields s)
 
 -- what is noted, and the receiver under it
 abbrev pub notes_in : NotedState → Notes
@@ -98,7 +87,7 @@ shown_of (Some character) = character_errors character.errors
 pub record IsInStep (n : Notes) (r : ReceiverState) : Type 0 where
   pub latch : n.is_latch ≡ false
   pub shown : character_errors n.shown ≡ shown_of (reported_front r)
-  pub lost : has_any n.shown LSR.OVERRUN_ERROR.0 ≡ true → IsLost r.queue r.marks
+  pub lost : has_any n.shown LSR.OVERRUN_ERROR.0 ≡ true → IsLost r.size r.queue r.marks
   pub flag : FlagTells r
 
 -- nothing was shown yet, as when notes are made and after a reset of the receiver; so an overrun that is shown next may
@@ -109,14 +98,15 @@ pub record AreUnlooked (n : Notes) : Type 0 where
   pub old : n.is_overrun_old ≡ true
 
 -- these errors are of the first of these characters, each at its place: its parity error, its framing error and its
--- break are exactly those of the character, and an overrun tells that an arrival was dropped right behind the 15th or
--- the 16th character from this one on, counted through these characters and then those in the receiver
+-- break are exactly those of the character, and an overrun tells that an arrival was dropped right behind as many
+-- characters from this one on as the FIFO holds, or one fewer: the 15th or the 16th with a FIFO of 16, counted through
+-- these characters and then those in the receiver
 abbrev pub AreTheirs : List ℕ → List Character → ReceiverState → Type 0
 AreTheirs [] characters r = Unit {0}
 AreTheirs (errors ∷ more) [] r = ⊥
 AreTheirs (errors ∷ more) (character ∷ characters) r =
     (character_errors errors ≡ character_errors character.errors)
-    × (has_any errors LSR.OVERRUN_ERROR.0 ≡ true → IsLost (character ∷ (characters ++ r.queue)) r.marks)
+    × (has_any errors LSR.OVERRUN_ERROR.0 ≡ true → IsLost r.size (character ∷ (characters ++ r.queue)) r.marks)
     × AreTheirs more characters r
 
 -- the bytes of some characters

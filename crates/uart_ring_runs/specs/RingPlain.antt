@@ -1,5 +1,5 @@
 -- Rings that only queue, serve and take: nothing is held, overtakes, is dropped or counted, and they are two queues.
-use Rattle.std.specs.Prelude.{◌≡◌, ◌⊎◌, ⊤, ℕ, true, false, List, [], ◌++◌, map, None}
+use Rattle.std.specs.Prelude.{◌≡◌, ◌⊎◌, ℕ, true, false, List, [], ◌++◌, map, None}
 use Rattle.std.specs.List.{AllByRecursion}
 use Rattle.uart_chip.specs.Chip.{cut_of}
 use Rattle.uart_chip.specs.Conserved.{out, waiting, kept}
@@ -9,7 +9,7 @@ use Rattle.uart_ring.specs.Ring.{RingFields, ring_fields}
 use Rattle.uart_ring_runs.specs.declared.call.RingCall.{RingCall}
 use Rattle.uart_ring_runs.specs.declared.call.RingCall.TheVariants as call
 use Rattle.uart_ring_runs.specs.RingRun.{RingState, under, ring_machine, RingLink}
-use Rattle.uart_ring_runs.specs.RingBytes.{to_take, queued, taken, SendsNothing, ReceivesNothing}
+use Rattle.uart_ring_runs.specs.RingBytes.{to_take, queued, taken, KeepsOrder, SendsNothing, ReceivesNothing}
 use Rattle.uart_ring_runs.specs.RingArmed.{thr_empty_of, RearmsRing, LeavesThrEmpty}
 
 -- no urgent byte waits, the transmit ring is not held, and the chip is not stuck
@@ -20,13 +20,11 @@ AreUntold f = (f.urgent ≡ None) × (f.is_held ≡ false) × (f.stuck ≡ None)
 -- receives nothing and leaves the THR-empty interrupt; each of these calls is such a one
 abbrev pub IsPlain : RingCall → Type 0
 IsPlain call.HoldTransmit = ⊥
-IsPlain (call.QueueUrgent byte) = ⊥
-IsPlain call.ClearTransmit = ⊥
+IsPlain call.ObeyXoff = ⊥
 IsPlain call.ClearReceive = ⊥
 IsPlain (call.TryHandle limit rounds) = ⊥
-IsPlain (call.AdjustXoff marks) = ⊥
 IsPlain (call.Driver c) = SendsNothing c × ReceivesNothing c × LeavesThrEmpty c
-IsPlain other = ⊤
+IsPlain other = KeepsOrder other
 
 abbrev pub ArePlain : List RingLink → Type 0
 ArePlain links = AllByRecursion (λ link. IsPlain link.call) links

@@ -13,7 +13,7 @@ use Rattle.uart_run.specs.Run.{State, machine_of}
 use Rattle.uart_ring.specs.Ring.{RingDoing, RingDid, Stays, ring_fields, driver_of, with_driver}
 use Rattle.uart_ring.specs.Transmit.{Queues, ResumesTransmit, Holds, Releases, QueuesUrgent, ClearsTransmit}
 use Rattle.uart_ring.specs.Transmit.{SetsLowMark, TakesLow}
-use Rattle.uart_ring.specs.Receive.{TakesBytes, ClearsReceive, AdjustsRts, AdjustsXoff}
+use Rattle.uart_ring.specs.Receive.{TakesBytes, ClearsReceive, AdjustsRts, AdjustsXoff, ObeysXoff}
 use Rattle.uart_ring.specs.Storm.{TriesToHandle, Restarts}
 use Rattle.uart_ring.specs.Service.{Services}
 use Rattle.uart_ring.specs.Handle.{Retriggers, Handles}
@@ -107,6 +107,7 @@ RingPerformed step s (call.Restart interrupts) answer t =
 RingPerformed step s (call.AdjustRts marks) answer t =
     RingCalled step (λ (_ : ⊤). AdjustsRts marks) (λ _. Done) answer s t
 RingPerformed step s (call.AdjustXoff marks) answer t = RingCalled step (AdjustsXoff marks) answers.Told answer s t
+RingPerformed step s call.ObeyXoff answer t = RingCalled step ObeysXoff answers.Told answer s t
 RingPerformed step s (call.Driver c) answer t = DriverCalled step c answer s t
 RingPerformed step s call.Next answer t = RingCalled step (λ (_ : ⊤). Stays) (λ _. Done) answer s t
 

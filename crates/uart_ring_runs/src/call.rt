@@ -55,6 +55,8 @@ pub enum RingCall {
     AdjustRts(ReceiveMarks),
     /// `adjust_xoff` at these marks.
     AdjustXoff(ReceiveMarks),
+    /// `obey_xoff`.
+    ObeyXoff,
     /// This call of the driver, through `inner_mut`: any but [`Call::Next`], which is one of the
     /// device, and [`Call::Text`], which is one of a terminal.
     Driver(Call),
@@ -105,7 +107,7 @@ pub enum RingAnswer {
     Modem(MSR),
     /// The urgent byte that was replaced.
     Replaced(Option<u8>),
-    /// What `adjust_xoff` told the other end.
+    /// What `adjust_xoff` told the other end, or what it told `obey_xoff`.
     Told(Option<u8>),
     /// What `take_low` returned.
     Low(bool),
@@ -183,6 +185,7 @@ pub fn perform_ring<B: Backend>(ring: &mut Uart16550Ring<B>, call: &RingCall) ->
             RingAnswer::Done
         }
         RingCall::AdjustXoff(marks) => RingAnswer::Told(ring.adjust_xoff(*marks)),
+        RingCall::ObeyXoff => RingAnswer::Told(ring.obey_xoff()),
         RingCall::Driver(call) => RingAnswer::Driver(perform_on_driver(ring.inner_mut(), call)),
         RingCall::Next => RingAnswer::Done,
     }

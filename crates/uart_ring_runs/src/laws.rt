@@ -230,8 +230,9 @@ pub fn own_sessions_conserve()
 /// With the FIFO on, the errors that are noted of the bytes in the receive ring are exactly those
 /// of their characters, so `take_with_errors` returns each byte with its parity error, its framing
 /// error and its break, and no other. An overrun at a byte tells that a character was lost right
-/// behind the 15th or the 16th character from this one on, counted through the receive ring and
-/// then the chip, and not before this one.
+/// behind as many characters from this one on as the FIFO holds, or behind one fewer, so behind the
+/// 15th or the 16th with a FIFO of 16, counted through the receive ring and then the chip, and not
+/// before this one.
 ///
 /// This holds after any calls of the rings themselves, whatever the schedule has between their
 /// accesses: those that left the receive ring, those in it and those in the chip are the characters

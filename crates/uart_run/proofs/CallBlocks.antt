@@ -22,6 +22,7 @@ use Rattle.uart_run.specs.Session.{only_bytes}
 use Rattle.uart_16550.specs.Transmit.{LinesAllow, SendHit, SendRefused, SendMiss, ReadyToSend, Burst, burst_size}
 use Rattle.uart_16550.specs.Transmit.{Sends, Round, SendsSome, IsCut, SendsAll, SendsExact, TrySends, WaitsFor}
 use Rattle.uart_spec.specs.Bits.{has_any}
+use Rattle.uart_spec.specs.declared.setup.FifoSize.TheVariants.{Sixteen}
 use Rattle.uart_chip.specs.Transmitter.{room}
 use Rattle.uart_chip.specs.Machine.{MachineState, MachineStep}
 use Rattle.uart_chip.proofs.Bits.{has_one}
@@ -182,12 +183,12 @@ ready_to_send_blocks s (Err e) l t = refused_blocks s e l t
 
 -- ---- sending
 
-burst_blocks : (s : Settings) (bytes : List ℕ) → length bytes ≤ room s.fifo → Makes s (Burst bytes) bytes []
+burst_blocks : (s : Settings) (bytes : List ℕ) → length bytes ≤ room s.fifo Sixteen → Makes s (Burst bytes) bytes []
 burst_blocks s bytes few l t =
     let c = send_check s t.front t.first in
     rw (t.whole, t.second.is, c.is) (blocks_one s.fifo (Burst_block c.line c.checks bytes) (c.shows, c.quiet, few))
 
-burst_room : (s : Settings) (bytes : List ℕ) → length (take (burst_size s bytes) bytes) ≤ room s.fifo
+burst_room : (s : Settings) (bytes : List ℕ) → length (take (burst_size s bytes) bytes) ≤ room s.fifo Sixteen
 burst_room s bytes = rw length-take (omega arith)
 
 -- `send_bytes`: what it reports is what it wrote
@@ -196,7 +197,7 @@ sends_blocks s bytes k l (inl t) = rw (t.1, t.2) (blocks_none s.fifo)
 sends_blocks s bytes k l (inr (inl t)) = rw t.1 (send_miss_blocks s l t.2)
 sends_blocks s bytes k l (inr (inr t)) = burst_blocks s (take k bytes) (rw t.1 (burst_room s bytes)) l t.2
 
-pub round_blocks : (s : Settings) (bytes : List ℕ) → length bytes ≤ room s.fifo → Makes s (Round bytes) bytes []
+pub round_blocks : (s : Settings) (bytes : List ℕ) → length bytes ≤ room s.fifo Sixteen → Makes s (Round bytes) bytes []
 round_blocks s bytes few l t =
     makes_then s (FewMisses SendMiss) (Burst bytes) [] bytes [] [] (makes_few s SendMiss (send_miss_blocks s))
     (burst_blocks s bytes few) l t

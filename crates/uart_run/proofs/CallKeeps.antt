@@ -19,6 +19,7 @@ use Rattle.uart_16550.specs.Io.{Reads, Writes, Flushes, AnswersRead, AnswersWrit
 use Rattle.uart_16550.specs.Status.{TakesLsr, TakesMsr, Connects, ReadsDivisor, Enables, Disables, Retriggers, retrigger_accesses, Dumps}
 use Rattle.uart_spec.specs.declared.dump.ConfigRegisterDump.{ConfigRegisterDump}
 use Rattle.uart_calls.specs.Meaning.{ShowsFifo}
+use Rattle.uart_spec.specs.declared.setup.FifoSize.TheVariants.{Sixteen}
 use Rattle.uart_chip.specs.Transmitter.{room}
 use Rattle.uart_chip.proofs.conservation.Blocks.{is_quiet, Look, Other, Divisor, AllQuiet}
 use Rattle.uart_run.proofs.CallBlocks.{InBlocks, blocks_none, blocks_one, blocks_then, Makes, makes_only_none}
@@ -112,7 +113,7 @@ answers_write_blocks s (Err e) l t = absurd t
 
 -- ---- texts
 
-pub one_fits : (fifo : Bool) → 1 ≤ room fifo
+pub one_fits : (fifo : Bool) → 1 ≤ room fifo Sixteen
 one_fits true = omega arith
 one_fits false = omega arith
 

@@ -17,6 +17,7 @@ use Rattle.uart_16550.specs.Driver.{Made, backend_of, fields}
 use Rattle.uart_16550.specs.Receive.{HitWithErrors, ReceivesWithErrors}
 use Rattle.uart_spec.specs.declared.received.Received.{Received}
 use Rattle.uart_16550.specs.declared.driver.Uart16550.{Uart16550}
+use Rattle.uart_spec.specs.declared.setup.FifoSize.{FifoSize}
 use Rattle.uart_chip.specs.declared.receiver.Character.{Character}
 use Rattle.uart_chip.specs.declared.receiver.Origin.TheVariants.{Arrived}
 use Rattle.uart_chip.specs.Transmitter.{room}
@@ -34,10 +35,10 @@ use Rattle.uart_chip.proofs.conservation.BlockLaws.{IsOpen, Stands, stands-after
 use Rattle.uart_chip.proofs.conservation.BlockLaws.{look_reported, Took, took}
 use Rattle.uart_chip.proofs.conservation.SessionLaws.{taken_entered}
 use Rattle.uart_run.specs.Ready.{Ready}
-use Rattle.uart_run.specs.Overruns.{IsLost, FlagTells, LeavesReceiver, OverrunsTell, OverrunsStand}
+use Rattle.uart_run.specs.Overruns.{FlagTells, LeavesReceiver, OverrunsTell, OverrunsStand}
 use Rattle.uart_run.specs.ReceivedErrors.{character_errors, IsShown, AreShown, ReceivedExactly, under_terminal}
 use Rattle.uart_run.proofs.Between.{access_lasts}
-use Rattle.uart_run.proofs.Overruns.{Behind, HitTells, hit_tells, Looked, looked, flag_lasts, tells_later}
+use Rattle.uart_run.proofs.Overruns.{Behind, HitTells, hit_tells, lost_stays, Looked, looked, flag_lasts, tells_later}
 use Rattle.uart_run.proofs.SessionCalls.{modes_of, in_session}
 
 -- ---- with the FIFO the front stays until it is taken
@@ -51,7 +52,7 @@ either_front f false x y p q = q
 
 front_enter : (f new : Character) (r : ReceiverState) → HasFront f r → HasFront f (enter true new r)
 front_enter f new r (others, e) =
-    either_front f (nat_lt (length r.queue) (room true)) _ _ (others ++ new ∷ [], ap (λ q. q ++ new ∷ []) e) (others, e)
+    either_front f (nat_lt (length r.queue) (room true r.size)) _ _ (others ++ new ∷ [], ap (λ q. q ++ new ∷ []) e) (others, e)
 
 front_arrive : (f : Character) (r : ReceiverState) (byte errors : ℕ) → HasFront f r → HasFront f (receiver.arrive false true byte errors r)
 front_arrive f r byte errors h =
@@ -166,7 +167,8 @@ hit x m n line byte o on w h (m₁, s₁, (m₂, s₂, e)) =
     let off : is_dlab_set (at_access m₁).chip.latches ≡ false =
     dlab-in x (at_access m₁).chip (passed-access x m₁ o.loopback stands.sound stands.modes).went.modes ∙ o.dlab in
     at (at_access m).chip.receiver.queue refl b (hit_tells x m m₁ m₂ line byte b.front b.rest on o w stands s₁ s₂ b.queue off)
-    (rw same at some) (λ f others q. access_lasts (HasFront f) (λ r h. h) (λ r byte errors marked within h. front_arrive f r byte errors h)
+    (rw same at some) (λ f others q. access_lasts (HasFront f) (λ r h. h)
+    (λ r byte errors marked within h. front_arrive f r byte errors h)
     m₁ stands.sound fifo (loopback-in x m₁.chip stands.modes ∙ o.loopback) (others, ap (λ (r : ReceiverState). r.queue) same ∙ q))
     (passed-trans x x m m₁ m₂ (Read offsets.LSR line ∷ []) (Read offsets.DATA byte ∷ []) [] [] [] (b.front ∷ []) refl a b.passed)
     (rw (s₂.0, off, b.queue) refl)
@@ -204,8 +206,8 @@ record Hits (x : Modes) (old : Option Character) (m n : MachineState) (l : List 
   pub characters : List Character
   pub shown : AreShown old items characters
   pub passed : Passed x m n l [] characters
-  pub stays : (count : ℕ) (taken : List Character) → Behind count taken m.chip.receiver →
-      Behind count (taken ++ characters) n.chip.receiver
+  pub stays : (size : FifoSize) (count : ℕ) (taken : List Character) → Behind size count taken m.chip.receiver →
+      Behind size count (taken ++ characters) n.chip.receiver
   pub tell : FlagTells m.chip.receiver → OverrunsTell items characters n.chip.receiver
   pub flag : FlagTells m.chip.receiver → FlagTells n.chip.receiver
 
@@ -230,8 +232,8 @@ hits x old [] s l m n o on w was t p =
       characters = [];
       shown = tt;
       passed = passed-refl x m w.sound w.modes;
-      stays = λ count taken p.
-          subst (λ (cs : List Character). Behind count cs m.chip.receiver) (sym (append-nil taken)) p;
+      stays = λ size count taken p.
+          subst (λ (cs : List Character). Behind size count cs m.chip.receiver) (sym (append-nil taken)) p;
       tell = λ f. tt;
       flag = λ f. f;
     })
@@ -248,24 +250,18 @@ hits x old (item ∷ items) s l m n o on w was t p =
       characters = one.character ∷ rest.characters;
       shown = (one.is_byte, shown_masked old line item.errors.0 one.character t.first.2 (rw was at one.shown), rest.shown);
       passed = passed-trans x x m parts.0 n made t.back [] [] (one.character ∷ []) rest.characters refl one.passed rest.passed;
-      stays = λ count taken p.
-          subst (λ (cs : List Character). Behind count cs n.chip.receiver) (append_assoc taken (one.character ∷ []) rest.characters)
-          (rest.stays count (taken ++ one.character ∷ []) (one.overruns.stays count taken p));
+      stays = λ size count taken p.
+          subst (λ (cs : List Character). Behind size count cs n.chip.receiver) (append_assoc taken (one.character ∷ []) rest.characters)
+          (rest.stays size count (taken ++ one.character ∷ []) (one.overruns.stays size count taken p));
       tell = λ f. (
-        (λ shown. later one.character rest.characters parts.0 rest.stays
+        (λ shown. lost_stays parts.0.chip.receiver n.chip.receiver (one.character ∷ []) (one.character ∷ rest.characters)
+            (λ count p. rest.stays parts.0.chip.receiver.size count (one.character ∷ []) p)
             (one.overruns.tells f (sym (has_and 1 line LSR.LINE_ERRORS.0 refl)
             ∙ (ap (λ (v : ℕ). has_any v LSR.OVERRUN_ERROR.0) (sym t.first.2) ∙ shown)))),
         rest.tell one.overruns.flag,
       );
       flag = λ f. rest.flag one.overruns.flag;
     })
-  where
-    later : (character : Character) (characters : List Character) (k : MachineState) →
-        ((count : ℕ) (taken : List Character) → Behind count taken k.chip.receiver → Behind count (taken ++ characters) n.chip.receiver) →
-        Behind 15 (character ∷ []) k.chip.receiver ⊎ Behind 16 (character ∷ []) k.chip.receiver →
-        IsLost (character ∷ (characters ++ n.chip.receiver.queue)) n.chip.receiver.marks
-    later character characters k stays (inl few) = inl (stays 15 (character ∷ []) few)
-    later character characters k stays (inr all) = inr (stays 16 (character ∷ []) all)
 
 look_passed : (x : Modes) (m n : MachineState) (line : ℕ) → IsOpen x → Stands x m → Path MachineStep m (Read offsets.LSR line ∷ []) n →
     Passed x m n (Read offsets.LSR line ∷ []) [] []
@@ -291,7 +287,7 @@ receives x slots items s l m n o on w (inr (fewer, t)) p =
       characters = some.characters;
       shown = some.shown;
       passed = rw (append-nil some.characters) at both;
-      stays = λ count taken p. same.stays count (taken ++ some.characters) (some.stays count taken p);
+      stays = λ size count taken p. same.stays size count (taken ++ some.characters) (some.stays size count taken p);
       tell = λ f. tells_later items some.characters parts.0.chip.receiver n.chip.receiver same.stays (some.tell f);
       flag = λ f. same.flag;
     })

@@ -1,5 +1,5 @@
 -- Where a character was lost that the overrun flag tells of, with the FIFO on.
-use Rattle.std.proofs.Common.{◌≡◌, ◌≢◌, ◌⊎◌, ℕ, ◌≤◌, ◌<◌, Bool, true, false, inl, inr, nat_lt, List, [], ◌∷◌, ◌++◌, length, drop}
+use Rattle.std.proofs.Common.{◌≡◌, ◌≢◌, ◌⊎◌, ℕ, suc, ◌-◌, ◌≤◌, ◌<◌, Bool, true, false, inl, inr, nat_lt, List, [], ◌∷◌, ◌++◌, length, drop}
 use Rattle.std.proofs.Common.{length-append, append_assoc, refl, sym, ◌∙◌, ap, subst, arith, slice_set, get_or-set_same, get_or-set_other}
 use Rattle.std.specs.List.{AllByRecursion}
 use Rattle.std.proofs.lemmas.Grind.{common_steps}
@@ -12,6 +12,8 @@ use Rattle.uart_spec.specs.declared.access.Access.TheVariants.{Read, Write}
 use Rattle.uart_spec.specs.declared.received.Received.{Received}
 use Rattle.uart_spec.specs.declared.registers.line_status.TheConstants.LSR
 use Rattle.uart_spec.specs.declared.registers.offsets.TheConstants as offsets
+use Rattle.uart_spec.specs.FifoSize.{characters}
+use Rattle.uart_spec.specs.declared.setup.FifoSize.{FifoSize}
 use Rattle.uart_chip.specs.declared.receiver.Character.{Character}
 use Rattle.uart_chip.specs.declared.receiver.Origin.{Origin}
 use Rattle.uart_chip.specs.declared.receiver.Origin.TheVariants.{Arrived}
@@ -20,6 +22,7 @@ use Rattle.uart_chip.specs.Machine.{MachineState, MachineStep, at_access}
 use Rattle.uart_chip.specs.Receiver as receiver
 use Rattle.uart_chip.specs.Receiver.{ReceiverState, mark_at, set_mark, take_front}
 use Rattle.uart_chip.specs.Sound.{IsInQueue, AllInQueue, IsMarked}
+use Rattle.uart_chip.proofs.Sizes.{at_least_16}
 use Rattle.uart_chip.proofs.AccessMoves.{ReadMove, takes, looks, read_move, WriteMove, switches, clears, triggers, write_move}
 use Rattle.uart_chip.proofs.Lists.{each-append, each-weaker}
 use Rattle.uart_chip.proofs.statuses.Status.{status_overrun}
@@ -31,9 +34,9 @@ use Rattle.uart_run.proofs.Between.{access_lasts}
 
 -- ---- a lost arrival stays lost, behind as many
 
--- behind so many of those that were taken and of those that wait
-abbrev pub Behind : (count : ℕ) (taken : List Character) → ReceiverState → Type 0
-Behind count taken r = IsLostBehind count (taken ++ r.queue) r.marks
+-- behind so many of those that were taken and of those that wait, with a FIFO of this size
+abbrev pub Behind : (size : FifoSize) (count : ℕ) (taken : List Character) → ReceiverState → Type 0
+Behind size count taken r = (r.size ≡ size) × IsLostBehind count (taken ++ r.queue) r.marks
 
 -- its number is that of an arrival
 lost_below : (fifo : Bool) (r : ReceiverState) (number : ℕ) → IsMarked fifo r → mark_at r.marks number ≡ Dropped → number < r.arrived
@@ -46,57 +49,59 @@ lost_below fifo r number w dropped = go (nat_lt number r.arrived) refl
         let pending = w.to_come number late in absurd (cc)
 
 -- a character came, and found room
-behind_room : (count : ℕ) (taken : List Character) (r s : ReceiverState) (new : Character) → IsMarked true r →
+behind_room : (size : FifoSize) (count : ℕ) (taken : List Character) (r s : ReceiverState) (new : Character) → IsMarked true r →
     new.origin ≡ Arrived r.arrived → s.queue ≡ r.queue ++ new ∷ [] → s.marks ≡ slice_set r.marks r.arrived Waiting →
-    Behind count taken r → Behind count taken s
-behind_room count taken r s new w o queue marks p =
+    s.size ≡ r.size → Behind size count taken r →
+    Behind size count taken s
+behind_room size count taken r s new w o queue marks same_size p =
     let line = taken ++ r.queue in
-    let below = lost_below true r p.number w p.dropped in
-    let other : p.number ≢ r.arrived = λ e. absurd (omega (arith, e, below)) in
-    let young : IsYounger p.number new.origin = rw o below in
+    let below = lost_below true r p.1.number w p.1.dropped in
+    let other : p.1.number ≢ r.arrived = λ e. absurd (omega (arith, e, below)) in
+    let young : IsYounger p.1.number new.origin = rw o below in
     let whole : line ++ new ∷ [] ≡ taken ++ s.queue = append_assoc taken r.queue (new ∷ []) ∙ ap (λ q. taken ++ q) (sym queue) in
     let after : IsLostBehind count (line ++ new ∷ []) (slice_set r.marks r.arrived Waiting) = record {
-      number = p.number;
-      dropped = get_or-set_other r.marks r.arrived p.number Waiting Pending other ∙ p.dropped;
-      enough = let sum = length-append line (new ∷ []) in omega (arith, sum, p.enough);
-      older = let e = take-append-le count line (new ∷ []) p.enough in rw e p.older;
-      younger = let e = drop-append-le count line (new ∷ []) p.enough in
-          rw e (each-append (λ (character : Character). IsYounger p.number character.origin) (drop count line) (new ∷ []) p.younger
+      number = p.1.number;
+      dropped = get_or-set_other r.marks r.arrived p.1.number Waiting Pending other ∙ p.1.dropped;
+      enough = let sum = length-append line (new ∷ []) in omega (arith, sum, p.1.enough);
+      older = let e = take-append-le count line (new ∷ []) p.1.enough in rw e p.1.older;
+      younger = let e = drop-append-le count line (new ∷ []) p.1.enough in
+          rw e (each-append (λ (character : Character). IsYounger p.1.number character.origin) (drop count line) (new ∷ []) p.1.younger
           (young, tt));
     } in
     let S : List Character → Type 0 = λ l. IsLostBehind count l s.marks in
-    subst S whole (rw marks after)
+    (same_size ∙ p.0, subst S whole (rw marks after))
 
 -- and found none
-behind_full : (count : ℕ) (taken : List Character) (r s : ReceiverState) → IsMarked true r → s.queue ≡ r.queue →
-    s.marks ≡ slice_set r.marks r.arrived Dropped → Behind count taken r → Behind count taken s
-behind_full count taken r s w queue marks p =
-    let below = lost_below true r p.number w p.dropped in
-    let other : p.number ≢ r.arrived = λ e. absurd (omega (arith, e, below)) in
+behind_full : (size : FifoSize) (count : ℕ) (taken : List Character) (r s : ReceiverState) → IsMarked true r → s.queue ≡ r.queue →
+    s.marks ≡ slice_set r.marks r.arrived Dropped → s.size ≡ r.size → Behind size count taken r →
+    Behind size count taken s
+behind_full size count taken r s w queue marks same_size p =
+    let below = lost_below true r p.1.number w p.1.dropped in
+    let other : p.1.number ≢ r.arrived = λ e. absurd (omega (arith, e, below)) in
     let same : taken ++ r.queue ≡ taken ++ s.queue = ap (λ q. taken ++ q) (sym queue) in
     let after : IsLostBehind count (taken ++ r.queue) (slice_set r.marks r.arrived Dropped) = record {
-      number = p.number;
-      dropped = get_or-set_other r.marks r.arrived p.number Dropped Pending other ∙ p.dropped;
-      enough = p.enough;
-      older = p.older;
-      younger = p.younger;
+      number = p.1.number;
+      dropped = get_or-set_other r.marks r.arrived p.1.number Dropped Pending other ∙ p.1.dropped;
+      enough = p.1.enough;
+      older = p.1.older;
+      younger = p.1.younger;
     } in
     let S : List Character → Type 0 = λ l. IsLostBehind count l s.marks in
-    subst S same (rw marks after)
+    (same_size ∙ p.0, subst S same (rw marks after))
 
 -- then it is lost behind all that wait
-lost_now : (r s : ReceiverState) → IsMarked true r → r.arrived < length r.marks → 16 ≤ length r.queue → s.queue ≡ r.queue →
-    s.marks ≡ slice_set r.marks r.arrived Dropped → IsLostBehind 16 s.queue s.marks
+lost_now : (r s : ReceiverState) → IsMarked true r → r.arrived < length r.marks → characters r.size ≤ length r.queue →
+    s.queue ≡ r.queue → s.marks ≡ slice_set r.marks r.arrived Dropped → IsLostBehind (characters r.size) s.queue s.marks
 lost_now r s w within full queue marks =
     let all : AllByRecursion (λ (character : Character). IsOlder r.arrived character.origin) r.queue =
     each-weaker (λ (character : Character). IsInQueue r.arrived r.marks r.is_unscheduled_lost character.origin)
     (λ (character : Character). IsOlder r.arrived character.origin) (λ character. older character.origin) r.queue w.wait in
-    let now : IsLostBehind 16 r.queue (slice_set r.marks r.arrived Dropped) = record {
+    let now : IsLostBehind (characters r.size) r.queue (slice_set r.marks r.arrived Dropped) = record {
       number = r.arrived;
       dropped = get_or-set_same r.marks r.arrived Dropped Pending within;
       enough = full;
-      older = let e = take_all 16 r.queue w.in_room in rw e all;
-      younger = let e = drop_all 16 r.queue w.in_room in rw e tt;
+      older = let e = take_all (characters r.size) r.queue w.in_room in rw e all;
+      younger = let e = drop_all (characters r.size) r.queue w.in_room in rw e tt;
     } in
     rw (queue, marks) now
   where
@@ -107,42 +112,50 @@ lost_now r s w within full queue marks =
 -- what an arrival does with the FIFO on
 pub data Came (byte errors : ℕ) (r : ReceiverState) : ReceiverState → Type 0 where
   Entered : (s : ReceiverState) (new : Character) → new.origin ≡ Arrived r.arrived → s.queue ≡ r.queue ++ new ∷ [] →
-      s.marks ≡ slice_set r.marks r.arrived Waiting → s.is_overrun ≡ r.is_overrun → Came byte errors r s
-  Refused : (s : ReceiverState) → 16 ≤ length r.queue → s.queue ≡ r.queue → s.marks ≡ slice_set r.marks r.arrived Dropped →
-      Came byte errors r s
+      s.marks ≡ slice_set r.marks r.arrived Waiting → s.is_overrun ≡ r.is_overrun → s.size ≡ r.size → Came byte errors r s
+  Refused : (s : ReceiverState) → characters r.size ≤ length r.queue → s.queue ≡ r.queue →
+      s.marks ≡ slice_set r.marks r.arrived Dropped → s.size ≡ r.size → Came byte errors r s
 
 pub came : (r : ReceiverState) (byte errors : ℕ) → Came byte errors r (receiver.arrive false true byte errors r)
-came r byte errors = go (nat_lt (length r.queue) 16) refl
+came r byte errors = go (nat_lt (length r.queue) (characters r.size)) refl
   where
-    go : (b : Bool) → nat_lt (length r.queue) 16 ≡ b → Came byte errors r (receiver.arrive false true byte errors r)
-    go true e = rw e (Entered _ (record { byte = byte; errors = errors; origin = Arrived r.arrived }) refl refl refl refl)
-    go false e = let full : 16 ≤ length r.queue = grind (arith, common_steps) in rw e (Refused _ full refl refl)
+    go : (b : Bool) → nat_lt (length r.queue) (characters r.size) ≡ b → Came byte errors r (receiver.arrive false true byte errors r)
+    go true e = rw e (Entered _ (record { byte = byte; errors = errors; origin = Arrived r.arrived }) refl refl refl refl refl)
+    go false e =
+        let full : characters r.size ≤ length r.queue = grind (arith, common_steps) in rw e (Refused _ full refl refl refl)
 
-pub behind_came : (count : ℕ) (taken : List Character) (byte errors : ℕ) (r s : ReceiverState) → IsMarked true r → Came byte errors r s →
-    Behind count taken r → Behind count taken s
-behind_came count taken byte errors r s w (Entered _ new o queue marks overrun) p = behind_room count taken r s new w o queue marks p
-behind_came count taken byte errors r s w (Refused _ full queue marks) p = behind_full count taken r s w queue marks p
+pub behind_came : (size : FifoSize) (count : ℕ) (taken : List Character) (byte errors : ℕ) (r s : ReceiverState) → IsMarked true r →
+    Came byte errors r s → Behind size count taken r → Behind size count taken s
+behind_came size count taken byte errors r s w (Entered _ new o queue marks overrun same) p =
+    behind_room size count taken r s new w o queue marks same p
+behind_came size count taken byte errors r s w (Refused _ full queue marks same) p =
+    behind_full size count taken r s w queue marks same p
+
+-- what was lost behind as many as the FIFO holds, or behind one fewer, stays so
+pub lost_stays : (r s : ReceiverState) (taken more : List Character) →
+    ((count : ℕ) → Behind r.size count taken r → Behind r.size count more s) → IsLost r.size (taken ++ r.queue) r.marks →
+    IsLost s.size (more ++ s.queue) s.marks
+lost_stays r s taken more stays (inl few) = let p = stays (characters r.size - 1) (refl, few) in rw p.0 (inl p.1)
+lost_stays r s taken more stays (inr all) = let p = stays (characters r.size) (refl, all) in rw p.0 (inr p.1)
 
 -- ---- the flag
 
--- while it is set, a character was lost behind 16 that wait: so it is after each look
+-- while it is set, a character was lost behind as many that wait as the FIFO holds: so it is after each look
 abbrev FlagAfterLook : ReceiverState → Type 0
-FlagAfterLook r = r.is_overrun ≡ true → IsLostBehind 16 r.queue r.marks
+FlagAfterLook r = r.is_overrun ≡ true → IsLostBehind (characters r.size) r.queue r.marks
 
 after_look_came : (byte errors : ℕ) (r s : ReceiverState) → IsMarked true r → r.arrived < length r.marks → Came byte errors r s →
     FlagAfterLook r → FlagAfterLook s
-after_look_came byte errors r s w within (Entered _ new o queue marks overrun) p =
-    λ on. behind_room 16 [] r s new w o queue marks (p (sym overrun ∙ on))
-after_look_came byte errors r s w within (Refused _ full queue marks) p = λ on. lost_now r s w within full queue marks
+after_look_came byte errors r s w within (Entered _ new o queue marks overrun same) p = λ on.
+    rw same (behind_room r.size (characters r.size) [] r s new w o queue marks same (refl, p (sym overrun ∙ on))).1
+after_look_came byte errors r s w within (Refused _ full queue marks same) p = λ on. rw same (lost_now r s w within full queue marks)
 
 pub flag_came : (byte errors : ℕ) (r s : ReceiverState) → IsMarked true r → r.arrived < length r.marks → Came byte errors r s →
     FlagTells r → FlagTells s
-flag_came byte errors r s w within (Entered _ new o queue marks overrun) p = λ on. more (p (sym overrun ∙ on))
-  where
-    more : IsLost r.queue r.marks → IsLost s.queue s.marks
-    more (inl few) = inl (behind_room 15 [] r s new w o queue marks few)
-    more (inr all) = inr (behind_room 16 [] r s new w o queue marks all)
-flag_came byte errors r s w within (Refused _ full queue marks) p = λ on. inr (lost_now r s w within full queue marks)
+flag_came byte errors r s w within (Entered _ new o queue marks overrun same) p = λ on.
+    lost_stays r s [] [] (λ count q. behind_room r.size count [] r s new w o queue marks same q) (p (sym overrun ∙ on))
+flag_came byte errors r s w within (Refused _ full queue marks same) p = λ on.
+    rw same (inr (lost_now r s w within full queue marks))
 
 -- ---- the front is taken
 
@@ -154,25 +167,28 @@ dropped_stays marks arrived number missing (Arrived j) h dropped =
     get_or-set_other marks j number ReadMark Pending other ∙ dropped
 dropped_stays marks arrived number missing _ h dropped = dropped
 
-behind_taken : (count : ℕ) (taken : List Character) (r : ReceiverState) (front : Character) (others : List Character) →
-    IsMarked true r → r.queue ≡ front ∷ others → Behind count taken r → Behind count (taken ++ front ∷ []) (take_front (front ∷ others) r)
-behind_taken count taken r front others w queue p =
+behind_taken : (size : FifoSize) (count : ℕ) (taken : List Character) (r : ReceiverState) (front : Character) (others : List Character) →
+    IsMarked true r → r.queue ≡ front ∷ others → Behind size count taken r →
+    Behind size count (taken ++ front ∷ []) (take_front (front ∷ others) r)
+behind_taken size count taken r front others w queue p =
     let wait : AllInQueue r.arrived r.marks r.is_unscheduled_lost (front ∷ others) = rw queue at w.wait in
     let line : taken ++ r.queue ≡ (taken ++ front ∷ []) ++ others =
     ap (λ q. taken ++ q) queue ∙ sym (append_assoc taken (front ∷ []) others) in
-    let S : List Character → Type 0 = λ l. IsLostBehind count l (set_mark front.origin ReadMark r.marks) in
-    subst S line (record {
-      number = p.number;
-      dropped = dropped_stays r.marks r.arrived p.number r.is_unscheduled_lost front.origin wait.0 p.dropped;
-      enough = p.enough;
-      older = p.older;
-      younger = p.younger;
-    })
+    let S : List Character → Type 0 = λ l. IsLostBehind count l (set_mark front.origin ReadMark r.marks) in (
+      p.0,
+      subst S line (record {
+        number = p.1.number;
+        dropped = dropped_stays r.marks r.arrived p.1.number r.is_unscheduled_lost front.origin wait.0 p.1.dropped;
+        enough = p.1.enough;
+        older = p.1.older;
+        younger = p.1.younger;
+      }),
+    )
 
 -- one fewer came before
-one_fewer : (front : Character) (others : List Character) (marks : List ArrivalMark) → IsLostBehind 16 (front ∷ others) marks →
-    IsLostBehind 15 others marks
-one_fewer front others marks p = record {
+one_fewer : (count : ℕ) (front : Character) (others : List Character) (marks : List ArrivalMark) →
+    IsLostBehind (suc count) (front ∷ others) marks → IsLostBehind count others marks
+one_fewer count front others marks p = record {
   number = p.number;
   dropped = p.dropped;
   enough = let enough = p.enough in omega (arith, enough);
@@ -183,18 +199,21 @@ one_fewer front others marks p = record {
 flag_taken : (r : ReceiverState) (front : Character) (others : List Character) → IsMarked true r → r.queue ≡ front ∷ others →
     FlagAfterLook r → FlagTells (take_front (front ∷ others) r)
 flag_taken r front others w queue p on =
-    let here : IsLostBehind 16 ([] ++ r.queue) r.marks = p on in
-    inl (one_fewer front others _ (behind_taken 16 [] r front others w queue here))
+    let taken = behind_taken r.size (characters r.size) [] r front others w queue (refl, p on) in
+    let least = at_least_16 r.size in
+    let more : characters r.size ≡ suc (characters r.size - 1) = omega (arith, least) in
+    let L : ℕ → Type 0 = λ count. IsLostBehind count (front ∷ others) (take_front (front ∷ others) r).marks in
+    inl (one_fewer (characters r.size - 1) front others _ (subst L more taken.1))
 
 -- ---- over the machine
 
 module _ (x : Modes) (on : x.fifo ≡ true) (o : IsOpen x) (m : MachineState) (w : Stands x m) where
   -- up to the next access
-  pub behind_access : (count : ℕ) (taken : List Character) → Behind count taken m.chip.receiver →
-      Behind count taken (at_access m).chip.receiver
-  behind_access count taken =
-      access_lasts (Behind count taken) (λ r p. p)
-      (λ r byte errors marked within p. behind_came count taken byte errors r _ marked (came r byte errors) p) m w.sound
+  pub behind_access : (size : FifoSize) (count : ℕ) (taken : List Character) → Behind size count taken m.chip.receiver →
+      Behind size count taken (at_access m).chip.receiver
+  behind_access size count taken =
+      access_lasts (Behind size count taken) (λ r p. p)
+      (λ r byte errors marked within p. behind_came size count taken byte errors r _ marked (came r byte errors) p) m w.sound
       (w.modes.fifo ∙ on) (loopback-in x m.chip w.modes ∙ o.loopback)
 
   pub flag_access : FlagTells m.chip.receiver → FlagTells (at_access m).chip.receiver
@@ -216,10 +235,10 @@ module _ (x : Modes) (on : x.fifo ≡ true) (o : IsOpen x) (m : MachineState) (w
       subst (λ (b : Bool). IsMarked b (at_access m).chip.receiver) (p.went.modes.fifo ∙ on) p.sound.chip.receiver.marked
 
 -- a look leaves the characters, and clears the flag
-looked_behind : (count : ℕ) (taken : List Character) (m n : MachineState) (line : ℕ) → MachineStep m (Read offsets.LSR line) n →
-    Behind count taken (at_access m).chip.receiver → Behind count taken n.chip.receiver
-looked_behind count taken m n line s p =
-    let P : MachineState → Type 0 = λ k. Behind count taken k.chip.receiver in subst P (sym s.0) p
+looked_behind : (size : FifoSize) (count : ℕ) (taken : List Character) (m n : MachineState) (line : ℕ) →
+    MachineStep m (Read offsets.LSR line) n → Behind size count taken (at_access m).chip.receiver → Behind size count taken n.chip.receiver
+looked_behind size count taken m n line s p =
+    let P : MachineState → Type 0 = λ k. Behind size count taken k.chip.receiver in subst P (sym s.0) p
 
 cleared : (m n : MachineState) (line : ℕ) → MachineStep m (Read offsets.LSR line) n → n.chip.receiver.is_overrun ≡ false
 cleared m n line s = ap (λ (k : MachineState). k.chip.receiver.is_overrun) s.0
@@ -231,22 +250,23 @@ shows_flag m n line s h =
 
 -- a look at the line status alone
 pub record Looked (m n : MachineState) : Type 0 where
-  pub stays : (count : ℕ) (taken : List Character) → Behind count taken m.chip.receiver → Behind count taken n.chip.receiver
+  pub stays : (size : FifoSize) (count : ℕ) (taken : List Character) → Behind size count taken m.chip.receiver →
+      Behind size count taken n.chip.receiver
   pub flag : FlagTells n.chip.receiver
 
 pub looked : (x : Modes) (m n : MachineState) (line : ℕ) → x.fifo ≡ true → IsOpen x → Stands x m →
     MachineStep m (Read offsets.LSR line) n → Looked m n
 looked x m n line on o w s = record {
-  stays = λ count taken p. looked_behind count taken m n line s (behind_access x on o m w count taken p);
+  stays = λ size count taken p. looked_behind size count taken m n line s (behind_access x on o m w size count taken p);
   flag = λ set. let clear = cleared m n line s in absurd (cc);
 }
 
 -- a look, and a read of the character that was in front
 pub record HitTells (line : ℕ) (character : Character) (m n : MachineState) : Type 0 where
-  pub stays : (count : ℕ) (taken : List Character) → Behind count taken m.chip.receiver →
-      Behind count (taken ++ character ∷ []) n.chip.receiver
+  pub stays : (size : FifoSize) (count : ℕ) (taken : List Character) → Behind size count taken m.chip.receiver →
+      Behind size count (taken ++ character ∷ []) n.chip.receiver
   pub tells : FlagTells m.chip.receiver → has_any line LSR.OVERRUN_ERROR.0 ≡ true →
-      Behind 15 (character ∷ []) n.chip.receiver ⊎ Behind 16 (character ∷ []) n.chip.receiver
+      IsLost n.chip.receiver.size ((character ∷ []) ++ n.chip.receiver.queue) n.chip.receiver.marks
   pub flag : FlagTells n.chip.receiver
 
 pub hit_tells : (x : Modes) (m k n : MachineState) (line byte : ℕ) (front : Character) (others : List Character) → x.fifo ≡ true →
@@ -256,26 +276,21 @@ hit_tells x m k n line byte front others on o w v s t queue off =
     let r = (at_access k).chip.receiver in
     let marked = marked_access x on o k v in
     let after : n.chip.receiver ≡ take_front (front ∷ others) r = rw (t.0, off, queue) refl in
-    let stays : (count : ℕ) (taken : List Character) → Behind count taken (at_access m).chip.receiver →
-    Behind count (taken ++ front ∷ []) n.chip.receiver = λ count taken p.
-    let R : ReceiverState → Type 0 = λ q. Behind count (taken ++ front ∷ []) q in
+    let stays : (size : FifoSize) (count : ℕ) (taken : List Character) → Behind size count taken (at_access m).chip.receiver →
+    Behind size count (taken ++ front ∷ []) n.chip.receiver = λ size count taken p.
+    let R : ReceiverState → Type 0 = λ q. Behind size count (taken ++ front ∷ []) q in
     subst R (sym after)
-    (behind_taken count taken r front others marked queue
-    (behind_access x on o k v count taken (looked_behind count taken m k line s p))) in
+    (behind_taken size count taken r front others marked queue
+    (behind_access x on o k v size count taken (looked_behind size count taken m k line s p))) in
     let F : ReceiverState → Type 0 = λ q. FlagTells q in
     record {
-      stays = λ count taken p. stays count taken (behind_access x on o m w count taken p);
-      tells = λ f shown. both stays (flag_access x on o m w f (shows_flag m k line s shown));
+      stays = λ size count taken p. stays size count taken (behind_access x on o m w size count taken p);
+      tells = λ f shown. lost_stays (at_access m).chip.receiver n.chip.receiver [] (front ∷ [])
+          (λ count p. stays (at_access m).chip.receiver.size count [] p) (flag_access x on o m w f (shows_flag m k line s shown));
       flag = subst F (sym after)
           (flag_taken r front others marked queue
           (after_look_access x on o k v (λ set. let clear = cleared m k line s in absurd (cc))));
     }
-  where
-    both : ((count : ℕ) (taken : List Character) → Behind count taken (at_access m).chip.receiver →
-        Behind count (taken ++ front ∷ []) n.chip.receiver) → IsLost (at_access m).chip.receiver.queue (at_access m).chip.receiver.marks →
-        Behind 15 (front ∷ []) n.chip.receiver ⊎ Behind 16 (front ∷ []) n.chip.receiver
-    both stays (inl few) = inl (stays 15 [] few)
-    both stays (inr all) = inr (stays 16 [] all)
 
 -- ---- other accesses
 
@@ -313,13 +328,12 @@ flag_looked m n line s = λ set. let clear = cleared m n line s in absurd (cc)
 
 -- what stays lost is told later too
 pub tells_later : (items : List Received) (characters : List Character) (r s : ReceiverState) →
-    ((count : ℕ) (taken : List Character) → Behind count taken r → Behind count taken s) → OverrunsTell items characters r →
-    OverrunsTell items characters s
+    ((size : FifoSize) (count : ℕ) (taken : List Character) → Behind size count taken r → Behind size count taken s) →
+    OverrunsTell items characters r → OverrunsTell items characters s
 tells_later [] characters r s stays h = tt
 tells_later (received ∷ items) [] r s stays h = absurd h
-tells_later (received ∷ items) (character ∷ characters) r s stays h =
-    ((λ shown. later (h.0 shown)), tells_later items characters r s stays h.1)
-  where
-    later : IsLost (character ∷ (characters ++ r.queue)) r.marks → IsLost (character ∷ (characters ++ s.queue)) s.marks
-    later (inl few) = inl (stays 15 (character ∷ characters) few)
-    later (inr all) = inr (stays 16 (character ∷ characters) all)
+tells_later (received ∷ items) (character ∷ characters) r s stays h = (
+  (λ shown. lost_stays r s (character ∷ characters) (character ∷ characters)
+      (λ count p. stays r.size count (character ∷ characters) p) (h.0 shown)),
+  tells_later items characters r s stays h.1,
+)

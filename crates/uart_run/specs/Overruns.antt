@@ -6,7 +6,8 @@ use Rattle.uart_events.specs.declared.event.ArrivalMark.TheVariants.{Dropped}
 use Rattle.uart_spec.specs.Bits.{has_any}
 use Rattle.uart_spec.specs.declared.access.Access.{Access}
 use Rattle.uart_spec.specs.declared.access.Access.TheVariants.{Read, Write}
-use Rattle.uart_spec.specs.declared.baud.TheConstants.{FIFO_SIZE}
+use Rattle.uart_spec.specs.FifoSize as fifo
+use Rattle.uart_spec.specs.declared.setup.FifoSize.{FifoSize}
 use Rattle.uart_spec.specs.declared.received.Received.{Received}
 use Rattle.uart_spec.specs.declared.registers.line_status.TheConstants.LSR
 use Rattle.uart_spec.specs.declared.registers.offsets.TheConstants as offsets
@@ -38,26 +39,28 @@ pub record IsLostBehind (count : ℕ) (characters : List Character) (marks : Lis
   pub older : AllByRecursion (λ (character : Character). IsOlder number character.origin) (take count characters)
   pub younger : AllByRecursion (λ (character : Character). IsYounger number character.origin) (drop count characters)
 
--- an arrival was dropped right behind the 15th or the 16th of these characters
-abbrev pub IsLost : List Character → List ArrivalMark → Type 0
-IsLost characters marks = IsLostBehind (FIFO_SIZE - 1) characters marks ⊎ IsLostBehind FIFO_SIZE characters marks
+-- an arrival was dropped right behind as many of these characters as the FIFO holds, or behind one fewer: with a FIFO
+-- of 16 right behind the 15th or the 16th
+abbrev pub IsLost : FifoSize → List Character → List ArrivalMark → Type 0
+IsLost size characters marks =
+    IsLostBehind (fifo.characters size - 1) characters marks ⊎ IsLostBehind (fifo.characters size) characters marks
 
--- while the overrun flag is set, an arrival was dropped right behind the 15th or the 16th of the characters that wait
+-- while the overrun flag is set, an arrival was dropped there among the characters that wait
 abbrev pub FlagTells : ReceiverState → Type 0
-FlagTells r = r.is_overrun ≡ true → IsLost r.queue r.marks
+FlagTells r = r.is_overrun ≡ true → IsLost r.size r.queue r.marks
 
 -- the access takes no character and resets no FIFO: it reads another register than DATA, or writes another than FCR
 abbrev pub LeavesReceiver : Access → Type 0
 LeavesReceiver (Read offset answer) = offset ≢ offsets.DATA
 LeavesReceiver (Write offset value) = offset ≢ offsets.FCR
 
--- a byte with the overrun flag tells that an arrival was dropped right behind the 15th or the 16th character from that
--- of this byte on: these are the characters of the bytes behind it, and those that are in the receiver now
+-- a byte with the overrun flag tells that an arrival was dropped there among the characters from that of this byte on:
+-- these are the characters of the bytes behind it, and those that are in the receiver now
 abbrev pub OverrunsTell : List Received → List Character → ReceiverState → Type 0
 OverrunsTell [] characters r = Unit {0}
 OverrunsTell (received ∷ items) [] r = ⊥
 OverrunsTell (received ∷ items) (character ∷ characters) r =
-    (has_any received.errors.0 LSR.OVERRUN_ERROR.0 ≡ true → IsLost (character ∷ (characters ++ r.queue)) r.marks)
+    (has_any received.errors.0 LSR.OVERRUN_ERROR.0 ≡ true → IsLost r.size (character ∷ (characters ++ r.queue)) r.marks)
     × OverrunsTell items characters r
 
 -- what was received with its errors, and what its overrun flags tell; if the flag is set again, it tells too

@@ -1,6 +1,7 @@
 -- When a call must succeed: ticks pass before each access, the spin limit is long enough, and the wire has room.
 use Rattle.std.specs.Prelude.{◌≡◌, ◌<◌, ◌≤◌, ℕ, ◌+◌, ◌*◌, false, List, [], ◌∷◌, length, Option, Some, None, Ok}
 use Rattle.uart_spec.specs.Config.{IsComputable}
+use Rattle.uart_spec.specs.FifoSize.{characters}
 use Rattle.uart_spec.specs.declared.config.Config.{Config}
 use Rattle.uart_16550.specs.Driver.{fields}
 use Rattle.uart_16550.specs.Init.{DivisorOf}
@@ -41,7 +42,12 @@ left_of char_ticks None [] = 0
 left_of char_ticks None (x ∷ xs) = 1 + char_ticks * length (x ∷ xs)
 left_of char_ticks (Some s) queue = s.ticks_left + char_ticks * length queue
 
--- the ticks until the transmitter is empty: at most 17 character times
+-- the most characters that a transmitter holds: those of the FIFO and the one in the shift register, 17 with a FIFO of
+-- 16
+abbrev pub most_held : TransmitterState → ℕ
+most_held t = characters t.size + 1
+
+-- the ticks until the transmitter is empty: at most as many character times
 abbrev pub left : TransmitterState → ℕ
 left t = left_of t.char_ticks t.shift_register t.queue
 
@@ -49,14 +55,14 @@ left t = left_of t.char_ticks t.shift_register t.queue
 abbrev pub HasRoom : ℕ → MachineState → Type 0
 HasRoom n m = length (out m) + n ≤ m.chip.transmitter.capacity
 
--- A transmitter holds at most 17 characters of t ticks, and with a tick before each look every look finds less left.
--- The premises can be checked against a schedule. CTS checking is left out, because a remote may never be clear to
--- send.
+-- A transmitter holds at most n characters of t ticks, n being `most_held`, and with a tick before each look every look
+-- finds less left. The premises can be checked against a schedule. CTS checking is left out, because a remote may never
+-- be clear to send.
 
--- ticks come before each access, and the spin limit is at least 17 (t + 1), t being the ticks of a character
+-- ticks come before each access, and the spin limit is at least n (t + 1): with a FIFO of 16 that is 17 (t + 1)
 pub record IsTimely (s : State) : Type 0 where
   pub ticked : IsTicked (machine_of s)
-  pub limit : 17 * ((transmitter_of s).char_ticks + 1) ≤ (fields (inner_of s)).limit
+  pub limit : most_held (transmitter_of s) * ((transmitter_of s).char_ticks + 1) ≤ (fields (inner_of s)).limit
 
 -- the driver does not check CTS before it sends
 abbrev pub IsUnchecked : State → Type 0

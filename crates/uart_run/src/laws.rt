@@ -60,9 +60,10 @@ pub fn received_errors_are_exact(uart: &Uart16550<Device16550>)
 }
 
 /// With the FIFO on, an overrun at a byte that `receive_with_errors` returns tells that a character
-/// was lost right behind the 15th or the 16th byte from this one on, and not before this one: it
-/// came while the FIFO was full, so all that waited there are older. These are bytes that the call
-/// returns, and then bytes that are in the receiver after it.
+/// was lost right behind as many bytes from this one on as the FIFO holds, or behind one fewer, so
+/// behind the 15th or the 16th with a FIFO of 16, and not before this one: it came while the FIFO
+/// was full, so all that waited there are older. These are bytes that the call returns, and then
+/// bytes that are in the receiver after it.
 ///
 /// If the overrun flag was set before the call, it has to tell the same of the characters that
 /// wait. After the call it does so again. It does so after each look at LSR, with which `init` ends

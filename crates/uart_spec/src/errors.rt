@@ -240,6 +240,24 @@ pub enum LoopbackError {
     Stalled,
 }
 
+/// Why the size of the FIFOs was not found.
+#[derive(Clone, Debug, PartialEq, Eq, Hash, Drop, Error)]
+pub enum FifoSizeError {
+    /// The FIFOs are off, or the chip has none. No access was made.
+    #[error("the FIFOs are off")]
+    FifosOff,
+    /// Fewer bytes came back than the smallest FIFO holds: the FIFOs do not work, the chip has no
+    /// loopback, or what it has is off.
+    #[error("only {returned} bytes came back in loopback")]
+    TooFew {
+        /// How many bytes came back.
+        returned: usize,
+    },
+    /// The device made no progress within the spin limit.
+    #[error("the device stalled")]
+    Stalled,
+}
+
 /// A wait ended at the spin limit: that many polls in a row were unsuccessful.
 ///
 /// This is not always a fault. The remote may be slow, or may have nothing to send. At 9,600 baud a

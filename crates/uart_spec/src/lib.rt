@@ -27,10 +27,10 @@ pub use checked::{accepted, checked_baud_rate, checked_divisor, checked_frequenc
 pub use config::{BaudRate, Config};
 pub use dump::ConfigRegisterDump;
 pub use errors::{
-    AttachError, ByteReceiveError, ByteSendError, ConfigurationError, FifosOffError, FrameError,
-    InitError, InvalidAddressError, InvalidDivisorError, LoopbackError, NearestDivisorError,
-    NonIntegerBaudRateError, NonIntegerDivisorError, RemoteReadyToReceiveError, StalledError,
-    Uart16550TtyError,
+    AttachError, ByteReceiveError, ByteSendError, ConfigurationError, FifoSizeError, FifosOffError,
+    FrameError, InitError, InvalidAddressError, InvalidDivisorError, LoopbackError,
+    NearestDivisorError, NonIntegerBaudRateError, NonIntegerDivisorError,
+    RemoteReadyToReceiveError, StalledError, Uart16550TtyError,
 };
 pub use layout::{
     ByteOrder, InvalidLayoutError, RegisterLayout, RegisterWidth, check_layout, check_ports,

@@ -1,7 +1,7 @@
 //! How a device is initialised, beside its configuration, and how it is left; and how large its
 //! FIFOs are.
 ghost use Rattle.std.specs.Prelude.{◌≡◌};
-ghost use Rattle.uart_spec.specs.FifoSize.{characters};
+ghost use Rattle.uart_spec.specs.FifoSize.{characters, IsLargestUpTo};
 
 use crate::baud::FIFO_SIZE;
 use crate::registers::MCR;
@@ -65,7 +65,8 @@ pub enum FifoAction {
 /// How many characters the transmitter FIFO of a chip holds, for `Uart16550::send_burst`.
 ///
 /// A 16550 has 16. No register that all chips have shows the size, so it is taken from the
-/// datasheet. If a size is given that is larger than the chip's, bytes are lost.
+/// datasheet, or `Uart16550::find_fifo_size` finds it. If a size is given that is larger than the
+/// chip's, bytes are lost.
 ///
 /// # Examples
 ///
@@ -98,6 +99,29 @@ impl FifoSize {
             FifoSize::SixtyFour => 64,
             FifoSize::OneHundredTwentyEight => 128,
             FifoSize::TwoHundredFiftySix => 256,
+        }
+    }
+
+    /// Returns the largest size of no more than so many characters, or `None` if there is none.
+    ///
+    /// So a burst of the size that is returned is safe on a chip that holds so many.
+    ///
+    /// # Examples
+    ///
+    /// ```
+    /// assert_eq!(rt; FifoSize::largest_up_to(63), Some(FifoSize::ThirtyTwo));
+    /// assert_eq!(rt; FifoSize::largest_up_to(15), None);
+    /// ```
+    pub fn largest_up_to(characters: usize) -> Option<FifoSize>
+        ensures { IsLargestUpTo characters result }
+    {
+        match characters {
+            0..=15 => None,
+            16..=31 => Some(FifoSize::Sixteen),
+            32..=63 => Some(FifoSize::ThirtyTwo),
+            64..=127 => Some(FifoSize::SixtyFour),
+            128..=255 => Some(FifoSize::OneHundredTwentyEight),
+            _ => Some(FifoSize::TwoHundredFiftySix),
         }
     }
 }

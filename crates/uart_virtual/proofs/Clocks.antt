@@ -260,7 +260,8 @@ write_raises_none value c down =
     none_pending : (load c.fifo (cut_of c value) c.transmitter).is_thr_pending ≡ true → c.transmitter.is_thr_pending ≡ true
     none_pending p =
         let cleared : (load c.fifo (cut_of c value) c.transmitter).is_thr_pending ≡ false =
-        both_if (λ (t : TransmitterState). t.is_thr_pending ≡ false) _ _ (nat_lt (length c.transmitter.queue) (room c.fifo)) refl refl in
+        both_if (λ (t : TransmitterState). t.is_thr_pending ≡ false) _ _
+        (nat_lt (length c.transmitter.queue) (room c.fifo c.transmitter.size)) refl refl in
         let no : true ≡ false = sym p ∙ cleared in
         absurd (cc)
 

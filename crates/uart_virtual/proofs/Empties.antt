@@ -69,7 +69,7 @@ asks-other : (offset value : ℕ) (c : ChipState) → (offset == offsets.FCR) �
 asks-other offset value c other some =
     both_if AsksOf _ _ (offset == offsets.DATA)
     (both_if AsksOf _ _ (is_dlab_set c.latches) (inl some)
-    (both_if Asks _ _ (nat_lt (length c.transmitter.queue) (room c.fifo)) (inl (longer c.transmitter.queue _))
+    (both_if Asks _ _ (nat_lt (length c.transmitter.queue) (room c.fifo c.transmitter.size)) (inl (longer c.transmitter.queue _))
     (inl (both_if (λ (queue : List ℕ). queue ≢ []) _ _ c.fifo some (λ none. absurd (cc))))))
     (both_if AsksOf _ _ (offset == offsets.IER) (both_if AsksOf _ _ (is_dlab_set c.latches) (inl some) (inl some))
     (rw other (both_if AsksOf _ _ (offset == offsets.LCR) (inl some) (both_if AsksOf _ _ (offset == offsets.MCR) (inl some)

@@ -5,14 +5,15 @@ use Rattle.std.proofs.lemmas.Grind.{common_steps}
 use Rattle.std.specs.List.{list_any}
 use Rattle.uart_spec.specs.Bits.{has_any, flag}
 use Rattle.uart_spec.specs.declared.registers.fifo_trigger_level.FifoTriggerLevel.{FifoTriggerLevel}
-use Rattle.uart_spec.specs.declared.registers.fifo_trigger_level.FifoTriggerLevel.TheVariants.{One, Four, Eight, Fourteen}
 use Rattle.uart_spec.specs.declared.registers.interrupt_enable.TheConstants.IER
 use Rattle.uart_spec.specs.declared.registers.line_status.TheConstants.LSR
 use Rattle.uart_spec.specs.declared.registers.offsets.TheConstants as offsets
+use Rattle.uart_spec.specs.declared.setup.FifoSize.{FifoSize}
 use Rattle.uart_chip.specs.declared.receiver.Character.{Character}
 use Rattle.uart_chip.specs.declared.receiver.Origin.TheVariants.{Live}
 use Rattle.uart_chip.specs.Chip.{ChipState, after_read, arrive_live, cut_of, is_dlab_set, is_loopback, line_status}
 use Rattle.uart_chip.specs.Chip.{is_transmitter_empty}
+use Rattle.uart_chip.proofs.Sizes.{some_characters}
 use Rattle.uart_chip.specs.Receiver as receiver
 use Rattle.uart_chip.specs.Receiver.{ReceiverState, characters_of, has_errors, take_front, unreported}
 use Rattle.uart_live.proofs.Sends.{each, unset}
@@ -24,7 +25,7 @@ use Rattle.uart_virtual.specs.declared.told.Told.{Told}
 use Rattle.uart_virtual.specs.Port.{PortState, PortCall, Read, Receive, IsPort, IsStill, after, todo, kind_of, settle, is_up}
 use Rattle.uart_virtual.specs.Port.{has_room, is_empty, tell, todo_of, receives_first, reads_last}
 use Rattle.uart_virtual.proofs.Polls.{accepts_one, happens_one, read_settled, still_all}
-use Rattle.uart_virtual.proofs.Sends.{told_alike, todo_alike}
+use Rattle.uart_virtual.proofs.Sends.{empty_has_room, told_alike, todo_alike}
 use Rattle.uart_virtual.proofs.Stays.{causes, empty, errors, lines, ready, timeout, unseen}
 use Rattle.uart_virtual.proofs.Waits.{waiting_interrupts}
 
@@ -54,8 +55,7 @@ is_without c none = ap (λ (queue : List Character). record c { receiver = recor
 
 enters : (fifo : Bool) (byte : ℕ) (r : ReceiverState) →
     receiver.arrive_live false fifo byte 0 (record r { queue = [] }) ≡ with_first byte r
-enters true byte r = refl
-enters false byte r = refl
+enters fifo byte r = rw (empty_has_room fifo r.size) refl
 
 -- what a byte leaves that comes while none waits
 pub arrives : (byte : ℕ) (c : ChipState) → is_loopback c.latches ≡ false → c.receiver.queue ≡ [] →
@@ -99,9 +99,10 @@ same_errors byte c =
     (unseen before 0 (flag f LSR.FIFO_DATA_ERROR.0) q t ∙
     (overrun_alone o f g ∙ sym (unseen now 0 (flag g LSR.FIFO_DATA_ERROR.0) q t)))
 
-none_pending : (fifo : Bool) (trigger : FifoTriggerLevel) → (if fifo then nat_le (characters_of trigger) 0 else nat_lt 0 0) ≡ false
-none_pending true One = refl
-none_pending _ _ = refl
+none_pending : (fifo : Bool) (size : FifoSize) (trigger : FifoTriggerLevel) →
+    (if fifo then nat_le (characters_of size trigger) 0 else nat_lt 0 0) ≡ false
+none_pending true size trigger = let some = some_characters size trigger in grind (arith, common_steps)
+none_pending false size trigger = refl
 
 with_none : (b : Bool) → (b && false) ≡ false
 with_none true = refl
@@ -123,7 +124,7 @@ up_with_one byte c up =
     let on : Bool = has_any c.latches.ier IER.DATA_READY.0 in
     let same : errors n ≡ errors s =
     ap (λ (b : Bool). has_any c.latches.ier IER.RECEIVER_LINE_STATUS.0 && b) (same_errors byte c) in
-    let none : ready n ≡ false = ap (λ (b : Bool). on && b) (none_pending c.fifo c.receiver.trigger) ∙ with_none on in
+    let none : ready n ≡ false = ap (λ (b : Bool). on && b) (none_pending c.fifo c.receiver.size c.receiver.trigger) ∙ with_none on in
     let late : timeout n ≡ false = ap (λ (b : Bool). on && b) (with_none c.fifo) ∙ with_none on in
     causes s ∙
     (ap (λ (b : Bool). b || (ready s || (timeout s || (empty c || lines c)))) (sym same) ∙

@@ -86,12 +86,12 @@ known_room kind c told known =
 
 -- ---- a read of DATA leaves room where there was some
 
-room_front : (loopback : Bool) (n : ℕ) (queue : List Character) (r : ReceiverState) → r.queue ≡ queue →
-    not ((if loopback then 0 else n - length r.queue) == 0) ≡ true →
-    not ((if loopback then 0 else n - length (take_front queue r).queue) == 0) ≡ true
-room_front true n queue r e h = absurd (cc)
-room_front false n [] r e h = h
-room_front false n (x ∷ xs) r e h =
+room_front : (loopback fifo : Bool) (queue : List Character) (r : ReceiverState) → r.queue ≡ queue →
+    not ((if loopback then 0 else room fifo r.size - length r.queue) == 0) ≡ true →
+    not ((if loopback then 0 else room fifo (take_front queue r).size - length (take_front queue r).queue) == 0) ≡ true
+room_front true fifo queue r e h = absurd (cc)
+room_front false fifo [] r e h = h
+room_front false fifo (x ∷ xs) r e h =
     let longer : length r.queue ≡ suc (length xs) = ap (λ (queue : List Character). length queue) e in
     grind (arith, common_steps, h, longer)
 
@@ -99,7 +99,7 @@ pub room_read : (c : ChipState) → has_room c ≡ true → has_room (after_read
 room_read c some =
     both_if (λ (d : ChipState). has_room d ≡ true) c
     (record c { receiver = take_front c.receiver.queue c.receiver }) (is_dlab_set c.latches) some
-    (room_front (is_loopback c.latches) (room c.fifo) c.receiver.queue c.receiver refl some)
+    (room_front (is_loopback c.latches) c.fifo c.receiver.queue c.receiver refl some)
 
 -- ---- a byte of input
 

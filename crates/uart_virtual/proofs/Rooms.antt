@@ -84,19 +84,22 @@ front_room : (n : ℕ) (new : Character) (queue : List Character) (r : ReceiverS
 front_room n new [] r e q one = e
 front_room n new (x ∷ xs) r e q one = omega (arith, one)
 
-room_enter : (fifo : Bool) (new : Character) (r : ReceiverState) → room fifo - length r.queue ≡ 0 →
-    room fifo - length (enter fifo new r).queue ≡ 0
+room_enter : (fifo : Bool) (new : Character) (r : ReceiverState) → room fifo r.size - length r.queue ≡ 0 →
+    room fifo (enter fifo new r).size - length (enter fifo new r).queue ≡ 0
 room_enter fifo new r e =
-    let full : nat_lt (length r.queue) (room fifo) ≡ false = grind (arith, common_steps) in
+    let full : nat_lt (length r.queue) (room fifo r.size) ≡ false = grind (arith, common_steps) in
     rw full (go fifo e)
   where
-    go : (b : Bool) → room b - length r.queue ≡ 0 →
-        room b - length (if b then record r {
+    after : Bool → ReceiverState
+    after b =
+        if b then record r {
           is_overrun = true;
           timeout_ticks = 0;
           marks = set_mark new.origin Dropped r.marks;
           is_unscheduled_lost = if is_unscheduled new.origin then false else r.is_unscheduled_lost;
-        } else replace r.queue new r).queue ≡ 0
+        } else replace r.queue new r
+
+    go : (b : Bool) → room b r.size - length r.queue ≡ 0 → room b (after b).size - length (after b).queue ≡ 0
     go true e = e
     go false e = front_room 1 new r.queue r e refl refl
 
@@ -106,7 +109,7 @@ none_arrives byte errors c e = go (is_loopback c.latches) refl
     go : (b : Bool) → is_loopback c.latches ≡ b → receive_room (arrive_live byte errors c) ≡ 0
     go true l = rw l refl
     go false l =
-        let left : room c.fifo - length c.receiver.queue ≡ 0 = rw l at e in
+        let left : room c.fifo c.receiver.size - length c.receiver.queue ≡ 0 = rw l at e in
         rw l (room_enter c.fifo (record { byte = cut_of c byte; errors = errors; origin = Live }) c.receiver left)
 
 abbrev NoRoom : ChipState → Type 0
@@ -181,8 +184,8 @@ room-arrive byte k c e = go (is_loopback c.latches) refl
     go : (b : Bool) → is_loopback c.latches ≡ b → receive_room (arrive_live byte 0 c) ≡ k
     go true l = let no : 0 ≡ suc k = rw l at e in absurd (cc)
     go false l =
-        let left : room c.fifo - length c.receiver.queue ≡ suc k = rw l at e in
-        let fits : nat_lt (length c.receiver.queue) (room c.fifo) ≡ true = grind (arith, common_steps) in
+        let left : room c.fifo c.receiver.size - length c.receiver.queue ≡ suc k = rw l at e in
+        let fits : nat_lt (length c.receiver.queue) (room c.fifo c.receiver.size) ≡ true = grind (arith, common_steps) in
         let longer = length-append c.receiver.queue (new ∷ []) in
         rw (l, fits) (omega (arith, left, longer))
 

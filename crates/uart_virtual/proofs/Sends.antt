@@ -4,15 +4,17 @@ use Rattle.std.proofs.Common.{◌||◌, ◌==◌, ◌⊎◌, inl, inr, min, nat_
 use Rattle.std.proofs.Common.{length, Option, Some, None, is_some, refl, ap, sym, ◌∙◌, subst, arith}
 use Rattle.std.proofs.lemmas.Grind.{common_steps}
 use Rattle.uart_spec.specs.declared.registers.offsets.TheConstants as offsets
+use Rattle.uart_spec.specs.declared.setup.FifoSize.{FifoSize}
 use Rattle.uart_chip.specs.declared.transmitter.Shifting.{Shifting}
 use Rattle.uart_chip.specs.Transmitter as transmitter
-use Rattle.uart_chip.specs.Transmitter.{TransmitterState, looped_byte, shift, refill, load}
+use Rattle.uart_chip.specs.Transmitter.{TransmitterState, room, looped_byte, load}
 use Rattle.uart_chip.specs.Receiver as receiver
 use Rattle.uart_chip.specs.Receiver.{ReceiverState}
 use Rattle.uart_chip.specs.Chip.{ChipState, tick, ticks, is_loopback, cut_of, after_write}
 use Rattle.uart_chip.specs.Sending.{sends_at_once, put_on_wire, send_at_once}
 use Rattle.uart_chip.specs.Sound.{IsSoundChip}
 use Rattle.uart_chip.proofs.Jumps.{ticks-add}
+use Rattle.uart_chip.proofs.Sizes.{some_room}
 use Rattle.uart_chip.proofs.soundness.Sounds.{steady_ticks, steady_write}
 use Rattle.uart_live.proofs.Sends.{Sends, sends}
 use Rattle.uart_virtual.specs.declared.told.Kind.{Kind}
@@ -32,9 +34,12 @@ abbrev shifted : ℕ → TransmitterState → TransmitterState
 shifted byte t =
     record t { queue = []; shift_register = Some (record { byte = byte; ticks_left = t.char_ticks }); is_thr_pending = true }
 
+-- an empty queue has room, whatever its size
+pub empty_has_room : (fifo : Bool) (size : FifoSize) → nat_lt 0 (room fifo size) ≡ true
+empty_has_room fifo size = let some = some_room fifo size in grind (arith, common_steps)
+
 load-idle : (fifo : Bool) (byte : ℕ) (t : TransmitterState) → load fifo byte (idle t) ≡ queued byte t
-load-idle true byte t = refl
-load-idle false byte t = refl
+load-idle fifo byte t = rw (empty_has_room fifo t.size) refl
 
 first-tick : (byte : ℕ) (t : TransmitterState) → transmitter.tick false (queued byte t) ≡ shifted byte t
 first-tick byte t = refl

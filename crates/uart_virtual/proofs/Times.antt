@@ -15,6 +15,7 @@ use Rattle.uart_chip.specs.Jumps.{next_move_of, next_move, left_after, place_aft
 use Rattle.uart_chip.specs.Sound.{IsSoundChip, IsTicking}
 use Rattle.uart_chip.proofs.Jumps.{StillFor, ticks_skip}
 use Rattle.uart_chip.proofs.soundness.Idle.{moves-most}
+use Rattle.uart_chip.proofs.soundness.Sixteen.{sends_16}
 use Rattle.uart_chip.proofs.lasting.Lasting.{LastsInAccesses, lasts-read, lasts-write}
 use Rattle.uart_chip.proofs.soundness.Sounds.{char_ticks-tick, steady_ticks}
 use Rattle.uart_live.specs.Held.{expire}
@@ -71,7 +72,7 @@ pace-write offset value c h = go (offset == offsets.DATA) refl
     go false e = lasts-write Pace pace_lasts offset value c e h
     go true e =
         rw e (both_if (λ (d : ChipState). Pace d.transmitter) _ _ (is_dlab_set c.latches) h
-        (both_if Pace _ _ (nat_lt (length c.transmitter.queue) (room c.fifo)) h h))
+        (both_if Pace _ _ (nat_lt (length c.transmitter.queue) (room c.fifo c.transmitter.size)) h h))
 
 pace-all : (bytes : List ℕ) (c : ChipState) → Pace c.transmitter → Pace (arrive_all bytes c).transmitter
 pace-all [] c h = h
@@ -160,7 +161,7 @@ stuck_or_moves loopback (Some s) queue t h =
 
 -- ---- after 21 ticks
 
--- the ticks towards a timeout, n ticks after which at most 17 moved a character
+-- the ticks towards a timeout, n ticks after which at most 17 moved a character, as with a FIFO of 16
 abbrev Nears : ℕ → ReceiverState → Type 0
 Nears n r = (n ≤ 17 + r.timeout_ticks) ⊎ (r.timeout_ticks ≡ r.timeout_limit)
 
@@ -189,7 +190,10 @@ stops-tick n c h =
 
 nearer : (n : ℕ) (c : ChipState) → IsSoundChip c → CharTakes 1 c →
     (moves (ticks n c).transmitter + n ≤ 17) ⊎ Stops n (ticks n c)
-nearer zero c w k = inl (omega (arith, moves-most c.fifo c.transmitter w.transmitter))
+nearer zero c w k =
+    let few = moves-most c.fifo c.transmitter w.transmitter in
+    let most : moves c.transmitter ≤ 17 = rw (sends_16 c w) at few in
+    inl (omega (arith, most))
 nearer (suc n) c w k =
     let d : ChipState = ticks n c in
     let t : TransmitterState = d.transmitter in

@@ -10,11 +10,13 @@ use Rattle.uart_spec.specs.declared.registers.interrupt_enable.TheConstants.IER
 use Rattle.uart_spec.specs.declared.registers.interrupt_type.InterruptType.{InterruptType}
 use Rattle.uart_spec.specs.declared.registers.line_status.TheConstants.LSR
 use Rattle.uart_spec.specs.declared.registers.offsets.TheConstants as offsets
+use Rattle.uart_spec.specs.declared.setup.FifoSize.{FifoSize}
 use Rattle.uart_chip.specs.declared.transmitter.Shifting.{Shifting}
 use Rattle.uart_chip.specs.Transmitter.{TransmitterState, room, shift_bytes, held}
 use Rattle.uart_chip.specs.Receiver.{is_data_pending}
 use Rattle.uart_chip.specs.Chip.{ChipState, line_status, interrupt, is_transmitter_empty}
 use Rattle.uart_chip.specs.Jumps.{next_move_of}
+use Rattle.uart_chip.proofs.Sizes.{some_room}
 use Rattle.uart_chip.proofs.statuses.Status.{status_room, status_empty}
 use Rattle.uart_chip.proofs.AccessMoves.{both_if}
 use Rattle.uart_live.proofs.Holds.{due_interrupts}
@@ -46,13 +48,12 @@ waiting_interrupts c still enabled some = go c.fifo refl
         (has_any c.latches.ier IER.RECEIVER_LINE_STATUS.0 && has_any (line_status c) LSR.LINE_ERRORS.0) refl
         (rw (enabled, pending) refl)
 
-room_for_one : (n : ℕ) (fifo : Bool) → (n == 0) ≡ true → n < room fifo
-room_for_one n true e = grind (arith, common_steps)
-room_for_one n false e = grind (arith, common_steps)
+room_for_one : (n : ℕ) (fifo : Bool) (size : FifoSize) → (n == 0) ≡ true → n < room fifo size
+room_for_one n fifo size e = let some = some_room fifo size in grind (arith, common_steps)
 
 pub empty_takes : EmptyThrTakesAByte
 empty_takes value c e =
-    (other, λ is_data. room_for_one (length c.transmitter.queue) c.fifo (sym (status_room c) ∙ e))
+    (other, λ is_data. room_for_one (length c.transmitter.queue) c.fifo c.transmitter.size (sym (status_room c) ∙ e))
   where
     other : offsets.DATA ≢ offsets.FCR
     other = λ same. absurd (cc)

@@ -33,7 +33,8 @@ pub record PortState : Type 0 where
   pub chip : ChipState
   pub told : Told
 
--- the ticks that pass in each call: 17 for what the transmitter holds, 4 until a reception timeout is due, and one
+-- the ticks that pass in each call: 17 for what a transmitter with a FIFO of 16 holds, 4 until a reception timeout is
+-- due, and one
 unfoldable pub settle_ticks : ℕ
 settle_ticks = 22
 

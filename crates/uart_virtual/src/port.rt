@@ -31,9 +31,9 @@ use uart_spec::registers::{LSR, MSR, offsets};
 // The ticks that a character takes.
 const CHAR_TICKS: u16 = 1;
 
-// The ticks that pass in each call: 17 for what the transmitter holds, 4 until a reception timeout
-// is due, and one. So time between calls would change nothing, and no guest waits for a clock that
-// its monitor does not have.
+// The ticks that pass in each call: 17 for what a transmitter with a FIFO of 16 holds, 4 until a
+// reception timeout is due, and one. So time between calls would change nothing, and no guest waits
+// for a clock that its monitor does not have.
 const SETTLE_TICKS: u16 = 22;
 
 // A call of the host that brings something, and a port that is new, or restored.
@@ -166,7 +166,7 @@ pub fn settle_ticks() -> u16
 /// guest can make its monitor do in a call has this bound.
 pub fn settle(chip: &mut LiveChip) -> usize
     ensures after { chip.new ≡ settle chip.old }
-    ensures most { result ≤ most_jumps }
+    ensures most { result ≤ most_jumps (spec.size_of chip.old.model) }
 {
     chip.ticks(settle_ticks())
 }

@@ -25,6 +25,7 @@ OWN, HERE, JOINED, OTHER, MODEM = "ttyS1", "ttyP0", "ttyP1", "ttyS3", "ttyP2"
 PORTS = "ports=0x2f8,0x3e8,0x3f8 irqs=3,3,4"
 NOBODYS = 0x2D8  # here is neither a chip nor a driver
 UNUSED_INTERRUPT = 6
+PATIENCE = 10  # seconds, of terminal.c
 UNKNOWN, C16450, C16550A, CUSTOM_DIVISOR = 0, 2, 4, 0x30  # of linux/serial_core.h and linux/tty_flags.h
 TAKEN = ("0x2f8", "0x3e8", "0x3f8")  # Linux's own driver has these at first
 RTS, DTR, CTS, CARRIER, DSR = 4, 2, 0x20, 0x40, 0x100
@@ -307,6 +308,9 @@ def hears_after_sleep(bench):
         bench.here.drain(0.5)
         task = bench.task(f"terminal transfer /dev/{HERE} 0 3000 0").ready()
         told = sleep_and_wake(bench)
+        if not more:
+            # The program in the guest counts its looks, and not only its seconds: else it has given up here, and receives nothing.
+            bench.guest.stall(PATIENCE + 1)
         bench.here.drain(0.5)
         bench.here.exchange(stream(3000, RECEIVED), 0, 10)
         told += task.result(60)

@@ -3,6 +3,7 @@ import glob
 import os
 import re
 import select
+import signal
 import socket
 import subprocess
 import threading
@@ -185,6 +186,12 @@ class Guest:
         text = self.read_until(rb"shell: done %d (\d+)\r?\n" % self.count, seconds)
         self.status = int(self.last[1])
         return text
+
+    def stall(self, seconds):
+        """Stops the emulator for so long, as a machine does that has no time for it: the guest's clock goes on meanwhile."""
+        self.process.send_signal(signal.SIGSTOP)
+        time.sleep(seconds)
+        self.process.send_signal(signal.SIGCONT)
 
     def tell_monitor(self, command):
         """Runs a command of the emulator."""

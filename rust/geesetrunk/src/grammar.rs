@@ -308,7 +308,7 @@ const ALONE: [&str; 21] = [
 ];
 
 // The lines that only a script with rings has, and that have fields.
-const FORMS_OF_RINGS: [Form; 10] = [
+const FORMS_OF_RINGS: [Form; 11] = [
     Form {
         usage: "rings T R",
         fields: &[Field::Capacity, Field::Capacity],
@@ -319,6 +319,10 @@ const FORMS_OF_RINGS: [Form; 10] = [
     },
     Form {
         usage: "take N",
+        fields: &[Field::Count],
+    },
+    Form {
+        usage: "take-with-errors N",
         fields: &[Field::Count],
     },
     Form {
@@ -352,10 +356,11 @@ const FORMS_OF_RINGS: [Form; 10] = [
 ];
 
 // Those of them that have no fields.
-const ALONE_OF_RINGS: [&str; 10] = [
+const ALONE_OF_RINGS: [&str; 11] = [
     "clear-receive",
     "clear-transmit",
     "hold-transmit",
+    "obey-xoff",
     "release-transmit",
     "resume-transmit",
     "retrigger",

@@ -7,7 +7,7 @@
 use crate::end::{End, Status};
 use crate::heap;
 use crate::moments::{Arrival, Happened, Moment, Seen, register_of};
-use crate::ring_language::{AnyScript, RingScript};
+use crate::ring_language::{AnyScript, RingScript, ScriptCall};
 use crate::rings::{Scheduled, rings_over, run_rings};
 use geesetrunk_kit::Vec as List;
 use geesetrunk_kit::alloc::AllocError;
@@ -350,14 +350,15 @@ impl<S: Show> Scheduled for Told<'_, S> {
 // Shows a run of a script with rings.
 fn observe_rings<S: Show>(script: &RingScript, show: S) -> Result<(), End> {
     let calls = script.calls().iter();
-    let calls = calls.map(|call| *call == RingCall::Next).collect();
+    let next = ScriptCall::OfRun(RingCall::Next);
+    let calls = calls.map(|call| *call == next).collect();
     let told = Told {
         device: device_of(heap(), script.plain())?,
         observer: Observer::of_calls(script.plain(), calls, show)?,
     };
     let mut ring = rings_over(script, told)?;
     run_rings(&mut ring, script.calls())?;
-    let told = ring.inner_mut().backend_mut();
+    let told = ring.inner_mut().backend_mut().backend_mut();
     let failure = told.observer.failure.take();
     failure.map_or(Ok(()), |cause| Err(End::unwritten(cause)))
 }

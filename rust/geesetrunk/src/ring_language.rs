@@ -20,12 +20,21 @@ pub struct Capacities {
     pub receive: usize,
 }
 
+/// A call of a script with rings.
+#[derive(Debug, PartialEq)]
+pub enum ScriptCall {
+    /// One that runs of ring calls have too.
+    OfRun(RingCall),
+    /// `take_with_errors` into so many slots. Runs have it not: it is of rings over notes of errors, which those of a script are.
+    TakeWithErrors(usize),
+}
+
 /// A script with rings: a script, how many bytes the rings have room for, and the calls that are made, those of the rings and those of
 /// the driver under them.
 pub struct RingScript {
     plain: Script,
     capacities: Capacities,
-    calls: Vec<RingCall>,
+    calls: Vec<ScriptCall>,
 }
 
 impl RingScript {
@@ -40,7 +49,7 @@ impl RingScript {
     }
 
     /// Returns the calls, in the order of the script.
-    pub fn calls(&self) -> &[RingCall] {
+    pub fn calls(&self) -> &[ScriptCall] {
         &self.calls
     }
 }
@@ -64,11 +73,12 @@ impl AnyScript {
 }
 
 // The words that only a script with rings has, and how many words a line of each has.
-const WORDS: [(&str, usize); 20] = [
+const WORDS: [(&str, usize); 22] = [
     ("rings", 3),
     ("queue", 2),
     ("resume-transmit", 1),
     ("take", 2),
+    ("take-with-errors", 2),
     ("service", 1),
     ("handle", 2),
     ("retrigger", 1),
@@ -85,6 +95,7 @@ const WORDS: [(&str, usize); 20] = [
     ("restart", 2),
     ("adjust-rts", 3),
     ("adjust-xoff", 3),
+    ("obey-xoff", 1),
 ];
 
 fn word(line: &[u8], index: usize) -> &[u8] {
@@ -117,7 +128,7 @@ fn capacities_in(line: &[u8]) -> Result<Capacities, Cause> {
 }
 
 // Returns the call of the words of a line of the rings, if it makes one: `rings` makes none.
-fn ring_call(name: &str, line: &[u8]) -> Result<Option<RingCall>, Cause> {
+fn ring_call(name: &str, line: &[u8]) -> Result<Option<ScriptCall>, Cause> {
     let limit = |index| number_in(0, MOST_LIMIT, word(line, index));
     let mark = |index| number_in(0, MAX_CAPACITY as u64, word(line, index));
     let marks = || -> Result<ReceiveMarks, Cause> {
@@ -132,6 +143,7 @@ fn ring_call(name: &str, line: &[u8]) -> Result<Option<RingCall>, Cause> {
             capacities_in(line)?;
             return Ok(None);
         }
+        "take-with-errors" => return Ok(Some(ScriptCall::TakeWithErrors(count_in(field)?))),
         "queue" => RingCall::Queue(bytes_in(field)?),
         "resume-transmit" => RingCall::ResumeTransmit,
         "take" => RingCall::Take(count_in(field)?),
@@ -151,9 +163,10 @@ fn ring_call(name: &str, line: &[u8]) -> Result<Option<RingCall>, Cause> {
         "restart" => RingCall::Restart(interrupts_in(field)?),
         "adjust-rts" => RingCall::AdjustRts(marks()?),
         "adjust-xoff" => RingCall::AdjustXoff(marks()?),
+        "obey-xoff" => RingCall::ObeyXoff,
         _ => return Err(Cause::UnknownWord),
     };
-    Ok(Some(call))
+    Ok(Some(ScriptCall::OfRun(call)))
 }
 
 // Returns whether a line starts with a word that no script with rings has: there is no terminal over the rings.
@@ -162,13 +175,13 @@ fn is_of_terminal(line: &[u8]) -> bool {
 }
 
 // Returns the call of a line that starts with no word of the rings, if it makes one.
-fn driver_call_at(number: u32, line: &[u8]) -> Result<Option<RingCall>, Cause> {
+fn driver_call_at(number: u32, line: &[u8]) -> Result<Option<ScriptCall>, Cause> {
     if is_of_terminal(line) && !has_bad_byte(line) {
         return Err(Cause::UnknownWord);
     }
     match item_at(number, line)? {
-        Item::Next => Ok(Some(RingCall::Next)),
-        Item::Call(call) => Ok(Some(RingCall::Driver(call))),
+        Item::Next => Ok(Some(ScriptCall::OfRun(RingCall::Next))),
+        Item::Call(call) => Ok(Some(ScriptCall::OfRun(RingCall::Driver(call)))),
         Item::Blank | Item::Limit(_) | Item::Event(_) => Ok(None),
     }
 }
@@ -178,7 +191,7 @@ fn driver_call_at(number: u32, line: &[u8]) -> Result<Option<RingCall>, Cause> {
 /// # Errors
 ///
 /// What is wrong with the line.
-pub fn call_at(at: u32, number: u32, line: &[u8]) -> Result<Option<RingCall>, Cause> {
+pub fn call_at(at: u32, number: u32, line: &[u8]) -> Result<Option<ScriptCall>, Cause> {
     let Some((name, count)) = ring_word(line) else {
         return driver_call_at(number, line);
     };
@@ -208,7 +221,7 @@ fn without_rings(text: &[u8]) -> Vec<u8> {
 }
 
 // Returns the calls of the lines after the first.
-fn calls_of(at: u32, text: &[u8]) -> Result<Vec<RingCall>, ScriptError> {
+fn calls_of(at: u32, text: &[u8]) -> Result<Vec<ScriptCall>, ScriptError> {
     let mut calls = Vec::new();
     for (number, line) in (1..).zip(lines(text)).skip(1) {
         // A line of the rings at the end may be one too many, and without it the script has none too many.
@@ -296,6 +309,14 @@ mod tests {
             ("rings 4 4\nqueue 4\nsing\n", Some((3, Cause::BadHex))),
             ("rings 4 4\nsing\nqueue 4\n", Some((3, Cause::UnknownWord))),
             ("rings 4 4\ntake 65\n", Some((3, Cause::BadNumber))),
+            (
+                "rings 4 4\ntake-with-errors 65\n",
+                Some((3, Cause::BadNumber)),
+            ),
+            (
+                "rings 4 4\ntake-with-errors\n",
+                Some((3, Cause::WrongCount)),
+            ),
             ("rings 4 4\nservice 1\n", Some((3, Cause::WrongCount))),
             ("rings 4 4\nservice\t\n", Some((3, Cause::BadByte))),
             ("rings 4 4\ntake 1\t\n", Some((3, Cause::BadByte))),
@@ -329,16 +350,16 @@ mod tests {
     #[test]
     fn calls_are_those_of_the_lines_in_order() {
         let text =
-            b"chip 16550a 4 64\nrings 8 2\nadjust-rts 1 2\ntick 5\nnext\nlsr\ntry-handle 3 4\n";
+            b"chip 16550a 4 64\nrings 8 2\nadjust-rts 1 2\ntick 5\nnext\nlsr\ntake-with-errors 7\n";
         let Ok(AnyScript::Rings(script)) = parse(text) else {
             panic!("a script with rings");
         };
         let (hold, release) = (1, 2);
         let wanted = [
-            RingCall::AdjustRts(ReceiveMarks { hold, release }),
-            RingCall::Next,
-            RingCall::Driver(Call::Lsr),
-            RingCall::TryHandle(3, 4),
+            ScriptCall::OfRun(RingCall::AdjustRts(ReceiveMarks { hold, release })),
+            ScriptCall::OfRun(RingCall::Next),
+            ScriptCall::OfRun(RingCall::Driver(Call::Lsr)),
+            ScriptCall::TakeWithErrors(7),
         ];
         assert_eq!(script.calls(), wanted);
         let (transmit, receive) = (8, 2);

@@ -5,9 +5,9 @@
 
 use crate::end::End;
 use crate::heap;
-use crate::ring_language::RingScript;
-use geesetrunk_kit::Vec as List;
+use crate::ring_language::{RingScript, ScriptCall};
 use geesetrunk_kit::alloc::AllocError;
+use geesetrunk_kit::{ArrayVec, Vec as List};
 use geesetrunk_kit_of_rings::alloc::Global;
 use uart_16550::Uart16550;
 use uart_16550::backend::Backend;
@@ -15,8 +15,9 @@ use uart_calls::Answer;
 use uart_chip::Device16550;
 use uart_language::{push_answer, render};
 use uart_play::machine_for;
-use uart_ring::{HandleEnd, Handled, StuckError, Uart16550Ring};
+use uart_ring::{ErrorNotes, HandleEnd, Handled, StuckError, Uart16550Ring};
 use uart_ring_runs::{RingAnswer, RingCall, perform_ring};
+use uart_spec::Received;
 
 /// A device under a schedule, on which the calls of a script are made.
 pub trait Scheduled: Backend {
@@ -36,18 +37,19 @@ impl Scheduled for Device16550 {
     }
 }
 
+/// The rings of a script over a device. Below the driver the errors of the received bytes are noted, which makes no access.
+pub type NotedRings<B> = Uart16550Ring<ErrorNotes<B>>;
+
 /// Returns the rings of a script over a device: empty, over a new driver with the limit of the script.
 ///
 /// # Errors
 ///
 /// `AllocError` if out of memory.
-pub fn rings_over<B: Backend>(
-    script: &RingScript,
-    device: B,
-) -> Result<Uart16550Ring<B>, AllocError> {
-    let mut uart = Uart16550::new_with_backend(device);
-    uart.set_spin_limit(script.plain().limit());
+pub fn rings_over<B: Backend>(script: &RingScript, device: B) -> Result<NotedRings<B>, AllocError> {
     let room = script.capacities();
+    let notes = ErrorNotes::new(Global::heap(), device, room.receive).map_err(|_| AllocError)?;
+    let mut uart = Uart16550::new_with_backend(notes);
+    uart.set_spin_limit(script.plain().limit());
     Uart16550Ring::new(Global::heap(), uart, room.transmit, room.receive).map_err(|_| AllocError)
 }
 
@@ -93,26 +95,48 @@ fn push_ring_answer(out: &mut List<u8>, answer: RingAnswer) -> Result<(), AllocE
     push_answer(heap(), out, &as_of_driver)
 }
 
+// Takes bytes with their errors, and appends what is printed for it.
+fn push_taken<B: Backend>(
+    out: &mut List<u8>,
+    ring: &mut NotedRings<B>,
+    slots: usize,
+) -> Result<(), AllocError> {
+    let mut slots = vec![Received::default(); slots];
+    match ring.take_with_errors(&mut slots) {
+        Ok(count) => {
+            let mut taken = ArrayVec::new();
+            for received in slots.into_iter().take(count) {
+                // A script has at most as many slots.
+                let _ = taken.try_push(received);
+            }
+            push_answer(heap(), out, &Answer::BytesWithErrors(taken))
+        }
+        Err(error) => out.extend_from_slice(format!("err Unnoted {}", error.bytes).as_bytes()),
+    }
+}
+
 /// Makes the calls in turn, and returns the lines that are printed for them.
 ///
 /// # Errors
 ///
 /// `AllocError` if out of memory.
 pub fn run_rings<B: Scheduled>(
-    ring: &mut Uart16550Ring<B>,
-    calls: &[RingCall],
+    ring: &mut NotedRings<B>,
+    calls: &[ScriptCall],
 ) -> Result<List<u8>, AllocError> {
     let mut answers = List::new(heap());
     for call in calls {
-        ring.inner_mut().backend_mut().begin();
-        let answer = perform_ring(ring, call);
-        let device = ring.inner_mut().backend_mut();
+        ring.inner_mut().backend_mut().backend_mut().begin();
+        match call {
+            ScriptCall::OfRun(call) => push_ring_answer(&mut answers, perform_ring(ring, call))?,
+            ScriptCall::TakeWithErrors(slots) => push_taken(&mut answers, ring, *slots)?,
+        }
+        let device = ring.inner_mut().backend_mut().backend_mut();
         // For this one the rings do nothing.
-        if *call == RingCall::Next {
+        if *call == ScriptCall::OfRun(RingCall::Next) {
             device.next();
         }
         device.end();
-        push_ring_answer(&mut answers, answer)?;
         answers.push(b'\n')?;
     }
     Ok(answers)
@@ -132,7 +156,7 @@ pub fn ring_lines<B: Backend>(ring: &Uart16550Ring<B>) -> String {
 pub fn play_rings(script: &RingScript) -> Result<Vec<u8>, End> {
     let mut ring = rings_over(script, machine_for(heap(), script.plain())?)?;
     let mut output = run_rings(&mut ring, script.calls())?.to_vec();
-    let machine = ring.inner().backend();
+    let machine = ring.inner().backend().backend();
     let held: Vec<u8> = (0..machine.held_len())
         .filter_map(|index| machine.held_at(index))
         .collect();

@@ -11,7 +11,7 @@ pub use uart_driver::{
     StalledError, Uart16550, Uart16550Tty, Uart16550TtyError, embedded_io,
 };
 pub use uart_spec::{
-    AttachError, ConfigurationError, FifoAction, FifoSize, FifosOffError, FrameError,
+    AttachError, ConfigurationError, FifoAction, FifoSize, FifoSizeError, FifosOffError, FrameError,
     NearestDivisorError, Setup, TransmitterWait,
 };
 
@@ -39,7 +39,7 @@ pub mod backend {
     #[cfg(any(target_arch = "x86", target_arch = "x86_64"))]
     pub use crate::access::X86Ports;
     pub use crate::access::{DesignWareMemory, WideMemory, load_register, store_register};
-        pub use uart_design_ware::{DesignWare, DesignWareFault, DesignWareRegisters};
+        pub use uart_design_ware::{DesignWare, DesignWareFault, DesignWareRegisters, fifo_size_of};
     pub use uart_driver::backend::{Backend, ByteAccess, MmioBackend, PioBackend, PortAccess};
     pub use uart_spec::{ByteOrder, InvalidLayoutError, RegisterLayout, RegisterWidth};
 }

@@ -84,7 +84,9 @@ enum u16550_misuse {
     U16550_ZERO_LIMIT = -8,       /* a spin limit of 0 */
     U16550_NOT_UTF8 = -9,
     U16550_NO_RINGS = -10,
-    U16550_HAS_RINGS = -11
+    U16550_HAS_RINGS = -11,
+    U16550_NO_NOTES = -12,
+    U16550_HAS_NOTES = -13
 };
 
 /* Why the registers cannot be there. */
@@ -144,6 +146,8 @@ enum u16550_stuck_error {
     U16550_RING_STUCK_PENDING = 93 /* ISR shows an interrupt that was served and does not go away */
 };
 
+enum u16550_unnoted_error { U16550_RING_UNNOTED = 94 }; /* bytes of the receive ring have no note of their errors */
+
 /* Why no frame was set. */
 enum u16550_frame_error {
     U16550_FRAME_NON_INTEGER_DIVISOR = 100, /* no whole divisor gives the baud rate; no access was made */
@@ -164,7 +168,12 @@ enum u16550_attach_error {
     U16550_ATTACH_NO_DIVISOR = 122 /* the divisor latch reads as 0: no port is set up there, or there is none */
 };
 
-enum u16550_fifos_error { U16550_FIFOS_OFF = 130 }; /* the FIFOs are off, so they have no trigger level */
+/* Why the FIFOs have no trigger level, or why their size was not found. */
+enum u16550_fifos_error {
+    U16550_FIFOS_OFF = 130,       /* no access was made */
+    U16550_FIFOS_TOO_FEW = 131,   /* fewer than 16 bytes came back in loopback */
+    U16550_FIFOS_STALLED = 132    /* a wait came to the spin limit */
+};
 
 /* What a chip does not show of what was written to it. The first difference is told, in this order. */
 enum u16550_configuration_error {
@@ -174,6 +183,12 @@ enum u16550_configuration_error {
     U16550_CONFIGURATION_INTERRUPTS = 143,
     U16550_CONFIGURATION_DIVISOR = 144,
     U16550_CONFIGURATION_FIFOS = 145 /* ISR shows otherwise than u16550_fifo_enabled whether they are on */
+};
+
+/* Why a call at a bus was not done. */
+enum u16550_bus_error {
+    U16550_BUS_BUSY = 160,        /* the transmitter is not empty; nothing was written */
+    U16550_BUS_NOT_SENDING = 161  /* the direction is not to send; no access was made */
 };
 
 /* What a DesignWare UART did that could not be mended. */
@@ -317,6 +332,21 @@ struct u16550_urgent {
     uint8_t byte;                       /* 0 if there is none */
 };
 
+/* The output that switches the transceiver at a bus. */
+enum u16550_direction_line {
+    U16550_DIRECTION_RTS = 0,
+    U16550_DIRECTION_DTR = 1
+};
+
+/*
+ * How the transceiver at a bus is switched. The pin of an output is low while its bit in MCR is set: a transceiver at the pin itself, which
+ * drives the bus while its input DE is high, sends while the bit is clear; with an inverter between them it sends while the bit is set.
+ */
+struct u16550_direction {
+    uint8_t line;                       /* an enum u16550_direction_line */
+    uint8_t sends_when_set;             /* 0 or 1: it sends while the bit is set in MCR */
+};
+
 /* Whether a chip is stuck. */
 struct u16550_stuck {
     uint8_t is_stuck;
@@ -378,8 +408,24 @@ struct u16550_design_ware {
     uint64_t opaque[28];
 };
 
+/*
+ * The memory of a driver at a bus. As for a driver: it may be copied to another place between two calls, if only one of the copies is used
+ * from then on, and it is zero before a first bus is made in it.
+ */
+struct u16550_bus {
+    uint64_t opaque[28];
+};
+
+/* The memory of notes of errors, which is the library's. It stays where it is as long as the driver notes errors. */
+struct u16550_notes {
+    uint64_t opaque[12];
+};
+
 U16550_ASSERT(sizeof(struct u16550) == 224, "struct u16550");
 U16550_ASSERT(sizeof(struct u16550_design_ware) == 224, "struct u16550_design_ware");
+U16550_ASSERT(sizeof(struct u16550_bus) == 224, "struct u16550_bus");
+U16550_ASSERT(sizeof(struct u16550_notes) == 96, "struct u16550_notes");
+U16550_ASSERT(sizeof(struct u16550_direction) == 2, "struct u16550_direction");
 U16550_ASSERT(sizeof(struct u16550_io) == 3 * sizeof(void *), "struct u16550_io");
 U16550_ASSERT(sizeof(struct u16550_layout) == 3, "struct u16550_layout");
 U16550_ASSERT(sizeof(struct u16550_config) == 20, "struct u16550_config");
@@ -506,6 +552,14 @@ int U16550_CALL u16550_init_with(struct u16550 *uart, const struct u16550_config
  * may be null.
  */
 int U16550_CALL u16550_test_loopback(struct u16550 *uart, struct u16550_loopback_failure *failure);
+
+/*
+ * Finds how many characters the FIFOs hold as they are set up now, for u16550_send_burst: 16, 32, 64, 128 or 256. Sends 257
+ * bytes in loopback without looking, and counts those that come back. Nothing goes out on the line. Bytes that were received
+ * before and not taken are lost, and so is what arrives meanwhile. It takes as long as the characters need on the line. Returns
+ * an enum u16550_fifos_error if no size was found.
+ */
+int U16550_CALL u16550_find_fifo_size(struct u16550 *uart, uint16_t *fifo_size);
 
 /*
  * Whether the chip shows what was written to it: the frame, these outputs, which after u16550_init are 0x0b, the interrupts, the
@@ -689,6 +743,65 @@ int U16550_CALL u16550_config_register_dump(struct u16550 *uart, struct u16550_d
 int U16550_CALL u16550_dump_divisor(const struct u16550_dump *dump, uint16_t *divisor);
 int U16550_CALL u16550_dump_baud_rate(const struct u16550_dump *dump, const struct u16550_config *config, uint32_t *baud_rate);
 
+/* --------------------------------------------------------------- a bus of two wires, as RS-485
+ *
+ * One end at a time sends at such a bus, and RTS or DTR switches the transceiver of this end. A bus takes a driver, and has the calls that keep
+ * the direction: no byte is written while it is not to send, and it is given back only while the transmitter is empty. That is proved of the
+ * code that this is made from, for these calls in any order. Delays are the caller's: between start_sending and the first byte as long as the
+ * transceiver takes, and between the end of the last byte and try_finish about a bit, since some chips are empty when the stop bit begins.
+ */
+
+/*
+ * The outputs with the line as it is to be while the transceiver receives. Give them to u16550_init_with: u16550_init raises RTS and DTR, and
+ * this end might hold the bus.
+ */
+int U16550_CALL u16550_direction_receiving(const struct u16550_direction *direction, uint8_t outputs, uint8_t *receiving);
+
+/*
+ * Makes a bus of a driver that is set up: makes the accesses of u16550_bus_try_finish, and there is no driver in the memory of the driver any
+ * more. Returns U16550_BUS_BUSY if the transmitter is not empty; the driver then stays. Refused by U16550_HAS_RINGS if it has rings. If a call
+ * over a bus that is there is not done, it returns U16550_BUSY.
+ */
+int U16550_CALL u16550_bus_new(struct u16550_bus *bus, struct u16550 *uart, const struct u16550_direction *direction);
+
+/*
+ * Ends a bus, and makes a driver of it again, in this memory, as the constructors do: for other calls, as u16550_set_frame. Makes no access.
+ * The direction stays as it is, so finish before.
+ */
+int U16550_CALL u16550_bus_end(struct u16550_bus *bus, struct u16550 *uart);
+
+/* Switches the transceiver to send: reads MCR, and writes it with the line so. From now on bytes may be sent. */
+int U16550_CALL u16550_bus_start_sending(struct u16550_bus *bus);
+
+/*
+ * Gives the bus back if the transmitter is empty: reads LSR once, and then MCR, which it writes with the line so that the transceiver
+ * receives. Returns U16550_BUS_BUSY if it is not empty, and the direction stays. Does not wait.
+ */
+int U16550_CALL u16550_bus_try_finish(struct u16550_bus *bus);
+
+/* Whether the direction is to send. Makes no access. */
+int U16550_CALL u16550_bus_is_sending(struct u16550_bus *bus, uint8_t *sending);
+
+/* As u16550_flush and u16550_is_idle: a wait until the transmitter is empty, and a look at it. The direction stays. */
+int U16550_CALL u16550_bus_flush(struct u16550_bus *bus);
+int U16550_CALL u16550_bus_is_idle(struct u16550_bus *bus, uint8_t *idle);
+
+/*
+ * As u16550_send_bytes and u16550_send_bytes_exact. Both return U16550_BUS_NOT_SENDING, without an access, if the direction is not to send;
+ * *done is 0 then, and after U16550_STALLED how many bytes were written. done may be null.
+ */
+int U16550_CALL u16550_bus_send_bytes(struct u16550_bus *bus, const uint8_t *buffer, size_t len, size_t *count);
+int U16550_CALL u16550_bus_send_bytes_exact(struct u16550_bus *bus, const uint8_t *buffer, size_t len, size_t *done);
+
+/*
+ * As u16550_receive_bytes, u16550_receive_with_errors and u16550_lsr, in either direction. If the board hears what this end sends, those bytes
+ * are received too.
+ */
+int U16550_CALL u16550_bus_receive_bytes(struct u16550_bus *bus, uint8_t *buffer, size_t len, size_t *count);
+int U16550_CALL u16550_bus_receive_with_errors(struct u16550_bus *bus, struct u16550_received *received, size_t len,
+                                               size_t *count);
+int U16550_CALL u16550_bus_lsr(struct u16550_bus *bus, uint8_t *value);
+
 /* --------------------------------------------------------------- rings, for use with interrupts
  *
  * Rings keep bytes until the chip has room for them, and received bytes until they are taken. Initialise the driver with
@@ -758,6 +871,31 @@ int U16550_CALL u16550_ring_take_low(struct u16550 *uart, uint8_t *low);
 int U16550_CALL u16550_ring_take(struct u16550 *uart, uint8_t *buffer, size_t len, size_t *count);
 
 /*
+ * Has the driver note the errors of each received byte from now on, for u16550_ring_take_with_errors. Call it before u16550_init. The
+ * memory has room for the errors of so many bytes, one byte each: as many as the receive ring has room for. Refused by
+ * U16550_RING_BAD_CAPACITY. It makes no access, and no call makes another one for it; rings without it cost what they cost before.
+ *
+ * The notes lie between the driver and its functions until u16550_end_notes or u16550_end, and are in no other use so long; their
+ * memory too. Meanwhile u16550_get_io returns functions of the library, u16550_set_io is to be given no others, and
+ * u16550_design_ware_fault finds no chip. u16550_end_notes gives the driver its functions back.
+ */
+int U16550_CALL u16550_note_errors(struct u16550 *uart, struct u16550_notes *notes, uint8_t *memory, size_t capacity);
+int U16550_CALL u16550_end_notes(struct u16550 *uart);
+
+/*
+ * Takes received bytes as u16550_ring_take does, each with its errors; the two may be called in turn. With the FIFO on, the parity
+ * error, the framing error and the break of a byte are exactly those of its character. An overrun of before the notes were made, or of
+ * before u16550_init, is at no byte: u16550_ring_take_line alone tells of it.
+ *
+ * A call that receives passes the rings by, and its bytes are the last that were read. So make one only while the receive ring is
+ * empty; else errors stand at the wrong bytes until all bytes of the ring are taken.
+ *
+ * Returns U16550_RING_UNNOTED if fewer errors are noted than bytes are in the receive ring: the notes have room for fewer, or were
+ * made later. Then nothing is taken, and *count is how many bytes at the front have no note: u16550_ring_take takes them.
+ */
+int U16550_CALL u16550_ring_take_with_errors(struct u16550 *uart, struct u16550_received *received, size_t len, size_t *count);
+
+/*
  * Holds the other end back by RTS, or lets it go on: RTS goes off if there is room for fewer received bytes than hold, and on if there
  * is room for at least release. Between the two it stays as it is. The other end has to check CTS. Call it at the end of the handler,
  * and after each u16550_ring_take and u16550_ring_clear_receive: while the other end is held back no byte arrives, so nothing calls
@@ -773,6 +911,13 @@ int U16550_CALL u16550_ring_adjust_rts(struct u16550 *uart, size_t hold, size_t 
  * chip. Marks of 0 let the other end go on in any case.
  */
 int U16550_CALL u16550_ring_adjust_xoff(struct u16550 *uart, size_t hold, size_t release, struct u16550_urgent *told);
+
+/*
+ * Obeys the other end that tells this one XOFF and XON: holds the bytes that are queued at an XOFF, and releases them at an XON. Of the
+ * bytes that came since the last call and are not taken yet, the last XON or XOFF counts, and *told is that one. All bytes stay to be
+ * taken. The hold is that of u16550_ring_hold_transmit. Call it at the end of the handler.
+ */
+int U16550_CALL u16550_ring_obey_xoff(struct u16550 *uart, struct u16550_urgent *told);
 
 /*
  * Starts sending again if bytes wait with no interrupt to come: when CTS came back and the configuration checks it; and after each

@@ -7,10 +7,11 @@ use uart_16550::native::spec::registers::{
     FifoTriggerLevel, IER, ISR, InterruptType, LCR, LSR, MCR, MSR, Parity, WordLength,
 };
 use uart_16550::native::{
-    BaudRate, Config, ConfigRegisterDump, ConfigurationError, DriverState, FifoAction, FifoSize, Received,
-    Setup, TransmitterWait,
+    BaudRate, Config, ConfigRegisterDump, ConfigurationError, DriverState, FifoAction, FifoSize,
+    Received, Setup, TransmitterWait,
 };
 use uart_16550::ring::{HandleEnd, Handled, StuckError};
+use uart_16550::rs485::{Direction, DirectionLine};
 
 // The largest prescaler division factor of which a divisor can be computed.
 const MAX_PRESCALER: u32 = 15;
@@ -375,6 +376,29 @@ impl From<Received> for CReceived {
             byte: received.byte,
             errors: received.errors.bits(),
         }
+    }
+}
+
+/// The header's `struct u16550_direction`.
+#[repr(C)]
+pub struct CDirection {
+    line: u8,
+    sends_when_set: u8,
+}
+
+const _: () = assert!(size_of::<CDirection>() == 2);
+
+impl CDirection {
+    /// Returns the direction.
+    pub fn decoded(&self) -> Result<Direction, Failure> {
+        Ok(Direction {
+            line: match self.line {
+                0 => DirectionLine::Rts,
+                1 => DirectionLine::Dtr,
+                _ => return Err(Failure::BadCode),
+            },
+            sends_when_set: flag(self.sends_when_set)?,
+        })
     }
 }
 

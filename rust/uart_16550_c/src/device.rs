@@ -96,6 +96,12 @@ impl Device {
         }
     }
 
+    /// Returns the context, if the functions are these two.
+    pub fn context_of(&self, read: ReadFunction, write: WriteFunction) -> Option<*mut c_void> {
+        let is_reached = ptr::fn_addr_eq(self.read, read) && ptr::fn_addr_eq(self.write, write);
+        is_reached.then_some(self.context)
+    }
+
     /// Returns whether the functions get this context.
     pub fn is_reached_by(&self, context: *mut c_void) -> bool {
         self.context == context

@@ -6,6 +6,7 @@
 #![no_std]
 #![deny(unsafe_op_in_unsafe_fn)]
 
+mod bus;
 mod bytes;
 mod codes;
 mod data;
@@ -15,6 +16,7 @@ mod emergency;
 mod line;
 mod make;
 mod memory;
+mod notes;
 mod registers;
 mod rings;
 mod settings;

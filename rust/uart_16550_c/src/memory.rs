@@ -7,14 +7,22 @@ use core::slice;
 use core::sync::atomic::{AtomicU32, Ordering, compiler_fence};
 use uart_16550::native::Uart16550;
 use uart_16550::ring::Uart16550Ring;
+use uart_16550::rs485::HalfDuplex;
 
 /// A driver over functions of C.
 pub type Driver = Uart16550<Device>;
 
-/// What the memory holds: a driver, with rings or without. One struct for both, so that there is one kind of memory to give.
+/// Rings over such a driver.
+pub type Rings = Uart16550Ring<Device>;
+
+/// Such a driver at a bus.
+pub type Bus = HalfDuplex<Device>;
+
+/// What the memory holds: a driver, with rings or without, or one at a bus. One struct for all, so that there is one kind of memory.
 pub enum Held {
     Plain(Driver),
     WithRings(Uart16550Ring<Device>),
+    Bus(Bus),
     /// Nothing, in the middle of a call that changes between the two.
     Nothing,
 }
@@ -31,7 +39,8 @@ impl Held {
         match self {
             Self::Plain(driver) => Some(driver),
             Self::WithRings(ring) => Some(ring.inner_mut()),
-            Self::Nothing => None,
+            // Only its own calls keep the direction.
+            Self::Bus(_) | Self::Nothing => None,
         }
     }
 
@@ -39,8 +48,28 @@ impl Held {
     pub fn ring(&mut self) -> Result<&mut Uart16550Ring<Device>, Failure> {
         match self {
             Self::WithRings(ring) => Ok(ring),
-            Self::Plain(_) | Self::Nothing => Err(Failure::NoRings),
+            Self::Plain(_) | Self::Bus(_) | Self::Nothing => Err(Failure::NoRings),
         }
+    }
+
+    /// Returns the bus, if there is one.
+    pub fn bus(&mut self) -> Result<&mut Bus, Failure> {
+        match self {
+            Self::Bus(bus) => Ok(bus),
+            Self::Plain(_) | Self::WithRings(_) | Self::Nothing => Err(Failure::NotMade),
+        }
+    }
+}
+
+impl From<Driver> for Held {
+    fn from(driver: Driver) -> Self {
+        Self::Plain(driver)
+    }
+}
+
+impl From<Bus> for Held {
+    fn from(bus: Bus) -> Self {
+        Self::Bus(bus)
     }
 }
 
@@ -149,14 +178,14 @@ unsafe fn is_in_call(made: *const Made) -> bool {
     unsafe { (&raw const (*made).is_busy).cast::<u32>().read_volatile() == BUSY }
 }
 
-/// Puts a new driver into the memory, whatever is in it, unless a call over a driver there is not done.
+/// Puts a new driver or bus into the memory, whatever is in it, unless a call over what is there is not done.
 ///
 /// # Safety
 ///
 /// If the pointer is usable, there is memory behind it, which nobody else uses but a call that is not done.
-pub unsafe fn make(
+pub unsafe fn make<T: Into<Held>>(
     at: *mut Memory,
-    driver: impl FnOnce() -> Result<Driver, Failure>,
+    driver: impl FnOnce() -> Result<T, Failure>,
 ) -> Result<(), Failure> {
     // The sign is there before the driver is: a handler must not use the old one meanwhile, whose chip of DesignWare may be the
     // one that is made anew.
@@ -206,18 +235,18 @@ unsafe fn take_memory(at: *mut Memory) -> Result<u32, Failure> {
     }
 }
 
-// Puts a driver into the memory, and takes the sign away.
+// Puts a driver or a bus into the memory, and takes the sign away.
 //
 // Safety: the memory is large enough and aligned, and has the sign, but no call that is not done borrows it.
 #[inline(never)]
-unsafe fn put(made: *mut Made, driver: Driver) {
+unsafe fn put(made: *mut Made, driver: impl Into<Held>) {
     // An interrupt handler that comes now finds a call that is not done, and never a part of the old driver with a part of the
     // new one. The sign was set before the mark is: so a mark without the sign is that of a whole driver.
     // SAFETY: the caller promises it.
     unsafe {
         (&raw mut (*made).mark).write_volatile(MARK);
         compiler_fence(Ordering::SeqCst);
-        (&raw mut (*made).held).write(Held::Plain(driver));
+        (&raw mut (*made).held).write(driver.into());
         leave(made);
     }
 }

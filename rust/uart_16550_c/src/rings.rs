@@ -1,15 +1,12 @@
 //! The rings, for use with interrupts.
 
 use crate::data::{CDump, CHandled, CStuck, CUrgent};
-use crate::device::Device;
-use crate::memory::{Held, Memory, bytes, slots, usable, with};
+use crate::memory::{Held, Memory, Rings, bytes, slots, usable, with};
 use crate::status::{Failure, status};
 use core::ffi::c_int;
 use core::mem;
 use uart_16550::native::spec::registers::IER;
 use uart_16550::ring::{Memory as RingMemory, ReceiveMarks, Uart16550Ring};
-
-type Rings = Uart16550Ring<Device>;
 
 // Makes a call over the rings.
 unsafe fn report<T>(
@@ -261,6 +258,12 @@ pub unsafe extern "C" fn u16550_ring_adjust_xoff(
     let marks = ReceiveMarks { hold, release };
     // SAFETY: the caller promises that pointers are null or valid.
     unsafe { report(uart, told, |ring| Ok(ring.adjust_xoff(marks).into())) }
+}
+
+#[unsafe(no_mangle)]
+pub unsafe extern "C" fn u16550_ring_obey_xoff(uart: *mut Memory, told: *mut CUrgent) -> c_int {
+    // SAFETY: the caller promises that pointers are null or valid.
+    unsafe { report(uart, told, |ring| Ok(ring.obey_xoff().into())) }
 }
 
 #[unsafe(no_mangle)]

@@ -325,6 +325,12 @@ pub unsafe extern "C" fn u16550_test_loopback(
 }
 
 #[unsafe(no_mangle)]
+pub unsafe extern "C" fn u16550_find_fifo_size(uart: *mut Memory, fifo_size: *mut u16) -> c_int {
+    // SAFETY: the caller promises that pointers are null or valid.
+    unsafe { report(uart, fifo_size, |driver| Ok(driver.find_fifo_size()?.characters() as u16)) }
+}
+
+#[unsafe(no_mangle)]
 pub unsafe extern "C" fn u16550_check_configured(
     uart: *mut Memory,
     outputs: u8,

@@ -3,11 +3,11 @@
 use core::ffi::{c_char, c_int};
 use uart_16550::native::backend::{DesignWareFault, InvalidLayoutError};
 use uart_16550::native::{
-    AttachError, ByteReceiveError, ByteSendError, ConfigurationError, FifosOffError, FrameError, InitError, InvalidAddressError,
-    InvalidDivisorError, LoopbackError, NearestDivisorError, NonIntegerBaudRateError,
-    RemoteReadyToReceiveError, StalledError,
+    AttachError, ByteReceiveError, ByteSendError, ConfigurationError, FifoSizeError, FifosOffError,
+    FrameError, InitError, InvalidAddressError, InvalidDivisorError, LoopbackError,
+    NearestDivisorError, NonIntegerBaudRateError, RemoteReadyToReceiveError, StalledError,
 };
-use uart_16550::ring::{RingError, StuckError};
+use uart_16550::ring::{RingError, StuckError, UnnotedError};
 
 pub use crate::codes::Failure;
 use crate::codes::VERSION;
@@ -130,6 +130,16 @@ impl From<FifosOffError> for Failure {
     }
 }
 
+impl From<FifoSizeError> for Failure {
+    fn from(error: FifoSizeError) -> Self {
+        match error {
+            FifoSizeError::FifosOff => Self::FifosOff,
+            FifoSizeError::TooFew { .. } => Self::FifosTooFew,
+            FifoSizeError::Stalled => Self::FifosStalled,
+        }
+    }
+}
+
 impl From<&ConfigurationError> for Failure {
     fn from(error: &ConfigurationError) -> Self {
         match error {
@@ -168,6 +178,12 @@ impl From<StuckError> for Failure {
             StuckError::Unknown(_) => Self::RingStuckUnknown,
             StuckError::Pending(_) => Self::RingStuckPending,
         }
+    }
+}
+
+impl From<UnnotedError> for Failure {
+    fn from(_: UnnotedError) -> Self {
+        Self::RingUnnoted
     }
 }
 

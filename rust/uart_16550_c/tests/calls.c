@@ -96,6 +96,7 @@ static void sizes(void)
     IS(offsetof(struct u16550_loopback_failure, actual_msg), 18);
     IS(sizeof(struct u16550_received), 2);
     IS(offsetof(struct u16550_received, errors), 1);
+    IS(sizeof(struct u16550_direction), 2);
     IS(sizeof(struct u16550_handled), 2 * sizeof(size_t));
     IS(offsetof(struct u16550_handled, end), sizeof(size_t));
     IS(sizeof(U16550_OK), sizeof(int));
@@ -840,6 +841,42 @@ static void bursts(void)
         MISUSE(u16550_send_burst(&uart, many, sizeof many, wrong[i], &count), U16550_BAD_CODE);
 }
 
+/* The size of the FIFOs, found in loopback: nothing is sent, and MCR, IER and the errors are as before. */
+static void found_sizes(void)
+{
+    static const uint16_t holds[] = { 16, 31, 32, 64, 100, 128, 255, 256 }, found[] = { 16, 16, 32, 64, 64, 128, 128, 256 };
+    size_t i;
+    uint16_t size;
+    uint8_t errors;
+    for (i = 0; i < sizeof holds / sizeof *holds; i++) {
+        ready();
+        OK(u16550_enable_interrupts(&uart, U16550_IER_DATA_READY));
+        d.holds = holds[i];
+        d.arrived[0] = 'x';
+        d.arrived_len = 1;
+        OK(u16550_find_fifo_size(&uart, &size));
+        IS(size, found[i]);
+        IS(d.sent_len, 0);
+        IS(d.arrived_len, 0);
+        IS(d.registers[MCR], 0x0b);
+        IS(d.registers[IER], U16550_IER_DATA_READY);
+        OK(u16550_lsr(&uart, &errors));
+        IS(errors & U16550_LSR_OVERRUN_ERROR, 0);
+    }
+    d.holds = 15;
+    size = 77;
+    IS(u16550_find_fifo_size(&uart, &size), U16550_FIFOS_TOO_FEW);
+    d.is_stuck = 1;
+    IS(u16550_find_fifo_size(&uart, &size), U16550_FIFOS_STALLED);
+    IS(size, 77);
+    d.is_stuck = 0;
+    config.fifo_trigger_level = 0;
+    OK(u16550_init(&uart, &config));
+    accesses = d.accesses;
+    MISUSE(u16550_find_fifo_size(&uart, &size), U16550_FIFOS_OFF);
+    MISUSE(u16550_find_fifo_size(&uart, NULL), U16550_NULL_POINTER);
+}
+
 static void exact(void)
 {
     uint8_t slots[8];
@@ -1308,6 +1345,38 @@ static void stopping(void)
     IS(told.byte, XON);
 }
 
+/* XOFF and XON among what arrives hold what is queued, and let it go on. */
+static void obeying(void)
+{
+    enum { XON = 0x11, XOFF = 0x13 };
+    struct u16550_urgent told = { 9, 9 };
+    size_t count = 99;
+    uint8_t slots[24], value = 9;
+    rings_ready();
+    OK(u16550_ring_obey_xoff(&uart, &told));
+    IS(told.waits, 0);
+    device_arrive(&d, "a\023b");
+    OK(u16550_ring_service(&uart, &count));
+    OK(u16550_ring_obey_xoff(&uart, &told));
+    IS(told.waits, 1);
+    IS(told.byte, XOFF);
+    OK(u16550_ring_is_held(&uart, &value));
+    IS(value, 1);
+    OK(u16550_ring_queue(&uart, (const uint8_t *)"x", 1, &count));
+    OK(u16550_ring_transmit_len(&uart, &count));
+    IS(count, 1);
+    device_arrive(&d, "\023\021");
+    OK(u16550_ring_service(&uart, &count));
+    OK(u16550_ring_obey_xoff(&uart, &told));
+    IS(told.waits, 1);
+    IS(told.byte, XON);
+    OK(u16550_ring_transmit_len(&uart, &count));
+    IS(count, 0);
+    OK(u16550_ring_take(&uart, slots, 24, &count));
+    IS(count, 5);
+    BYTES(slots, "a\023b\023\021");
+}
+
 /* A chip that shows interrupts for ever. */
 static void storms(void)
 {
@@ -1487,6 +1556,197 @@ static void ring_dump(void)
     IS(count, 8);
 }
 
+/* ---- rings whose driver notes errors */
+
+static struct u16550_notes notes;
+static uint8_t noted[24];
+
+static void notes_ready(void)
+{
+    anew();
+    OK(u16550_note_errors(&uart, &notes, noted, sizeof noted));
+    OK(u16550_ring_new(&uart, memory, sizeof memory, 40, 24));
+    config.interrupts = U16550_IER_DATA_READY | U16550_IER_RECEIVER_LINE_STATUS;
+    OK(u16550_init(&uart, &config));
+}
+
+/* These bytes arrive, the first one with these errors, and the handler comes. */
+static void received_with(const char *arrived, uint8_t errors)
+{
+    size_t count;
+    device_arrive(&d, arrived);
+    d.errors = errors;
+    OK(u16550_ring_service(&uart, &count));
+}
+
+static void taking_with_errors(void)
+{
+    struct u16550_received slots[24];
+    size_t count = 99;
+    uint8_t value, byte;
+    memset(slots, '-', sizeof slots);
+    notes_ready();
+    received_with("ab", U16550_LSR_BREAK_INTERRUPT | U16550_LSR_FIFO_DATA_ERROR);
+    received_with("c", U16550_LSR_OVERRUN_ERROR | U16550_LSR_PARITY_ERROR);
+    accesses = d.accesses;
+    MISUSE(u16550_ring_take_with_errors(&uart, slots, 2, &count), U16550_OK);
+    IS(count, 2);
+    IS(slots[0].byte, 'a');
+    IS(slots[0].errors, U16550_LSR_BREAK_INTERRUPT);
+    IS(slots[1].byte, 'b');
+    IS(slots[1].errors, 0);
+    IS(slots[2].byte, '-');
+    received_with("de", U16550_LSR_FRAMING_ERROR);
+    OK(u16550_ring_take(&uart, &byte, 1, &count));
+    IS(byte, 'c');
+    OK(u16550_ring_take_with_errors(&uart, slots, 24, &count));
+    IS(count, 2);
+    IS(slots[0].byte, 'd');
+    IS(slots[0].errors, U16550_LSR_FRAMING_ERROR);
+    IS(slots[1].byte, 'e');
+    IS(slots[1].errors, 0);
+    OK(u16550_ring_take_with_errors(&uart, slots, 24, &count));
+    IS(count, 0);
+    OK(u16550_ring_take_line(&uart, &value));
+    IS(value, 0x60 | U16550_LSR_BREAK_INTERRUPT | U16550_LSR_OVERRUN_ERROR | U16550_LSR_PARITY_ERROR | U16550_LSR_FRAMING_ERROR);
+    /* A full ring pauses, until a byte is taken. */
+    received_with("abcdefghijklmnopqrstuvwx", U16550_LSR_PARITY_ERROR);
+    OK(u16550_ring_is_paused(&uart, &value));
+    IS(value, 1);
+    OK(u16550_ring_take_with_errors(&uart, NULL, 0, &count));
+    IS(count, 0);
+    OK(u16550_ring_is_paused(&uart, &value));
+    IS(value, 1);
+    OK(u16550_ring_take_with_errors(&uart, slots, 3, &count));
+    IS(count, 3);
+    IS(slots[0].errors, U16550_LSR_PARITY_ERROR);
+    IS(slots[2].byte, 'c');
+    IS(slots[2].errors, 0);
+    OK(u16550_ring_is_paused(&uart, &value));
+    IS(value, 0);
+    IS(d.registers[IER] & U16550_IER_DATA_READY, U16550_IER_DATA_READY);
+    /* An overrun of before an init is at no byte. */
+    OK(u16550_ring_clear_receive(&uart, &count));
+    d.errors = U16550_LSR_OVERRUN_ERROR;
+    OK(u16550_init(&uart, &config));
+    received_with("y", U16550_LSR_OVERRUN_ERROR);
+    OK(u16550_ring_take_with_errors(&uart, slots, 24, &count));
+    IS(count, 1);
+    IS(slots[0].errors, U16550_LSR_OVERRUN_ERROR);
+    d.errors = U16550_LSR_OVERRUN_ERROR;
+    OK(u16550_init(&uart, &config));
+    received_with("z", 0);
+    OK(u16550_ring_take_with_errors(&uart, slots, 24, &count));
+    IS(count, 1);
+    IS(slots[0].byte, 'z');
+    IS(slots[0].errors, 0);
+}
+
+/* Bytes of before the notes were made have none. */
+static void bytes_without_a_note(void)
+{
+    struct u16550_received slots[8];
+    uint8_t bytes_of[3];
+    size_t count;
+    memset(slots, '-', sizeof slots);
+    rings_ready();
+    received_with("xyz", U16550_LSR_PARITY_ERROR);
+    OK(u16550_note_errors(&uart, &notes, noted, sizeof noted));
+    received_with("w", U16550_LSR_FRAMING_ERROR);
+    accesses = d.accesses;
+    count = 99;
+    MISUSE(u16550_ring_take_with_errors(&uart, slots, 8, &count), U16550_RING_UNNOTED);
+    IS(count, 3);
+    IS(slots[0].byte, '-');
+    count = 99;
+    MISUSE(u16550_ring_take_with_errors(&uart, NULL, 0, &count), U16550_RING_UNNOTED);
+    IS(count, 3);
+    OK(u16550_ring_receive_len(&uart, &count));
+    IS(count, 4);
+    OK(u16550_ring_take(&uart, bytes_of, 3, &count));
+    BYTES(bytes_of, "xyz");
+    OK(u16550_ring_take_with_errors(&uart, slots, 8, &count));
+    IS(count, 1);
+    IS(slots[0].byte, 'w');
+    IS(slots[0].errors, U16550_LSR_FRAMING_ERROR);
+    /* Notes that have room for fewer bytes than the ring. */
+    OK(u16550_end_notes(&uart));
+    OK(u16550_note_errors(&uart, &notes, noted, 2));
+    received_with("123", U16550_LSR_PARITY_ERROR);
+    IS(u16550_ring_take_with_errors(&uart, slots, 8, &count), U16550_RING_UNNOTED);
+    IS(count, 1);
+    OK(u16550_ring_take(&uart, bytes_of, 1, &count));
+    OK(u16550_ring_take_with_errors(&uart, slots, 8, &count));
+    IS(count, 2);
+    IS(slots[0].byte, '2');
+}
+
+/* Where the notes lie, and which calls are refused. */
+static void notes_between(void)
+{
+    static struct u16550_design_ware design_ware;
+    static uint8_t large[4097];
+    static uint64_t room[sizeof(struct u16550_notes) / 8 + 1];
+    struct u16550_notes *crooked = (struct u16550_notes *)((uint8_t *)room + 2);
+    struct u16550_received slot;
+    struct u16550_io io, found;
+    volatile uintptr_t top = UINTPTR_MAX;
+    const uintptr_t last = top;
+    size_t count;
+    uint8_t value;
+    anew();
+    io = device_io(&d);
+    MISUSE(u16550_note_errors(&uart, NULL, noted, 1), U16550_NULL_POINTER);
+    MISUSE(u16550_note_errors(&uart, crooked, noted, 1), U16550_MISALIGNED);
+    MISUSE(u16550_note_errors(&uart, &notes, NULL, 1), U16550_NULL_POINTER);
+    MISUSE(u16550_note_errors(&uart, &notes, (uint8_t *)(last - 1), 2), U16550_BAD_LENGTH);
+    MISUSE(u16550_note_errors(&uart, &notes, noted, SIZE_MAX), U16550_BAD_LENGTH);
+    MISUSE(u16550_note_errors(&uart, &notes, NULL, 0), U16550_RING_BAD_CAPACITY);
+    MISUSE(u16550_note_errors(&uart, &notes, large, 4097), U16550_RING_BAD_CAPACITY);
+    MISUSE(u16550_end_notes(&uart), U16550_NO_NOTES);
+    MISUSE(u16550_ring_take_with_errors(&uart, &slot, 1, &count), U16550_NO_RINGS);
+    OK(u16550_ring_new(&uart, memory, sizeof memory, 1, 1));
+    MISUSE(u16550_ring_take_with_errors(&uart, &slot, 1, &count), U16550_NO_NOTES);
+    MISUSE(u16550_ring_take_with_errors(&uart, NULL, 1, &count), U16550_NO_NOTES);
+    MISUSE(u16550_note_errors(&uart, &notes, large, 4096), U16550_OK);
+    MISUSE(u16550_note_errors(&uart, &notes, noted, 1), U16550_HAS_NOTES);
+    MISUSE(u16550_note_errors(&uart, &notes, NULL, 1), U16550_HAS_NOTES);
+    MISUSE(u16550_note_errors(&uart, NULL, noted, 1), U16550_NULL_POINTER);
+    MISUSE(u16550_ring_take_with_errors(&uart, NULL, 1, &count), U16550_NULL_POINTER);
+    MISUSE(u16550_ring_take_with_errors(&uart, &slot, 1, NULL), U16550_NULL_POINTER);
+    MISUSE(u16550_ring_take_with_errors(&uart, &slot, SIZE_MAX / 4 + 1, &count), U16550_BAD_LENGTH);
+    MISUSE(u16550_ring_end(&uart), U16550_OK);
+    /* The functions of the library may be given back to it, and the notes stay. */
+    OK(u16550_get_io(&uart, &found));
+    IS(found.read == io.read, 0);
+    OK(u16550_set_io(&uart, &found));
+    IS(u16550_note_errors(&uart, &notes, noted, 1), U16550_HAS_NOTES);
+    OK(u16550_end_notes(&uart));
+    OK(u16550_get_io(&uart, &found));
+    IS(found.read == io.read && found.write == io.write && found.context == io.context, 1);
+    /* Where the registers are stays as it was. */
+    d.base = 0x1000;
+    d.stride = 4;
+    OK(u16550_new_mmio(&uart, &io, 0x1000, 4));
+    OK(u16550_note_errors(&uart, &notes, noted, 1));
+    d.registers[SPR] = 0x5a;
+    OK(u16550_spr(&uart, &value));
+    IS(value, 0x5a);
+    OK(u16550_end_notes(&uart));
+    d.registers[SPR] = 0xa5;
+    OK(u16550_spr(&uart, &value));
+    IS(value, 0xa5);
+    OK(u16550_new_design_ware(&uart, &design_ware, &io, 1));
+    OK(u16550_note_errors(&uart, &notes, noted, 1));
+    IS(u16550_design_ware_fault(&uart, &design_ware), U16550_NOT_MADE);
+    OK(u16550_end_notes(&uart));
+    OK(u16550_design_ware_fault(&uart, &design_ware));
+    /* A driver that is made in its place notes nothing. */
+    OK(u16550_note_errors(&uart, &notes, noted, 1));
+    OK(u16550_new(&uart, &io));
+    IS(u16550_end_notes(&uart), U16550_NO_NOTES);
+}
+
 static void ring_errors(void)
 {
     struct u16550_dump dump;
@@ -1528,10 +1788,190 @@ static void ring_errors(void)
     MISUSE(u16550_ring_take_low(&uart, &value), U16550_NO_RINGS);
     MISUSE(u16550_ring_adjust_rts(&uart, 1, 2), U16550_NO_RINGS);
     MISUSE(u16550_ring_adjust_xoff(&uart, 1, 2, &urgent), U16550_NO_RINGS);
+    MISUSE(u16550_ring_obey_xoff(&uart, &urgent), U16550_NO_RINGS);
     MISUSE(u16550_ring_try_handle(&uart, 1, 1, &handled), U16550_NO_RINGS);
     MISUSE(u16550_ring_stuck(&uart, &stuck), U16550_NO_RINGS);
     MISUSE(u16550_ring_restart(&uart, 1), U16550_NO_RINGS);
     MISUSE(u16550_ring_config_register_dump(&uart, &dump), U16550_NO_RINGS);
+}
+
+/* ---- a driver at a bus of two wires */
+
+static struct u16550_bus bus;
+static const struct u16550_direction by_rts = { U16550_DIRECTION_RTS, 1 }, by_dtr = { U16550_DIRECTION_DTR, 0 };
+
+/* A bus whose transceiver sends while RTS is set, that receives. */
+static void bus_ready(void)
+{
+    struct u16550_setup set_up = { 1, U16550_WAIT_LAST, 0 };
+    anew();
+    memset(&bus, 0x5a, sizeof bus);
+    OK(u16550_direction_receiving(&by_rts, 0x0b, &set_up.outputs));
+    IS(set_up.outputs, 0x09);
+    OK(u16550_init_with(&uart, &config, &set_up));
+    OK(u16550_set_spin_limit(&uart, 3));
+    OK(u16550_bus_new(&bus, &uart, &by_rts));
+}
+
+static void at_a_bus(void)
+{
+    struct u16550_received received[2];
+    uint8_t value = 9, slots[4];
+    size_t count = 99;
+    bus_ready();
+    IS(u16550_ier(&uart, &value), U16550_NOT_MADE);
+    IS(d.registers[MCR] & U16550_MCR_RTS, 0);
+    OK(u16550_bus_is_sending(&bus, &value));
+    IS(value, 0);
+    accesses = d.accesses;
+    MISUSE(u16550_bus_send_bytes(&bus, (const uint8_t *)"abc", 3, &count), U16550_BUS_NOT_SENDING);
+    IS(count, 99);
+    MISUSE(u16550_bus_send_bytes_exact(&bus, (const uint8_t *)"abc", 3, &count), U16550_BUS_NOT_SENDING);
+    IS(count, 0);
+    MISUSE(u16550_bus_send_bytes_exact(&bus, (const uint8_t *)"abc", 3, NULL), U16550_BUS_NOT_SENDING);
+    OK(u16550_bus_start_sending(&bus));
+    IS(d.registers[MCR] & U16550_MCR_RTS, U16550_MCR_RTS);
+    OK(u16550_bus_is_sending(&bus, &value));
+    IS(value, 1);
+    OK(u16550_bus_send_bytes(&bus, (const uint8_t *)"abc", 3, &count));
+    IS(count, 3);
+    OK(u16550_bus_send_bytes_exact(&bus, (const uint8_t *)"0123456789abcdefgh", 18, &count));
+    IS(count, 18);
+    OK(u16550_bus_send_bytes_exact(&bus, (const uint8_t *)"z", 1, NULL));
+    BYTES(d.sent, "abc0123456789abcdefghz");
+    OK(u16550_bus_flush(&bus));
+    OK(u16550_bus_is_idle(&bus, &value));
+    IS(value, 1);
+    /* It is given back only while the transmitter is empty. */
+    d.is_stuck = 1;
+    IS(u16550_bus_try_finish(&bus), U16550_BUS_BUSY);
+    IS(d.registers[MCR] & U16550_MCR_RTS, U16550_MCR_RTS);
+    IS(u16550_bus_flush(&bus), U16550_STALLED);
+    IS(u16550_bus_send_bytes_exact(&bus, (const uint8_t *)"abc", 3, &count), U16550_STALLED);
+    IS(count, 0);
+    OK(u16550_bus_is_idle(&bus, &value));
+    IS(value, 0);
+    OK(u16550_bus_is_sending(&bus, &value));
+    IS(value, 1);
+    d.is_stuck = 0;
+    OK(u16550_bus_try_finish(&bus));
+    IS(d.registers[MCR] & U16550_MCR_RTS, 0);
+    OK(u16550_bus_is_sending(&bus, &value));
+    IS(value, 0);
+    device_arrive(&d, "xyz");
+    d.errors = U16550_LSR_PARITY_ERROR;
+    OK(u16550_bus_receive_with_errors(&bus, received, 2, &count));
+    IS(count, 2);
+    IS(received[0].byte, 'x');
+    IS(received[0].errors, U16550_LSR_PARITY_ERROR);
+    IS(received[1].errors, 0);
+    OK(u16550_bus_receive_bytes(&bus, slots, 4, &count));
+    IS(count, 1);
+    IS(slots[0], 'z');
+    OK(u16550_bus_lsr(&bus, &value));
+    IS(value, 0x60 | U16550_LSR_PARITY_ERROR);
+    OK(u16550_bus_end(&bus, &uart));
+    IS(u16550_bus_flush(&bus), U16550_NOT_MADE);
+    OK(u16550_mcr(&uart, &value));
+    IS(value, 0x09);
+    /* By DTR, which is clear to send. */
+    OK(u16550_bus_new(&bus, &uart, &by_dtr));
+    IS(d.registers[MCR] & 3, U16550_MCR_DTR);
+    OK(u16550_bus_start_sending(&bus));
+    IS(d.registers[MCR] & 3, 0);
+    OK(u16550_direction_receiving(&by_dtr, 0, &value));
+    IS(value, U16550_MCR_DTR);
+    /* A driver in the place of one that is there. */
+    OK(u16550_bus_end(&bus, &uart));
+    d.is_stuck = 1;
+    IS(u16550_bus_new(&bus, &uart, &by_rts), U16550_BUS_BUSY);
+    OK(u16550_lsr(&uart, &value));
+    d.is_stuck = 0;
+    OK(u16550_bus_new(&bus, &uart, &by_rts));
+}
+
+/* Each call over this memory is refused by this number, and makes no access. */
+static void refused_at_bus(struct u16550_bus *at, int wanted)
+{
+    static struct u16550 zeros;
+    struct u16550_received received;
+    uint8_t value;
+    size_t count;
+    MISUSE(u16550_bus_end(at, &zeros), wanted);
+    MISUSE(u16550_bus_start_sending(at), wanted);
+    MISUSE(u16550_bus_try_finish(at), wanted);
+    MISUSE(u16550_bus_is_sending(at, &value), wanted);
+    MISUSE(u16550_bus_flush(at), wanted);
+    MISUSE(u16550_bus_is_idle(at, &value), wanted);
+    MISUSE(u16550_bus_send_bytes(at, &value, 0, &count), wanted);
+    MISUSE(u16550_bus_send_bytes_exact(at, &value, 0, &count), wanted);
+    MISUSE(u16550_bus_receive_bytes(at, &value, 1, &count), wanted);
+    MISUSE(u16550_bus_receive_with_errors(at, &received, 1, &count), wanted);
+    MISUSE(u16550_bus_lsr(at, &value), wanted);
+}
+
+static void call_all_at_bus(struct device *device)
+{
+    device->meanwhile = NULL;
+    accesses = device->accesses;
+    refused_at_bus(&bus, U16550_BUSY);
+    MISUSE(u16550_bus_new(&bus, &uart, &by_rts), U16550_BUSY);
+}
+
+static void bus_misuses(void)
+{
+    static struct u16550_bus zeros;
+    static uint64_t room[sizeof(struct u16550_bus) / 8 + 1];
+    struct u16550_bus *crooked = (struct u16550_bus *)((uint8_t *)room + 4);
+    static const struct u16550_direction other_line = { 2, 1 }, other_flag = { 0, 2 };
+    struct u16550_received received;
+    struct u16550_io io;
+    uint8_t value;
+    size_t count;
+    anew();
+    MISUSE(u16550_direction_receiving(NULL, 0, &value), U16550_NULL_POINTER);
+    MISUSE(u16550_direction_receiving(&by_rts, 0, NULL), U16550_NULL_POINTER);
+    MISUSE(u16550_direction_receiving(&other_line, 0, &value), U16550_BAD_CODE);
+    MISUSE(u16550_direction_receiving(&other_flag, 0, &value), U16550_BAD_CODE);
+    MISUSE(u16550_bus_new(NULL, &uart, &by_rts), U16550_NULL_POINTER);
+    MISUSE(u16550_bus_new(crooked, &uart, &by_rts), U16550_MISALIGNED);
+    MISUSE(u16550_bus_new(&zeros, NULL, &by_rts), U16550_NULL_POINTER);
+    MISUSE(u16550_bus_new(&zeros, &uart, NULL), U16550_NULL_POINTER);
+    MISUSE(u16550_bus_new(&zeros, &uart, &other_line), U16550_BAD_CODE);
+    MISUSE(u16550_bus_new(&zeros, &uart, &other_flag), U16550_BAD_CODE);
+    OK(u16550_ring_new(&uart, memory, sizeof memory, 1, 1));
+    MISUSE(u16550_bus_new(&zeros, &uart, &by_rts), U16550_HAS_RINGS);
+    MISUSE(u16550_bus_new(&zeros, &uart, NULL), U16550_HAS_RINGS);
+    refused_at_bus(NULL, U16550_NULL_POINTER);
+    refused_at_bus(crooked, U16550_MISALIGNED);
+    refused_at_bus(&zeros, U16550_NOT_MADE);
+    bus_ready();
+    accesses = d.accesses;
+    MISUSE(u16550_bus_new(&zeros, &uart, &by_rts), U16550_NOT_MADE);
+    MISUSE(u16550_bus_end(&bus, NULL), U16550_NULL_POINTER);
+    MISUSE(u16550_bus_is_sending(&bus, NULL), U16550_NULL_POINTER);
+    MISUSE(u16550_bus_is_idle(&bus, NULL), U16550_NULL_POINTER);
+    MISUSE(u16550_bus_lsr(&bus, NULL), U16550_NULL_POINTER);
+    MISUSE(u16550_bus_send_bytes(&bus, NULL, 1, &count), U16550_NULL_POINTER);
+    MISUSE(u16550_bus_send_bytes(&bus, &value, 1, NULL), U16550_NULL_POINTER);
+    MISUSE(u16550_bus_send_bytes(&bus, &value, SIZE_MAX, &count), U16550_BAD_LENGTH);
+    MISUSE(u16550_bus_send_bytes_exact(&bus, NULL, 1, &count), U16550_NULL_POINTER);
+    MISUSE(u16550_bus_send_bytes_exact(&bus, &value, 1, (size_t *)((uint8_t *)room + 1)), U16550_MISALIGNED);
+    MISUSE(u16550_bus_receive_bytes(&bus, NULL, 1, &count), U16550_NULL_POINTER);
+    MISUSE(u16550_bus_receive_bytes(&bus, &value, 1, NULL), U16550_NULL_POINTER);
+    MISUSE(u16550_bus_receive_with_errors(&bus, NULL, 1, &count), U16550_NULL_POINTER);
+    MISUSE(u16550_bus_receive_with_errors(&bus, &received, 1, NULL), U16550_NULL_POINTER);
+    d.meanwhile = call_all_at_bus;
+    OK(u16550_bus_flush(&bus));
+    d.meanwhile = call_all_at_bus;
+    OK(u16550_bus_start_sending(&bus));
+    /* While a bus is made in the place of another. */
+    io = device_io(&d);
+    OK(u16550_new(&other, &io));
+    d.meanwhile = call_all_at_bus;
+    OK(u16550_bus_new(&bus, &other, &by_rts));
+    OK(u16550_bus_flush(&bus));
+    IS(u16550_end(&other), U16550_NOT_MADE);
 }
 
 /* What the calls of the table take and give when they are refused. */
@@ -1558,6 +1998,7 @@ static void ring_errors(void)
 #define CONTEXT NULL
 #define BYTE_AT &byte
 #define OTHER_BYTE_AT &byte
+#define SHORT_AT &fifo_size
 #define SIZE_AT &count
 #define NUMBER_AT &limit
 #define CONFIG_AT &config
@@ -1579,6 +2020,7 @@ static void refused(struct u16550 *u, int wanted)
     struct u16550_stuck stuck;
     struct u16550_setup setup = { 1, U16550_WAIT_LAST, 0 };
     uint8_t byte;
+    uint16_t fifo_size;
     uint64_t limit;
     size_t count;
 #define REFUSED(name, ...) MISUSE(name(__VA_ARGS__), wanted);
@@ -1594,6 +2036,9 @@ static void refused(struct u16550 *u, int wanted)
     MISUSE(u16550_ring_new(u, memory, sizeof memory, 1, 1), wanted);
     MISUSE(u16550_ring_end(u), wanted);
     MISUSE(u16550_ring_stuck(u, &stuck), wanted);
+    MISUSE(u16550_note_errors(u, &notes, noted, 1), wanted);
+    MISUSE(u16550_end_notes(u), wanted);
+    MISUSE(u16550_ring_take_with_errors(u, &received, 1, &count), wanted);
 }
 
 static void misuses(void)
@@ -1651,6 +2096,7 @@ static void nulls(void)
     MISUSE(u16550_receive_bytes(&uart, &byte, 1, NULL), null);
     MISUSE(u16550_send_bytes(&uart, NULL, 1, &count), null);
     MISUSE(u16550_send_bytes(&uart, &byte, 1, NULL), null);
+    MISUSE(u16550_find_fifo_size(&uart, NULL), null);
     MISUSE(u16550_send_burst(&uart, NULL, 1, 16, &count), null);
     MISUSE(u16550_send_burst(&uart, &byte, 1, 16, NULL), null);
     MISUSE(u16550_receive_bytes_exact(&uart, NULL, 1, &count), null);
@@ -1708,6 +2154,7 @@ static void nulls(void)
     MISUSE(u16550_ring_queue_urgent(&uart, 1, NULL), null);
     MISUSE(u16550_ring_urgent(&uart, NULL), null);
     MISUSE(u16550_ring_adjust_xoff(&uart, 1, 2, NULL), null);
+    MISUSE(u16550_ring_obey_xoff(&uart, NULL), null);
     MISUSE(u16550_ring_clear_transmit(&uart, NULL), null);
     MISUSE(u16550_ring_clear_receive(&uart, NULL), null);
     MISUSE(u16550_ring_take_low(&uart, NULL), null);
@@ -1781,6 +2228,12 @@ static void reentry(void)
     IS(count, 10);
     BYTES(slots, "0123456789");
     free(heap);
+    notes_ready();
+    d.meanwhile = call_all;
+    OK(u16550_init(&uart, &config));
+    received_with(ten, 0);
+    d.meanwhile = call_all;
+    OK(u16550_ier(&uart, &value));
     /* Between two calls a constructor replaces what is there. */
     io = device_io(&d);
     OK(u16550_new(&uart, &io));
@@ -1905,8 +2358,8 @@ static void moves(void)
 static void texts(void)
 {
     static const int known[] = {
-        0, -1, -2, -3, -4, -5, -6, -7, -8, -9, -10, -11, 10, 11, 12, 13, 14, 20, 21, 22, 23, 30, 31, 32, 33, 34, 40, 41, 42, 50, 51,
-        60, 70, 80, 90, 91, 92, 93, 100, 101, 102, 110, 111, 120, 121, 122, 130, 140, 141, 142, 143, 144, 145, 150, 151,
+        0, -1, -2, -3, -4, -5, -6, -7, -8, -9, -10, -11, -12, -13, 10, 11, 12, 13, 14, 20, 21, 22, 23, 30, 31, 32, 33, 34, 40, 41, 42, 50, 51,
+        60, 70, 80, 90, 91, 92, 93, 94, 100, 101, 102, 110, 111, 120, 121, 122, 130, 140, 141, 142, 143, 144, 145, 150, 151, 160, 161,
     };
     size_t count = sizeof known / sizeof known[0], i, j;
     for (i = 0; i < count; i++)
@@ -1914,7 +2367,7 @@ static void texts(void)
             IS(strcmp(u16550_text(known[i]), u16550_text(known[j])) == 0, i == j);
     IS(strcmp(u16550_text(1), "no known status"), 0);
     IS(strcmp(u16550_version(), U16550_VERSION), 0);
-    IS(strcmp(u16550_text(-12), "no known status"), 0);
+    IS(strcmp(u16550_text(-14), "no known status"), 0);
     IS(strcmp(u16550_text(INT32_MIN), "no known status"), 0);
     for (i = 0; i < count; i++)
         IS(strcmp(u16550_text(known[i]), "no known status") != 0, 1);
@@ -1939,6 +2392,7 @@ int main(void)
     outputs();
     bytes();
     bursts();
+    found_sizes();
     with_errors();
     exact();
     waits_in_time();
@@ -1952,13 +2406,19 @@ int main(void)
     telling();
     pacing();
     stopping();
+    obeying();
     storms();
     shared_line();
     line_falls();
     line_storm();
     line_misuses();
     ring_dump();
+    taking_with_errors();
+    bytes_without_a_note();
+    notes_between();
     ring_errors();
+    at_a_bus();
+    bus_misuses();
     misuses();
     nulls();
     reentry();

@@ -30,6 +30,7 @@ struct device {
     uint8_t is_absent, is_stuck, is_silent;
     uint8_t shows;               /* what ISR shows: SHOWS_WHAT_IS, or always this, whatever is pending */
     unsigned room;               /* how many more bytes it sends; it is then full */
+    unsigned holds;              /* how many characters its receiver holds; 0 for ROOM. What comes then is lost */
     uint8_t flips;               /* that a byte in loopback comes back with */
     unsigned flips_after;        /* so many bytes */
     /* what happens in the middle of a call: behind each access */
@@ -113,7 +114,11 @@ static inline void device_send(struct device *d, uint8_t byte)
             d->flips_after--;
         else
             byte ^= d->flips;
-        if (!d->is_silent)
+        if (d->is_silent)
+            return;
+        if (d->arrived_len == (d->holds ? d->holds : ROOM))
+            d->errors |= U16550_LSR_OVERRUN_ERROR;
+        else
             d->arrived[d->arrived_len++] = byte;
     } else if (d->room) {
         d->room--;

@@ -15,6 +15,7 @@
     PLAIN(u16550_check_present, DRIVER, BYTE_AT)                                                               \
     PLAIN(u16550_init, DRIVER, CONFIG)                                                                         \
     PLAIN(u16550_init_with, DRIVER, CONFIG, SETUP)                                                             \
+    PLAIN(u16550_find_fifo_size, DRIVER, SHORT_AT)                                                             \
     PLAIN(u16550_check_connected, DRIVER)                                                                      \
     PLAIN(u16550_set_frame, DRIVER, CONFIG)                                                                    \
     PLAIN(u16550_set_frame_when_idle, DRIVER, CONFIG)                                                          \
@@ -77,6 +78,7 @@
     RING(u16550_ring_take, DRIVER, BUFFER, LEN, SIZE_AT)                                                       \
     RING(u16550_ring_adjust_rts, DRIVER, HOLD, RELEASE)                                                        \
     RING(u16550_ring_adjust_xoff, DRIVER, HOLD, RELEASE, URGENT_AT)                                            \
+    RING(u16550_ring_obey_xoff, DRIVER, URGENT_AT)                                                             \
     RING(u16550_ring_resume_transmit, DRIVER)                                                                  \
     RING(u16550_ring_handle, DRIVER, LIMIT, HANDLED_AT)                                                        \
     RING(u16550_ring_try_handle, DRIVER, LIMIT, ROUNDS, HANDLED_AT)                                            \

@@ -38,6 +38,7 @@ static uint32_t any_bits(void)
 struct room {
     uint8_t bytes[ROOM], value, other;
     size_t count;
+    uint16_t fifo_size;
     uint64_t limit;
     struct u16550_io io;
     struct u16550_config config, nearest;
@@ -54,6 +55,11 @@ struct room {
 static struct u16550 uart;
 static struct u16550_io device;
 static struct u16550_design_ware chip;
+static struct u16550_notes notes;
+static struct u16550_bus bus;
+/* There is no driver in the memory of one meanwhile. */
+static int is_at_bus;
+static uint8_t noted[ROOM];
 static uint8_t *rings;
 static size_t rings_size;
 
@@ -112,6 +118,33 @@ static int new_rings(struct u16550 *u)
     return u16550_ring_new(u, rings, rings_size, tx, rx);
 }
 
+/* A bus that is made of a driver, and one again behind a call. */
+static int at_bus(struct u16550 *u, struct room *r, size_t len)
+{
+    struct u16550_direction direction = { (uint8_t)below(2), (uint8_t)below(2) };
+    int status = u16550_direction_receiving(&direction, (uint8_t)below(256), &r->value);
+    if (status == U16550_OK)
+        status = u16550_bus_new(&bus, u, &direction);
+    if (status != U16550_OK)
+        return status;
+    is_at_bus = 1;
+    if (below(4))
+        u16550_bus_start_sending(&bus);
+    switch (below(9)) {
+    case 0: status = u16550_bus_send_bytes(&bus, r->bytes, len, &r->count); break;
+    case 1: status = u16550_bus_send_bytes_exact(&bus, r->bytes, len, &r->count); break;
+    case 2: status = u16550_bus_receive_bytes(&bus, r->bytes, len, &r->count); break;
+    case 3: status = u16550_bus_receive_with_errors(&bus, r->received, len, &r->count); break;
+    case 4: status = u16550_bus_try_finish(&bus); break;
+    case 5: status = u16550_bus_is_idle(&bus, &r->value); break;
+    case 6: status = u16550_bus_is_sending(&bus, &r->value); break;
+    case 7: status = u16550_bus_lsr(&bus, &r->value); break;
+    default: status = u16550_bus_flush(&bus); break;
+    }
+    is_at_bus = 0;
+    return u16550_bus_end(&bus, u) == U16550_OK ? status : U16550_BUSY;
+}
+
 /* A caller who keeps waiting so many times. */
 static uint8_t U16550_CALL keep_waiting(void *context)
 {
@@ -143,6 +176,7 @@ static uint8_t U16550_CALL keep_waiting(void *context)
 #define CONTEXT &left
 #define BYTE_AT &r->value
 #define OTHER_BYTE_AT &r->other
+#define SHORT_AT &r->fifo_size
 #define SIZE_AT &r->count
 #define NUMBER_AT &r->limit
 #define CONFIG_AT &r->config
@@ -154,7 +188,7 @@ static uint8_t U16550_CALL keep_waiting(void *context)
 
 /* The numbers of the calls: those of the table, and behind them the others. */
 #define NUMBER(name, ...) NUMBER_OF_##name,
-enum { EACH_CALL(NUMBER, NUMBER) OTHERS, LAST = OTHERS + 18 };
+enum { EACH_CALL(NUMBER, NUMBER) OTHERS, LAST = OTHERS + 22 };
 
 /* Makes one call over a driver. */
 static int make(struct u16550 *u, unsigned which, struct room *r)
@@ -193,6 +227,10 @@ static int make(struct u16550 *u, unsigned which, struct room *r)
     case OTHERS + 15: return u16550_ring_stuck(u, &r->stuck);
     case OTHERS + 16: return u16550_emergency(u);
     case OTHERS + 17: return u16550_new_design_ware(u, &chip, &device, below(20));
+    case OTHERS + 18: return u16550_note_errors(u, &notes, noted, below(ROOM + 1));
+    case OTHERS + 19: return u16550_end_notes(u);
+    case OTHERS + 20: return u16550_ring_take_with_errors(u, r->received, len, &r->count);
+    case OTHERS + 21: return at_bus(u, r, len);
     default: return u16550_design_ware_fault(u, &chip);
     }
 }
@@ -214,7 +252,7 @@ static void meanwhile(void)
     static struct room room;
     unsigned which = below(LAST + 1);
     int status;
-    if (is_nested || below(NESTED_IN))
+    if (is_nested || is_at_bus || below(NESTED_IN))
         return;
     is_nested = 1;
     status = make(&uart, which, &room);

@@ -99,6 +99,9 @@ static size_t used_by(void (*call)(void))
 
 static struct u16550 uart;
 static struct u16550_design_ware design_ware;
+static struct u16550_notes notes;
+static struct u16550_bus bus;
+static const struct u16550_direction direction = { U16550_DIRECTION_RTS, 1 };
 static struct u16550_config config;
 static struct u16550_state state;
 static struct u16550_dump dump;
@@ -113,8 +116,8 @@ static struct u16550_urgent urgent;
 static struct u16550_stuck stuck;
 static struct u16550_line_port line_ports[1] = { { &uart, { 0, 0 }, 0, 0 } };
 static uint32_t device[64];
-static uint8_t rings[512], bytes[256], byte, other;
-static uint16_t divisor;
+static uint8_t rings[512], noted[256], bytes[256], byte, other;
+static uint16_t divisor, fifo_size;
 static uint32_t baud_rate;
 static uint64_t limit;
 static size_t len;
@@ -137,10 +140,14 @@ static uint8_t U16550_CALL keep_waiting(void *context)
     return context == NULL;
 }
 
-/* Everything as it is before each call: a driver with rings and queued bytes, or one without; bytes that arrived. */
-static void ready(int has_rings)
+/* What there is before a call. */
+enum { A_DRIVER, HAS_RINGS, AT_BUS };
+
+/* Everything as it is before each call: a driver with rings and queued bytes, or without, or at a bus; bytes that arrived. The other end was
+ * told XOFF, and has told XON, so that calls about these have something to send. */
+static void ready(int what)
 {
-    static const uint8_t isr_idle = 1;
+    static const uint8_t isr_idle = 1, isr_data = 4, xon = 0x11;
     size_t count;
 
     memset(&chip, 0, sizeof chip);
@@ -153,11 +160,20 @@ static void ready(int has_rings)
     u16550_config_register_dump(&uart, &dump);
     u16550_get_state(&uart, &state);
     chip.in = 40;
-    if (has_rings) {
+    if (what == HAS_RINGS) {
         u16550_ring_new(&uart, rings, sizeof rings, 256, 256);
+        u16550_ring_adjust_xoff(&uart, 257, 257, &urgent);
+        chip.fifo[chip.in++] = xon;
+        chip.isr = isr_data;
+        u16550_ring_service(&uart, &count);
+        chip.isr = isr_idle;
+        chip.in += 40;
         u16550_ring_hold_transmit(&uart);
         u16550_ring_queue(&uart, bytes, 64, &count);
         u16550_ring_release_transmit(&uart);
+    } else if (what == AT_BUS) {
+        u16550_bus_new(&bus, &uart, &direction);
+        u16550_bus_start_sending(&bus);
     }
 }
 
@@ -192,6 +208,7 @@ static void call_nothing(void)
 #define CONTEXT NULL
 #define BYTE_AT &byte
 #define OTHER_BYTE_AT &other
+#define SHORT_AT &fifo_size
 #define SIZE_AT &len
 #define NUMBER_AT &limit
 #define CONFIG_AT &config
@@ -224,9 +241,28 @@ static void call_nothing(void)
     PLAIN(u16550_dump_divisor, &dump, &divisor)                                                    \
     PLAIN(u16550_dump_baud_rate, &dump, &config, &baud_rate)                                       \
     PLAIN(u16550_ring_new, &uart, rings, sizeof rings, 256, 256)                                   \
+    PLAIN(u16550_direction_receiving, &direction, 0x0b, &byte)                                     \
+    PLAIN(u16550_bus_new, &bus, &uart, &direction)                                                 \
+    PLAIN(u16550_note_errors, &uart, &notes, noted, sizeof noted)                                  \
+    PLAIN(u16550_end_notes, &uart)                                                                 \
+    RING(u16550_ring_take_with_errors, &uart, received, 256, &len)                                 \
     RING(u16550_ring_end, &uart)                                                                   \
     RING(u16550_ring_stuck, &uart, &stuck)                                                         \
     RING(u16550_line_handle, line_ports, 1, 8, 1, &byte)
+
+/* Those over a bus. */
+#define OVER_BUS(BUS)                                                                              \
+    BUS(u16550_bus_end, &bus, &uart)                                                               \
+    BUS(u16550_bus_start_sending, &bus)                                                            \
+    BUS(u16550_bus_try_finish, &bus)                                                               \
+    BUS(u16550_bus_is_sending, &bus, &byte)                                                        \
+    BUS(u16550_bus_flush, &bus)                                                                    \
+    BUS(u16550_bus_is_idle, &bus, &byte)                                                           \
+    BUS(u16550_bus_send_bytes, &bus, bytes, sizeof bytes, &len)                                    \
+    BUS(u16550_bus_send_bytes_exact, &bus, bytes, sizeof bytes, &len)                              \
+    BUS(u16550_bus_receive_bytes, &bus, bytes, sizeof bytes, &len)                                 \
+    BUS(u16550_bus_receive_with_errors, &bus, received, 256, &len)                                 \
+    BUS(u16550_bus_lsr, &bus, &byte)
 
 /* A function for each call. */
 #define WRAPPER(name, ...)                 \
@@ -236,6 +272,7 @@ static void call_nothing(void)
     }
 EACH_CALL(WRAPPER, WRAPPER)
 OTHERS(WRAPPER, WRAPPER)
+OVER_BUS(WRAPPER)
 
 static void call_u16550_text(void)
 {
@@ -248,13 +285,13 @@ static void call_u16550_version(void)
 }
 
 /* The most that a call takes, whichever interrupt the chip shows. */
-static void measure(const char *name, void (*call)(void), int has_rings)
+static void measure(const char *name, void (*call)(void), int what)
 {
     static const uint8_t isrs[] = { 1, 0, 2, 4, 6, 8, 0x0c };
     size_t most = 0, i;
 
     for (i = 0; i < sizeof isrs; i++) {
-        ready(has_rings);
+        ready(what);
         chip.isr = isrs[i];
         if (used_by(call) > most)
             most = used;
@@ -266,11 +303,13 @@ int main(void)
 {
     /* But for the return address. */
     above = used_by(call_nothing) - sizeof(void *);
-#define PLAIN(name, ...) measure(#name, call_##name, 0);
-#define RING(name, ...) measure(#name, call_##name, 1);
+#define PLAIN(name, ...) measure(#name, call_##name, A_DRIVER);
+#define RING(name, ...) measure(#name, call_##name, HAS_RINGS);
+#define BUS(name, ...) measure(#name, call_##name, AT_BUS);
     EACH_CALL(PLAIN, RING)
     OTHERS(PLAIN, RING)
-    measure("u16550_text", call_u16550_text, 0);
-    measure("u16550_version", call_u16550_version, 0);
+    OVER_BUS(BUS)
+    measure("u16550_text", call_u16550_text, A_DRIVER);
+    measure("u16550_version", call_u16550_version, A_DRIVER);
     return 0;
 }

@@ -22,7 +22,7 @@ enum {
     MESSAGES = 50,
     MESSAGE = 100,         /* bytes, fewer than a device keeps */
     CAPACITY = 64,         /* of each ring */
-    TURNS = 1000000        /* in which a test has to come to its end */
+    TURNS = 10000000       /* in which a test has to come to its end, also if a thread waits long for a processor */
 };
 
 void u16550_panic(void)

@@ -409,7 +409,7 @@ static void call_settings(struct u16550 *u, uint32_t which)
     struct u16550_dump dump;
     struct u16550_io io = device_io;
     uint8_t low, high, flag;
-    uint16_t divisor;
+    uint16_t divisor, fifo_size;
     uint32_t rate;
     int status;
     setup.checks_presence = (uint8_t)below(below(30) ? 2 : 256);
@@ -450,6 +450,9 @@ static void call_settings(struct u16550 *u, uint32_t which)
             note(low * 256u + high);
         break;
     case 10:
+        if (told(u16550_find_fifo_size(u, OUT(&fifo_size))) == U16550_OK)
+            note(fifo_size);
+        break;
     case 11:
         for (size_t i = 0; i < 16; i++)
             failure.expected_msg[i] = failure.actual_msg[i] = 0;
@@ -504,7 +507,7 @@ static void call_settings(struct u16550 *u, uint32_t which)
     default:
         if (told(u16550_default_config(OUT(&config))) == U16550_OK)
             note_config(&config);
-        note_bytes((const uint8_t *)u16550_text((int)below(166) - 20), 4);
+        note_bytes((const uint8_t *)u16550_text((int)below(190) - 20), 4);
         note_bytes((const uint8_t *)u16550_version(), sizeof U16550_VERSION);
         break;
     }
@@ -708,6 +711,35 @@ static void call_registers(struct u16550 *u, uint32_t which)
     if (which-- == 0)      \
         told(name(__VA_ARGS__));
 
+/* Has a driver note errors, in memory that is too large seldom, or ends that. */
+static void note_errors(struct u16550 *u)
+{
+    static struct u16550_notes notes;
+    static uint8_t noted[4097];
+    size_t capacity = below(20) ? 1 + below(40) : below(2) * sizeof noted;
+    if (below(3) == 0)
+        told(u16550_end_notes(u));
+    else if (below(20))
+        told(u16550_note_errors(u, OUT(&notes), noted, capacity));
+    else
+        told(u16550_note_errors(u, &notes, NULL, capacity));
+}
+
+static void take_with_errors(struct u16550 *u, size_t len)
+{
+    struct u16550_received received[40];
+    size_t count = 77;
+    for (size_t i = 0; i < 40; i++)
+        received[i].byte = received[i].errors = (uint8_t)i;
+    if (below(20))
+        told(u16550_ring_take_with_errors(u, received, len, OUT(&count)));
+    else
+        told(u16550_ring_take_with_errors(u, NULL, len, &count));
+    for (size_t i = 0; i < 40; i++)
+        note(received[i].byte * 256u + received[i].errors);
+    note(count);
+}
+
 static void call_rings(struct u16550 *u, uint32_t which)
 {
     struct u16550_handled handled = { 0, 0 };
@@ -781,6 +813,13 @@ static void call_rings(struct u16550 *u, uint32_t which)
         if (told(u16550_ring_config_register_dump(u, OUT(&dump))) == U16550_OK)
             note_dump(&dump);
         break;
+    case 21:
+        note_errors(u);
+        break;
+    case 22:
+    case 23:
+        take_with_errors(u, len);
+        break;
     default:
         for (size_t i = 0; i < 2; i++) {
             ports[i].uart = u;
@@ -802,14 +841,92 @@ static void call_rings(struct u16550 *u, uint32_t which)
     note_bytes(bytes, len);
 }
 
+/* ---- a driver at a bus of two wires */
+
+static struct u16550_bus bus;
+static int is_at_bus;
+
+/* A call over the bus at random. */
+static void call_bus(uint32_t which)
+{
+    struct u16550_received received[20];
+    size_t count = 66, len = below(8) ? below(20) : below(40);
+    size_t *done = below(4) ? &count : NULL;
+    uint8_t value = 9;
+    fill(len);
+    switch (which) {
+    case 0:
+    case 1:
+        told(u16550_bus_start_sending(&bus));
+        break;
+    case 2:
+        told(u16550_bus_try_finish(&bus));
+        break;
+    case 3:
+        told(u16550_bus_is_sending(&bus, OUT(&value)));
+        break;
+    case 4:
+        told(u16550_bus_flush(&bus));
+        break;
+    case 5:
+        told(u16550_bus_is_idle(&bus, OUT(&value)));
+        break;
+    case 6:
+        told(u16550_bus_lsr(&bus, OUT(&value)));
+        break;
+    case 7:
+        told(u16550_bus_send_bytes(&bus, below(20) ? bytes : NULL, len, &count));
+        break;
+    case 8:
+        told(u16550_bus_send_bytes_exact(&bus, bytes, len, done));
+        break;
+    case 9:
+        told(u16550_bus_receive_bytes(&bus, bytes, len, OUT(&count)));
+        break;
+    default:
+        for (size_t i = 0; i < 20; i++)
+            received[i].byte = received[i].errors = (uint8_t)i;
+        told(u16550_bus_receive_with_errors(&bus, received, len % 20, OUT(&count)));
+        for (size_t i = 0; i < 20; i++)
+            note(received[i].byte * 256u + received[i].errors);
+        break;
+    }
+    note(count);
+    note(value);
+    note_bytes(bytes, len);
+}
+
+/* Some calls over a bus that is made of a driver, which mostly is one again in the end. */
+static void use_bus(struct u16550 *u)
+{
+    struct u16550_direction direction;
+    uint32_t calls = below(20);
+    uint8_t outputs = any_byte();
+    if (is_at_bus)
+        return;
+    direction.line = (uint8_t)(below(30) ? below(2) : below(256));
+    direction.sends_when_set = (uint8_t)(below(30) ? below(2) : below(256));
+    if (told(u16550_direction_receiving(below(30) ? &direction : NULL, outputs, OUT(&outputs))) == U16550_OK)
+        note(outputs);
+    if (below(2))
+        told(u16550_ring_end(u));
+    is_at_bus = 1;
+    told(u16550_bus_new(below(30) ? &bus : NULL, u, OUT(&direction)));
+    for (uint32_t i = 0; i < calls; i++)
+        call_bus(below(11));
+    if (below(8))
+        told(u16550_bus_end(below(30) ? &bus : NULL, u));
+    is_at_bus = 0;
+}
+
 /* How often each call was made. */
-static uint32_t times[5][32];
+static uint32_t times[6][32];
 
 static void call(struct u16550 *u)
 {
-    static const uint32_t kinds[12] = { 0, 1, 1, 1, 1, 2, 2, 3, 3, 3, 3, 4 };
-    uint32_t kind = kinds[below(12)];
-    uint32_t which = below(kind == 0 ? 21 : kind == 1 ? 22 : kind == 2 ? 15 : kind == 3 ? 22 : below(4) ? 1 : 11);
+    static const uint32_t kinds[24] = { 0, 0, 1, 1, 1, 1, 1, 1, 1, 1, 2, 2, 2, 2, 3, 3, 3, 3, 3, 3, 3, 3, 4, 5 };
+    uint32_t kind = kinds[below(24)];
+    uint32_t which = below(kind == 0 ? 21 : kind == 1 ? 22 : kind == 2 ? 15 : kind == 3 ? 25 : kind == 5 || below(4) ? 1 : 11);
     times[kind][which]++;
     is_null = below(50) == 0;
     if (below(200) == 0)
@@ -827,6 +944,9 @@ static void call(struct u16550 *u)
         break;
     case 3:
         call_rings(u, which);
+        break;
+    case 5:
+        use_bus(u);
         break;
     default:
         if (which == 0)
@@ -847,7 +967,11 @@ static void meanwhile(void)
     nested++;
     for (size_t i = 0; i < ROOM; i++)
         kept[i] = bytes[i];
-    call(&uart);
+    /* A driver that is made in the place of one at a bus would make its chip anew, in the middle of an access. */
+    if (is_at_bus)
+        call_bus(below(11));
+    else
+        call(&uart);
     for (size_t i = 0; i < ROOM; i++)
         bytes[i] = kept[i];
     is_nested = 0;
@@ -856,7 +980,7 @@ static void meanwhile(void)
 /* Makes so many calls. Prints the hash after each thousand, and in the end how many calls were never made. */
 static void compare(uint64_t seed, uint32_t total)
 {
-    static const uint32_t counts[5] = { 21, 22, 15, 22, 11 };
+    static const uint32_t counts[6] = { 21, 22, 15, 25, 11, 1 };
     uint32_t never = 0;
     choices = seed;
     hash = 1;
@@ -880,7 +1004,7 @@ static void compare(uint64_t seed, uint32_t total)
             print_number(hash, 16, "\n");
         }
     }
-    for (uint32_t kind = 0; kind < 5; kind++) {
+    for (uint32_t kind = 0; kind < 6; kind++) {
         for (uint32_t which = 0; which < counts[kind]; which++)
             never += times[kind][which] == 0;
     }

@@ -8,6 +8,7 @@ use Rattle.uart_spec.specs.declared.errors.StalledError.{StalledError}
 use Rattle.uart_spec.specs.declared.errors.ByteSendError.{ByteSendError}
 use Rattle.uart_spec.specs.declared.errors.LoopbackError.{LoopbackError}
 use Rattle.uart_spec.specs.declared.errors.LoopbackError.TheVariants.{Stalled, SendError, UnexpectedLoopbackByte, UnexpectedLoopbackMsg}
+use Rattle.uart_spec.specs.declared.registers.fifo_trigger_level.FifoTriggerLevel.{FifoTriggerLevel}
 use Rattle.uart_spec.specs.declared.registers.offsets.TheConstants as offsets
 use Rattle.uart_spec.specs.declared.registers.line_status.TheConstants.LSR
 use Rattle.uart_spec.specs.declared.registers.modem_control.TheConstants.MCR
@@ -21,7 +22,8 @@ use Rattle.uart_16550.specs.Driver.{Doing, Fields, Saving, Plain, Sets, Next, se
 use Rattle.uart_16550.specs.Loopback.{test_byte, test_message, TakesOne, DrainsLoopback, SendsTestByte, ExchangesByte, Echo, EchoFails}
 use Rattle.uart_16550.specs.Loopback.{WholeEchoes, WholeFails, EachEchoes, HasEchoedWhole, HasEchoedEach, HasEchoedAll, ExchangesMessage}
 use Rattle.uart_spec.specs.Lines.{line_changes}
-use Rattle.uart_16550.specs.Loopback.{Exchanges, Enters, Leaves, with_changes, BeginsTest, Tests, IsStalled, TestsLoopback}
+use Rattle.uart_16550.specs.Loopback.{Exchanges, EntersAt, Enters, Leaves, with_changes, BeginsTest, Inside, Tests}
+use Rattle.uart_16550.specs.Loopback.{IsStalled, FromEmpty, TestsLoopback}
 use Rattle.uart_16550.proofs.Languages.{then_later}
 use Rattle.uart_16550.proofs.determined.Parting.{SameOrPart, Determined, so, so_is, so_read, so_reads, determined_so, determined_sym}
 use Rattle.uart_16550.proofs.determined.Parting.{determined_then, determined_front, determined_among, determined_none, determined_only}
@@ -39,7 +41,7 @@ abbrev Outcome : Type 0
 Outcome = Result (Unit {0}) LoopbackError
 
 -- the drain
-takes : (s : Settings) → Misses s TakesOne Miss
+pub takes : (s : Settings) → Misses s TakesOne Miss
 takes s = record {
   same = record { at = λ l m p q. so (λ t. tt) ((hits_determined s p.0 q.0).at l m p.1 q.1) };
   apart = record { at = λ l m p q. (determined_sym (miss_hit s p.0)).at l m p.1 q };
@@ -51,7 +53,7 @@ drains_apart s = wait_ends s TakesOne Miss (takes s)
 drains_true : (s : Settings) → Determined (Unit {0}) (DrainsLoopback true s) (DrainsLoopback true s)
 drains_true s = waits_end s TakesOne Miss Miss (takes s) (takes s) (miss_same s)
 
-drains_false : (s : Settings) → Determined (Unit {0}) (DrainsLoopback false s) (DrainsLoopback false s)
+pub drains_false : (s : Settings) → Determined (Unit {0}) (DrainsLoopback false s) (DrainsLoopback false s)
 drains_false s = wait_fails s TakesOne (takes s).same
 
 -- the test byte: refused, or what came back for it
@@ -349,10 +351,10 @@ steps_of (Err e) s l (inl t) = inl (ap (λ (z : LoopbackError). let r : Outcome 
 steps_of (Err e) s l (inr (inl t)) = inr (inl (e, refl, t))
 steps_of (Err e) s l (inr (inr t)) = inr (inr t)
 
-undrained : (s : Settings) (Q : Language) → Determined ⊥ (Then (DrainsLoopback true) Q s) (DrainsLoopback false s)
+pub undrained : (s : Settings) (Q : Language) → Determined ⊥ (Then (DrainsLoopback true) Q s) (DrainsLoopback false s)
 undrained s Q = determined_front {P = DrainsLoopback true} {Q = Q} (drains_apart s)
 
-after_drain : {C : Type 0} (s : Settings) (Q R : Language) → Determined C (Q s) (R s) →
+pub after_drain : {C : Type 0} (s : Settings) (Q R : Language) → Determined C (Q s) (R s) →
     Determined C (Then (DrainsLoopback true) Q s) (Then (DrainsLoopback true) R s)
 after_drain s Q R h = determined_then {P = DrainsLoopback true} {P' = DrainsLoopback true} {Q = Q} {Q' = R} (drains_true s) (λ t. h)
 
@@ -395,23 +397,25 @@ entering : (s : Settings) (x y : ℕ) →
     (Only (Read offsets.MSR y ∷ Write offsets.IER 0 ∷ Write offsets.MCR MCR.LOOP_BACK.0 ∷ []) s)
 entering s x y = record { at = λ l m p q. so_is p.is q.is (so (λ r. r.0) (so_read (λ same. inl (tt {0}, refl)))) }
 
-set_fifos : (f : Fields) (a b : Bool) → a ≡ b → Does (Unit {0}) f (Sets (with_fifo a)) (Sets (with_fifo b))
+pub set_fifos : (f : Fields) (a b : Bool) → a ≡ b → Does (Unit {0}) f (Sets (with_fifo a)) (Sets (with_fifo b))
 set_fifos f a b same =
     let M : Bool → Type 0 = λ z. Does (Unit {0}) f (Sets (with_fifo a)) (Sets (with_fifo z)) in subst M same (does_set f (with_fifo a))
 
-enters_determined : (f : Fields) (x y : ℕ) (a b : Bool) → Does ((x ≡ y) × (a ≡ b)) f (Enters x a) (Enters y b)
-enters_determined f x y a b =
-    let level = f.config.fifo_trigger_level in
+-- with this level
+pub enters_at_determined : (level : Option FifoTriggerLevel) (f : Fields) (x y : ℕ) (a b : Bool) →
+    Does ((x ≡ y) × (a ≡ b)) f (EntersAt level x a) (EntersAt level y b)
+enters_at_determined level f x y a b =
     let X = Only (Read offsets.MSR x ∷ Write offsets.IER 0 ∷ Write offsets.MCR MCR.LOOP_BACK.0 ∷ []) in
     let Y = Only (Read offsets.MSR y ∷ Write offsets.IER 0 ∷ Write offsets.MCR MCR.LOOP_BACK.0 ∷ []) in
     let s = settings_of f in
     let lists : Determined ((x ≡ y) × (a ≡ b)) (Then X (SetsFifo level a) s) (Then Y (SetsFifo level b) s) =
     determined_then (entering s x y) (λ same. determined_so (λ t. (same, t)) (fifo_determined s level a b)) in
-    let all : Does ((x ≡ y) × (a ≡ b)) f (Next (Saving (Then X (SetsFifo level a))) (Sets (with_fifo a)))
-    (Next (Saving (Then Y (SetsFifo level b))) (Sets (with_fifo b))) =
     does_next (does_saving f (Then X (SetsFifo level a)) (Then Y (SetsFifo level b)) lists)
-    (λ same g. does_so (λ t. same) (set_fifos g a b same.1)) in
-    record { at = λ l m c d p q. all.at l m c d p q }
+    (λ same g. does_so (λ t. same) (set_fifos g a b same.1))
+
+enters_determined : (f : Fields) (x y : ℕ) (a b : Bool) → Does ((x ≡ y) × (a ≡ b)) f (Enters x a) (Enters y b)
+enters_determined f x y a b =
+    record { at = λ l m c d p q. (enters_at_determined f.config.fifo_trigger_level f x y a b).at l m c d p q }
 
 -- out of it
 Settles : (mcr ier before noted now : ℕ) → Doing
@@ -446,25 +450,23 @@ leaves_determined mcr ier x y noted f same =
     let M : ℕ → Type 0 = λ z. Does (Unit {0}) f (Leaves mcr ier x noted) (Leaves mcr ier z noted) in
     subst M same (leaves_same mcr ier x noted f)
 
--- after the first wait
-testing : (mcr ier noted x y : ℕ) (a b : Bool) (r t : Outcome) (f : Fields) → Does (r ≡ t) f
-    (Next (Enters x a) (Next (Saving (Exchanges r)) (Leaves mcr ier x noted)))
-    (Next (Enters y b) (Next (Saving (Exchanges t)) (Leaves mcr ier y noted)))
-testing mcr ier noted x y a b r t f =
-    does_next {G = Enters x a} {G' = Enters y b} (enters_determined f x y a b)
-    (λ same g. does_next {H = Leaves mcr ier x noted} {H' = Leaves mcr ier y noted}
-    (does_saving g (Exchanges r) (Exchanges t) (exchanges_determined (settings_of g) r t))
-    (λ out h. does_so (λ z. out) (leaves_determined mcr ier x y noted h same.0)))
+-- what is done in it, whatever enters it
+pub inside_determined : {C : Type 0} (E : ℕ → Bool → Doing) (D D' : Doing) (mcr ier : ℕ) (f : Fields) →
+    ((g : Fields) (x y : ℕ) (a b : Bool) → Does ((x ≡ y) × (a ≡ b)) g (E x a) (E y b)) → ((g : Fields) → Does C g D D') →
+    Does C f (Inside E D mcr ier) (Inside E D' mcr ier)
+inside_determined {C} E D D' mcr ier f enters during = record { at = λ l m a b p q. (parts p.0 q.0 p.1 q.1).at l m a b p.2 q.2 }
+  where
+    parts : (x y : ℕ) (a b : Bool) →
+        Does C f (Next (E x a) (Next D (Leaves mcr ier x f.lsr))) (Next (E y b) (Next D' (Leaves mcr ier y f.lsr)))
+    parts x y a b =
+        does_next {G = E x a} {G' = E y b} (enters f x y a b)
+        (λ same g. does_next {H = Leaves mcr ier x f.lsr} {H' = Leaves mcr ier y f.lsr} (during g)
+        (λ out h. does_so (λ z. out) (leaves_determined mcr ier x y f.lsr h same.0)))
 
 tests_determined : (mcr ier : ℕ) (r t : Outcome) (f : Fields) → Does (r ≡ t) f (Tests mcr ier r) (Tests mcr ier t)
-tests_determined mcr ier r t f = record { at = λ l m a b p q. (testing mcr ier f.lsr p.0 q.0 p.1 q.1 r t f).at l m a b p.2 q.2 }
-
-tests_at : (mcr ier mcr' ier' : ℕ) (r t : Outcome) (f : Fields) → mcr ≡ mcr' → ier ≡ ier' →
-    Does (r ≡ t) f (Tests mcr ier r) (Tests mcr' ier' t)
-tests_at mcr ier mcr' ier' r t f p q =
-    let M : ℕ → Type 0 = λ z. Does (r ≡ t) f (Tests mcr ier r) (Tests z ier t) in
-    let N : ℕ → Type 0 = λ z. Does (r ≡ t) f (Tests mcr ier r) (Tests mcr' z t) in
-    subst N q (subst M p (tests_determined mcr ier r t f))
+tests_determined mcr ier r t f =
+    inside_determined Enters (Saving (Exchanges r)) (Saving (Exchanges t)) mcr ier f enters_determined
+    (λ g. does_saving g (Exchanges r) (Exchanges t) (exchanges_determined (settings_of g) r t))
 
 -- before the loopback
 opening : (s : Settings) (mcr ier mcr' ier' : ℕ) →
@@ -478,31 +480,44 @@ begins_test_determined s mcr ier mcr' ier' x y =
     determined_then (opening s mcr ier mcr' ier')
     (λ same. determined_so (λ t. (same.0, same.1, t)) (waits_determined s LSR.TRANSMITTER_EMPTY.0 x y))
 
+-- what follows the first wait, where MCR and IER were the same
+follows_at : {C : Type 0} (G G' : ℕ → ℕ → Doing) (mcr ier mcr' ier' : ℕ) (f : Fields) → Does C f (G mcr ier) (G' mcr ier) →
+    mcr ≡ mcr' → ier ≡ ier' → Does C f (G mcr ier) (G' mcr' ier')
+follows_at {C} G G' mcr ier mcr' ier' f h p q =
+    let M : ℕ → Type 0 = λ z. Does C f (G mcr ier) (G' z ier) in
+    let N : ℕ → Type 0 = λ z. Does C f (G mcr ier) (G' mcr' z) in
+    subst N q (subst M p h)
+
+first_wait : (f : Fields) (mcr ier mcr' ier' : ℕ) (H : Doing) →
+    Does ⊥ f (Next (Saving (BeginsTest mcr ier true)) H) (Saving (BeginsTest mcr' ier' false))
+first_wait f mcr ier mcr' ier' H =
+    does_front {H = H} (does_saving f (BeginsTest mcr ier true) (BeginsTest mcr' ier' false)
+    (determined_so (λ t. not_both t.2) (begins_test_determined (settings_of f) mcr ier mcr' ier' true false)))
+
+pub from_empty_determined : {C X Y : Type 0} (G G' : ℕ → ℕ → Doing) (f : Fields) → (X → Y → C) →
+    ((g : Fields) (mcr ier : ℕ) → Does C g (G mcr ier) (G' mcr ier)) → Does C f (FromEmpty X G) (FromEmpty Y G')
+from_empty_determined {C} {X} {Y} G G' f stalled follows = record { at = λ l m a b p q. at l m a b p.0 p.1 q.0 q.1 p.2 q.2 }
+  where
+    at : (l m : List Access) (a b : Fields) (mcr ier mcr' ier' : ℕ) →
+        (X × Saving (BeginsTest mcr ier false) f l a) ⊎ Next (Saving (BeginsTest mcr ier true)) (G mcr ier) f l a →
+        (Y × Saving (BeginsTest mcr' ier' false) f m b) ⊎ Next (Saving (BeginsTest mcr' ier' true)) (G' mcr' ier') f m b →
+        SameOrPart (C × (a ≡ b)) l m
+    at l m a b mcr ier mcr' ier' (inl p) (inl q) =
+        (does_so (λ x. stalled p.0 q.0) (does_saving f (BeginsTest mcr ier false) (BeginsTest mcr' ier' false)
+        (begins_test_determined (settings_of f) mcr ier mcr' ier' false false))).at l m a b p.1 q.1
+    at l m a b mcr ier mcr' ier' (inl p) (inr q) = (does_sym (first_wait f mcr' ier' mcr ier (G' mcr' ier'))).at l m a b p.1 q
+    at l m a b mcr ier mcr' ier' (inr p) (inl q) = (does_so absurd (first_wait f mcr ier mcr' ier' (G mcr ier))).at l m a b p q.1
+    at l m a b mcr ier mcr' ier' (inr p) (inr q) =
+        (does_next {G = Saving (BeginsTest mcr ier true)} {G' = Saving (BeginsTest mcr' ier' true)} {H = G mcr ier} {H' = G' mcr' ier'}
+        (does_saving f (BeginsTest mcr ier true) (BeginsTest mcr' ier' true)
+        (begins_test_determined (settings_of f) mcr ier mcr' ier' true true))
+        (λ same g. follows_at G G' mcr ier mcr' ier' g (follows g mcr ier) same.0 same.1)).at l m a b p q
+
 stalls : (r : Outcome) → IsStalled r → r ≡ Err Stalled
 stalls (Ok x) h = absurd h
 stalls (Err e) h = ap (λ (z : LoopbackError). let r : Outcome = Err z in r) h
 
-first_wait : (f : Fields) (mcr ier mcr' ier' : ℕ) (r : Outcome) →
-    Does ⊥ f (Next (Saving (BeginsTest mcr ier true)) (Tests mcr ier r)) (Saving (BeginsTest mcr' ier' false))
-first_wait f mcr ier mcr' ier' r =
-    does_front {H = Tests mcr ier r} (does_saving f (BeginsTest mcr ier true) (BeginsTest mcr' ier' false)
-    (determined_so (λ t. not_both t.2) (begins_test_determined (settings_of f) mcr ier mcr' ier' true false)))
-
 pub tests_loopback_determined : (f : Fields) (r t : Outcome) → Does (r ≡ t) f (TestsLoopback r) (TestsLoopback t)
-tests_loopback_determined f r t = record { at = λ l m a b p q. at l m a b p.0 p.1 q.0 q.1 p.2 q.2 }
-  where
-    at : (l m : List Access) (a b : Fields) (mcr ier mcr' ier' : ℕ) →
-        (IsStalled r × Saving (BeginsTest mcr ier false) f l a) ⊎ Next (Saving (BeginsTest mcr ier true)) (Tests mcr ier r) f l a →
-        (IsStalled t × Saving (BeginsTest mcr' ier' false) f m b) ⊎ Next (Saving (BeginsTest mcr' ier' true)) (Tests mcr' ier' t) f m b →
-        SameOrPart ((r ≡ t) × (a ≡ b)) l m
-    at l m a b mcr ier mcr' ier' (inl p) (inl q) =
-        (does_so (λ x. stalls r p.0 ∙ sym (stalls t q.0)) (does_saving f (BeginsTest mcr ier false) (BeginsTest mcr' ier' false)
-        (begins_test_determined (settings_of f) mcr ier mcr' ier' false false))).at l m a b p.1 q.1
-    at l m a b mcr ier mcr' ier' (inl p) (inr q) = (does_sym (first_wait f mcr' ier' mcr ier t)).at l m a b p.1 q
-    at l m a b mcr ier mcr' ier' (inr p) (inl q) = (does_so absurd (first_wait f mcr ier mcr' ier' r)).at l m a b p q.1
-    at l m a b mcr ier mcr' ier' (inr p) (inr q) =
-        (does_next {G = Saving (BeginsTest mcr ier true)} {G' = Saving (BeginsTest mcr' ier' true)} {H = Tests mcr ier r}
-        {H' = Tests mcr' ier' t}
-        (does_saving f (BeginsTest mcr ier true) (BeginsTest mcr' ier' true)
-        (begins_test_determined (settings_of f) mcr ier mcr' ier' true true))
-        (λ same g. tests_at mcr ier mcr' ier' r t g same.0 same.1)).at l m a b p q
+tests_loopback_determined f r t =
+    from_empty_determined (λ mcr ier. Tests mcr ier r) (λ mcr ier. Tests mcr ier t) f (λ p q. stalls r p ∙ sym (stalls t q))
+    (λ g mcr ier. tests_determined mcr ier r t g)

@@ -191,7 +191,7 @@ impl<B: Backend> Uart16550<B> {
 
     // Returns the trigger level for FIFOs that are on: the configured one, or one byte if none is
     // configured, as on a port that was taken by `attach`.
-    fn level_of(&self, on: bool) -> Option<FifoTriggerLevel>
+    pub(super) fn level_of(&self, on: bool) -> Option<FifoTriggerLevel>
         ensures { result ≡ level_of on self.now.config.fifo_trigger_level }
     {
         if on {

@@ -6,6 +6,7 @@ use Rattle.uart_chip.specs.declared.receiver.Character.{Character}
 use Rattle.uart_chip.specs.declared.receiver.Origin.{Origin}
 use Rattle.uart_chip.specs.declared.receiver.Origin.TheVariants.{Arrived, Looped}
 use Rattle.uart_chip.specs.Receiver.{ReceiverState, mark_at, set_mark, is_unscheduled, replace, arrive, take_front}
+use Rattle.uart_spec.specs.FifoSize.{characters}
 use Rattle.uart_chip.specs.Sound.{IsMarked}
 use Rattle.uart_chip.proofs.Bits.{has_none}
 use Rattle.uart_chip.proofs.conservation.Moves.{moved_room, moved_full, moved_taken, moved_replaced}
@@ -82,9 +83,9 @@ receives-replaced r s old new o w n k p i queue marks missing arrived overrun = 
 -- the next arrival of the schedule
 pub receives-arrive : (fifo : Bool) (r : ReceiverState) (byte errors : ℕ) → IsMarked fifo r → r.arrived < length r.marks →
     Receives fifo r (arrive false fifo byte errors r) (record { byte = byte; errors = errors; origin = Arrived r.arrived } ∷ []) [] 0
-receives-arrive true r byte errors w k = go (nat_lt (length r.queue) 16) refl
+receives-arrive true r byte errors w k = go (nat_lt (length r.queue) (characters r.size)) refl
   where
-    go : (b : Bool) → nat_lt (length r.queue) 16 ≡ b →
+    go : (b : Bool) → nat_lt (length r.queue) (characters r.size) ≡ b →
         Receives true r (arrive false true byte errors r) (record { byte = byte; errors = errors; origin = Arrived r.arrived } ∷ []) [] 0
     go true e = rw e (receives-room true r _ _ w refl k refl refl refl refl refl)
     go false e = rw e (receives-full r _ _ w refl k refl refl refl refl refl)

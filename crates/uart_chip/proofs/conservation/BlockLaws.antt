@@ -11,11 +11,13 @@ use Rattle.uart_spec.specs.Bits.{has_any}
 use Rattle.uart_spec.specs.declared.registers.line_control.TheConstants.LCR
 use Rattle.uart_spec.specs.declared.registers.line_status.TheConstants.LSR
 use Rattle.uart_spec.specs.declared.registers.offsets.TheConstants as offsets
+use Rattle.uart_spec.specs.declared.setup.FifoSize.TheVariants.{Sixteen}
 use Rattle.uart_chip.specs.Transmitter.{room}
 use Rattle.uart_chip.specs.Receiver.{report}
 use Rattle.uart_chip.specs.Chip.{word_length, line_status, after_read, after_write}
 use Rattle.uart_chip.specs.Machine.{MachineState, MachineStep, at_access}
 use Rattle.uart_chip.specs.Sound.{IsSound}
+use Rattle.uart_chip.proofs.Sizes.{room_least}
 use Rattle.uart_chip.proofs.Bits.{has_or, word_same}
 use Rattle.uart_chip.proofs.statuses.Status.{status_room, status_data}
 use Rattle.uart_chip.proofs.soundness.Sounds.{sound_access, sound_read, sound_write}
@@ -122,12 +124,13 @@ took x m n byte o w told s =
       passed = passed_read x m n 0 byte (t.front ∷ []) o.loopback w s (λ q. t.went);
     }
 
-passed_send : (x : Modes) (m n : MachineState) (byte : ℕ) → IsOpen x → Stands x m → length m.chip.transmitter.queue < room x.fifo →
+passed_send : (x : Modes) (m n : MachineState) (byte : ℕ) → IsOpen x → Stands x m → length m.chip.transmitter.queue < room x.fifo Sixteen →
     MachineStep m (Write offsets.DATA byte) n →
     Passed x m n (Write offsets.DATA byte ∷ []) (byte ∷ []) []
 passed_send x m n byte o w free s =
     passed_write x x m n offsets.DATA byte (byte ∷ []) o.loopback refl w s
-    (λ p. went-send x (at_access m).chip byte o.dlab p.sound.chip p.went.modes (omega (arith, p.went.sends.place, free)))
+    (λ p. let any = room_least x.fifo (at_access m).chip.transmitter.size in
+    went-send x (at_access m).chip byte o.dlab p.sound.chip p.went.modes (omega (arith, p.went.sends.place, free, any)))
 
 pub passed_quiet : (x : Modes) (m n : MachineState) (access : Access) → IsOpen x → Stands x m → is_quiet access ≡ true →
     MachineStep m access n → Passed x m n (access ∷ []) [] []
@@ -159,7 +162,7 @@ passed_quiets x (access ∷ accesses) m n o w q p =
     (passed_quiets x accesses p.0 n o (stands-after x m p.0 _ _ _ a) q.1 p.2)
 
 passed_sends : (x : Modes) (bytes : List ℕ) (m n : MachineState) → IsOpen x → Stands x m →
-    length m.chip.transmitter.queue + length bytes ≤ room x.fifo →
+    length m.chip.transmitter.queue + length bytes ≤ room x.fifo Sixteen →
     Path MachineStep m (map (Write offsets.DATA) bytes) n → Passed x m n (map (Write offsets.DATA) bytes) bytes []
 passed_sends x [] m n o w h p = passed_none x m n w p
 passed_sends x (byte ∷ bytes) m n o w h p =
@@ -196,7 +199,7 @@ passed_hit x m n line byte o w h (m₁, s₁, (m₂, s₂, e)) =
 
 passed_burst : (x : Modes) (m n : MachineState) (line : ℕ) (checks : List Access) (bytes : List ℕ) → IsOpen x → Stands x m →
     has_any line LSR.THR_EMPTY.0 ≡ true → AllQuiet checks →
-    length bytes ≤ room x.fifo → Path MachineStep m (Read offsets.LSR line ∷ (checks ++ map (Write offsets.DATA) bytes)) n →
+    length bytes ≤ room x.fifo Sixteen → Path MachineStep m (Read offsets.LSR line ∷ (checks ++ map (Write offsets.DATA) bytes)) n →
     Passed x m n (Read offsets.LSR line ∷ (checks ++ map (Write offsets.DATA) bytes)) bytes []
 passed_burst x m n line checks bytes o w h q few (m₁, s₁, p) =
     let a = passed-look x m m₁ line o.loopback w s₁ in

@@ -79,7 +79,7 @@ went-look x c line s w e = record {
 -- ---- the data register
 
 pub went-send : (x : Modes) (c : ChipState) (byte : ℕ) → dlab x ≡ false → IsSoundChip c → IsIn x c →
-    length c.transmitter.queue < room x.fifo →
+    length c.transmitter.queue < room x.fifo c.transmitter.size →
     Went x c (after_write offsets.DATA byte c) [] (Write offsets.DATA byte ∷ []) (byte ∷ []) []
 went-send x c byte off s w free =
     let e : after_write offsets.DATA byte c ≡ record c { transmitter = load c.fifo (cut_of c byte) c.transmitter } =

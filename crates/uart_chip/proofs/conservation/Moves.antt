@@ -205,8 +205,8 @@ none_missing-less true r s front i e c = e ∙ c
 none_missing-less false r s front i e c = let all = rw i at c.1 in (e ∙ c.0, all.1)
 
 -- a looped character that was taken was the only one, if there is no queue
-pub none_missing-taken : (fifo : Bool) (r s : ReceiverState) (front : Character) → r.queue ≡ front ∷ s.queue → length r.queue ≤ room fifo →
-    s.is_unscheduled_lost ≡ false → NoneMissing fifo s
+pub none_missing-taken : (fifo : Bool) (r s : ReceiverState) (front : Character) → r.queue ≡ front ∷ s.queue →
+    length r.queue ≤ room fifo r.size → s.is_unscheduled_lost ≡ false → NoneMissing fifo s
 none_missing-taken true r s front i h e = e
 none_missing-taken false r s front i h e = (e, only s.queue (let n = rw i at h in omega (arith, n)))
   where

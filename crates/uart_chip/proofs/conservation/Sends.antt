@@ -57,7 +57,7 @@ sends-tick t =
 
 -- ---- a write with room
 
-pub sends-load : (fifo : Bool) (x : ℕ) (t : TransmitterState) → length t.queue < room fifo → Sends t (load fifo x t) (x ∷ [])
+pub sends-load : (fifo : Bool) (x : ℕ) (t : TransmitterState) → length t.queue < room fifo t.size → Sends t (load fifo x t) (x ∷ [])
 sends-load fifo x t free = record {
   grows = grind (arith, common_steps);
   same_overflows = grind (arith, common_steps);

@@ -7,11 +7,13 @@ use Rattle.uart_spec.specs.Access.{Path}
 use Rattle.uart_spec.specs.declared.access.Access.{Access}
 use Rattle.uart_spec.specs.declared.access.Access.TheVariants.{Read, Write}
 use Rattle.uart_spec.specs.declared.registers.offsets.TheConstants as offsets
+use Rattle.uart_spec.specs.declared.setup.FifoSize.TheVariants.{Sixteen}
 use Rattle.uart_chip.specs.Transmitter.{TransmitterState, load, room}
 use Rattle.uart_chip.specs.Receiver.{ReceiverState, report, take_front}
 use Rattle.uart_chip.specs.Chip.{ChipState, cut_of, is_dlab_set, interrupt, is_thr_empty, with_latches, enable, answer, after_read}
 use Rattle.uart_chip.specs.Chip.{after_write}
 use Rattle.uart_chip.specs.Machine.{MachineState, MachineStep, at_access}
+use Rattle.uart_chip.proofs.Sizes.{room_least}
 use Rattle.uart_chip.proofs.conservation.Blocks.{is_quiet, AllQuiet}
 use Rattle.uart_chip.proofs.conservation.Went.{Modes, IsIn, fixed_in, dlab, dlab-in, loopback}
 use Rattle.uart_chip.proofs.loopback.Loops.{line_of, line_in, Carries, carries-refl, Loops, loops-trans, loops-still, loops-refl}
@@ -43,9 +45,14 @@ loops_if x c d e false p q = q
 
 -- the queues are the same
 same_queues : (t u : TransmitterState) (r s : ReceiverState) → u.queue ≡ t.queue → u.shift_register ≡ t.shift_register → u.wire ≡ t.wire →
-    s.queue ≡ r.queue → Carries t u r s
-same_queues t u r s queue place wire waits =
-    record { line = rw (queue, place, waits) refl; wire = wire; place = rw queue (omega arith); fuller = rw waits (omega arith) }
+    s.queue ≡ r.queue → s.size ≡ r.size → Carries t u r s
+same_queues t u r s queue place wire waits size = record {
+  line = rw (queue, place, waits) refl;
+  wire = wire;
+  place = rw queue (omega arith);
+  fuller = rw waits (omega arith);
+  size = size;
+}
 
 -- a read of anything but the data
 loops_after_read : (x : Modes) (offset : ℕ) (c : ChipState) → IsIn x c → (offset == offsets.DATA) ≡ false →
@@ -53,10 +60,10 @@ loops_after_read : (x : Modes) (offset : ℕ) (c : ChipState) → IsIn x c → (
 loops_after_read x offset c w other =
     let told =
     loops_same x c (record c { transmitter = record c.transmitter { is_thr_pending = false } }) w refl refl refl
-    (same_queues c.transmitter _ c.receiver _ refl refl refl refl) in
+    (same_queues c.transmitter _ c.receiver _ refl refl refl refl refl) in
     let looked =
     loops_same x c (record c { receiver = report c.receiver }) w refl refl refl
-    (same_queues c.transmitter _ c.receiver _ refl refl refl refl) in
+    (same_queues c.transmitter _ c.receiver _ refl refl refl refl refl) in
     let seen =
     loops_same x c (record c { modem = record c.modem { deltas = 0 } }) w refl refl refl (carries-refl c.transmitter c.receiver) in
     rw other (loops_if x c _ _ (offset == offsets.ISR) (loops_if x c _ _ (is_thr_empty (interrupt c)) told (loops-refl x c w))
@@ -71,7 +78,7 @@ loops_after_write x offset value c w q = either (offset == offsets.IER) refl
     latched = loops_same x c _ w refl refl refl (carries-refl c.transmitter c.receiver)
 
     enabled : Loops x c (enable value c) [] []
-    enabled = loops_same x c (enable value c) w refl refl refl (same_queues c.transmitter _ c.receiver c.receiver refl refl refl refl)
+    enabled = loops_same x c (enable value c) w refl refl refl (same_queues c.transmitter _ c.receiver c.receiver refl refl refl refl refl)
 
     kept : Loops x c (with_latches (record c.latches { scr = value }) c) [] []
     kept = loops_same x c _ w refl refl refl (carries-refl c.transmitter c.receiver)
@@ -99,11 +106,12 @@ loops_front x c byte off w some b = go c.receiver.queue refl
           wire = refl;
           place = omega arith;
           fuller = rw e (omega arith);
+          size = refl;
         })
 
 -- a byte comes to the end of the line, cut
-loops_load : (x : Modes) (c : ChipState) (byte : ℕ) → dlab x ≡ false → IsIn x c → length c.transmitter.queue < room x.fifo →
-    Loops x c (after_write offsets.DATA byte c) (x.cut byte ∷ []) []
+loops_load : (x : Modes) (c : ChipState) (byte : ℕ) → dlab x ≡ false → IsIn x c →
+    length c.transmitter.queue < room x.fifo c.transmitter.size → Loops x c (after_write offsets.DATA byte c) (x.cut byte ∷ []) []
 loops_load x c byte off w free =
     let e : after_write offsets.DATA byte c ≡ record c { transmitter = load c.fifo (cut_of c byte) c.transmitter } =
     rw (dlab-in x c w ∙ off) refl in
@@ -115,16 +123,17 @@ loops_load x c byte off w free =
       wire = same_wire x.fifo (x.cut byte) c.transmitter free;
       place = one_more x.fifo (x.cut byte) c.transmitter free;
       fuller = omega arith;
+      size = refl;
     })
   where
-    last : (fifo : Bool) (byte : ℕ) (t : TransmitterState) (r : ReceiverState) → length t.queue < room fifo →
+    last : (fifo : Bool) (byte : ℕ) (t : TransmitterState) (r : ReceiverState) → length t.queue < room fifo t.size →
         line_of (load fifo byte t) r ≡ line_of t r ++ byte ∷ []
     last fifo byte t r free = grind (arith, common_steps)
 
-    same_wire : (fifo : Bool) (byte : ℕ) (t : TransmitterState) → length t.queue < room fifo → (load fifo byte t).wire ≡ t.wire
+    same_wire : (fifo : Bool) (byte : ℕ) (t : TransmitterState) → length t.queue < room fifo t.size → (load fifo byte t).wire ≡ t.wire
     same_wire fifo byte t free = grind (arith, common_steps)
 
-    one_more : (fifo : Bool) (byte : ℕ) (t : TransmitterState) → length t.queue < room fifo →
+    one_more : (fifo : Bool) (byte : ℕ) (t : TransmitterState) → length t.queue < room fifo t.size →
         length (load fifo byte t).queue ≤ length t.queue + 1
     one_more fifo byte t free = grind (arith, common_steps)
 
@@ -165,12 +174,14 @@ loops_take x m n byte i f some s =
     loops_effect x x m n (after_read offsets.DATA (at_access m).chip) [] (byte ∷ []) i.loopback f s.0
     (λ a. loops_front x (at_access m).chip byte i.dlab a.modes (omega (arith, a.fuller, some)) s.1)
 
-loops_send : (x : Modes) (m n : MachineState) (byte : ℕ) → IsLooped x → Fits x m.chip → length m.chip.transmitter.queue < room x.fifo →
+loops_send : (x : Modes) (m n : MachineState) (byte : ℕ) → IsLooped x → Fits x m.chip →
+    length m.chip.transmitter.queue < room x.fifo Sixteen →
     MachineStep m (Write offsets.DATA byte) n →
     Loops x m.chip n.chip (x.cut byte ∷ []) []
 loops_send x m n byte i f free s =
     loops_effect x x m n (after_write offsets.DATA byte (at_access m).chip) (x.cut byte ∷ []) [] i.loopback f s
-    (λ a. loops_load x (at_access m).chip byte i.dlab a.modes (omega (arith, a.place, free)))
+    (λ a. let any = room_least x.fifo (at_access m).chip.transmitter.size in
+    loops_load x (at_access m).chip byte i.dlab a.modes (omega (arith, a.place, free, any)))
 
 -- ---- some accesses of one kind
 
@@ -186,12 +197,13 @@ loops_quiets x (access ∷ accesses) m n l f q p =
     (loops_quiets x accesses p.0 n l (fits-after x x m.chip p.0.chip [] refl f a) q.1 p.2)
 
 pub loops_sends : (x : Modes) (bytes : List ℕ) (m n : MachineState) → IsLooped x → IsIn x m.chip →
-    length (line_in m.chip) + length bytes ≤ room x.fifo →
-    length m.chip.transmitter.queue + length bytes ≤ room x.fifo → Path MachineStep m (map (Write offsets.DATA) bytes) n →
+    length (line_in m.chip) + length bytes ≤ room x.fifo m.chip.receiver.size →
+    length m.chip.transmitter.queue + length bytes ≤ room x.fifo Sixteen → Path MachineStep m (map (Write offsets.DATA) bytes) n →
     Loops x m.chip n.chip (map x.cut bytes) []
 loops_sends x [] m n i w few free p = loops_none x m n w p
 loops_sends x (byte ∷ bytes) m n i w few free p =
     let a = loops_send x m p.0 byte i (record { modes = w; few = omega (arith, few) }) (omega (arith, free)) p.1 in
     let long = line-length x m.chip p.0.chip (x.cut byte ∷ []) [] a in
+    let same = ap (room x.fifo) a.size in
     loops-trans x x m.chip p.0.chip n.chip (x.cut byte ∷ []) (map x.cut bytes) [] [] a
-    (loops_sends x bytes p.0 n i a.modes (omega (arith, long, few)) (omega (arith, a.place, free)) p.2)
+    (loops_sends x bytes p.0 n i a.modes (omega (arith, long, few, same)) (omega (arith, a.place, free)) p.2)

@@ -29,9 +29,10 @@ pub record Carries (t u : TransmitterState) (r s : ReceiverState) : Type 0 where
   pub wire : u.wire ≡ t.wire
   pub place : length u.queue ≤ length t.queue
   pub fuller : length r.queue ≤ length s.queue
+  pub size : s.size ≡ r.size
 
 pub carries-refl : (t : TransmitterState) (r : ReceiverState) → Carries t t r r
-carries-refl t r = record { line = refl; wire = refl; place = omega arith; fuller = omega arith }
+carries-refl t r = record { line = refl; wire = refl; place = omega arith; fuller = omega arith; size = refl }
 
 carries-trans : (t u v : TransmitterState) (r s q : ReceiverState) → Carries t u r s → Carries u v s q → Carries t v r q
 carries-trans t u v r s q a b =
@@ -40,39 +41,43 @@ carries-trans t u v r s q a b =
       wire = b.wire ∙ a.wire;
       place = omega (arith, a.place, b.place);
       fuller = omega (arith, a.fuller, b.fuller);
+      size = b.size ∙ a.size;
     }
 
 -- ---- a tick in loopback
 
 carries_shift : (fifo : Bool) (place : Option Shifting) (t : TransmitterState) (r : ReceiverState) → t.shift_register ≡ place →
-    length (line_of t r) ≤ room fifo →
+    length (line_of t r) ≤ room fifo r.size →
     Carries t (shift true place t) r (come_back fifo (looped_byte true place) r)
 carries_shift fifo None t r e h = carries-refl t r
 carries_shift fifo (Some s) t r e h = go (nat_lt 1 s.ticks_left) refl
   where
-    bound : length (map (λ (c : Character). c.byte) r.queue ++ (s.byte ∷ t.queue)) ≤ room fifo
+    bound : length (map (λ (c : Character). c.byte) r.queue ++ (s.byte ∷ t.queue)) ≤ room fifo r.size
     bound = rw e at h
 
     go : (b : Bool) → nat_lt 1 s.ticks_left ≡ b → Carries t (shift true (Some s) t) r (come_back fifo (looped_byte true (Some s)) r)
-    go true g = rw g (record { line = rw e refl; wire = refl; place = omega arith; fuller = omega arith })
+    go true g = rw g (record { line = rw e refl; wire = refl; place = omega arith; fuller = omega arith; size = refl })
     go false g =
-        let free : nat_lt (length r.queue) (room fifo) ≡ true = grind (arith, common_steps, bound) in
+        let free : nat_lt (length r.queue) (room fifo r.size) ≡ true = grind (arith, common_steps, bound) in
         rw (g, free)
         (record {
           line = rw e (grind (arith, common_steps));
           wire = refl;
           place = omega arith;
           fuller = simp length-append (omega arith);
+          size = refl;
         })
 
 carries_refill : (place : Option Shifting) (queue : List ℕ) (t : TransmitterState) (r : ReceiverState) → t.shift_register ≡ place →
     t.queue ≡ queue → Carries t (refill place queue t) r r
 carries_refill (Some s) queue t r e f = carries-refl t r
 carries_refill None [] t r e f = carries-refl t r
-carries_refill None (x ∷ []) t r e f = record { line = rw (e, f) refl; wire = refl; place = rw f (omega arith); fuller = omega arith }
-carries_refill None (x ∷ y ∷ xs) t r e f = record { line = rw (e, f) refl; wire = refl; place = rw f (omega arith); fuller = omega arith }
+carries_refill None (x ∷ []) t r e f =
+    record { line = rw (e, f) refl; wire = refl; place = rw f (omega arith); fuller = omega arith; size = refl }
+carries_refill None (x ∷ y ∷ xs) t r e f =
+    record { line = rw (e, f) refl; wire = refl; place = rw f (omega arith); fuller = omega arith; size = refl }
 
-carries_tick : (fifo : Bool) (t : TransmitterState) (r : ReceiverState) → length (line_of t r) ≤ room fifo →
+carries_tick : (fifo : Bool) (t : TransmitterState) (r : ReceiverState) → length (line_of t r) ≤ room fifo r.size →
     Carries t (transmitter.tick true t) r (receiver.tick fifo (looped_byte true t.shift_register) r)
 carries_tick fifo t r h =
     let u : TransmitterState = shift true t.shift_register t in
@@ -80,7 +85,7 @@ carries_tick fifo t r h =
     let a : Carries t u r s = carries_shift fifo t.shift_register t r refl h in
     let b : Carries t (transmitter.tick true t) r s =
     carries-trans t u (transmitter.tick true t) r s s a (carries_refill u.shift_register u.queue u s refl refl) in
-    record { line = b.line; wire = b.wire; place = b.place; fuller = b.fuller }
+    record { line = b.line; wire = b.wire; place = b.place; fuller = b.fuller; size = b.size }
 
 -- ---- a stretch in loopback
 
@@ -92,6 +97,7 @@ pub record Loops (x : Modes) (c d : ChipState) (written read : List ℕ) : Type 
   pub wire : d.transmitter.wire ≡ c.transmitter.wire
   pub place : length d.transmitter.queue ≤ length c.transmitter.queue + length written
   pub fuller : length c.receiver.queue ≤ length d.receiver.queue + length read
+  pub size : d.receiver.size ≡ c.receiver.size
 
 -- one stretch and then another, which may begin in other modes
 pub loops-trans : (x y : Modes) (c d e : ChipState) (ws vs rs qs : List ℕ) → Loops x c d ws rs → Loops y d e vs qs →
@@ -103,6 +109,7 @@ loops-trans x y c d e ws vs rs qs a b = record {
   wire = b.wire ∙ a.wire;
   place = simp length-append (omega (arith, a.place, b.place));
   fuller = simp length-append (omega (arith, a.fuller, b.fuller));
+  size = b.size ∙ a.size;
 }
 
 -- nothing is written or read
@@ -114,6 +121,7 @@ loops-still x c d w a =
       wire = a.wire;
       place = omega (arith, a.place);
       fuller = omega (arith, a.fuller);
+      size = a.size;
     }
 
 pub loops-refl : (x : Modes) (c : ChipState) → IsIn x c → Loops x c c [] []
@@ -124,20 +132,20 @@ pub line-length : (x : Modes) (c d : ChipState) (ws rs : List ℕ) → Loops x c
     length rs + length (line_in d) ≡ length (line_in c) + length ws
 line-length x c d ws rs a = sym (length-append rs (line_in d)) ∙ (ap length a.line ∙ length-append (line_in c) ws)
 
--- a chip in these modes, of which loopback is one, whose line fits into a queue
+-- a chip in these modes, of which loopback is one, whose line fits into the queue of the receiver
 pub record Fits (x : Modes) (c : ChipState) : Type 0 where
   pub modes : IsIn x c
-  pub few : length (line_in c) ≤ room x.fifo
+  pub few : length (line_in c) ≤ room x.fifo c.receiver.size
 
 pub fits-after : (x y : Modes) (c d : ChipState) (rs : List ℕ) → y.fifo ≡ x.fifo → Fits x c → Loops y c d [] rs → Fits y d
 fits-after x y c d rs same f a =
-    let long = line-length y c d [] rs a in record { modes = a.modes; few = rw same (omega (arith, long, f.few)) }
+    let long = line-length y c d [] rs a in record { modes = a.modes; few = rw (same, a.size) (omega (arith, long, f.few)) }
 
 -- ---- events
 
 loops_tick : (x : Modes) (c : ChipState) → loopback x ≡ true → Fits x c → Loops x c (tick c) [] []
 loops_tick x c l f =
-    let few : length (line_in c) ≤ room c.fifo = rw (ap room f.modes.fifo) f.few in
+    let few : length (line_in c) ≤ room c.fifo c.receiver.size = rw f.modes.fifo f.few in
     rw (in_loopback (loopback-in x c f.modes ∙ l))
     (loops-still x c _ (record { lcr = f.modes.lcr; mcr = f.modes.mcr; fifo = f.modes.fifo; cut = f.modes.cut })
     (carries_tick c.fifo c.transmitter c.receiver few))
@@ -167,7 +175,7 @@ loops_arrive x byte errors c l f =
     ap (λ (b : Bool). record c { receiver = receiver.arrive b c.fifo (cut_of c byte) errors c.receiver }) (loopback-in x c f.modes ∙ l) in
     rw e
     (loops-still x c _ (record { lcr = f.modes.lcr; mcr = f.modes.mcr; fifo = f.modes.fifo; cut = f.modes.cut })
-    (record { line = refl; wire = refl; place = omega arith; fuller = omega arith }))
+    (record { line = refl; wire = refl; place = omega arith; fuller = omega arith; size = refl }))
 
 loops_lines : (x : Modes) (inputs : ℕ) (c : ChipState) → Fits x c → Loops x c (change_lines inputs c) [] []
 loops_lines x inputs c f =

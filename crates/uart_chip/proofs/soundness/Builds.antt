@@ -125,6 +125,7 @@ whole_cutting cuts m w = record {
       modem = w.sound.chip.modem;
       latches = w.sound.chip.latches;
       implemented = w.sound.chip.implemented;
+      sizes = w.sound.chip.sizes;
       limit = w.sound.chip.limit;
     };
     foreseen = w.sound.foreseen;
@@ -155,6 +156,7 @@ whole_fresh chip char_ticks capacity events e =
           modem = record { inputs = refl; lines = refl; deltas = refl };
           latches = record { ier = refl; mcr = refl };
           implemented = λ e. cc;
+          sizes = (refl, refl);
           limit = refl;
         };
         foreseen = length-marks (arrivals events);

@@ -11,11 +11,13 @@ use Rattle.uart_chip.specs.declared.receiver.Origin.TheVariants.{Arrived, Looped
 use Rattle.uart_spec.specs.declared.registers.fifo_trigger_level.FifoTriggerLevel.{FifoTriggerLevel}
 use Rattle.uart_spec.specs.declared.registers.line_status.TheConstants.LSR
 use Rattle.uart_spec.specs.Bits.{IsWithin}
+use Rattle.uart_spec.specs.declared.setup.FifoSize.{FifoSize}
 use Rattle.uart_chip.specs.Transmitter.{room}
 use Rattle.uart_chip.specs.Receiver.{ReceiverState, set_mark, replace, come_back, grow_timeout, tick, arrive, take_front, report, discard}
 use Rattle.uart_chip.specs.Receiver.{clear, enter, arrive_live, is_unscheduled}
 use Rattle.uart_chip.specs.Sound.{IsInQueue, AllInQueue, NoneIs, Distinct, AllErrorsLegal, IsSoundReceiver}
 use Rattle.uart_chip.proofs.Lists.{each-append}
+use Rattle.uart_chip.proofs.Sizes.{some_room}
 use Rattle.uart_chip.proofs.soundness.Marks.{length-set_mark, none_to_come, all_in_queue-set, all_in_queue-set_mark, all_in_queue-next}
 use Rattle.uart_chip.proofs.soundness.Marks.{all_in_queue-found, all_in_queue-append, distinct-next, distinct-unscheduled, ToCome, Settled}
 use Rattle.uart_chip.proofs.soundness.Marks.{NoOther, to_come-next, to_come-set, settled-next, settled-set, no_other-set, no_other-rest}
@@ -27,6 +29,7 @@ pub record Safe (fifo : Bool) (arrived : ℕ) (r s : ReceiverState) : Type 0 whe
   pub number : s.arrived ≡ arrived
   pub known : length s.marks ≡ length r.marks
   pub limit : s.timeout_limit ≡ r.timeout_limit
+  pub size : s.size ≡ r.size
 
 pub safe_if : (fifo : Bool) (arrived : ℕ) (r x y : ReceiverState) (b : Bool) → (b ≡ true → Safe fifo arrived r x) →
     (b ≡ false → Safe fifo arrived r y) → Safe fifo arrived r (if b then x else y)
@@ -66,12 +69,12 @@ sound_found fifo r w =
 record WaitsAlone (fifo : Bool) (r : ReceiverState) (old : Character) : Type 0 where
   pub waits : IsInQueue r.arrived r.marks r.is_unscheduled_lost old.origin
   pub others : NoOther (old ∷ []) r.marks
-  pub one : 1 ≤ room fifo
+  pub one : 1 ≤ room fifo r.size
 
 waits_alone : (fifo : Bool) (r : ReceiverState) (old : Character) → IsSoundReceiver fifo r → r.queue ≡ old ∷ [] → WaitsAlone fifo r old
 waits_alone fifo r old w e =
     let waits : AllInQueue r.arrived r.marks r.is_unscheduled_lost (old ∷ []) = rw e at w.marked.wait in
-    let one : length (old ∷ []) ≤ room fifo = rw e at w.marked.in_room in
+    let one : length (old ∷ []) ≤ room fifo r.size = rw e at w.marked.in_room in
     record { waits = waits.0; others = rw e at w.no_other; one = one }
 
 -- ---- one more character
@@ -92,7 +95,7 @@ counted-next arrived k m marks h = simp length-set (omega arith)
 
 safe_arrival_room : (fifo : Bool) (r : ReceiverState) (byte errors : ℕ) (reported : Bool) → IsSoundReceiver fifo r →
     r.arrived < length r.marks → IsWithin errors LSR.CHARACTER_ERRORS.0 →
-    nat_lt (length r.queue) (room fifo) ≡ true →
+    nat_lt (length r.queue) (room fifo r.size) ≡ true →
     Safe fifo (r.arrived + 1) r (record r {
       queue = r.queue ++ record { byte = byte; errors = errors; origin = Arrived r.arrived } ∷ [];
       is_front_reported = reported;
@@ -116,7 +119,7 @@ safe_arrival_room fifo r byte errors reported w k l e =
               (new ∷ []) old (here, tt);
           distinct = distinct-next r.queue new r.arrived refl none w.marked.distinct;
           to_come = to_come-next r.arrived r.marks Waiting w.marked.to_come;
-          in_room = length-next r.queue new (room fifo) e;
+          in_room = length-next r.queue new (room fifo r.size) e;
           counted = counted-next r.arrived r.arrived Waiting r.marks k;
         };
         settled = settled-next r.arrived r.marks Waiting k (λ e. cc) w.settled;
@@ -127,6 +130,7 @@ safe_arrival_room fifo r byte errors reported w k l e =
       number = refl;
       known = length-set r.marks r.arrived Waiting;
       limit = refl;
+      size = refl;
     }
 
 -- what waits stays, and the arrival is lost
@@ -155,6 +159,7 @@ safe_arrival_lost fifo r m overrun idle w k p q i =
       number = refl;
       known = length-set r.marks r.arrived m;
       limit = refl;
+      size = refl;
     }
 
 -- the one that waits is replaced
@@ -196,30 +201,30 @@ safe_arrival_replaced fifo r byte errors old missing w k l e =
       number = refl;
       known = length-set marks r.arrived Waiting ∙ same;
       limit = refl;
+      size = refl;
     }
 
 -- what is full without FIFO holds one character
-one_waits : (fifo : Bool) (queue : List Character) → fifo ≡ false → length queue ≤ room fifo → length queue ≤ 1
-one_waits true queue e h = absurd (cc)
-one_waits false queue e h = h
+one_waits : (fifo : Bool) (size : FifoSize) (queue : List Character) → fifo ≡ false → length queue ≤ room fifo size → length queue ≤ 1
+one_waits true size queue e h = absurd (cc)
+one_waits false size queue e h = h
 
-none_full : (fifo : Bool) → nat_lt 0 (room fifo) ≡ false → ⊥
-none_full true e = cc
-none_full false e = cc
+none_full : (fifo : Bool) (size : FifoSize) → nat_lt 0 (room fifo size) ≡ false → ⊥
+none_full fifo size e = let some = some_room fifo size in grind (arith, common_steps)
 
 pub safe_arrive : (loopback fifo : Bool) (r : ReceiverState) (byte errors : ℕ) → IsSoundReceiver fifo r → r.arrived < length r.marks →
     IsWithin errors LSR.CHARACTER_ERRORS.0 →
     Safe fifo (r.arrived + 1) r (arrive loopback fifo byte errors r)
 safe_arrive true fifo r byte errors w k l = safe_arrival_lost fifo r Discarded r.is_overrun r.timeout_ticks w k (λ e. cc) (λ e. cc) w.idle
 safe_arrive false fifo r byte errors w k l =
-    safe_if fifo (r.arrived + 1) r _ _ (nat_lt (length r.queue) (room fifo)) (safe_arrival_room fifo r byte errors _ w k l)
+    safe_if fifo (r.arrived + 1) r _ _ (nat_lt (length r.queue) (room fifo r.size)) (safe_arrival_room fifo r byte errors _ w k l)
     (λ full. safe_if fifo (r.arrived + 1) r _ _ fifo (λ e. safe_arrival_lost fifo r Dropped true 0 w k (λ e. cc) (λ e. cc) zero-le)
-    (λ off. swap r.queue refl full (one_waits fifo r.queue off w.marked.in_room)))
+    (λ off. swap r.queue refl full (one_waits fifo r.size r.queue off w.marked.in_room)))
   where
-    swap : (queue : List Character) → r.queue ≡ queue → nat_lt (length r.queue) (room fifo) ≡ false → length r.queue ≤ 1 →
+    swap : (queue : List Character) → r.queue ≡ queue → nat_lt (length r.queue) (room fifo r.size) ≡ false → length r.queue ≤ 1 →
         Safe fifo (r.arrived + 1) r
         (replace r.queue (record { byte = byte; errors = errors; origin = Arrived r.arrived }) (record r { arrived = r.arrived + 1 }))
-    swap [] e full one = let h : nat_lt 0 (room fifo) ≡ false = rw e at full in absurd (none_full fifo h)
+    swap [] e full one = let h : nat_lt 0 (room fifo r.size) ≡ false = rw e at full in absurd (none_full fifo r.size h)
     swap (old ∷ []) e full one =
         let new : Character = record { byte = byte; errors = errors; origin = Arrived r.arrived } in
         let next : ReceiverState = record r { arrived = r.arrived + 1 } in
@@ -230,7 +235,7 @@ safe_arrive false fifo r byte errors w k l =
 -- ---- an unscheduled character: one that came back in loopback, or came in without a schedule
 
 safe_unscheduled_room : (fifo : Bool) (r : ReceiverState) (byte errors : ℕ) (o : Origin) (reported : Bool) → is_unscheduled o ≡ true →
-    IsSoundReceiver fifo r → IsWithin errors LSR.CHARACTER_ERRORS.0 → nat_lt (length r.queue) (room fifo) ≡ true →
+    IsSoundReceiver fifo r → IsWithin errors LSR.CHARACTER_ERRORS.0 → nat_lt (length r.queue) (room fifo r.size) ≡ true →
     Safe fifo r.arrived r (record r {
       queue = r.queue ++ record { byte = byte; errors = errors; origin = o } ∷ [];
       is_front_reported = reported;
@@ -248,7 +253,7 @@ safe_unscheduled_room fifo r byte errors o reported s w l e =
           wait = all_in_queue-append r.arrived r.marks false r.queue (new ∷ []) found (refl, tt);
           distinct = distinct-unscheduled r.queue new refl w.marked.distinct;
           to_come = w.marked.to_come;
-          in_room = length-next r.queue new (room fifo) e;
+          in_room = length-next r.queue new (room fifo r.size) e;
           counted = w.marked.counted;
         };
         settled = w.settled;
@@ -259,12 +264,13 @@ safe_unscheduled_room fifo r byte errors o reported s w l e =
       number = refl;
       known = refl;
       limit = refl;
+      size = refl;
     }
 
 safe_unscheduled_lost : (fifo : Bool) (r : ReceiverState) → IsSoundReceiver fifo r →
     Safe fifo r.arrived r (record r { is_overrun = true; timeout_ticks = 0; is_unscheduled_lost = false })
 safe_unscheduled_lost fifo r w =
-    record { sound = sound_beside fifo _ _ _ _ _ (sound_found fifo r w) zero-le; number = refl; known = refl; limit = refl }
+    record { sound = sound_beside fifo _ _ _ _ _ (sound_found fifo r w) zero-le; number = refl; known = refl; limit = refl; size = refl }
 
 safe_unscheduled_replaced : (fifo : Bool) (r : ReceiverState) (byte errors : ℕ) (o : Origin) (old : Character) → is_unscheduled o ≡ true →
     IsSoundReceiver fifo r → IsWithin errors LSR.CHARACTER_ERRORS.0 → r.queue ≡ old ∷ [] →
@@ -299,6 +305,7 @@ safe_unscheduled_replaced fifo r byte errors o old s w l e =
       number = refl;
       known = same;
       limit = refl;
+      size = refl;
     }
 
 pub safe_unscheduled : (fifo : Bool) (r : ReceiverState) (byte errors : ℕ) (o : Origin) → is_unscheduled o ≡ true → IsSoundReceiver fifo r →
@@ -306,13 +313,13 @@ pub safe_unscheduled : (fifo : Bool) (r : ReceiverState) (byte errors : ℕ) (o 
     Safe fifo r.arrived r (enter fifo (record { byte = byte; errors = errors; origin = o }) r)
 safe_unscheduled fifo r byte errors (Arrived k) s w l = absurd (cc)
 safe_unscheduled fifo r byte errors o s w l =
-    safe_if fifo r.arrived r _ _ (nat_lt (length r.queue) (room fifo)) (safe_unscheduled_room fifo r byte errors o _ refl w l)
+    safe_if fifo r.arrived r _ _ (nat_lt (length r.queue) (room fifo r.size)) (safe_unscheduled_room fifo r byte errors o _ refl w l)
     (λ full. safe_if fifo r.arrived r _ _ fifo (λ e. safe_unscheduled_lost fifo r w)
-    (λ off. swap r.queue refl full (one_waits fifo r.queue off w.marked.in_room)))
+    (λ off. swap r.queue refl full (one_waits fifo r.size r.queue off w.marked.in_room)))
   where
-    swap : (queue : List Character) → r.queue ≡ queue → nat_lt (length r.queue) (room fifo) ≡ false → length r.queue ≤ 1 →
+    swap : (queue : List Character) → r.queue ≡ queue → nat_lt (length r.queue) (room fifo r.size) ≡ false → length r.queue ≤ 1 →
         Safe fifo r.arrived r (replace r.queue (record { byte = byte; errors = errors; origin = o }) r)
-    swap [] e full one = let h : nat_lt 0 (room fifo) ≡ false = rw e at full in absurd (none_full fifo h)
+    swap [] e full one = let h : nat_lt 0 (room fifo r.size) ≡ false = rw e at full in absurd (none_full fifo r.size h)
     swap (old ∷ []) e full one =
         let new : Character = record { byte = byte; errors = errors; origin = o } in
         let f : replace r.queue new r ≡ replace (old ∷ []) new r = ap (λ (xs : List Character). replace xs new r) e in
@@ -321,12 +328,12 @@ safe_unscheduled fifo r byte errors o s w l =
 
 pub safe_come_back : (fifo : Bool) (place : Option ℕ) (r : ReceiverState) → IsSoundReceiver fifo r →
     Safe fifo r.arrived r (come_back fifo place r)
-safe_come_back fifo None r w = record { sound = w; number = refl; known = refl; limit = refl }
+safe_come_back fifo None r w = record { sound = w; number = refl; known = refl; limit = refl; size = refl }
 safe_come_back fifo (Some byte) r w = safe_unscheduled fifo r byte 0 Looped refl w refl
 
 pub safe_bring : (loopback fifo : Bool) (r : ReceiverState) (byte errors : ℕ) → IsSoundReceiver fifo r →
     IsWithin errors LSR.CHARACTER_ERRORS.0 → Safe fifo r.arrived r (arrive_live loopback fifo byte errors r)
-safe_bring true fifo r byte errors w l = record { sound = w; number = refl; known = refl; limit = refl }
+safe_bring true fifo r byte errors w l = record { sound = w; number = refl; known = refl; limit = refl; size = refl }
 safe_bring false fifo r byte errors w l = safe_unscheduled fifo r byte errors Live refl w l
 
 -- ---- a tick
@@ -340,6 +347,7 @@ safe_tick fifo place r w = idle (come_back fifo place r) (safe_come_back fifo pl
       number = a.number;
       known = a.known;
       limit = a.limit;
+      size = a.size;
     }
 
 -- ---- the front is taken
@@ -350,14 +358,14 @@ safe_take_front fifo r w = go r.queue refl
     go : (queue : List Character) → r.queue ≡ queue → Safe fifo r.arrived r (take_front r.queue r)
     go [] e =
         let f : take_front r.queue r ≡ r = ap (λ (xs : List Character). take_front xs r) e in
-        rw f (record { sound = w; number = refl; known = refl; limit = refl })
+        rw f (record { sound = w; number = refl; known = refl; limit = refl; size = refl })
     go (front ∷ others) e =
         let f : take_front r.queue r ≡ take_front (front ∷ others) r = ap (λ (xs : List Character). take_front xs r) e in
         let waits : AllInQueue r.arrived r.marks r.is_unscheduled_lost (front ∷ others) = rw e at w.marked.wait in
         let distinct : Distinct (front ∷ others) = rw e at w.marked.distinct in
         let rest : NoOther (front ∷ others) r.marks = rw e at w.no_other in
         let legal : AllErrorsLegal (front ∷ others) = rw e at w.legal in
-        let few : length (front ∷ others) ≤ room fifo = rw e at w.marked.in_room in
+        let few : length (front ∷ others) ≤ room fifo r.size = rw e at w.marked.in_room in
         let same : length (set_mark front.origin Read r.marks) ≡ length r.marks = length-set_mark front.origin Read r.marks in
         rw f (record {
           sound = record {
@@ -376,6 +384,7 @@ safe_take_front fifo r w = go r.queue refl
           number = refl;
           known = same;
           limit = refl;
+          size = refl;
         })
 
 -- ---- what waits is discarded
@@ -422,6 +431,7 @@ safe_clear fifo on r w =
       number = refl;
       known = same;
       limit = refl;
+      size = refl;
     }
 
 -- ---- flags alone

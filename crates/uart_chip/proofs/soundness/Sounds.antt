@@ -61,6 +61,7 @@ steady_receiver arrived c s w a = record {
     transmitter = w.transmitter;
     modem = w.modem;
     latches = w.latches;
+    sizes = (w.sizes.0, a.size ∙ w.sizes.1);
     implemented = w.implemented;
     limit = a.limit ∙ w.limit;
   };
@@ -70,14 +71,15 @@ steady_receiver arrived c s w a = record {
 
 -- the transmitter
 pub steady_transmitter : (c : ChipState) (t : TransmitterState) → IsSoundChip c → IsSoundTransmitter c.fifo t →
-    t.char_ticks ≡ c.transmitter.char_ticks →
+    t.char_ticks ≡ c.transmitter.char_ticks → t.size ≡ c.transmitter.size →
     Steady c.receiver.arrived c (record c { transmitter = t })
-steady_transmitter c t w a e = record {
+steady_transmitter c t w a e s = record {
   sound = record {
     receiver = w.receiver;
     transmitter = a;
     modem = w.modem;
     latches = w.latches;
+    sizes = (s ∙ w.sizes.0, w.sizes.1);
     implemented = w.implemented;
     limit = w.limit ∙ ap (λ n. 4 * n) (sym e);
   };
@@ -94,6 +96,7 @@ steady_latches c l w a = record {
     modem = w.modem;
     latches = a;
     implemented = w.implemented;
+    sizes = w.sizes;
     limit = w.limit;
   };
   number = refl;
@@ -124,6 +127,29 @@ char_ticks-tick loopback t =
     let u : TransmitterState = transmitter.shift loopback t.shift_register t in
     char_ticks-refill u.shift_register u.queue u ∙ char_ticks-shift loopback t.shift_register t
 
+-- the size stays
+size_if : (t x y : TransmitterState) (b : Bool) → x.size ≡ t.size → y.size ≡ t.size → (if b then x else y).size ≡ t.size
+size_if t x y true p q = p
+size_if t x y false p q = q
+
+pub size-load : (fifo : Bool) (byte : ℕ) (t : TransmitterState) → (load fifo byte t).size ≡ t.size
+size-load fifo byte t = size_if t _ _ (nat_lt (length t.queue) (transmitter.room fifo t.size)) refl refl
+
+size-shift : (loopback : Bool) (place : Option Shifting) (t : TransmitterState) → (transmitter.shift loopback place t).size ≡ t.size
+size-shift loopback None t = refl
+size-shift loopback (Some s) t =
+    size_if t _ _ (nat_lt 1 s.ticks_left) refl
+    (size_if t _ _ loopback refl (size_if t _ _ (nat_lt (length t.wire) t.capacity) refl refl))
+
+size-refill : (place : Option Shifting) (queue : List ℕ) (t : TransmitterState) → (transmitter.refill place queue t).size ≡ t.size
+size-refill None (x ∷ []) t = refl
+size-refill _ _ t = refl
+
+pub size-tick : (loopback : Bool) (t : TransmitterState) → (transmitter.tick loopback t).size ≡ t.size
+size-tick loopback t =
+    let u : TransmitterState = transmitter.shift loopback t.shift_register t in
+    size-refill u.shift_register u.queue u ∙ size-shift loopback t.shift_register t
+
 pub steady_tick : (c : ChipState) → IsSoundChip c → Steady c.receiver.arrived c (tick c)
 steady_tick c w =
     let loopback : Bool = is_loopback c.latches in
@@ -132,7 +158,8 @@ steady_tick c w =
     steady_receiver c.receiver.arrived c (receiver.tick c.fifo looped c.receiver) w (safe_tick c.fifo looped c.receiver w.receiver) in
     let b =
     steady_transmitter (record c { receiver = receiver.tick c.fifo looped c.receiver }) (transmitter.tick loopback c.transmitter) a.sound
-    (sound_shift_tick c.fifo loopback c.transmitter w.transmitter) (char_ticks-tick loopback c.transmitter) in
+    (sound_shift_tick c.fifo loopback c.transmitter w.transmitter) (char_ticks-tick loopback c.transmitter)
+    (size-tick loopback c.transmitter) in
     record { sound = b.sound; number = a.number; known = a.known }
 
 pub steady_ticks : (n : ℕ) (c : ChipState) → IsSoundChip c → Steady c.receiver.arrived c (ticks n c)
@@ -159,6 +186,7 @@ steady_lines inputs c w i = record {
     modem = sound_renew c.latches.mcr inputs c.modem i w.modem;
     latches = w.latches;
     implemented = w.implemented;
+    sizes = w.sizes;
     limit = w.limit;
   };
   number = refl;
@@ -175,6 +203,7 @@ steady_unchanged c w = record {
     modem = record { inputs = w.modem.inputs; lines = w.modem.lines; deltas = refl };
     latches = w.latches;
     implemented = w.implemented;
+    sizes = w.sizes;
     limit = w.limit;
   };
   number = refl;
@@ -184,10 +213,10 @@ steady_unchanged c w = record {
 steady_reads : (offset : ℕ) (c d : ChipState) → ReadMove offset c d → IsSoundChip c → Steady c.receiver.arrived c d
 steady_reads offset c d (stays e) w = steady_refl c w
 steady_reads offset c d (takes e q) w = steady_receiver c.receiver.arrived c _ w (safe_take_front c.fifo c.receiver w.receiver)
-steady_reads offset c d (acknowledges e) w = steady_transmitter c _ w (sound_pending c.fifo false c.transmitter w.transmitter) refl
+steady_reads offset c d (acknowledges e) w = steady_transmitter c _ w (sound_pending c.fifo false c.transmitter w.transmitter) refl refl
 steady_reads offset c d (looks e) w =
     steady_receiver c.receiver.arrived c _ w
-    (record { sound = sound_report c.fifo c.receiver w.receiver; number = refl; known = refl; limit = refl })
+    (record { sound = sound_report c.fifo c.receiver w.receiver; number = refl; known = refl; limit = refl; size = refl })
 steady_reads offset c d (sees e) w = steady_unchanged c w
 
 pub steady_read : (offset : ℕ) (c : ChipState) → IsSoundChip c → Steady c.receiver.arrived c (after_read offset c)
@@ -204,6 +233,7 @@ steady_switch on c w has_fifo =
         transmitter = sound_clear c.fifo on c.transmitter.is_thr_pending c.transmitter w.transmitter;
         modem = w.modem;
         latches = w.latches;
+        sizes = (w.sizes.0, a.size ∙ w.sizes.1);
         implemented = λ e. has_fifo;
         limit = a.limit ∙ w.limit;
       };
@@ -221,6 +251,7 @@ steady_enable value c w = record {
     modem = w.modem;
     latches = record { ier = within_and value ier_bits; mcr = w.latches.mcr };
     implemented = w.implemented;
+    sizes = w.sizes;
     limit = w.limit;
   };
   number = refl;
@@ -236,6 +267,7 @@ steady_modem_control value c w = record {
     modem = sound_renew (bit_and value mcr_bits) c.modem.inputs c.modem w.modem.inputs w.modem;
     latches = record { ier = w.latches.ier; mcr = within_and value mcr_bits };
     implemented = w.implemented;
+    sizes = w.sizes;
     limit = w.limit;
   };
   number = refl;
@@ -247,7 +279,7 @@ kept_latches : (c : ChipState) (l : LatchesState) → IsSoundChip c → l.ier �
 kept_latches c l w p q = steady_latches c l w (record { ier = rw p w.latches.ier; mcr = rw q w.latches.mcr })
 
 char_ticks-load : (fifo : Bool) (byte : ℕ) (t : TransmitterState) → (load fifo byte t).char_ticks ≡ t.char_ticks
-char_ticks-load fifo byte t = either _ _ (nat_lt (length t.queue) (transmitter.room fifo)) refl refl
+char_ticks-load fifo byte t = either _ _ (nat_lt (length t.queue) (transmitter.room fifo t.size)) refl refl
   where
     either : (x y : TransmitterState) (b : Bool) → x.char_ticks ≡ t.char_ticks → y.char_ticks ≡ t.char_ticks →
         (if b then x else y).char_ticks ≡ t.char_ticks
@@ -259,13 +291,15 @@ steady_writes offset value c d (ignores e) w = steady_refl c w
 steady_writes offset value c d (sends e q) w =
     steady_transmitter c (load c.fifo (cut_of c value) c.transmitter) w
     (sound_load c.fifo (cut_of c value) c.transmitter w.transmitter) (char_ticks-load c.fifo (cut_of c value) c.transmitter)
+    (size-load c.fifo (cut_of c value) c.transmitter)
 steady_writes offset value c d (enables e q) w = steady_enable value c w
 steady_writes offset value c d (switches e has_fifo on) w = steady_switch on c w has_fifo
 steady_writes offset value c d (clears e) w = steady_receiver c.receiver.arrived c _ w (safe_clear c.fifo c.fifo c.receiver w.receiver)
-steady_writes offset value c d (empties e) w = steady_transmitter c _ w (sound_clear c.fifo c.fifo true c.transmitter w.transmitter) refl
+steady_writes offset value c d (empties e) w =
+    steady_transmitter c _ w (sound_clear c.fifo c.fifo true c.transmitter w.transmitter) refl refl
 steady_writes offset value c d (triggers e level) w =
     steady_receiver c.receiver.arrived c _ w
-    (record { sound = sound_trigger c.fifo c.receiver level w.receiver; number = refl; known = refl; limit = refl })
+    (record { sound = sound_trigger c.fifo c.receiver level w.receiver; number = refl; known = refl; limit = refl; size = refl })
 steady_writes offset value c d (steers e) w = steady_modem_control value c w
 steady_writes offset value c d _ w = kept_latches c _ w refl refl
 

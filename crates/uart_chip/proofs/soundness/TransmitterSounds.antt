@@ -64,7 +64,7 @@ sound_refill fifo None (x ∷ []) t e w = record {
   on_wire = w.on_wire;
 }
 sound_refill fifo None (x ∷ y ∷ xs) t e w =
-    let few : length (x ∷ y ∷ xs) ≤ room fifo = rw e at w.in_room in
+    let few : length (x ∷ y ∷ xs) ≤ room fifo t.size = rw e at w.in_room in
     record {
       in_room = omega (arith, few);
       ticking = (w.at_least_one, omega arith);
@@ -80,8 +80,8 @@ sound_tick fifo loopback t w =
 
 pub sound_load : (fifo : Bool) (byte : ℕ) (t : TransmitterState) → IsSoundTransmitter fifo t → IsSoundTransmitter fifo (load fifo byte t)
 sound_load fifo byte t w =
-    sound_if fifo _ _ (nat_lt (length t.queue) (room fifo)) (λ free. record {
-      in_room = next t.queue (room fifo) free;
+    sound_if fifo _ _ (nat_lt (length t.queue) (room fifo t.size)) (λ free. record {
+      in_room = next t.queue (room fifo t.size) free;
       ticking = w.ticking;
       at_least_one = w.at_least_one;
       at_most = w.at_most;
@@ -98,7 +98,7 @@ sound_load fifo byte t w =
     next : (queue : List ℕ) (n : ℕ) → nat_lt (length queue) n ≡ true → length (queue ++ byte ∷ []) ≤ n
     next queue n e = let free : length queue < n = grind (arith, common_steps) in simp length-append (omega arith)
 
-    kept : (fifo : Bool) → length t.queue ≤ room fifo → length (if fifo then t.queue else byte ∷ []) ≤ room fifo
+    kept : (fifo : Bool) → length t.queue ≤ room fifo t.size → length (if fifo then t.queue else byte ∷ []) ≤ room fifo t.size
     kept true h = h
     kept false h = omega arith
 

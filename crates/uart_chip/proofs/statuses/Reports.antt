@@ -170,9 +170,10 @@ reports-replaced r s new i p o =
     reports-from false r s (λ h. record { some = rw i (omega arith); reported = inr (refl, o) }) (λ f others e j. absurd (cc))
 
 pub reports-arrive : (fifo : Bool) (r : ReceiverState) (byte errors : ℕ) → Reports fifo r (arrive false fifo byte errors r) [] 0
-reports-arrive fifo r byte errors = go (nat_lt (length r.queue) (room fifo)) refl
+reports-arrive fifo r byte errors = go (nat_lt (length r.queue) (room fifo r.size)) refl
   where
-    full : (on : Bool) → fifo ≡ on → nat_lt (length r.queue) (room fifo) ≡ false → Reports fifo r (arrive false fifo byte errors r) [] 0
+    full : (on : Bool) → fifo ≡ on → nat_lt (length r.queue) (room fifo r.size) ≡ false →
+        Reports fifo r (arrive false fifo byte errors r) [] 0
     full true q e = rw (e, q) (reports-full r _ refl refl)
     full false q e = rw (e, q) (swap r.queue refl (rw q at e))
       where
@@ -188,7 +189,7 @@ reports-arrive fifo r byte errors = go (nat_lt (length r.queue) (room fifo)) ref
             ap (λ (xs : List Character). replace xs came later) i in
             rw f (reports-replaced r (replace (old ∷ others) came later) came refl refl refl)
 
-    go : (b : Bool) → nat_lt (length r.queue) (room fifo) ≡ b → Reports fifo r (arrive false fifo byte errors r) [] 0
+    go : (b : Bool) → nat_lt (length r.queue) (room fifo r.size) ≡ b → Reports fifo r (arrive false fifo byte errors r) [] 0
     go true e = rw e (reports-room fifo r _ (record { byte = byte; errors = errors; origin = Arrived r.arrived }) refl refl refl)
     go false e = full fifo refl e
 

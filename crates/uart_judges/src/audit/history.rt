@@ -10,6 +10,7 @@ use crate::audit::step::Step;
 use crate::audit::unread::Unread;
 use bitflags::Flags;
 use uart_chip::receiving::characters_of;
+use uart_spec::FifoSize;
 use uart_spec::registers::{FCR, IER, ISR, InterruptType, LCR, LSR, MSR};
 
 // Returns whether something happened, and since then nothing that resets it.
@@ -76,12 +77,12 @@ fn is_thr_due_after(is_due: bool, is_thr_empty: bool, step: Step) -> bool
     }
 }
 
-// Returns the number of bytes at which a data interrupt comes.
+// Returns the number of bytes at which a data interrupt comes from a FIFO of 16.
 fn level(setup: Setup) -> u8
     ensures { result ≡ spec.level setup.has_fifo setup.trigger }
 {
     match (setup.has_fifo, setup.trigger) {
-        (Some(true), Some(trigger)) => characters_of(trigger),
+        (Some(true), Some(trigger)) => characters_of(FifoSize::Sixteen, trigger),
         _ => 1,
     }
 }

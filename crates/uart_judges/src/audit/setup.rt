@@ -4,12 +4,14 @@ ghost use Rattle.std.specs.Option.{option_map};
 ghost use Rattle.uart_chip.specs.Receiver.{characters_of};
 ghost use Rattle.uart_judges.specs.Setups.{besides_thr_empty, next_setup, same, same_setup, unknown_setup};
 ghost use Rattle.uart_spec.specs.Bits.{flag};
+ghost use Rattle.uart_spec.specs.declared.setup.FifoSize.TheVariants.{Sixteen};
 
 use crate::audit::action::Action;
 use crate::audit::shows::level_of;
 use bitflags::Flags;
 use std::fmt;
 use uart_chip::receiving::characters_of;
+use uart_spec::FifoSize;
 use uart_spec::registers::{FCR, FifoTriggerLevel, IER, ISR, LCR, MCR, Parity};
 
 /// The bytes of the divisor, as far as they were written.
@@ -72,10 +74,10 @@ fn fifo_number(has_fifo: Option<bool>) -> Option<u8>
 }
 
 fn trigger_number(trigger: Option<FifoTriggerLevel>) -> Option<u8>
-    ensures { result ≡ option_map characters_of trigger }
+    ensures { result ≡ option_map (characters_of Sixteen) trigger }
 {
     match trigger {
-        Some(level) => Some(characters_of(level)),
+        Some(level) => Some(characters_of(FifoSize::Sixteen, level)),
         None => None,
     }
 }
@@ -217,7 +219,11 @@ impl Setup {
     fn write_fifo<W: fmt::Write>(&self, f: &mut fmt::Formatter<W>) -> fmt::Result {
         match (self.has_fifo, self.trigger) {
             (Some(true), Some(level)) => {
-                write!(f, ", FIFOs on with trigger level {}", characters_of(level))
+                write!(
+                    f,
+                    ", FIFOs on with trigger level {}",
+                    characters_of(FifoSize::Sixteen, level)
+                )
             }
             (Some(true), None) => f.write_str(", FIFOs on"),
             (Some(false), _) => f.write_str(", FIFOs off"),

@@ -1,10 +1,11 @@
 //! From the receive ring to the caller, each byte with the errors that are noted of it.
-ghost use Rattle.std.specs.Prelude.{◌≡◌, ◌<◌, ◌≤◌, true, length, take, drop, min};
+ghost use Rattle.std.specs.Prelude.{◌≡◌, ◌<◌, ◌≤◌, ◌-◌, true, length, take, drop, min};
 ghost use Rattle.std.specs.Prelude.{IfErr, IfOk, is_ok};
 ghost use Rattle.uart_ring.specs.Notes.{NotesErrors, bytes_of, errors_in, errors_of, unnoted_in};
+ghost use Rattle.uart_ring.specs.Notes.{errors_among, unnoted_among};
 ghost use Rattle.uart_ring.specs.Queue.{latest};
-ghost use Rattle.uart_ring.specs.Receive.{TakesBytes};
-ghost use Rattle.uart_ring.specs.Ring.{RingDid, ring_fields};
+ghost use Rattle.uart_ring.specs.Receive.{EndsPause, TakesBytes};
+ghost use Rattle.uart_ring.specs.Ring.{IfAny, RingDid, ring_fields, without_taken};
 
 use super::Uart16550Ring;
 use crate::notes::{ErrorNotes, UnnotedError};
@@ -34,6 +35,89 @@ fn copy_with_errors(bytes: &ByteQueue, noted: &ByteQueue, slots: &mut [Received]
         *slot = Received { byte, errors };
     }
     slots.len()
+}
+
+// Copies the first bytes with the errors that are noted of them, as many as there are slots, and
+// returns how many, unless fewer errors are noted than there are bytes.
+fn copy_noted(
+    bytes: &ByteQueue,
+    noted: &ByteQueue,
+    slots: &mut [Received],
+) -> Result<usize, UnnotedError>
+    ensures count { IfOk result (λ count.
+        count ≡ min (length slots.old) (length bytes.now.items)) }
+    ensures bytes { IfOk result (λ count.
+        bytes_of (take count slots.new) ≡ take count bytes.now.items) }
+    ensures errors { IfOk result (λ count. errors_of (take count slots.new) ≡
+        take count (latest (length bytes.now.items) noted.now.items)) }
+    ensures rest { IfOk result (λ count. drop count slots.new ≡ drop count slots.old) }
+    ensures noted { length bytes.now.items - length noted.now.items ≡ 0 → is_ok result ≡ true }
+    ensures all_noted { IfOk result (λ count.
+        length bytes.now.items - length noted.now.items ≡ 0) }
+    ensures refused { IfErr result (λ error.
+        (0 < error.bytes) × (error.bytes ≡ length bytes.now.items - length noted.now.items)
+        × (slots.new ≡ slots.old)) }
+{
+    // Without this, errors would stand at other bytes, and nobody could tell.
+    if noted.len() < bytes.len() {
+        return Err(UnnotedError {
+            bytes: bytes.len() - noted.len(),
+        });
+    }
+    Ok(copy_with_errors(bytes, noted, slots))
+}
+
+impl<B: Backend> Uart16550Ring<B> {
+    /// Copies received bytes from the front of the receive ring, each with the errors that these
+    /// notes have of it, as many as there are slots, and returns how many. Takes none of them, and
+    /// leaves the other slots unchanged.
+    ///
+    /// It is for a backend that reaches the notes somewhere else, as through a pointer. What
+    /// [`take_with_errors`](Self::take_with_errors) does, this and a `take` of so many bytes do.
+    /// The notes are those that each access of the driver goes through; others tell of other bytes.
+    ///
+    /// # Errors
+    ///
+    /// `UnnotedError` if fewer errors are noted than bytes are in the receive ring. Then nothing is
+    /// copied.
+    ///
+    /// # Examples
+    ///
+    /// ```
+    /// let count = ring.copy_with_notes(notes, &mut slots)?;
+    /// ```
+    pub fn copy_with_notes<N>(
+        &self,
+        notes: &ErrorNotes<N>,
+        slots: &mut [Received],
+    ) -> Result<usize, UnnotedError>
+        ensures count { IfOk result (λ count. count ≡ min (length slots.old)
+            (length (ring_fields self.now).receive.items)) }
+        ensures bytes { IfOk result (λ count. bytes_of (take count slots.new) ≡
+            take count (ring_fields self.now).receive.items) }
+        ensures errors { IfOk result (λ count. errors_of (take count slots.new) ≡
+            take count (errors_among notes.now.noted.items self.now)) }
+        ensures rest { IfOk result (λ count. drop count slots.new ≡ drop count slots.old) }
+        ensures noted { unnoted_among notes.now.noted.items self.now ≡ 0 → is_ok result ≡ true }
+        ensures all_noted { IfOk result (λ count.
+            unnoted_among notes.now.noted.items self.now ≡ 0) }
+        ensures refused { IfErr result (λ error.
+            (0 < error.bytes) × (error.bytes ≡ unnoted_among notes.now.noted.items self.now)
+            × (slots.new ≡ slots.old)) }
+    {
+        copy_noted(&self.receive, &notes.noted, slots)
+    }
+
+    // Drops so many bytes that were taken from the front of the receive ring.
+    pub(crate) fn drop_taken(&mut self, count: usize)
+        requires { count ≤ length (ring_fields self.old).receive.items }
+        ensures { RingDid B.step
+            (λ f l after. IfAny count EndsPause (without_taken count f) l after)
+            self.old self.new }
+    {
+        self.receive.drop_front(count);
+        self.end_pause(count);
+    }
 }
 
 impl<B: Backend> Uart16550Ring<ErrorNotes<B>> {
@@ -89,15 +173,8 @@ impl<B: Backend> Uart16550Ring<ErrorNotes<B>> {
             × (self.new ≡ self.old) × (slots.new ≡ slots.old)) }
     {
         let noted = &self.uart.backend().noted;
-        // Without this, errors would stand at other bytes, and nobody could tell.
-        if noted.len() < self.receive.len() {
-            return Err(UnnotedError {
-                bytes: self.receive.len() - noted.len(),
-            });
-        }
-        let count = copy_with_errors(&self.receive, noted, slots);
-        self.receive.drop_front(count);
-        self.end_pause(count);
+        let count = copy_noted(&self.receive, noted, slots)?;
+        self.drop_taken(count);
         Ok(count)
     }
 }

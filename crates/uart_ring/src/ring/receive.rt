@@ -1,10 +1,12 @@
 //! From the chip to the receive ring, and from there to the caller.
-ghost use Rattle.std.specs.Prelude.{◌≡◌, length, take, drop, min, Some};
+ghost use Rattle.std.specs.Prelude.{◌≡◌, length, take, drop, min, Some, None};
 ghost use Rattle.uart_ring.specs.Ring.{IfAny, RingDid, ring_fields};
 ghost use Rattle.uart_ring.specs.Receive.{PausesIfFull, FillsReceiveRing, EndsPause};
 ghost use Rattle.uart_ring.specs.Receive.{TakesBytes, ClearsReceive};
 ghost use Rattle.uart_ring.specs.Receive.{AdjustsRts, MakesRtsIfAny};
 ghost use Rattle.uart_ring.specs.Receive.{AdjustsXoff, TellsIfAny, rts_at, to_tell};
+ghost use Rattle.uart_ring.specs.Receive.{ObeysXoff, last_told};
+ghost use Rattle.uart_ring.specs.Queue.{latest};
 ghost use Rattle.uart_ring.specs.Ring.{free};
 ghost use Rattle.uart_16550.specs.Frame.{switched};
 
@@ -62,6 +64,7 @@ impl<B: Backend> Uart16550Ring<B> {
         let mut slots = [0; FIFO_SIZE];
         let room = FIFO_SIZE.min(self.receive.capacity() - self.receive.len());
         let count = self.uart.receive_bytes(&mut slots[..room]);
+        self.unlooked = self.unlooked.min(self.receive.len()) + count;
         self.receive.fill_from_slice(&slots[..count]);
         self.pause_if_full();
     }
@@ -118,6 +121,7 @@ impl<B: Backend> Uart16550Ring<B> {
         self.end_pause(count);
         count
     }
+
     // Returns whether the other end may send, or `None` if that is to stay as it is.
     fn may_send(&self, marks: ReceiveMarks) -> Option<bool>
         ensures { result ≡ rts_at marks (free (ring_fields self.now).receive) }
@@ -222,5 +226,61 @@ impl<B: Backend> Uart16550Ring<B> {
     {
         let on = self.may_send(marks)?;
         self.tell(on)
+    }
+
+    // Returns the last XON or XOFF of the bytes at which `obey_xoff` has not looked yet.
+    fn last_told(&self) -> Option<u8>
+        ensures { result ≡ last_told None (latest self.now.unlooked self.now.receive.items) }
+    {
+        let mut told = None;
+        let len = self.receive.len();
+        for place in len - self.unlooked.min(len)..len {
+            let byte = self.receive.byte_at(place);
+            if byte == XON || byte == XOFF {
+                told = Some(byte);
+            }
+        }
+        told
+    }
+
+    /// Obeys the other end, which holds this end back by XOFF and lets it go on by XON: holds the
+    /// transmit ring if it told XOFF last, and releases it if it told XON last. Returns that
+    /// character, or `None` if none came.
+    ///
+    /// It looks at the bytes that came into the receive ring since it looked last, and were not
+    /// taken meanwhile. So it sees each character once, and of several the last one counts. All
+    /// bytes stay in the receive ring, in their order and with their errors: a program whose
+    /// readers are to see neither character leaves both out of what it takes. Bytes of these values
+    /// are taken for the characters, so this is for text.
+    ///
+    /// The hold is that of `hold_transmit`. A program that holds the ring for a reason of its own
+    /// does not call this meanwhile: the characters wait, and the next call obeys the last one.
+    /// What is in the chip goes out after an XOFF, and an urgent byte still does.
+    ///
+    /// Call it at the end of the interrupt handler, before the program takes what came. While
+    /// receiving is paused the characters stay in the chip: so choose a receive ring with room, or
+    /// an XON behind a full one is seen only after a `take`.
+    ///
+    /// Does not wait. At an XON it makes the accesses of a `release_transmit`. Otherwise it makes
+    /// none.
+    ///
+    /// # Examples
+    ///
+    /// ```
+    /// ring.handle(32);
+    /// ring.obey_xoff();
+    /// ```
+    pub fn obey_xoff(&mut self) -> Option<u8>
+        ensures { RingDid B.step (ObeysXoff result) self.old self.new }
+    {
+        let told = self.last_told();
+        self.unlooked = 0;
+        let byte = told?;
+        if byte == XON {
+            self.release_transmit();
+        } else {
+            self.hold_transmit();
+        }
+        told
     }
 }

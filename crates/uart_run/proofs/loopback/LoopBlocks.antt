@@ -10,7 +10,9 @@ use Rattle.uart_spec.specs.Access.{Path}
 use Rattle.uart_spec.specs.declared.access.Access.{Access}
 use Rattle.uart_spec.specs.declared.access.Access.TheVariants.{Read, Write}
 use Rattle.uart_spec.specs.Bits.{has_any}
+use Rattle.uart_spec.specs.declared.setup.FifoSize.TheVariants.{Sixteen}
 use Rattle.uart_chip.specs.Transmitter.{room}
+use Rattle.uart_chip.proofs.Sizes.{room_least}
 use Rattle.uart_chip.specs.Chip.{ChipState, word_length, cut_to, after_read, after_write}
 use Rattle.uart_chip.specs.Machine.{MachineState, MachineStep, at_access}
 use Rattle.uart_chip.proofs.Bits.{has_or, word_same}
@@ -89,9 +91,10 @@ loops_hit x m n line byte i f h (m₁, s₁, (m₂, s₂, e)) =
     (loops_take x m₁ m₂ byte i (fits-after x x m.chip m₁.chip [] refl f a) some s₂))
 
 loops_burst : (x : Modes) (m n : MachineState) (line : ℕ) (checks : List Access) (bytes : List ℕ) → IsLooped x → IsIn x m.chip →
-    length (line_in m.chip) + length bytes ≤ room x.fifo → has_any line LSR.THR_EMPTY.0 ≡ true → AllQuiet checks →
+    length (line_in m.chip) + length bytes ≤ room x.fifo m.chip.receiver.size → length bytes ≤ room x.fifo Sixteen →
+    has_any line LSR.THR_EMPTY.0 ≡ true → AllQuiet checks →
     Path MachineStep m (Read offsets.LSR line ∷ (checks ++ map (Write offsets.DATA) bytes)) n → Loops x m.chip n.chip (map x.cut bytes) []
-loops_burst x m n line checks bytes i w few h q (m₁, s₁, p) =
+loops_burst x m n line checks bytes i w few burst h q (m₁, s₁, p) =
     let f : Fits x m.chip = record { modes = w; few = omega (arith, few) } in
     let a = loops_look x m m₁ line i.loopback f s₁ in
     let t : (length m₁.chip.transmitter.queue == 0) ≡ true = sym (look_room m m₁ line s₁) ∙ h in
@@ -100,25 +103,26 @@ loops_burst x m n line checks bytes i w few h q (m₁, s₁, p) =
     let b = loops_quiets x checks m₁ r.0 i.loopback (fits-after x x m.chip m₁.chip [] refl f a) q r.1 in
     let long_a = line-length x m.chip m₁.chip [] [] a in
     let long_b = line-length x m₁.chip r.0.chip [] [] b in
-    let c = loops_sends x bytes r.0 n i b.modes (omega (arith, long_a, long_b, few)) (omega (arith, b.place, none, few)) r.2 in
+    let same = ap (room x.fifo) (b.size ∙ a.size) in
+    let c = loops_sends x bytes r.0 n i b.modes (omega (arith, long_a, long_b, few, same)) (omega (arith, b.place, none, burst)) r.2 in
     loops-trans x x m.chip m₁.chip n.chip [] (map x.cut bytes) [] [] a
     (loops-trans x x m₁.chip r.0.chip n.chip [] (map x.cut bytes) [] [] b c)
 
 -- what a block does in loopback, where what it writes still fits into the line
 loops_block : (x : Modes) (m n : MachineState) (block : Block) → IsLooped x → IsIn x m.chip →
-    length (line_in m.chip) + length (written_in block) ≤ room x.fifo → IsFit x.fifo block → Path MachineStep m (accesses_of block) n →
-    Loops x m.chip n.chip (map x.cut (written_in block)) (read_in block)
+    length (line_in m.chip) + length (written_in block) ≤ room x.fifo m.chip.receiver.size → IsFit x.fifo block →
+    Path MachineStep m (accesses_of block) n → Loops x m.chip n.chip (map x.cut (written_in block)) (read_in block)
 loops_block x m n (Look line) i w few h p = rw p.2 (loops_look x m p.0 line i.loopback (record { modes = w; few = omega (arith, few) }) p.1)
 loops_block x m n (Hit line byte) i w few h p = loops_hit x m n line byte i (record { modes = w; few = omega (arith, few) }) h p
-loops_block x m n (Burst line checks bytes) i w few h p = loops_burst x m n line checks bytes i w few h.0 h.1 p
+loops_block x m n (Burst line checks bytes) i w few h p = loops_burst x m n line checks bytes i w few h.2 h.0 h.1 p
 loops_block x m n (Other access) i w few h p =
     rw p.2 (loops_quiet x m p.0 access i.loopback (record { modes = w; few = omega (arith, few) }) h p.1)
 loops_block x m n (Divisor lcr low high) i w few h p = loops_divisor x m n lcr low high i (record { modes = w; few = omega (arith, few) }) p
 
 -- and what a list of blocks does
 loops_blocks : (x : Modes) (blocks : List Block) (m n : MachineState) → IsLooped x → IsIn x m.chip →
-    length (line_in m.chip) + length (data_written blocks) ≤ room x.fifo → AllFit x.fifo blocks → Path MachineStep m (flat blocks) n →
-    Loops x m.chip n.chip (map x.cut (data_written blocks)) (data_read blocks)
+    length (line_in m.chip) + length (data_written blocks) ≤ room x.fifo m.chip.receiver.size → AllFit x.fifo blocks →
+    Path MachineStep m (flat blocks) n → Loops x m.chip n.chip (map x.cut (data_written blocks)) (data_read blocks)
 loops_blocks x [] m n i w few h p = loops_none x m n w p
 loops_blocks x (block ∷ blocks) m n i w few h p =
     let q = path_split MachineStep m n (accesses_of block) (flat blocks) p in
@@ -127,16 +131,17 @@ loops_blocks x (block ∷ blocks) m n i w few h p =
     let a = loops_block x m q.0 block i w (omega (arith, e, few)) h.0 q.1 in
     let long = line-length x m.chip q.0.chip (map x.cut (written_in block)) (read_in block) a in
     let size : length (map x.cut (written_in block)) ≡ length (written_in block) = length-map (written_in block) x.cut in
+    let same = ap (room x.fifo) a.size in
     let both : map x.cut (written_in block) ++ map x.cut (data_written blocks) ≡ map x.cut (written_in block ++ data_written blocks) =
     sym (map-append x.cut (written_in block) (data_written blocks)) in
     subst (λ (ws : List ℕ). Loops x m.chip n.chip ws (read_in block ++ data_read blocks)) both
     (loops-trans x x m.chip q.0.chip n.chip (map x.cut (written_in block)) (map x.cut (data_written blocks))
     (read_in block) (data_read blocks) a
-    (loops_blocks x blocks q.0 n i a.modes (omega (arith, e, long, size, few)) h.1 q.2))
+    (loops_blocks x blocks q.0 n i a.modes (omega (arith, e, long, size, few, same)) h.1 q.2))
 
 -- what accesses in blocks do
 pub loops_in_blocks : (x : Modes) (m n : MachineState) (made : List Access) (ws rs : List ℕ) → IsLooped x → IsIn x m.chip →
-    length (line_in m.chip) + length ws ≤ room x.fifo → InBlocks x.fifo made ws rs → Path MachineStep m made n →
+    length (line_in m.chip) + length ws ≤ room x.fifo m.chip.receiver.size → InBlocks x.fifo made ws rs → Path MachineStep m made n →
     Loops x m.chip n.chip (map x.cut ws) rs
 loops_in_blocks x m n made ws rs i w few b p =
     let a = loops_blocks x b.blocks m n i w (rw b.is_written few) b.fit (rw b.joined at p) in
@@ -167,11 +172,12 @@ pub record CameBack (x : Modes) (gone : List ℕ) (c : ChipState) (written read 
   pub idle : IsIdle x gone c
 
 pub comes_back : (x : Modes) (gone : List ℕ) (m n : MachineState) (made : List Access) (ws rs : List ℕ) → IsLooped x →
-    IsIdle x gone m.chip → length ws ≤ room x.fifo → length rs ≡ length ws → InBlocks x.fifo made ws rs → Path MachineStep m made n →
-    CameBack x gone n.chip (map x.cut ws) rs
+    IsIdle x gone m.chip → length ws ≤ room x.fifo Sixteen → length rs ≡ length ws → InBlocks x.fifo made ws rs →
+    Path MachineStep m made n → CameBack x gone n.chip (map x.cut ws) rs
 comes_back x gone m n made ws rs i idle few all b p =
     let none : length (line_in m.chip) ≡ 0 = ap length idle.line in
-    let a = loops_in_blocks x m n made ws rs i idle.modes (omega (arith, none, few)) b p in
+    let any = room_least x.fifo m.chip.receiver.size in
+    let a = loops_in_blocks x m n made ws rs i idle.modes (omega (arith, none, few, any)) b p in
     let e : rs ++ line_in n.chip ≡ map x.cut ws = a.line ∙ ap (λ zs. zs ++ map x.cut ws) idle.line in
     let s = same_lists rs (line_in n.chip) (map x.cut ws) e (all ∙ sym (length-map ws x.cut)) in
     record { same = s.0; idle = record { modes = a.modes; line = s.1; wire = a.wire ∙ idle.wire } }

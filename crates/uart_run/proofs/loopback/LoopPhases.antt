@@ -19,6 +19,7 @@ use Rattle.uart_16550.specs.Loopback.{test_byte, test_message, TakesOne, DrainsL
 use Rattle.uart_16550.specs.Loopback.{SendsTestByte, Echo, WholeEchoes, EachEchoes, HasEchoedAll}
 use Rattle.uart_chip.specs.declared.receiver.Character.{Character}
 use Rattle.uart_chip.specs.declared.transmitter.Shifting.{Shifting}
+use Rattle.uart_spec.specs.declared.setup.FifoSize.TheVariants.{Sixteen}
 use Rattle.uart_chip.specs.Transmitter.{room, shift_bytes}
 use Rattle.uart_chip.specs.Chip.{ChipState}
 use Rattle.uart_chip.specs.Machine.{MachineState, MachineStep}
@@ -112,7 +113,7 @@ pub record Exchanged (x : Modes) (gone : List ℕ) (s : Settings) (n : MachineSt
   pub ready : IsReadyToTest x gone s n
 
 exchanged : (x : Modes) (gone : List ℕ) (s : Settings) (L : Language) (l : List Access) (m n : MachineState) (ws rs : List ℕ) →
-    IsReadyToTest x gone s m → length ws ≤ room s.fifo → length rs ≡ length ws → Makes s L ws rs → L s l → Path MachineStep m l n →
+    IsReadyToTest x gone s m → length ws ≤ room s.fifo Sixteen → length rs ≡ length ws → Makes s L ws rs → L s l → Path MachineStep m l n →
     Exchanged x gone s n ws rs
 exchanged x gone s L l m n ws rs r few all makes t path =
     let B : Bool → Type 0 = λ fifo. InBlocks fifo l ws rs in
@@ -132,7 +133,8 @@ byte_exchanged x gone s actual l m n r t path =
 
 -- the message, whole
 whole_exchanged : (x : Modes) (gone : List ℕ) (s : Settings) (sent got : List ℕ) (l : List Access) (m n : MachineState) →
-    IsReadyToTest x gone s m → length sent ≤ room s.fifo → WholeEchoes sent got s l → Path MachineStep m l n → Exchanged x gone s n sent got
+    IsReadyToTest x gone s m → length sent ≤ room s.fifo Sixteen → WholeEchoes sent got s l → Path MachineStep m l n →
+    Exchanged x gone s n sent got
 whole_exchanged x gone s sent got l m n r few t path =
     let both = Then (SendsAll sent) (InOrder Awaited got) in
     let makes : Makes s both (sent ++ []) got = λ k u.

@@ -1,5 +1,5 @@
 -- In loopback no wait of a test is in vain, where ticks come before each access and the spin limit is long enough.
-use Rattle.std.proofs.Common.{◌≡◌, ℕ, zero, suc, ◌+◌, ◌*◌, ◌≤◌, ◌<◌, Bool, true, false, List, [], ◌∷◌}
+use Rattle.std.proofs.Common.{sym, ◌≡◌, ℕ, zero, suc, ◌+◌, ◌*◌, ◌≤◌, ◌<◌, Bool, true, false, List, [], ◌∷◌}
 use Rattle.std.proofs.Common.{◌++◌, length, append-nil, map, Option, None, refl, arith, ◌∙◌, ap, subst}
 use Rattle.std.proofs.lemmas.Grind.{common_steps}
 use Rattle.std.proofs.lemmas.Bool.{lt-ltb}
@@ -16,14 +16,17 @@ use Rattle.uart_16550.specs.Transmit.{SendMiss}
 use Rattle.uart_16550.specs.Loopback.{TakesOne, DrainsLoopback}
 use Rattle.uart_chip.specs.declared.transmitter.Shifting.{Shifting}
 use Rattle.uart_chip.specs.declared.receiver.Character.{Character}
+use Rattle.uart_spec.specs.FifoSize.{characters}
+use Rattle.uart_spec.specs.declared.setup.FifoSize.TheVariants.{Sixteen}
 use Rattle.uart_chip.specs.Transmitter.{room, out, shift_bytes}
+use Rattle.uart_chip.proofs.Sizes.{room_least, room_within}
 use Rattle.uart_chip.specs.Chip.{ChipState}
 use Rattle.uart_chip.specs.Machine.{MachineState, MachineStep}
 use Rattle.uart_chip.specs.Sound.{IsSound}
-use Rattle.uart_run.specs.Progress.{IsTicked, left}
+use Rattle.uart_run.specs.Progress.{IsTicked, left, most_held}
 use Rattle.uart_chip.proofs.Bits.{has_one}
 use Rattle.uart_chip.proofs.soundness.Sounds.{sound_path}
-use Rattle.uart_run.proofs.progress.Left.{left-most}
+use Rattle.uart_run.proofs.progress.Left.{exceeds, left-most}
 use Rattle.uart_run.proofs.progress.Nearing.{Runs, ticked-path}
 use Rattle.uart_chip.proofs.lasting.Constants.{same_pace}
 use Rattle.uart_chip.proofs.conservation.Went.{Modes, loopback-in}
@@ -41,17 +44,22 @@ use Rattle.uart_run.proofs.progress.WaitEnds.{Awaited, no_stall, all_empty}
 pub record Lives (limit : ℕ) (m : MachineState) : Type 0 where
   pub sound : IsSound m
   pub ticked : IsTicked m
-  pub enough : 17 * (m.chip.transmitter.char_ticks + 1) ≤ limit
+  pub enough : most_held m.chip.transmitter * (m.chip.transmitter.char_ticks + 1) ≤ limit
 
 pub lives-path : (limit : ℕ) (made : List Access) (m n : MachineState) → Lives limit m → Path MachineStep m made n → Lives limit n
 lives-path limit made m n v p = record {
   sound = sound_path made m n v.sound p;
   ticked = ticked-path made m n v.ticked p;
-  enough = let same = (same_pace made m n p).char_ticks in omega (arith, v.enough, same);
+  enough = let same = same_pace made m n p in rw (same.size, same.char_ticks) v.enough;
 }
 
+-- what is left, and a tick for each character
+left_and_more : (limit : ℕ) (m : MachineState) → Lives limit m →
+    left m.chip.transmitter + most_held m.chip.transmitter ≤ limit
+left_and_more limit m v = exceeds m.chip.transmitter limit (left-most m.chip v.sound.chip) v.enough
+
 few_left : (limit : ℕ) (m : MachineState) → Lives limit m → left m.chip.transmitter < limit
-few_left limit m v = let most = left-most m.chip.fifo m.chip.transmitter v.sound.chip.transmitter in omega (arith, most, v.enough)
+few_left limit m v = let less = left_and_more limit m v in omega (arith, less)
 
 -- ---- what is on its way comes back
 
@@ -91,20 +99,22 @@ data_awaited x i = record { kept = λ m n line r w step. kept m n line w step; s
 
 -- after accesses that wrote more than they read, no wait for a byte is in vain
 pub never_dry : (x : Modes) (gone : List ℕ) (s : Settings) (L : Language) (l : List Access) (m n : MachineState) (ws rs : List ℕ) →
-    Lives s.limit m → IsReadyToTest x gone s m → length ws ≤ room s.fifo → length rs < length ws → Makes s L ws rs →
+    Lives s.limit m → IsReadyToTest x gone s m → length ws ≤ room s.fifo Sixteen → length rs < length ws → Makes s L ws rs →
     Then L (AllMisses Miss) s l → Path MachineStep m l n → ⊥
 never_dry x gone s L l m n ws rs v r few more makes t path =
     let p = then_parts L (AllMisses Miss) s l m n t path in
     let B : Bool → Type 0 = λ fifo. InBlocks fifo p.front ws rs in
     let none : length (line_in m.chip) ≡ 0 = ap length r.idle.line in
-    let same : room s.fifo ≡ room x.fifo = ap room r.fifo in
-    let a = loops_in_blocks x m p.between p.front ws rs r.looped r.idle.modes (omega (arith, none, few, same))
+    let same : room s.fifo Sixteen ≡ room x.fifo Sixteen = ap (λ fifo. room fifo Sixteen) r.fifo in
+    let any = room_least x.fifo m.chip.receiver.size in
+    let there = room_least x.fifo p.between.chip.receiver.size in
+    let a = loops_in_blocks x m p.between p.front ws rs r.looped r.idle.modes (omega (arith, none, few, same, any))
     (subst B r.fifo (makes p.front p.first)) p.before in
     let size : length (map x.cut ws) ≡ length ws = length-map ws x.cut in
     let long = line-length x m.chip p.between.chip (map x.cut ws) rs a in
     let w = lives-path s.limit p.front m p.between v p.before in
     let on : OnItsWay x p.between = record {
-      fits = record { modes = a.modes; few = omega (arith, none, few, same, size, long) };
+      fits = record { modes = a.modes; few = omega (arith, none, few, same, size, long, there) };
       some = omega (arith, none, more, size, long);
     } in
     let runs : Runs p.between = record {
@@ -117,7 +127,7 @@ never_dry x gone s L l m n ws rs v r few more makes t path =
 -- ---- there is always room
 
 some_limit : (limit : ℕ) (m : MachineState) → Lives limit m → 1 ≤ limit
-some_limit limit m v = omega (arith, v.enough)
+some_limit limit m v = let less = left_and_more limit m v in omega (arith, less)
 
 pub never_full : (x : Modes) (gone : List ℕ) (s : Settings) (l : List Access) (m n : MachineState) → Lives s.limit m →
     IsReadyToTest x gone s m → AllMisses SendMiss s l → Path MachineStep m l n → ⊥
@@ -145,9 +155,12 @@ pub never_flooded : (x : Modes) (gone : List ℕ) (s : Settings) (l : List Acces
 never_flooded x gone s l m n v e t path =
     let a = takes_blocks s s.limit l t in
     let B : Bool → Type 0 = λ fifo. InBlocks fifo l [] a.0 in
-    let few : length (line_in m.chip) ≤ room x.fifo =
-    rw (← ap room e.modes.fifo, all_waits gone m.chip e.sent) v.sound.chip.receiver.marked.in_room in
+    let few : length (line_in m.chip) ≤ room x.fifo m.chip.receiver.size =
+    rw (← ap (λ fifo. room fifo m.chip.receiver.size) e.modes.fifo, all_waits gone m.chip e.sent)
+    v.sound.chip.receiver.marked.in_room in
     let b = loops_in_blocks x m n l [] a.0 e.looped e.modes (omega (arith, few)) (subst B e.fifo a.2) path in
     let long = line-length x m.chip n.chip [] a.0 b in
-    let most : room x.fifo ≤ 16 = grind (arith, common_steps) in
-    omega (arith, few, long, most, a.1, v.enough)
+    let most = room_within x.fifo m.chip.receiver.size in
+    let less = left_and_more s.limit m v in
+    let same = ap characters (v.sound.chip.sizes.1 ∙ sym v.sound.chip.sizes.0) in
+    omega (arith, few, long, most, a.1, less, same)

@@ -1,11 +1,15 @@
 -- With room on the wire, or in loopback, each tick brings the transmitter nearer to its end.
 use Rattle.std.proofs.Common.{◌≡◌, ℕ, suc, ◌+◌, ◌-◌, ◌*◌, ◌≤◌, ◌<◌, Bool, true, false, nat_lt, List, [], ◌∷◌}
 use Rattle.std.proofs.Common.{◌++◌, length, length-append, Option, Some, None, refl, arith, sym, ◌∙◌, ap, subst}
+use Rattle.std.proofs.Math.Nat.{mul-suc, mul_comm, suc-mul}
 use Rattle.std.proofs.lemmas.Grind.{common_steps}
+use Rattle.uart_spec.specs.FifoSize.{characters}
 use Rattle.uart_chip.specs.declared.transmitter.Shifting.{Shifting}
-use Rattle.uart_chip.specs.Transmitter.{TransmitterState, shift, refill, tick, out, room}
-use Rattle.uart_chip.specs.Sound.{IsTicking, IsSoundTransmitter}
-use Rattle.uart_run.specs.Progress.{left_of, left}
+use Rattle.uart_chip.specs.Transmitter.{TransmitterState, shift, refill, tick, out}
+use Rattle.uart_chip.specs.Chip.{ChipState}
+use Rattle.uart_chip.specs.Sound.{IsTicking, IsSoundTransmitter, IsSoundChip}
+use Rattle.uart_chip.proofs.Sizes.{room_within}
+use Rattle.uart_run.specs.Progress.{left_of, left, most_held}
 
 -- from t to u the end came nearer by at least so many ticks, and nothing was added to what is to go out
 pub record Nearer (least : ℕ) (t u : TransmitterState) : Type 0 where
@@ -123,17 +127,39 @@ nearer-tick fifo loopback t w free = go t.shift_register refl
 
 -- ---- how far the end is at most
 
-pub left-most : (fifo : Bool) (t : TransmitterState) → IsSoundTransmitter fifo t → left t ≤ 17 * t.char_ticks
-left-most fifo t w = go t.shift_register t.queue w.ticking w.in_room
+one_more : (n : ℕ) → n + 1 ≡ suc n
+one_more n = omega arith
+
+pub left-most : (c : ChipState) → IsSoundChip c → left c.transmitter ≤ most_held c.transmitter * c.transmitter.char_ticks
+left-most c sound = go t.shift_register t.queue w.ticking few
   where
-    few : room fifo ≤ 16
-    few = grind (arith, common_steps)
+    t : TransmitterState
+    t = c.transmitter
+
+    w : IsSoundTransmitter c.fifo t
+    w = sound.transmitter
+
+    few : length t.queue ≤ characters t.size
+    few = let room = room_within c.fifo t.size in let h = w.in_room in omega (arith, room, h)
 
     product : (n k : ℕ) → n ≤ k → t.char_ticks * n ≤ t.char_ticks * k
     product n k h = grind (arith, common_steps)
 
-    go : (place : Option Shifting) (queue : List ℕ) → IsTicking t.char_ticks place → length queue ≤ room fifo →
-        left_of t.char_ticks place queue ≤ 17 * t.char_ticks
+    whole : most_held t * t.char_ticks ≡ t.char_ticks * characters t.size + t.char_ticks
+    whole =
+        ap (λ (n : ℕ). n * t.char_ticks) (one_more (characters t.size)) ∙
+        (suc-mul (characters t.size) t.char_ticks ∙ ap (λ (n : ℕ). n + t.char_ticks) (mul_comm (characters t.size) t.char_ticks))
+
+    go : (place : Option Shifting) (queue : List ℕ) → IsTicking t.char_ticks place → length queue ≤ characters t.size →
+        left_of t.char_ticks place queue ≤ most_held t * t.char_ticks
     go None [] h k = omega arith
-    go None (x ∷ xs) h k = let p = product (length (x ∷ xs)) 16 (omega (arith, few, k)) in omega (arith, p, w.at_least_one)
-    go (Some s) queue h k = let p = product (length queue) 16 (omega (arith, few, k)) in omega (arith, p, h.1)
+    go None (x ∷ xs) h k = let p = product (length (x ∷ xs)) (characters t.size) k in omega (arith, p, whole, w.at_least_one)
+    go (Some s) queue h k = let p = product (length queue) (characters t.size) k in omega (arith, p, whole, h.1)
+
+-- a limit that is long enough for each character and a tick more exceeds what is left
+pub exceeds : (t : TransmitterState) (limit : ℕ) → left t ≤ most_held t * t.char_ticks →
+    most_held t * (t.char_ticks + 1) ≤ limit → left t + most_held t ≤ limit
+exceeds t limit most enough =
+    let whole : most_held t * (t.char_ticks + 1) ≡ most_held t * t.char_ticks + most_held t =
+    ap (λ (n : ℕ). most_held t * n) (one_more t.char_ticks) ∙ mul-suc (most_held t) t.char_ticks in
+    omega (arith, most, enough, whole)

@@ -1,5 +1,5 @@
 -- Where ticks come before each access, the spin limit is long enough and the wire has room, calls do not stall.
-use Rattle.std.proofs.Common.{◌≡◌, ℕ, ◌+◌, ◌≤◌, ◌<◌, Bool, List, [], ◌++◌, length, map, length-append}
+use Rattle.std.proofs.Common.{◌≡◌, ◌*◌, ℕ, ◌+◌, ◌≤◌, ◌<◌, Bool, List, [], ◌++◌, length, map, length-append}
 use Rattle.std.proofs.Common.{take, Result, Ok, Err, refl, arith, sym, ◌∙◌, ap, subst}
 use Rattle.std.proofs.lemmas.List.{length-map, length-take}
 use Rattle.std.specs.List.{concat}
@@ -20,9 +20,9 @@ use Rattle.uart_chip.specs.Conserved.{out}
 use Rattle.uart_calls.specs.Meaning.{exact_answer, count_answer}
 use Rattle.uart_run.specs.Run.{State, machine_of}
 use Rattle.uart_run.specs.Ready.{Ready}
-use Rattle.uart_run.specs.Progress.{IsTimely, IsUnchecked, left, HasRoom}
+use Rattle.uart_run.specs.Progress.{IsTimely, IsUnchecked, left, most_held, HasRoom}
 use Rattle.uart_chip.proofs.soundness.Sounds.{sound_path}
-use Rattle.uart_run.proofs.progress.Left.{left-most}
+use Rattle.uart_run.proofs.progress.Left.{exceeds, left-most}
 use Rattle.uart_run.proofs.progress.Nearing.{Runs, ticked-path}
 use Rattle.uart_chip.proofs.lasting.Constants.{same_pace}
 use Rattle.uart_chip.proofs.conservation.BlockLaws.{PassedBlocks, path_split, path_as}
@@ -47,9 +47,11 @@ runs s w timely room = record { sound = w; ticked = timely.ticked; flows = λ e.
 pub few_left : (s : State) (made : List Access) (m : MachineState) → IsSound (machine_of s) → IsTimely s →
     Path MachineStep (machine_of s) made m → left m.chip.transmitter < (settings_at s).limit
 few_left s made m w timely p =
-    let most = left-most m.chip.fifo m.chip.transmitter (sound_path made (machine_of s) m w p).chip.transmitter in
-    let same = (same_pace made (machine_of s) m p).char_ticks in
-    omega (arith, most, same, timely.limit)
+    let most = left-most m.chip (sound_path made (machine_of s) m w p).chip in
+    let same = same_pace made (machine_of s) m p in
+    let enough : most_held m.chip.transmitter * (m.chip.transmitter.char_ticks + 1) ≤ (settings_at s).limit =
+    rw (same.size, same.char_ticks) timely.limit in
+    let less = exceeds m.chip.transmitter (settings_at s).limit most enough in omega (arith, less)
 
 -- ---- bytes are sent, and then a wait for room is in vain: there was none
 no_stall-after : (s : State) (t : MachineState) (L : Language) (l : List Access) (written : List ℕ) → IsSound (machine_of s) → Ready s →

@@ -4,6 +4,7 @@ use std::fmt::Write;
 use uart_chip::ChipData;
 use uart_chip::receiving::characters_of;
 use uart_live::LiveChip;
+use uart_spec::FifoSize;
 use uart_spec::registers::offsets;
 
 fn hex(bytes: &[u8]) -> String {
@@ -46,7 +47,7 @@ pub fn state_of(chip: &LiveChip) -> String {
         latches.dll,
         latches.dlm,
         saved.fifo,
-        characters_of(receiver.trigger),
+        characters_of(FifoSize::Sixteen, receiver.trigger),
         hex(&transmitter.queue),
         waiting.join(","),
         chip.is_interrupting(),

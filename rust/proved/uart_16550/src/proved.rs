@@ -1134,11 +1134,30 @@ pub mod mmio {}
 ///
 /// ```text
 /// abbrev pub TestsLoopback : {T : Type 0} → Result T LoopbackError → Doing
-/// TestsLoopback result f l after = (mcr : ℕ) × (ier : ℕ) ×
-///     ((IsStalled result × Saving (BeginsTest mcr ier false) f l after)
-///     ⊎ Next (Saving (BeginsTest mcr ier true)) (Tests mcr ier result) f l after)
+/// TestsLoopback result = FromEmpty (IsStalled result) (λ mcr ier. Tests mcr ier result)
 /// ```
 ///
-/// It uses [`Saving`](crate::proved::driver#Saving); `Doing`, `Next` of `crates/uart_16550/specs/Driver.antt`; `IsStalled`, `BeginsTest`, `Tests` of this file.
+/// It uses `Doing` of `crates/uart_16550/specs/Driver.antt`; `FromEmpty`, `IsStalled`, `Tests` of this file.
 #[doc(alias("TestsLoopback"))]
 pub mod loopback {}
+
+/// How the size of the FIFOs is found: in loopback, access by access.
+///
+/// From `crates/uart_16550/specs/Sizing.antt`.
+///
+/// <span id="FindsFifoSize"></span>
+///
+/// # `FindsFifoSize`
+///
+/// `find_fifo_size`: nothing is done if the FIFOs are off. Else MCR and IER are read, and there is a wait for an empty transmitter. If it reaches the limit, nothing is written, and the result is a stall; else loopback is entered, the transmitter is flooded, what comes back is counted, the FIFOs are reset, and MCR and IER are restored. The result is the largest size of no more characters than came back.
+///
+/// ```text
+/// abbrev pub FindsFifoSize : Result FifoSize FifoSizeError → Doing
+/// FindsFifoSize result f l after =
+///     ((result ≡ Err FifosOff) × (f.fifo ≡ false) × (l ≡ []) × (after ≡ f))
+///     ⊎ ((f.fifo ≡ true) × FromEmpty (result ≡ Err Stalled) (SizesInLoopback result) f l after)
+/// ```
+///
+/// It uses `Doing` of `crates/uart_16550/specs/Driver.antt`; `FromEmpty` of `crates/uart_16550/specs/Loopback.antt`; `SizesInLoopback` of this file.
+#[doc(alias("FindsFifoSize"))]
+pub mod sizing {}

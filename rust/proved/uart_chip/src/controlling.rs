@@ -157,8 +157,8 @@ fn skip<P: ChipParts>(parts: &mut P, ticks: u16) {
 /// A jump ends at the tick in which a character enters or leaves the shift register, or takes all
 /// ticks that are left. So its cost does not grow with the number of ticks.
 // A jump skips the ticks before that tick, and then makes it as any other tick. So the start and
-// the end of a character have no second definition. At most 17 characters move, and one jump takes
-// what is left: 18 jumps are enough for any number of ticks.
+// the end of a character have no second definition. With FIFOs of 16 at most 17 characters move,
+// and one jump takes what is left: 18 jumps are enough for any number of ticks.
 pub fn advance<P: ChipParts>(parts: &mut P, n: u16) -> usize {
     let mut left = n;
     let mut jumps = 0;

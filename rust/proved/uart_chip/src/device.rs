@@ -240,8 +240,8 @@ impl Device16550 {
     /// number of jumps that this took.
     ///
     /// A jump ends at the tick in which a character enters or leaves the shift register, or takes
-    /// all ticks that are left. There are at most 18, whatever `n` is: none if `n` is 0, and one if
-    /// `n` is 1.
+    /// all ticks that are left. There are at most 18 with FIFOs of 16 characters, whatever `n` is:
+    /// none if `n` is 0, and one if `n` is 1.
     ///
     /// # Examples
     ///

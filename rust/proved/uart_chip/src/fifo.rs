@@ -3,16 +3,21 @@
 use arrayvec::ArrayVec;
 use circular_buffer::HeapCircularBuffer;
 use std::alloc::{AllocError, Global};
-use uart_spec::FIFO_SIZE;
+use uart_spec::{FIFO_SIZE, FifoSize};
 
-/// Returns the number of characters that a queue has room for. Without FIFO that is one, although
-/// it could hold more.
-pub fn room_of(fifo: bool) -> usize {
-    if fifo { FIFO_SIZE } else { 1 }
+/// Returns the number of characters that a queue has room for, with a FIFO of this size. Without
+/// FIFO that is one, although it could hold more.
+pub fn room_of(fifo: bool, size: FifoSize) -> usize {
+    if fifo { size.characters() } else { 1 }
 }
 
 /// A queue that has room for each character of a FIFO, wherever its items are.
 pub trait Fifo<T> {
+    /// Returns the size of the FIFO: the queue has room for as many items.
+    fn size(&self) -> FifoSize {
+        FifoSize::Sixteen
+    }
+
     /// Returns the number of items.
     fn len(&self) -> usize;
 

@@ -44,6 +44,17 @@ pub mod receiver {}
 ///
 /// From `crates/uart_chip/specs/Chip.antt`.
 ///
+/// <span id="size_of"></span>
+///
+/// # `size_of`
+///
+/// The size of the FIFOs of a model; a 16450 has none, and nothing that it does depends on its size.
+///
+/// ```text
+/// abbrev pub size_of : Chip → FifoSize
+/// size_of _ = Sixteen
+/// ```
+///
 /// <span id="fresh"></span>
 ///
 /// # `fresh`
@@ -57,14 +68,14 @@ pub mod receiver {}
 ///       model = model;
 ///       latches = record { ier = 0; lcr = 0; mcr = 0; scr = 0; dll = 0; dlm = 0 };
 ///       fifo = false;
-///       transmitter = transmitter.fresh char_ticks capacity;
-///       receiver = receiver.fresh char_ticks arrivals;
+///       transmitter = transmitter.fresh (size_of model) char_ticks capacity;
+///       receiver = receiver.fresh (size_of model) char_ticks arrivals;
 ///       modem = modem.fresh;
 ///       cuts = false;
 ///     }
 /// ```
 ///
-/// It uses `ChipState` of this file; `fresh` of `crates/uart_chip/specs/Transmitter.antt`; `fresh` of `crates/uart_chip/specs/Receiver.antt`; `fresh` of `crates/uart_chip/specs/Modem.antt`.
+/// It uses [`size_of`](crate::proved::chip#size_of); `ChipState` of this file; `fresh` of `crates/uart_chip/specs/Transmitter.antt`; `fresh` of `crates/uart_chip/specs/Receiver.antt`; `fresh` of `crates/uart_chip/specs/Modem.antt`.
 ///
 /// <span id="is_dlab_set"></span>
 ///
@@ -155,7 +166,7 @@ pub mod receiver {}
 /// ```text
 /// abbrev pub receive_room : ChipState → ℕ
 /// receive_room c =
-///     if is_loopback c.latches then 0 else transmitter.room c.fifo - length c.receiver.queue
+///     if is_loopback c.latches then 0 else transmitter.room c.fifo c.receiver.size - length c.receiver.queue
 /// ```
 ///
 /// It uses [`is_loopback`](crate::proved::chip#is_loopback); `ChipState` of this file; `room` of `crates/uart_chip/specs/Transmitter.antt`.
@@ -281,7 +292,7 @@ pub mod receiver {}
 /// ```
 ///
 /// It uses [`is_dlab_set`](crate::proved::chip#is_dlab_set); `ChipState`, `write_data`, `with_latches`, `enable`, `control`, `control_modem` of this file; `mcr_bits` of `crates/uart_chip/specs/Masks.antt`.
-#[doc(alias("fresh", "is_dlab_set", "is_loopback", "divisor", "cut_of", "ticks", "arrive_live", "receive_room", "take_wire", "change_lines", "interrupt", "with_thr_pending", "answer", "after_read", "after_write"))]
+#[doc(alias("size_of", "fresh", "is_dlab_set", "is_loopback", "divisor", "cut_of", "ticks", "arrive_live", "receive_room", "take_wire", "change_lines", "interrupt", "with_thr_pending", "answer", "after_read", "after_write"))]
 pub mod chip {}
 
 /// Ticks in jumps: when a character moves next, what happens until then, and how many jumps there are at most. No theorem rests on these definitions but that of `idle`, whose contract gives the effect of the ticks by those of `Chip`.
@@ -306,12 +317,14 @@ pub mod chip {}
 ///
 /// # `most_jumps`
 ///
-/// The most jumps that any number of ticks takes: one for each of 16 characters in the queue, and for the one that enters or leaves the shift register, and one for what is left.
+/// The most jumps that any number of ticks takes with a FIFO of this size, which are 18 with one of 16: one for each character in the queue, and for the one that enters or leaves the shift register, and one for what is left.
 ///
 /// ```text
-/// abbrev pub most_jumps : ℕ
-/// most_jumps = 18
+/// abbrev pub most_jumps : FifoSize → ℕ
+/// most_jumps size = characters size + 2
 /// ```
+///
+/// It uses [`characters`](uart_spec::proved::fifo_size#characters).
 #[doc(alias("jumps_in", "most_jumps"))]
 pub mod jumps {}
 

@@ -8,8 +8,8 @@ use crate::receiving::{ReceiverParts, enter};
 use arrayvec::ArrayVec;
 use bitflags::Flags;
 use uart_events::ArrivalMark;
-use uart_spec::FIFO_SIZE;
 use uart_spec::registers::{FifoTriggerLevel, LSR};
+use uart_spec::{FIFO_SIZE, FifoSize};
 
 /// Where a character is from.
 #[derive(Clone, Copy, Default)]
@@ -209,6 +209,10 @@ impl<Q: Fifo<Character>> Receiver<Q, Marks> {
 }
 
 impl<Q: Fifo<Character>, J: Journal> ReceiverParts for Receiver<Q, J> {
+    fn size(&self) -> FifoSize {
+        self.queue.size()
+    }
+
     fn queue_len(&self) -> usize {
         self.queue.len()
     }

@@ -3,12 +3,15 @@
 use crate::fifo::room_of;
 use crate::receiver::{Character, Origin, Timeout};
 use uart_events::ArrivalMark;
-use uart_spec::FIFO_SIZE;
+use uart_spec::FifoSize;
 use uart_spec::registers::{FifoTriggerLevel, LSR};
 
 /// What a receiver is made of: a queue of characters and what is known of them, and how each is
 /// read and changed.
 pub trait ReceiverParts {
+    /// Returns the size of the FIFO.
+    fn size(&self) -> FifoSize;
+
     /// Returns the number of characters in the queue.
     fn queue_len(&self) -> usize;
 
@@ -77,8 +80,20 @@ impl Origin {
     }
 }
 
-/// Returns the number of characters of a trigger level.
-pub fn characters_of(level: FifoTriggerLevel) -> u8 {
+// Returns one of four numbers, for the lowest trigger level to the highest.
+fn by_level(first: u8, second: u8, third: u8, fourth: u8, level: FifoTriggerLevel) -> u8 {
+    match level {
+        FifoTriggerLevel::One => first,
+        FifoTriggerLevel::Four => second,
+        FifoTriggerLevel::Eight => third,
+        FifoTriggerLevel::Fourteen => fourth,
+    }
+}
+
+// Returns the number of characters of a trigger level, for a FIFO of 16.
+// Apart from `by_level`: of constants a compiler makes a table, and of numbers that are passed one
+// test for each level, which in C takes five instructions more for each look at the interrupts.
+fn characters_of_16(level: FifoTriggerLevel) -> u8 {
     match level {
         FifoTriggerLevel::One => 1,
         FifoTriggerLevel::Four => 4,
@@ -87,11 +102,23 @@ pub fn characters_of(level: FifoTriggerLevel) -> u8 {
     }
 }
 
+/// Returns the number of characters of a trigger level, for a FIFO of this size.
+// The levels have the names of their numbers for a 16550.
+pub fn characters_of(size: FifoSize, level: FifoTriggerLevel) -> u8 {
+    match size {
+        FifoSize::Sixteen => characters_of_16(level),
+        FifoSize::ThirtyTwo => by_level(8, 16, 24, 28, level),
+        FifoSize::SixtyFour => by_level(1, 16, 32, 56, level),
+        FifoSize::OneHundredTwentyEight => by_level(16, 32, 112, 120, level),
+        FifoSize::TwoHundredFiftySix => by_level(1, 64, 128, 254, level),
+    }
+}
+
 /// Puts a character into the queue. If there is no room, the FIFO loses it, and the single register
 /// loses the one that it held.
 #[inline(always)]
 pub fn enter<R: ReceiverParts>(parts: &mut R, fifo: bool, new: Character) {
-    if parts.queue_len() < room_of(fifo) {
+    if parts.queue_len() < room_of(fifo, parts.size()) {
         parts.put(new);
         parts.set_mark(new.origin, ArrivalMark::Waiting);
     } else if fifo {
@@ -207,7 +234,7 @@ pub fn expire_timeout<R: ReceiverParts>(parts: &mut R) {
 /// Returns whether there are as many characters as the trigger level, or without FIFO any.
 pub fn is_data_pending<R: ReceiverParts>(parts: &R, fifo: bool) -> bool {
     if fifo {
-        let trigger = characters_of(parts.trigger()) as usize;
+        let trigger = characters_of(parts.size(), parts.trigger()) as usize;
         trigger <= parts.queue_len()
     } else {
         parts.queue_len() > 0
@@ -222,5 +249,5 @@ pub fn is_timed_out<R: ReceiverParts>(parts: &R, fifo: bool) -> bool {
 
 /// Returns how many characters can be received before one is lost.
 pub fn receive_room<R: ReceiverParts>(parts: &R, fifo: bool) -> usize {
-    room_of(fifo).saturating_sub(parts.queue_len())
+    room_of(fifo, parts.size()).saturating_sub(parts.queue_len())
 }

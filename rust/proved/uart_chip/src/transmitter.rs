@@ -5,8 +5,8 @@ use crate::transmitting::{TransmitterParts, held_len};
 use crate::wire::Wire;
 use arrayvec::ArrayVec;
 use bitflags::Flags;
-use uart_spec::FIFO_SIZE;
 use uart_spec::registers::LSR;
+use uart_spec::{FIFO_SIZE, FifoSize};
 
 /// The character in the shift register.
 #[derive(Clone, Copy)]
@@ -135,6 +135,10 @@ impl<Q: Fifo<u8>, W: Wire> Transmitter<Q, W> {
 }
 
 impl<Q: Fifo<u8>, W: Wire> TransmitterParts for Transmitter<Q, W> {
+    fn size(&self) -> FifoSize {
+        self.queue.size()
+    }
+
     fn queue_len(&self) -> usize {
         self.queue.len()
     }

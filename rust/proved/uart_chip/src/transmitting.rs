@@ -1,12 +1,15 @@
 //! What happens in a transmitter, over its parts.
 
 use crate::transmitter::Shifting;
-use uart_spec::FIFO_SIZE;
+use uart_spec::FifoSize;
 use uart_spec::registers::LSR;
 
 /// What a transmitter is made of: a queue, the shift register, a wire, and how each is read and
 /// changed.
 pub trait TransmitterParts {
+    /// Returns the size of the FIFO.
+    fn size(&self) -> FifoSize;
+
     /// Returns the number of bytes in the queue.
     fn queue_len(&self) -> usize;
 
@@ -123,7 +126,7 @@ pub fn count_down<T: TransmitterParts>(parts: &mut T, ticks: u16) {
 // A write clears a pending THR_EMPTY interrupt even if there is no room.
 pub fn load<T: TransmitterParts>(parts: &mut T, fifo: bool, byte: u8) {
     if fifo {
-        if parts.queue_len() < FIFO_SIZE {
+        if parts.queue_len() < parts.size().characters() {
             parts.put(byte);
         } else {
             parts.count_overflow();

@@ -14,12 +14,14 @@ extern crate geesetrunk_kit as bitflags;
 mod fault;
 mod kept;
 mod line;
+mod parameters;
 mod recovery;
 mod registers;
 mod serving;
 mod state;
 
 pub use fault::DesignWareFault;
+pub use parameters::fifo_size_of;
 pub use registers::{DesignWareRegisters, USR};
 pub use state::DesignWare;
 

@@ -61,3 +61,20 @@
 /// It uses [`held`](crate::proved::held#held).
 #[doc(alias("registers_of", "IsFresh"))]
 pub mod held {}
+
+/// What CPR shows, the component parameter register.
+///
+/// From `crates/uart_design_ware/specs/Parameters.antt`.
+///
+/// <span id="fifo_characters"></span>
+///
+/// # `fifo_characters`
+///
+/// How many characters the FIFOs hold: bits 16 to 23 have it in sixteens.
+///
+/// ```text
+/// abbrev pub fifo_characters : (cpr : ℕ) → ℕ
+/// fifo_characters cpr = 16 * (cpr / 65536 % 256)
+/// ```
+#[doc(alias("fifo_characters"))]
+pub mod parameters {}

@@ -403,8 +403,9 @@ impl LiveChip {
     /// </details>
     #[inline]
     pub fn arrive_in_room(&mut self, byte: u8) -> bool {
-        let room = room_of(self.uart.fifo());
-        if self.uart.is_loopback() || self.uart.receiver().queue_len() >= room {
+        let receiver = self.uart.receiver();
+        let room = room_of(self.uart.fifo(), receiver.size());
+        if self.uart.is_loopback() || receiver.queue_len() >= room {
             return false;
         }
         // Of what can become of an arrival this is the first case, without a test of the others.
@@ -556,8 +557,9 @@ impl LiveChip {
     ///
     /// - *after*: `self` becomes [`ticks`](uart_chip::proved::chip#ticks) `count self.old`: the chip after so many ticks.
     /// - *jumps*: returns [`jumps_in`](uart_chip::proved::jumps#jumps_in) `count self.old`: how many jumps so many ticks are: each ends with a tick in which a character moves, and the last one with the last tick.
-    /// - *most*: `result ≤ most_jumps`.
-    ///   - [`most_jumps`](uart_chip::proved::jumps#most_jumps): the most jumps that any number of ticks takes: one for each of 16 characters in the queue, and for the one that enters or leaves the shift register, and one for what is left.
+    /// - *most*: `result ≤ most_jumps (spec.size_of self.old.model)`.
+    ///   - [`most_jumps`](uart_chip::proved::jumps#most_jumps): the most jumps that any number of ticks takes with a FIFO of this size, which are 18 with one of 16: one for each character in the queue, and for the one that enters or leaves the shift register, and one for what is left.
+    ///   - [`size_of`](uart_chip::proved::chip#size_of): the size of the FIFOs of a model; a 16450 has none, and nothing that it does depends on its size.
     ///
     /// <details><summary>The clauses</summary>
     ///
@@ -566,7 +568,7 @@ impl LiveChip {
     /// ```text
     /// ensures after { self.new ≡ spec.ticks count self.old }
     /// ensures jumps { result ≡ jumps_in count self.old }
-    /// ensures most { result ≤ most_jumps }
+    /// ensures most { result ≤ most_jumps (spec.size_of self.old.model) }
     /// ```
     ///
     /// </details>

@@ -62,7 +62,7 @@ pub mod live {}
 #[doc(alias("expire", "arrive_holding"))]
 pub mod held {}
 
-/// Whether data are those of a live chip.
+/// Whether data are those of a live chip. Their arrays hold 16 characters, so they are of chips whose FIFOs do.
 ///
 /// From `crates/uart_live/specs/Saved.antt`.
 ///

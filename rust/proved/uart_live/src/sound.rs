@@ -10,6 +10,7 @@ use uart_chip::{
     Character, Chip, ChipData, Latches, MAX_CHAR_TICKS, MAX_WIRE_CAPACITY, ModemData, Origin,
     ReceiverData, Shifting, TransmitterData, kept_interrupts, kept_modem_control, room_of,
 };
+use uart_spec::FifoSize;
 use uart_spec::registers::{LSR, MSR};
 
 /// The number of character times after which a reception timeout is due, if no character comes or
@@ -48,7 +49,7 @@ fn are_live(characters: &[Character]) -> bool {
 }
 
 fn is_sound_receiver(saved: &ReceiverData, fifo: bool, char_ticks: u16) -> bool {
-    saved.queue.as_slice().len() <= room_of(fifo)
+    saved.queue.as_slice().len() <= room_of(fifo, FifoSize::Sixteen)
         && are_live(saved.queue.as_slice())
         && saved.timeout_ticks as u32 <= TIMEOUT_CHARACTERS as u32 * char_ticks as u32
 }
@@ -98,7 +99,7 @@ pub fn is_char_time(char_ticks: u16) -> bool {
 fn is_sound_transmitter(saved: &TransmitterData, fifo: bool, wire: &[u8]) -> bool {
     is_char_time(saved.char_ticks)
         && is_ticking(saved.char_ticks, saved.shift_register)
-        && saved.queue.as_slice().len() <= room_of(fifo)
+        && saved.queue.as_slice().len() <= room_of(fifo, FifoSize::Sixteen)
         && wire.len() <= saved.wire_capacity
         && saved.wire_capacity <= MAX_WIRE_CAPACITY
 }

@@ -91,6 +91,7 @@ pub mod queue {}
 ///   urgent = r.urgent;
 ///   is_held = r.is_held;
 ///   has_told_xoff = r.has_told_xoff;
+///   unlooked = r.unlooked;
 ///   low_mark = r.low_mark;
 ///   is_low = r.is_low;
 ///   rounds = r.rounds;
@@ -119,6 +120,7 @@ pub mod queue {}
 ///     urgent = None;
 ///     is_held = false;
 ///     has_told_xoff = false;
+///     unlooked = 0;
 ///     low_mark = 0;
 ///     is_low = false;
 ///     rounds = 0;
@@ -180,31 +182,57 @@ pub mod ring {}
 ///
 /// It uses [`queue`](crate::proved::queue#queue); `notes_of` of this file.
 ///
+/// <span id="unnoted_among"></span>
+///
+/// # `unnoted_among`
+///
+/// How many bytes of the receive ring have no note among these: those at its front, if more are there than are noted.
+///
+/// ```text
+/// abbrev pub unnoted_among : {B : Type 0} → List ℕ → Uart16550Ring B → ℕ
+/// unnoted_among noted r = length (ring_fields r).receive.items - length noted
+/// ```
+///
+/// It uses [`ring_fields`](crate::proved::ring#ring_fields).
+///
+/// <span id="errors_among"></span>
+///
+/// # `errors_among`
+///
+/// The errors of the bytes in the receive ring: those that were noted last, as many as there are bytes.
+///
+/// ```text
+/// abbrev pub errors_among : {B : Type 0} → List ℕ → Uart16550Ring B → List ℕ
+/// errors_among noted r = latest (length (ring_fields r).receive.items) noted
+/// ```
+///
+/// It uses [`ring_fields`](crate::proved::ring#ring_fields); `latest` of `crates/uart_ring/specs/Queue.antt`.
+///
 /// <span id="unnoted_in"></span>
 ///
 /// # `unnoted_in`
 ///
-/// How many bytes of the receive ring have no note: those at its front, if more are there than errors are noted.
+/// How many bytes of the receive ring have no note in the backend.
 ///
 /// ```text
 /// abbrev pub unnoted_in : {B : Type 0} → Uart16550Ring (ErrorNotes B) → ℕ
-/// unnoted_in r = length (ring_fields r).receive.items - length (noted_in r)
+/// unnoted_in r = unnoted_among (noted_in r) r
 /// ```
 ///
-/// It uses [`ring_fields`](crate::proved::ring#ring_fields); `noted_in` of this file.
+/// It uses [`unnoted_among`](crate::proved::notes#unnoted_among); `noted_in` of this file.
 ///
 /// <span id="errors_in"></span>
 ///
 /// # `errors_in`
 ///
-/// The errors of the bytes in the receive ring: those that were noted last, as many as there are bytes.
+/// The errors of the bytes in the receive ring, as the backend has noted them.
 ///
 /// ```text
 /// abbrev pub errors_in : {B : Type 0} → Uart16550Ring (ErrorNotes B) → List ℕ
-/// errors_in r = latest (length (ring_fields r).receive.items) (noted_in r)
+/// errors_in r = errors_among (noted_in r) r
 /// ```
 ///
-/// It uses [`ring_fields`](crate::proved::ring#ring_fields); `latest` of `crates/uart_ring/specs/Queue.antt`; `noted_in` of this file.
+/// It uses [`errors_among`](crate::proved::notes#errors_among); `noted_in` of this file.
 ///
 /// <span id="bytes_of"></span>
 ///
@@ -227,7 +255,7 @@ pub mod ring {}
 /// abbrev pub errors_of : List Received → List ℕ
 /// errors_of items = map (λ (received : Received). received.errors.0) items
 /// ```
-#[doc(alias("NotesErrors", "AreNew", "unnoted_in", "errors_in", "bytes_of", "errors_of"))]
+#[doc(alias("NotesErrors", "AreNew", "unnoted_among", "errors_among", "unnoted_in", "errors_in", "bytes_of", "errors_of"))]
 pub mod notes {}
 
 /// From the transmit ring to the chip.
@@ -399,7 +427,20 @@ pub mod transmit {}
 /// ```
 ///
 /// It uses [`free`](crate::proved::ring#free); `RingDoing` of `crates/uart_ring/specs/Ring.antt`; `TellsIfAny`, `to_tell`, `rts_at` of this file.
-#[doc(alias("TakesBytes", "ClearsReceive", "AdjustsRts", "AdjustsXoff"))]
+///
+/// <span id="ObeysXoff"></span>
+///
+/// # `ObeysXoff`
+///
+/// `obey_xoff`: of the bytes that came into the receive ring since it looked last, and are still there, the last XON or XOFF is obeyed, and is the result. All bytes stay there.
+///
+/// ```text
+/// abbrev pub ObeysXoff : Option ℕ → RingDoing
+/// ObeysXoff told f l after = (told ≡ last_told None (latest f.unlooked f.receive.items)) × Obeys told (looked f) l after
+/// ```
+///
+/// It uses `RingDoing`, `looked` of `crates/uart_ring/specs/Ring.antt`; `last_told`, `Obeys` of this file; `latest` of `crates/uart_ring/specs/Queue.antt`.
+#[doc(alias("TakesBytes", "ClearsReceive", "AdjustsRts", "AdjustsXoff", "ObeysXoff"))]
 pub mod receive {}
 
 /// Line errors and changes of the modem lines: noted when their interrupts are served, and taken by the caller. And all registers at once.

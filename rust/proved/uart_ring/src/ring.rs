@@ -87,6 +87,9 @@ pub struct Uart16550Ring<B> {
     is_held: bool,
     // What `adjust_xoff` told the other end last: XOFF, or XON or nothing.
     has_told_xoff: bool,
+    // At how many bytes at the end of the receive ring `obey_xoff` has not looked: at all of them,
+    // if there are fewer. So a call that takes bytes has nothing to do for this.
+    unlooked: usize,
     low_mark: usize,
     // The transmit ring fell to the low mark since this was taken.
     is_low: bool,
@@ -173,6 +176,7 @@ impl<B: Backend> Uart16550Ring<B> {
             urgent: None,
             is_held: false,
             has_told_xoff: false,
+            unlooked: 0,
             low_mark: 0,
             is_low: false,
             rounds: 0,

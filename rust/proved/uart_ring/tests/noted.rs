@@ -272,3 +272,40 @@ fn each_byte_has_the_errors_of_its_character() {
         in_chip = waiting.len() - ring.receive_len();
     }
 }
+
+#[test]
+fn bytes_are_copied_with_their_errors_and_stay() {
+    let mut ring = started(32, 3);
+    arrive(&mut ring, b'a', LSR::empty());
+    arrive(&mut ring, b'b', LSR::PARITY_ERROR);
+    arrive(&mut ring, b'c', LSR::FRAMING_ERROR);
+    chip(&mut ring).ticks(5 * CHAR_TICKS);
+    ring.handle(8);
+    let hit = |byte, errors| Received { byte, errors };
+    let wanted = [
+        clean(b'a'),
+        hit(b'b', LSR::PARITY_ERROR),
+        hit(b'c', LSR::FRAMING_ERROR),
+    ];
+    // The notes are in the backend here; to the call they are notes that lie anywhere.
+    let mut slots = [clean(b'-'); 4];
+    assert_eq!(
+        ring.copy_with_notes(ring.inner().backend(), &mut slots[..2]),
+        Ok(2)
+    );
+    assert_eq!(slots, [wanted[0], wanted[1], clean(b'-'), clean(b'-')]);
+    assert_eq!(
+        ring.copy_with_notes(ring.inner().backend(), &mut slots),
+        Ok(3)
+    );
+    assert_eq!(slots[..3], wanted);
+    assert_eq!(taken(&mut ring, 4), wanted);
+    for byte in b"wxyz" {
+        arrive(&mut ring, *byte, LSR::empty());
+    }
+    chip(&mut ring).ticks(5 * CHAR_TICKS);
+    ring.handle(8);
+    let refused = ring.copy_with_notes(ring.inner().backend(), &mut slots);
+    assert_eq!(refused, Err(UnnotedError { bytes: 1 }));
+    assert_eq!(slots[0], wanted[0]);
+}

@@ -148,6 +148,87 @@ fn xoff_waits_for_an_urgent_byte() {
 }
 
 #[test]
+fn an_xoff_of_the_other_end_is_obeyed() {
+    let steps = [
+        Burst(b"hello, world! 12"),
+        Changed(IER, 0x01, 0x03),
+        Read(ISR, DATA_READY),
+        Received(b"a\x13b"),
+        Read(LSR, EMPTY),
+        Read(ISR, NONE),
+        Read(ISR, THR_EMPTY), // no look follows, since nothing may be sent
+        Changed(IER, 0x03, 0x01),
+        Read(ISR, NONE),
+        Burst(b"\x13"), // what this end tells goes out all the same
+        Changed(IER, 0x01, 0x01),
+        Read(ISR, DATA_READY),
+        Received(b"\x13c\x11"), // the last one counts
+        Read(LSR, EMPTY),
+        Read(ISR, NONE),
+        Burst(b"3456"),
+        Changed(IER, 0x01, 0x01),
+    ];
+    let answers = answers_in(&steps);
+    let mut ring = rings(&answers, 32, 8);
+    let full = ReceiveMarks {
+        hold: 8,
+        release: 8,
+    };
+    let mut slots = [0xee; 8];
+    assert_eq!(ring.obey_xoff(), None);
+    assert_eq!(ring.queue(b"hello, world! 123456"), 20);
+    assert_eq!(ring.service(), 1);
+    assert_eq!(ring.obey_xoff(), Some(XOFF));
+    assert_eq!(ring.obey_xoff(), None);
+    assert!(ring.is_held());
+    assert_eq!(ring.service(), 1);
+    assert_eq!(ring.adjust_xoff(full), Some(XOFF));
+    assert_eq!(ring.service(), 1);
+    assert_eq!(ring.obey_xoff(), Some(XON));
+    assert!(!ring.is_held());
+    assert_eq!(ring.take(&mut slots), 6);
+    assert_eq!(slots, *b"a\x13b\x13c\x11\xee\xee");
+    assert_made(ring.inner().backend(), &steps);
+}
+
+#[test]
+fn a_character_is_obeyed_once_and_not_if_it_was_taken() {
+    let steps = [
+        Read(ISR, DATA_READY),
+        Received(b"\x13x"),
+        Read(LSR, EMPTY),
+        Read(ISR, NONE),
+        Read(ISR, DATA_READY),
+        Received(b"\x13y"),
+        Read(LSR, EMPTY),
+        Read(ISR, NONE),
+        Read(ISR, DATA_READY),
+        Received(b"\x13"),
+        Read(LSR, EMPTY),
+        Read(ISR, NONE),
+    ];
+    let answers = answers_in(&steps);
+    let mut ring = rings(&answers, 32, 8);
+    let mut slots = [0xee; 8];
+    assert_eq!(ring.service(), 1);
+    assert_eq!(ring.take(&mut slots[..1]), 1);
+    assert_eq!(ring.obey_xoff(), None);
+    assert!(!ring.is_held());
+    assert_eq!(ring.service(), 1);
+    assert_eq!(ring.take(&mut slots[..1]), 1);
+    assert_eq!(ring.obey_xoff(), Some(XOFF)); // there were three, and two are left
+    assert!(ring.is_held());
+    ring.release_transmit(); // by the program itself
+    assert_eq!(ring.obey_xoff(), None);
+    assert!(!ring.is_held());
+    assert_eq!(ring.service(), 1);
+    assert_eq!(ring.clear_receive(), 3);
+    assert_eq!(ring.obey_xoff(), None);
+    assert!(!ring.is_held());
+    assert_made(ring.inner().backend(), &steps);
+}
+
+#[test]
 fn bytes_are_dropped() {
     let steps = [
         Burst(b"hello, world! 12"),

@@ -502,6 +502,37 @@ impl std::fmt::Display for LoopbackError {
     }
 }
 
+/// Why the size of the FIFOs was not found.
+#[derive(Clone, Debug, PartialEq, Eq, Hash)]
+pub enum FifoSizeError {
+    /// The FIFOs are off, or the chip has none. No access was made.
+    FifosOff,
+    /// Fewer bytes came back than the smallest FIFO holds: the FIFOs do not work, the chip has no
+    /// loopback, or what it has is off.
+    TooFew {
+        /// How many bytes came back.
+        returned: usize,
+    },
+    /// The device made no progress within the spin limit.
+    Stalled,
+}
+
+#[automatically_derived]
+impl std::fmt::Display for FifoSizeError {
+    fn fmt(&self, f: &mut std::fmt::Formatter<'_>) -> std::fmt::Result {
+        match self {
+            Self::FifosOff => { ({ (f.write_fmt(format_args!("the FIFOs are off"))) }) }
+            Self::TooFew { returned } => {
+                ({ (f.write_fmt(format_args!("only {returned} bytes came back in loopback"))) })
+            }
+            Self::Stalled => { ({ (f.write_fmt(format_args!("the device stalled"))) }) }
+        }
+    }
+}
+
+#[automatically_derived]
+impl std::error::Error for FifoSizeError {}
+
 /// A wait ended at the spin limit: that many polls in a row were unsuccessful.
 ///
 /// This is not always a fault. The remote may be slow, or may have nothing to send. At 9,600 baud a

@@ -598,7 +598,22 @@ pub mod dump {}
 /// characters OneHundredTwentyEight = 128
 /// characters TwoHundredFiftySix = 256
 /// ```
-#[doc(alias("characters"))]
+///
+/// <span id="IsLargestUpTo"></span>
+///
+/// # `IsLargestUpTo`
+///
+/// The largest size of no more than so many characters; none, if the smallest has more.
+///
+/// ```text
+/// abbrev pub IsLargestUpTo : (count : ℕ) → Option FifoSize → Type 0
+/// IsLargestUpTo count None = count < characters Sixteen
+/// IsLargestUpTo count (Some size) =
+///     (characters size ≤ count) × ((other : FifoSize) → characters other ≤ count → characters other ≤ characters size)
+/// ```
+///
+/// It uses [`characters`](crate::proved::fifo_size#characters).
+#[doc(alias("characters", "IsLargestUpTo"))]
 pub mod fifo_size {}
 
 /// The arithmetic of the baud rate generator for arguments that it does not have to accept.

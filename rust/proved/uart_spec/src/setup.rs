@@ -65,7 +65,8 @@ pub enum FifoAction {
 /// How many characters the transmitter FIFO of a chip holds, for `Uart16550::send_burst`.
 ///
 /// A 16550 has 16. No register that all chips have shows the size, so it is taken from the
-/// datasheet. If a size is given that is larger than the chip's, bytes are lost.
+/// datasheet, or `Uart16550::find_fifo_size` finds it. If a size is given that is larger than the
+/// chip's, bytes are lost.
 ///
 /// # Examples
 ///
@@ -111,6 +112,42 @@ impl FifoSize {
             FifoSize::SixtyFour => 64,
             FifoSize::OneHundredTwentyEight => 128,
             FifoSize::TwoHundredFiftySix => 256,
+        }
+    }
+
+    /// Returns the largest size of no more than so many characters, or `None` if there is none.
+    ///
+    /// So a burst of the size that is returned is safe on a chip that holds so many.
+    ///
+    /// # Examples
+    ///
+    /// ```
+    /// # use uart_16550::native::{*, spec::*};
+    /// assert_eq!(FifoSize::largest_up_to(63), Some(FifoSize::ThirtyTwo));
+    /// assert_eq!(FifoSize::largest_up_to(15), None);
+    /// ```
+    ///
+    /// # Proved
+    ///
+    /// - [`IsLargestUpTo`](crate::proved::fifo_size#IsLargestUpTo) `characters result`: the largest size of no more than so many characters; none, if the smallest has more.
+    ///
+    /// <details><summary>The clauses</summary>
+    ///
+    /// [How to read them](crate::proved):
+    ///
+    /// ```text
+    /// ensures { IsLargestUpTo characters result }
+    /// ```
+    ///
+    /// </details>
+    pub fn largest_up_to(characters: usize) -> Option<FifoSize> {
+        match characters {
+            0..=15 => None,
+            16..=31 => Some(FifoSize::Sixteen),
+            32..=63 => Some(FifoSize::ThirtyTwo),
+            64..=127 => Some(FifoSize::SixtyFour),
+            128..=255 => Some(FifoSize::OneHundredTwentyEight),
+            _ => Some(FifoSize::TwoHundredFiftySix),
         }
     }
 }

@@ -11,9 +11,9 @@ use uart_spec::registers::{LSR, MSR, offsets};
 // The ticks that a character takes.
 const CHAR_TICKS: u16 = 1;
 
-// The ticks that pass in each call: 17 for what the transmitter holds, 4 until a reception timeout
-// is due, and one. So time between calls would change nothing, and no guest waits for a clock that
-// its monitor does not have.
+// The ticks that pass in each call: 17 for what a transmitter with a FIFO of 16 holds, 4 until a
+// reception timeout is due, and one. So time between calls would change nothing, and no guest waits
+// for a clock that its monitor does not have.
 const SETTLE_TICKS: u16 = 22;
 
 // A call of the host that brings something, and a port that is new, or restored.
@@ -143,7 +143,7 @@ pub fn kind_of_write(offset: u8) -> Kind {
 ///
 /// # Proved
 ///
-/// - Returns [`settle_ticks`](crate::proved::port#settle_ticks): the ticks that pass in each call: 17 for what the transmitter holds, 4 until a reception timeout is due, and one.
+/// - Returns [`settle_ticks`](crate::proved::port#settle_ticks): the ticks that pass in each call: 17 for what a transmitter with a FIFO of 16 holds, 4 until a reception timeout is due, and one.
 ///
 /// <details><summary>The clauses</summary>
 ///
@@ -167,8 +167,9 @@ pub fn settle_ticks() -> u16 {
 /// # Proved
 ///
 /// - *after*: `chip` becomes [`settle`](crate::proved::port#settle) `chip.old`: so much time passes that nothing is left to happen.
-/// - *most*: `result ≤ most_jumps`.
-///   - [`most_jumps`](uart_chip::proved::jumps#most_jumps): the most jumps that any number of ticks takes: one for each of 16 characters in the queue, and for the one that enters or leaves the shift register, and one for what is left.
+/// - *most*: `result ≤ most_jumps (spec.size_of chip.old.model)`.
+///   - [`most_jumps`](uart_chip::proved::jumps#most_jumps): the most jumps that any number of ticks takes with a FIFO of this size, which are 18 with one of 16: one for each character in the queue, and for the one that enters or leaves the shift register, and one for what is left.
+///   - [`size_of`](uart_chip::proved::chip#size_of): the size of the FIFOs of a model; a 16450 has none, and nothing that it does depends on its size.
 ///
 /// <details><summary>The clauses</summary>
 ///
@@ -176,7 +177,7 @@ pub fn settle_ticks() -> u16 {
 ///
 /// ```text
 /// ensures after { chip.new ≡ settle chip.old }
-/// ensures most { result ≤ most_jumps }
+/// ensures most { result ≤ most_jumps (spec.size_of chip.old.model) }
 /// ```
 ///
 /// </details>

@@ -10,7 +10,7 @@
 ///
 /// # `settle_ticks`
 ///
-/// The ticks that pass in each call: 17 for what the transmitter holds, 4 until a reception timeout is due, and one.
+/// The ticks that pass in each call: 17 for what a transmitter with a FIFO of 16 holds, 4 until a reception timeout is due, and one.
 ///
 /// ```text
 /// unfoldable pub settle_ticks : ℕ

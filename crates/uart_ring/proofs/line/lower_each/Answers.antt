@@ -1,6 +1,6 @@
-use Rattle.std.proofs.Common.{◌≡◌, ℕ, length, arith, refl, subst}
+use Rattle.std.proofs.Common.{◌≡◌, ℕ, length, refl, subst}
 use Rattle.uart_ring.specs.Line.{LowersAt, ServesInTurn}
-use Rattle.uart_ring.proofs.Lines.{at_set, serves_more}
+use Rattle.uart_ring.proofs.Lines.{at_set, stands_within, stands_behind, serves_more}
 use Rattle.uart_ring.proofs.line.lower_each.Goals as goal
 
 pub loop-port-init : goal.loop-port-init
@@ -9,11 +9,13 @@ loop-port-init g c = (refl, refl)
 pub loop-port-preserved : goal.loop-port-preserved
 loop-port-preserved g c =
     serves_more _ c.loop-port.port-index _ _ _ c.loop-port.ports _ c.loop-port.invariant
-    (at_set _ c.loop-port.port-index _ c.port-item.result _ (omega arith) c.lower-has_served.ensures)
+    (at_set _ c.loop-port.port-index _ c.port-item.result _ (stands_within _ _ _ c.loop-port.auto.ports c.loop-port-test.true)
+    c.lower-has_served.ensures)
 
 pub returns : goal.returns
 returns g c =
-    let all : c.loop-port.port-index ≡ length c.args.ports.now = omega arith in
+    let all : c.loop-port.port-index ≡ length c.args.ports.now =
+    stands_behind _ _ c.loop-port.auto.port-index-end c.loop-port-test.false in
     let P : ℕ → Type 0 =
     λ n. ServesInTurn (LowersAt g.B.Backend.step c.args.limit c.args.rounds) n c.loop-port.has_served c.args.ports.now c.loop-port.ports in
     subst P all c.loop-port.invariant

@@ -4,9 +4,9 @@ use super::Uart16550;
 use crate::backend::Backend;
 use bitflags::Flags;
 use uart_spec::LoopbackError;
-use uart_spec::registers::{IER, LSR, MCR, MSR, offsets};
+use uart_spec::registers::{FifoTriggerLevel, IER, LSR, MCR, MSR, offsets};
 
-const TEST_BYTE: u8 = 0x42;
+pub(super) const TEST_BYTE: u8 = 0x42;
 
 const TEST_MESSAGE: [u8; 16] = *b"hello world!1337";
 
@@ -14,7 +14,7 @@ impl<B: Backend> Uart16550<B> {
     // Discards received bytes until none is available: a byte from before the test would be taken
     // for the first that returns. Returns false after as many bytes as the spin limit, right after
     // the last of them. So with a limit of 1 one byte is too many, even if none is behind it.
-    fn drain_received(&mut self) -> bool {
+    pub(super) fn drain_received(&mut self) -> bool {
         for _turn in 0..self.spin_limit.get() {
             let Ok(_) = self.try_receive_byte() else {
                 return true;
@@ -100,21 +100,22 @@ impl<B: Backend> Uart16550<B> {
         self.exchange_message()
     }
 
-    // Reads the modem lines, and sets the device to loopback with interrupts off.
-    fn enter_loopback(&mut self) -> MSR {
+    // Reads the modem lines, and sets the device to loopback with interrupts off, and with FIFOs of
+    // this level, if there is one.
+    pub(super) fn enter_loopback(&mut self, level: Option<FifoTriggerLevel>) -> MSR {
         // Loopback connects the modem's inputs to the outputs. So the lines are read before.
         let before = self.read_msr();
         // A handler would take the bytes that come back.
         self.write_register(offsets::IER, 0);
         self.write_register(offsets::MCR, MCR::LOOP_BACK.bits());
         // Bytes that were received before are gone after the reset.
-        self.fifo_enabled = self.set_fifo(self.config.fifo_trigger_level);
+        self.fifo_enabled = self.set_fifo(level);
         before
     }
 
     // Leaves loopback, restores MCR and IER, and saves the changes of the lines that are not due to
     // the test.
-    fn leave_loopback(&mut self, mcr: MCR, ier: IER, before: MSR, noted: LSR) {
+    pub(super) fn leave_loopback(&mut self, mcr: MCR, ier: IER, before: MSR, noted: LSR) {
         // The inputs are the modem's lines again. Those that are set change by that, which is a
         // modem status interrupt. OUT2 stays clear until the read of MSR has cleared it, and IER is
         // still 0. Otherwise the interrupt line would rise for a moment, and a controller that
@@ -193,7 +194,7 @@ impl<B: Backend> Uart16550<B> {
             return Err(LoopbackError::Stalled);
         }
         let noted = self.saved_lsr;
-        let before = self.enter_loopback();
+        let before = self.enter_loopback(self.config.fifo_trigger_level);
         let outcome = self.exchange();
         self.leave_loopback(mcr, ier, before, noted);
         outcome

@@ -230,7 +230,7 @@ impl<B: Backend> Uart16550<B> {
 
     // Returns the trigger level for FIFOs that are on: the configured one, or one byte if none is
     // configured, as on a port that was taken by `attach`.
-    fn level_of(&self, on: bool) -> Option<FifoTriggerLevel> {
+    pub(super) fn level_of(&self, on: bool) -> Option<FifoTriggerLevel> {
         if on {
             Some(
                 self.config

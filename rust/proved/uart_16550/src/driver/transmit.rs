@@ -67,7 +67,7 @@ impl<B: Backend> Uart16550<B> {
     }
 
     // Writes a byte to DATA.
-    fn write_byte(&mut self, byte: u8) {
+    pub(super) fn write_byte(&mut self, byte: u8) {
         self.backend.write(offsets::DATA as u8, byte);
     }
 

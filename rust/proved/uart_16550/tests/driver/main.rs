@@ -18,5 +18,6 @@ mod looks;
 mod loopback;
 mod patient;
 mod setup;
+mod sizing;
 mod states;
 mod terminal;

@@ -5,6 +5,7 @@ use crate::audit::shows::level_of;
 use bitflags::Flags;
 use std::fmt;
 use uart_chip::receiving::characters_of;
+use uart_spec::FifoSize;
 use uart_spec::registers::{FCR, FifoTriggerLevel, IER, ISR, LCR, MCR, Parity};
 
 /// The bytes of the divisor, as far as they were written.
@@ -62,7 +63,7 @@ fn fifo_number(has_fifo: Option<bool>) -> Option<u8> {
 
 fn trigger_number(trigger: Option<FifoTriggerLevel>) -> Option<u8> {
     match trigger {
-        Some(level) => Some(characters_of(level)),
+        Some(level) => Some(characters_of(FifoSize::Sixteen, level)),
         None => None,
     }
 }
@@ -196,7 +197,11 @@ impl Setup {
     fn write_fifo(&self, f: &mut fmt::Formatter<'_>) -> fmt::Result {
         match (self.has_fifo, self.trigger) {
             (Some(true), Some(level)) => {
-                write!(f, ", FIFOs on with trigger level {}", characters_of(level))
+                write!(
+                    f,
+                    ", FIFOs on with trigger level {}",
+                    characters_of(FifoSize::Sixteen, level)
+                )
             }
             (Some(true), None) => f.write_str(", FIFOs on"),
             (Some(false), _) => f.write_str(", FIFOs off"),

@@ -23,6 +23,92 @@ fn copy_with_errors(bytes: &ByteQueue, noted: &ByteQueue, slots: &mut [Received]
     slots.len()
 }
 
+// Copies the first bytes with the errors that are noted of them, as many as there are slots, and
+// returns how many, unless fewer errors are noted than there are bytes.
+fn copy_noted(
+    bytes: &ByteQueue,
+    noted: &ByteQueue,
+    slots: &mut [Received],
+) -> Result<usize, UnnotedError> {
+    // Without this, errors would stand at other bytes, and nobody could tell.
+    if noted.len() < bytes.len() {
+        return Err(UnnotedError {
+            bytes: bytes.len() - noted.len(),
+        });
+    }
+    Ok(copy_with_errors(bytes, noted, slots))
+}
+
+impl<B: Backend> Uart16550Ring<B> {
+    /// Copies received bytes from the front of the receive ring, each with the errors that these
+    /// notes have of it, as many as there are slots, and returns how many. Takes none of them, and
+    /// leaves the other slots unchanged.
+    ///
+    /// It is for a backend that reaches the notes somewhere else, as through a pointer. What
+    /// [`take_with_errors`](Self::take_with_errors) does, this and a `take` of so many bytes do.
+    /// The notes are those that each access of the driver goes through; others tell of other bytes.
+    ///
+    /// # Errors
+    ///
+    /// `UnnotedError` if fewer errors are noted than bytes are in the receive ring. Then nothing is
+    /// copied.
+    ///
+    /// # Examples
+    ///
+    /// ```
+    /// # include!(concat!(env!("CARGO_MANIFEST_DIR"), "/examples.rs"));
+    /// # fn main() {}
+    /// # use facade::{native::Received, ring};
+    /// # fn example(ring: &ring::Uart16550Ring<Device>, notes: &ring::ErrorNotes<Device>, mut slots: [Received; 2]) -> Outcome<()> {
+    /// let count = ring.copy_with_notes(notes, &mut slots)?;
+    /// # Ok(()) }
+    /// ```
+    ///
+    /// # Proved
+    ///
+    /// - *count*: if it returns `Ok count`: `count` is `min (length slots.old) (length (ring_fields self.now).receive.items)`.
+    ///   - [`ring_fields`](crate::proved::ring#ring_fields): what these rings hold beside their backend.
+    /// - *bytes*: if it returns `Ok count`: what the clause beneath says.
+    ///   - [`bytes_of`](crate::proved::notes#bytes_of): the bytes of what was received.
+    /// - *errors*: if it returns `Ok count`: what the clause beneath says.
+    ///   - [`errors_of`](crate::proved::notes#errors_of): the errors of what was received.
+    ///   - [`errors_among`](crate::proved::notes#errors_among): the errors of the bytes in the receive ring: those that were noted last, as many as there are bytes.
+    /// - *rest*: if it returns `Ok count`: `drop count slots.new ≡ drop count slots.old`.
+    /// - *noted*: if `unnoted_among notes.now.noted.items self.now ≡ 0`: `is_ok result ≡ true`.
+    ///   - [`unnoted_among`](crate::proved::notes#unnoted_among): how many bytes of the receive ring have no note among these: those at its front, if more are there than are noted.
+    /// - *all_noted*: if it returns `Ok count`: `unnoted_among notes.now.noted.items self.now ≡ 0`.
+    /// - *refused*: if it returns `Err error`: `0 < error.bytes`, and `error.bytes ≡ unnoted_among notes.now.noted.items self.now`, and `slots` stays as it was.
+    ///
+    /// <details><summary>The clauses</summary>
+    ///
+    /// [How to read them](uart_spec::proved):
+    ///
+    /// ```text
+    /// ensures count { IfOk result (λ count. count ≡ min (length slots.old) (length (ring_fields self.now).receive.items)) }
+    /// ensures bytes { IfOk result (λ count. bytes_of (take count slots.new) ≡ take count (ring_fields self.now).receive.items) }
+    /// ensures errors { IfOk result (λ count. errors_of (take count slots.new) ≡ take count (errors_among notes.now.noted.items self.now)) }
+    /// ensures rest { IfOk result (λ count. drop count slots.new ≡ drop count slots.old) }
+    /// ensures noted { unnoted_among notes.now.noted.items self.now ≡ 0 → is_ok result ≡ true }
+    /// ensures all_noted { IfOk result (λ count. unnoted_among notes.now.noted.items self.now ≡ 0) }
+    /// ensures refused { IfErr result (λ error. (0 < error.bytes) × (error.bytes ≡ unnoted_among notes.now.noted.items self.now) × (slots.new ≡ slots.old)) }
+    /// ```
+    ///
+    /// </details>
+    pub fn copy_with_notes<N>(
+        &self,
+        notes: &ErrorNotes<N>,
+        slots: &mut [Received],
+    ) -> Result<usize, UnnotedError> {
+        copy_noted(&self.receive, &notes.noted, slots)
+    }
+
+    // Drops so many bytes that were taken from the front of the receive ring.
+    pub(crate) fn drop_taken(&mut self, count: usize) {
+        self.receive.drop_front(count);
+        self.end_pause(count);
+    }
+}
+
 impl<B: Backend> Uart16550Ring<ErrorNotes<B>> {
     /// Takes received bytes from the front of the receive ring, each with its errors, as many as
     /// there are slots, and returns how many. Leaves the other slots unchanged.
@@ -74,10 +160,10 @@ impl<B: Backend> Uart16550Ring<ErrorNotes<B>> {
     ///   - [`ring_fields`](crate::proved::ring#ring_fields): what these rings hold beside their backend.
     /// - *errors*: if it returns `Ok count`: `errors_of (take count slots.new) ≡ take count (errors_in self.old)`.
     ///   - [`errors_of`](crate::proved::notes#errors_of): the errors of what was received.
-    ///   - [`errors_in`](crate::proved::notes#errors_in): the errors of the bytes in the receive ring: those that were noted last, as many as there are bytes.
+    ///   - [`errors_in`](crate::proved::notes#errors_in): the errors of the bytes in the receive ring, as the backend has noted them.
     /// - *rest*: if it returns `Ok count`: `drop count slots.new ≡ drop count slots.old`.
     /// - *noted*: if `unnoted_in self.old ≡ 0`: `is_ok result ≡ true`.
-    ///   - [`unnoted_in`](crate::proved::notes#unnoted_in): how many bytes of the receive ring have no note: those at its front, if more are there than errors are noted.
+    ///   - [`unnoted_in`](crate::proved::notes#unnoted_in): how many bytes of the receive ring have no note in the backend.
     /// - *all_noted*: if it returns `Ok count`: `unnoted_in self.old ≡ 0`.
     /// - *refused*: if it returns `Err error`: `0 < error.bytes`, and `error.bytes ≡ unnoted_in self.old`, and nothing changes, and `slots` stays as it was.
     ///
@@ -98,15 +184,8 @@ impl<B: Backend> Uart16550Ring<ErrorNotes<B>> {
     /// </details>
     pub fn take_with_errors(&mut self, slots: &mut [Received]) -> Result<usize, UnnotedError> {
         let noted = &self.uart.backend().noted;
-        // Without this, errors would stand at other bytes, and nobody could tell.
-        if noted.len() < self.receive.len() {
-            return Err(UnnotedError {
-                bytes: self.receive.len() - noted.len(),
-            });
-        }
-        let count = copy_with_errors(&self.receive, noted, slots);
-        self.receive.drop_front(count);
-        self.end_pause(count);
+        let count = copy_noted(&self.receive, noted, slots)?;
+        self.drop_taken(count);
         Ok(count)
     }
 }

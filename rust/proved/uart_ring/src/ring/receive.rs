@@ -48,6 +48,7 @@ impl<B: Backend> Uart16550Ring<B> {
         let mut slots = [0; FIFO_SIZE];
         let room = FIFO_SIZE.min(self.receive.capacity() - self.receive.len());
         let count = self.uart.receive_bytes(&mut slots[..room]);
+        self.unlooked = self.unlooked.min(self.receive.len()) + count;
         self.receive.fill_from_slice(&slots[..count]);
         self.pause_if_full();
     }
@@ -137,6 +138,7 @@ impl<B: Backend> Uart16550Ring<B> {
         self.end_pause(count);
         count
     }
+
     // Returns whether the other end may send, or `None` if that is to stay as it is.
     fn may_send(&self, marks: ReceiveMarks) -> Option<bool> {
         let room = self.receive.capacity() - self.receive.len();
@@ -270,5 +272,76 @@ impl<B: Backend> Uart16550Ring<B> {
     pub fn adjust_xoff(&mut self, marks: ReceiveMarks) -> Option<u8> {
         let on = self.may_send(marks)?;
         self.tell(on)
+    }
+
+    // Returns the last XON or XOFF of the bytes at which `obey_xoff` has not looked yet.
+    fn last_told(&self) -> Option<u8> {
+        let mut told = None;
+        let len = self.receive.len();
+        for place in len - self.unlooked.min(len)..len {
+            let byte = self.receive.byte_at(place);
+            if byte == XON || byte == XOFF {
+                told = Some(byte);
+            }
+        }
+        told
+    }
+
+    /// Obeys the other end, which holds this end back by XOFF and lets it go on by XON: holds the
+    /// transmit ring if it told XOFF last, and releases it if it told XON last. Returns that
+    /// character, or `None` if none came.
+    ///
+    /// It looks at the bytes that came into the receive ring since it looked last, and were not
+    /// taken meanwhile. So it sees each character once, and of several the last one counts. All
+    /// bytes stay in the receive ring, in their order and with their errors: a program whose
+    /// readers are to see neither character leaves both out of what it takes. Bytes of these values
+    /// are taken for the characters, so this is for text.
+    ///
+    /// The hold is that of `hold_transmit`. A program that holds the ring for a reason of its own
+    /// does not call this meanwhile: the characters wait, and the next call obeys the last one.
+    /// What is in the chip goes out after an XOFF, and an urgent byte still does.
+    ///
+    /// Call it at the end of the interrupt handler, before the program takes what came. While
+    /// receiving is paused the characters stay in the chip: so choose a receive ring with room, or
+    /// an XON behind a full one is seen only after a `take`.
+    ///
+    /// Does not wait. At an XON it makes the accesses of a `release_transmit`. Otherwise it makes
+    /// none.
+    ///
+    /// # Examples
+    ///
+    /// ```
+    /// # include!(concat!(env!("CARGO_MANIFEST_DIR"), "/examples.rs"));
+    /// # fn main() {}
+    /// # use facade::ring;
+    /// # fn example(ring: &mut ring::Uart16550Ring<Device>) -> Outcome<()> {
+    /// ring.handle(32);
+    /// ring.obey_xoff();
+    /// # Ok(()) }
+    /// ```
+    ///
+    /// # Proved
+    ///
+    /// - [Does as](crate::proved::ring#RingDid) [`ObeysXoff`](crate::proved::receive#ObeysXoff) `result`: of the bytes that came into the receive ring since it looked last, and are still there, the last XON or XOFF is obeyed, and is the result. All bytes stay there.
+    ///
+    /// <details><summary>The clauses</summary>
+    ///
+    /// [How to read them](uart_spec::proved):
+    ///
+    /// ```text
+    /// ensures { RingDid B.step (ObeysXoff result) self.old self.new }
+    /// ```
+    ///
+    /// </details>
+    pub fn obey_xoff(&mut self) -> Option<u8> {
+        let told = self.last_told();
+        self.unlooked = 0;
+        let byte = told?;
+        if byte == XON {
+            self.release_transmit();
+        } else {
+            self.hold_transmit();
+        }
+        told
     }
 }

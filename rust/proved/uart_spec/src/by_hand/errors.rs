@@ -2,9 +2,9 @@
 
 use crate::original;
 use crate::{
-    ByteReceiveError, ByteSendError, FrameError, InitError, InvalidAddressError, InvalidDivisorError, InvalidLayoutError,
-    LoopbackError, NearestDivisorError, NonIntegerBaudRateError, NonIntegerDivisorError, RemoteReadyToReceiveError, StalledError,
-    Uart16550TtyError,
+    ByteReceiveError, ByteSendError, FifoSizeError, FrameError, InitError, InvalidAddressError, InvalidDivisorError,
+    InvalidLayoutError, LoopbackError, NearestDivisorError, NonIntegerBaudRateError, NonIntegerDivisorError, RemoteReadyToReceiveError,
+    StalledError, Uart16550TtyError,
 };
 use core::error::Error;
 
@@ -40,7 +40,8 @@ macro_rules! copied {
 copied! {
     NonIntegerBaudRateError, NonIntegerDivisorError, InvalidDivisorError, NearestDivisorError, FrameError, InvalidAddressError,
     ByteReceiveError, ByteSendError, RemoteReadyToReceiveError, InitError, LoopbackError, StalledError, Uart16550TtyError,
-    InvalidLayoutError, original::InvalidDivisorError, original::InitError, original::LoopbackError, original::Uart16550TtyError
+    FifoSizeError, InvalidLayoutError, original::InvalidDivisorError, original::InitError, original::LoopbackError,
+    original::Uart16550TtyError
 }
 
 #[cfg(feature = "embedded-io")]

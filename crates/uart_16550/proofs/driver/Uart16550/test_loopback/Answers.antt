@@ -11,6 +11,8 @@ returns-then-not-wait_for g c =
 
 pub returns : goal.returns
 returns g c =
+    let entered = c.enter_loopback-before.ensures in
     did_among (λ f l after t. (_, _, inr t))
     (did_then (did_made (made_then (made_only _ _ c.mcr-mcr.ensures c.ier-ier.ensures) c.if-not-wait_for.ensures))
-    (tested _ _ _ _ c.enter_loopback-before.ensures (did_then (did_made c.exchange-outcome.ensures) c.leave_loopback.ensures)))
+    (tested _ _ _ _ (record { list = entered.list; path = entered.path; does = entered.does })
+    (did_then (did_made c.exchange-outcome.ensures) c.leave_loopback.ensures)))

@@ -1,4 +1,6 @@
-use Rattle.std.proofs.Common.{arith, drop}
+use Rattle.std.proofs.Common.{arith, ap, drop}
+use Rattle.uart_spec.specs.FifoSize.{characters}
+use Rattle.uart_chip.specs.Machine.{MachineState}
 use Rattle.uart_chip.proofs.soundness.Idle.{whole_ticks, moves-most}
 use Rattle.uart_chip.proofs.device.Device16550.idle.Goals as goal
 
@@ -10,6 +12,7 @@ invariant_of-self c = (
 )
 
 pub returns-clause-most : goal.returns-clause-most
-returns-clause-most c = let most =
-    moves-most c.self.inside.uart.fifo c.self.inside.uart.transmitter c.self.invariant.1.sound.chip.transmitter in
-    omega (arith, most, c.ticks.ensures.most)
+returns-clause-most c =
+    let most = moves-most c.self.inside.uart.fifo c.self.inside.uart.transmitter c.self.invariant.1.sound.chip.transmitter in
+    let same = ap (λ (m : MachineState). characters m.chip.transmitter.size) c.self.view_is in
+    omega (arith, most, same, c.ticks.ensures.most)

@@ -1,0 +1,30 @@
+//! What CPR shows, the register of how a DesignWare UART was built.
+ghost use Rattle.uart_spec.specs.FifoSize.{IsLargestUpTo};
+ghost use Rattle.uart_design_ware.specs.Parameters.{fifo_characters};
+
+use uart_spec::FifoSize;
+
+// The lowest bit of the field FIFO_MODE, which has the size of the FIFOs in 16 characters.
+const FIFO_MODE: u32 = 0x0001_0000;
+
+/// Returns the size of the FIFOs that a value of CPR shows, the component parameter register: the
+/// largest `FifoSize` of no more characters, which is safe in `Uart16550::send_burst`.
+///
+/// CPR is at 0xF4, and all of its 32 bits are needed. Bits 16 to 23 are the size in 16 characters:
+/// 0x80 is a FIFO of 2,048, of which 256 are used. The result is `None` if they are 0. Then the
+/// chip has no FIFOs, or it was built without CPR, which reads as 0 then:
+/// `Uart16550::find_fifo_size` finds out.
+///
+/// # Examples
+///
+/// ```
+/// assert_eq!(rt; fifo_size_of(0x0004_3f32), Some(FifoSize::SixtyFour));
+/// assert_eq!(rt; fifo_size_of(0), None);
+/// ```
+pub fn fifo_size_of(cpr: u32) -> Option<FifoSize>
+    ensures { IsLargestUpTo (fifo_characters cpr) result }
+{
+    let mode = (cpr / FIFO_MODE % 256) as u16;
+    let characters = 16 * mode;
+    FifoSize::largest_up_to(characters as usize)
+}
