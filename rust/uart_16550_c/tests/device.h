@@ -116,7 +116,7 @@ static inline void device_send(struct device *d, uint8_t byte)
             byte ^= d->flips;
         if (d->is_silent)
             return;
-        if (d->arrived_len == (d->holds ? d->holds : ROOM))
+        if (d->arrived_len == (d->holds ? d->holds : (unsigned)ROOM))
             d->errors |= U16550_LSR_OVERRUN_ERROR;
         else
             d->arrived[d->arrived_len++] = byte;
