@@ -28,7 +28,7 @@ KeepsAll l = (k : Kept) → is_dlab_set k.latches ≡ false → kept_after l k �
 keeps_append : (xs ys : List Access) → KeepsAll xs → KeepsAll ys → KeepsAll (xs ++ ys)
 keeps_append xs ys p q k d = kept_after-append xs ys k ∙ (ap (kept_after ys) (p k d) ∙ q k d)
 
-keeps_data : (byte : ℕ) → KeepsAll (Write offsets.DATA byte ∷ [])
+pub keeps_data : (byte : ℕ) → KeepsAll (Write offsets.DATA byte ∷ [])
 keeps_data byte k d = ap (λ (b : Bool). if b then record k { latches = record k.latches { dll = byte } } else k) d
 
 keeps_writes : (bytes : List ℕ) → KeepsAll (data_writes bytes)

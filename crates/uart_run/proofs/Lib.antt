@@ -18,6 +18,7 @@ pub mod Sessions
 pub mod progress
 pub mod initialising
 pub mod loopback
+pub mod sizing
 pub mod SetupLaws
 pub mod CheckAnswers
 pub mod OutputLaws

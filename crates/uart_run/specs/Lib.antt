@@ -9,3 +9,4 @@ pub mod Session
 pub mod Uncut
 pub mod ReceivedErrors
 pub mod Overruns
+pub mod Sizes

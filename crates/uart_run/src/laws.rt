@@ -1,17 +1,20 @@
 //! Laws of driver and machine together. They follow from the contracts.
 //!
 //! The contract of each function is a law that callers can cite. The functions do nothing.
-ghost use Rattle.std.specs.Prelude.{◌≡◌, ℕ, Bool, List, true, Ok};
+ghost use Rattle.std.specs.Prelude.{◌≡◌, ℕ, Bool, List, true, false, Result, Ok};
 ghost use Rattle.uart_16550.specs.Configured.{Verdict, ChecksConfigured};
 ghost use Rattle.uart_16550.specs.Driver.{Did, Made, backend_of, fields};
 ghost use Rattle.uart_16550.specs.Frame.{SetsBreak, SetsOutput};
 ghost use Rattle.uart_16550.specs.Init.{Inits};
 ghost use Rattle.uart_16550.specs.Setup.{InitsWith};
+ghost use Rattle.uart_16550.specs.Sizing.{FindsFifoSize};
 ghost use Rattle.uart_chip.specs.Masks.{ier_bits, mcr_bits};
 ghost use Rattle.uart_spec.specs.Bits.{IsWithin};
 ghost use Rattle.uart_spec.specs.Config.{IsComputable};
 ghost use Rattle.uart_spec.specs.declared.config.Config.{Config};
+ghost use Rattle.uart_spec.specs.declared.setup.FifoSize.{FifoSize};
 ghost use Rattle.uart_spec.specs.declared.setup.Setup.{Setup};
+ghost use Rattle.uart_spec.specs.declared.errors.FifoSizeError.{FifoSizeError};
 ghost use Rattle.uart_16550.specs.Receive.{ReceivesWithErrors};
 ghost use Rattle.uart_spec.specs.declared.registers.modem_control.TheConstants.MCR;
 ghost use Rattle.uart_16550.specs.declared.driver.Uart16550.{Uart16550};
@@ -27,6 +30,8 @@ ghost use Rattle.uart_run.specs.Wired.{IsWiredChip};
 ghost use Rattle.uart_run.specs.Ready.{KeepsReady, Ready};
 ghost use Rattle.uart_run.specs.Overruns.{FlagTells, LeavesReceiver, OverrunsStand};
 ghost use Rattle.uart_run.specs.ReceivedErrors.{ReceivedExactly, under_terminal};
+ghost use Rattle.uart_run.specs.Progress.{HasRoom, IsTimely};
+ghost use Rattle.uart_run.specs.Sizes.{FindsOff, FindsSize, size_in};
 
 use uart_16550::Uart16550;
 use uart_chip::Device16550;
@@ -116,6 +121,39 @@ pub fn configured_chips_pass_the_check(uart: &Uart16550<Device16550>)
         Made MachineStep (ChecksConfigured (fields after).config setup.outputs.0 found)
         after later →
         found ≡ Ok tt }
+{
+    // The contract of this call states what holds of every machine.
+    let _fifo = uart.backend().fifo_enabled();
+}
+
+/// In a state in which a session may begin, with the FIFOs on, `find_fifo_size` returns exactly the
+/// size of the FIFOs of the chip, or a stall, whatever the schedule is. It does not stall if each
+/// access of the schedule has a tick before it, the spin limit is at least n (t + 1) for characters
+/// of t ticks, of which the transmitter holds n, and the wire has room for what waits.
+///
+/// With a size nothing of the call went to the wire, and all that waited before it did. After a
+/// stall at most one byte of the call goes out. Either way the latches are as before, the FIFO is
+/// on, and a session may begin. With the FIFOs off nothing is done.
+///
+/// # Examples
+///
+/// ```
+/// fifo_sizes_are_found(&uart);
+/// ```
+pub fn fifo_sizes_are_found(uart: &Uart16550<Device16550>)
+    ensures off { (after : Uart16550 MachineState) (found : Result FifoSize FifoSizeError) →
+        (fields uart.now).fifo ≡ false →
+        Did MachineStep (FindsFifoSize found) uart.now after →
+        FindsOff (under_terminal uart.now) found (under_terminal after) }
+    ensures on { (after : Uart16550 MachineState) (found : Result FifoSize FifoSizeError) →
+        Ready (under_terminal uart.now) → (fields uart.now).fifo ≡ true →
+        Did MachineStep (FindsFifoSize found) uart.now after →
+        FindsSize (under_terminal uart.now) found (under_terminal after) }
+    ensures succeeds { (after : Uart16550 MachineState) (found : Result FifoSize FifoSizeError) →
+        Ready (under_terminal uart.now) → (fields uart.now).fifo ≡ true →
+        IsTimely (under_terminal uart.now) → HasRoom 0 (backend_of uart.now) →
+        Did MachineStep (FindsFifoSize found) uart.now after →
+        found ≡ Ok (size_in (under_terminal uart.now)) }
 {
     // The contract of this call states what holds of every machine.
     let _fifo = uart.backend().fifo_enabled();

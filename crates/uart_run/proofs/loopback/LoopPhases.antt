@@ -59,16 +59,16 @@ sent_idle x gone c w s none = record { modes = w; line = rw (nil_from_length c.r
 
 -- ---- the drain
 
-silent_takes_one : (s : Settings) → IsSilent s TakesOne
+pub silent_takes_one : (s : Settings) → IsSilent s TakesOne
 silent_takes_one s l t =
     all_then silence s (Asks offsets.LSR LSR.DATA_READY.0 true) (Only (Read offsets.DATA t.0 ∷ []))
     (silent_asks s offsets.LSR LSR.DATA_READY.0 true) (all_only silence s (Read offsets.DATA t.0 ∷ []) (tt, tt)) l t.1
 
-keeps_takes_one : (s : Settings) → AllKeep s TakesOne
+pub keeps_takes_one : (s : Settings) → AllKeep s TakesOne
 keeps_takes_one s l t = keeps_hit s t.0 l t.1
 
 -- what the registers keep says the modes
-kept_in_modes : (x : Modes) (c d : ChipState) → kept_in d ≡ kept_in c → IsIn x c → IsIn x d
+pub kept_in_modes : (x : Modes) (c d : ChipState) → kept_in d ≡ kept_in c → IsIn x c → IsIn x d
 kept_in_modes x c d e w = record {
   lcr = ap (λ (k : Kept). k.latches.lcr) e ∙ w.lcr;
   mcr = ap (λ (k : Kept). k.latches.mcr) e ∙ w.mcr;

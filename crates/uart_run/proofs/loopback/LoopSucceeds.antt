@@ -142,7 +142,7 @@ no_stall-test : (cut : ℕ → ℕ) (gone : List ℕ) (mcr ier : ℕ) (f after :
 no_stall-test cut gone mcr ier f after l m n v b (before, fifo, t) path =
     let a = next_stages (Enters before fifo) (Next (Saving (Exchanges {T = Unit {0}} (Err Stalled))) (Leaves mcr ier before f.lsr))
     f after l m n t path in
-    let e = in_loopback cut gone before fifo f a.mid a.parts.front m a.parts.between b a.parts.first a.parts.before in
+    let e = in_loopback cut gone f.config.fifo_trigger_level before fifo f a.mid a.parts.front m a.parts.between b a.parts.first a.parts.before in
     let c = next_stages (Saving (Exchanges {T = Unit {0}} (Err Stalled))) (Leaves mcr ier before f.lsr) a.mid after a.parts.back
     a.parts.between n a.parts.second a.parts.after in
     let w = lives-path f.limit a.parts.front m a.parts.between v a.parts.before in
@@ -150,7 +150,7 @@ no_stall-test cut gone mcr ier f after l m n v b (before, fifo, t) path =
     no_stall-exchange (looped_modes m.chip.latches.lcr fifo cut) gone (settings_of a.mid) c.parts.front a.parts.between c.parts.between
     (subst (λ limit. Lives limit a.parts.between) same w) e c.parts.first.0 c.parts.before
 
-no_stall-begin : (s : State) (n : MachineState) (mcr ier : ℕ) (l : List Access) → IsSound (machine_of s) → IsTimely s →
+pub no_stall-begin : (s : State) (n : MachineState) (mcr ier : ℕ) (l : List Access) → IsSound (machine_of s) → IsTimely s →
     HasRoom 0 (machine_of s) → BeginsTest mcr ier false (settings_of (fields (inner_of s))) l → Path MachineStep (machine_of s) l n → ⊥
 no_stall-begin s n mcr ier l w timely room t path =
     let v = settings_of (fields (inner_of s)) in

@@ -1,11 +1,12 @@
 -- A loopback test that begins in a ready state: it is done or stalls, and where it is done all that was to go out
 -- is on the wire, and nothing else.
 use Rattle.std.proofs.Common.{◌≡◌, ◌+◌, ◌<◌, ◌≤◌, ◌&&◌, nat_lt, ℕ, zero, suc, bit_and, arith, sym, Bool, true}
-use Rattle.std.proofs.Common.{false, inl, inr, List, [], ◌∷◌, append-nil, Result, Ok, Err, refl, ◌∙◌, ap, subst}
+use Rattle.std.proofs.Common.{false, inl, inr, List, [], ◌∷◌, append-nil, Option, Result, Ok, Err, refl, ◌∙◌, ap, subst}
 use Rattle.uart_spec.specs.declared.errors.LoopbackError.{LoopbackError}
 use Rattle.uart_spec.specs.declared.errors.LoopbackError.TheVariants.{Stalled}
 use Rattle.std.proofs.lemmas.Nat.{and_le_r}
 use Rattle.std.proofs.Math.Nat.{mod-eq_of_lt}
+use Rattle.uart_spec.specs.declared.registers.fifo_trigger_level.FifoTriggerLevel.{FifoTriggerLevel}
 use Rattle.uart_spec.specs.declared.registers.offsets.TheConstants as offsets
 use Rattle.uart_spec.specs.declared.registers.line_status.TheConstants.LSR
 use Rattle.uart_spec.specs.declared.registers.modem_control.TheConstants.MCR
@@ -18,7 +19,7 @@ use Rattle.uart_16550.specs.Transmit.{WaitsFor}
 use Rattle.uart_16550.specs.Driver.{Fields, Saving, Plain, Sets, Next, fields, settings_of, with_fifo}
 use Rattle.uart_16550.specs.Init.{SetsFifo}
 use Rattle.uart_spec.specs.Lines.{line_changes}
-use Rattle.uart_16550.specs.Loopback.{Exchanges, Enters, Leaves, BeginsTest, Tests, IsStalled, TestsLoopback, with_changes}
+use Rattle.uart_16550.specs.Loopback.{Exchanges, EntersAt, Enters, Leaves, BeginsTest, Tests, IsStalled, TestsLoopback, with_changes}
 use Rattle.uart_16550.specs.Tty.{inner_of}
 use Rattle.uart_events.specs.declared.call.Call.TheVariants as call
 use Rattle.uart_events.specs.declared.call.Answer.{Answer}
@@ -84,9 +85,8 @@ begun s n mcr ier l sound r t path =
 
 -- ---- into the loopback
 
-enters_silently : (before : ℕ) (fifo : Bool) → DoesSilently (Enters before fifo)
-enters_silently before fifo f after l t =
-    let level = f.config.fifo_trigger_level in
+enters_silently : (level : Option FifoTriggerLevel) (before : ℕ) (fifo : Bool) → DoesSilently (EntersAt level before fifo)
+enters_silently level before fifo f after l t =
     let list = Read offsets.MSR before ∷ Write offsets.IER 0 ∷ Write offsets.MCR MCR.LOOP_BACK.0 ∷ [] in
     let L : Language = Then (Only list) (SetsFifo level fifo) in
     silent_next (Saving L) (Sets (with_fifo fifo))
@@ -98,11 +98,11 @@ enters_silently before fifo f after l t =
 abbrev pub looped_modes : ℕ → Bool → (ℕ → ℕ) → Modes
 looped_modes lcr fifo cut = record { lcr = lcr; mcr = MCR.LOOP_BACK.0; fifo = fifo; cut = cut }
 
-pub in_loopback : (cut : ℕ → ℕ) (gone : List ℕ) (before : ℕ) (fifo : Bool) (f after : Fields) (l : List Access) (m n : MachineState) →
-    IsBegun cut gone m → Enters before fifo f l after → Path MachineStep m l n →
+pub in_loopback : (cut : ℕ → ℕ) (gone : List ℕ) (level : Option FifoTriggerLevel) (before : ℕ) (fifo : Bool) (f after : Fields)
+    (l : List Access) (m n : MachineState) → IsBegun cut gone m → EntersAt level before fifo f l after → Path MachineStep m l n →
     IsEntered (looped_modes m.chip.latches.lcr fifo cut) gone (settings_of after) n
-in_loopback cut gone before fifo f after l m n b t path =
-    let e = entered before fifo f after l m n b.sound b.dlab t path in
+in_loopback cut gone level before fifo f after l m n b t path =
+    let e = entered level before fifo f after l m n b.sound b.dlab t path in
     record {
       looped = record { dlab = b.dlab; loopback = refl };
       fifo = e.knows;
@@ -113,12 +113,12 @@ in_loopback cut gone before fifo f after l m n b t path =
             fifo = ap (λ (k : Kept). k.fifo) e.kept;
             cut = ap kept_cut e.kept ∙ b.same_cut;
           };
-      sent = sent_path gone l m n (enters_silently before fifo f after l t) b.sent path;
+      sent = sent_path gone l m n (enters_silently level before fifo f after l t) b.sent path;
     }
 
 -- ---- out of the loopback
 
-leaves_silently : (mcr ier before noted : ℕ) → DoesSilently (Leaves mcr ier before noted)
+pub leaves_silently : (mcr ier before noted : ℕ) → DoesSilently (Leaves mcr ier before noted)
 leaves_silently mcr ier before noted f after l (now, t) =
     silent_next _ _ (one _) (silent_next _ _ look (silent_next _ _ both (silent_sets (with_changes noted (line_changes before now)))))
     f after l t
@@ -140,7 +140,7 @@ test_leads : {T : Type 0} (narrow : Bool) (cut : ℕ → ℕ) (gone : List ℕ) 
 test_leads narrow cut gone mcr ier result f after l m n cuts b (before, fifo, t) path =
     let x = looped_modes m.chip.latches.lcr fifo cut in
     let a = next_stages (Enters before fifo) (Next (Saving (Exchanges result)) (Leaves mcr ier before f.lsr)) f after l m n t path in
-    let e = in_loopback cut gone before fifo f a.mid a.parts.front m a.parts.between b a.parts.first a.parts.before in
+    let e = in_loopback cut gone f.config.fifo_trigger_level before fifo f a.mid a.parts.front m a.parts.between b a.parts.first a.parts.before in
     let c = next_stages (Saving (Exchanges result)) (Leaves mcr ier before f.lsr) a.mid after a.parts.back a.parts.between
     n a.parts.second a.parts.after in
     let o = exchange_leads narrow x gone (settings_of a.mid) result c.parts.front a.parts.between c.parts.between cuts e

@@ -58,13 +58,13 @@ left_and_more : (limit : ℕ) (m : MachineState) → Lives limit m →
     left m.chip.transmitter + most_held m.chip.transmitter ≤ limit
 left_and_more limit m v = exceeds m.chip.transmitter limit (left-most m.chip v.sound.chip) v.enough
 
-few_left : (limit : ℕ) (m : MachineState) → Lives limit m → left m.chip.transmitter < limit
+pub few_left : (limit : ℕ) (m : MachineState) → Lives limit m → left m.chip.transmitter < limit
 few_left limit m v = let less = left_and_more limit m v in omega (arith, less)
 
 -- ---- what is on its way comes back
 
 -- where the transmitter is empty, it waits to be read
-all_waits : (gone : List ℕ) (c : ChipState) → IsSent gone c.transmitter → length (line_in c) ≡ length c.receiver.queue
+pub all_waits : (gone : List ℕ) (c : ChipState) → IsSent gone c.transmitter → length (line_in c) ≡ length c.receiver.queue
 all_waits gone c s = go c.transmitter.shift_register c.transmitter.queue s.place s.queue
   where
     byte : Character → ℕ
@@ -141,7 +141,7 @@ never_full x gone s l m n v r t path = go s.limit (some_limit s.limit m v) t
 
 -- ---- the drain ends
 
-takes_blocks : (s : Settings) (k : ℕ) (l : List Access) → Times k TakesOne s l → (rs : List ℕ) × (length rs ≡ k) × InBlocks s.fifo l [] rs
+pub takes_blocks : (s : Settings) (k : ℕ) (l : List Access) → Times k TakesOne s l → (rs : List ℕ) × (length rs ≡ k) × InBlocks s.fifo l [] rs
 takes_blocks s zero l t = ([], refl, rw t.is (blocks_none s.fifo))
 takes_blocks s (suc k) l t =
     let a = takes_blocks s k t.back t.second in (

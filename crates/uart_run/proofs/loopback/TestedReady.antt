@@ -1,7 +1,9 @@
 -- A loopback test leaves a ready state ready, whatever it answers.
-use Rattle.std.proofs.Common.{◌≡◌, ℕ, Bool, true, false, inl, inr, List, [], ◌∷◌, Result, refl, sym, ◌∙◌, ap, bit_and, if◌then◌else◌}
+use Rattle.std.proofs.Common.{◌≡◌, ◌&&◌, ℕ, Bool, true, false, inl, inr, List, [], ◌∷◌, Result, Option, refl, sym, ◌∙◌, ap, bit_and}
+use Rattle.std.proofs.Common.{if◌then◌else◌}
 use Rattle.bitflags.specs.Sets.{without}
 use Rattle.uart_spec.specs.declared.errors.LoopbackError.{LoopbackError}
+use Rattle.uart_spec.specs.declared.registers.fifo_trigger_level.FifoTriggerLevel.{FifoTriggerLevel}
 use Rattle.uart_spec.specs.declared.registers.offsets.TheConstants as offsets
 use Rattle.uart_spec.specs.declared.registers.line_status.TheConstants.LSR
 use Rattle.uart_spec.specs.declared.registers.modem_control.TheConstants.MCR
@@ -12,7 +14,7 @@ use Rattle.uart_16550.specs.Grammar.{Settings, Only, Then}
 use Rattle.uart_16550.specs.Driver.{Fields, fields, settings_of, Saving, Sets, Next, with_fifo}
 use Rattle.uart_16550.specs.Transmit.{WaitsFor}
 use Rattle.uart_16550.specs.Init.{SetsFifo}
-use Rattle.uart_16550.specs.Loopback.{Exchanges, Enters, Leaves, BeginsTest, Tests, TestsLoopback}
+use Rattle.uart_16550.specs.Loopback.{Exchanges, EntersAt, Enters, Leaves, BeginsTest, Tests, TestsLoopback}
 use Rattle.uart_16550.specs.Tty.{inner_of}
 use Rattle.uart_events.specs.declared.call.Call.TheVariants as call
 use Rattle.uart_events.specs.declared.call.Answer.{Answer}
@@ -21,7 +23,7 @@ use Rattle.uart_chip.specs.Masks.{ier_bits, mcr_bits}
 use Rattle.uart_chip.specs.Chip.{is_dlab_set}
 use Rattle.uart_chip.specs.Machine.{MachineState, MachineStep}
 use Rattle.uart_run.specs.Run.{State, machine_of, CallStep}
-use Rattle.uart_run.specs.Ready.{Ready}
+use Rattle.uart_run.specs.Ready.{Ready, has_fifo, is_level}
 use Rattle.uart_chip.specs.Sound.{IsSound}
 use Rattle.uart_chip.proofs.Bits.{has_and}
 use Rattle.uart_chip.proofs.soundness.Sounds.{sound_path}
@@ -36,13 +38,13 @@ use Rattle.uart_run.proofs.initialising.Initialised.{ready_by}
 
 -- ---- the first wait
 
-keeps_begins : (s : Settings) (mcr ier : ℕ) (empty : Bool) → AllKeep s (BeginsTest mcr ier empty)
+pub keeps_begins : (s : Settings) (mcr ier : ℕ) (empty : Bool) → AllKeep s (BeginsTest mcr ier empty)
 keeps_begins s mcr ier empty =
     all_then keeping s _ _ (all_only keeping s (Read offsets.MCR mcr ∷ Read offsets.IER ier ∷ []) (λ k d. refl))
     (keeps_waits s LSR.TRANSMITTER_EMPTY.0 empty)
 
 -- MCR is read as it is
-mcr_read : (s : Settings) (mcr ier : ℕ) (empty : Bool) (l : List Access) (m n : MachineState) → BeginsTest mcr ier empty s l →
+pub mcr_read : (s : Settings) (mcr ier : ℕ) (empty : Bool) (l : List Access) (m n : MachineState) → BeginsTest mcr ier empty s l →
     Path MachineStep m l n → mcr ≡ m.chip.latches.mcr
 mcr_read s mcr ier empty l m n t p =
     let a = then_parts (Only (Read offsets.MCR mcr ∷ Read offsets.IER ier ∷ [])) (WaitsFor LSR.TRANSMITTER_EMPTY.0 empty) s l m n t p in
@@ -57,26 +59,29 @@ mcr_read s mcr ier empty l m n t p =
 abbrev pub looped : Bool → Kept → Kept
 looped on k = record k { latches = record k.latches { ier = 0; mcr = MCR.LOOP_BACK.0 }; fifo = on }
 
--- loopback is entered, and the driver takes the FIFO to be as it is
-pub record Entered (on : Bool) (m n : MachineState) (after : Fields) : Type 0 where
+-- loopback is entered with FIFOs of this level, and the driver takes the FIFO to be as it is
+pub record Entered (level : Option FifoTriggerLevel) (on : Bool) (m n : MachineState) (after : Fields) : Type 0 where
   pub kept : kept_in n.chip ≡ looped on (kept_in m.chip)
   pub knows : after.fifo ≡ on
+  pub is_on : on ≡ (is_level level && has_fifo m.chip.model)
 
-pub entered : (before : ℕ) (on : Bool) (f after : Fields) (l : List Access) (m n : MachineState) → IsSound m →
-    is_dlab_set m.chip.latches ≡ false → Enters before on f l after → Path MachineStep m l n → Entered on m n after
-entered before on f after l m n w dlab t p =
+pub entered : (level : Option FifoTriggerLevel) (before : ℕ) (on : Bool) (f after : Fields) (l : List Access) (m n : MachineState) →
+    IsSound m → is_dlab_set m.chip.latches ≡ false → EntersAt level before on f l after → Path MachineStep m l n →
+    Entered level on m n after
+entered level before on f after l m n w dlab t p =
     let modes : List Access = Read offsets.MSR before ∷ Write offsets.IER 0 ∷ Write offsets.MCR MCR.LOOP_BACK.0 ∷ [] in
-    let a = next_stages (Saving (Then (Only modes) (SetsFifo f.config.fifo_trigger_level on))) (Sets (with_fifo on)) f after l m n t p in
-    let b = then_parts (Only modes) (SetsFifo f.config.fifo_trigger_level on) (settings_of f) a.parts.front m a.parts.between
+    let a = next_stages (Saving (Then (Only modes) (SetsFifo level on))) (Sets (with_fifo on)) f after l m n t p in
+    let b = then_parts (Only modes) (SetsFifo level on) (settings_of f) a.parts.front m a.parts.between
     a.parts.first.0 a.parts.before in
     let first = kept_list b.front modes m b.between b.first.is b.before ∙ written (kept_in m.chip) dlab in
-    let set = sets_fifo f.config.fifo_trigger_level on (settings_of f) b.back b.between a.parts.between
+    let set = sets_fifo level on (settings_of f) b.back b.between a.parts.between
     (sound_path b.front m b.between w b.before) b.second b.after in
     record {
       kept =
           kept_list a.parts.back [] a.parts.between n a.parts.second.0 a.parts.after
           ∙ (set.kept ∙ ap (λ (k : Kept). record k { fifo = on }) first);
       knows = ap (λ (g : Fields). g.fifo) a.parts.second.1;
+      is_on = set.is_on ∙ ap (λ (k : Kept). is_level level && has_fifo k.model) first;
     }
   where
     written : (k : Kept) → is_dlab_set k.latches ≡ false →
@@ -90,19 +95,19 @@ entered before on f after l m n w dlab t p =
 -- ---- out of loopback
 
 -- the accesses by which the modes are written back
-abbrev leaving : (mcr ier now : ℕ) → List Access
+abbrev pub leaving : (mcr ier now : ℕ) → List Access
 leaving mcr ier now =
     Write offsets.MCR (without 8 mcr MCR.OUT_2_INT_ENABLE.0) ∷ Read offsets.MSR now ∷ Write offsets.MCR mcr ∷ Write offsets.IER ier ∷ []
 
 -- what is kept after them
-abbrev restored : ℕ → ℕ → Kept → Kept
+abbrev pub restored : ℕ → ℕ → Kept → Kept
 restored mcr ier k = record k { latches = record k.latches { ier = bit_and ier ier_bits; mcr = bit_and mcr mcr_bits } }
 
-written_back : (mcr ier now : ℕ) (k : Kept) → is_dlab_set k.latches ≡ false → kept_after (leaving mcr ier now) k ≡ restored mcr ier k
+pub written_back : (mcr ier now : ℕ) (k : Kept) → is_dlab_set k.latches ≡ false → kept_after (leaving mcr ier now) k ≡ restored mcr ier k
 written_back mcr ier now k d =
     ap (λ (b : Bool). if b then record k { latches = record k.latches { mcr = bit_and mcr mcr_bits; dlm = ier } } else restored mcr ier k) d
 
-left : (mcr ier before noted : ℕ) (f after : Fields) (l : List Access) (m n : MachineState) → (t : Leaves mcr ier before noted f l after) →
+pub left : (mcr ier before noted : ℕ) (f after : Fields) (l : List Access) (m n : MachineState) → (t : Leaves mcr ier before noted f l after) →
     Path MachineStep m l n → LeftBy (leaving mcr ier t.0) f after m n
 left mcr ier before noted f after l m n (now, t) p =
     let fifo : Fields → Bool = λ g. g.fifo in
@@ -132,7 +137,7 @@ tests_ready result mcr ier f l m t w dlab no_loop (before, on, does) p =
     let a = next_stages (Enters before on) (Next (Saving (Exchanges result)) (Leaves mcr ier before f.lsr)) f after l m n does p in
     let b = next_stages (Saving (Exchanges result)) (Leaves mcr ier before f.lsr) a.mid after a.parts.back a.parts.between
     n a.parts.second a.parts.after in
-    let e = entered before on f a.mid a.parts.front m a.parts.between w dlab a.parts.first a.parts.before in
+    let e = entered f.config.fifo_trigger_level before on f a.mid a.parts.front m a.parts.between w dlab a.parts.first a.parts.before in
     joined a.parts.between b.parts.between b.mid b.parts.second.0 e.kept
     (λ d. kept_still (settings_of a.mid) (Exchanges result) b.parts.front a.parts.between b.parts.between
     (keeps_exchanges (settings_of a.mid) result) d b.parts.first.0 b.parts.before)

@@ -1,0 +1,8 @@
+-- What `find_fifo_size` finds, and when it must succeed.
+pub mod Filling
+pub mod Flooding
+pub mod Counting
+pub mod Staying
+pub mod Measuring
+pub mod Finding
+pub mod Succeeding

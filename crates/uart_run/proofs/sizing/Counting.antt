@@ -1,0 +1,102 @@
+-- What comes back of a flood is counted: as many as the receiver holds, and that tells the size of its FIFO.
+use Rattle.std.proofs.Common.{◌≡◌, ℕ, ◌+◌, ◌==◌, Bool, inl, inr, List, [], ◌++◌, length, Result, Ok, Err}
+use Rattle.std.proofs.Common.{append-nil, false, refl, arith, sym, ◌∙◌, ap, subst, if◌then◌else◌}
+use Rattle.uart_spec.specs.FifoSize.{characters}
+use Rattle.uart_spec.specs.declared.setup.FifoSize.{FifoSize}
+use Rattle.uart_spec.specs.declared.setup.FifoSize.TheVariants.{Sixteen, ThirtyTwo, SixtyFour, OneHundredTwentyEight}
+use Rattle.uart_spec.specs.declared.setup.FifoSize.TheVariants.{TwoHundredFiftySix}
+use Rattle.uart_spec.specs.declared.errors.FifoSizeError.{FifoSizeError}
+use Rattle.uart_spec.specs.declared.errors.FifoSizeError.TheVariants.{FifosOff, TooFew, Stalled}
+use Rattle.uart_spec.specs.declared.registers.offsets.TheConstants as offsets
+use Rattle.uart_spec.specs.declared.registers.line_status.TheConstants.LSR
+use Rattle.uart_spec.specs.Access.{Path}
+use Rattle.uart_spec.specs.declared.access.Access.{Access}
+use Rattle.uart_16550.specs.Grammar.{Settings, Times}
+use Rattle.uart_16550.specs.Receive.{Miss}
+use Rattle.uart_16550.specs.Loopback.{TakesOne}
+use Rattle.uart_16550.specs.Sizing.{flood, TakesBack, Tells}
+use Rattle.uart_chip.specs.Transmitter.{room}
+use Rattle.uart_chip.specs.Machine.{MachineState, MachineStep}
+use Rattle.uart_chip.proofs.Sizes.{at_least_16, at_most_256, room_within}
+use Rattle.uart_chip.proofs.conservation.Went.{Modes}
+use Rattle.uart_chip.proofs.loopback.Loops.{line_in, line-length}
+use Rattle.uart_chip.proofs.loopback.LoopAccesses.{IsLooped}
+use Rattle.uart_run.proofs.CallBlocks.{InBlocks, blocks_then, makes_look}
+use Rattle.uart_run.proofs.EmptyTransmitter.{sent_path}
+use Rattle.uart_run.proofs.ListsInTurn.{all_then, all_times}
+use Rattle.uart_run.proofs.Served.{EndsDry, dry_empties}
+use Rattle.uart_run.proofs.SilentLists.{IsSilent, silence, silent_asks}
+use Rattle.uart_run.proofs.loopback.LoopBlocks.{loops_in_blocks}
+use Rattle.uart_run.proofs.loopback.LoopPhases.{silent_takes_one}
+use Rattle.uart_run.proofs.loopback.LoopWaits.{all_waits, takes_blocks}
+use Rattle.uart_run.proofs.sizing.Flooding.{IsFull}
+
+-- ---- the count
+
+silent_miss : (s : Settings) → IsSilent s Miss
+silent_miss s = silent_asks s offsets.LSR LSR.DATA_READY.0 false
+
+pub silent_takes_back : (s : Settings) (count : ℕ) → IsSilent s (TakesBack count)
+silent_takes_back s count l (inl t) = all_times silence s flood TakesOne (silent_takes_one s) l t.1
+silent_takes_back s count l (inr t) =
+    all_then silence s (Times count TakesOne) Miss (all_times silence s count TakesOne (silent_takes_one s)) (silent_miss s) l t.1
+
+module _ (x : Modes) (gone : List ℕ) (s : Settings) (i : IsLooped x) (knows : s.fifo ≡ x.fifo) where
+  -- what these accesses read, of all that is there
+  taken : (l : List Access) (m n : MachineState) (rs : List ℕ) → IsFull x gone m → InBlocks s.fifo l [] rs → Path MachineStep m l n →
+      length rs + length (line_in n.chip) ≡ room x.fifo m.chip.receiver.size
+  taken l m n rs w blocks path =
+      let B : Bool → Type 0 = λ fifo. InBlocks fifo l [] rs in
+      let all = all_waits gone m.chip w.sent in
+      let a = loops_in_blocks x m n l [] rs i w.modes (omega (arith, all, w.full)) (subst B knows blocks) path in
+      let long = line-length x m.chip n.chip [] rs a in
+      omega (arith, long, all, w.full)
+
+  pub counted : (count : ℕ) (l : List Access) (m n : MachineState) → IsFull x gone m → TakesBack count s l → Path MachineStep m l n →
+      count ≡ room x.fifo m.chip.receiver.size
+  counted count l m n w (inl t) path =
+      let a = takes_blocks s flood l t.1 in
+      let all = taken l m n a.0 w a.2 path in
+      let within = room_within x.fifo m.chip.receiver.size in
+      let most = at_most_256 m.chip.receiver.size in
+      absurd (omega (arith, all, a.1, within, most))
+  counted count l m n w (inr t) path =
+      let u = t.1 in
+      let a = takes_blocks s count u.front u.first in
+      let blocks : InBlocks s.fifo (u.front ++ u.back) [] (a.0 ++ []) =
+      blocks_then s.fifo u.front u.back [] [] a.0 [] a.2 (makes_look s LSR.DATA_READY.0 false u.back u.second) in
+      let B : List Access → Type 0 = λ k. InBlocks s.fifo k [] (a.0 ++ []) in
+      let all = taken l m n (a.0 ++ []) w (subst B (sym u.whole) blocks) path in
+      let dry : EndsDry s l = record { front = u.front; back = u.back; whole = u.whole; miss = u.second } in
+      let none = dry_empties s m n l dry path in
+      let left = all_waits gone n.chip (sent_path gone l m n (silent_takes_back s count l (inr t)) w.sent path) in
+      let long : length (a.0 ++ []) ≡ length a.0 = ap length (append-nil a.0) in
+      omega (arith, all, long, none, left, a.1)
+
+-- ---- what it tells
+
+-- a size by its characters
+size_with : ℕ → FifoSize
+size_with n =
+    if n == 16 then Sixteen else if n == 32 then ThirtyTwo else if n == 64 then SixtyFour
+    else if n == 128 then OneHundredTwentyEight else TwoHundredFiftySix
+
+size_with_characters : (size : FifoSize) → size_with (characters size) ≡ size
+unfolding size_with
+size_with_characters Sixteen = refl
+size_with_characters _ = refl
+
+abbrev pub Found : Type 0
+Found = Result FifoSize FifoSizeError
+
+-- as many as a FIFO holds tell its size
+pub told : (size : FifoSize) (count : ℕ) (found : Found) → count ≡ characters size → Tells count found → found ≡ Ok size
+told size count (Ok other) e t =
+    let most = t.0 in
+    let least = t.1 size (omega (arith, e)) in
+    let same : characters other ≡ characters size = omega (arith, most, least, e) in
+    let sizes : other ≡ size = sym (size_with_characters other) ∙ (ap size_with same ∙ size_with_characters size) in
+    ap (λ (one : FifoSize). let r : Found = Ok one in r) sizes
+told size count (Err (TooFew returned)) e t = let least = at_least_16 size in absurd (omega (arith, t.1, least, e))
+told size count (Err FifosOff) e t = absurd t
+told size count (Err Stalled) e t = absurd t

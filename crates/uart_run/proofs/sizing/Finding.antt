@@ -1,0 +1,309 @@
+-- A `find_fifo_size` that begins in a ready state: it finds the size or stalls, and puts everything back.
+use Rattle.std.proofs.Common.{◌≡◌, ◌⊎◌, ◌&&◌, ℕ, Bool, true, false, inl, inr, List, [], ◌∷◌, ◌++◌, append-nil, Ok, Err, Option, Some}
+use Rattle.std.proofs.Common.{refl, sym, ◌∙◌, ap, subst, bit_and, if◌then◌else◌, unwrap_or}
+use Rattle.uart_spec.specs.declared.setup.FifoSize.{FifoSize}
+use Rattle.uart_spec.specs.declared.errors.FifoSizeError.TheVariants.{Stalled}
+use Rattle.uart_spec.specs.declared.registers.fifo_trigger_level.FifoTriggerLevel.{FifoTriggerLevel}
+use Rattle.uart_spec.specs.declared.registers.fifo_trigger_level.FifoTriggerLevel.TheVariants.{One}
+use Rattle.uart_spec.specs.declared.registers.interrupt_status.TheConstants.ISR
+use Rattle.uart_spec.specs.declared.registers.line_status.TheConstants.LSR
+use Rattle.uart_spec.specs.declared.registers.offsets.TheConstants as offsets
+use Rattle.uart_spec.specs.Access.{Path}
+use Rattle.uart_spec.specs.declared.access.Access.{Access}
+use Rattle.uart_spec.specs.declared.access.Access.TheVariants.{Read, Write}
+use Rattle.uart_16550.specs.Grammar.{Settings, Only, Asks}
+use Rattle.uart_16550.specs.Driver.{Fields, Saving, Sets, Next, fields, settings_of, with_fifo}
+use Rattle.uart_16550.specs.Transmit.{WaitsFor}
+use Rattle.uart_16550.specs.Init.{fifo_bits, SetsFifo}
+use Rattle.uart_16550.specs.Setup.{level_of}
+use Rattle.uart_16550.specs.Loopback.{test_byte, EntersAt, Leaves, BeginsTest}
+use Rattle.uart_16550.specs.Sizing.{Measures, SwitchesFifo, Sizes, SizesInLoopback, FindsFifoSize}
+use Rattle.uart_16550.specs.Tty.{inner_of}
+use Rattle.uart_events.specs.declared.event.Chip.{Chip}
+use Rattle.uart_events.specs.declared.event.Chip.TheVariants.{Uart16550A}
+use Rattle.uart_chip.specs.Masks.{ier_bits, mcr_bits}
+use Rattle.uart_chip.specs.Transmitter.{TransmitterState, out, shift_bytes}
+use Rattle.uart_chip.specs.Chip.{cut_of, is_dlab_set, after_write}
+use Rattle.uart_chip.specs.Machine.{MachineState, MachineStep, at_access}
+use Rattle.uart_chip.specs.Sound.{IsSound}
+use Rattle.uart_chip.proofs.soundness.Sounds.{sound_path}
+use Rattle.uart_chip.proofs.lasting.Constants.{same_pace}
+use Rattle.uart_chip.proofs.conservation.Went.{Modes, IsIn}
+use Rattle.uart_chip.proofs.conservation.BlockLaws.{IsOpen, Stands, path_as}
+use Rattle.uart_chip.proofs.loopback.LoopAccesses.{IsLooped}
+use Rattle.uart_run.specs.Run.{State, machine_of}
+use Rattle.uart_run.specs.Ready.{Ready, has_fifo}
+use Rattle.uart_run.specs.Served.{transmitter_of, IsFlushed}
+use Rattle.uart_run.specs.Sizes.{size_in, SendsAtMostOne, FindsSize, FindsOff}
+use Rattle.uart_run.proofs.EmptyTransmitter.{IsSent, sent_path, shown_sent}
+use Rattle.uart_run.proofs.CallBlocks.{Makes, makes_then, passed_in_blocks, waits_blocks}
+use Rattle.uart_run.proofs.CallKeeps.{quiet_blocks}
+use Rattle.uart_run.proofs.KeptLists.{kept_still}
+use Rattle.uart_run.proofs.Latches.{Kept, kept_in, kept_after, kept_list, kept_step, kept_access}
+use Rattle.uart_run.proofs.Pieces.{then_parts, next_stages}
+use Rattle.uart_run.proofs.SilentLists.{DoesSilently, silent_next, silent_saving, silent_sets, silent_sets_fifo, silent_asks}
+use Rattle.uart_chip.proofs.lasting.Lasting.{AllSendNothing}
+use Rattle.uart_run.proofs.initialising.FifoSteps.{sets_fifo}
+use Rattle.uart_run.proofs.initialising.Initialised.{ready_by}
+use Rattle.uart_run.proofs.loopback.LoopTests.{IsBegun, begun, looped_modes, in_loopback, leaves_silently}
+use Rattle.uart_run.proofs.loopback.TestedReady.{entered, keeps_begins, mcr_read, looped, restored, leaving, written_back, left}
+use Rattle.uart_run.proofs.sizing.Counting.{Found}
+use Rattle.uart_run.proofs.sizing.Filling.{AllAre}
+use Rattle.uart_run.proofs.sizing.Flooding.{IsFlooded, flooded_access}
+use Rattle.uart_run.proofs.sizing.Measuring.{FoundIn, measured, keeps_measures}
+use Rattle.uart_run.proofs.sizing.Staying.{SendsLast, last_path, last_out, emptied, reset_written}
+
+-- ---- before the loopback
+
+begins_blocks : (s : Settings) (mcr ier : ℕ) (empty : Bool) → Makes s (BeginsTest mcr ier empty) [] []
+begins_blocks s mcr ier empty l t =
+    makes_then s (Only (Read offsets.MCR mcr ∷ Read offsets.IER ier ∷ [])) (WaitsFor LSR.TRANSMITTER_EMPTY.0 empty) [] [] [] []
+    (λ k u. rw u.is (quiet_blocks s.fifo (Read offsets.MCR mcr ∷ Read offsets.IER ier ∷ []) (refl, (refl, tt))))
+    (waits_blocks s LSR.TRANSMITTER_EMPTY.0 empty) l t
+
+-- nothing is written before it
+begins_out : (s : State) (n : MachineState) (mcr ier : ℕ) (empty : Bool) (l : List Access) → IsSound (machine_of s) → Ready s →
+    BeginsTest mcr ier empty (settings_of (fields (inner_of s))) l → Path MachineStep (machine_of s) l n →
+    out n.chip.transmitter ≡ out (machine_of s).chip.transmitter
+begins_out s n mcr ier empty l sound r t path =
+    let m = machine_of s in
+    let v = settings_of (fields (inner_of s)) in
+    let x : Modes = record { lcr = m.chip.latches.lcr; mcr = m.chip.latches.mcr; fifo = v.fifo; cut = cut_of m.chip } in
+    let in_modes : IsIn x m.chip = record { lcr = refl; mcr = refl; fifo = r.fifo; cut = refl } in
+    let stands : Stands x m = record { sound = sound; modes = in_modes } in
+    let opened : IsOpen x = record { dlab = r.dlab; loopback = r.loopback } in
+    let p = (passed_in_blocks x m n l [] [] opened stands (begins_blocks v mcr ier empty l t) path).passed in
+    p.went.sends.grows ∙ append-nil (out m.chip.transmitter)
+
+-- IER is read as it is
+ier_read : (s : Settings) (mcr ier : ℕ) (empty : Bool) (l : List Access) (m n : MachineState) → is_dlab_set m.chip.latches ≡ false →
+    BeginsTest mcr ier empty s l → Path MachineStep m l n → ier ≡ m.chip.latches.ier
+ier_read s mcr ier empty l m n dlab t p =
+    let a = then_parts (Only (Read offsets.MCR mcr ∷ Read offsets.IER ier ∷ [])) (WaitsFor LSR.TRANSMITTER_EMPTY.0 empty) s l m n t p in
+    second a.between (path_as m a.between a.front (Read offsets.MCR mcr ∷ Read offsets.IER ier ∷ []) a.first.is a.before)
+  where
+    second : (o : MachineState) → Path MachineStep m (Read offsets.MCR mcr ∷ Read offsets.IER ier ∷ []) o → ier ≡ m.chip.latches.ier
+    second o (m₁, s₁, (m₂, s₂, same)) =
+        s₂.1
+        ∙ (ap (λ (k : Kept). if is_dlab_set k.latches then k.latches.dlm else k.latches.ier)
+        (kept_access m₁ ∙ kept_step (Read offsets.MCR mcr) m m₁ s₁)
+        ∙ ap (λ (b : Bool). if b then m.chip.latches.dlm else m.chip.latches.ier) dlab)
+
+-- ---- the FIFO step and the way out of loopback
+
+switches_silently : (level : Option FifoTriggerLevel) (on : Bool) → DoesSilently (SwitchesFifo level on)
+switches_silently level on =
+    silent_next (Saving (SetsFifo level on)) (Sets (with_fifo on)) (silent_saving (SetsFifo level on) (λ s. silent_sets_fifo s level on))
+    (silent_sets (with_fifo on))
+
+-- the reset of FCR empties the queue
+reset_step : (level : FifoTriggerLevel) (x : Modes) (gone : List ℕ) (i : IsLooped x) (m n : MachineState) → IsFlooded x gone 0 m.chip →
+    m.chip.model ≡ Uart16550A → MachineStep m (Write offsets.FCR (fifo_bits (Some level))) n →
+    SendsLast gone (x.cut test_byte) n.chip.transmitter
+reset_step level x gone i m n w model step =
+    let c = (at_access m).chip in
+    let v = flooded_access x gone i 0 m w in
+    let same : c.model ≡ Uart16550A = ap (λ (k : Kept). k.model) (kept_access m) ∙ model in
+    let e : (after_write offsets.FCR (fifo_bits (Some level)) c).transmitter ≡ emptied c.transmitter = reset_written level c.model c same in
+    let byte : cut_of c test_byte ≡ x.cut test_byte = ap (λ (cut : ℕ → ℕ). cut test_byte) v.modes.cut in
+    let place = subst (λ (b : ℕ). AllAre b (shift_bytes c.transmitter.shift_register)) byte v.fills.place in
+    let last : SendsLast gone (x.cut test_byte) (emptied c.transmitter) = record { queue = refl; rest = inl (v.fills.wire, place) } in
+    let P : TransmitterState → Type 0 = SendsLast gone (x.cut test_byte) in
+    subst P (sym (ap (λ (o : MachineState). o.chip.transmitter) step ∙ e)) last
+
+reset_sends : (level : FifoTriggerLevel) (on : Bool) (s : Settings) (x : Modes) (gone : List ℕ) (i : IsLooped x) (l : List Access)
+    (m n : MachineState) → IsFlooded x gone 0 m.chip → m.chip.model ≡ Uart16550A → SetsFifo (Some level) on s l → Path MachineStep m l n →
+    SendsLast gone (x.cut test_byte) n.chip.transmitter
+reset_sends level on s x gone i l m n w model t path =
+    let write = Write offsets.FCR (fifo_bits (Some level)) ∷ [] in
+    let a = then_parts (Only write) (Asks offsets.ISR ISR.FIFOS_ENABLED.0 on) s l m n t path in
+    let first = reset a.between (path_as m a.between a.front write a.first.is a.before) in
+    last_path gone (x.cut test_byte) a.back a.between n (silent_asks s offsets.ISR ISR.FIFOS_ENABLED.0 on a.back a.second) first a.after
+  where
+    reset : (o : MachineState) → Path MachineStep m (Write offsets.FCR (fifo_bits (Some level)) ∷ []) o →
+        SendsLast gone (x.cut test_byte) o.chip.transmitter
+    reset o (mid, step, same) = rw same (reset_step level x gone i m mid w model step)
+
+-- ---- what is sent in the end
+
+sent_out : (gone : List ℕ) (t : TransmitterState) → IsSent gone t → out t ≡ gone
+sent_out gone t w = rw (w.place, w.queue, w.wire) (append-nil gone)
+
+-- what was found, and what has been sent and is still to be sent
+abbrev Ended : (gone : List ℕ) (byte : ℕ) → FifoSize → Found → TransmitterState → Type 0
+Ended gone byte size found t =
+    ((found ≡ Ok size) × IsSent gone t) ⊎ ((found ≡ Err Stalled) × ((out t ≡ gone) ⊎ (out t ≡ gone ++ byte ∷ [])))
+
+-- from the measure on
+ended : (level : FifoTriggerLevel) (on : Bool) (x : Modes) (gone : List ℕ) (i : IsLooped x) (size : FifoSize) (found : Found)
+    (mcr ier before noted : ℕ) (f g after : Fields) (front back : List Access) (m o n : MachineState) → m.chip.model ≡ Uart16550A →
+    FoundIn x gone size found m → SwitchesFifo (Some level) on f front g → Path MachineStep m front o →
+    Leaves mcr ier before noted g back after → Path MachineStep o back n → Ended gone (x.cut test_byte) size found n.chip.transmitter
+ended level on x gone i size found mcr ier before noted f g after front back m o n model w t p u q = go w
+  where
+    silent_front : AllSendNothing front
+    silent_front = switches_silently (Some level) on f g front t
+
+    silent_back : AllSendNothing back
+    silent_back = leaves_silently mcr ier before noted g after back u
+
+    sent : IsSent gone m.chip.transmitter → IsSent gone n.chip.transmitter
+    sent v = sent_path gone back o n silent_back (sent_path gone front m o silent_front v p) q
+
+    last : IsFlooded x gone 0 m.chip → SendsLast gone (x.cut test_byte) n.chip.transmitter
+    last v =
+        let a = next_stages (Saving (SetsFifo (Some level) on)) (Sets (with_fifo on)) f g front m o t p in
+        let b = reset_sends level on (settings_of f) x gone i a.parts.front m a.parts.between v model a.parts.first.0 a.parts.before in
+        let none : AllSendNothing a.parts.back = rw a.parts.second.0 tt in
+        let c = last_path gone (x.cut test_byte) a.parts.back a.parts.between o none b a.parts.after in
+        last_path gone (x.cut test_byte) back o n silent_back c q
+
+    go : FoundIn x gone size found m → Ended gone (x.cut test_byte) size found n.chip.transmitter
+    go (inl v) = inl (v.0, sent v.1)
+    go (inr (stalled, inl v)) = inr (stalled, inl (sent_out gone n.chip.transmitter (sent v)))
+    go (inr (stalled, inr v)) = inr (stalled, last_out gone (x.cut test_byte) n.chip.transmitter (last v))
+
+-- ---- what is put back
+
+-- what is kept is as before, but for the FIFO
+put_back : (mcr ier : ℕ) (on again : Bool) (k : Kept) → mcr ≡ k.latches.mcr → ier ≡ k.latches.ier →
+    bit_and k.latches.mcr mcr_bits ≡ k.latches.mcr → bit_and k.latches.ier ier_bits ≡ k.latches.ier →
+    restored mcr ier (record (looped on k) { fifo = again }) ≡ record k { fifo = again }
+put_back mcr ier on again k same_mcr same_ier within_mcr within_ier =
+    let back : ℕ → ℕ → Kept = λ (i c : ℕ). record k { fifo = again; latches = record k.latches { ier = i; mcr = c } } in
+    ap (λ (i : ℕ). back i (bit_and mcr mcr_bits)) (ap (λ (v : ℕ). bit_and v ier_bits) same_ier ∙ within_ier)
+    ∙ ap (back k.latches.ier) (ap (λ (v : ℕ). bit_and v mcr_bits) same_mcr ∙ within_mcr)
+
+-- ---- after the first wait
+
+-- the level that FIFOs are set to that are on
+abbrev pub level_on : Fields → Option FifoTriggerLevel
+level_on f = level_of true f.config.fifo_trigger_level
+
+module _ (s t : State) (sound : IsSound (machine_of s)) (ready : Ready s) (is_on : (fields (inner_of s)).fifo ≡ true) where
+  abbrev gone : List ℕ
+  gone = out (machine_of s).chip.transmitter
+
+  model : (machine_of s).chip.model ≡ Uart16550A
+  model = sound.chip.implemented (ready.fifo ∙ is_on)
+
+  -- a FIFO that is set is on
+  set_on : (on : Bool) (k : Kept) → k.model ≡ Uart16550A → on ≡ (true && has_fifo k.model) → on ≡ true
+  set_on on k same e = e ∙ ap (λ (chip : Chip). true && has_fifo chip) same
+
+  ended_out : (found : Found) → Ended gone (cut_of (machine_of s).chip test_byte) (size_in s) found (transmitter_of t) → SendsAtMostOne s t
+  ended_out found (inl v) = inl (sent_out gone (transmitter_of t) v.1)
+  ended_out found (inr v) = v.1
+
+  ended_answer : (found : Found) → Ended gone (cut_of (machine_of s).chip test_byte) (size_in s) found (transmitter_of t) →
+      (found ≡ Ok (size_in s)) ⊎ (found ≡ Err Stalled)
+  ended_answer found (inl v) = inl v.0
+  ended_answer found (inr v) = inr v.0
+
+  ended_flushed : (found : Found) → Ended gone (cut_of (machine_of s).chip test_byte) (size_in s) found (transmitter_of t) →
+      found ≡ Ok (size_in s) → IsFlushed s t
+  ended_flushed found (inl v) e = record { is_empty = shown_sent gone (transmitter_of t) v.1; wire = v.1.wire }
+  ended_flushed found (inr v) e = let other : Err Stalled ≡ Ok (size_in s) = sym v.0 ∙ e in absurd (cc)
+
+  finds : (found : Found) (by : Ended gone (cut_of (machine_of s).chip test_byte) (size_in s) found (transmitter_of t)) (on : Bool) →
+      on ≡ true → kept_in (machine_of t).chip ≡ record (kept_in (machine_of s).chip) { fifo = on } → (fields (inner_of t)).fifo ≡ on →
+      FindsSize s found t
+  finds found by on e kept knows = record {
+    answers = ended_answer found by;
+    flushed = ended_flushed found by;
+    sends = ended_out found by;
+    ready = ready_by t (record (kept_in (machine_of s).chip) { fifo = on }) kept ready.dlab ready.loopback knows;
+    latches = ap (λ (k : Kept). k.latches) kept;
+    fifo = ap (λ (k : Kept). k.fifo) kept ∙ (e ∙ sym (ready.fifo ∙ is_on));
+  }
+
+  -- from the empty transmitter on
+  in_loop : (found : Found) (mcr ier : ℕ) (f : Fields) (l : List Access) (m : MachineState) →
+      IsBegun (cut_of (machine_of s).chip) gone m → kept_in m.chip ≡ kept_in (machine_of s).chip →
+      m.chip.transmitter.size ≡ size_in s → mcr ≡ m.chip.latches.mcr → ier ≡ m.chip.latches.ier →
+      SizesInLoopback found mcr ier f l (fields (inner_of t)) → Path MachineStep m l (machine_of t) → FindsSize s found t
+  in_loop found mcr ier f l m b kept size is_mcr is_ier (before, on, does) path =
+      let after = fields (inner_of t) in
+      let n = machine_of t in
+      let level = level_on f in
+      let cut = cut_of (machine_of s).chip in
+      let x = looped_modes m.chip.latches.lcr on cut in
+      let a = next_stages (EntersAt level before on) (Next (Sizes level found) (Leaves mcr ier before f.lsr)) f after l m n does path in
+      let c = next_stages (Sizes level found) (Leaves mcr ier before f.lsr) a.mid after a.parts.back a.parts.between n a.parts.second
+      a.parts.after in
+      let again = c.parts.first.0 in
+      let d = next_stages (Saving (Measures found)) (SwitchesFifo level again) a.mid c.mid c.parts.front a.parts.between c.parts.between
+      c.parts.first.1 c.parts.before in
+      let g = next_stages (Saving (SetsFifo level again)) (Sets (with_fifo again)) d.mid c.mid d.parts.back d.parts.between
+      c.parts.between d.parts.second d.parts.after in
+      let e = entered level before on f a.mid a.parts.front m a.parts.between b.sound b.dlab a.parts.first a.parts.before in
+      let i = in_loopback cut gone level before on f a.mid a.parts.front m a.parts.between b a.parts.first a.parts.before in
+      let is_a : m.chip.model ≡ Uart16550A = ap (λ (k : Kept). k.model) kept ∙ model in
+      let fifo : on ≡ true = set_on on (kept_in m.chip) is_a e.is_on in
+      let pace = same_pace a.parts.front m a.parts.between a.parts.before in
+      let sound_a = sound_path a.parts.front m a.parts.between b.sound a.parts.before in
+      let sound_d = sound_path d.parts.front a.parts.between d.parts.between sound_a d.parts.before in
+      let found_in = measured x gone (settings_of a.mid) found d.parts.front a.parts.between d.parts.between fifo sound_a i
+      d.parts.first.0 d.parts.before in
+      let F : FifoSize → Type 0 = λ one. FoundIn x gone one found d.parts.between in
+      let dlab_a : is_dlab_set a.parts.between.chip.latches ≡ false = ap (λ (k : Kept). is_dlab_set k.latches) e.kept ∙ b.dlab in
+      let still = kept_still (settings_of a.mid) (Measures found) d.parts.front a.parts.between d.parts.between
+      (keeps_measures (settings_of a.mid) found) dlab_a d.parts.first.0 d.parts.before in
+      let is_a_d : d.parts.between.chip.model ≡ Uart16550A = ap (λ (k : Kept). k.model) (still ∙ e.kept) ∙ is_a in
+      let by = ended (unwrap_or f.config.fifo_trigger_level One) again x gone i.looped (size_in s) found mcr ier before f.lsr d.mid c.mid
+      after d.parts.back c.parts.back d.parts.between c.parts.between n is_a_d (subst F (pace.size ∙ size) found_in) d.parts.second
+      d.parts.after c.parts.second c.parts.after in
+      let set = sets_fifo level again (settings_of d.mid) g.parts.front d.parts.between g.parts.between sound_d g.parts.first.0
+      g.parts.before in
+      let none = kept_list g.parts.back [] g.parts.between c.parts.between g.parts.second.0 g.parts.after in
+      let out_of = left mcr ier before f.lsr c.mid after c.parts.back c.parts.between n c.parts.second c.parts.after in
+      let looped_on : kept_in c.parts.between.chip ≡ record (looped on (kept_in m.chip)) { fifo = again } =
+      none ∙ (set.kept ∙ ap (λ (k : Kept). record k { fifo = again }) (still ∙ e.kept)) in
+      let latches = b.sound.chip.latches in
+      let back = out_of.kept
+      ∙ (ap (kept_after (leaving mcr ier c.parts.second.0)) looped_on
+      ∙ (written_back mcr ier c.parts.second.0 (record (looped on (kept_in m.chip)) { fifo = again }) b.dlab
+      ∙ (put_back mcr ier on again (kept_in m.chip) is_mcr is_ier latches.mcr latches.ier
+      ∙ ap (λ (k : Kept). record k { fifo = again }) kept))) in
+      finds found by again (set_on again (kept_in d.parts.between.chip) is_a_d set.is_on) back
+      (out_of.knows ∙ ap (λ (v : Fields). v.fifo) g.parts.second.1)
+
+  -- ---- the whole call
+
+  pub finds_size : (found : Found) (l : List Access) → FindsFifoSize found (fields (inner_of s)) l (fields (inner_of t)) →
+      Path MachineStep (machine_of s) l (machine_of t) → FindsSize s found t
+  finds_size found l (inl h) path = let other : true ≡ false = sym is_on ∙ h.1 in absurd (cc)
+  finds_size found l (inr (_, (mcr, ier, inl (stalled, (begins, same))))) path =
+      let v = settings_of (fields (inner_of s)) in
+      let m = machine_of s in
+      let n = machine_of t in
+      let kept = kept_still v (BeginsTest mcr ier false) l m n (keeps_begins v mcr ier false) ready.dlab begins path in
+      let fifo : kept_in n.chip ≡ record (kept_in m.chip) { fifo = m.chip.fifo } = kept in
+      let knows : (fields (inner_of t)).fifo ≡ m.chip.fifo = ap (λ (g : Fields). g.fifo) same ∙ sym ready.fifo in
+      finds found (inr (stalled, inl (begins_out s n mcr ier false l sound ready begins path))) m.chip.fifo (ready.fifo ∙ is_on) fifo knows
+  finds_size found l (inr (_, (mcr, ier, inr does))) path =
+      let f = fields (inner_of s) in
+      let v = settings_of f in
+      let m = machine_of s in
+      let n = machine_of t in
+      let a = next_stages (Saving (BeginsTest mcr ier true)) (SizesInLoopback found mcr ier) f (fields (inner_of t)) l m n does path in
+      let b = begun s a.parts.between mcr ier a.parts.front sound ready a.parts.first.0 a.parts.before in
+      let kept = kept_still v (BeginsTest mcr ier true) a.parts.front m a.parts.between (keeps_begins v mcr ier true) ready.dlab
+      a.parts.first.0 a.parts.before in
+      let pace = same_pace a.parts.front m a.parts.between a.parts.before in
+      let is_mcr = mcr_read v mcr ier true a.parts.front m a.parts.between a.parts.first.0 a.parts.before in
+      let is_ier = ier_read v mcr ier true a.parts.front m a.parts.between ready.dlab a.parts.first.0 a.parts.before in
+      in_loop found mcr ier a.mid a.parts.back a.parts.between b kept pace.size
+      (is_mcr ∙ sym (ap (λ (k : Kept). k.latches.mcr) kept)) (is_ier ∙ sym (ap (λ (k : Kept). k.latches.ier) kept)) a.parts.second
+      a.parts.after
+
+-- with the FIFOs off nothing is done
+pub finds_off : (s t : State) (found : Found) (l : List Access) → (fields (inner_of s)).fifo ≡ false →
+    FindsFifoSize found (fields (inner_of s)) l (fields (inner_of t)) → Path MachineStep (machine_of s) l (machine_of t) →
+    FindsOff s found t
+finds_off s t found l off (inl h) path = record {
+  answers = h.0;
+  machine = path_as (machine_of s) (machine_of t) l [] h.2 path;
+  driver = h.3;
+}
+finds_off s t found l off (inr h) path = let other : false ≡ true = sym off ∙ h.0 in absurd (cc)

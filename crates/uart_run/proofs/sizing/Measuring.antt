@@ -1,0 +1,129 @@
+-- The measure of `find_fifo_size` in loopback: it finds the size of the FIFO, or a wait reached the limit.
+use Rattle.std.proofs.Common.{◌≡◌, ◌⊎◌, ℕ, Bool, true, false, inl, inr, List, [], ◌∷◌, Ok, Err, arith, sym, ◌∙◌, ap}
+use Rattle.uart_spec.specs.FifoSize.{characters}
+use Rattle.uart_spec.specs.declared.setup.FifoSize.{FifoSize}
+use Rattle.uart_spec.specs.declared.errors.FifoSizeError.TheVariants.{Stalled}
+use Rattle.uart_spec.specs.declared.registers.offsets.TheConstants as offsets
+use Rattle.uart_spec.specs.declared.registers.line_status.TheConstants.LSR
+use Rattle.uart_spec.specs.Access.{Path}
+use Rattle.uart_spec.specs.declared.access.Access.{Access}
+use Rattle.uart_spec.specs.declared.access.Access.TheVariants.{Write}
+use Rattle.uart_16550.specs.Grammar.{Settings, Only, Then, Times}
+use Rattle.uart_16550.specs.Receive.{Miss}
+use Rattle.uart_16550.specs.Transmit.{WaitsFor}
+use Rattle.uart_16550.specs.Loopback.{test_byte, TakesOne, DrainsLoopback}
+use Rattle.uart_16550.specs.Sizing.{flood, Floods, TakesBack, Measures}
+use Rattle.uart_chip.specs.Transmitter.{room}
+use Rattle.uart_chip.specs.Chip.{ChipState}
+use Rattle.uart_chip.specs.Machine.{MachineState, MachineStep}
+use Rattle.uart_chip.specs.Sound.{IsSoundChip, IsSound}
+use Rattle.uart_chip.proofs.Sizes.{at_most_256, room_within}
+use Rattle.uart_chip.proofs.lasting.Constants.{same_pace}
+use Rattle.uart_chip.proofs.soundness.Sounds.{sound_path}
+use Rattle.uart_chip.proofs.conservation.Went.{Modes}
+use Rattle.uart_run.proofs.EmptyTransmitter.{IsSent, sent_path, wait_empties}
+use Rattle.uart_run.proofs.KeptLists.{AllKeep, keeping, keeps_data, keeps_miss, keeps_waits}
+use Rattle.uart_run.proofs.ListsInTurn.{all_only, all_then, all_times, all_few, all_misses}
+use Rattle.uart_run.proofs.Pieces.{then_parts}
+use Rattle.uart_run.proofs.SilentLists.{silence}
+use Rattle.uart_run.proofs.loopback.LoopPhases.{IsEntered, IsReadyToTest, drained, idle_sent, silent_takes_one, keeps_takes_one}
+use Rattle.uart_run.proofs.sizing.Flooding.{IsFlooded, flooded, flooded_looks, looks_waits, filled}
+use Rattle.uart_run.proofs.sizing.Counting.{Found, counted, told, silent_takes_back}
+
+-- both FIFOs of a sound chip have one size
+pub one_size : (c : ChipState) → IsSoundChip c → c.receiver.size ≡ c.transmitter.size
+one_size c w = w.sizes.1 ∙ sym w.sizes.0
+
+-- ---- what the registers keep
+
+keeps_floods : (s : Settings) → AllKeep s Floods
+keeps_floods s =
+    all_times keeping s flood (Only (Write offsets.DATA test_byte ∷ []))
+    (all_only keeping s (Write offsets.DATA test_byte ∷ []) (keeps_data test_byte))
+
+keeps_takes_back : (s : Settings) (count : ℕ) → AllKeep s (TakesBack count)
+keeps_takes_back s count l (inl t) = all_times keeping s flood TakesOne (keeps_takes_one s) l t.1
+keeps_takes_back s count l (inr t) =
+    all_then keeping s (Times count TakesOne) Miss (all_times keeping s count TakesOne (keeps_takes_one s)) (keeps_miss s) l t.1
+
+keeps_drained : (s : Settings) → AllKeep s (DrainsLoopback true)
+keeps_drained s = all_then keeping s _ Miss (all_few keeping s TakesOne (keeps_takes_one s)) (keeps_miss s)
+
+pub keeps_measures : (s : Settings) (found : Found) → AllKeep s (Measures found)
+keeps_measures s found l (inl t) = all_misses keeping s TakesOne (keeps_takes_one s) l t.1
+keeps_measures s found l (inr (inl t)) =
+    all_then keeping s (DrainsLoopback true) _ (keeps_drained s)
+    (all_then keeping s Floods _ (keeps_floods s) (keeps_waits s LSR.TRANSMITTER_EMPTY.0 false)) l t.1
+keeps_measures s found l (inr (inr (count, tells, t))) =
+    all_then keeping s (DrainsLoopback true) _ (keeps_drained s)
+    (all_then keeping s Floods _ (keeps_floods s)
+    (all_then keeping s _ (TakesBack count) (keeps_waits s LSR.TRANSMITTER_EMPTY.0 true) (keeps_takes_back s count))) l t
+
+-- ---- what is found
+
+-- the size was found, and the transmitter is empty; or a wait reached the limit, and it is empty, or has some of the
+-- flood. The wire has what was to be sent before
+abbrev pub FoundIn : Modes → List ℕ → FifoSize → Found → MachineState → Type 0
+FoundIn x gone size found n =
+    ((found ≡ Ok size) × IsSent gone n.chip.transmitter)
+    ⊎ ((found ≡ Err Stalled) × (IsSent gone n.chip.transmitter ⊎ IsFlooded x gone 0 n.chip))
+
+module _ (x : Modes) (gone : List ℕ) (s : Settings) where
+  -- a chip in which nothing is left may be flooded
+  may_flood : (m : MachineState) → IsSound m → IsReadyToTest x gone s m → IsFlooded x gone flood m.chip
+  may_flood m sound r =
+      let c = m.chip in
+      let sent = idle_sent x gone c r.idle in
+      let within = room_within c.fifo c.receiver.size in
+      let most = at_most_256 c.receiver.size in
+      record {
+        modes = r.idle.modes;
+        fills =
+            record {
+              wire = sent.wire;
+              place = rw sent.place tt;
+              queue = rw sent.queue tt;
+              enough = omega (arith, within, most);
+              size = sym (one_size c sound.chip);
+            };
+      }
+
+  -- after the drain and the flood
+  pub was_flooded : (l : List Access) (m n : MachineState) → IsSound m → IsReadyToTest x gone s m → Floods s l → Path MachineStep m l n →
+      IsFlooded x gone 0 n.chip
+  was_flooded l m n sound r t path = flooded x gone r.looped s flood l m n (may_flood m sound r) t path
+
+  pub measured : (found : Found) (l : List Access) (m n : MachineState) → x.fifo ≡ true → IsSound m → IsEntered x gone s m →
+      Measures found s l → Path MachineStep m l n → FoundIn x gone m.chip.transmitter.size found n
+  measured found l m n on sound e (inl t) path =
+      inr (t.0, inl (sent_path gone l m n (all_misses silence s TakesOne (silent_takes_one s) l t.1) e.sent path))
+  measured found l m n on sound e (inr (inl t)) path =
+      let a = then_parts (DrainsLoopback true) (Then Floods (WaitsFor LSR.TRANSMITTER_EMPTY.0 false)) s l m n t.1 path in
+      let r = drained x gone s a.front m a.between e a.first a.before in
+      let b = then_parts Floods (WaitsFor LSR.TRANSMITTER_EMPTY.0 false) s a.back a.between n a.second a.after in
+      let w = was_flooded b.front a.between b.between (sound_path a.front m a.between sound a.before) r b.first b.before in
+      inr (t.0, inr (flooded_looks x gone r.looped 0 b.back b.between n (looks_waits s LSR.TRANSMITTER_EMPTY.0 false b.back b.second) w b.after))
+  measured found l m n on sound e (inr (inr (count, tells, t))) path =
+      let waits = Then (WaitsFor LSR.TRANSMITTER_EMPTY.0 true) (TakesBack count) in
+      let a = then_parts (DrainsLoopback true) (Then Floods waits) s l m n t path in
+      let r = drained x gone s a.front m a.between e a.first a.before in
+      let b = then_parts Floods waits s a.back a.between n a.second a.after in
+      let sound_a = sound_path a.front m a.between sound a.before in
+      let w = was_flooded b.front a.between b.between sound_a r b.first b.before in
+      let c = then_parts (WaitsFor LSR.TRANSMITTER_EMPTY.0 true) (TakesBack count) s b.back b.between n b.second b.after in
+      let v = flooded_looks x gone r.looped 0 c.front b.between c.between (looks_waits s LSR.TRANSMITTER_EMPTY.0 true c.front c.first) w c.before in
+      let sound_b = sound_path b.front a.between b.between sound_a b.before in
+      let sound_c = sound_path c.front b.between c.between sound_b c.before in
+      let full = filled x gone c.between sound_c v (wait_empties s c.front b.between c.between c.first c.before) in
+      let all = counted x gone s r.looped r.fifo count c.back c.between n full c.second c.after in
+      let size_a = same_pace a.front m a.between a.before in
+      let size_b = same_pace b.front a.between b.between b.before in
+      let size_c = same_pace c.front b.between c.between c.before in
+      let size : c.between.chip.receiver.size ≡ m.chip.transmitter.size =
+      one_size c.between.chip sound_c.chip ∙ (size_c.size ∙ (size_b.size ∙ size_a.size)) in
+      let holds : room x.fifo c.between.chip.receiver.size ≡ characters m.chip.transmitter.size =
+      ap (λ (fifo : Bool). room fifo c.between.chip.receiver.size) on ∙ ap characters size in
+      inl (
+        told m.chip.transmitter.size count found (all ∙ holds) tells,
+        sent_path gone c.back c.between n (silent_takes_back s count c.back c.second) full.sent c.after,
+      )
