@@ -1,6 +1,6 @@
--- A `find_fifo_size` that begins in a ready state: it finds the size or stalls, and puts everything back.
+-- A `find_fifo_size` over a chip that has FIFOs: it finds the size or stalls, and puts everything back.
 use Rattle.std.proofs.Common.{◌≡◌, ◌⊎◌, ◌&&◌, ℕ, Bool, true, false, inl, inr, List, [], ◌∷◌, ◌++◌, append-nil, Ok, Err, Option, Some}
-use Rattle.std.proofs.Common.{◌≢◌, ◌≤◌, ◌==◌, arith, refl, sym, ◌∙◌, ap, subst, bit_and, if◌then◌else◌, unwrap_or}
+use Rattle.std.proofs.Common.{zero, suc, ◌≢◌, ◌≤◌, ◌==◌, arith, refl, sym, ◌∙◌, ap, subst, bit_and, if◌then◌else◌, unwrap_or}
 use Rattle.std.proofs.lemmas.Grind.{common_steps}
 use Rattle.uart_spec.specs.declared.config.Config.{Config}
 use Rattle.uart_spec.specs.declared.setup.FifoSize.{FifoSize}
@@ -13,7 +13,7 @@ use Rattle.uart_spec.specs.declared.registers.offsets.TheConstants as offsets
 use Rattle.uart_spec.specs.Access.{Path}
 use Rattle.uart_spec.specs.declared.access.Access.{Access}
 use Rattle.uart_spec.specs.declared.access.Access.TheVariants.{Read, Write}
-use Rattle.uart_16550.specs.Grammar.{Settings, Only, Asks}
+use Rattle.uart_16550.specs.Grammar.{Settings, Only, Times, Asks}
 use Rattle.uart_16550.specs.Driver.{Fields, Saving, Sets, Next, fields, settings_of, with_fifo}
 use Rattle.uart_16550.specs.Transmit.{WaitsFor}
 use Rattle.uart_16550.specs.Init.{fifo_bits, SetsFifo}
@@ -36,7 +36,7 @@ use Rattle.uart_chip.proofs.loopback.LoopAccesses.{IsLooped}
 use Rattle.uart_run.specs.Run.{State, machine_of}
 use Rattle.uart_run.specs.Ready.{Ready, has_fifo}
 use Rattle.uart_run.specs.Served.{transmitter_of}
-use Rattle.uart_run.specs.Sizes.{size_in, receiver_of, IsMeasured, SendsAtMostOne, FindsSize, FindsOff}
+use Rattle.uart_run.specs.Sizes.{size_in, MayFind, receiver_of, IsMeasured, SendsAtMostOne, FindsSize, FindsOff}
 use Rattle.uart_run.proofs.EmptyTransmitter.{IsSent, sent_path, shown_sent}
 use Rattle.uart_run.proofs.CallBlocks.{Makes, makes_then, passed_in_blocks, waits_blocks}
 use Rattle.uart_run.proofs.CallKeeps.{quiet_blocks}
@@ -64,7 +64,54 @@ begins_blocks s mcr ier empty l t =
     (λ k u. rw u.is (quiet_blocks s.fifo (Read offsets.MCR mcr ∷ Read offsets.IER ier ∷ []) (refl, (refl, tt))))
     (waits_blocks s LSR.TRANSMITTER_EMPTY.0 empty) l t
 
--- nothing is written before it
+-- What comes before the loopback does not depend on whether the driver takes the FIFO to be on. So it is as in a ready
+-- state.
+
+module _ (v : Settings) (fifo : Bool) where
+  asks_alike : (bits : ℕ) (outcome : Bool) (l : List Access) → Asks offsets.LSR bits outcome v l →
+      Asks offsets.LSR bits outcome (record v { fifo = fifo }) l
+  asks_alike bits outcome l t = record { answer = t.answer; shows = t.shows; is = t.is }
+
+  times_alike : (n bits : ℕ) (l : List Access) → Times n (Asks offsets.LSR bits false) v l →
+      Times n (Asks offsets.LSR bits false) (record v { fifo = fifo }) l
+  times_alike zero bits l t = record { is = t.is }
+  times_alike (suc n) bits l t = record {
+    front = t.front;
+    back = t.back;
+    whole = t.whole;
+    first = asks_alike bits false t.front t.first;
+    second = times_alike n bits t.back t.second;
+  }
+
+  waits_alike : (bits : ℕ) (outcome : Bool) (l : List Access) → WaitsFor bits outcome v l →
+      WaitsFor bits outcome (record v { fifo = fifo }) l
+  waits_alike bits true l t = record {
+    front = t.front;
+    back = t.back;
+    whole = t.whole;
+    first = (t.first.0, t.first.1, times_alike t.first.0 bits t.front t.first.2);
+    second = asks_alike bits true t.back t.second;
+  }
+  waits_alike bits false l t = times_alike v.limit bits l t
+
+  pub begins_alike : (mcr ier : ℕ) (empty : Bool) (l : List Access) → BeginsTest mcr ier empty v l →
+      BeginsTest mcr ier empty (record v { fifo = fifo }) l
+  begins_alike mcr ier empty l t = record {
+    front = t.front;
+    back = t.back;
+    whole = t.whole;
+    first = record { is = t.first.is };
+    second = waits_alike LSR.TRANSMITTER_EMPTY.0 empty t.back t.second;
+  }
+
+-- the same state, with a driver that knows whether the FIFO is on
+abbrev pub knowing : State → State
+knowing s = record { inner = record (inner_of s) { fifo_enabled = (machine_of s).chip.fifo } }
+
+pub ready_knowing : (s : State) → MayFind s → Ready (knowing s)
+ready_knowing s may = record { dlab = may.dlab; loopback = may.loopback; fifo = refl }
+
+-- nothing is written before the loopback
 begins_out : (s : State) (n : MachineState) (mcr ier : ℕ) (empty : Bool) (l : List Access) → IsSound (machine_of s) → Ready s →
     BeginsTest mcr ier empty (settings_of (fields (inner_of s))) l → Path MachineStep (machine_of s) l n →
     out n.chip.transmitter ≡ out (machine_of s).chip.transmitter
@@ -214,12 +261,9 @@ put_back mcr ier on again k same_mcr same_ier within_mcr within_ier =
 abbrev pub level_on : Fields → Option FifoTriggerLevel
 level_on f = level_of true f.config.fifo_trigger_level
 
-module _ (s t : State) (sound : IsSound (machine_of s)) (ready : Ready s) (is_on : (fields (inner_of s)).fifo ≡ true) where
+module _ (s t : State) (sound : IsSound (machine_of s)) (may : MayFind s) (is_on : (fields (inner_of s)).fifo ≡ true) where
   abbrev gone : List ℕ
   gone = out (machine_of s).chip.transmitter
-
-  model : (machine_of s).chip.model ≡ Uart16550A
-  model = sound.chip.implemented (ready.fifo ∙ is_on)
 
   -- a FIFO that is set is on
   set_on : (on : Bool) (k : Kept) → k.model ≡ Uart16550A → on ≡ (true && has_fifo k.model) → on ≡ true
@@ -240,28 +284,31 @@ module _ (s t : State) (sound : IsSound (machine_of s)) (ready : Ready s) (is_on
   ended_answer found (inl v) = inl v.0
   ended_answer found (inr v) = inr v.0
 
-  ended_measured : (found : Found) → EndsIn found → found ≡ Ok (size_in s) → IsMeasured s t
-  ended_measured found (inl v) e =
+  ended_measured : (found : Found) → EndsIn found → Ready t → found ≡ Ok (size_in s) → IsMeasured s t
+  ended_measured found (inl v) ready e =
       let sent : IsSent gone (transmitter_of t) = v.1.0 in
       let remains = v.1.1 in
       record {
+        ready = ready;
         flushed = record { is_empty = shown_sent gone (transmitter_of t) sent; wire = sent.wire };
         waits = remains.waits;
         level = remains.trigger;
       }
-  ended_measured found (inr v) e = let other : Err Stalled ≡ Ok (size_in s) = sym v.0 ∙ e in absurd (cc)
+  ended_measured found (inr v) ready e = let other : Err Stalled ≡ Ok (size_in s) = sym v.0 ∙ e in absurd (cc)
 
   finds : (found : Found) → EndsIn found → (on : Bool) → on ≡ true →
       kept_in (machine_of t).chip ≡ record (kept_in (machine_of s).chip) { fifo = on } → (fields (inner_of t)).fifo ≡ on →
       FindsSize s found t
-  finds found by on e kept knows = record {
-    answers = ended_answer found by;
-    measured = ended_measured found by;
-    sends = ended_out found by;
-    ready = ready_by t (record (kept_in (machine_of s).chip) { fifo = on }) kept ready.dlab ready.loopback knows;
-    latches = ap (λ (k : Kept). k.latches) kept;
-    fifo = ap (λ (k : Kept). k.fifo) kept ∙ (e ∙ sym (ready.fifo ∙ is_on));
-  }
+  finds found by on e kept knows =
+      let ready : Ready t = ready_by t (record (kept_in (machine_of s).chip) { fifo = on }) kept may.dlab may.loopback knows in
+      record {
+        answers = ended_answer found by;
+        measured = ended_measured found by ready;
+        sends = ended_out found by;
+        latches = ap (λ (k : Kept). k.latches) kept;
+        ready = λ before. ready;
+        fifo = λ before. ap (λ (k : Kept). k.fifo) kept ∙ (e ∙ sym (before.fifo ∙ is_on));
+      }
 
   -- from the empty transmitter on
   in_loop : (found : Found) (mcr ier : ℕ) (f : Fields) (l : List Access) (m : MachineState) →
@@ -285,7 +332,7 @@ module _ (s t : State) (sound : IsSound (machine_of s)) (ready : Ready s) (is_on
       c.parts.between d.parts.second d.parts.after in
       let e = entered (level_on f) before on f a.mid a.parts.front m a.parts.between b.sound b.dlab a.parts.first a.parts.before in
       let i = in_loopback cut gone (level_on f) before on f a.mid a.parts.front m a.parts.between b a.parts.first a.parts.before in
-      let is_a : m.chip.model ≡ Uart16550A = ap (λ (k : Kept). k.model) kept ∙ model in
+      let is_a : m.chip.model ≡ Uart16550A = ap (λ (k : Kept). k.model) kept ∙ may.model in
       let fifo : on ≡ true = set_on on (kept_in m.chip) is_a e.is_on in
       let pace = same_pace a.parts.front m a.parts.between a.parts.before in
       let sound_a = sound_path a.parts.front m a.parts.between b.sound a.parts.before in
@@ -328,22 +375,33 @@ module _ (s t : State) (sound : IsSound (machine_of s)) (ready : Ready s) (is_on
       let v = settings_of (fields (inner_of s)) in
       let m = machine_of s in
       let n = machine_of t in
-      let kept = kept_still v (BeginsTest mcr ier false) l m n (keeps_begins v mcr ier false) ready.dlab begins path in
-      let fifo : kept_in n.chip ≡ record (kept_in m.chip) { fifo = m.chip.fifo } = kept in
-      let knows : (fields (inner_of t)).fifo ≡ m.chip.fifo = ap (λ (g : Fields). g.fifo) same ∙ sym ready.fifo in
-      finds found (inr (stalled, inl (begins_out s n mcr ier false l sound ready begins path))) m.chip.fifo (ready.fifo ∙ is_on) fifo knows
+      let alike = begins_alike v m.chip.fifo mcr ier false l begins in
+      let kept = kept_still v (BeginsTest mcr ier false) l m n (keeps_begins v mcr ier false) may.dlab begins path in
+      let knows : (fields (inner_of t)).fifo ≡ (fields (inner_of s)).fifo = ap (λ (g : Fields). g.fifo) same in
+      record {
+        answers = inr stalled;
+        measured = λ e. absurd (is_stall stalled e);
+        sends = inl (begins_out (knowing s) n mcr ier false l sound (ready_knowing s may) alike path);
+        latches = ap (λ (k : Kept). k.latches) kept;
+        ready = λ before. ready_by t (kept_in m.chip) kept before.dlab before.loopback (knows ∙ sym before.fifo);
+        fifo = λ before. ap (λ (k : Kept). k.fifo) kept;
+      }
+    where
+      is_stall : found ≡ Err Stalled → found ≡ Ok (size_in s) → ⊥
+      is_stall a b = let other : Err Stalled ≡ Ok (size_in s) = sym a ∙ b in absurd (cc)
   finds_size found l (inr (_, (mcr, ier, inr does))) path =
       let f = fields (inner_of s) in
       let v = settings_of f in
       let m = machine_of s in
       let n = machine_of t in
       let a = next_stages (Saving (BeginsTest mcr ier true)) (SizesInLoopback found mcr ier) f (fields (inner_of t)) l m n does path in
-      let b = begun s a.parts.between mcr ier a.parts.front sound ready a.parts.first.0 a.parts.before in
-      let kept = kept_still v (BeginsTest mcr ier true) a.parts.front m a.parts.between (keeps_begins v mcr ier true) ready.dlab
+      let alike = begins_alike v m.chip.fifo mcr ier true a.parts.front a.parts.first.0 in
+      let b = begun (knowing s) a.parts.between mcr ier a.parts.front sound (ready_knowing s may) alike a.parts.before in
+      let kept = kept_still v (BeginsTest mcr ier true) a.parts.front m a.parts.between (keeps_begins v mcr ier true) may.dlab
       a.parts.first.0 a.parts.before in
       let pace = same_pace a.parts.front m a.parts.between a.parts.before in
       let is_mcr = mcr_read v mcr ier true a.parts.front m a.parts.between a.parts.first.0 a.parts.before in
-      let is_ier = ier_read v mcr ier true a.parts.front m a.parts.between ready.dlab a.parts.first.0 a.parts.before in
+      let is_ier = ier_read v mcr ier true a.parts.front m a.parts.between may.dlab a.parts.first.0 a.parts.before in
       let come = come_path (receiver_of s).arrived a.parts.front m a.parts.between (omega arith) a.parts.before in
       in_loop found mcr ier a.mid a.parts.back a.parts.between b kept pace.size come (ap (λ (g : Fields). g.config) a.parts.first.1)
       (is_mcr ∙ sym (ap (λ (k : Kept). k.latches.mcr) kept)) (is_ier ∙ sym (ap (λ (k : Kept). k.latches.ier) kept)) a.parts.second
@@ -359,3 +417,11 @@ finds_off s t found l off (inl h) path = record {
   driver = h.3;
 }
 finds_off s t found l off (inr h) path = let other : false ≡ true = sym off ∙ h.0 in absurd (cc)
+
+-- in a ready state with FIFOs that are on the size may be found
+pub may_find : (s : State) → IsSound (machine_of s) → Ready s → (fields (inner_of s)).fifo ≡ true → MayFind s
+may_find s sound ready on = record {
+  dlab = ready.dlab;
+  loopback = ready.loopback;
+  model = sound.chip.implemented (ready.fifo ∙ on);
+}
