@@ -60,7 +60,7 @@ sent_refill gone (Some shifting) queue t e s = s
 sent_refill gone None [] t e s = s
 sent_refill gone None (x ∷ xs) t e s = absurd (cc)
 
-sent_tick : (gone : List ℕ) (loopback : Bool) (t : TransmitterState) → IsSent gone t → IsSent gone (tick loopback t)
+pub sent_tick : (gone : List ℕ) (loopback : Bool) (t : TransmitterState) → IsSent gone t → IsSent gone (tick loopback t)
 sent_tick gone loopback t s =
     let u : TransmitterState = shift loopback t.shift_register t in
     let v : IsSent gone u = sent_shift loopback gone t.shift_register t s.place s in

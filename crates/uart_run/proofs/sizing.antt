@@ -3,6 +3,7 @@ pub mod Filling
 pub mod Flooding
 pub mod Counting
 pub mod Staying
+pub mod Remaining
 pub mod Measuring
 pub mod Finding
 pub mod Succeeding

@@ -1,12 +1,19 @@
 -- What `find_fifo_size` finds over the machine, and what it leaves.
-use Rattle.std.specs.Prelude.{◌≡◌, ◌⊎◌, ℕ, List, [], ◌∷◌, ◌++◌, Result, Ok, Err}
+use Rattle.std.specs.Prelude.{◌≡◌, ◌⊎◌, ◌≤◌, ℕ, false, List, [], ◌∷◌, ◌++◌, Result, Ok, Err, unwrap_or}
+use Rattle.std.specs.List.{AllByRecursion}
 use Rattle.uart_spec.specs.declared.setup.FifoSize.{FifoSize}
 use Rattle.uart_spec.specs.declared.errors.FifoSizeError.{FifoSizeError}
 use Rattle.uart_spec.specs.declared.errors.FifoSizeError.TheVariants.{FifosOff, Stalled}
+use Rattle.uart_spec.specs.declared.registers.fifo_trigger_level.FifoTriggerLevel.TheVariants.{One}
 use Rattle.uart_16550.specs.Driver.{fields}
 use Rattle.uart_16550.specs.Loopback.{test_byte}
 use Rattle.uart_16550.specs.Tty.{inner_of}
-use Rattle.uart_chip.specs.Chip.{cut_of}
+use Rattle.uart_events.specs.declared.event.Chip.TheVariants.{Uart16550A}
+use Rattle.uart_chip.specs.declared.receiver.Character.{Character}
+use Rattle.uart_chip.specs.declared.receiver.Origin.{Origin}
+use Rattle.uart_chip.specs.declared.receiver.Origin.TheVariants.{Arrived}
+use Rattle.uart_chip.specs.Chip.{cut_of, is_dlab_set, is_loopback}
+use Rattle.uart_chip.specs.Receiver.{ReceiverState}
 use Rattle.uart_chip.specs.Conserved.{out}
 use Rattle.uart_run.specs.Run.{State, machine_of}
 use Rattle.uart_run.specs.Ready.{Ready, latches_of}
@@ -15,6 +22,39 @@ use Rattle.uart_run.specs.Served.{transmitter_of, IsFlushed}
 -- the size of the FIFOs of the chip
 abbrev pub size_in : State → FifoSize
 size_in s = (transmitter_of s).size
+
+-- Whether the FIFOs are on is nothing that the call goes by: it turns them on.
+
+-- DLAB and loopback are off, and the chip has FIFOs, so their size may be found. It is so in a ready state with FIFOs
+-- that are on
+pub record MayFind (s : State) : Type 0 where
+  pub dlab : is_dlab_set (latches_of s) ≡ false
+  pub loopback : is_loopback (latches_of s) ≡ false
+  pub model : (machine_of s).chip.model ≡ Uart16550A
+
+-- ---- what it leaves
+
+-- the receiver of a state
+abbrev pub receiver_of : State → ReceiverState
+receiver_of s = (machine_of s).chip.receiver
+
+-- the character is the arrival with this number, or a later one. One that came back in loopback is none
+abbrev pub IsSince : (number : ℕ) → Origin → Type 0
+IsSince number (Arrived other) = number ≤ other
+IsSince number unscheduled = ⊥
+
+abbrev pub ArrivedSince : (number : ℕ) → List Character → Type 0
+ArrivedSince number characters =
+    AllByRecursion (λ (character : Character). IsSince number character.origin) characters
+
+-- after a size was found the state is ready; the transmitter is empty, and the wire has what was to be sent before, and
+-- nothing else; all that waits has arrived during the call; and the receiver has the level of the configuration, or one
+-- byte if there is none
+pub record IsMeasured (s t : State) : Type 0 where
+  pub ready : Ready t
+  pub flushed : IsFlushed s t
+  pub waits : ArrivedSince (receiver_of s).arrived (receiver_of t).queue
+  pub level : (receiver_of t).trigger ≡ unwrap_or (fields (inner_of s)).config.fifo_trigger_level One
 
 -- the test byte, as the chip sends it
 abbrev pub sent_test_byte : State → List ℕ
@@ -27,19 +67,18 @@ abbrev pub SendsAtMostOne : State → State → Type 0
 SendsAtMostOne s t =
     (out (machine_of t) ≡ out (machine_of s)) ⊎ (out (machine_of t) ≡ out (machine_of s) ++ sent_test_byte s)
 
--- a find with FIFOs that are on, in a ready state, has this answer or stalls: never too few bytes come back. With the
--- answer the transmitter is empty, and the wire has what was to be sent before, and nothing else; after a stall at most
--- one test byte goes out. The latches are as before, and the FIFO is on
-pub record FindsSize (s : State) (result : Result FifoSize FifoSizeError) (t : State) : Type 0 where
-  pub answers : (result ≡ Ok (size_in s)) ⊎ (result ≡ Err Stalled)
-  pub flushed : result ≡ Ok (size_in s) → IsFlushed s t
+-- a find returns the size of the FIFOs or stalls: never too few bytes come back. Whatever it returns, at most one test
+-- byte goes out, and the latches are as before; and a ready state stays ready, with the FIFO on
+pub record FindsSize (s : State) (found : Result FifoSize FifoSizeError) (t : State) : Type 0 where
+  pub answers : (found ≡ Ok (size_in s)) ⊎ (found ≡ Err Stalled)
+  pub measured : found ≡ Ok (size_in s) → IsMeasured s t
   pub sends : SendsAtMostOne s t
-  pub ready : Ready t
   pub latches : latches_of t ≡ latches_of s
-  pub fifo : (machine_of t).chip.fifo ≡ (machine_of s).chip.fifo
+  pub ready : Ready s → Ready t
+  pub fifo : Ready s → (machine_of t).chip.fifo ≡ (machine_of s).chip.fifo
 
--- a find with FIFOs that are off does nothing
-pub record FindsOff (s : State) (result : Result FifoSize FifoSizeError) (t : State) : Type 0 where
-  pub answers : result ≡ Err FifosOff
+-- a find of a driver that takes the FIFOs to be off does nothing
+pub record FindsOff (s : State) (found : Result FifoSize FifoSizeError) (t : State) : Type 0 where
+  pub answers : found ≡ Err FifosOff
   pub machine : machine_of t ≡ machine_of s
   pub driver : fields (inner_of t) ≡ fields (inner_of s)

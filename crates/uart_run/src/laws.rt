@@ -31,7 +31,7 @@ ghost use Rattle.uart_run.specs.Ready.{KeepsReady, Ready};
 ghost use Rattle.uart_run.specs.Overruns.{FlagTells, LeavesReceiver, OverrunsStand};
 ghost use Rattle.uart_run.specs.ReceivedErrors.{ReceivedExactly, under_terminal};
 ghost use Rattle.uart_run.specs.Progress.{HasRoom, IsTimely};
-ghost use Rattle.uart_run.specs.Sizes.{FindsOff, FindsSize, size_in};
+ghost use Rattle.uart_run.specs.Sizes.{FindsOff, FindsSize, MayFind, size_in};
 
 use uart_16550::Uart16550;
 use uart_chip::Device16550;
@@ -126,14 +126,16 @@ pub fn configured_chips_pass_the_check(uart: &Uart16550<Device16550>)
     let _fifo = uart.backend().fifo_enabled();
 }
 
-/// In a state in which a session may begin, with the FIFOs on, `find_fifo_size` returns exactly the
-/// size of the FIFOs of the chip, or a stall, whatever the schedule is. It does not stall if each
-/// access of the schedule has a tick before it, the spin limit is at least n (t + 1) for characters
-/// of t ticks, of which the transmitter holds n, and the wire has room for what waits.
+/// Over a chip that has FIFOs, with DLAB and loopback off, `find_fifo_size` returns exactly the
+/// size of the FIFOs, or a stall, whatever the schedule is. A state in which a session may begin,
+/// with the FIFOs on, is such a state. The call does not stall if each access of the schedule has a
+/// tick before it, the spin limit is at least n (t + 1) for characters of t ticks, of which the
+/// transmitter holds n, and the wire has room for what waits.
 ///
-/// With a size nothing of the call went to the wire, and all that waited before it did. After a
-/// stall at most one byte of the call goes out. Either way the latches are as before, the FIFO is
-/// on, and a session may begin. With the FIFOs off nothing is done.
+/// With a size nothing of the call went to the wire, and all that waited before it did; what is in
+/// the receiver arrived during the call; and a session may begin. After a stall at most one byte of
+/// the call goes out, and a session may begin if one might before. Either way the latches are as
+/// before. A driver that takes the FIFOs to be off does nothing.
 ///
 /// # Examples
 ///
@@ -145,12 +147,14 @@ pub fn fifo_sizes_are_found(uart: &Uart16550<Device16550>)
         (fields uart.now).fifo ≡ false →
         Did MachineStep (FindsFifoSize found) uart.now after →
         FindsOff (under_terminal uart.now) found (under_terminal after) }
+    ensures may { Ready (under_terminal uart.now) → (fields uart.now).fifo ≡ true →
+        MayFind (under_terminal uart.now) }
     ensures on { (after : Uart16550 MachineState) (found : Result FifoSize FifoSizeError) →
-        Ready (under_terminal uart.now) → (fields uart.now).fifo ≡ true →
+        MayFind (under_terminal uart.now) → (fields uart.now).fifo ≡ true →
         Did MachineStep (FindsFifoSize found) uart.now after →
         FindsSize (under_terminal uart.now) found (under_terminal after) }
     ensures succeeds { (after : Uart16550 MachineState) (found : Result FifoSize FifoSizeError) →
-        Ready (under_terminal uart.now) → (fields uart.now).fifo ≡ true →
+        MayFind (under_terminal uart.now) → (fields uart.now).fifo ≡ true →
         IsTimely (under_terminal uart.now) → HasRoom 0 (backend_of uart.now) →
         Did MachineStep (FindsFifoSize found) uart.now after →
         found ≡ Ok (size_in (under_terminal uart.now)) }

@@ -107,11 +107,9 @@ pub written_back : (mcr ier now : ℕ) (k : Kept) → is_dlab_set k.latches ≡ 
 written_back mcr ier now k d =
     ap (λ (b : Bool). if b then record k { latches = record k.latches { mcr = bit_and mcr mcr_bits; dlm = ier } } else restored mcr ier k) d
 
-pub left : (mcr ier before noted : ℕ) (f after : Fields) (l : List Access) (m n : MachineState) → (t : Leaves mcr ier before noted f l after) →
-    Path MachineStep m l n → LeftBy (leaving mcr ier t.0) f after m n
-left mcr ier before noted f after l m n (now, t) p =
-    let fifo : Fields → Bool = λ g. g.fifo in
-    let is : l ≡ leaving mcr ier now =
+pub leaves_list : (mcr ier before noted : ℕ) (f after : Fields) (l : List Access) (t : Leaves mcr ier before noted f l after) →
+    l ≡ leaving mcr ier t.0
+leaves_list mcr ier before noted f after l (now, t) =
     rw (
       t.whole,
       t.first.0.is,
@@ -120,9 +118,14 @@ left mcr ier before noted f after l m n (now, t) p =
       t.second.second.whole,
       t.second.second.first.0.is,
       t.second.second.second.0,
-    ) refl in
+    ) refl
+
+pub left : (mcr ier before noted : ℕ) (f after : Fields) (l : List Access) (m n : MachineState) → (t : Leaves mcr ier before noted f l after) →
+    Path MachineStep m l n → LeftBy (leaving mcr ier t.0) f after m n
+left mcr ier before noted f after l m n (now, t) p =
+    let fifo : Fields → Bool = λ g. g.fifo in
     record {
-      kept = kept_list l (leaving mcr ier now) m n is p;
+      kept = kept_list l (leaving mcr ier now) m n (leaves_list mcr ier before noted f after l (now, t)) p;
       knows = ap fifo t.second.second.second.1 ∙ (ap fifo t.second.second.first.1 ∙ (ap fifo t.second.first.1 ∙ ap fifo t.first.1));
     }
 

@@ -87,11 +87,11 @@ module _ (gone : List ℕ) (byte : ℕ) where
 
 -- ---- the reset
 
-sets_on : (level : FifoTriggerLevel) → has_any (fifo_bits (Some level)) FCR.FIFO_ENABLE.0 ≡ true
+pub sets_on : (level : FifoTriggerLevel) → has_any (fifo_bits (Some level)) FCR.FIFO_ENABLE.0 ≡ true
 sets_on One = refl
 sets_on _ = refl
 
-resets : (level : FifoTriggerLevel) → has_any (fifo_bits (Some level)) FCR.TX_FIFO_RESET.0 ≡ true
+pub resets : (level : FifoTriggerLevel) → has_any (fifo_bits (Some level)) FCR.TX_FIFO_RESET.0 ≡ true
 resets One = refl
 resets _ = refl
 
