@@ -96,7 +96,7 @@ flows_room c d since came f r l k Off few small line (inr (off, h, inr all)) = o
 -- ---- one direction
 
 -- what has left a driver and has not arrived
-abbrev line_of : (from to : RingState) → ℕ
+abbrev pub line_of : (from to : RingState) → ℕ
 line_of from to = sent_of from - (receiver_at to).arrived
 
 -- the flow from one end to the other, whose transmitter may hold so many characters more than 16, if so many have arrived since RTS was
@@ -108,11 +108,11 @@ record FlowsTo (pace : Pace) (extra since : ℕ) (from to : RingState) : Type 0 
   pub fifo : (ring_machine to).chip.fifo ≡ true
   pub behind : (receiver_at to).arrived ≤ length (ring_machine from).chip.transmitter.wire
 
-sent_is : (s : RingState) → sent_of s ≡ length (ring_machine s).chip.transmitter.wire + length (held (ring_machine s).chip.transmitter)
+pub sent_is : (s : RingState) → sent_of s ≡ length (ring_machine s).chip.transmitter.wire + length (held (ring_machine s).chip.transmitter)
 sent_is s = length-append (ring_machine s).chip.transmitter.wire (held (ring_machine s).chip.transmitter)
 
 -- the room falls by no more than what was moved to the ring
-less_room : (s t : RingState) (moved : ℕ) → in_ring t ≤ in_ring s + moved →
+pub less_room : (s t : RingState) (moved : ℕ) → in_ring t ≤ in_ring s + moved →
     (ring_fields t).receive.capacity ≡ (ring_fields s).receive.capacity → receive_room s ≤ receive_room t + moved
 less_room s t moved ring capacity = omega (arith, ring, capacity)
 
@@ -157,7 +157,7 @@ sent pace extra since moments Kept s t r e lines behind size h =
     }
 
 -- no more characters are in a transmitter than those of the FIFO and one
-held_few : (m : TransmitterState) → length m.queue ≤ characters m.size → length (held m) ≤ most_held m
+pub held_few : (m : TransmitterState) → length m.queue ≤ characters m.size → length (held m) ≤ most_held m
 held_few m h =
     let all = length-append (shift_bytes m.shift_register) m.queue in
     let one = place m.shift_register in
@@ -180,7 +180,7 @@ line_short pace extra from to w held near =
     omega (arith, few, all, cable, near, held)
 
 -- a transmitter may hold more than 16
-some_beyond : (extra : ℕ) (t : TransmitterState) → most_held t ≡ extra + 16 → 1 ≤ extra
+pub some_beyond : (extra : ℕ) (t : TransmitterState) → most_held t ≡ extra + 16 → 1 ≤ extra
 some_beyond extra t held = let least = at_least_16 t.size in omega (arith, least, held)
 
 -- ---- a call at one end
@@ -190,7 +190,7 @@ rts_same : (s t : RingState) → KeepsMcr s t → IsRtsOff s → IsRtsOff t
 rts_same s t same off =
     ap (λ mcr. has_any (if has_any mcr MCR.LOOP_BACK.0 then 0 else lines_joined mcr) MSR.CTS.0) same ∙ off
 
-none_waits : (s : RingState) → (waiting (ring_machine s) ≡ []) ⊎ (receive_room s ≡ 0) → (waits s ≡ 0) ⊎ (receive_room s ≡ 0)
+pub none_waits : (s : RingState) → (waiting (ring_machine s) ≡ []) ⊎ (receive_room s ≡ 0) → (waits s ≡ 0) ⊎ (receive_room s ≡ 0)
 none_waits s (inl none) = inl (sym (length-map (receiver_at s).queue (λ character. character.byte)) ∙ ap length none)
 none_waits s (inr full) = inr full
 
@@ -250,7 +250,7 @@ still_number : (number : ℕ) (r u : RingState) → u ≡ r → number ≡ numbe
 still_number number r u same =
     let e : (receiver_at u).arrived ≡ (receiver_at r).arrived = ap (λ (o : RingState). (receiver_at o).arrived) same in omega (arith, e)
 
-no_drop_still : (r u : RingState) → u ≡ r → Drop (receiver_at r) (receiver_at u) → ⊥
+pub no_drop_still : (r u : RingState) → u ≡ r → Drop (receiver_at r) (receiver_at u) → ⊥
 no_drop_still r u same d =
     no_drop_same (receiver_at r) (receiver_at u) (ap (λ (o : RingState). (receiver_at o).marks) same)
     (ap (λ (o : RingState). (receiver_at o).is_unscheduled_lost) same) d
@@ -342,7 +342,7 @@ begins_flow pace from to begins behind =
       behind = behind;
     }
 
-behind_at : (end : Side) (a : Link) → IsJoined a →
+pub behind_at : (end : Side) (a : Link) → IsJoined a →
     (receiver_at (at_end (other end) a)).arrived ≤ length (ring_machine (at_end end a)).chip.transmitter.wire
 behind_at Left a joined = joined.right.behind
 behind_at Right a joined = joined.left.behind

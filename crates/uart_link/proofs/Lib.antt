@@ -13,6 +13,8 @@ pub mod Held
 pub mod Calm
 pub mod EndFlows
 pub mod Flows
+pub mod Holds
+pub mod XoffFlows
 pub mod Wholes
 pub mod LinkTold
 pub mod LinkSounds

@@ -40,6 +40,7 @@ use Rattle.uart_link.proofs.LinkTold.{tells_drops}
 use Rattle.uart_link.proofs.Rounds.{progresses, empties_receiver, keeps_rts_on, all_leave_armed}
 use Rattle.uart_link.proofs.Takings.{takes_all_gone}
 use Rattle.uart_link.proofs.Wholes.{delivers, carries_all}
+use Rattle.uart_link.proofs.XoffFlows.{xoff_drops_nothing}
 
 -- ---- characters that have not arrived are not dropped
 
@@ -213,6 +214,8 @@ link_conserves a b steps sound_left sound_right wired_left wired_right joined re
       tells = λ end. tells_drops x y a b steps end w v joined chain;
       whole = λ end pace paced. delivers end a b steps (sound_there end) (all steps b chain end)
           (drops_nothing x y pace end a b steps w v joined chain paced);
+      whole_by_xoff = λ end pace paced. delivers end a b steps (sound_there end) (all steps b chain end)
+          (xoff_drops_nothing x y pace end a b steps w v joined chain paced);
       progress = λ end. progresses x y end steps a b w v joined chain
           (λ part u within none. carries_all end a u part (sound_there end) none (all part u within end));
       handled = λ end. empties_receiver x y end steps a b w v joined chain;

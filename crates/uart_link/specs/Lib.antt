@@ -6,4 +6,5 @@ pub mod Carried
 pub mod Told
 pub mod Flow
 pub mod Progress
+pub mod Xoff
 pub mod Parts

@@ -114,6 +114,8 @@ fn make_link_call(link: &mut Link, call: &LinkCall) -> RingAnswer
 /// - no character is dropped, if both programs keep to flow control in this direction: the sender
 ///   checks CTS, and the receiver's `AdjustRts` follows each run of the handler, with marks that
 ///   leave room for what may arrive before it and what is on the cable. The README says it exactly;
+/// - the same by XOFF: the receiver's `AdjustXoff` follows each run of the handler, the sender's
+///   `ObeyXoff` comes in time, and the marks leave room for what may be sent until it does;
 /// - all that was there at first is taken after as many rounds as bytes wait in the sender's rings,
 ///   and one more, if no character is dropped. In a round time passes at the sender, what is on the
 ///   cable arrives, the receiver's handler runs, its program takes, and the sender goes on to send;

@@ -1,0 +1,426 @@
+-- What a ring call makes of the hold, of what was told last, and of the bytes that wait: while the transmit ring is held, only an urgent
+-- byte leaves the rings.
+use Rattle.std.proofs.Common.{◌≡◌, ◌⊎◌, inl, inr, ◌≤◌, ◌+◌, ◌-◌, ◌==◌, ℕ, zero, suc, nat_lt, Bool, true, false, not, MatchBool}
+use Rattle.std.proofs.Common.{List, [], ◌∷◌, ◌++◌, length, length-append, length-take, length-drop, append-nil, take, drop, Option, Some}
+use Rattle.std.proofs.Common.{None, Result, refl, sym, ◌∙◌, ap, subst, arith}
+use Rattle.std.proofs.lemmas.Grind.{common_steps}
+use Rattle.std.specs.Prelude.{MatchOption, option_to_list}
+use Rattle.uart_spec.specs.declared.access.Access.{Access}
+use Rattle.uart_spec.specs.declared.baud.TheConstants.{FIFO_SIZE}
+use Rattle.uart_spec.specs.declared.registers.interrupt_enable.TheConstants.IER
+use Rattle.uart_spec.specs.declared.registers.interrupt_type.InterruptType.{InterruptType}
+use Rattle.uart_spec.specs.declared.registers.interrupt_type.InterruptType.TheVariants as interrupts
+use Rattle.uart_16550.specs.Driver.{settings_of}
+use Rattle.uart_16550.specs.Grammar.{Settings}
+use Rattle.uart_16550.specs.Status.{Enables, Disables}
+use Rattle.uart_16550.specs.Transmit.{Sends}
+use Rattle.uart_ring.specs.Queue.{Queue}
+use Rattle.uart_ring.specs.Ring.{RingDoing, RingFields, OnDriver, Stays, RingTimes, IfAny, ring_fields, free, is_full, waiting, sendable}
+use Rattle.uart_ring.specs.Ring.{allowed, urgent_left, with_queued, with_hold, with_urgent, with_told_xoff, without_taken, looked}
+use Rattle.uart_ring.specs.Ring.{with_rounds, with_paused, RingSets, cleared}
+use Rattle.uart_ring.specs.Lossless.{Implies}
+use Rattle.uart_ring.specs.Transmit.{Pumps, ResumesTransmit, Holds}
+use Rattle.uart_ring.specs.Transmit.{Releases}
+use Rattle.uart_ring.specs.Receive.{PausesIfFull, FillsReceiveRing, EndsPause, MakesRtsIfAny, rts_at, to_tell, flow_character, TellsIfAny}
+use Rattle.uart_ring.specs.Receive.{AdjustsXoff, xon, Obeys}
+use Rattle.uart_ring.specs.Service.{ServesInterrupt, ServesOne, Stops, ServesUpTo}
+use Rattle.uart_ring.specs.Handle.{RetriggersUnlessIdle, Handles}
+use Rattle.uart_ring.specs.Storm.{LooksOnceMore, CountsUnfinished, CountsRound, HandlesRound, StaysStuck, TriesToHandle, counts_as}
+use Rattle.uart_ring.specs.Storm.{has_moved}
+use Rattle.uart_ring.specs.declared.ring.receive.ReceiveMarks.{ReceiveMarks}
+use Rattle.uart_ring.specs.declared.ring.storm.StuckError.{StuckError}
+use Rattle.uart_ring.specs.declared.ring.service.TheConstants.{MAX_INTERRUPTS}
+use Rattle.uart_ring.specs.declared.ring.service.HandleEnd.{HandleEnd}
+use Rattle.uart_ring.specs.declared.ring.service.HandleEnd.TheVariants.{Idle, Unknown, Limit}
+use Rattle.uart_ring.specs.declared.ring.service.Handled.{Handled}
+use Rattle.uart_ring_runs.specs.declared.call.RingCall.{RingCall}
+use Rattle.uart_ring_runs.specs.declared.call.RingCall.TheVariants as call
+use Rattle.uart_ring_runs.specs.declared.call.RingAnswer.{RingAnswer}
+use Rattle.uart_ring_runs.specs.declared.call.RingAnswer.TheVariants as answers
+use Rattle.uart_ring_runs.specs.RingRun.{RingState}
+use Rattle.uart_ring_runs.specs.RingBytes.{to_send_with}
+use Rattle.uart_link.specs.Link.{CabledCallStep}
+use Rattle.uart_link.specs.Xoff.{xoff_hold_of, urged_by, MayTell}
+
+-- ---- what the rings do
+
+-- the urgent bytes that wait
+abbrev urgents : RingFields → ℕ
+urgents f = length (option_to_list f.urgent)
+
+-- from these fields to those: the hold and what was told last are the same, no urgent byte was queued, and none of the ring left while it
+-- is held
+record Keeps (f after : RingFields) : Type 0 where
+  pub held : after.is_held ≡ f.is_held
+  pub told : after.has_told_xoff ≡ f.has_told_xoff
+  pub urgent : urgents after ≤ urgents f
+  pub items : f.is_held ≡ true → after.transmit.items ≡ f.transmit.items
+
+abbrev Keeping : RingDoing
+Keeping f l after = Keeps f after
+
+keeps-then : (f mid after : RingFields) → Keeps f mid → Keeps mid after → Keeps f after
+keeps-then f mid after a b = record {
+  held = b.held ∙ a.held;
+  told = b.told ∙ a.told;
+  urgent = omega (arith, a.urgent, b.urgent);
+  items = λ on. b.items (a.held ∙ on) ∙ a.items on;
+}
+
+-- nothing of all this changes
+alike : (f g after : RingFields) → after ≡ g → g.is_held ≡ f.is_held → g.has_told_xoff ≡ f.has_told_xoff → g.urgent ≡ f.urgent →
+    g.transmit ≡ f.transmit → Keeps f after
+alike f g after same held told urgent transmit = record {
+  held = ap (λ (h : RingFields). h.is_held) same ∙ held;
+  told = ap (λ (h : RingFields). h.has_told_xoff) same ∙ told;
+  urgent =
+      let e : urgents after ≡ urgents f = ap (λ (h : RingFields). urgents h) same ∙ ap (λ u. length (option_to_list u)) urgent in
+      omega (arith, e);
+  items = λ on. ap (λ (h : RingFields). h.transmit.items) same ∙ ap (λ (ring : Queue). ring.items) transmit;
+}
+
+stays : Implies Stays Keeping
+stays f l after t = alike f f after t.1 refl refl refl refl
+
+-- of a held ring only an urgent byte may be sent
+held_allows : (stuck : Option StuckError) (held : Bool) (urgent : Option ℕ) (items : List ℕ) → held ≡ true →
+    length (allowed stuck held urgent items) ≤ length (option_to_list urgent)
+held_allows (Some error) held urgent items on = omega arith
+held_allows None true urgent items on = let k = length-append (option_to_list urgent) [] in omega (arith, k)
+held_allows None false urgent items on = absurd (cc)
+
+sent_within : (bytes : List ℕ) (sent : ℕ) (s : Settings) (l : List Access) → Sends bytes sent s l → sent ≤ length bytes
+sent_within bytes sent s l (inl t) = omega (arith, t.1)
+sent_within bytes sent s l (inr (inl t)) = omega (arith, t.1)
+sent_within bytes sent s l (inr (inr t)) = omega (arith, t.1)
+
+fewer_urgent : (sent : ℕ) (urgent : Option ℕ) → length (option_to_list (urgent_left sent urgent)) ≤ length (option_to_list urgent)
+fewer_urgent zero urgent = omega arith
+fewer_urgent (suc n) urgent = omega arith
+
+pumps : Implies Pumps Keeping
+pumps f l after (sent, (t, same)) =
+    let bytes = sendable f in
+    let few = sent_within (take FIFO_SIZE bytes) sent (settings_of f.driver) t.front t.first.0 in
+    let short = length-take FIFO_SIZE bytes in
+    record {
+      held = ap (λ (h : RingFields). h.is_held) same;
+      told = ap (λ (h : RingFields). h.has_told_xoff) same;
+      urgent =
+          let e : urgents after ≡ length (option_to_list (urgent_left sent f.urgent)) = ap (λ (h : RingFields). urgents h) same in
+          let k = fewer_urgent sent f.urgent in omega (arith, e, k);
+      items = λ on.
+          let k = held_allows f.stuck f.is_held f.urgent f.transmit.items on in
+          let none : sent - length (option_to_list f.urgent) ≡ 0 = omega (arith, few, short, k) in
+          ap (λ (h : RingFields). h.transmit.items) same ∙ ap (λ n. drop n f.transmit.items) none;
+    }
+
+any : {G : RingDoing} (count : ℕ) → Implies G Keeping → Implies (IfAny count G) Keeping
+any zero k f l after t = stays f l after t
+any (suc n) k f l after t = k f l after t
+
+ends_pause : Implies EndsPause Keeping
+ends_pause f l after t = go f.is_paused t
+  where
+    go : (b : Bool) → MatchBool b (OnDriver (Enables IER.DATA_READY.0) (with_paused false) f l after) (Stays f l after) → Keeps f after
+    go true t = alike f _ after t.1 refl refl refl refl
+    go false t = stays f l after t
+
+pauses : Implies PausesIfFull Keeping
+pauses f l after t = go (is_full f.receive) t
+  where
+    go : (b : Bool) → MatchBool b (OnDriver (Disables IER.DATA_READY.0) (with_paused true) f l after) (Stays f l after) → Keeps f after
+    go true t = alike f _ after t.1 refl refl refl refl
+    go false t = stays f l after t
+
+fills : Implies FillsReceiveRing Keeping
+fills f l after (bytes, t) =
+    keeps-then f t.mid after (alike f _ t.mid t.first.1 refl refl refl refl) (pauses t.mid t.back after t.second)
+
+serves : (interrupt : InterruptType) → Implies (ServesInterrupt interrupt) Keeping
+serves interrupts.ReceiverLineStatus f l after (status, t) = alike f _ after t.1 refl refl refl refl
+serves interrupts.ReceivedDataReady f l after t = fills f l after t
+serves interrupts.ReceptionTimeout f l after t = fills f l after t
+serves interrupts.TransmitterHoldingRegisterEmpty f l after t = pumps f l after t
+serves interrupts.ModemStatus f l after (status, t) = alike f _ after t.1 refl refl refl refl
+serves interrupts.DmaReceptionEndOfTransfer f l after t = stays f l after t
+serves interrupts.DmaTransmissionEndOfTransfer f l after t = stays f l after t
+
+serves_one : Implies ServesOne Keeping
+serves_one f l after (interrupt, t) =
+    keeps-then f t.mid after (alike f _ t.mid t.first.1 refl refl refl refl) (serves interrupt t.mid t.back after t.second)
+
+times : (n : ℕ) → Implies (RingTimes n ServesOne) Keeping
+times zero f l after t = stays f l after t
+times (suc n) f l after t =
+    keeps-then f t.mid after (serves_one f t.front t.mid t.first) (times n t.mid t.back after t.second)
+
+stops : (end : HandleEnd) → Implies (Stops end) Keeping
+stops Idle f l after t = alike f _ after t.1 refl refl refl refl
+stops Unknown f l after t = alike f _ after t.1 refl refl refl refl
+stops Limit f l after t = stays f l after t
+
+serves_up_to : (limit : ℕ) (handled : Handled) → Implies (ServesUpTo limit handled) Keeping
+serves_up_to limit handled f l after (within, t) =
+    keeps-then f t.mid after (times handled.served f t.front t.mid t.first) (stops handled.end t.mid t.back after t.second)
+
+unless_idle : (end : HandleEnd) → Implies (RetriggersUnlessIdle end) Keeping
+unless_idle Idle f l after t = stays f l after t
+unless_idle Unknown f l after t = alike f _ after t.1 refl refl refl refl
+unless_idle Limit f l after t = alike f _ after t.1 refl refl refl refl
+
+handles : (limit : ℕ) (handled : Handled) → Implies (Handles limit handled) Keeping
+handles limit handled f l after t =
+    keeps-then f t.mid after (serves_up_to limit handled f t.front t.mid t.first)
+    (unless_idle handled.end t.mid t.back after t.second)
+
+looks : (found : Option StuckError) → Implies (LooksOnceMore found) Keeping
+looks None f l after t = alike f _ after t.1 refl refl refl refl
+looks (Some error) f l after t =
+    keeps-then f t.mid after (alike f _ t.mid t.first.1 refl refl refl refl) (alike t.mid _ after t.second.1 refl refl refl refl)
+
+counts_unfinished : (rounds : ℕ) (found : Option StuckError) → Implies (CountsUnfinished rounds found) Keeping
+counts_unfinished rounds found f l after t = go (nat_lt (suc f.rounds) rounds) t
+  where
+    go : (more : Bool) → MatchBool more ((found ≡ None) × RingSets (with_rounds (suc f.rounds)) f l after)
+        (LooksOnceMore found f l after) → Keeps f after
+    go true t = alike f _ after t.1.1 refl refl refl refl
+    go false t = looks found f l after t
+
+counts : (rounds : ℕ) (end : HandleEnd) (found : Option StuckError) → Implies (CountsRound rounds end found) Keeping
+counts rounds Idle found f l after t = alike f _ after t.1.1 refl refl refl refl
+counts rounds Unknown found f l after t = counts_unfinished rounds found f l after t
+counts rounds Limit found f l after t = counts_unfinished rounds found f l after t
+
+tries : (limit rounds : ℕ) (result : Result Handled StuckError) → Implies (TriesToHandle limit rounds result) Keeping
+tries limit rounds result f l after t = go f.stuck t
+  where
+    go : (was : Option StuckError) → MatchOption was (HandlesRound limit rounds result f l after)
+        (λ error. StaysStuck result error f l after) → Keeps f after
+    go None (handled, found, is, t) =
+        keeps-then f t.mid after (handles limit handled f t.front t.mid t.first)
+        (counts rounds (counts_as (has_moved f t.mid) handled.end) found t.mid t.back after t.second)
+    go (Some error) t = alike f _ after t.1.1 refl refl refl refl
+
+resumes : Implies ResumesTransmit Keeping
+resumes f l after t = any (length (waiting f)) pumps f l after t
+
+makes_rts : (wanted : Option Bool) → Implies (MakesRtsIfAny wanted) Keeping
+makes_rts None f l after t = stays f l after t
+makes_rts (Some on) f l after t = alike f _ after t.1 refl refl refl refl
+
+-- ---- what a call does
+
+-- if the ring is held after a call, no more was sent of what waits than urgent bytes; no more urgent bytes wait than did and were queued;
+-- and only `adjust_xoff` changes what was told last
+pub record CallKeeps (c : RingCall) (a : RingAnswer) (f after : RingFields) : Type 0 where
+  pub held : after.is_held ≡ true →
+      length (to_send_with c a (waiting f)) ≤ (length (option_to_list f.urgent) + urged_by c a) + length after.transmit.items
+  pub urgent : length (option_to_list after.urgent) ≤ length (option_to_list f.urgent) + urged_by c a
+  pub told : xoff_hold_of c ≡ None → after.has_told_xoff ≡ f.has_told_xoff
+
+-- all that waits, and nothing more
+all_waits : (f : RingFields) → length (waiting f ++ []) ≡ length (option_to_list f.urgent) + length f.transmit.items
+all_waits f =
+    let one = length-append (waiting f) [] in
+    let two = length-append (option_to_list f.urgent) f.transmit.items in omega (arith, one, two)
+
+kept : (c : RingCall) (a : RingAnswer) (f after : RingFields) → to_send_with c a (waiting f) ≡ waiting f ++ [] → Keeps f after →
+    CallKeeps c a f after
+kept c a f after none k = record {
+  held = λ on.
+      let same : length (to_send_with c a (waiting f)) ≡ length (waiting f ++ []) = ap length none in
+      let items : length after.transmit.items ≡ length f.transmit.items = ap length (k.items (sym k.held ∙ on)) in
+      let all = all_waits f in omega (arith, same, items, all);
+  urgent = let h = k.urgent in omega (arith, h);
+  told = λ other. k.told;
+}
+
+-- no ring is held that was released
+released : (c : RingCall) (a : RingAnswer) (f after : RingFields) → Keeps (with_hold false f) after → CallKeeps c a f after
+released c a f after k = record {
+  held = λ on. let e : false ≡ true = sym k.held ∙ on in absurd (cc);
+  urgent = let h = k.urgent in omega (arith, h);
+  told = λ other. k.told;
+}
+
+-- and one that is held keeps its bytes
+holds : (c : RingCall) (a : RingAnswer) (f g after : RingFields) → to_send_with c a (waiting f) ≡ waiting f ++ [] → after ≡ g →
+    g.has_told_xoff ≡ f.has_told_xoff → g.urgent ≡ f.urgent → g.transmit ≡ f.transmit → CallKeeps c a f after
+holds c a f g after none same told urgent transmit =
+    let items : length after.transmit.items ≡ length f.transmit.items =
+    ap (λ (h : RingFields). length h.transmit.items) same ∙ ap (λ (ring : Queue). length ring.items) transmit in
+    let few : urgents after ≡ urgents f = ap (λ (h : RingFields). urgents h) same ∙ ap (λ u. length (option_to_list u)) urgent in
+    let all = all_waits f in
+    record {
+      held = λ on.
+          let e : length (to_send_with c a (waiting f)) ≡ length (waiting f ++ []) = ap length none in omega (arith, e, items, all);
+      urgent = omega (arith, few);
+      told = λ other. ap (λ (h : RingFields). h.has_told_xoff) same ∙ told;
+    }
+
+-- bytes are queued at the end of the ring
+queued : (bytes : List ℕ) (count : ℕ) (f after : RingFields) (a : RingAnswer) (c : RingCall) →
+    to_send_with c a (waiting f) ≡ waiting f ++ take count bytes → Keeps (with_queued (take count bytes) f) after → CallKeeps c a f after
+queued bytes count f after a c is k = record {
+  held = λ on.
+      let same : length (to_send_with c a (waiting f)) ≡ length (waiting f ++ take count bytes) = ap length is in
+      let one = length-append (waiting f) (take count bytes) in
+      let two = length-append (option_to_list f.urgent) f.transmit.items in
+      let ring = length-append f.transmit.items (take count bytes) in
+      let items : length after.transmit.items ≡ length (f.transmit.items ++ take count bytes) = ap length (k.items (sym k.held ∙ on)) in
+      omega (arith, same, one, two, ring, items);
+  urgent = let h = k.urgent in omega (arith, h);
+  told = λ other. k.told;
+}
+
+-- an urgent byte is queued where none waits, or in place of one that does
+urged : (byte : ℕ) (f g after : RingFields) (a : RingAnswer) (c : RingCall) → urged_by c a ≡ 1 →
+    length (to_send_with c a (waiting f)) ≤ (length (option_to_list f.urgent) + 1) + length f.transmit.items →
+    (xoff_hold_of c ≡ None → g.has_told_xoff ≡ f.has_told_xoff) → g.is_held ≡ f.is_held → g.transmit ≡ f.transmit →
+    Keeps (with_urgent (Some byte) g) after → CallKeeps c a f after
+urged byte f g after a c one all told same transmit k = record {
+  held = λ on.
+      let items : length after.transmit.items ≡ length f.transmit.items =
+      ap length (k.items (sym k.held ∙ on)) ∙ ap (λ (ring : Queue). length ring.items) transmit in omega (arith, one, all, items);
+  urgent = let h = k.urgent in omega (arith, h, one);
+  told = λ other. k.told ∙ told other;
+}
+
+-- what waits once so many bytes are gone from its end
+dropped : (n : ℕ) (bytes : List ℕ) → length (take n bytes) ≤ n
+dropped n bytes = let h = length-take n bytes in omega (arith, h)
+
+obeys : (told : Option ℕ) (f g : RingFields) (l : List Access) (after : RingFields) (a : RingAnswer) → g.is_held ≡ f.is_held →
+    g.has_told_xoff ≡ f.has_told_xoff → g.urgent ≡ f.urgent → g.transmit ≡ f.transmit → Obeys told g l after →
+    CallKeeps call.ObeyXoff a f after
+obeys None f g l after a held said urgent transmit t = kept call.ObeyXoff a f after refl (alike f g after t.1 held said urgent transmit)
+obeys (Some byte) f g l after a held said urgent transmit t = go (byte == xon) t
+  where
+    go : (on : Bool) → MatchBool on (Releases g l after) (Holds g l after) → CallKeeps call.ObeyXoff a f after
+    go true t =
+        released call.ObeyXoff a f after
+        (keeps-then (with_hold false f) (with_hold false g) after
+        (alike (with_hold false f) (with_hold false g) (with_hold false g) refl refl said urgent transmit)
+        (resumes (with_hold false g) l after t))
+    go false t = holds call.ObeyXoff a f (with_hold true g) after refl t.1 said urgent transmit
+
+tells : (marks : ReceiveMarks) (wanted : Option Bool) (told : Option ℕ) (f : RingFields) (l : List Access) (after : RingFields) →
+    TellsIfAny wanted told f l after → CallKeeps (call.AdjustXoff marks) (answers.Told told) f after
+tells marks None told f l after t =
+    rw t.0 (kept (call.AdjustXoff marks) (answers.Told None) f after (sym (append-nil (waiting f))) (stays f l after t.1))
+tells marks (Some on) told f l after t =
+    let g = with_told_xoff (not on) f in
+    let all = length-append (option_to_list f.urgent) f.transmit.items in
+    rw t.0 (urged (flow_character on) f g after (answers.Told (Some (flow_character on))) (call.AdjustXoff marks) refl (omega (arith, all))
+    (λ other. absurd (cc)) refl refl (pumps (with_urgent (Some (flow_character on)) g) l after t.1.1))
+
+-- each call
+pub call_keeps : (s t : RingState) (c : RingCall) (a : RingAnswer) → CabledCallStep s c a t → CallKeeps c a (ring_fields s) (ring_fields t)
+call_keeps s t (call.Queue bytes) a h =
+    rw h.answered (queued bytes.items h.outcome (ring_fields s) (ring_fields t) (answers.Count h.outcome) (call.Queue bytes) refl
+    (any h.outcome pumps (with_queued (take h.outcome bytes.items) (ring_fields s)) h.did.list (ring_fields t) h.did.does.1))
+call_keeps s t call.ResumeTransmit a h = kept _ a _ _ refl (resumes (ring_fields s) h.did.list (ring_fields t) h.did.does)
+call_keeps s t (call.Take slots) a h =
+    kept _ a (ring_fields s) (ring_fields t) refl (keeps-then (ring_fields s) (without_taken (length h.outcome) (ring_fields s)) (ring_fields t)
+    (alike (ring_fields s) (without_taken (length h.outcome) (ring_fields s)) _ refl refl refl refl refl)
+    (any (length h.outcome) ends_pause (without_taken (length h.outcome) (ring_fields s)) h.did.list (ring_fields t) h.did.does.1))
+call_keeps s t call.Service a h =
+    let d = h.did.does in
+    kept _ a (ring_fields s) (ring_fields t) refl
+    (serves_up_to MAX_INTERRUPTS (record { served = h.outcome; end = d.0 }) (ring_fields s) h.did.list (ring_fields t) d.1)
+call_keeps s t (call.Handle limit) a h = kept _ a _ _ refl (handles limit h.outcome (ring_fields s) h.did.list (ring_fields t) h.did.does)
+call_keeps s t call.Retrigger a h = kept _ a _ _ refl (alike (ring_fields s) _ (ring_fields t) h.did.does.1 refl refl refl refl)
+call_keeps s t call.TakeLine a h = kept _ a _ _ refl (alike (ring_fields s) _ (ring_fields t) h.did.does.2.1 refl refl refl refl)
+call_keeps s t call.TakeModem a h = kept _ a _ _ refl (alike (ring_fields s) _ (ring_fields t) h.did.does.2.1 refl refl refl refl)
+call_keeps s t call.HoldTransmit a h = holds _ a (ring_fields s) _ (ring_fields t) refl h.did.does.1 refl refl refl
+call_keeps s t call.ReleaseTransmit a h =
+    released _ a (ring_fields s) (ring_fields t) (resumes (with_hold false (ring_fields s)) h.did.list (ring_fields t) h.did.does)
+call_keeps s t (call.QueueUrgent byte) a h =
+    let f = ring_fields s in
+    let d = h.did.does in
+    rw h.answered (urged byte f f (ring_fields t) (answers.Replaced h.outcome) (call.QueueUrgent byte) refl (overtakes f h.outcome d.0)
+    (λ other. refl) refl refl (pumps (with_urgent (Some byte) f) h.did.list (ring_fields t) d.1))
+  where
+    overtakes : (f : RingFields) (replaced : Option ℕ) → replaced ≡ f.urgent →
+        length (byte ∷ drop (length (option_to_list replaced)) (waiting f)) ≤ (length (option_to_list f.urgent) + 1) + length f.transmit.items
+    overtakes f replaced is =
+        let e = length-drop (length (option_to_list replaced)) (waiting f) in
+        let all = length-append (option_to_list f.urgent) f.transmit.items in omega (arith, e, all)
+call_keeps s t call.ClearTransmit a h =
+    let f = ring_fields s in
+    rw h.answered (clears f h.outcome h.did.does.0 h.did.does.1.1)
+  where
+    clears : (f : RingFields) (count : ℕ) → count ≡ length f.transmit.items → ring_fields t ≡ cleared f →
+        CallKeeps call.ClearTransmit (answers.Count count) f (ring_fields t)
+    clears f count is same =
+        let few : urgents (ring_fields t) ≡ urgents f = ap (λ (g : RingFields). urgents g) same in
+        let all = length-append (option_to_list f.urgent) f.transmit.items in
+        let left = dropped (length (waiting f) - count) (waiting f) in
+        record {
+          held = λ on. omega (arith, all, left, is);
+          urgent = omega (arith, few);
+          told = λ other. ap (λ (g : RingFields). g.has_told_xoff) same;
+        }
+call_keeps s t call.ClearReceive a h =
+    kept _ a (ring_fields s) (ring_fields t) refl (keeps-then (ring_fields s) (without_taken h.outcome (ring_fields s)) (ring_fields t)
+    (alike (ring_fields s) (without_taken h.outcome (ring_fields s)) _ refl refl refl refl refl)
+    (any h.outcome ends_pause (without_taken h.outcome (ring_fields s)) h.did.list (ring_fields t) h.did.does.1))
+call_keeps s t (call.SetLowMark mark) a h = kept _ a _ _ refl (alike (ring_fields s) _ (ring_fields t) h.did.does.1 refl refl refl refl)
+call_keeps s t call.TakeLow a h = kept _ a _ _ refl (alike (ring_fields s) _ (ring_fields t) h.did.does.1.1 refl refl refl refl)
+call_keeps s t (call.TryHandle limit rounds) a h =
+    kept _ a _ _ refl (tries limit rounds h.outcome (ring_fields s) h.did.list (ring_fields t) h.did.does)
+call_keeps s t (call.Restart interrupts) a h =
+    let d = h.did.does in
+    kept _ a (ring_fields s) (ring_fields t) refl (keeps-then (ring_fields s) d.mid (ring_fields t)
+    (alike (ring_fields s) _ d.mid d.first.1 refl refl refl refl) (resumes d.mid d.back (ring_fields t) d.second))
+call_keeps s t (call.AdjustRts marks) a h =
+    kept _ a _ _ refl (makes_rts (rts_at marks (free (ring_fields s).receive)) (ring_fields s) h.did.list (ring_fields t) h.did.does)
+call_keeps s t (call.AdjustXoff marks) a h =
+    let f = ring_fields s in
+    rw h.answered (tells marks (to_tell (rts_at marks (free f.receive)) f.urgent f.has_told_xoff) h.outcome f h.did.list (ring_fields t)
+    h.did.does)
+call_keeps s t call.ObeyXoff a h =
+    obeys h.outcome (ring_fields s) (looked (ring_fields s)) h.did.list (ring_fields t) a refl refl refl refl h.did.does.1
+call_keeps s t (call.Driver c) a h = absurd h
+call_keeps s t call.Next a h = kept _ a _ _ refl (alike (ring_fields s) (ring_fields s) (ring_fields t) h.passes.rings refl refl refl refl)
+
+-- ---- `adjust_xoff`
+
+-- the receive ring is as it was
+tells_receive : (wanted : Option Bool) (told : Option ℕ) (f : RingFields) (l : List Access) (after : RingFields) →
+    TellsIfAny wanted told f l after → after.receive ≡ f.receive
+tells_receive None told f l after t = ap (λ (g : RingFields). g.receive) t.1.1
+tells_receive (Some on) told f l after t = ap (λ (g : RingFields). g.receive) t.1.1.1.1
+
+-- below the mark XOFF was told last, unless another urgent byte waits
+below_told : (urgent : Option ℕ) (was : Bool) (told : Option ℕ) (f : RingFields) (l : List Access) (after : RingFields) →
+    f.has_told_xoff ≡ was → MayTell urgent was → TellsIfAny (to_tell (Some false) urgent was) told f l after →
+    after.has_told_xoff ≡ true
+below_told (Some byte) was told f l after is (inl none) t = absurd (omega (arith, none))
+below_told (Some byte) was told f l after is (inr on) t = ap (λ (g : RingFields). g.has_told_xoff) t.1.1 ∙ (is ∙ on)
+below_told None true told f l after is may t = ap (λ (g : RingFields). g.has_told_xoff) t.1.1 ∙ is
+below_told None false told f l after is may t =
+    let k = pumps (with_urgent (Some (flow_character false)) (with_told_xoff true f)) l after t.1.1 in k.told
+
+-- what an `adjust_xoff` shows: where it leaves XOFF untold, there is room
+pub record Adjusts (marks : ReceiveMarks) (f after : RingFields) : Type 0 where
+  pub receive : after.receive ≡ f.receive
+  pub room : MayTell f.urgent f.has_told_xoff → after.has_told_xoff ≡ false → marks.hold ≤ free after.receive
+
+pub adjusts : (marks : ReceiveMarks) (told : Option ℕ) (f : RingFields) (l : List Access) (after : RingFields) →
+    AdjustsXoff marks told f l after → Adjusts marks f after
+adjusts marks told f l after t =
+    let receive = tells_receive _ told f l after t in
+    record { receive = receive; room = λ may off. go may off receive (nat_lt (free f.receive) marks.hold) refl }
+  where
+    go : MayTell f.urgent f.has_told_xoff → after.has_told_xoff ≡ false → after.receive ≡ f.receive →
+        (low : Bool) → nat_lt (free f.receive) marks.hold ≡ low → marks.hold ≤ free after.receive
+    go may off same true e =
+        let at : rts_at marks (free f.receive) ≡ Some false = rw e refl in
+        let T : Option Bool → Type 0 = λ wanted. TellsIfAny (to_tell wanted f.urgent f.has_told_xoff) told f l after in
+        let on = below_told f.urgent f.has_told_xoff told f l after refl may (subst T at t) in
+        let no : true ≡ false = sym on ∙ off in absurd (cc)
+    go may off same false e =
+        let high : marks.hold ≤ free f.receive = grind (arith, common_steps) in
+        let room : free after.receive ≡ free f.receive = ap free same in omega (arith, high, room)
