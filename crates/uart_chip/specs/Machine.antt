@@ -7,7 +7,8 @@ use Rattle.uart_spec.specs.declared.access.Access.{Access}
 use Rattle.uart_spec.specs.declared.access.Access.TheVariants.{Read, Write}
 use Rattle.uart_spec.specs.declared.setup.FifoSize.{FifoSize}
 use Rattle.uart_chip.specs.Chip as chip
-use Rattle.uart_chip.specs.Chip.{ChipState, with_size, tick, ticks, arrive, change_lines, answer, after_read, after_write}
+use Rattle.uart_chip.specs.Chip.{ChipState, with_size, tick, ticks, arrive, change_lines, answer, after_read}
+use Rattle.uart_chip.specs.Chip.{after_write}
 
 -- `ahead` has the events of the schedule that have not happened yet
 pub record MachineState : Type 0 where

@@ -106,7 +106,8 @@ pub fn nothing_is_known_at_first()
 /// What the judge knows at the beginning is to be so.
 pub fn lost_bytes_are_lost()
     ensures { (past entries : List Entry) (left : ℕ) (machine : MachineState) → IsSound machine →
-        machine.chip.transmitter.size ≡ Sixteen → KnowsWhatIs (known past) left machine.chip → IsRight past left machine entries }
+        machine.chip.transmitter.size ≡ Sixteen → KnowsWhatIs (known past) left machine.chip →
+        IsRight past left machine entries }
 {}
 
 /// A judge that was given nothing knows nothing that is not so: a recording may begin anywhere.
