@@ -43,6 +43,7 @@ abbrev pub IsSince : (number : ℕ) → Origin → Type 0
 IsSince number (Arrived other) = number ≤ other
 IsSince number unscheduled = ⊥
 
+-- each of these characters is
 abbrev pub ArrivedSince : (number : ℕ) → List Character → Type 0
 ArrivedSince number characters =
     AllByRecursion (λ (character : Character). IsSince number character.origin) characters

@@ -142,7 +142,8 @@ no_stall-test : (cut : ℕ → ℕ) (gone : List ℕ) (mcr ier : ℕ) (f after :
 no_stall-test cut gone mcr ier f after l m n v b (before, fifo, t) path =
     let a = next_stages (Enters before fifo) (Next (Saving (Exchanges {T = Unit {0}} (Err Stalled))) (Leaves mcr ier before f.lsr))
     f after l m n t path in
-    let e = in_loopback cut gone f.config.fifo_trigger_level before fifo f a.mid a.parts.front m a.parts.between b a.parts.first a.parts.before in
+    let e = in_loopback cut gone f.config.fifo_trigger_level before fifo f a.mid a.parts.front m a.parts.between b a.parts.first
+    a.parts.before in
     let c = next_stages (Saving (Exchanges {T = Unit {0}} (Err Stalled))) (Leaves mcr ier before f.lsr) a.mid after a.parts.back
     a.parts.between n a.parts.second a.parts.after in
     let w = lives-path f.limit a.parts.front m a.parts.between v a.parts.before in

@@ -140,7 +140,8 @@ test_leads : {T : Type 0} (narrow : Bool) (cut : ℕ → ℕ) (gone : List ℕ) 
 test_leads narrow cut gone mcr ier result f after l m n cuts b (before, fifo, t) path =
     let x = looped_modes m.chip.latches.lcr fifo cut in
     let a = next_stages (Enters before fifo) (Next (Saving (Exchanges result)) (Leaves mcr ier before f.lsr)) f after l m n t path in
-    let e = in_loopback cut gone f.config.fifo_trigger_level before fifo f a.mid a.parts.front m a.parts.between b a.parts.first a.parts.before in
+    let e = in_loopback cut gone f.config.fifo_trigger_level before fifo f a.mid a.parts.front m a.parts.between b a.parts.first
+    a.parts.before in
     let c = next_stages (Saving (Exchanges result)) (Leaves mcr ier before f.lsr) a.mid after a.parts.back a.parts.between
     n a.parts.second a.parts.after in
     let o = exchange_leads narrow x gone (settings_of a.mid) result c.parts.front a.parts.between c.parts.between cuts e

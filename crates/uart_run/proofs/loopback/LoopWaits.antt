@@ -141,7 +141,8 @@ never_full x gone s l m n v r t path = go s.limit (some_limit s.limit m v) t
 
 -- ---- the drain ends
 
-pub takes_blocks : (s : Settings) (k : ℕ) (l : List Access) → Times k TakesOne s l → (rs : List ℕ) × (length rs ≡ k) × InBlocks s.fifo l [] rs
+pub takes_blocks : (s : Settings) (k : ℕ) (l : List Access) → Times k TakesOne s l →
+    (rs : List ℕ) × (length rs ≡ k) × InBlocks s.fifo l [] rs
 takes_blocks s zero l t = ([], refl, rw t.is (blocks_none s.fifo))
 takes_blocks s (suc k) l t =
     let a = takes_blocks s k t.back t.second in (

@@ -120,8 +120,8 @@ leaves_list mcr ier before noted f after l (now, t) =
       t.second.second.second.0,
     ) refl
 
-pub left : (mcr ier before noted : ℕ) (f after : Fields) (l : List Access) (m n : MachineState) → (t : Leaves mcr ier before noted f l after) →
-    Path MachineStep m l n → LeftBy (leaving mcr ier t.0) f after m n
+pub left : (mcr ier before noted : ℕ) (f after : Fields) (l : List Access) (m n : MachineState) →
+    (t : Leaves mcr ier before noted f l after) → Path MachineStep m l n → LeftBy (leaving mcr ier t.0) f after m n
 left mcr ier before noted f after l m n (now, t) p =
     let fifo : Fields → Bool = λ g. g.fifo in
     record {

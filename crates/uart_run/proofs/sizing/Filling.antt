@@ -72,7 +72,8 @@ module _ (fifo : Bool) (gone : List ℕ) (byte more : ℕ) where
           enough (inl full) = omega (arith, full)
           enough (inr one) = omega (arith, one, before)
 
-      go : (b : Bool) → nat_lt 1 s.ticks_left ≡ b → Fills fifo gone byte more (shift true (Some s) t) (come_back fifo (looped_byte true (Some s)) r)
+      go : (b : Bool) → nat_lt 1 s.ticks_left ≡ b →
+          Fills fifo gone byte more (shift true (Some s) t) (come_back fifo (looped_byte true (Some s)) r)
       go true g = rw g (record { wire = f.wire; place = (first.0, tt); queue = f.queue; enough = before; size = f.size })
       go false g =
           rw g

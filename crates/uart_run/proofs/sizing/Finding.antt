@@ -48,7 +48,8 @@ use Rattle.uart_chip.proofs.lasting.Lasting.{AllSendNothing}
 use Rattle.uart_run.proofs.initialising.FifoSteps.{sets_fifo}
 use Rattle.uart_run.proofs.initialising.Initialised.{ready_by}
 use Rattle.uart_run.proofs.loopback.LoopTests.{IsBegun, begun, looped_modes, in_loopback, leaves_silently}
-use Rattle.uart_run.proofs.loopback.TestedReady.{entered, keeps_begins, mcr_read, looped, restored, leaving, written_back, leaves_list, left}
+use Rattle.uart_run.proofs.loopback.TestedReady.{entered, keeps_begins, mcr_read, looped, restored, leaving, written_back}
+use Rattle.uart_run.proofs.loopback.TestedReady.{leaves_list, left}
 use Rattle.uart_run.proofs.sizing.Counting.{Found}
 use Rattle.uart_run.proofs.sizing.Filling.{AllAre}
 use Rattle.uart_run.proofs.sizing.Flooding.{IsFlooded, flooded_access}
@@ -205,7 +206,8 @@ calm_leaving level start gone mcr ier now = (other refl refl, (tt, (other refl r
     unequal : (a b : ℕ) → (a == b) ≡ false → a ≢ b
     unequal a b e same = grind (arith, common_steps)
 
-    other : {offset : ℕ} → (offset == offsets.DATA) ≡ false → (offset == offsets.FCR) ≡ false → (offset ≢ offsets.DATA) × (offset ≢ offsets.FCR)
+    other : {offset : ℕ} → (offset == offsets.DATA) ≡ false → (offset == offsets.FCR) ≡ false →
+        (offset ≢ offsets.DATA) × (offset ≢ offsets.FCR)
     other {offset} a b = (unequal offset offsets.DATA a, unequal offset offsets.FCR b)
 
 -- from the measure on
@@ -322,12 +324,13 @@ module _ (s t : State) (sound : IsSound (machine_of s)) (may : MayFind s) (is_on
       let start = (receiver_of s).arrived in
       let cut = cut_of (machine_of s).chip in
       let x = looped_modes m.chip.latches.lcr on cut in
-      let a = next_stages (EntersAt (level_on f) before on) (Next (Sizes (level_on f) found) (Leaves mcr ier before f.lsr)) f after l m n does path in
+      let a = next_stages (EntersAt (level_on f) before on) (Next (Sizes (level_on f) found) (Leaves mcr ier before f.lsr)) f after l m n
+      does path in
       let c = next_stages (Sizes (level_on f) found) (Leaves mcr ier before f.lsr) a.mid after a.parts.back a.parts.between n a.parts.second
       a.parts.after in
       let again = c.parts.first.0 in
-      let d = next_stages (Saving (Measures found)) (SwitchesFifo (level_on f) again) a.mid c.mid c.parts.front a.parts.between c.parts.between
-      c.parts.first.1 c.parts.before in
+      let d = next_stages (Saving (Measures found)) (SwitchesFifo (level_on f) again) a.mid c.mid c.parts.front a.parts.between
+      c.parts.between c.parts.first.1 c.parts.before in
       let g = next_stages (Saving (SetsFifo (level_on f) again)) (Sets (with_fifo again)) d.mid c.mid d.parts.back d.parts.between
       c.parts.between d.parts.second d.parts.after in
       let e = entered (level_on f) before on f a.mid a.parts.front m a.parts.between b.sound b.dlab a.parts.first a.parts.before in

@@ -106,8 +106,8 @@ module _ (x : Modes) (gone : List ℕ) (i : IsLooped x) where
         fills = record { wire = f.wire; place = f.place; queue = f.queue; enough = f.enough; size = f.size };
       })
 
-  written : (more : ℕ) (m n : MachineState) → IsFlooded x gone (suc more) m.chip → Path MachineStep m (Write offsets.DATA test_byte ∷ []) n →
-      IsFlooded x gone more n.chip
+  written : (more : ℕ) (m n : MachineState) → IsFlooded x gone (suc more) m.chip →
+      Path MachineStep m (Write offsets.DATA test_byte ∷ []) n → IsFlooded x gone more n.chip
   written more m n w (mid, step, same) = rw same (flooded_write more m mid w step)
 
   -- ---- the flood

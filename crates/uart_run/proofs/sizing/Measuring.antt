@@ -102,7 +102,8 @@ module _ (x : Modes) (gone : List ℕ) (s : Settings) where
       let r = drained x gone s a.front m a.between e a.first a.before in
       let b = then_parts Floods (WaitsFor LSR.TRANSMITTER_EMPTY.0 false) s a.back a.between n a.second a.after in
       let w = was_flooded b.front a.between b.between (sound_path a.front m a.between sound a.before) r b.first b.before in
-      inr (t.0, inr (flooded_looks x gone r.looped 0 b.back b.between n (looks_waits s LSR.TRANSMITTER_EMPTY.0 false b.back b.second) w b.after))
+      let looks = looks_waits s LSR.TRANSMITTER_EMPTY.0 false b.back b.second in
+      inr (t.0, inr (flooded_looks x gone r.looped 0 b.back b.between n looks w b.after))
   measured found l m n on sound e (inr (inr (count, tells, t))) path =
       let waits = Then (WaitsFor LSR.TRANSMITTER_EMPTY.0 true) (TakesBack count) in
       let a = then_parts (DrainsLoopback true) (Then Floods waits) s l m n t path in
@@ -111,7 +112,8 @@ module _ (x : Modes) (gone : List ℕ) (s : Settings) where
       let sound_a = sound_path a.front m a.between sound a.before in
       let w = was_flooded b.front a.between b.between sound_a r b.first b.before in
       let c = then_parts (WaitsFor LSR.TRANSMITTER_EMPTY.0 true) (TakesBack count) s b.back b.between n b.second b.after in
-      let v = flooded_looks x gone r.looped 0 c.front b.between c.between (looks_waits s LSR.TRANSMITTER_EMPTY.0 true c.front c.first) w c.before in
+      let looks = looks_waits s LSR.TRANSMITTER_EMPTY.0 true c.front c.first in
+      let v = flooded_looks x gone r.looped 0 c.front b.between c.between looks w c.before in
       let sound_b = sound_path b.front a.between b.between sound_a b.before in
       let sound_c = sound_path c.front b.between c.between sound_b c.before in
       let full = filled x gone c.between sound_c v (wait_empties s c.front b.between c.between c.first c.before) in

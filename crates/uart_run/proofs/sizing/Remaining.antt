@@ -246,6 +246,6 @@ reset_at level start gone m n model sent come step =
     let e : (after_write offsets.FCR (fifo_bits (Some level)) c).transmitter ≡ emptied c.transmitter = reset_written level c.model c same in
     let gone_out : IsSent gone (emptied c.transmitter) = record { queue = refl; place = w.0.place; wire = w.0.wire } in
     let R : Chip → Type 0 = λ chip. Remains level start (control chip (fifo_bits (Some level)) c).receiver in
-    let remains = set_remains level start (fifo_bits (Some level)) c (sets_on level) (resets level) (resets_receiver level) (sets_level level)
-    w.1 in
+    let remains = set_remains level start (fifo_bits (Some level)) c (sets_on level) (resets level) (resets_receiver level)
+    (sets_level level) w.1 in
     rw step (subst (IsSent gone) (sym e) gone_out, subst R (sym same) remains)
