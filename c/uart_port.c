@@ -60,21 +60,6 @@ struct uart_chip_character {
     struct uart_origin origin;
 };
 
-/*
- * How many characters the transmitter FIFO of a chip holds, for Uart16550_send_burst.
- *
- * A 16550 has 16. No register that all chips have shows the size, so it is taken from the
- * datasheet, or Uart16550_find_fifo_size finds it. If a size is given that is larger than the
- * chip's, bytes are lost.
- */
-enum uart_fifo_size {
-    UART_FIFO_SIZE_SIXTEEN = 0,
-    UART_FIFO_SIZE_THIRTY_TWO = 1,
-    UART_FIFO_SIZE_SIXTY_FOUR = 2,
-    UART_FIFO_SIZE_ONE_HUNDRED_TWENTY_EIGHT = 3,
-    UART_FIFO_SIZE_TWO_HUNDRED_FIFTY_SIX = 4
-};
-
 struct uart_maybe_chip_character {
     bool is_some;
     struct uart_chip_character value;
@@ -485,32 +470,16 @@ static inline size_t uart_receiver_queue_len(const struct uart_receiver *uart_re
     return uart_count_character(uart_receiver->queue.len, uart_receiver->queue.items, 16);
 }
 
-/* Returns the number of characters. */
-static inline size_t uart_fifo_size_characters(enum uart_fifo_size fifo_size)
-{
-    switch (fifo_size) {
-    case UART_FIFO_SIZE_SIXTEEN:
-        return 16;
-    case UART_FIFO_SIZE_THIRTY_TWO:
-        return 32;
-    case UART_FIFO_SIZE_SIXTY_FOUR:
-        return 64;
-    case UART_FIFO_SIZE_ONE_HUNDRED_TWENTY_EIGHT:
-        return 128;
-    case UART_FIFO_SIZE_TWO_HUNDRED_FIFTY_SIX:
-    default:
-        return 256;
-    }
-}
-
 /*
  * Returns the number of characters that a queue has room for, with a FIFO of this size. Without
  * FIFO that is one, although it could hold more.
+ *
+ * The size is sixteen in each call, and so it is left out.
  */
-static inline size_t uart_room_of(bool fifo, enum uart_fifo_size size)
+static inline size_t uart_room_of(bool fifo)
 {
     if (fifo)
-        return uart_fifo_size_characters(size);
+        return 16;
     return 1;
 }
 
@@ -533,7 +502,7 @@ uart_push_character(uint8_t *len, struct uart_character *items, size_t items_len
     (void)items_len;
     size_t last = (size_t)*len;
     items[last] = item;
-    *len = (uint8_t)((uint8_t)last + 1);
+    *len = (uint8_t)(*len + 1);
 }
 
 /*
@@ -624,7 +593,7 @@ static inline void
 uart_enter(struct uart_receiver *parts, bool fifo, struct uart_chip_character new_)
 {
     size_t receiver_queue_len = uart_receiver_queue_len(parts);
-    if (receiver_queue_len < uart_room_of(fifo, UART_FIFO_SIZE_SIXTEEN)) {
+    if (receiver_queue_len < uart_room_of(fifo)) {
         uart_receiver_put(parts, new_);
     } else {
         if (!fifo) {
@@ -893,52 +862,11 @@ static inline uint8_t uart_characters_of_16(enum uart_fifo_trigger_level level)
     }
 }
 
-/* Returns one of four numbers, for the lowest trigger level to the highest. */
-static inline uint8_t
-uart_by_level(uint8_t first, uint8_t second, uint8_t third, uint8_t fourth,
-    enum uart_fifo_trigger_level level)
-{
-    switch (level) {
-    case UART_FIFO_TRIGGER_LEVEL_ONE:
-        return first;
-    case UART_FIFO_TRIGGER_LEVEL_FOUR:
-        return second;
-    case UART_FIFO_TRIGGER_LEVEL_EIGHT:
-        return third;
-    case UART_FIFO_TRIGGER_LEVEL_FOURTEEN:
-    default:
-        return fourth;
-    }
-}
-
-/*
- * Returns the number of characters of a trigger level, for a FIFO of this size.
- * The levels have the names of their numbers for a 16550.
- */
-static inline uint8_t
-uart_characters_of(enum uart_fifo_size size, enum uart_fifo_trigger_level level)
-{
-    switch (size) {
-    case UART_FIFO_SIZE_SIXTEEN:
-        return uart_characters_of_16(level);
-    case UART_FIFO_SIZE_THIRTY_TWO:
-        return uart_by_level(8, 16, 24, 28, level);
-    case UART_FIFO_SIZE_SIXTY_FOUR:
-        return uart_by_level(1, 16, 32, 56, level);
-    case UART_FIFO_SIZE_ONE_HUNDRED_TWENTY_EIGHT:
-        return uart_by_level(16, 32, 112, 120, level);
-    case UART_FIFO_SIZE_TWO_HUNDRED_FIFTY_SIX:
-    default:
-        return uart_by_level(1, 64, 128, 254, level);
-    }
-}
-
 /* Returns whether there are as many characters as the trigger level, or without FIFO any. */
 static inline bool uart_is_data_pending(const struct uart_receiver *parts, bool fifo)
 {
     if (fifo) {
-        size_t trigger =
-            (size_t)uart_characters_of(UART_FIFO_SIZE_SIXTEEN, uart_receiver_trigger(parts));
+        size_t trigger = (size_t)uart_characters_of_16(uart_receiver_trigger(parts));
         return trigger <= uart_receiver_queue_len(parts);
     }
     return 0 < uart_receiver_queue_len(parts);
@@ -1198,8 +1126,7 @@ static inline bool
 uart_is_sound_receiver(const struct uart_receiver *receiver, bool fifo, uint16_t char_ticks)
 {
     size_t receiver_queue_len = uart_receiver_queue_len(receiver);
-    bool is_so = receiver_queue_len <= uart_room_of(fifo, UART_FIFO_SIZE_SIXTEEN) &&
-        uart_is_sound_queue(receiver);
+    bool is_so = receiver_queue_len <= uart_room_of(fifo) && uart_is_sound_queue(receiver);
     return is_so && (uint32_t)receiver->timeout_ticks <= 4 * (uint32_t)char_ticks;
 }
 
@@ -1246,7 +1173,7 @@ static inline bool uart_is_sound_transmitter(const struct uart_transmitter *tran
     bool is_so2 = is_so;
     if (is_so2) {
         size_t transmitter_queue_len = uart_transmitter_queue_len(transmitter);
-        is_so2 = transmitter_queue_len <= uart_room_of(fifo, UART_FIFO_SIZE_SIXTEEN);
+        is_so2 = transmitter_queue_len <= uart_room_of(fifo);
     }
     bool is_so3 = is_so2;
     if (is_so3) {
@@ -1287,7 +1214,7 @@ static inline void uart_push_u8(uint8_t *len, uint8_t *items, size_t items_len, 
     (void)items_len;
     size_t last = (size_t)*len;
     items[last * sizeof(uint8_t)] = item;
-    *len = (uint8_t)((uint8_t)last + 1);
+    *len = (uint8_t)(*len + 1);
 }
 
 /* Puts these items in the place of those that are there. */
@@ -1711,7 +1638,7 @@ uint8_t uart_chip_read(struct uart_chip *chip, uint8_t offset)
 /* Returns how many characters can be received before one is lost. */
 static inline size_t uart_receiving_receive_room(const struct uart_receiver *parts, bool fifo)
 {
-    size_t room_of = uart_room_of(fifo, UART_FIFO_SIZE_SIXTEEN);
+    size_t room_of = uart_room_of(fifo);
     size_t receiver_queue_len = uart_receiver_queue_len(parts);
     return receiver_queue_len <= room_of ? room_of - receiver_queue_len : 0;
 }
@@ -2726,8 +2653,7 @@ static inline void uart_transmitter_count_overflow(struct uart_transmitter *uart
 static inline void uart_load(struct uart_transmitter *parts, bool fifo, uint8_t byte)
 {
     if (fifo) {
-        size_t transmitter_queue_len = uart_transmitter_queue_len(parts);
-        if (transmitter_queue_len < uart_fifo_size_characters(UART_FIFO_SIZE_SIXTEEN))
+        if (uart_transmitter_queue_len(parts) < 16)
             uart_transmitter_put(parts, byte);
         else
             uart_transmitter_count_overflow(parts);
@@ -2878,7 +2804,7 @@ static inline void uart_modem_renew(struct uart_modem *uart_modem, uint8_t mcr)
 }
 
 /* Computes the modem lines anew under this value of MCR, and adds their changes. */
-static inline void uart_chip_renew_modem(struct uart_chip *uart_chip, uint8_t mcr)
+static UART_APART void uart_chip_renew_modem(struct uart_chip *uart_chip, uint8_t mcr)
 {
     uart_modem_renew(&uart_chip->modem, mcr);
 }
@@ -2895,16 +2821,15 @@ static inline void uart_control_modem(struct uart_chip *parts, uint8_t value)
 
 static UART_APART void uart_write_register(struct uart_chip *parts, uint8_t offset, uint8_t value)
 {
-    struct uart_chip_latches latches = uart_chip_latches_of(parts);
     switch (offset) {
     case UART_OFFSET_DATA:
         uart_write_data(parts, value);
         break;
     case UART_OFFSET_IER:
         if (uart_is_dlab_set(parts)) {
-            struct uart_chip_latches latches2 = latches;
-            latches2.dlm = value;
-            uart_chip_set_latches(parts, latches2);
+            struct uart_chip_latches latches = uart_chip_latches_of(parts);
+            latches.dlm = value;
+            uart_chip_set_latches(parts, latches);
         } else {
             uart_enable(parts, value);
         }
@@ -2913,18 +2838,18 @@ static UART_APART void uart_write_register(struct uart_chip *parts, uint8_t offs
         uart_control(parts, value);
         break;
     case UART_OFFSET_LCR: {
-        struct uart_chip_latches latches3 = latches;
-        latches3.lcr = value;
-        uart_chip_set_latches(parts, latches3);
+        struct uart_chip_latches latches2 = uart_chip_latches_of(parts);
+        latches2.lcr = value;
+        uart_chip_set_latches(parts, latches2);
         break;
     }
     case UART_OFFSET_MCR:
         uart_control_modem(parts, value);
         break;
     case UART_OFFSET_SPR: {
-        struct uart_chip_latches latches4 = latches;
-        latches4.scr = value;
-        uart_chip_set_latches(parts, latches4);
+        struct uart_chip_latches latches3 = uart_chip_latches_of(parts);
+        latches3.scr = value;
+        uart_chip_set_latches(parts, latches3);
         break;
     }
     default:

@@ -1,4 +1,5 @@
 """All functions that are asked for, and what they need, as one file of C."""
+import dataclasses
 import re
 
 import in_place
@@ -92,6 +93,8 @@ class Written:
 
     def __init__(self, name, parameters, result, comment, proved):
         self.name, self.parameters, self.result, self.comment, self.proved = name, parameters, result, comment, proved
+        # All parameters of the source, also those that are known, which C has not.
+        self.given = parameters
         # Whether it is not to stand in the place of its calls.
         self.statements, self.is_public, self.is_apart = [], False, False
 
@@ -119,6 +122,11 @@ class Written:
         return "\n".join([self.comment + "\n".join(first), "{", *body, "}", ""])
 
 
+def is_constant(value):
+    """Whether a value is a constant of an enum."""
+    return isinstance(value, c.Word) and value.of.text().startswith("enum ")
+
+
 def without_destructors(key):
     """A key without what says of types that nothing is to be done at their end: each crate says it by a name of its own."""
     return (*key[:2], tuple(one for one in key[2] if not one[0].endswith("::Destruct++none")))
@@ -135,9 +143,10 @@ def top(word, result, name, parameters):
 
 class Library:
     """`public` has the C names of types that the header has, `prefix` is that of its bits, and `names` those of functions that would have
-    that of another one."""
+    that of another one. `known` has the parameters that are one constant in all calls, which are left out: by the key of the function and
+    the place among its parameters, the constant."""
 
-    def __init__(self, program, source, public, own, prefix, names=None):
+    def __init__(self, program, source, public, own, prefix, names=None, known=None):
         self.forest = Forest(program, lambda name: name in NATIVE or name in OF_C, own)
         self.source, self.prefix, self.names = source, prefix, names or {}
         self.types = Representation(self.forest, source, public)
@@ -150,6 +159,8 @@ class Library:
         self.short, self.apart, self.words = SHORT, "static", {}
         # Keys of one function by what they have in common, and the functions that only compute.
         self.same, self.quiet = {}, set()
+        # What is known of a function, by its name; and what stands in the place of its calls, if that is one value or one call.
+        self.known, self.known_of, self.stands_for = known or {}, {}, {}
 
     def export(self, function, name, parameters):
         """A function of the header: its name there, and those of its parameters."""
@@ -188,22 +199,34 @@ class Library:
             is_public = key[0] in self.exports
             # What is proved of a function of the header is said there.
             proved = [] if is_public else self.source.proved(info)
-            written = Written(self.name_of(key), parameters, body.result, comment_of(info.comment, proved=proved) if info else "", proved)
+            known = self.known.get(key, {})
+            comment = comment_of([*info.comment, *self.told_of(known, parameters)], proved=proved) if info else ""
+            written = Written(self.name_of(key), parameters, body.result, comment, proved)
             written.is_apart = info is not None and info.is_apart
             if is_public:
                 written.publish(self.exports[key[0]][1])
+            self.put_known(body.statements, written, known)
             written.statements = in_place.run(passes.run(body.statements, body.result, self.with_names), self.is_large)
+            if self.leave_out_known(written.statements):
+                written.statements = passes.refined(written.statements, self.with_names)
             if self.exports:
                 written.statements = passes.without_quiet(written.statements, self.quiet)
                 # What nobody reads may have been all that kept a parameter from being one value for ever.
                 while passes.remove_dead(written.statements) or passes.propagate(written.statements, self.with_names):
                     pass
+                while passes.into_branches(written.statements, self.quiet):
+                    written.statements = passes.refined(written.statements, self.with_names)
+                passes.where_it_is(written.statements)
                 if all(passes.is_quiet(one, self.quiet) for one in written.statements):
                     self.quiet.add(written.name)
             passes.on_expressions(written.statements, self.with_register)
             name_variables(body, written)
             if self.registers:
                 self.name_registers(written)
+            parameters = written.parameters
+            value = passes.only_value(written.statements, parameters)
+            if self.exports and not is_public and value is not None and (known or is_constant(value)):
+                self.known_of[written.name], self.stands_for[written.name] = known, (value, parameters)
             passes.declare(written.statements, parameters)
             written.statements[:0] = passes.unread(written.statements, parameters)
             self.functions[key] = written
@@ -211,6 +234,75 @@ class Library:
         if self.functions[key] is None:
             raise Unknown(f"{key[0]} calls itself, or a function that could not be translated")
         return self.functions[key]
+
+    # What is known of parameters.
+
+    def constants(self):
+        """The parameters that are one constant of an enum in all calls: as `known`."""
+        calls, found = {}, {}
+        for one in self.order:
+            for statement in c.all_statements(one.statements):
+                for whole in c.expressions(statement):
+                    for part in c.every(whole):
+                        if isinstance(part, c.CallOf):
+                            calls.setdefault(part.name, []).append(part.arguments)
+        for key, written in self.functions.items():
+            if written is None or written.is_public:
+                continue
+            facts = passes.Facts(written.statements)
+            left = [order for order in range(len(written.parameters) + len(self.known.get(key, {}))) if order not in self.known.get(key, {})]
+            for order, parameter, *values in zip(left, written.parameters, *calls.get(written.name, ())):
+                is_one = values and all(map(is_constant, values))
+                if is_one and len({one.name for one in values}) == 1 and facts.is_fixed(parameter):
+                    found.setdefault(key, {})[order] = values[0]
+        return found
+
+    def told_of(self, known, parameters):
+        """What a comment says of parameters that are left out."""
+        out = [""] if known else []
+        for order, value in known.items():
+            prefix = self.types.plain_name(parameters[order].meaning).upper()
+            shown = value.name.removeprefix(f"{prefix}_").replace("_", " ").lower()
+            out.append(f"The {parameters[order].name} is {shown} in each call, and so it is left out.")
+        return out
+
+    def put_known(self, statements, written, known):
+        """Puts the constants in the place of parameters, which go."""
+        constants = {written.parameters[order]: value for order, value in known.items()}
+
+        def change(one):
+            return constants.get(one.variable, one) if isinstance(one, c.Var) else one
+
+        if known:
+            passes.on_expressions(statements, change)
+            written.parameters = [one for one in written.parameters if one not in constants]
+            self.known_of[written.name] = known
+
+    def leave_out_known(self, statements):
+        """Leaves out the arguments that are known, and puts what a call stands for in its place. Returns whether there was one."""
+        found = False
+
+        def change(one):
+            nonlocal found
+            known = self.known_of.get(one.name) if isinstance(one, c.CallOf) else None
+            if known is None:
+                return one
+            found = True
+            for order, value in known.items():
+                if not isinstance(one.arguments[order], c.Word) or one.arguments[order].name != value.name:
+                    raise Unknown(f"a call of {one.name} without {value.name}")
+            left = [order for order in range(len(one.arguments)) if order not in known]
+            arguments = [one.arguments[order] for order in left]
+            value, parameters = self.stands_for.get(one.name, (None, ()))
+            # A constant takes no arguments, so none of them may be a call that does something.
+            if isinstance(value, c.Word) and any(isinstance(part, c.CallOf) and not part.is_pure for each in arguments for part in c.every(each)):
+                value = None
+            if value is not None:
+                return c.rebuilt(value, lambda part: arguments[parameters.index(part.variable)] if isinstance(part, c.Var) else part)
+            return dataclasses.replace(one, arguments=arguments, expects=tuple(one.expects[order] for order in left))
+
+        passes.on_expressions(statements, change)
+        return found
 
     def name_of(self, key):
         if key[0] in self.exports:
@@ -275,13 +367,13 @@ class Library:
         flat = []
         for one in arguments:
             flat += [one.pointer, one.length] if isinstance(one, Pair) else [] if one is None else [one]
-        if len(flat) != len(written.parameters):
+        if len(flat) != len(written.given):
             raise Unknown(f"{len(flat)} arguments for {written.name}")
-        for order, (one, parameter) in enumerate(zip(flat, written.parameters)):
+        for order, (one, parameter) in enumerate(zip(flat, written.given)):
             body.join(one, c.Var(parameter), "=")
             if isinstance(one, c.Literal):
                 flat[order] = self.with_names(one, parameter.meaning)
-        return c.CallOf(written.name, flat, written.result, expects=tuple(one.of for one in written.parameters))
+        return c.CallOf(written.name, flat, written.result, expects=tuple(one.of for one in written.given))
 
     def with_register(self, one):
         """A call with the name of a register in place of its offset."""

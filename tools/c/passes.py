@@ -1,4 +1,6 @@
 """What makes the C of a function readable, step by step. Each step leaves what the function does."""
+import dataclasses
+
 import syntax as c
 from translate import Unknown
 
@@ -469,6 +471,12 @@ def remove_dead(statements):
                 changed = True
                 out += one.yes if one.condition.name == "true" else one.no
                 continue
+            if isinstance(one, c.Switch) and isinstance(one.on, c.Word):
+                changed = True
+                out += case_of(one)
+                if c.leaves(out):
+                    return out
+                continue
             if isinstance(one, c.If) and not one.yes and not one.no:
                 changed = True
                 if facts.depends(one.condition)[0]:
@@ -479,6 +487,27 @@ def remove_dead(statements):
 
     statements[:] = go(statements)
     return changed
+
+
+def case_of(switch):
+    """What a choice over a constant does. Without a case for all others its last one is that."""
+    for labels, body in switch.cases:
+        if labels is None or any(isinstance(label, c.Word) and label.name == switch.on.name for label in labels):
+            return body
+    return switch.cases[-1][1]
+
+
+def only_value(statements, parameters):
+    """The value that a function returns if it does nothing else, and that is a constant with a name, or a number or a call with each of its
+    parameters once; or None."""
+    value = statements[0].value if len(statements) == 1 and isinstance(statements[0], c.Return) else None
+    if isinstance(value, c.Word):
+        return value
+    inner = value.arguments if isinstance(value, c.CallOf) else [value]
+    if not all(isinstance(one, (c.Literal, c.Word, c.Var)) for one in inner):
+        return None
+    read = [one.variable for one in inner if isinstance(one, c.Var)]
+    return value if len(read) == len(parameters) and all(one in read for one in parameters) else None
 
 
 # Values that are used once, where they are used.
@@ -645,6 +674,71 @@ def keeps(facts, body, order, variable, value):
         if changes:
             return count == facts.reads.get(variable) and not used
     return count == facts.reads.get(variable)
+
+
+# Values that memory has, where they are used.
+
+def into_branches(statements, quiet):
+    """Reads a value in the branches that use it, if those are some of the choice behind it and not all. Returns whether there was one. `quiet`
+    are the functions that only compute."""
+    facts = Facts(statements)
+    for body in every_list(statements):
+        for order, (one, choice) in enumerate(zip(body, body[1:])):
+            if not (isinstance(one, c.Set) and isinstance(one.to, c.Var) and isinstance(choice, (c.If, c.Switch))):
+                continue
+            variable, used = one.to.variable, [each for each in c.lists(choice) if mentions(each, one.to.variable)]
+            stays = variable.is_parameter or not facts.is_fixed(variable) or not any(facts.depends(one.value)[:2])
+            is_read_elsewhere = uses(choice, variable) or mentions(body[order + 2:], variable)
+            if stays or is_read_elsewhere or not 0 < len(used) < len(c.lists(choice)):
+                continue
+            if not is_quiet(one, quiet) or not all(calls_quietly(each, quiet) for each in c.expressions(choice)):
+                continue
+            for each in used:
+                own = dataclasses.replace(variable)
+                on_expressions(each, lambda part, own=own, old=variable: c.Var(own) if isinstance(part, c.Var) and part.variable is old else part)
+                each.insert(0, c.Set(c.Var(own), one.value))
+            del body[order]
+            return True
+    return False
+
+
+def where_it_is(statements):
+    """Computes a number that is written behind a parameter of what is there, and not of a variable that has it: what may be changed by a parameter
+    is changed by no other. A compiler then adds in memory, and keeps no register for it."""
+    facts = Facts(statements)
+    for body in every_list(statements):
+        for order, one in enumerate(body):
+            pointer = one.to.pointer if isinstance(one, c.Set) and isinstance(one.to, c.Deref) else None
+            if not isinstance(pointer, c.Var) or not is_written_once(statements, pointer.variable):
+                continue
+            copies = {each.to.variable: each.value for each in body[:order] if isinstance(each, c.Set) and isinstance(each.to, c.Var)
+                      and facts.is_fixed(each.to.variable) and is_copy(each.value, pointer.variable)}
+            one.value = c.rebuilt(one.value, lambda part, copies=copies: as_it_was(copies.get(part.variable, part) if isinstance(part, c.Var) else part))
+
+
+def is_written_once(statements, variable):
+    """Whether a parameter is the address of a number that may be changed, goes nowhere else, and is written through once."""
+    of = variable.meaning
+    if not (variable.is_parameter and isinstance(of, tuple) and of[0] == "Ref" and of[2] and isinstance(of[1], tuple) and of[1][0] == "Int"):
+        return False
+    parts = [part for one in c.all_statements(statements) for whole in c.expressions(one) for part in c.every(whole)]
+    behind = sum(isinstance(part, c.Deref) and isinstance(part.pointer, c.Var) and part.pointer.variable is variable for part in parts)
+    written = sum(isinstance(one, c.Set) and isinstance(one.to, c.Deref) and isinstance(one.to.pointer, c.Var) and one.to.pointer.variable is variable
+                  for one in c.all_statements(statements))
+    return written == 1 and behind == sum(isinstance(part, c.Var) and part.variable is variable for part in parts)
+
+
+def is_copy(value, pointer):
+    """Whether a value is the number behind a pointer, as wide or wider."""
+    while isinstance(value, c.Cast) and value.of.bits >= value.operand.of.bits:
+        value = value.operand
+    return isinstance(value, c.Deref) and isinstance(value.pointer, c.Var) and value.pointer.variable is pointer
+
+
+def as_it_was(one):
+    """A number that was made wider and narrow again, as it was."""
+    is_back = isinstance(one, c.Cast) and isinstance(one.operand, c.Cast) and one.operand.operand.of.text() == one.of.text()
+    return one.operand.operand if is_back and one.operand.of.bits >= one.of.bits else one
 
 
 # Returns, conditions and loops.
@@ -931,6 +1025,13 @@ def run(statements, result, with_names):
         statements = structured(statements)
     except Unknown:
         statements = [with_joined_cases(one) for one in structured(with_short_rests(statements))]
+    statements = refined(statements, with_names)
+    settle(statements, result)
+    return statements
+
+
+def refined(statements, with_names):
+    """The same statements, after each step until none changes anything."""
     for _ in range(200):
         simplify(statements)
         changed = propagate(statements, with_names)
@@ -947,7 +1048,6 @@ def run(statements, result, with_names):
         raise Unknown("steps without an end")
     while statements and isinstance(statements[-1], c.Return) and statements[-1].value is None:
         statements = statements[:-1]
-    settle(statements, result)
     return statements
 
 

@@ -23,8 +23,9 @@ ALWAYS = ["uart_port_report", "uart_finish", "uart_conclude"]
 # The last of them is some 290 bytes of code in each place. These functions share one that is out of line. Two of them are seldom called, and a byte
 # that is written and taken takes no more than it took, since a write by the longer way does not stand beside it any more.
 SHARED, SHARE = "uart_conclude", ["uart_port_receive_one", "uart_port_set_lines", "uart_port_take_output"]
-# What is large, and would stand in two places, or beside what is done often.
-APART = ["uart_is_sound", "uart_change_lines", "uart_write_slowly"]
+# What is large, and would stand in two places, or beside what is done often: as what a write of MCR does beside those of the other registers,
+# for which a compiler then has registers enough.
+APART = ["uart_is_sound", "uart_change_lines", "uart_write_slowly", "uart_chip_renew_modem"]
 # What is done once, or when somebody plugs a cable. A compiler makes such a function small.
 SELDOM = [f"uart_{of}_{name}" for of in ("chip", "port") for name in ("new", "load", "save", "set_lines")]
 INLINE = """/* For a function that is to stand in the place of its calls, unless it is to be small. */
@@ -102,10 +103,14 @@ def made(folder):
     (program, exports), header, source = exported(folder), Header.read(), names.Source(ROOT, OWN)
     public = {("Named", name, ()): snake(name.split("::")[-1]) for name in program.types
               if name.startswith(f"{EXPORTS}::") and f"struct {snake(name.split('::')[-1])} {{" in header.text}
-    library = translated(program, source, public, exports, header, {})
-    clashes = library.clashes()
+    library = translated(program, source, public, exports, header, {}, {})
+    clashes, known = library.clashes(), {}
     if clashes:
-        library = translated(program, source, public, exports, header, clashes)
+        library = translated(program, source, public, exports, header, clashes, known)
+    # What is left out of a function may leave one constant for those that it calls.
+    while more := library.constants():
+        known = {key: known.get(key, {}) | more.get(key, {}) for key in known.keys() | more.keys()}
+        library = translated(program, source, public, exports, header, clashes, known)
     missing = library.words.keys() - {one.name for one in library.called()}
     if missing:
         sys.exit(f"emit: there is no {', '.join(sorted(missing))} to be apart or seldom")
@@ -118,9 +123,10 @@ def made(folder):
     return {"uart_port.h": header.made(library), "uart_port.c": "\n".join(texts)}, library
 
 
-def translated(program, source, public, exports, header, clashes):
-    """The functions of the header and all that they need, with these names for those that would have one with another."""
-    library = Library(program, source, public, OWN, "UART", clashes)
+def translated(program, source, public, exports, header, clashes, known):
+    """The functions of the header and all that they need, with these names for those that would have one with another, and without the
+    parameters that are known."""
+    library = Library(program, source, public, OWN, "UART", clashes, known)
     library.registers, library.returned = header.registers, header.statuses
     library.short, library.apart = SHORT, "static UART_APART"
     library.words = {**dict.fromkeys(APART, library.apart), **dict.fromkeys(SELDOM, "UART_SELDOM")}
