@@ -713,7 +713,11 @@ def where_it_is(statements):
                 continue
             copies = {each.to.variable: each.value for each in body[:order] if isinstance(each, c.Set) and isinstance(each.to, c.Var)
                       and facts.is_fixed(each.to.variable) and is_copy(each.value, pointer.variable)}
-            one.value = c.rebuilt(one.value, lambda part, copies=copies: as_it_was(copies.get(part.variable, part) if isinstance(part, c.Var) else part))
+
+            def change(part, copies=copies):
+                return as_it_was(copies.get(part.variable, part) if isinstance(part, c.Var) else part)
+
+            one.value = c.rebuilt(one.value, change)
 
 
 def is_written_once(statements, variable):

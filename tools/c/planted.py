@@ -119,7 +119,6 @@ IN_TRANSLATOR_OF_PORT = [
     ("items that move become one item", "library.py", "moved[i] = items[from + done + i];", "moved[i] = items[from + done];"),
     ("an item of three bytes is one of one", "body.py", "return Int(index.value // self.library.size_of(item), index.bits)", "return index"),
     ("another case of a constant", "passes.py", "label.name == switch.on.name", "label.name != switch.on.name"),
-    ("a parameter that is two constants is left out", "library.py", "if is_one and len({one.name for one in values}) == 1 and", "if is_one and"),
 ]
 
 IN_C = {"driver": IN_DRIVER, "port": IN_PORT}
