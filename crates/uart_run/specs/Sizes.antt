@@ -88,8 +88,8 @@ pub record FindsOff (s : State) (found : Result FifoSize FifoSizeError) (t : Sta
   pub driver : fields (inner_of t) ≡ fields (inner_of s)
 
 -- a find over a chip that has no FIFOs, by a driver that takes them to be on, returns that one byte came back, which is
--- too few, or it stalls. If one came back, the transmitter is empty, with nothing of the call on the wire, and the state
--- is ready: the driver knows then that the FIFOs are off. The latches are as before
+-- too few, or it stalls. If one came back, the transmitter is empty, with nothing of the call on the wire, and the
+-- state is ready: the driver knows then that the FIFOs are off. The latches are as before
 pub record FindsNone (s : State) (found : Result FifoSize FifoSizeError) (t : State) : Type 0 where
   pub answers : (found ≡ Err (TooFew 1)) ⊎ (found ≡ Err Stalled)
   pub flushed : found ≡ Err (TooFew 1) → IsFlushed s t

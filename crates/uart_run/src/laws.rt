@@ -137,8 +137,8 @@ pub fn configured_chips_pass_the_check(uart: &Uart16550<Device16550>)
 /// With a size nothing of the call went to the wire, and all that waited before it did; what is in
 /// the receiver arrived during the call; and a session may begin. After a stall at most one byte of
 /// the call goes out, and a session may begin if one might before. Either way the latches are as
-/// before. A driver that takes the FIFOs to be off does nothing. One that takes them to be on over a
-/// chip that has none is told that one byte came back, or of a stall.
+/// before. A driver that takes the FIFOs to be off does nothing. One that takes them to be on over
+/// a chip that has none is told that one byte came back, or of a stall.
 ///
 /// # Examples
 ///
