@@ -5,5 +5,7 @@ pub mod Counting
 pub mod Staying
 pub mod Remaining
 pub mod Measuring
+pub mod Walking
 pub mod Finding
+pub mod Lacking
 pub mod Succeeding

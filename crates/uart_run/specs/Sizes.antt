@@ -3,7 +3,7 @@ use Rattle.std.specs.Prelude.{◌≡◌, ◌⊎◌, ◌≤◌, ℕ, false, List,
 use Rattle.std.specs.List.{AllByRecursion}
 use Rattle.uart_spec.specs.declared.setup.FifoSize.{FifoSize}
 use Rattle.uart_spec.specs.declared.errors.FifoSizeError.{FifoSizeError}
-use Rattle.uart_spec.specs.declared.errors.FifoSizeError.TheVariants.{FifosOff, Stalled}
+use Rattle.uart_spec.specs.declared.errors.FifoSizeError.TheVariants.{FifosOff, TooFew, Stalled}
 use Rattle.uart_spec.specs.declared.registers.fifo_trigger_level.FifoTriggerLevel.TheVariants.{One}
 use Rattle.uart_16550.specs.Driver.{fields}
 use Rattle.uart_16550.specs.Loopback.{test_byte}
@@ -25,11 +25,14 @@ size_in s = (transmitter_of s).size
 
 -- Whether the FIFOs are on is nothing that the call goes by: it turns them on.
 
--- DLAB and loopback are off, and the chip has FIFOs, so their size may be found. It is so in a ready state with FIFOs
--- that are on
-pub record MayFind (s : State) : Type 0 where
+-- DLAB and loopback are off, as in a ready state
+pub record IsPlain (s : State) : Type 0 where
   pub dlab : is_dlab_set (latches_of s) ≡ false
   pub loopback : is_loopback (latches_of s) ≡ false
+
+-- and the chip has FIFOs, so their size may be found. It is so in a ready state with FIFOs that are on
+pub record MayFind (s : State) : Type 0 where
+  pub plain : IsPlain s
   pub model : (machine_of s).chip.model ≡ Uart16550A
 
 -- ---- what it leaves
@@ -83,3 +86,12 @@ pub record FindsOff (s : State) (found : Result FifoSize FifoSizeError) (t : Sta
   pub answers : found ≡ Err FifosOff
   pub machine : machine_of t ≡ machine_of s
   pub driver : fields (inner_of t) ≡ fields (inner_of s)
+
+-- a find over a chip that has no FIFOs, by a driver that takes them to be on, returns that one byte came back, which is
+-- too few, or it stalls. If one came back, the transmitter is empty, with nothing of the call on the wire, and the
+-- state is ready: the driver knows then that the FIFOs are off. The latches are as before
+pub record FindsNone (s : State) (found : Result FifoSize FifoSizeError) (t : State) : Type 0 where
+  pub answers : (found ≡ Err (TooFew 1)) ⊎ (found ≡ Err Stalled)
+  pub flushed : found ≡ Err (TooFew 1) → IsFlushed s t
+  pub ready : found ≡ Err (TooFew 1) → Ready t
+  pub latches : latches_of t ≡ latches_of s

@@ -22,6 +22,7 @@ ghost use Rattle.uart_spec.specs.declared.received.Received.{Received};
 ghost use Rattle.uart_chip.specs.Chip.{ticks};
 ghost use Rattle.uart_chip.specs.Machine.{MachineState, MachineStep, fresh, cutting, at_mark};
 ghost use Rattle.uart_events.specs.declared.event.Chip.{Chip};
+ghost use Rattle.uart_events.specs.declared.event.Chip.TheVariants.{Uart16450};
 ghost use Rattle.uart_events.specs.declared.event.Event.{Event};
 ghost use Rattle.uart_spec.specs.declared.access.Access.{Access};
 ghost use Rattle.uart_spec.specs.declared.access.Access.TheVariants.{Read};
@@ -31,7 +32,8 @@ ghost use Rattle.uart_run.specs.Ready.{KeepsReady, Ready};
 ghost use Rattle.uart_run.specs.Overruns.{FlagTells, LeavesReceiver, OverrunsStand};
 ghost use Rattle.uart_run.specs.ReceivedErrors.{ReceivedExactly, under_terminal};
 ghost use Rattle.uart_run.specs.Progress.{HasRoom, IsTimely};
-ghost use Rattle.uart_run.specs.Sizes.{FindsOff, FindsSize, MayFind, size_in};
+ghost use Rattle.uart_run.specs.Sizes.{FindsNone, FindsOff, FindsSize, IsPlain, MayFind};
+ghost use Rattle.uart_run.specs.Sizes.{size_in};
 
 use uart_16550::Uart16550;
 use uart_chip::Device16550;
@@ -135,7 +137,8 @@ pub fn configured_chips_pass_the_check(uart: &Uart16550<Device16550>)
 /// With a size nothing of the call went to the wire, and all that waited before it did; what is in
 /// the receiver arrived during the call; and a session may begin. After a stall at most one byte of
 /// the call goes out, and a session may begin if one might before. Either way the latches are as
-/// before. A driver that takes the FIFOs to be off does nothing.
+/// before. A driver that takes the FIFOs to be off does nothing. One that takes them to be on over
+/// a chip that has none is told that one byte came back, or of a stall.
 ///
 /// # Examples
 ///
@@ -153,6 +156,11 @@ pub fn fifo_sizes_are_found(uart: &Uart16550<Device16550>)
         MayFind (under_terminal uart.now) → (fields uart.now).fifo ≡ true →
         Did MachineStep (FindsFifoSize found) uart.now after →
         FindsSize (under_terminal uart.now) found (under_terminal after) }
+    ensures none { (after : Uart16550 MachineState) (found : Result FifoSize FifoSizeError) →
+        IsPlain (under_terminal uart.now) → (backend_of uart.now).chip.model ≡ Uart16450 →
+        (fields uart.now).fifo ≡ true →
+        Did MachineStep (FindsFifoSize found) uart.now after →
+        FindsNone (under_terminal uart.now) found (under_terminal after) }
     ensures succeeds { (after : Uart16550 MachineState) (found : Result FifoSize FifoSizeError) →
         MayFind (under_terminal uart.now) → (fields uart.now).fifo ≡ true →
         IsTimely (under_terminal uart.now) → HasRoom 0 (backend_of uart.now) →

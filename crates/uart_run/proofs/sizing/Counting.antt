@@ -100,3 +100,11 @@ told size count (Ok other) e t =
 told size count (Err (TooFew returned)) e t = let least = at_least_16 size in absurd (omega (arith, t.1, least, e))
 told size count (Err FifosOff) e t = absurd t
 told size count (Err Stalled) e t = absurd t
+
+-- without FIFO one comes back, which is too few
+pub told_none : (count : ℕ) (found : Found) → count ≡ 1 → Tells count found → found ≡ Err (TooFew 1)
+told_none count (Ok other) e t = let least = at_least_16 other in absurd (omega (arith, t.0, least, e))
+told_none count (Err (TooFew returned)) e t =
+    ap (λ (one : ℕ). let r : Found = Err (TooFew one) in r) (t.0 ∙ e)
+told_none count (Err FifosOff) e t = absurd t
+told_none count (Err Stalled) e t = absurd t

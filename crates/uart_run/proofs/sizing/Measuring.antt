@@ -1,6 +1,5 @@
 -- The measure of `find_fifo_size` in loopback: it finds the size of the FIFO, or a wait reached the limit.
-use Rattle.std.proofs.Common.{◌≡◌, ◌⊎◌, ℕ, Bool, true, false, inl, inr, List, [], ◌∷◌, Ok, Err, arith, sym, ◌∙◌, ap}
-use Rattle.uart_spec.specs.FifoSize.{characters}
+use Rattle.std.proofs.Common.{◌≡◌, ◌⊎◌, ℕ, Bool, true, false, inl, inr, List, [], ◌∷◌, Err, arith, sym, ◌∙◌, ap}
 use Rattle.uart_spec.specs.declared.setup.FifoSize.{FifoSize}
 use Rattle.uart_spec.specs.declared.errors.FifoSizeError.TheVariants.{Stalled}
 use Rattle.uart_spec.specs.declared.registers.offsets.TheConstants as offsets
@@ -12,7 +11,7 @@ use Rattle.uart_16550.specs.Grammar.{Settings, Only, Then, Times}
 use Rattle.uart_16550.specs.Receive.{Miss}
 use Rattle.uart_16550.specs.Transmit.{WaitsFor}
 use Rattle.uart_16550.specs.Loopback.{test_byte, TakesOne, DrainsLoopback}
-use Rattle.uart_16550.specs.Sizing.{flood, Floods, TakesBack, Measures}
+use Rattle.uart_16550.specs.Sizing.{flood, Floods, TakesBack, Tells, Measures}
 use Rattle.uart_chip.specs.Transmitter.{room}
 use Rattle.uart_chip.specs.Chip.{ChipState}
 use Rattle.uart_chip.specs.Machine.{MachineState, MachineStep}
@@ -28,7 +27,7 @@ use Rattle.uart_run.proofs.Pieces.{then_parts}
 use Rattle.uart_run.proofs.SilentLists.{silence}
 use Rattle.uart_run.proofs.loopback.LoopPhases.{IsEntered, IsReadyToTest, drained, idle_sent, silent_takes_one, keeps_takes_one}
 use Rattle.uart_run.proofs.sizing.Flooding.{IsFlooded, flooded, flooded_looks, looks_waits, filled}
-use Rattle.uart_run.proofs.sizing.Counting.{Found, counted, told, silent_takes_back}
+use Rattle.uart_run.proofs.sizing.Counting.{Found, counted, silent_takes_back}
 
 -- both FIFOs of a sound chip have one size
 pub one_size : (c : ChipState) → IsSoundChip c → c.receiver.size ≡ c.transmitter.size
@@ -61,12 +60,16 @@ keeps_measures s found l (inr (inr (count, tells, t))) =
 
 -- ---- what is found
 
--- the size was found, and the transmitter is empty; or a wait reached the limit, and it is empty, or has some of the
--- flood. The wire has what was to be sent before
-abbrev pub FoundIn : Modes → List ℕ → FifoSize → Found → MachineState → Type 0
-FoundIn x gone size found n =
-    ((found ≡ Ok size) × IsSent gone n.chip.transmitter)
+-- this was found, and the transmitter is empty; or a wait reached the limit, and it is empty, or has some of the flood.
+-- The wire has what was to be sent before
+abbrev pub FoundIn : Modes → List ℕ → (answer found : Found) → MachineState → Type 0
+FoundIn x gone answer found n =
+    ((found ≡ answer) × IsSent gone n.chip.transmitter)
     ⊎ ((found ≡ Err Stalled) × (IsSent gone n.chip.transmitter ⊎ IsFlooded x gone 0 n.chip))
+
+-- this is what a count tells of as many as there is room for
+abbrev pub TellsAll : (fifo : Bool) → FifoSize → (answer found : Found) → Type 0
+TellsAll fifo size answer found = (count : ℕ) → count ≡ room fifo size → Tells count found → found ≡ answer
 
 module _ (x : Modes) (gone : List ℕ) (s : Settings) where
   -- a chip in which nothing is left may be flooded
@@ -93,18 +96,18 @@ module _ (x : Modes) (gone : List ℕ) (s : Settings) where
       IsFlooded x gone 0 n.chip
   was_flooded l m n sound r t path = flooded x gone r.looped s flood l m n (may_flood m sound r) t path
 
-  pub measured : (found : Found) (l : List Access) (m n : MachineState) → x.fifo ≡ true → IsSound m → IsEntered x gone s m →
-      Measures found s l → Path MachineStep m l n → FoundIn x gone m.chip.transmitter.size found n
-  measured found l m n on sound e (inl t) path =
+  pub measured : (answer found : Found) (l : List Access) (m n : MachineState) → TellsAll x.fifo m.chip.transmitter.size answer found →
+      IsSound m → IsEntered x gone s m → Measures found s l → Path MachineStep m l n → FoundIn x gone answer found n
+  measured answer found l m n told sound e (inl t) path =
       inr (t.0, inl (sent_path gone l m n (all_misses silence s TakesOne (silent_takes_one s) l t.1) e.sent path))
-  measured found l m n on sound e (inr (inl t)) path =
+  measured answer found l m n told sound e (inr (inl t)) path =
       let a = then_parts (DrainsLoopback true) (Then Floods (WaitsFor LSR.TRANSMITTER_EMPTY.0 false)) s l m n t.1 path in
       let r = drained x gone s a.front m a.between e a.first a.before in
       let b = then_parts Floods (WaitsFor LSR.TRANSMITTER_EMPTY.0 false) s a.back a.between n a.second a.after in
       let w = was_flooded b.front a.between b.between (sound_path a.front m a.between sound a.before) r b.first b.before in
       let looks = looks_waits s LSR.TRANSMITTER_EMPTY.0 false b.back b.second in
       inr (t.0, inr (flooded_looks x gone r.looped 0 b.back b.between n looks w b.after))
-  measured found l m n on sound e (inr (inr (count, tells, t))) path =
+  measured answer found l m n told sound e (inr (inr (count, tells, t))) path =
       let waits = Then (WaitsFor LSR.TRANSMITTER_EMPTY.0 true) (TakesBack count) in
       let a = then_parts (DrainsLoopback true) (Then Floods waits) s l m n t path in
       let r = drained x gone s a.front m a.between e a.first a.before in
@@ -123,9 +126,7 @@ module _ (x : Modes) (gone : List ℕ) (s : Settings) where
       let size_c = same_pace c.front b.between c.between c.before in
       let size : c.between.chip.receiver.size ≡ m.chip.transmitter.size =
       one_size c.between.chip sound_c.chip ∙ (size_c.size ∙ (size_b.size ∙ size_a.size)) in
-      let holds : room x.fifo c.between.chip.receiver.size ≡ characters m.chip.transmitter.size =
-      ap (λ (fifo : Bool). room fifo c.between.chip.receiver.size) on ∙ ap characters size in
       inl (
-        told m.chip.transmitter.size count found (all ∙ holds) tells,
+        told count (all ∙ ap (room x.fifo) size) tells,
         sent_path gone c.back c.between n (silent_takes_back s count c.back c.second) full.sent c.after,
       )

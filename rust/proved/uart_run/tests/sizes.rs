@@ -421,6 +421,32 @@ fn a_stall_sends_at_most_one_test_byte() {
 }
 
 #[test]
+fn fifos_that_are_off_are_turned_on() {
+    for size in SIZES {
+        // A new driver takes the FIFOs to be on.
+        let mut uart = Uart16550::new_with_backend(SizedChip::new(size, Chip::Uart16550A, 4, 9, 1));
+        assert_eq!(uart.find_fifo_size(), Ok(size));
+        assert!(uart.backend().fifo);
+    }
+}
+
+#[test]
+fn one_byte_comes_back_without_fifos() {
+    for size in SIZES {
+        for density in [2, 9, 80] {
+            let chip = SizedChip::new(size, Chip::Uart16450, 7, density, density);
+            let mut uart = Uart16550::new_with_backend(chip);
+            let kept = uart.backend().kept();
+            let found = uart.find_fifo_size();
+            assert_eq!(found, Err(FifoSizeError::TooFew { returned: 1 }));
+            assert!(uart.backend().out().is_empty());
+            assert_eq!(uart.backend().kept(), kept);
+            assert_eq!(uart.find_fifo_size(), Err(FifoSizeError::FifosOff));
+        }
+    }
+}
+
+#[test]
 fn without_fifos_nothing_is_done() {
     let chip = SizedChip::new(FifoSize::Sixteen, Chip::Uart16450, 4, 9, 1);
     let mut uart = set_up(chip, 1_000_000);

@@ -1,5 +1,6 @@
 use Rattle.uart_run.specs.ReceivedErrors.{under_terminal}
 use Rattle.uart_run.proofs.sizing.Finding.{finds_off, finds_size, may_find}
+use Rattle.uart_run.proofs.sizing.Lacking.{finds_none}
 use Rattle.uart_run.proofs.sizing.Succeeding.{size_found}
 use Rattle.uart_run.proofs.laws.fifo_sizes_are_found.Goals as goal
 
@@ -11,6 +12,9 @@ returns c =
       off = λ after found off did. finds_off before (under_terminal after) found did.list off did.does did.path;
       may = λ ready on. may_find before whole.sound ready on;
       on = λ after found may on did. finds_size before (under_terminal after) whole.sound may on found did.list did.does did.path;
+      none =
+          λ after found plain model on did.
+          finds_none before (under_terminal after) whole.sound plain model found did.list on did.does did.path;
       succeeds =
           λ after found may on timely room did.
           size_found before (under_terminal after) whole.sound may on timely room found did.list did.does did.path;
