@@ -26,3 +26,4 @@ pub mod Resumes
 pub mod Taking
 pub mod SendsOn
 pub mod Rounds
+pub mod Agrees

@@ -31,6 +31,7 @@ use Rattle.uart_link.specs.Carried.{AllKeepOrderAt, queued_at, bytes_gone}
 use Rattle.uart_link.specs.Link.{at_end, other, Step, LinkChain}
 use Rattle.uart_link.specs.Parts.{LinkConserves}
 use Rattle.uart_link.specs.Told.{NoLineAt}
+use Rattle.uart_link.proofs.Agrees.{keeps_agreed}
 use Rattle.uart_link.proofs.Crossings.{arriving_numbered}
 use Rattle.uart_link.proofs.EndActs.{arrived_after}
 use Rattle.uart_link.proofs.EndPasses.{InEnd, EndPasses}
@@ -216,6 +217,9 @@ link_conserves a b steps sound_left sound_right wired_left wired_right joined re
           (drops_nothing x y pace end a b steps w v joined chain paced);
       whole_by_xoff = λ end pace paced. delivers end a b steps (sound_there end) (all steps b chain end)
           (xoff_drops_nothing x y pace end a b steps w v joined chain paced);
+      agreed = λ end. keeps_agreed x y end a b steps w v joined (cuts_nothing a.left) (cuts_nothing a.right)
+          (λ u o part in_left in_right between within. carries x y u o part in_left in_right between (cuts_nothing a.left)
+          (cuts_nothing a.right) within end) chain;
       progress = λ end. progresses x y end steps a b w v joined chain
           (λ part u within none. carries_all end a u part (sound_there end) none (all part u within end));
       handled = λ end. empties_receiver x y end steps a b w v joined chain;

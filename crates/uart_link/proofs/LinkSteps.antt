@@ -208,7 +208,7 @@ left_at Left Right gone bytes e = refl
 left_at Right Left gone bytes e = refl
 
 -- in a call, and then in others
-bytes_gone_first : (end : Side) (step : Step) (steps : List Step) → bytes_gone end (step ∷ steps) ≡
+pub bytes_gone_first : (end : Side) (step : Step) (steps : List Step) → bytes_gone end (step ∷ steps) ≡
     of_end end step.call.side (gone_in step.call.call step.answer (to_take (at_end step.call.side step.before))) ++ bytes_gone end steps
 bytes_gone_first end step steps =
     let there = to_take (at_end step.call.side step.before) in

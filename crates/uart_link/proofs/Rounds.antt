@@ -573,7 +573,7 @@ all_gone end front back steps there later whole e = (
 )
 
 -- no character was dropped before, if none is dropped in the end
-none_before : (end : Side) (a u b : Link) →
+pub none_before : (end : Side) (a u b : Link) →
     ((o : Origin) → origin_stands (receiver_at (at_end end b)).marks (receiver_at (at_end end b)).is_unscheduled_lost o ≡ true →
     origin_stands (receiver_at (at_end end u)).marks (receiver_at (at_end end u)).is_unscheduled_lost o ≡ true) →
     DropsNothing end a b → DropsNothing end a u
@@ -586,7 +586,7 @@ none_before end a u b falls none d = go (origin_stands s.marks s.is_unscheduled_
     go true e = let h = falls d.origin e in cc (d.lost)
     go false e = none (record { origin = d.origin; stood = d.stood; lost = e })
 
-stands_before : (x y : Modes) (end : Side) (u b : Link) (steps : List Step) → Going x y u → LinkChain u steps b → (o : Origin) →
+pub stands_before : (x y : Modes) (end : Side) (u b : Link) (steps : List Step) → Going x y u → LinkChain u steps b → (o : Origin) →
     origin_stands (receiver_at (at_end end b)).marks (receiver_at (at_end end b)).is_unscheduled_lost o ≡ true →
     origin_stands (receiver_at (at_end end u)).marks (receiver_at (at_end end u)).is_unscheduled_lost o ≡ true
 stands_before x y end u b steps g chain = by end (link_chain x y u b steps g.left g.right g.joined chain)

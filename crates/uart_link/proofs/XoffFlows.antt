@@ -1,12 +1,12 @@
 -- Flow control by XOFF loses nothing in its direction: over numbers, and then over calls of a link.
 use Rattle.std.proofs.Common.{◌≡◌, ◌⊎◌, inl, inr, ◌≤◌, ◌+◌, ◌-◌, ℕ, Bool, true, false, not, ◌&&◌, List, [], ◌∷◌, ◌++◌, length, map}
-use Rattle.std.proofs.Common.{length-append, refl, sym, ◌∙◌, ap, subst, arith, None}
+use Rattle.std.proofs.Common.{length-append, append-nil, refl, sym, ◌∙◌, ap, subst, arith, None}
 use Rattle.std.specs.List.{AllByRecursion}
 use Rattle.std.specs.Prelude.{option_to_list}
-use Rattle.std.proofs.lemmas.List.{length-drop, length-map}
+use Rattle.std.proofs.lemmas.List.{length-drop, length-map, nil_from_length}
 use Rattle.uart_spec.specs.FifoSize.{characters}
 use Rattle.uart_chip.specs.Machine.{MachineState, at_mark}
-use Rattle.uart_chip.specs.Conserved.{waiting}
+use Rattle.uart_chip.specs.Conserved.{out}
 use Rattle.uart_chip.specs.Sound.{IsSound}
 use Rattle.uart_chip.proofs.Sizes.{at_least_16, room_within}
 use Rattle.uart_chip.proofs.conservation.Receives.{Drop, drop_split}
@@ -19,7 +19,6 @@ use Rattle.uart_ring.specs.Lossless.{data_written}
 use Rattle.uart_ring.specs.declared.ring.receive.ReceiveMarks.{ReceiveMarks}
 use Rattle.uart_ring_runs.proofs.RingLasts.{wired_call}
 use Rattle.uart_ring_runs.proofs.RingPasses.{ring_passes_call}
-use Rattle.uart_ring_runs.proofs.RingRts.{modes_at}
 use Rattle.uart_ring_runs.specs.declared.call.RingCall.{RingCall}
 use Rattle.uart_ring_runs.specs.declared.call.RingCall.TheVariants as call
 use Rattle.uart_ring_runs.specs.declared.call.RingAnswer.{RingAnswer}
@@ -41,44 +40,54 @@ use Rattle.uart_link.proofs.EndActs.{end_begins}
 use Rattle.uart_link.proofs.EndFlows.{waits, sent_of, EndFlows, end_moves}
 use Rattle.uart_link.proofs.EndPasses.{InEnd, settle_passes}
 use Rattle.uart_link.proofs.Flows.{line_of, sent_is, less_room, held_few, none_waits, no_drop_still, behind_at, some_beyond}
-use Rattle.uart_link.proofs.Holds.{call_keeps, Adjusts, adjusts}
+use Rattle.uart_link.proofs.Holds.{CallKeeps, call_keeps, Adjusts, adjusts}
 use Rattle.uart_link.proofs.LinkSteps.{link_chain, joined_after}
 use Rattle.uart_link.proofs.Stretches.{same_rooms}
 
 -- ---- what an end sends
 
--- so many bytes were written to the chip, of those that waited, as a call changes them
-record Sends (change : List ℕ → List ℕ) (s t : RingState) : Type 0 where
-  pub written : ℕ
-  pub grows : sent_of t ≡ sent_of s + written
-  pub all : written + length (to_send t) ≡ length (change (to_send s))
+-- these bytes were written to the chip, of those that waited, as a call changes them
+pub record Sent (x : Modes) (change : List ℕ → List ℕ) (s t : RingState) : Type 0 where
+  pub written : List ℕ
+  pub grows : out (ring_machine t) ≡ out (ring_machine s) ++ map x.cut written
+  pub all : written ++ to_send t ≡ change (to_send s)
 
-sends_access : (x : Modes) (s t : RingState) (c : RingCall) (a : RingAnswer) → IsOfRings c → InEnd x s → RingCallStep s c a t →
-    Sends (to_send_with c a) s t
-sends_access x s t c a own w h =
+sent_access : (x : Modes) (s t : RingState) (c : RingCall) (a : RingAnswer) → IsOfRings c → InEnd x s → RingCallStep s c a t →
+    Sent x (to_send_with c a) s t
+sent_access x s t c a own w h =
     let p = ring_passes_call x s t c a w.session own (wired_call s c own w.wired) h in
-    let written = data_written p.made in
-    record {
-      written = length written;
-      grows = ap length p.passed.passed.went.sends.grows ∙ (length-append _ (map (modes_at x t).cut written) ∙
-          ap (λ n. sent_of s + n) (length-map written (modes_at x t).cut));
-      all = sym (length-append written (to_send t)) ∙ ap length p.sent;
-    }
+    record { written = data_written p.made; grows = p.passed.passed.went.sends.grows; all = p.sent }
 
-sends_call : (x : Modes) (s t : RingState) (c : RingCall) (a : RingAnswer) → InEnd x s → CabledCallStep s c a t →
-    Sends (to_send_with c a) s t
-sends_call x s t call.Next a w h =
+sent_call : (x : Modes) (s t : RingState) (c : RingCall) (a : RingAnswer) → InEnd x s → CabledCallStep s c a t →
+    Sent x (to_send_with c a) s t
+sent_call x s t call.Next a w h =
     let chip : (ring_machine t).chip ≡ (at_mark (ring_machine s)).chip = ap (λ (o : MachineState). o.chip) h.passes.machine in
     let p = (settle_passes x (Unit {0}) (Unit {0}) s t w.session chip h.passes.rings).ends in
-    let written = data_written p.made in
+    record { written = data_written p.made; grows = p.went.sends.grows; all = p.sent tt }
+sent_call x s t (call.Driver c) a w h = absurd h
+sent_call x s t other a w h = sent_access x s t other a tt w h
+
+-- the moments before the call write nothing
+pub sent_end : (x : Modes) (moments : List Moment) (there s t : RingState) (c : RingCall) (a : RingAnswer) → InEnd x s →
+    EndStep moments there s c a t → Sent x (to_send_with c a) s t
+sent_end x moments there s t c a w h =
+    let begins = h.begins in
+    let b = end_begins x moments there s t c a w h in
+    let written = data_written b.ends.made in
+    let same : to_send begins ≡ to_send s = ap (λ (f : RingFields). ring.waiting f) h.arranges.rings in
+    let sizes : length (written ++ to_send begins) ≡ length (to_send s ++ []) = ap length (b.ends.sent tt) in
+    let one = length-append written (to_send begins) in
+    let two = length-append (to_send s) [] in
+    let same_size : length (to_send begins) ≡ length (to_send s) = ap length same in
+    let none : written ≡ [] = nil_from_length written (omega (arith, sizes, one, two, same_size)) in
+    let still : out (ring_machine begins) ≡ out (ring_machine s) =
+    b.ends.went.sends.grows ∙ (ap (λ bytes. out (ring_machine s) ++ map x.cut bytes) none ∙ append-nil (out (ring_machine s))) in
+    let p = sent_call x begins t c a b.session h.called in
     record {
-      written = length written;
-      grows = ap length p.went.sends.grows ∙ (length-append _ (map (modes_at x t).cut written) ∙
-          ap (λ n. sent_of s + n) (length-map written (modes_at x t).cut));
-      all = sym (length-append written (to_send t)) ∙ ap length (p.sent tt);
+      written = p.written;
+      grows = p.grows ∙ ap (λ zs. zs ++ map x.cut p.written) still;
+      all = p.all ∙ ap (to_send_with c a) same;
     }
-sends_call x s t (call.Driver c) a w h = absurd h
-sends_call x s t other a w h = sends_access x s t other a tt w h
 
 -- a call at an end: if it leaves the transmit ring held, no more bytes leave the driver than urgent ones that waited or were queued; no
 -- more of them wait then; and only `adjust_xoff` changes what was told last
@@ -90,29 +99,19 @@ record Urges (c : RingCall) (a : RingAnswer) (s t : RingState) : Type 0 where
 urges : (x : Modes) (moments : List Moment) (there s t : RingState) (c : RingCall) (a : RingAnswer) → InEnd x s →
     EndStep moments there s c a t → Urges c a s t
 urges x moments there s t c a w h =
-    let begins = h.begins in
-    let b = end_begins x moments there s t c a w h in
-    let written = data_written b.ends.made in
-    let same : length (to_send begins) ≡ length (to_send s) = ap (λ (f : RingFields). length (ring.waiting f)) h.arranges.rings in
-    let grows : sent_of begins ≡ sent_of s + length written =
-    ap length b.ends.went.sends.grows ∙ (length-append _ (map (modes_at x begins).cut written) ∙
-    ap (λ n. sent_of s + n) (length-map written (modes_at x begins).cut)) in
-    let all : length (written ++ to_send begins) ≡ length (to_send s ++ []) = ap length (b.ends.sent tt) in
-    let one = length-append written (to_send begins) in
-    let two = length-append (to_send s) [] in
-    let p = sends_call x begins t c a b.session h.called in
-    let k = call_keeps begins t c a h.called in
-    let urgent : urgent_at begins ≡ urgent_at s =
-    ap (λ (f : RingFields). length (option_to_list f.urgent)) h.arranges.rings in
-    let told : has_told begins ≡ has_told s = ap (λ (f : RingFields). f.has_told_xoff) h.arranges.rings in
+    let p = sent_end x moments there s t c a w h in
+    let C : RingFields → Type 0 = λ f. CallKeeps c a f (ring_fields t) in
+    let k = subst C h.arranges.rings (call_keeps h.begins t c a h.called) in
+    let grows : length (out (ring_machine t)) ≡ length (out (ring_machine s) ++ map x.cut p.written) = ap length p.grows in
+    let one = length-append (out (ring_machine s)) (map x.cut p.written) in
+    let cut = length-map p.written x.cut in
+    let all : length (p.written ++ to_send t) ≡ length (to_send_with c a (to_send s)) = ap length p.all in
+    let two = length-append p.written (to_send t) in
     let after = length-append (option_to_list (ring_fields t).urgent) (ring_fields t).transmit.items in
     record {
-      held = λ on.
-          let most = k.held on in
-          let sent = p.all in
-          let more = p.grows in omega (arith, most, sent, more, after, urgent, same, grows, all, one, two);
-      urgent = let most = k.urgent in omega (arith, most, urgent);
-      told = λ other. k.told other ∙ told;
+      held = λ on. let most = k.held on in omega (arith, most, grows, one, cut, all, two, after);
+      urgent = k.urgent;
+      told = k.told;
     }
 
 -- ---- from one end to the other, in numbers

@@ -7,4 +7,5 @@ pub mod Told
 pub mod Flow
 pub mod Progress
 pub mod Xoff
+pub mod Agreed
 pub mod Parts

@@ -38,8 +38,8 @@ pub record XoffPace : Type 0 where
 abbrev pub xoff_room : XoffPace → (from : RingState) → ℕ
 xoff_room pace from = pace.between + pace.until_held + pace.urgent + beyond from
 
--- whether an end has told the other one XOFF, and not XON since; whether it holds its transmit ring; and how many urgent
--- bytes of it wait, which is one at most
+-- whether an end has told the other one XOFF, and not XON since; whether it holds its transmit ring; and how many
+-- urgent bytes of it wait, which is one at most
 abbrev pub has_told : RingState → Bool
 has_told s = (ring_fields s).has_told_xoff
 
@@ -146,8 +146,8 @@ AllObeyed pace end since (step ∷ steps) =
 
 -- ---- both programs
 
--- two ends at first: the receiver has not told XOFF, its FIFO is on, nothing waits in the receiver, and its receive ring
--- has room for what may still come
+-- two ends at first: the receiver has not told XOFF, its FIFO is on, nothing waits in the receiver, and its receive
+-- ring has room for what may still come
 pub record BeginsByXoff (pace : XoffPace) (from to : RingState) : Type 0 where
   pub untold : has_told to ≡ false
   pub fifo : (ring_machine to).chip.fifo ≡ true

@@ -116,6 +116,8 @@ fn make_link_call(link: &mut Link, call: &LinkCall) -> RingAnswer
 ///   leave room for what may arrive before it and what is on the cable. The README says it exactly;
 /// - the same by XOFF: the receiver's `AdjustXoff` follows each run of the handler, the sender's
 ///   `ObeyXoff` comes in time, and the marks leave room for what may be sent until it does;
+/// - an end holds its transmit ring exactly if the other one has told XOFF last, once no XOFF or
+///   XON is on the way, if what is sent there is text, and that end obeys before it takes;
 /// - all that was there at first is taken after as many rounds as bytes wait in the sender's rings,
 ///   and one more, if no character is dropped. In a round time passes at the sender, what is on the
 ///   cable arrives, the receiver's handler runs, its program takes, and the sender goes on to send;

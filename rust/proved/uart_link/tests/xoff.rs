@@ -1,12 +1,12 @@
 //! Which mark is the least with which flow control by XOFF over a cable loses nothing: runs that differ in the mark, or in whether the sender
 //! obeys. At most 14 characters arrive between two calls of `adjust_xoff`, and one is on the cable from XOFF on until the sender holds its
 //! transmit ring. Sixteen more find room in the FIFO of the receiver, and up to 17 still come then: so the ring has to have room for one more
-//! than 14 + 1 when XOFF is told.
+//! than 14 + 1 when XOFF is told. And both ends agree on the hold, unless the sender takes what it was told before it obeys.
 
 use geesetrunk_kit::ArrayVec;
 use geesetrunk_kit::alloc::Global;
 use geesetrunk_kit_of_rings::alloc::Global as GlobalOfRings;
-use proved_uart_link::{CabledChip, Link, LinkCall, Moment, Side, run_link};
+use proved_uart_link::{CALL_MOMENTS, CabledChip, Link, LinkCall, Moment, Side, run_link};
 use uart_16550::Uart16550;
 use uart_chip::{ArrivalMark, Chip};
 use uart_ring::{ReceiveMarks, Uart16550Ring};
@@ -24,6 +24,10 @@ const XON: u8 = 0x11;
 
 fn rings(receive_capacity: usize) -> Uart16550Ring<CabledChip> {
     let chip = CabledChip::new(Global::heap(), Chip::Uart16550A, 4, 64, 64).unwrap();
+    rings_over(chip, receive_capacity)
+}
+
+fn rings_over(chip: CabledChip, receive_capacity: usize) -> Uart16550Ring<CabledChip> {
     let mut uart = Uart16550::new_with_backend(chip);
     uart.init(Config {
         fifo_trigger_level: Some(FifoTriggerLevel::One),
@@ -93,7 +97,7 @@ fn obeys(link: &mut Link, told: u8) {
 }
 
 /// No time passes at the accesses of a call.
-const AT_ONCE: [Moment; 40] = [Moment::Access; 40];
+const AT_ONCE: [Moment; CALL_MOMENTS] = [Moment::Access; CALL_MOMENTS];
 
 /// Queues 40 characters at the left end, and lets the right end tell XOFF once 14 have arrived there. Its receive ring has room for so many,
 /// and it tells XOFF as soon as there is room for fewer. Then 8 wait in the ring of the left end, and 17 in its chip.
@@ -187,9 +191,173 @@ fn a_sender_that_is_told_xon_goes_on() {
         answers(&mut link, Side::Right, &AT_ONCE, RingCall::Take(16), bytes);
         serves(&mut link, Side::Right, served);
     }
+    assert!(link.left.is_held());
     tells(&mut link, room, Some(XON));
+    assert!(link.left.is_held());
     obeys(&mut link, XON);
+    assert!(!link.left.is_held());
     passes(&mut link, Side::Left, &[Moment::Ticks(40)]);
     passes(&mut link, Side::Right, &[Moment::Arrives; 8]);
     assert_eq!(last_ones(&link)[1..], [ArrivalMark::Waiting; 8]);
+}
+
+/// The left end takes the XOFF before it looks at it, and then never holds its ring.
+#[test]
+fn an_xoff_that_is_taken_first_is_not_obeyed() {
+    let mut link = told_xoff(BETWEEN + UNTIL_HELD + 1);
+    passes(&mut link, Side::Right, &[Moment::Ticks(8)]);
+    passes(&mut link, Side::Left, &[Moment::Arrives]);
+    serves(&mut link, Side::Left, 1);
+    let bytes = RingAnswer::Bytes(listed(&[XOFF]));
+    answers(&mut link, Side::Left, &AT_ONCE, RingCall::Take(8), bytes);
+    let none = RingAnswer::Told(None);
+    answers(&mut link, Side::Left, &AT_ONCE, RingCall::ObeyXoff, none);
+    assert!(!link.left.is_held());
+}
+
+/// Pseudorandom numbers: xorshift.
+struct Random(u64);
+
+impl Random {
+    fn below(&mut self, end: usize) -> usize {
+        self.0 ^= self.0 << 13;
+        self.0 ^= self.0 >> 7;
+        self.0 ^= self.0 << 17;
+        ((self.0 >> 11) % end as u64) as usize
+    }
+}
+
+/// What is sent on each link.
+const SENT: usize = 1_000;
+
+/// More steps than a link ever needs.
+const MOST_STEPS: usize = 200_000;
+
+/// Makes a call at once, and returns its answer.
+fn made(link: &mut Link, side: Side, call: RingCall) -> RingAnswer {
+    let call = LinkCall {
+        side,
+        moments: listed(&AT_ONCE),
+        call,
+    };
+    let mut answers = [RingAnswer::Done];
+    run_link(link, std::slice::from_ref(&call), &mut answers);
+    let [answer] = answers;
+    answer
+}
+
+/// Both programs in random order, at the least mark for random numbers: nothing is dropped, and both ends agree in the end. The left end lets
+/// no more characters leave from XOFF on than may, until it holds its ring.
+#[test]
+fn at_the_least_mark_for_xoff_random_runs_drop_nothing() {
+    let mut times_told = 0;
+    for seed in 1..=12_u64 {
+        let mut random = Random(seed.wrapping_mul(0x9e37_79b9_7f4a_7c15));
+        let between = 1 + random.below(16);
+        let until_held = 1 + random.below(24);
+        let hold = between + until_held + 1;
+        let release = hold + random.below(24);
+        let capacity = release + random.below(24);
+        let mut link = match Link::new(long_rings(32), long_rings(capacity)) {
+            Ok(link) => link,
+            Err(_) => panic!("nothing has arrived yet"),
+        };
+        let (mut queued, mut taken): (Vec<u8>, Vec<u8>) = Default::default();
+        // How many have arrived; how many had when XOFF was told, if it is; and how many have since the last `adjust_xoff`.
+        let (mut arrived, mut told_at, mut since) = (0, None, 0);
+        // What was told, and how much of it the left end has looked at.
+        let (mut told, mut looked) = (Vec::new(), 0);
+        let mut steps = 0;
+        while taken.len() < SENT {
+            steps += 1;
+            assert!(steps < MOST_STEPS, "seed {seed}: bytes are lost");
+            let wire = link.left.inner().backend().wire().len();
+            match random.below(8) {
+                0 => {
+                    let count = random.below(33).min(SENT - queued.len());
+                    let bytes: Vec<u8> =
+                        (0..count).map(|_| b'a' + random.below(26) as u8).collect();
+                    let queue = RingCall::Queue(listed(&bytes));
+                    let RingAnswer::Count(count) = made(&mut link, Side::Left, queue) else {
+                        panic!("the answer of a queue");
+                    };
+                    queued.extend(&bytes[..count]);
+                }
+                1 => {
+                    made(&mut link, Side::Left, RingCall::ResumeTransmit);
+                }
+                2 => {
+                    // Time, in which no more characters leave than may. The first one may leave after one tick.
+                    let mut most = until_held - (wire - arrived);
+                    // An XON that was told before the last XOFF would let the left end go on.
+                    let goes_on = !link.left.is_held() || told[looked..].contains(&XON);
+                    if let Some(at) = told_at
+                        && goes_on
+                    {
+                        most = most.min(at + until_held - wire);
+                    }
+                    let ticks = random.below((4 * most).saturating_sub(2).max(1));
+                    passes(&mut link, Side::Left, &[Moment::Ticks(ticks as u16)]);
+                }
+                3 => {
+                    passes(&mut link, Side::Left, &[Moment::Arrives; 2]);
+                    made(&mut link, Side::Left, RingCall::Service);
+                    made(&mut link, Side::Left, RingCall::ObeyXoff);
+                    if let RingAnswer::Bytes(bytes) =
+                        made(&mut link, Side::Left, RingCall::Take(32))
+                    {
+                        looked += bytes.len();
+                    }
+                }
+                4 => {
+                    let ticks = random.below(8) as u16;
+                    passes(&mut link, Side::Right, &[Moment::Ticks(ticks)]);
+                }
+                5 => {
+                    let count = random.below(between - since + 1).min(wire - arrived);
+                    passes(&mut link, Side::Right, &vec![Moment::Arrives; count]);
+                    (arrived, since) = (arrived + count, since + count);
+                }
+                6 => {
+                    let mut slots = RingCall::Take(random.below(9));
+                    // Then the handler runs, and XOFF or XON follows the room.
+                    for _ in 0..2 {
+                        if let RingAnswer::Bytes(bytes) = made(&mut link, Side::Right, slots) {
+                            taken.extend(bytes.iter());
+                        }
+                        slots = RingCall::Service;
+                    }
+                    made(&mut link, Side::Right, RingCall::ResumeTransmit);
+                    // An urgent byte that waits would keep XOFF from being told.
+                    if link.right.urgent().is_some() && told_at.is_none() {
+                        passes(&mut link, Side::Right, &[Moment::Ticks(8)]);
+                        made(&mut link, Side::Right, RingCall::ResumeTransmit);
+                    }
+                    let adjust = RingCall::AdjustXoff(ReceiveMarks { hold, release });
+                    if let RingAnswer::Told(Some(byte)) = made(&mut link, Side::Right, adjust) {
+                        told.push(byte);
+                        told_at = (byte == XOFF).then_some(arrived);
+                    }
+                    since = 0;
+                }
+                _ => {}
+            }
+        }
+        assert_eq!(taken, queued, "seed {seed}");
+        // Once the last one has come too, the hold is as it was told.
+        made(&mut link, Side::Right, RingCall::ResumeTransmit);
+        passes(&mut link, Side::Right, &[Moment::Ticks(100)]);
+        passes(&mut link, Side::Left, &[Moment::Arrives; CALL_MOMENTS]);
+        made(&mut link, Side::Left, RingCall::Service);
+        made(&mut link, Side::Left, RingCall::ObeyXoff);
+        assert_eq!(link.left.is_held(), told_at.is_some(), "seed {seed}");
+        times_told += told.len();
+    }
+    assert!(times_told > 60, "{times_told}");
+}
+
+/// Rings over chips that send and receive more.
+fn long_rings(receive_capacity: usize) -> Uart16550Ring<CabledChip> {
+    let chip = CabledChip::new(Global::heap(), Chip::Uart16550A, 4, 4_096, 4_096).unwrap();
+    rings_over(chip, receive_capacity)
 }
