@@ -31,7 +31,7 @@ use Rattle.uart_run.proofs.sizing.Counting.{Found, counted, silent_takes_back}
 
 -- both FIFOs of a sound chip have one size
 pub one_size : (c : ChipState) → IsSoundChip c → c.receiver.size ≡ c.transmitter.size
-one_size c w = w.sizes.1 ∙ sym w.sizes.0
+one_size c w = w.sizes
 
 -- ---- what the registers keep
 
