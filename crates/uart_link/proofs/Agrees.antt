@@ -357,7 +357,8 @@ teller_acts x moments c a s t r u w whole h same turn before behind agree = (sub
         let sent = sent_end x moments r s t c a w h in
         let way = way_after x c a s t r whole before behind sent in
         let now : not_looked_at t r ≡ front ++ to_send_with c a (to_send s) =
-        ap (λ zs. here ++ (waiting (ring_machine r) ++ zs)) way ∙ four here (waiting (ring_machine r)) cable (to_send_with c a (to_send s)) in
+        ap (λ zs. here ++ (waiting (ring_machine r) ++ zs)) way ∙
+        four here (waiting (ring_machine r)) cable (to_send_with c a (to_send s)) in
         let k = call_keeps h.begins t c a h.called in
         let C : RingFields → Type 0 = λ g. holds.CallKeeps c a g (ring_fields t) in
         let kept = subst C h.arranges.rings k in

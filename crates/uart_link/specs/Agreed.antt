@@ -54,8 +54,8 @@ not_looked_at from to =
 abbrev pub will_hold : (from to : RingState) → Bool
 will_hold from to = held_as_told (last_told None (not_looked_at from to)) (is_holding to)
 
--- two ends agree: the one will hold its transmit ring if the other one has told XOFF last, and only then; and what waits
--- to be sent there is text
+-- two ends agree: the one will hold its transmit ring if the other one has told XOFF last, and only then; and what
+-- waits to be sent there is text
 pub record Agree (from to : RingState) : Type 0 where
   pub same : will_hold from to ≡ has_told from
   pub text : IsText (ring_fields from).transmit.items
