@@ -1,7 +1,7 @@
 //! Laws of driver and machine together. They follow from the contracts.
 //!
 //! The contract of each function is a law that callers can cite. The functions do nothing.
-ghost use Rattle.std.specs.Prelude.{◌≡◌, ℕ, Bool, List, true, false, Result, Ok};
+ghost use Rattle.std.specs.Prelude.{◌≡◌, ◌≢◌, ℕ, Bool, List, true, false, Result, Ok, Err};
 ghost use Rattle.uart_16550.specs.Configured.{Verdict, ChecksConfigured};
 ghost use Rattle.uart_16550.specs.Driver.{Did, Made, backend_of, fields};
 ghost use Rattle.uart_16550.specs.Frame.{SetsBreak, SetsOutput};
@@ -15,6 +15,7 @@ ghost use Rattle.uart_spec.specs.declared.config.Config.{Config};
 ghost use Rattle.uart_spec.specs.declared.setup.FifoSize.{FifoSize};
 ghost use Rattle.uart_spec.specs.declared.setup.Setup.{Setup};
 ghost use Rattle.uart_spec.specs.declared.errors.FifoSizeError.{FifoSizeError};
+ghost use Rattle.uart_spec.specs.declared.errors.FifoSizeError.TheVariants.{Stalled};
 ghost use Rattle.uart_16550.specs.Receive.{ReceivesWithErrors};
 ghost use Rattle.uart_spec.specs.declared.registers.modem_control.TheConstants.MCR;
 ghost use Rattle.uart_16550.specs.declared.driver.Uart16550.{Uart16550};
@@ -130,9 +131,9 @@ pub fn configured_chips_pass_the_check(uart: &Uart16550<Device16550>)
 
 /// Over a chip that has FIFOs, with DLAB and loopback off, `find_fifo_size` returns exactly the
 /// size of the FIFOs, or a stall, whatever the schedule is. A state in which a session may begin,
-/// with the FIFOs on, is such a state. The call does not stall if each access of the schedule has a
-/// tick before it, the spin limit is at least n (t + 1) for characters of t ticks, of which the
-/// transmitter holds n, and the wire has room for what waits.
+/// with the FIFOs on, is such a state. Over any chip the call does not stall if each access of the
+/// schedule has a tick before it, the spin limit is at least n (t + 1) for characters of t ticks,
+/// of which the transmitter holds n, and the wire has room for what waits.
 ///
 /// With a size nothing of the call went to the wire, and all that waited before it did; what is in
 /// the receiver arrived during the call; and a session may begin. After a stall at most one byte of
@@ -161,6 +162,11 @@ pub fn fifo_sizes_are_found(uart: &Uart16550<Device16550>)
         (fields uart.now).fifo ≡ true →
         Did MachineStep (FindsFifoSize found) uart.now after →
         FindsNone (under_terminal uart.now) found (under_terminal after) }
+    ensures ends { (after : Uart16550 MachineState) (found : Result FifoSize FifoSizeError) →
+        IsPlain (under_terminal uart.now) → (fields uart.now).fifo ≡ true →
+        IsTimely (under_terminal uart.now) → HasRoom 0 (backend_of uart.now) →
+        Did MachineStep (FindsFifoSize found) uart.now after →
+        found ≢ Err Stalled }
     ensures succeeds { (after : Uart16550 MachineState) (found : Result FifoSize FifoSizeError) →
         MayFind (under_terminal uart.now) → (fields uart.now).fifo ≡ true →
         IsTimely (under_terminal uart.now) → HasRoom 0 (backend_of uart.now) →

@@ -17,7 +17,7 @@ use Rattle.uart_chip.specs.Sound.{IsSound}
 use Rattle.uart_chip.proofs.conservation.Went.{Modes, loopback-in}
 use Rattle.uart_run.specs.Run.{State, machine_of}
 use Rattle.uart_run.specs.Progress.{IsTimely, HasRoom}
-use Rattle.uart_run.specs.Sizes.{size_in, MayFind}
+use Rattle.uart_run.specs.Sizes.{size_in, IsPlain, MayFind}
 use Rattle.uart_run.proofs.Pieces.{then_parts, next_stages}
 use Rattle.uart_run.proofs.loopback.LoopPhases.{IsEntered, drained}
 use Rattle.uart_run.proofs.loopback.LoopWaits.{Lives, lives-path, few_left, never_flooded}
@@ -79,9 +79,9 @@ no_stall-in_loop cut gone found mcr ier f after l m n v b stalled (before, on, d
     no_stall-measure (looped_modes m.chip.latches.lcr on cut) gone (settings_of a.mid) found d.parts.front a.parts.between d.parts.between
     (subst (λ limit. Lives limit a.parts.between) same w) i stalled d.parts.first.0 d.parts.before
 
-module _ (s t : State) (sound : IsSound (machine_of s)) (may : MayFind s) (is_on : (fields (inner_of s)).fifo ≡ true)
+module _ (s t : State) (sound : IsSound (machine_of s)) (plain : IsPlain s) (is_on : (fields (inner_of s)).fifo ≡ true)
     (timely : IsTimely s) (room : HasRoom 0 (machine_of s)) where
-  never : (found : Found) (l : List Access) → found ≡ Err Stalled → FindsFifoSize found (fields (inner_of s)) l (fields (inner_of t)) →
+  pub never : (found : Found) (l : List Access) → found ≡ Err Stalled → FindsFifoSize found (fields (inner_of s)) l (fields (inner_of t)) →
       Path MachineStep (machine_of s) l (machine_of t) → ⊥
   never found l stalled (inl h) path = let other : true ≡ false = sym is_on ∙ h.1 in absurd (cc)
   never found l stalled (inr (_, (mcr, ier, inl k))) path =
@@ -91,7 +91,7 @@ module _ (s t : State) (sound : IsSound (machine_of s)) (may : MayFind s) (is_on
       let a = next_stages (Saving (BeginsTest mcr ier true)) (SizesInLoopback found mcr ier) f (fields (inner_of t)) l (machine_of s)
       (machine_of t) does path in
       let alike = begins_alike (settings_of f) (machine_of s).chip.fifo mcr ier true a.parts.front a.parts.first.0 in
-      let b = begun (knowing s) a.parts.between mcr ier a.parts.front sound (ready_knowing s may.plain) alike a.parts.before in
+      let b = begun (knowing s) a.parts.between mcr ier a.parts.front sound (ready_knowing s plain) alike a.parts.before in
       let v : Lives f.limit (machine_of s) = record { sound = sound; ticked = timely.ticked; enough = timely.limit } in
       let u = lives-path f.limit a.parts.front (machine_of s) a.parts.between v a.parts.before in
       let same : f.limit ≡ a.mid.limit = sym (ap (λ (g : Fields). g.limit) a.parts.first.1) in
@@ -99,10 +99,11 @@ module _ (s t : State) (sound : IsSound (machine_of s)) (may : MayFind s) (is_on
       a.parts.back a.parts.between (machine_of t) (subst (λ limit. Lives limit a.parts.between) same u) b stalled a.parts.second
       a.parts.after
 
-  pub size_found : (found : Found) (l : List Access) → FindsFifoSize found (fields (inner_of s)) l (fields (inner_of t)) →
-      Path MachineStep (machine_of s) l (machine_of t) → found ≡ Ok (size_in s)
-  size_found found l does path = go (finds_size s t sound may is_on found l does path).answers
-    where
-      go : (found ≡ Ok (size_in s)) ⊎ (found ≡ Err Stalled) → found ≡ Ok (size_in s)
-      go (inl e) = e
-      go (inr e) = absurd (never found l e does path)
+pub size_found : (s t : State) → IsSound (machine_of s) → MayFind s → (fields (inner_of s)).fifo ≡ true → IsTimely s →
+    HasRoom 0 (machine_of s) → (found : Found) (l : List Access) → FindsFifoSize found (fields (inner_of s)) l (fields (inner_of t)) →
+    Path MachineStep (machine_of s) l (machine_of t) → found ≡ Ok (size_in s)
+size_found s t sound may is_on timely room found l does path = go (finds_size s t sound may is_on found l does path).answers
+  where
+    go : (found ≡ Ok (size_in s)) ⊎ (found ≡ Err Stalled) → found ≡ Ok (size_in s)
+    go (inl e) = e
+    go (inr e) = absurd (never s t sound may.plain is_on timely room found l e does path)

@@ -1,7 +1,7 @@
 use Rattle.uart_run.specs.ReceivedErrors.{under_terminal}
 use Rattle.uart_run.proofs.sizing.Finding.{finds_off, finds_size, may_find}
 use Rattle.uart_run.proofs.sizing.Lacking.{finds_none}
-use Rattle.uart_run.proofs.sizing.Succeeding.{size_found}
+use Rattle.uart_run.proofs.sizing.Succeeding.{never, size_found}
 use Rattle.uart_run.proofs.laws.fifo_sizes_are_found.Goals as goal
 
 pub returns : goal.returns
@@ -15,6 +15,9 @@ returns c =
       none =
           λ after found plain model on did.
           finds_none before (under_terminal after) whole.sound plain model found did.list on did.does did.path;
+      ends =
+          λ after found plain on timely room did stalled.
+          never before (under_terminal after) whole.sound plain on timely room found did.list stalled did.does did.path;
       succeeds =
           λ after found may on timely room did.
           size_found before (under_terminal after) whole.sound may on timely room found did.list did.does did.path;
