@@ -4,19 +4,21 @@ use Rattle.std.proofs.Common.{None, Result, Ok, Err, refl, sym, ap, subst, ◌�
 use Rattle.std.specs.Prelude.{codes, bytes_eq}
 use Rattle.std.proofs.lemmas.Slice.Eq.{bytes_eq-Decides}
 use Rattle.std.proofs.lemmas.Bool.{eqb-true, le-ltb}
+use Rattle.uart_spec.specs.declared.setup.FifoSize.{FifoSize}
 use Rattle.uart_events.specs.declared.event.Chip.{Chip}
 use Rattle.uart_events.specs.declared.event.Event.TheVariants as event
 use Rattle.uart_events.specs.declared.call.Call.{Call}
 use Rattle.uart_events.specs.declared.call.Call.TheVariants as call
 use Rattle.uart_language.specs.declared.cause.Cause.{Cause}
 use Rattle.uart_language.specs.declared.cause.Cause.TheVariants.{BadByte, Misplaced, UnknownWord, WrongCount, BadWord}
+use Rattle.uart_language.specs.declared.fields.ChipKind.{ChipKind}
 use Rattle.uart_language.specs.declared.items.Header.{Header}
 use Rattle.uart_language.specs.declared.limits.TheConstants.{MOST_LINES}
 use Rattle.uart_language.specs.declared.words.Word.{Word}
 use Rattle.uart_language.specs.declared.words.Word.TheVariants as word
 use Rattle.uart_language.specs.Text.{words_of, word_at, has_bad_byte}
 use Rattle.uart_language.specs.Fields.{◌>>=◌, count_in, limit_in, ticks_in, char_ticks_in, wire_capacity_in, byte_in, lines_in, bytes_in}
-use Rattle.uart_language.specs.Fields.{text_in, errors_in, chip_in, cut_in, level_in, rate_in, cts_in, interrupts_in, word_length_in}
+use Rattle.uart_language.specs.Fields.{text_in, errors_in, kind, chip_in, cut_in, level_in, rate_in, cts_in, interrupts_in, word_length_in}
 use Rattle.uart_language.specs.Fields.{check_in, wait_in, outputs_in, trigger_in, switch_in, fifos_in, dump_in}
 use Rattle.uart_language.specs.Words.{name_of, word_of, fault_of, fields_of, has_count, is_placed}
 use Rattle.uart_language.specs.Sayings.{Nothing, Limit, Calls, Happens, configured, framed, arranged, array_of, text_of}
@@ -225,7 +227,7 @@ line_fault number line le most = rw (le-ltb MOST_LINES number most) (line_fault_
 -- ---- the first line
 
 -- a header, as a value
-abbrev pub header_of : Chip → ℕ → ℕ → Bool → Header
+abbrev pub header_of : ChipKind → ℕ → ℕ → Bool → Header
 header_of chip ticks capacity cuts = record { chip = chip; ticks = ticks; wire_capacity = capacity; cuts = cuts }
 
 -- a chip line has four words, or five
@@ -293,12 +295,12 @@ is_cut C cuts e = go (bytes_eq C (codes "cut")) refl cuts e
 
 words_are_header : (line : List ℕ) (ws : List (List ℕ)) (h : Header) → words_of line ≡ ws → has_bad_byte line ≡ false
     → name_of word.Chip ≡ word_at 0 ws → has_count word.Chip (length ws) ≡ true → header_in ws ≡ Ok h
-    → IsHeader line h.chip h.ticks h.wire_capacity h.cuts
+    → IsHeader line h.chip.model h.chip.size h.ticks h.wire_capacity h.cuts
 unfolding header_in
 words_are_header line (name ∷ NAME ∷ T ∷ W ∷ []) h w b n c e =
-    let make : Chip → ℕ → ℕ → Header = λ chip ticks capacity. header_of chip ticks capacity false in
+    let make : ChipKind → ℕ → ℕ → Header = λ chip ticks capacity. header_of chip ticks capacity false in
     let r = three_ok (chip_in NAME) (char_ticks_in T) (wire_capacity_in W) make h e in
-    subst (λ (x : Header). IsHeader line x.chip x.ticks x.wire_capacity x.cuts) r.6 (record {
+    subst (λ (x : Header). IsHeader line x.chip.model x.chip.size x.ticks x.wire_capacity x.cuts) r.6 (record {
       NAME = NAME;
       T = T;
       W = W;
@@ -311,7 +313,7 @@ words_are_header line (name ∷ NAME ∷ T ∷ W ∷ []) h w b n c e =
 words_are_header line (name ∷ NAME ∷ T ∷ W ∷ C ∷ []) h w b n c e =
     let r = four_ok (chip_in NAME) (char_ticks_in T) (wire_capacity_in W) (cut_in C) header_of h e in
     let o = is_cut C r.3 r.7 in
-    subst (λ (x : Header). IsHeader line x.chip x.ticks x.wire_capacity x.cuts) r.8
+    subst (λ (x : Header). IsHeader line x.chip.model x.chip.size x.ticks x.wire_capacity x.cuts) r.8
     (record {
       NAME = NAME;
       T = T;
@@ -334,7 +336,7 @@ counted false r x e = absurd cc
 header_by : (line : List ℕ) (h : Header) (bad : Bool) (first : Option Word) → has_bad_byte line ≡ bad
     → word_of (word_at 0 (words_of line)) ≡ first
     → (cond bad (Err BadByte) (placed_word 1 (words_of line) first) >>= (λ w. header_in (words_of line))) ≡ Ok h
-    → IsHeader line h.chip h.ticks h.wire_capacity h.cuts
+    → IsHeader line h.chip.model h.chip.size h.ticks h.wire_capacity h.cuts
 header_by line h true first b f e = absurd cc
 header_by line h false None b f e = absurd cc
 header_by line h false (Some word.Chip) b f e =
@@ -342,12 +344,12 @@ header_by line h false (Some word.Chip) b f e =
     words_are_header line (words_of line) h refl b (name_is _ word.Chip f) r.0 r.1
 header_by line h false (Some w) b f e = absurd cc
 
-pub says_header : (line : List ℕ) (h : Header) → header_at line ≡ Ok h → IsHeader line h.chip h.ticks h.wire_capacity h.cuts
+pub says_header : (line : List ℕ) (h : Header) → header_at line ≡ Ok h → IsHeader line h.chip.model h.chip.size h.ticks h.wire_capacity h.cuts
 unfolding header_at starts_with
 says_header line h e = header_by line h _ _ refl refl e
 
-pub reads_header : (line : List ℕ) (chip : Chip) (ticks capacity : ℕ) (cuts : Bool) → IsHeader line chip ticks capacity cuts
-    → header_at line ≡ Ok (header_of chip ticks capacity cuts)
+pub reads_header : (line : List ℕ) (chip : Chip) (size : FifoSize) (ticks capacity : ℕ) (cuts : Bool)
+    → IsHeader line chip size ticks capacity cuts → header_at line ≡ Ok (header_of (kind chip size) ticks capacity cuts)
 unfolding header_at starts_with header_in word_of cut_in
-reads_header line chip ticks capacity false h = rw (h.printable, h.words, h.chip_is, h.ticks_is, h.wire_capacity_is) refl
-reads_header line chip ticks capacity true h = rw (h.printable, h.words, h.chip_is, h.ticks_is, h.wire_capacity_is) refl
+reads_header line chip size ticks capacity false h = rw (h.printable, h.words, h.chip_is, h.ticks_is, h.wire_capacity_is) refl
+reads_header line chip size ticks capacity true h = rw (h.printable, h.words, h.chip_is, h.ticks_is, h.wire_capacity_is) refl

@@ -103,7 +103,8 @@ grows plan s (Err e) = refl
 
 abbrev pub empty_plan : Header → Plan
 empty_plan header = record {
-  chip = header.chip;
+  chip = header.chip.model;
+  fifo_size = header.chip.size;
   ticks = header.ticks;
   wire_capacity = header.wire_capacity;
   cuts = header.cuts;

@@ -18,6 +18,9 @@ use Rattle.uart_spec.specs.declared.registers.modem_control.MCR.{MCR}
 use Rattle.uart_spec.specs.declared.dump.ConfigRegisterDump.{ConfigRegisterDump}
 use Rattle.uart_spec.specs.declared.setup.FifoAction.{FifoAction}
 use Rattle.uart_spec.specs.declared.setup.FifoAction.TheVariants.{Keep, Reset, Disable}
+use Rattle.uart_spec.specs.declared.setup.FifoSize.{FifoSize}
+use Rattle.uart_spec.specs.declared.setup.FifoSize.TheVariants.{Sixteen, ThirtyTwo, SixtyFour, OneHundredTwentyEight}
+use Rattle.uart_spec.specs.declared.setup.FifoSize.TheVariants.{TwoHundredFiftySix}
 use Rattle.uart_spec.specs.declared.setup.TransmitterWait.{TransmitterWait}
 use Rattle.uart_spec.specs.declared.setup.TransmitterWait.TheVariants.{First, Last, Never as NoWait}
 use Rattle.uart_events.specs.declared.event.TheConstants.{MAX_CHAR_TICKS, MAX_WIRE_CAPACITY}
@@ -26,6 +29,7 @@ use Rattle.uart_events.specs.declared.event.Chip.{Chip}
 use Rattle.uart_events.specs.declared.event.Chip.TheVariants.{Uart16550A, Uart16450}
 use Rattle.uart_language.specs.declared.cause.Cause.{Cause}
 use Rattle.uart_language.specs.declared.cause.Cause.TheVariants.{BadWord, BadNumber, BadHex, TooManyBytes, BadText}
+use Rattle.uart_language.specs.declared.fields.ChipKind.{ChipKind}
 use Rattle.uart_language.specs.declared.limits.TheConstants.{MOST_LIMIT, MOST_TICKS, MOST_RATE, SCRIPT_DIGITS}
 
 -- what follows a value, or the fault before it
@@ -114,9 +118,17 @@ errors_in word = among (
     ∷ (codes "fb", LSR.FRAMING_ERROR.0 + LSR.BREAK_INTERRUPT.0)
     ∷ (codes "pfb", LSR.CHARACTER_ERRORS.0) ∷ []) word
 
--- the model of the chip
-unfoldable pub chip_in : List ℕ → Result Chip Cause
-chip_in word = among ((codes "16550a", Uart16550A) ∷ (codes "16450", Uart16450) ∷ []) word
+-- a model, with FIFOs of this size
+abbrev pub kind : Chip → FifoSize → ChipKind
+kind model size = record { model = model; size = size }
+
+-- NAME: the kind of chip; a chip with larger FIFOs is a 16550A in all else
+unfoldable pub chip_in : List ℕ → Result ChipKind Cause
+chip_in word = among (
+    (codes "16550a", kind Uart16550A Sixteen) ∷ (codes "16450", kind Uart16450 Sixteen)
+    ∷ (codes "16650", kind Uart16550A ThirtyTwo) ∷ (codes "16750", kind Uart16550A SixtyFour)
+    ∷ (codes "16850", kind Uart16550A OneHundredTwentyEight) ∷ (codes "16950", kind Uart16550A OneHundredTwentyEight)
+    ∷ (codes "16550a-256", kind Uart16550A TwoHundredFiftySix) ∷ []) word
 
 -- the option that may end the first line
 unfoldable pub cut_in : List ℕ → Result Bool Cause

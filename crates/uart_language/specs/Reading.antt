@@ -45,7 +45,8 @@ sayings_from number (line ∷ lines) = before (numbered number line) (sayings_fr
 -- the script of a header and what the other lines say, or the first faulty line and its cause
 abbrev pub plan_by : Header → List Saying → Plan
 plan_by header sayings = record {
-  chip = header.chip;
+  chip = header.chip.model;
+  fifo_size = header.chip.size;
   ticks = header.ticks;
   wire_capacity = header.wire_capacity;
   cuts = header.cuts;

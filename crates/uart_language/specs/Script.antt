@@ -3,6 +3,7 @@ use Rattle.std.specs.Prelude.{◌≡◌, ◌↔◌, ℕ, ◌+◌, ◌<◌, ◌�
 use Rattle.std.specs.Prelude.{[], ◌∷◌, ◌++◌, length, map, Option, Some, None, Result, Ok, Err, IfOk, All, if◌then◌else◌}
 use Rattle.std.specs.Prelude.{flat_map, codes, drop}
 use Rattle.std.specs.Int.NonZero.{non_zero_u64_get}
+use Rattle.uart_spec.specs.declared.setup.FifoSize.{FifoSize}
 use Rattle.uart_events.specs.declared.event.TheConstants.{MAX_CHAR_TICKS, MAX_WIRE_CAPACITY}
 use Rattle.uart_events.specs.Build.{IsLegal}
 use Rattle.uart_events.specs.declared.event.Chip.{Chip}
@@ -17,7 +18,7 @@ use Rattle.uart_language.specs.declared.parsing.Script.{Script}
 use Rattle.uart_language.specs.declared.words.Word.{Word}
 use Rattle.uart_events.specs.Calls.{IsRunnable}
 use Rattle.uart_language.specs.Text.{lines_of, words_of, word_at, has_bad_byte}
-use Rattle.uart_language.specs.Fields.{char_ticks_in, wire_capacity_in, chip_in}
+use Rattle.uart_language.specs.Fields.{char_ticks_in, wire_capacity_in, kind, chip_in}
 use Rattle.uart_language.specs.Words.{word_of, has_count, is_placed, fields_of}
 use Rattle.uart_language.specs.Sayings.{Saying, Nothing, Limit, events_said, calls_said, plain, Means}
 
@@ -39,9 +40,10 @@ SayInOrder number [] (said ∷ sayings) = ⊥
 SayInOrder number (line ∷ lines) [] = ⊥
 SayInOrder number (line ∷ lines) (said ∷ sayings) = Says number line said × SayInOrder (number + 1) lines sayings
 
--- a script as a value: chip, ticks, wire capacity, whether characters are cut, limit, events, calls
+-- a script as a value: chip, size of its FIFOs, ticks, wire capacity, whether characters are cut, limit, events, calls
 pub record Plan : Type 0 where
   pub chip : Chip
+  pub fifo_size : FifoSize
   pub ticks : ℕ
   pub wire_capacity : ℕ
   pub cuts : Bool
@@ -52,7 +54,8 @@ pub record Plan : Type 0 where
 -- the plan of a parsed script
 abbrev pub plan_of : Script → Plan
 plan_of s = record {
-  chip = s.header.chip;
+  chip = s.header.chip.model;
+  fifo_size = s.header.chip.size;
   ticks = s.header.ticks;
   wire_capacity = s.header.wire_capacity;
   cuts = s.header.cuts;
@@ -67,13 +70,14 @@ option_words false = []
 option_words true = codes "cut" ∷ []
 
 -- the line is `chip NAME T W`, or `chip NAME T W cut`, with these values
-pub record IsHeader (line : List ℕ) (chip : Chip) (ticks wire_capacity : ℕ) (cuts : Bool) : Type 0 where
+pub record IsHeader (line : List ℕ) (chip : Chip) (fifo_size : FifoSize) (ticks wire_capacity : ℕ) (cuts : Bool)
+    : Type 0 where
   pub NAME : List ℕ
   pub T : List ℕ
   pub W : List ℕ
   pub printable : has_bad_byte line ≡ false
   pub words : words_of line ≡ codes "chip" ∷ NAME ∷ T ∷ W ∷ option_words cuts
-  pub chip_is : chip_in NAME ≡ Ok chip
+  pub chip_is : chip_in NAME ≡ Ok (kind chip fifo_size)
   pub ticks_is : char_ticks_in T ≡ Ok ticks
   pub wire_capacity_is : wire_capacity_in W ≡ Ok wire_capacity
 
@@ -92,7 +96,7 @@ pub record IsScript (bytes : List ℕ) (plan : Plan) : Type 0 where
   pub fits : length bytes ≤ MOST_BYTES
   pub lines : lines_of bytes ≡ first ∷ others
   pub few : length others < MOST_LINES
-  pub header : IsHeader first plan.chip plan.ticks plan.wire_capacity plan.cuts
+  pub header : IsHeader first plan.chip plan.fifo_size plan.ticks plan.wire_capacity plan.cuts
   pub body : SayInOrder 2 others sayings
   pub limit : plan.limit ≡ limit_from DEFAULT_LIMIT sayings
   pub events : plan.events ≡ flat_map events_said sayings

@@ -10,14 +10,14 @@ ghost use Rattle.uart_language.specs.Sayings.{framed, plain};
 
 use super::cause::Cause;
 use super::fields::{
-    byte_in, bytes_in, char_ticks_in, check_in, chip_in, count_in, cts_in, cut_in, dump_in,
-    errors_in, fifos_in, interrupts_in, level_in, limit_in, lines_in, outputs_in, rate_in,
+    ChipKind, byte_in, bytes_in, char_ticks_in, check_in, chip_in, count_in, cts_in, cut_in,
+    dump_in, errors_in, fifos_in, interrupts_in, level_in, limit_in, lines_in, outputs_in, rate_in,
     switch_in, text_in, ticks_in, trigger_in, wait_in, wire_capacity_in, word_length_in,
 };
 use super::text::{has_bad_byte, word_at, word_count};
 use super::words::{Word, has_count, is_placed, word_of};
 use std::num::NonZeroU64;
-use uart_events::{Call, Chip, Event};
+use uart_events::{Call, Event};
 use uart_spec::registers::WordLength;
 use uart_spec::{BaudRate, Config, Setup};
 
@@ -39,8 +39,8 @@ pub enum Item {
 /// The meaning of the first line.
 #[derive(Clone, Copy, Debug, PartialEq, Eq)]
 pub struct Header {
-    /// The model of the chip.
-    pub chip: Chip,
+    /// The kind of chip.
+    pub chip: ChipKind,
     /// The number of ticks that a character takes to be sent.
     pub ticks: u16,
     /// The number of bytes that the wire has room for.

@@ -16,6 +16,7 @@ use super::text::first_line;
 use std::alloc::{AllocError, Global};
 use std::num::NonZeroU64;
 use uart_events::{Call, Chip, Event};
+use uart_spec::FifoSize;
 
 /// A script: a chip, what happens to it, and the calls that are made.
 #[derive(Drop)]
@@ -31,7 +32,14 @@ impl Script {
     pub fn chip(&self) -> Chip
         ensures { result ≡ (plan_of self.now).chip }
     {
-        self.header.chip
+        self.header.chip.model
+    }
+
+    /// Returns the size of the chip's FIFOs. Of a 16450 it is of no account.
+    pub fn fifo_size(&self) -> FifoSize
+        ensures { result ≡ (plan_of self.now).fifo_size }
+    {
+        self.header.chip.size
     }
 
     /// Returns the number of ticks that the chip takes to send a character.

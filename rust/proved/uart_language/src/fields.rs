@@ -8,7 +8,16 @@ use bitflags::Flags;
 use std::num::NonZeroU64;
 use uart_events::{CALL_BYTES, Chip, MAX_CHAR_TICKS, MAX_WIRE_CAPACITY};
 use uart_spec::registers::{FifoTriggerLevel, IER, ISR, LCR, LSR, MCR, MSR, WordLength};
-use uart_spec::{BaudRate, ConfigRegisterDump, FifoAction, TransmitterWait};
+use uart_spec::{BaudRate, ConfigRegisterDump, FifoAction, FifoSize, TransmitterWait};
+
+/// A kind of chip that a script can name.
+#[derive(Clone, Copy, Debug, PartialEq, Eq)]
+pub struct ChipKind {
+    /// The model. A chip with larger FIFOs is a 16550A in all else.
+    pub model: Chip,
+    /// The size of its two FIFOs. A 16450 has none, and this is of no account.
+    pub size: FifoSize,
+}
 
 /// Reads a number of a script, from `least` to `most`.
 pub fn number_in(least: u64, most: u64, word: &[u8]) -> Result<u64, Cause> {
@@ -133,15 +142,24 @@ pub fn wire_capacity_in(word: &[u8]) -> Result<usize, Cause> {
     Ok(capacity as usize)
 }
 
-/// Reads the model of the chip.
-pub fn chip_in(word: &[u8]) -> Result<Chip, Cause> {
-    if word == b"16550a".as_slice() {
-        Ok(Chip::Uart16550A)
+/// Reads the kind of chip.
+pub fn chip_in(word: &[u8]) -> Result<ChipKind, Cause> {
+    let (model, size) = if word == b"16550a".as_slice() {
+        (Chip::Uart16550A, FifoSize::Sixteen)
     } else if word == b"16450".as_slice() {
-        Ok(Chip::Uart16450)
+        (Chip::Uart16450, FifoSize::Sixteen)
+    } else if word == b"16650".as_slice() {
+        (Chip::Uart16550A, FifoSize::ThirtyTwo)
+    } else if word == b"16750".as_slice() {
+        (Chip::Uart16550A, FifoSize::SixtyFour)
+    } else if word == b"16850".as_slice() || word == b"16950".as_slice() {
+        (Chip::Uart16550A, FifoSize::OneHundredTwentyEight)
+    } else if word == b"16550a-256".as_slice() {
+        (Chip::Uart16550A, FifoSize::TwoHundredFiftySix)
     } else {
-        Err(Cause::BadWord)
-    }
+        return Err(Cause::BadWord);
+    };
+    Ok(ChipKind { model, size })
 }
 
 /// Reads the option that may end the first line.

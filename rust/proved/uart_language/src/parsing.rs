@@ -9,6 +9,7 @@ use super::text::first_line;
 use std::alloc::{AllocError, Global};
 use std::num::NonZeroU64;
 use uart_events::{Call, Chip, Event};
+use uart_spec::FifoSize;
 
 /// A script: a chip, what happens to it, and the calls that are made.
 pub struct Script {
@@ -21,7 +22,12 @@ pub struct Script {
 impl Script {
     /// Returns the model of the chip.
     pub fn chip(&self) -> Chip {
-        self.header.chip
+        self.header.chip.model
+    }
+
+    /// Returns the size of the chip's FIFOs. Of a 16450 it is of no account.
+    pub fn fifo_size(&self) -> FifoSize {
+        self.header.chip.size
     }
 
     /// Returns the number of ticks that the chip takes to send a character.

@@ -6,7 +6,9 @@ use geesetrunk_kit::alloc::Global;
 use proved_uart_machine::script::{Script, parse};
 use proved_uart_machine::{Call, Chip, Event};
 use uart_spec::registers::{FifoTriggerLevel, IER, ISR, LCR, LSR, MCR, MSR, WordLength};
-use uart_spec::{BaudRate, Config, ConfigRegisterDump, FifoAction, Setup, TransmitterWait};
+use uart_spec::{
+    BaudRate, Config, ConfigRegisterDump, FifoAction, FifoSize, Setup, TransmitterWait,
+};
 
 const FAULTS: &[(&str, &str)] = &[
     ("chip 16450 4 64", "line 2: misplaced"),
@@ -45,6 +47,8 @@ const FAULTS_OF_THE_FIRST_LINE: &[(&str, &str)] = &[
     ("limit 5", "line 1: misplaced"),
     ("lsr\t", "line 1: bad byte"),
     ("chip 8250 0 64", "line 1: bad word"),
+    ("chip 16550 4 64", "line 1: bad word"),
+    ("chip 16550a-64 4 64", "line 1: bad word"),
     ("chip 16450 4 64", "a script"),
     ("chip 16450 4 64\n", "a script"),
     ("chip 16450 4 64\n\n\n", "a script"),
@@ -60,6 +64,27 @@ fn parsed(text: &[u8]) -> Script {
     match parse(Global::heap(), text) {
         Ok(script) => script,
         Err(error) => panic!("{error}"),
+    }
+}
+
+// The words of the chips with larger FIFOs too.
+#[test]
+fn each_chip_has_its_model_and_its_fifos() {
+    for (name, model, size) in [
+        ("16550a", Chip::Uart16550A, FifoSize::Sixteen),
+        ("16450", Chip::Uart16450, FifoSize::Sixteen),
+        ("16650", Chip::Uart16550A, FifoSize::ThirtyTwo),
+        ("16750", Chip::Uart16550A, FifoSize::SixtyFour),
+        ("16850", Chip::Uart16550A, FifoSize::OneHundredTwentyEight),
+        ("16950", Chip::Uart16550A, FifoSize::OneHundredTwentyEight),
+        (
+            "16550a-256",
+            Chip::Uart16550A,
+            FifoSize::TwoHundredFiftySix,
+        ),
+    ] {
+        let script = parsed(format!("chip {name} 4 64").as_bytes());
+        assert_eq!((script.chip(), script.fifo_size()), (model, size), "{name}");
     }
 }
 
