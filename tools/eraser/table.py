@@ -356,7 +356,7 @@ GUARDS = {
 
 # The parts of the chip, which only `LiveChip` reaches.
 HIDDEN_IN = ["uart_chip"]
-HIDDEN = "Uart Transmitter Receiver Characters Modem Fifo FixedFifo Wire FixedWire Journal NoMarks fill send enter".split()
+HIDDEN = "Uart Transmitter Receiver Characters Modem Fifo FixedFifo Wire FixedWire Journal NoMarks fill items_of send enter".split()
 
 OFFSET = ["requires { offset < NUM_REGISTERS }"]
 STILL = "requires still { IsStill chip.old }"
@@ -365,6 +365,7 @@ CLAUSES = {
     "characters::Characters::new": ["requires { Q.items queue ≡ [] }"],
     "characters::Characters::filled": ["requires { Q.items queue ≡ [] }"],
     "chip::Uart::new": ["requires { char_ticks ≤ MAX_CHAR_TICKS }"],
+    "chip::Uart::new_sized": ["requires { char_ticks ≤ MAX_CHAR_TICKS }"],
     "chip::Uart::from_data": [
         "requires char_ticks { saved.now.transmitter.char_ticks ≤ MAX_CHAR_TICKS }",
         "requires room { length wire.now ≤ saved.now.transmitter.wire_capacity }",
@@ -374,33 +375,41 @@ CLAUSES = {
         "requires bytes { B.items bytes ≡ [] }",
         "requires wire { W.sent wire ≡ [] }",
         "requires characters { C.items characters ≡ [] }",
+        "requires sizes { C.size_of characters ≡ B.size_of bytes }",
     ],
     "chip::Uart::from_parts": [
         "requires char_ticks { saved.now.transmitter.char_ticks ≤ MAX_CHAR_TICKS }",
         "requires bytes { B.items bytes ≡ [] }",
         "requires wire { W.most wire ≡ saved.now.transmitter.wire_capacity }",
         "requires characters { C.items characters ≡ [] }",
+        "requires sizes { (B.size_of bytes ≡ Sixteen) × (C.size_of characters ≡ Sixteen) }",
         "requires journal { J.recorded journal ≡ [] }",
     ],
     "chip::Uart::data": [
-        "requires transmitter { length self.now.transmitter.queue ≤ FIFO_SIZE }",
-        "requires receiver { length self.now.receiver.queue ≤ FIFO_SIZE }",
+        "requires transmitter { self.now.transmitter.size ≡ Sixteen }",
+        "requires receiver { self.now.receiver.size ≡ Sixteen }",
     ],
     "chip::Uart::arrive": ["requires { self.old.receiver.arrived < length self.old.receiver.marks }"],
     "chip::Uart::perform": [
         "requires { self.old.receiver.arrived + arrivals (event ∷ []) ≤ length self.old.receiver.marks }"
     ],
     "fifo::fill": ["requires { Q.items queue.old ≡ [] }"],
+    "fifo::items_of": ["requires { Q.size_of queue.now ≡ Sixteen }"],
     "receiver::Receiver::new": [TICKS, "requires empty { Q.items queue ≡ [] }"],
-    "receiver::Receiver::from_data": [TICKS, "requires empty { Q.items queue ≡ [] }"],
-    "receiver::Receiver::data": ["requires { length self.now.queue ≤ FIFO_SIZE }"],
+    "receiver::Receiver::from_data": [
+        TICKS,
+        "requires empty { Q.items queue ≡ [] }",
+        "requires size { Q.size_of queue ≡ Sixteen }",
+    ],
+    "receiver::Receiver::data": ["requires { self.now.size ≡ Sixteen }"],
     "receiver::Receiver::arrive": ["requires { self.old.arrived < length self.old.marks }"],
     "transmitter::Transmitter::new": ["requires queue { Q.items queue ≡ [] }", "requires wire { W.sent wire ≡ [] }"],
     "transmitter::Transmitter::from_data": [
         "requires queue { Q.items queue ≡ [] }",
+        "requires size { Q.size_of queue ≡ Sixteen }",
         "requires wire { W.most wire ≡ saved.now.wire_capacity }",
     ],
-    "transmitter::Transmitter::data": ["requires { length self.now.queue ≤ FIFO_SIZE }"],
+    "transmitter::Transmitter::data": ["requires { self.now.size ≡ Sixteen }"],
     "receiving::enter": ["requires { (is_unscheduled new.origin || R.is_scheduled) ≡ true }"],
     "wire::send": [
         "requires empty { W.sent wire.old ≡ [] }",
@@ -411,7 +420,9 @@ CLAUSES = {
 GUARDS |= {
     **{f"uart_chip::{path}": Guard(clauses, reason=HIDDEN_INSIDE) for path, clauses in CLAUSES.items()},
     "uart_live::fixed::FixedWire::new": Guard(["requires { capacity ≤ WIRE_ROOM }"], reason=HIDDEN_INSIDE),
-    "uart_chip::fifo::Fifo::push": Guard(["requires { length (items self.old) < FIFO_SIZE }"], reason=NO_BODY),
+    "uart_chip::fifo::Fifo::push": Guard(
+        ["requires { length (items self.old) < characters (size_of self.old) }"], reason=NO_BODY
+    ),
     "uart_chip::wire::Wire::push": Guard(["requires { length (sent self.old) < most self.old }"], reason=NO_BODY),
     "uart_chip::transmitting::TransmitterParts::put": Guard(
         ["requires { length (state self.old).queue < characters (state self.old).size }"], reason=NO_BODY

@@ -434,7 +434,7 @@ EXPORTED = [
 # Edits of the sources of the chip, and the cause.
 CHIP_SOURCES = [
     ("uart_live/src/fixed.rt", "pub struct FixedFifo<T>", "pub struct FixedFifo<T: Drop + Copy>", "a bound `Drop` of another form"),
-    ("uart_chip/src/fifo.rt", "< FIFO_SIZE }\n        ensures", "≤ FIFO_SIZE }\n        ensures", "Fifo::push requires other things"),
+    ("uart_chip/src/fifo.rt", "< characters (size_of self.old) }", "≤ characters (size_of self.old) }", "Fifo::push requires other things"),
     ("uart_live/src/fixed.rt", "requires { capacity ≤ WIRE_ROOM }", "", "FixedWire::new requires other things"),
     ("uart_chip/src/lib.rt", "mod wire;", "mod wire;\nmod extra;", "extra.rt: declared, and not there"),
     ("uart_live/src/live.rt", "requires { offset < NUM_REGISTERS }\n        ensures answers", "ensures answers", "requires other things"),

@@ -20,6 +20,7 @@ recut cuts c w =
       no_marks = w.no_marks;
       none_lost = w.none_lost;
       room = w.room;
+      size = w.size;
     }
 
 -- what is made here is made there too

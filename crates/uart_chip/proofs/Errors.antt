@@ -53,7 +53,7 @@ count_most [] = omega arith
 count_most (x ∷ xs) = let e = count_most xs in let f = weight_most x in omega (arith, e, f)
 
 -- and one more
-pub count_fits : (xs : List Character) (x : Character) (n : ℕ) → n ≡ error_count xs → length xs < 16 → n + error_weight x < 17
+pub count_fits : (xs : List Character) (x : Character) (n : ℕ) → n ≡ error_count xs → length xs < 256 → n + error_weight x < 257
 count_fits xs x n is few = let e = count_most xs in let f = weight_most x in omega (arith, e, f, is, few)
 
 -- the next character is discarded

@@ -6,5 +6,4 @@ pub mod TransmitterSounds
 pub mod Sounds
 pub mod Schedules
 pub mod Builds
-pub mod Sixteen
 pub mod Idle

@@ -58,22 +58,23 @@ pub record ChipState : Type 0 where
   pub modem : ModemState
   pub cuts : Bool
 
--- the size of the FIFOs of a model; a 16450 has none, and nothing that it does depends on its size
-abbrev pub size_of : Chip → FifoSize
-size_of _ = Sixteen
-
--- a chip after power-on, for a schedule with this number of arrivals
+-- a chip after power-on, whose FIFOs hold 16 characters, for a schedule with this number of arrivals
 abbrev pub fresh : Chip → ℕ → ℕ → ℕ → ChipState
 fresh model char_ticks capacity arrivals =
     record {
       model = model;
       latches = record { ier = 0; lcr = 0; mcr = 0; scr = 0; dll = 0; dlm = 0 };
       fifo = false;
-      transmitter = transmitter.fresh (size_of model) char_ticks capacity;
-      receiver = receiver.fresh (size_of model) char_ticks arrivals;
+      transmitter = transmitter.fresh Sixteen char_ticks capacity;
+      receiver = receiver.fresh Sixteen char_ticks arrivals;
       modem = modem.fresh;
       cuts = false;
     }
+
+-- the same chip, with FIFOs of this size; a 16450 has none, and nothing that it does depends on their size
+abbrev pub with_size : FifoSize → ChipState → ChipState
+with_size size c =
+    record c { transmitter = record c.transmitter { size = size }; receiver = record c.receiver { size = size } }
 
 -- whether offsets 0 and 1 are the divisor latch
 abbrev pub is_dlab_set : LatchesState → Bool

@@ -3,6 +3,7 @@ pub mod Transmitter
 pub mod Receiver
 pub mod Errors
 pub mod Wire
+pub mod Queue
 pub mod Modem
 pub mod Chip
 pub mod Status

@@ -5,8 +5,10 @@ use Rattle.uart_events.specs.declared.event.Event.{Event}
 use Rattle.uart_events.specs.declared.event.Event.TheVariants.{Ticks, Arrive, Lines, Access as Gate, Mark}
 use Rattle.uart_spec.specs.declared.access.Access.{Access}
 use Rattle.uart_spec.specs.declared.access.Access.TheVariants.{Read, Write}
+use Rattle.uart_spec.specs.declared.setup.FifoSize.{FifoSize}
 use Rattle.uart_chip.specs.Chip as chip
-use Rattle.uart_chip.specs.Chip.{ChipState, tick, ticks, arrive, change_lines, answer, after_read, after_write}
+use Rattle.uart_chip.specs.Chip.{ChipState, with_size, tick, ticks, arrive, change_lines, answer, after_read}
+use Rattle.uart_chip.specs.Chip.{after_write}
 
 -- `ahead` has the events of the schedule that have not happened yet
 pub record MachineState : Type 0 where
@@ -19,7 +21,8 @@ arrivals [] = 0
 arrivals (Arrive byte errors ∷ events) = 1 + arrivals events
 arrivals (_ ∷ events) = arrivals events
 
--- a machine after power-on, with its whole schedule ahead, that does not cut characters
+-- a machine after power-on, with its whole schedule ahead, whose FIFOs hold 16 characters, and that does not cut
+-- characters
 abbrev pub fresh : Chip → ℕ → ℕ → List Event → MachineState
 fresh model char_ticks capacity events =
     record { chip = chip.fresh model char_ticks capacity (arrivals events); ahead = events }
@@ -27,6 +30,10 @@ fresh model char_ticks capacity events =
 -- the same machine, which cuts characters to the word length, or does not
 abbrev pub cutting : Bool → MachineState → MachineState
 cutting cuts m = record m { chip = record m.chip { cuts = cuts } }
+
+-- the same machine, with FIFOs of this size
+abbrev pub sized : FifoSize → MachineState → MachineState
+sized size m = record m { chip = with_size size m.chip }
 
 -- what one event does; Access and Mark do nothing by themselves
 abbrev pub perform : Event → ChipState → ChipState

@@ -18,7 +18,7 @@ use Rattle.uart_spec.specs.Bits.{IsWithin}
 use Rattle.uart_chip.specs.Transmitter.{TransmitterState, room}
 use Rattle.uart_chip.specs.Receiver.{ReceiverState, mark_at}
 use Rattle.uart_chip.specs.Modem.{ModemState}
-use Rattle.uart_chip.specs.Chip.{LatchesState, ChipState, size_of}
+use Rattle.uart_chip.specs.Chip.{LatchesState, ChipState}
 use Rattle.uart_chip.specs.Machine.{MachineState, arrivals}
 use Rattle.uart_events.specs.Build.{IsLegal}
 
@@ -118,14 +118,14 @@ pub record HoldBytes (l : LatchesState) : Type 0 where
 
 -- That only a chip with a FIFO has it on is a part of soundness, so what an `init` leaves follows from any state.
 
--- the parts are sound, their FIFOs have the size of the model, only a chip that has a FIFO has it on, and the idle
--- limit is four character times
+-- the parts are sound, their FIFOs have one size, only a chip that has a FIFO has it on, and the idle limit is four
+-- character times
 pub record IsSoundChip (c : ChipState) : Type 0 where
   pub receiver : IsSoundReceiver c.fifo c.receiver
   pub transmitter : IsSoundTransmitter c.fifo c.transmitter
   pub modem : IsSoundModem c.modem
   pub latches : IsSoundLatches c.latches
-  pub sizes : (c.transmitter.size ≡ size_of c.model) × (c.receiver.size ≡ size_of c.model)
+  pub sizes : c.receiver.size ≡ c.transmitter.size
   pub implemented : c.fifo ≡ true → c.model ≡ Uart16550A
   pub limit : c.receiver.timeout_limit ≡ 4 * c.transmitter.char_ticks
 

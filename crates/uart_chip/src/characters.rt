@@ -8,7 +8,7 @@ use crate::fifo::Fifo;
 use crate::receiver::Character;
 use arrayvec::ArrayVec;
 use std::marker::Model;
-use uart_spec::FIFO_SIZE;
+use uart_spec::{FIFO_SIZE, FifoSize};
 
 /// A queue of characters, and how many of them have errors.
 #[derive(Drop)]
@@ -18,13 +18,14 @@ pub struct Characters<Q: Fifo<Character> + Drop> {
 }
 
 impl<Q: Fifo<Character> + Drop> Model for Characters<Q> {
-    ghost use Rattle.std.specs.Prelude.{◌≡◌, List};
+    ghost use Rattle.std.specs.Prelude.{◌≡◌};
     ghost use Rattle.uart_chip.specs.declared.receiver.Character.{Character};
     ghost use Rattle.uart_chip.specs.Errors.{error_count};
+    ghost use Rattle.uart_chip.specs.Queue.{QueueState};
 
-    ghost Value = { List Character };
+    ghost Value = { QueueState Character };
 
-    ghost view = { λ c. Q.items c.queue };
+    ghost view = { λ c. record { items = Q.items c.queue; size = Q.size_of c.queue } };
 
     ghost invariant = { λ c. c.errors ≡ error_count (Q.items c.queue) };
 }
@@ -44,15 +45,17 @@ impl<Q: Fifo<Character> + Drop> Characters<Q> {
     /// Returns no characters, over an empty queue.
     pub fn new(queue: Q) -> Self
         requires { Q.items queue ≡ [] }
-        ensures { result ≡ [] }
+        ensures { result ≡ record { items = []; size = Q.size_of queue } }
     {
         Characters { queue, errors: 0 }
     }
 
     /// Returns these characters, over an empty queue.
+    // They fit: each FIFO has room for at least so many.
+    #[tactic(auto, using(crate::proofs::Sizes::at_least_16))]
     pub fn filled(queue: Q, items: &ArrayVec<Character, FIFO_SIZE>) -> Self
         requires { Q.items queue ≡ [] }
-        ensures { result ≡ items.now.items }
+        ensures { result ≡ record { items = items.now.items; size = Q.size_of queue } }
     {
         let mut characters = Characters::new(queue);
         for item in items.as_slice() {
@@ -63,7 +66,7 @@ impl<Q: Fifo<Character> + Drop> Characters<Q> {
 
     /// Returns whether a character has errors.
     pub fn has_errors(&self) -> bool
-        ensures { result ≡ list_any has_errors self.now }
+        ensures { result ≡ list_any has_errors self.now.items }
     {
         self.errors > 0
     }
@@ -71,14 +74,20 @@ impl<Q: Fifo<Character> + Drop> Characters<Q> {
     /// Returns whether a character has errors. Those of the front do not count if they were
     /// reported.
     pub fn has_unreported_errors(&self, is_front_reported: bool) -> bool
-        ensures { result ≡ list_any has_errors (unreported self.now is_front_reported) }
+        ensures { result ≡ list_any has_errors (unreported self.now.items is_front_reported) }
     {
         self.errors > known(&self.queue, is_front_reported)
     }
 }
 
 impl<Q: Fifo<Character> + Drop> Fifo<Character> for Characters<Q> {
-    ghost items = { λ c. c };
+    ghost items = { λ c. c.items };
+
+    ghost size_of = { λ c. c.size };
+
+    fn size(&self) -> FifoSize {
+        self.queue.size()
+    }
 
     fn len(&self) -> usize {
         self.queue.len()

@@ -9,7 +9,8 @@ ghost use Rattle.uart_chip.specs.Jumps.{moves, jumps_in};
 ghost use Rattle.uart_chip.specs.Receiver.{is_timed_out};
 ghost use Rattle.uart_events.specs.declared.event.ArrivalMark.TheVariants.{Pending};
 ghost use Rattle.uart_events.specs.declared.event.TheConstants.{MAX_CHAR_TICKS};
-ghost use Rattle.uart_spec.specs.declared.baud.TheConstants.{FIFO_SIZE, NUM_REGISTERS};
+ghost use Rattle.uart_spec.specs.declared.baud.TheConstants.{NUM_REGISTERS};
+ghost use Rattle.uart_spec.specs.declared.setup.FifoSize.TheVariants.{Sixteen};
 
 use crate::controlling::{
     ChipParts, advance, arrive_live, change_lines, cut, divisor, is_dlab_set, is_interrupting,
@@ -27,6 +28,7 @@ use bitflags::Flags;
 use std::alloc::{AllocError, Global};
 use std::marker::Model;
 use uart_events::{Chip, Event};
+use uart_spec::FifoSize;
 use uart_spec::registers::{DLL, DLM, IER, LCR, MCR, MSR, SPR};
 
 /// The registers that keep what is written to them.
@@ -110,7 +112,8 @@ impl<B: Fifo<u8> + Drop, W: Wire + Drop, C: Fifo<Character> + Drop, J: Journal +
     C,
     J,
 > {
-    /// Returns a chip after power-on, over empty queues and an empty wire, with this journal.
+    /// Returns a chip after power-on, over empty queues of one size and an empty wire, with this
+    /// journal.
     ///
     /// A character takes `char_ticks` ticks to be sent, and characters are cut to the word length
     /// if `cuts` is set.
@@ -127,8 +130,10 @@ impl<B: Fifo<u8> + Drop, W: Wire + Drop, C: Fifo<Character> + Drop, J: Journal +
         requires bytes { B.items bytes ≡ [] }
         requires wire { W.sent wire ≡ [] }
         requires characters { C.items characters ≡ [] }
+        requires sizes { C.size_of characters ≡ B.size_of bytes }
         ensures { (arrivals : ℕ) → J.recorded journal ≡ replicate arrivals Pending →
-            result ≡ record (spec.fresh model char_ticks (W.most wire) arrivals) { cuts = cuts } }
+            result ≡ spec.with_size (B.size_of bytes)
+            (record (spec.fresh model char_ticks (W.most wire) arrivals) { cuts = cuts }) }
     {
         Self {
             model,
@@ -148,13 +153,14 @@ impl<B: Fifo<u8> + Drop, W: Wire + Drop, C: Fifo<Character> + Drop, J: Journal +
         }
     }
 
-    /// Returns the chip with these data, over empty queues and a wire that holds its bytes, without
-    /// a schedule.
+    /// Returns the chip with these data, over empty queues of 16 and a wire that holds its bytes,
+    /// without a schedule.
     pub fn from_parts(bytes: B, wire: W, characters: C, journal: J, saved: &ChipData) -> Self
         requires char_ticks { saved.now.transmitter.char_ticks ≤ MAX_CHAR_TICKS }
         requires bytes { B.items bytes ≡ [] }
         requires wire { W.most wire ≡ saved.now.transmitter.wire_capacity }
         requires characters { C.items characters ≡ [] }
+        requires sizes { (B.size_of bytes ≡ Sixteen) × (C.size_of characters ≡ Sixteen) }
         requires journal { J.recorded journal ≡ [] }
         ensures { result ≡ chip_of saved.now (W.sent wire) }
     {
@@ -175,10 +181,11 @@ impl<B: Fifo<u8> + Drop, W: Wire + Drop, C: Fifo<Character> + Drop, J: Journal +
         }
     }
 
-    /// Returns the chip as plain data, without the bytes on its wire and without its schedule.
+    /// Returns the chip as plain data, without the bytes on its wire and without its schedule. The
+    /// data are those of a chip with FIFOs of 16.
     pub fn data(&self) -> ChipData
-        requires transmitter { length self.now.transmitter.queue ≤ FIFO_SIZE }
-        requires receiver { length self.now.receiver.queue ≤ FIFO_SIZE }
+        requires transmitter { self.now.transmitter.size ≡ Sixteen }
+        requires receiver { self.now.receiver.size ≡ Sixteen }
         ensures { chip_of result self.now.transmitter.wire ≡ unscheduled self.now }
     {
         ChipData {
@@ -472,9 +479,38 @@ impl Uart<HeapFifo<u8>, HeapWire, HeapFifo<Character>, Marks> {
         ensures { IfOk result (λ c. c ≡
             record (spec.fresh model char_ticks capacity arrivals) { cuts = cuts }) }
     {
-        let bytes = HeapFifo::new(alloc)?;
+        Self::new_sized(
+            alloc,
+            model,
+            FifoSize::Sixteen,
+            char_ticks,
+            capacity,
+            arrivals,
+            cuts,
+        )
+    }
+
+    /// Returns a chip as [`Uart::new`] does, whose FIFOs have this size.
+    ///
+    /// # Errors
+    ///
+    /// `AllocError` if memory could not be allocated.
+    pub fn new_sized(
+        alloc: Global,
+        model: Chip,
+        size: FifoSize,
+        char_ticks: u16,
+        capacity: usize,
+        arrivals: usize,
+        cuts: bool,
+    ) -> Result<Self, AllocError>
+        requires { char_ticks ≤ MAX_CHAR_TICKS }
+        ensures { IfOk result (λ c. c ≡ spec.with_size size
+            (record (spec.fresh model char_ticks capacity arrivals) { cuts = cuts })) }
+    {
+        let bytes = HeapFifo::new(alloc, size)?;
         let wire = HeapWire::new(alloc, capacity)?;
-        let characters = HeapFifo::new(alloc)?;
+        let characters = HeapFifo::new(alloc, size)?;
         let journal = Marks::new(alloc, arrivals)?;
         Ok(Uart::with_parts(bytes, wire, characters, journal, model, char_ticks, cuts))
     }
@@ -490,10 +526,10 @@ impl Uart<HeapFifo<u8>, HeapWire, HeapFifo<Character>, Marks> {
         requires room { length wire.now ≤ saved.now.transmitter.wire_capacity }
         ensures { IfOk result (λ c. c ≡ chip_of saved.now wire.now) }
     {
-        let bytes = HeapFifo::new(alloc)?;
+        let bytes = HeapFifo::new(alloc, FifoSize::Sixteen)?;
         let mut sent = HeapWire::new(alloc, saved.transmitter.wire_capacity)?;
         send(&mut sent, wire);
-        let characters = HeapFifo::new(alloc)?;
+        let characters = HeapFifo::new(alloc, FifoSize::Sixteen)?;
         let journal = Marks::new(alloc, 0)?;
         Ok(Uart::from_parts(bytes, sent, characters, journal, saved))
     }

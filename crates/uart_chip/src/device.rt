@@ -12,6 +12,7 @@ ghost use Rattle.uart_events.specs.declared.event.BuildError.{BuildError};
 use crate::{ArrivalMark, BuildError, Chip, Event, Uart, arrivals, refusal};
 use std::alloc::Global;
 use std::marker::Model;
+use uart_spec::FifoSize;
 use uart_spec::backend::Backend;
 
 /// A serial chip in software under a schedule: a [`Uart`], and the events that happen to it. It is
@@ -97,7 +98,15 @@ impl Device16550 {
         ensures accepted { refusal char_ticks wire_capacity schedule.items ≡ None →
             IsOkUnless result BuildError.OutOfMemory }
     {
-        Self::build(alloc, chip, char_ticks, wire_capacity, schedule, false)
+        Self::new_sized(
+            alloc,
+            chip,
+            FifoSize::Sixteen,
+            char_ticks,
+            wire_capacity,
+            schedule,
+            false,
+        )
     }
 
     /// Returns a machine as [`Device16550::new`] does, whose chip cuts each character to the word
@@ -130,20 +139,55 @@ impl Device16550 {
         ensures accepted { refusal char_ticks wire_capacity schedule.items ≡ None →
             IsOkUnless result BuildError.OutOfMemory }
     {
-        Self::build(alloc, chip, char_ticks, wire_capacity, schedule, true)
+        Self::new_sized(
+            alloc,
+            chip,
+            FifoSize::Sixteen,
+            char_ticks,
+            wire_capacity,
+            schedule,
+            true,
+        )
     }
 
-    // Returns a machine that cuts characters, or one that does not.
-    fn build(
+    /// Returns a machine as [`Device16550::new`] does, whose FIFOs have this size, and whose chip
+    /// cuts each character to the word length of LCR if `cuts` is set, as that of
+    /// [`Device16550::new_cut`] does.
+    ///
+    /// Both FIFOs have room for as many characters, and the four trigger levels are those of a chip
+    /// with FIFOs of this size. A 16450 has no FIFO, so the size changes nothing that it does.
+    ///
+    /// The size is that from the start. A real 16750 begins with FIFOs of 16, and bit 5 of FCR
+    /// switches them to 64 if it is written under DLAB. This chip ignores the bit.
+    ///
+    /// # Errors
+    ///
+    /// Those of [`Device16550::new`], in the same order.
+    ///
+    /// # Examples
+    ///
+    /// ```
+    /// Ok(Device16550::new_sized(
+    ///     rt.alloc(),
+    ///     Chip::Uart16550A,
+    ///     FifoSize::SixtyFour,
+    ///     4,
+    ///     256,
+    ///     schedule,
+    ///     false,
+    /// )?)
+    /// ```
+    pub fn new_sized(
         alloc: Global,
         chip: Chip,
+        size: FifoSize,
         char_ticks: u16,
         wire_capacity: usize,
         schedule: Vec<Event>,
         cuts: bool,
     ) -> Result<Self, BuildError>
-        ensures built { IfOk result (λ machine.
-            machine ≡ spec.cutting cuts (spec.fresh chip char_ticks wire_capacity schedule.items)) }
+        ensures built { IfOk result (λ machine. machine ≡ spec.sized size
+            (spec.cutting cuts (spec.fresh chip char_ticks wire_capacity schedule.items))) }
         ensures refused { (reason : BuildError) →
             refusal char_ticks wire_capacity schedule.items ≡ Some reason → result ≡ Err reason }
         ensures accepted { refusal char_ticks wire_capacity schedule.items ≡ None →
@@ -153,7 +197,8 @@ impl Device16550 {
             return Err(reason);
         }
         let arrivals = arrivals(&schedule);
-        let Ok(uart) = Uart::new(alloc, chip, char_ticks, wire_capacity, arrivals, cuts) else {
+        let Ok(uart) = Uart::new_sized(alloc, chip, size, char_ticks, wire_capacity, arrivals, cuts)
+        else {
             return Err(BuildError::OutOfMemory);
         };
         Ok(Self {

@@ -4,6 +4,7 @@ ghost use Rattle.std.specs.Prelude.{length, drop, slice_get, IfOk};
 ghost use Rattle.uart_spec.specs.declared.baud.TheConstants.{FIFO_SIZE};
 ghost use Rattle.uart_chip.specs.Transmitter.{room};
 ghost use Rattle.uart_spec.specs.FifoSize.{characters};
+ghost use Rattle.uart_spec.specs.declared.setup.FifoSize.{FifoSize};
 ghost use Rattle.uart_spec.specs.declared.setup.FifoSize.TheVariants.{Sixteen};
 
 use arrayvec::ArrayVec;
@@ -27,17 +28,17 @@ pub trait Fifo<T> {
     // The items, from the front.
     ghost items: { Self → List T };
 
+    // The size of the FIFO. It stays.
+    ghost size_of: { Self → FifoSize };
+
     /// Returns the size of the FIFO: the queue has room for as many items.
     fn size(&self) -> FifoSize
-        ensures { result ≡ Sixteen }
-    {
-        FifoSize::Sixteen
-    }
+        ensures { result ≡ size_of self.now };
 
     /// Returns the number of items.
     fn len(&self) -> usize
         ensures len { result ≡ length (items self.now) }
-        ensures within { result ≤ FIFO_SIZE };
+        ensures within { result ≤ characters (size_of self.now) };
 
     /// Returns whether there is no item.
     fn is_empty(&self) -> bool
@@ -52,31 +53,38 @@ pub trait Fifo<T> {
 
     /// Appends an item. The caller must show that there is room.
     fn push(&mut self, item: T)
-        requires { length (items self.old) < FIFO_SIZE }
-        ensures { items self.new ≡ items self.old ++ item ∷ [] };
+        requires { length (items self.old) < characters (size_of self.old) }
+        ensures items { items self.new ≡ items self.old ++ item ∷ [] }
+        ensures size { size_of self.new ≡ size_of self.old };
 
     /// Removes the front, and returns it.
     fn pop(&mut self) -> Option<T>
         ensures front { result ≡ slice_get (items self.old) 0 }
-        ensures rest { items self.new ≡ drop 1 (items self.old) };
+        ensures rest { items self.new ≡ drop 1 (items self.old) }
+        ensures size { size_of self.new ≡ size_of self.old };
 
     /// Removes all items.
     fn clear(&mut self)
-        ensures { items self.new ≡ [] };
+        ensures items { items self.new ≡ [] }
+        ensures size { size_of self.new ≡ size_of self.old };
 }
 
 /// Appends items to an empty queue.
+// They fit: each FIFO has room for at least so many.
+#[tactic(auto, using(crate::proofs::Sizes::at_least_16))]
 pub fn fill<T: Copy + Drop, Q: Fifo<T>>(queue: &mut Q, items: &ArrayVec<T, FIFO_SIZE>)
     requires { Q.items queue.old ≡ [] }
-    ensures { Q.items queue.new ≡ items.now.items }
+    ensures items { Q.items queue.new ≡ items.now.items }
+    ensures size { Q.size_of queue.new ≡ Q.size_of queue.old }
 {
     for item in items.as_slice() {
         queue.push(*item);
     }
 }
 
-/// Returns the items of a queue, from the front.
+/// Returns the items of a queue of 16, from the front.
 pub fn items_of<T: Copy + Default + Drop, Q: Fifo<T>>(queue: &Q) -> ArrayVec<T, FIFO_SIZE>
+    requires { Q.size_of queue.now ≡ Sixteen }
     ensures { result.items ≡ Q.items queue.now }
 {
     let mut items = ArrayVec::new();
@@ -90,35 +98,44 @@ pub fn items_of<T: Copy + Default + Drop, Q: Fifo<T>>(queue: &Q) -> ArrayVec<T, 
 #[derive(Drop)]
 pub struct HeapFifo<T> {
     ring: HeapCircularBuffer<T>,
+    size: FifoSize,
 }
 
 impl<T> Model for HeapFifo<T> {
-    ghost use Rattle.std.specs.Prelude.{◌≡◌, List};
-    ghost use Rattle.uart_spec.specs.declared.baud.TheConstants.{FIFO_SIZE};
+    ghost use Rattle.std.specs.Prelude.{◌≡◌};
+    ghost use Rattle.uart_chip.specs.Queue.{QueueState};
+    ghost use Rattle.uart_spec.specs.FifoSize.{characters};
 
-    ghost Value = { List T };
+    ghost Value = { QueueState T };
 
-    ghost view = { λ q. q.ring.items };
+    ghost view = { λ q. record { items = q.ring.items; size = q.size } };
 
-    ghost invariant = { λ q. q.ring.capacity ≡ FIFO_SIZE };
+    ghost invariant = { λ q. q.ring.capacity ≡ characters q.size };
 }
 
 impl<T> HeapFifo<T> {
-    /// Returns an empty queue. Allocates its memory.
+    /// Returns an empty queue, with room for as many items as a FIFO of this size. Allocates its
+    /// memory.
     ///
     /// # Errors
     ///
     /// `AllocError` if memory could not be allocated.
-    pub fn new(alloc: Global) -> Result<Self, AllocError>
-        ensures { IfOk result (λ q. q ≡ []) }
+    pub fn new(alloc: Global, size: FifoSize) -> Result<Self, AllocError>
+        ensures { IfOk result (λ q. (q.items ≡ []) × (q.size ≡ size)) }
     {
-        let ring = HeapCircularBuffer::with_capacity(alloc, FIFO_SIZE)?;
-        Ok(HeapFifo { ring })
+        let ring = HeapCircularBuffer::with_capacity(alloc, size.characters())?;
+        Ok(HeapFifo { ring, size })
     }
 }
 
 impl<T: Copy + Drop> Fifo<T> for HeapFifo<T> {
-    ghost items = { λ q. q };
+    ghost items = { λ q. q.items };
+
+    ghost size_of = { λ q. q.size };
+
+    fn size(&self) -> FifoSize {
+        self.size
+    }
 
     fn len(&self) -> usize {
         self.ring.len()

@@ -4,7 +4,6 @@ ghost use Rattle.uart_chip.specs.Data.{receiver_of, without_schedule};
 ghost use Rattle.uart_chip.specs.Receiver as spec;
 ghost use Rattle.uart_chip.specs.Receiver.{waiting};
 ghost use Rattle.uart_chip.specs.Status.{receiver_status};
-ghost use Rattle.uart_spec.specs.declared.baud.TheConstants.{FIFO_SIZE};
 ghost use Rattle.uart_spec.specs.declared.setup.FifoSize.TheVariants.{Sixteen};
 ghost use Rattle.uart_events.specs.declared.event.TheConstants.{MAX_CHAR_TICKS};
 
@@ -71,13 +70,12 @@ pub struct Receiver<Q: Fifo<Character> + Drop, J: Journal + Drop> {
 
 impl<Q: Fifo<Character> + Drop, J: Journal + Drop> Model for Receiver<Q, J> {
     ghost use Rattle.uart_chip.specs.Receiver.{ReceiverState};
-    ghost use Rattle.uart_spec.specs.declared.setup.FifoSize.TheVariants.{Sixteen};
 
     ghost Value = { ReceiverState };
 
     ghost view = { λ r. record {
-      size = Sixteen;
-      queue = r.queue;
+      size = r.queue.size;
+      queue = r.queue.items;
       is_overrun = r.is_overrun;
       is_front_reported = r.is_front_reported;
       last_byte = r.last_byte;
@@ -95,7 +93,7 @@ impl<Q: Fifo<Character> + Drop, J: Journal + Drop> Model for Receiver<Q, J> {
     // What LSR shows of the receiver is kept, but for the errors behind the front, which the queue
     // counts. So a read costs the same whatever waits.
     ghost invariant = { λ r.
-        r.status.0 ≡ receiver_status r.queue r.is_overrun r.is_front_reported };
+        r.status.0 ≡ receiver_status r.queue.items r.is_overrun r.is_front_reported };
 }
 
 impl Timeout {
@@ -169,7 +167,8 @@ impl<Q: Fifo<Character> + Drop, J: Journal + Drop> Receiver<Q, J> {
     pub fn new(queue: Q, journal: J, char_ticks: u16) -> Self
         requires char_ticks { char_ticks ≤ MAX_CHAR_TICKS }
         requires empty { Q.items queue ≡ [] }
-        ensures { result ≡ record (spec.fresh Sixteen char_ticks 0) { marks = J.recorded journal } }
+        ensures { result ≡
+            record (spec.fresh (Q.size_of queue) char_ticks 0) { marks = J.recorded journal } }
     {
         Self {
             queue: Characters::new(queue),
@@ -188,11 +187,12 @@ impl<Q: Fifo<Character> + Drop, J: Journal + Drop> Receiver<Q, J> {
         }
     }
 
-    /// Returns the receiver with these data, over an empty queue, with this journal. None of its
-    /// arrivals has arrived.
+    /// Returns the receiver with these data, over an empty queue of 16, with this journal. None of
+    /// its arrivals has arrived.
     pub fn from_data(queue: Q, journal: J, char_ticks: u16, saved: &ReceiverData) -> Self
         requires char_ticks { char_ticks ≤ MAX_CHAR_TICKS }
         requires empty { Q.items queue ≡ [] }
+        requires size { Q.size_of queue ≡ Sixteen }
         ensures { result ≡
             record (receiver_of char_ticks saved.now) { marks = J.recorded journal } }
     {
@@ -215,9 +215,10 @@ impl<Q: Fifo<Character> + Drop, J: Journal + Drop> Receiver<Q, J> {
         }
     }
 
-    /// Returns the receiver as plain data, without its marks.
+    /// Returns the receiver as plain data, without its marks. The data are those of one with a FIFO
+    /// of 16.
     pub fn data(&self) -> ReceiverData
-        requires { length self.now.queue ≤ FIFO_SIZE }
+        requires { self.now.size ≡ Sixteen }
         ensures { (char_ticks : ℕ) →
             receiver_of char_ticks result ≡ without_schedule char_ticks self.now }
     {

@@ -4,7 +4,6 @@ ghost use Rattle.uart_chip.specs.Data.{transmitter_of};
 ghost use Rattle.uart_chip.specs.Status.{transmitter_status};
 ghost use Rattle.uart_chip.specs.Transmitter as spec;
 ghost use Rattle.uart_chip.specs.Transmitter.{held};
-ghost use Rattle.uart_spec.specs.declared.baud.TheConstants.{FIFO_SIZE};
 ghost use Rattle.uart_spec.specs.declared.setup.FifoSize.TheVariants.{Sixteen};
 
 use crate::fifo::{Fifo, fill, items_of};
@@ -57,12 +56,11 @@ pub struct TransmitterData {
 
 impl<Q: Fifo<u8> + Drop, W: Wire + Drop> Model for Transmitter<Q, W> {
     ghost use Rattle.uart_chip.specs.Transmitter.{TransmitterState};
-    ghost use Rattle.uart_spec.specs.declared.setup.FifoSize.TheVariants.{Sixteen};
 
     ghost Value = { TransmitterState };
 
     ghost view = { λ t. record {
-      size = Sixteen;
+      size = Q.size_of t.queue;
       queue = Q.items t.queue;
       shift_register = t.shift_register;
       wire = W.sent t.wire;
@@ -97,7 +95,7 @@ impl<Q: Fifo<u8> + Drop, W: Wire + Drop> Transmitter<Q, W> {
     pub fn new(queue: Q, wire: W, char_ticks: u16) -> Self
         requires queue { Q.items queue ≡ [] }
         requires wire { W.sent wire ≡ [] }
-        ensures { result ≡ spec.fresh Sixteen char_ticks (W.most wire) }
+        ensures { result ≡ spec.fresh (Q.size_of queue) char_ticks (W.most wire) }
     {
         Self {
             queue,
@@ -110,10 +108,11 @@ impl<Q: Fifo<u8> + Drop, W: Wire + Drop> Transmitter<Q, W> {
         }
     }
 
-    /// Returns the transmitter with these data, over an empty queue and a wire that holds its
+    /// Returns the transmitter with these data, over an empty queue of 16 and a wire that holds its
     /// bytes.
     pub fn from_data(mut queue: Q, wire: W, saved: &TransmitterData) -> Self
         requires queue { Q.items queue ≡ [] }
+        requires size { Q.size_of queue ≡ Sixteen }
         requires wire { W.most wire ≡ saved.now.wire_capacity }
         ensures { result ≡ transmitter_of saved.now (W.sent wire) }
     {
@@ -130,9 +129,10 @@ impl<Q: Fifo<u8> + Drop, W: Wire + Drop> Transmitter<Q, W> {
         }
     }
 
-    /// Returns the transmitter as plain data, without the bytes on its wire.
+    /// Returns the transmitter as plain data, without the bytes on its wire. The data are those of
+    /// one with a FIFO of 16.
     pub fn data(&self) -> TransmitterData
-        requires { length self.now.queue ≤ FIFO_SIZE }
+        requires { self.now.size ≡ Sixteen }
         ensures { transmitter_of result self.now.wire ≡ self.now }
     {
         TransmitterData {

@@ -51,7 +51,7 @@ module _ (P : ChipState → Type 0) (w : LastsInEvents P) where
   lasts_perform (Lines inputs) c p = w.in_lines inputs c p
   lasts_perform _ c p = p
 
-  lasts_events : (events : List ScheduleEvent) (c : ChipState) → P c → P (after_events events c)
+  pub lasts_events : (events : List ScheduleEvent) (c : ChipState) → P c → P (after_events events c)
   lasts_events [] c p = p
   lasts_events (e ∷ events) c p = lasts_events events (perform e c) (lasts_perform e c p)
 

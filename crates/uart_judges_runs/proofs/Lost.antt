@@ -19,8 +19,9 @@ use Rattle.uart_chip.specs.Machine.{MachineState, MachineStep, at_access}
 use Rattle.uart_chip.specs.Sound.{IsSound}
 use Rattle.uart_spec.specs.declared.setup.FifoSize.TheVariants.{Sixteen}
 use Rattle.uart_chip.specs.Transmitter.{TransmitterState, load, room as room_of}
-use Rattle.uart_chip.proofs.soundness.Sixteen.{queue_room_16, sends_16}
-use Rattle.uart_chip.proofs.soundness.Sounds.{sound_access, sound_step}
+use Rattle.uart_chip.proofs.lasting.Constants.{same_pace}
+use Rattle.uart_chip.proofs.lasting.Lasting.{LastsInEvents, chip_lasts-before}
+use Rattle.uart_chip.proofs.soundness.Sounds.{size-tick, sound_access, sound_step}
 use Rattle.uart_run.proofs.Latches.{Kept, kept_access}
 use Rattle.uart_judges.specs.Setups.{next_is_open}
 use Rattle.uart_judges.specs.Actions.{action, read_action, write_action}
@@ -47,7 +48,7 @@ use Rattle.uart_judges.specs.declared.recording.entry.Happening.TheVariants.{Acc
 use Rattle.uart_judges_runs.specs.Lost.{AllLose, Follows, IsDropped, IsNextArrival, IsRight, IsSo, KnowsDlab, KnowsWhatIs, Loses, LosesIf}
 use Rattle.uart_judges_runs.specs.Lost.{left_after, left_at}
 use Rattle.uart_judges_runs.specs.Recorded.{is_of_calls}
-use Rattle.uart_judges_runs.proofs.Arrived.{after_arrival, sound_arrival}
+use Rattle.uart_judges_runs.proofs.Arrived.{after_arrival, lasts_events, sound_arrival}
 use Rattle.uart_judges_runs.proofs.Does.{Does, alike_refl, does_read, does_write, no_write_looks, off_at_look}
 use Rattle.uart_judges_runs.proofs.Knows.{IsLooping, IsOffAtLook, IsSent, after_all, after_dlab, is_cleared}
 use Rattle.uart_judges_runs.proofs.Spared.{Spared, all_others}
@@ -442,23 +443,42 @@ quiet_lost a left c n s x is quiet =
 
 -- ---- a recording
 
+-- the FIFO of the transmitter has room for 16, and keeps it
+abbrev pub Holds16 : ChipState → Type 0
+Holds16 c = c.transmitter.size ≡ Sixteen
+
+holds_16 : LastsInEvents Holds16
+holds_16 = record {
+  in_tick = λ c e. size-tick (is_loopback c.latches) c.transmitter ∙ e;
+  in_arrival = λ byte errors c e. e;
+  in_lines = λ inputs c e. e;
+}
+
+step_16 : (m n : MachineState) (access : RegisterAccess) → Holds16 m.chip → MachineStep m access n → Holds16 n.chip
+step_16 m n access e step = (same_pace (access ∷ []) m n (n, step, refl)).size ∙ e
+
+arrival_16 : (byte errors : ℕ) (m n : MachineState) → IsNextArrival byte errors m n → Holds16 m.chip → Holds16 n.chip
+arrival_16 byte errors m n a e =
+    subst Holds16 (sym a.chip) (lasts_events Holds16 holds_16 a.before m.chip e)
+
 -- what an entry shows: what it says is lost is, and what the judge knows after it is so
 record Shown (past : List Entry) (left : ℕ) (m : MachineState) (e : Entry) (n : MachineState) : Type 0 where
   pub lost : AllLose (findings_at e past) (known past) (left_at e.happening left m n) (at_access m).chip n
   pub sound : IsSound n
+  pub of_16 : Holds16 n.chip
   pub knows : KnowsWhatIs (known (e ∷ past)) (left_after past e left m n) n.chip
 
-fits_in : (m : MachineState) → IsSound m → Fits (at_access m).chip
-fits_in m sound =
-    let c = (at_access m).chip in
+fits_in : (m : MachineState) → IsSound m → Holds16 m.chip → Fits (at_access m).chip
+fits_in m sound of_16 =
     let w = (sound_access m sound).chip in
-    (sends_16 c w, queue_room_16 c w)
+    let same : Holds16 (at_access m).chip = chip_lasts-before Holds16 holds_16 m.ahead m.chip of_16 in
+    (same, rw same at w.transmitter.in_room)
 
 made : (past : List Entry) (left : ℕ) (m : MachineState) (e : Entry) (n : MachineState) (access : RegisterAccess) (x : Action) →
-    e.happening ≡ Access access → IsSound m → KnowsWhatIs (known past) left m.chip → MachineStep m access n →
+    e.happening ≡ Access access → IsSound m → Holds16 m.chip → KnowsWhatIs (known past) left m.chip → MachineStep m access n →
     (step_from (known past) e).action ≡ x → Does x (at_access m).chip n.chip →
     IsOffAtLook (known past).setup.is_open x (at_access m).chip → Shown past left m e n
-made past left m e n access x is sound k step does h off =
+made past left m e n access x is sound of_16 k step does h off =
     let a = known past in
     let s = step_from a e in
     let now = left + (length m.chip.transmitter.queue - length (at_access m).chip.transmitter.queue) in
@@ -467,8 +487,9 @@ made past left m e n access x is sound k step does h off =
     record {
       lost =
           subst (λ (left : ℕ). AllLose (findings_at e past) (known past) left (at_access m).chip n) (sym same)
-          (lost_at a now (at_access m).chip n s x does refl here (fits_in m sound) h);
+          (lost_at a now (at_access m).chip n s x does refl here (fits_in m sound of_16) h);
       sound = sound_step m n access sound step;
+      of_16 = step_16 m n access of_16 step;
       knows =
           subst (λ (now : ℕ). KnowsWhatIs (known (e ∷ past)) (if shows_room s then 0 else now) n.chip) (sym same)
           (after_all a now (at_access m).chip n.chip s x does refl h off here);
@@ -484,16 +505,17 @@ not_looking (Arrives byte errors) q e = absurd (cc)
 not_looking _ q e = absurd q
 
 passed : (past : List Entry) (left : ℕ) (m : MachineState) (e : Entry) (n : MachineState) (x : Action) (h : Happening) → e.happening ≡ h →
-    IsSound m → KnowsWhatIs (known past) left m.chip → n ≡ m → (step_from (known past) e).action ≡ x → IsNoAccess x →
+    IsSound m → Holds16 m.chip → KnowsWhatIs (known past) left m.chip → n ≡ m → (step_from (known past) e).action ≡ x → IsNoAccess x →
     left_at h left m m ≡ left →
     Does x m.chip m.chip → Shown past left m e n
-passed past left m e n x h is sound k step does quiet still none =
+passed past left m e n x h is sound of_16 k step does quiet still none =
     let a = known past in
     let s = step_from a e in
     let same : left_at e.happening left m m ≡ left = ap (λ (h : Happening). left_at h left m m) is ∙ still in
     record {
       lost = quiet_lost a (left_at e.happening left m n) (at_access m).chip n s x does quiet;
       sound = subst IsSound (sym step) sound;
+      of_16 = subst (λ (n : MachineState). Holds16 n.chip) (sym step) of_16;
       knows =
           subst (λ (n : MachineState). KnowsWhatIs (known (e ∷ past)) (left_after past e left m n) n.chip) (sym step)
           (subst (λ (now : ℕ). KnowsWhatIs (known (e ∷ past)) (if shows_room s then 0 else now) m.chip) (sym same)
@@ -501,9 +523,10 @@ passed past left m e n x h is sound k step does quiet still none =
     }
 
 arrived : (past : List Entry) (left : ℕ) (m : MachineState) (e : Entry) (n : MachineState) (byte : ℕ) (errors : LSR) →
-    e.happening ≡ Arrive byte errors → IsSound m → KnowsWhatIs (known past) left m.chip → IsNextArrival byte errors.0 m n →
+    e.happening ≡ Arrive byte errors → IsSound m → Holds16 m.chip → KnowsWhatIs (known past) left m.chip →
+    IsNextArrival byte errors.0 m n →
     Shown past left m e n
-arrived past left m e n byte errors is sound k next_one =
+arrived past left m e n byte errors is sound of_16 k next_one =
     let a = known past in
     let s = step_from a e in
     let does : s.action ≡ Arrives byte errors = ap (action a.setup.is_open) is in
@@ -512,42 +535,43 @@ arrived past left m e n byte errors is sound k next_one =
     record {
       lost = quiet_lost a (left_at e.happening left m n) (at_access m).chip n s (Arrives byte errors) does tt;
       sound = sound_arrival byte errors.0 m n next_one sound;
+      of_16 = arrival_16 byte errors.0 m n next_one of_16;
       knows =
           subst (λ (now : ℕ). KnowsWhatIs (known (e ∷ past)) (if shows_room s then 0 else now) n.chip) (sym same)
           (after_arrival a left m n s byte errors does refl sound k next_one);
     }
 
 entry : (past : List Entry) (left : ℕ) (m : MachineState) (e : Entry) (n : MachineState) (h : Happening) → e.happening ≡ h → IsSound m →
-    KnowsWhatIs (known past) left m.chip → Follows (known past) h m n → Shown past left m e n
-entry past left m e n (Access (Read offset value)) is sound k made_so =
+    Holds16 m.chip → KnowsWhatIs (known past) left m.chip → Follows (known past) h m n → Shown past left m e n
+entry past left m e n (Access (Read offset value)) is sound of_16 k made_so =
     let o = (known past).setup.is_open in
-    made past left m e n (Read offset value) (read_action o offset value) is sound k made_so.step (ap (action o) is)
+    made past left m e n (Read offset value) (read_action o offset value) is sound of_16 k made_so.step (ap (action o) is)
     (subst (λ (d : ChipState). Does (read_action o offset value) (at_access m).chip d)
     (ap (λ (m : MachineState). m.chip) (sym made_so.step.0))
     (does_read (at_access m).chip offset value o (at_the_access (known past) left m sound k).dlab made_so.step.1))
     (λ none looks. same_dlab m ∙ off_at_look o offset value m.chip made_so.off none looks)
-entry past left m e n (Access (Write offset value)) is sound k made_so =
+entry past left m e n (Access (Write offset value)) is sound of_16 k made_so =
     let o = (known past).setup.is_open in
-    made past left m e n (Write offset value) (write_action o offset value) is sound k made_so.step (ap (action o) is)
+    made past left m e n (Write offset value) (write_action o offset value) is sound of_16 k made_so.step (ap (action o) is)
     (subst (λ (d : ChipState). Does (write_action o offset value) (at_access m).chip d)
     (ap (λ (m : MachineState). m.chip) (sym made_so.step))
     (does_write (at_access m).chip offset value o (at_the_access (known past) left m sound k).dlab
     (at_the_access (known past) left m sound k).model))
     (λ none looks. absurd (let e : false ≡ true = sym (no_write_looks o offset value) ∙ looks in cc))
-entry past left m e n (Arrive byte errors) is sound k step = arrived past left m e n byte errors is sound k step
-entry past left m e n (Interrupt is_raised) is sound k step =
-    passed past left m e n Other (Interrupt is_raised) is sound k step (ap (action (known past).setup.is_open) is) tt refl
+entry past left m e n (Arrive byte errors) is sound of_16 k step = arrived past left m e n byte errors is sound of_16 k step
+entry past left m e n (Interrupt is_raised) is sound of_16 k step =
+    passed past left m e n Other (Interrupt is_raised) is sound of_16 k step (ap (action (known past).setup.is_open) is) tt refl
     (alike_refl m.chip, tt)
-entry past left m e n (Lines inputs) is sound k step =
-    passed past left m e n (ChangesLines inputs) (Lines inputs) is sound k step (ap (action (known past).setup.is_open) is) tt refl
+entry past left m e n (Lines inputs) is sound of_16 k step =
+    passed past left m e n (ChangesLines inputs) (Lines inputs) is sound of_16 k step (ap (action (known past).setup.is_open) is) tt refl
     (alike_refl m.chip, tt)
 
-pub right : (past entries : List Entry) (left : ℕ) (m : MachineState) → IsSound m → KnowsWhatIs (known past) left m.chip →
-    IsRight past left m entries
-right past [] left m sound k = tt
-right past (e ∷ entries) left m sound k = λ n follows.
-    let shown = entry past left m e n e.happening refl sound k follows in
-    (shown.lost, right (e ∷ past) entries (left_after past e left m n) n shown.sound shown.knows)
+pub right : (past entries : List Entry) (left : ℕ) (m : MachineState) → IsSound m → Holds16 m.chip →
+    KnowsWhatIs (known past) left m.chip → IsRight past left m entries
+right past [] left m sound of_16 k = tt
+right past (e ∷ entries) left m sound of_16 k = λ n follows.
+    let shown = entry past left m e n e.happening refl sound of_16 k follows in
+    (shown.lost, right (e ∷ past) entries (left_after past e left m n) n shown.sound shown.of_16 shown.knows)
 
 -- ---- the first entry
 

@@ -6,6 +6,7 @@ ghost use Rattle.std.specs.List.{AllByRecursion};
 ghost use Rattle.uart_spec.specs.declared.access.Access.{Access};
 ghost use Rattle.uart_spec.specs.declared.access.Access.TheVariants.{Read, Write};
 ghost use Rattle.uart_spec.specs.declared.registers.offsets.TheConstants as offsets;
+ghost use Rattle.uart_spec.specs.declared.setup.FifoSize.TheVariants.{Sixteen};
 ghost use Rattle.uart_spec.specs.declared.config.Config.{Config};
 ghost use Rattle.uart_spec.specs.declared.registers.frame.WordLength.TheVariants.{EightBits};
 ghost use Rattle.uart_16550.specs.Driver.{Fields, fields};
@@ -100,12 +101,13 @@ pub fn nothing_is_known_at_first()
     ensures causes { (causes : Causes) (line : ℕ) → KnowsFor causes line (known []) }
 {}
 
-/// Of a recording of the software chip, a 16550A under any schedule, made by any driver: each
-/// finding that says that a byte is lost names an access that loses it on the chip. What the judge
-/// knows at the beginning is to be so.
+/// Of a recording of the software chip, a 16550A with FIFOs of 16 under any schedule, made by any
+/// driver: each finding that says that a byte is lost names an access that loses it on the chip.
+/// What the judge knows at the beginning is to be so.
 pub fn lost_bytes_are_lost()
     ensures { (past entries : List Entry) (left : ℕ) (machine : MachineState) → IsSound machine →
-        KnowsWhatIs (known past) left machine.chip → IsRight past left machine entries }
+        machine.chip.transmitter.size ≡ Sixteen → KnowsWhatIs (known past) left machine.chip →
+        IsRight past left machine entries }
 {}
 
 /// A judge that was given nothing knows nothing that is not so: a recording may begin anywhere.

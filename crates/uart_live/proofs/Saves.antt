@@ -180,7 +180,7 @@ live_of c wire e bytes =
       transmitter = fits.sound;
       modem = record { inputs = within _ _ modem.0; lines = within _ _ lines.0; deltas = within _ _ lines.1 };
       latches = record { ier = within _ _ latches.0; mcr = within _ _ latches.1 };
-      sizes = (refl, refl);
+      sizes = refl;
       implemented = implemented c.model c.fifo b.0;
       limit = refl;
     } in
@@ -190,6 +190,7 @@ live_of c wire e bytes =
       no_marks = refl;
       none_lost = refl;
       room = fits.room;
+      size = refl;
     }
 
 pub of_live : (c : ChipData) (wire : List ℕ) → IsLive (chip_of c wire) → is_live c wire ≡ true

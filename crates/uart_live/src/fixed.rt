@@ -2,12 +2,13 @@
 //! schedule, so its journal records nothing.
 ghost use Rattle.std.specs.Prelude.{◌≡◌, ◌<◌, ◌≤◌, [], length};
 ghost use Rattle.uart_spec.specs.declared.baud.TheConstants.{FIFO_SIZE};
+ghost use Rattle.uart_spec.specs.declared.setup.FifoSize.TheVariants.{Sixteen};
 ghost use Rattle.uart_live.specs.declared.fixed.TheConstants.{WIRE_ROOM};
 
 use std::marker::Model;
 use uart_chip::{Character, Fifo, Journal, Origin, Wire};
 use uart_events::ArrivalMark;
-use uart_spec::FIFO_SIZE;
+use uart_spec::{FIFO_SIZE, FifoSize};
 
 /// The most bytes that the wire of a live chip has room for.
 pub const WIRE_ROOM: usize = 64;
@@ -52,6 +53,12 @@ impl<T: Copy> FixedFifo<T> {
 
 impl<T: Copy + Drop> Fifo<T> for FixedFifo<T> {
     ghost items = { λ q. q };
+
+    ghost size_of = { λ _. Sixteen };
+
+    fn size(&self) -> FifoSize {
+        FifoSize::Sixteen
+    }
 
     fn len(&self) -> usize {
         self.len

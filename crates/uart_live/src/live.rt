@@ -20,6 +20,7 @@ ghost use Rattle.uart_spec.specs.declared.registers.line_control.TheConstants.LC
 ghost use Rattle.uart_spec.specs.declared.registers.line_status.TheConstants.LSR;
 ghost use Rattle.uart_spec.specs.declared.registers.modem_status.TheConstants.MSR;
 ghost use Rattle.uart_spec.specs.declared.registers.offsets.TheConstants as offsets;
+ghost use Rattle.uart_spec.specs.declared.setup.FifoSize.TheVariants.{Sixteen};
 
 mod snapshot;
 
@@ -367,7 +368,7 @@ impl LiveChip {
     pub fn ticks(&mut self, count: u16) -> usize
         ensures after { self.new ≡ spec.ticks count self.old }
         ensures jumps { result ≡ jumps_in count self.old }
-        ensures most { result ≤ most_jumps (spec.size_of self.old.model) }
+        ensures most { result ≤ most_jumps Sixteen }
     {
         self.uart.ticks(count)
     }

@@ -22,6 +22,7 @@ use uart_calls::replay::Replay;
 use uart_machine::script::{PlayError, ScriptError, Std, parse, play};
 use uart_machine::{BuildError, Call, Chip, Device16550, Event};
 use uart_ring::{ErrorNotes, RingError, Uart16550Ring};
+use uart_spec::FifoSize;
 use uart_spec::access::Access;
 
 // A script with so many calls and events that their lists grow, and its output too.
@@ -160,6 +161,12 @@ fn make_cutting_device(alloc: Global, schedule: Vec<Event>) -> Outcome {
     check(built, 0x1f)
 }
 
+fn make_sized_device(alloc: Global, schedule: Vec<Event>) -> Outcome {
+    let size = FifoSize::SixtyFour;
+    let built = Device16550::new_sized(alloc, Chip::Uart16550A, size, 4, 64, schedule, false);
+    check(built, 0xff)
+}
+
 // A driver whose spin limit was set, and that has saved errors.
 fn used_driver() -> Uart16550<Replay<'static>> {
     let mut uart = Uart16550::new_with_backend(Replay::new(&[0x1e, 0x60, 0x0f]));
@@ -250,6 +257,7 @@ fn main(rt: HostRuntime) -> io::Result<ExitCode> {
     let before = number(&mut rt.stdin())?;
     let schedule = events(alloc)?;
     let schedule_to_cut = events(alloc)?;
+    let schedule_of_sized = events(alloc)?;
     if allocate(alloc, before).is_err() {
         println!(rt; "refused before the calls")?;
         return Ok(ExitCode::FAILURE);
@@ -259,6 +267,7 @@ fn main(rt: HostRuntime) -> io::Result<ExitCode> {
         ("parse", parse_it(alloc, &schedule)),
         ("new", make_device(alloc, schedule)),
         ("new_cut", make_cutting_device(alloc, schedule_to_cut)),
+        ("new_sized", make_sized_device(alloc, schedule_of_sized)),
         ("rings", make_rings(alloc)),
         ("notes", make_notes(alloc)),
     ];

@@ -4,6 +4,7 @@ use Rattle.std.proofs.Common.{List, [], ◌∷◌, ◌++◌, length, take, drop,
 use Rattle.std.proofs.lemmas.Bool.{cases_lt}
 use Rattle.std.proofs.lemmas.Grind.{common_steps}
 use Rattle.uart_spec.specs.declared.registers.offsets.TheConstants as offsets
+use Rattle.uart_spec.specs.declared.setup.FifoSize.TheVariants.{Sixteen}
 use Rattle.uart_chip.specs.declared.transmitter.Shifting.{Shifting}
 use Rattle.uart_chip.specs.Transmitter as transmitter
 use Rattle.uart_chip.specs.Transmitter.{TransmitterState, room, looped_byte, shift, refill, held, shift_bytes}
@@ -15,7 +16,6 @@ use Rattle.uart_chip.specs.Jumps.{next_move_of, next_move, left_after, place_aft
 use Rattle.uart_chip.specs.Sound.{IsSoundChip, IsTicking}
 use Rattle.uart_chip.proofs.Jumps.{StillFor, ticks_skip}
 use Rattle.uart_chip.proofs.soundness.Idle.{moves-most}
-use Rattle.uart_chip.proofs.soundness.Sixteen.{sends_16}
 use Rattle.uart_chip.proofs.lasting.Lasting.{LastsInAccesses, lasts-read, lasts-write}
 use Rattle.uart_chip.proofs.soundness.Sounds.{char_ticks-tick, steady_ticks}
 use Rattle.uart_live.specs.Held.{expire}
@@ -188,19 +188,19 @@ stops-tick n c h =
           (nears-tick n c.receiver.timeout_ticks c.receiver.timeout_limit h.nears);
     }
 
-nearer : (n : ℕ) (c : ChipState) → IsSoundChip c → CharTakes 1 c →
+nearer : (n : ℕ) (c : ChipState) → IsSoundChip c → c.transmitter.size ≡ Sixteen → CharTakes 1 c →
     (moves (ticks n c).transmitter + n ≤ 17) ⊎ Stops n (ticks n c)
-nearer zero c w k =
+nearer zero c w s k =
     let few = moves-most c.fifo c.transmitter w.transmitter in
-    let most : moves c.transmitter ≤ 17 = rw (sends_16 c w) at few in
+    let most : moves c.transmitter ≤ 17 = rw s at few in
     inl (omega (arith, most))
-nearer (suc n) c w k =
+nearer (suc n) c w s k =
     let d : ChipState = ticks n c in
     let t : TransmitterState = d.transmitter in
     let sound = (steady_ticks n c w).sound.transmitter in
     let ticking : IsTicking 1 t.shift_register =
     subst (λ m. IsTicking m t.shift_register) (takes-ticks 1 n c k) sound.ticking in
-    elim (nearer n c w k) [
+    elim (nearer n c w s k) [
       | inl more ↦ elim (stuck_or_moves (is_loopback d.latches) t.shift_register t.queue t ticking) [
         | inl stuck ↦ inr (stops-tick n d (record { stuck = stuck; nears = inl (omega (arith, more)) }))
         | inr moved ↦ inl (omega (arith, more, moved))
@@ -209,12 +209,12 @@ nearer (suc n) c w k =
     ]
 
 -- nothing is left to happen after 22 ticks
-still_after : (n : ℕ) (c : ChipState) → 22 ≤ n → IsSoundChip c → IsPaced c → IsStill (ticks n c)
-still_after n c many w k =
+still_after : (n : ℕ) (c : ChipState) → 22 ≤ n → IsSoundChip c → c.transmitter.size ≡ Sixteen → IsPaced c → IsStill (ticks n c)
+still_after n c many w s k =
     let d : ChipState = ticks n c in
     let sound = (steady_ticks n c w).sound in
     let one : d.transmitter.char_ticks ≡ 1 = takes-ticks 1 n c k.takes in
-    elim (nearer n c w k.takes) [
+    elim (nearer n c w s k.takes) [
       | inl more ↦ absurd (omega (arith, more, many))
       | inr stops ↦ record {
         paced = paced-ticks n c k;
@@ -226,9 +226,9 @@ still_after n c many w k =
       }
     ]
 
-pub still_settle : (c : ChipState) → IsSoundChip c → IsPaced c → IsStill (settle c)
+pub still_settle : (c : ChipState) → IsSoundChip c → c.transmitter.size ≡ Sixteen → IsPaced c → IsStill (settle c)
 unfolding settle_ticks
-still_settle c w k = still_after settle_ticks c (omega arith) w k
+still_settle c w s k = still_after settle_ticks c (omega arith) w s k
 
 -- ---- time does nothing to a chip that is still
 

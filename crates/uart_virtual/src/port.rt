@@ -18,6 +18,7 @@ ghost use Rattle.uart_virtual.specs.Port.{IsTold, IsStill, IsPaced, IsUnmoved};
 ghost use Rattle.uart_virtual.specs.Port.{settle, settle_ticks, arrive_all, stays_up, idle};
 ghost use Rattle.uart_virtual.specs.Port.{is_up, tell, todo_of, kind_of, told_after, todo_after};
 ghost use Rattle.uart_spec.specs.declared.registers.offsets.TheConstants as offsets;
+ghost use Rattle.uart_spec.specs.declared.setup.FifoSize.TheVariants.{Sixteen};
 
 mod snapshot;
 
@@ -166,7 +167,7 @@ pub fn settle_ticks() -> u16
 /// guest can make its monitor do in a call has this bound.
 pub fn settle(chip: &mut LiveChip) -> usize
     ensures after { chip.new ≡ settle chip.old }
-    ensures most { result ≤ most_jumps (spec.size_of chip.old.model) }
+    ensures most { result ≤ most_jumps Sixteen }
 {
     chip.ticks(settle_ticks())
 }

@@ -18,7 +18,8 @@ use Rattle.uart_spec.specs.declared.registers.modem_status.TheConstants.MSR
 use Rattle.uart_chip.specs.Receiver.{mark_at}
 use Rattle.uart_chip.specs.Chip as chip
 use Rattle.uart_chip.specs.Chip.{ChipState}
-use Rattle.uart_chip.specs.Machine.{MachineState, arrivals, fresh, cutting}
+use Rattle.uart_chip.specs.Machine.{MachineState, arrivals, fresh, cutting, sized}
+use Rattle.uart_spec.specs.declared.setup.FifoSize.{FifoSize}
 use Rattle.uart_events.specs.Build.{is_arrival, has_bad_errors, has_bad_lines, refusal}
 use Rattle.uart_chip.specs.Sound.{AllLegal, IsWhole}
 
@@ -106,14 +107,14 @@ is_fresh model char_ticks capacity n events seen c p q r =
     let f : ℕ → MachineState = λ n. record { chip = chip.fresh model char_ticks capacity n; ahead = events } in
     ap (λ (c : ChipState). let m : MachineState = record { chip = c; ahead = events } in m) p ∙ ap f all
 
--- and with the option
-pub is_cutting : (model : Chip) (char_ticks capacity n : ℕ) (cuts : Bool) (events seen : List Event) (c : ChipState) →
-    c ≡ record (chip.fresh model char_ticks capacity n) { cuts = cuts } →
+-- and with the options
+pub is_sized : (model : Chip) (size : FifoSize) (char_ticks capacity n : ℕ) (cuts : Bool) (events seen : List Event) (c : ChipState) →
+    c ≡ chip.with_size size (record (chip.fresh model char_ticks capacity n) { cuts = cuts }) →
     n ≡ count_by is_arrival seen → seen ≡ events →
-    record { chip = c; ahead = events } ≡ cutting cuts (fresh model char_ticks capacity events)
-is_cutting model char_ticks capacity n cuts events seen c p q r =
+    record { chip = c; ahead = events } ≡ sized size (cutting cuts (fresh model char_ticks capacity events))
+is_sized model size char_ticks capacity n cuts events seen c p q r =
     ap (λ (c : ChipState). let m : MachineState = record { chip = c; ahead = events } in m) p ∙
-    ap (λ (m : MachineState). cutting cuts m)
+    ap (λ (m : MachineState). sized size (cutting cuts m))
     (is_fresh model char_ticks capacity n events seen (chip.fresh model char_ticks capacity n) refl q r)
 
 pub whole_cutting : (cuts : Bool) (m : MachineState) → IsWhole m → IsWhole (cutting cuts m)
@@ -156,7 +157,7 @@ whole_fresh chip char_ticks capacity events e =
           modem = record { inputs = refl; lines = refl; deltas = refl };
           latches = record { ier = refl; mcr = refl };
           implemented = λ e. cc;
-          sizes = (refl, refl);
+          sizes = refl;
           limit = refl;
         };
         foreseen = length-marks (arrivals events);
@@ -170,3 +171,41 @@ whole_fresh chip char_ticks capacity events e =
 
     length-marks : (n : ℕ) → 0 + n ≡ length (replicate n Pending)
     length-marks n = simp length-replicate (omega arith)
+
+-- nothing waits in a fresh machine, so a FIFO of any size has room for it
+pub whole_sized : (chip : Chip) (size : FifoSize) (char_ticks capacity : ℕ) (cuts : Bool) (events : List Event) →
+    refusal char_ticks capacity events ≡ None → IsWhole (sized size (cutting cuts (fresh chip char_ticks capacity events)))
+whole_sized chip size char_ticks capacity cuts events e =
+    let w = whole_fresh chip char_ticks capacity events e in
+    let r = w.sound.chip.receiver in
+    let t = w.sound.chip.transmitter in
+    record {
+      sound = record {
+        chip = record {
+          receiver = record {
+            marked =
+                record {
+                  wait = tt;
+                  distinct = tt;
+                  to_come = r.marked.to_come;
+                  in_room = zero-le;
+                  counted = zero-le;
+                };
+            settled = r.settled;
+            no_other = r.no_other;
+            legal = tt;
+            idle = zero-le;
+          };
+          transmitter =
+              record { in_room = zero-le; ticking = tt; at_least_one = t.at_least_one; at_most = t.at_most; on_wire = zero-le };
+          modem = w.sound.chip.modem;
+          latches = w.sound.chip.latches;
+          implemented = w.sound.chip.implemented;
+          sizes = refl;
+          limit = refl;
+        };
+        foreseen = w.sound.foreseen;
+        legal = w.sound.legal;
+      };
+      bytes = w.bytes;
+    }

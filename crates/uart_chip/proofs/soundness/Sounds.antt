@@ -61,7 +61,7 @@ steady_receiver arrived c s w a = record {
     transmitter = w.transmitter;
     modem = w.modem;
     latches = w.latches;
-    sizes = (w.sizes.0, a.size ∙ w.sizes.1);
+    sizes = a.size ∙ w.sizes;
     implemented = w.implemented;
     limit = a.limit ∙ w.limit;
   };
@@ -79,7 +79,7 @@ steady_transmitter c t w a e s = record {
     transmitter = a;
     modem = w.modem;
     latches = w.latches;
-    sizes = (s ∙ w.sizes.0, w.sizes.1);
+    sizes = w.sizes ∙ sym s;
     implemented = w.implemented;
     limit = w.limit ∙ ap (λ n. 4 * n) (sym e);
   };
@@ -233,7 +233,7 @@ steady_switch on c w has_fifo =
         transmitter = sound_clear c.fifo on c.transmitter.is_thr_pending c.transmitter w.transmitter;
         modem = w.modem;
         latches = w.latches;
-        sizes = (w.sizes.0, a.size ∙ w.sizes.1);
+        sizes = a.size ∙ w.sizes;
         implemented = λ e. has_fifo;
         limit = a.limit ∙ w.limit;
       };

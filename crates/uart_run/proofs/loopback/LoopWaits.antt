@@ -162,5 +162,5 @@ never_flooded x gone s l m n v e t path =
     let long = line-length x m.chip n.chip [] a.0 b in
     let most = room_within x.fifo m.chip.receiver.size in
     let less = left_and_more s.limit m v in
-    let same = ap characters (v.sound.chip.sizes.1 ∙ sym v.sound.chip.sizes.0) in
+    let same = ap characters v.sound.chip.sizes in
     omega (arith, few, long, most, a.1, less, same)

@@ -3,7 +3,7 @@
 use crate::fifo::Fifo;
 use crate::receiver::Character;
 use arrayvec::ArrayVec;
-use uart_spec::FIFO_SIZE;
+use uart_spec::{FIFO_SIZE, FifoSize};
 
 /// A queue of characters, and how many of them have errors.
 pub struct Characters<Q: Fifo<Character>> {
@@ -27,6 +27,7 @@ impl<Q: Fifo<Character>> Characters<Q> {
     }
 
     /// Returns these characters, over an empty queue.
+    // They fit: each FIFO has room for at least so many.
     pub fn filled(queue: Q, items: &ArrayVec<Character, FIFO_SIZE>) -> Self {
         let mut characters = Characters::new(queue);
         for item in items.as_slice() {
@@ -48,6 +49,10 @@ impl<Q: Fifo<Character>> Characters<Q> {
 }
 
 impl<Q: Fifo<Character>> Fifo<Character> for Characters<Q> {
+    fn size(&self) -> FifoSize {
+        self.queue.size()
+    }
+
     fn len(&self) -> usize {
         self.queue.len()
     }

@@ -15,6 +15,7 @@ use crate::wire::{HeapWire, Wire, send};
 use bitflags::Flags;
 use std::alloc::{AllocError, Global};
 use uart_events::{Chip, Event};
+use uart_spec::FifoSize;
 use uart_spec::registers::{DLL, DLM, IER, LCR, MCR, MSR, SPR};
 
 /// The registers that keep what is written to them.
@@ -77,7 +78,8 @@ impl<B: Fifo<u8>, W: Wire, C: Fifo<Character>, J: Journal> Uart<
     C,
     J,
 > {
-    /// Returns a chip after power-on, over empty queues and an empty wire, with this journal.
+    /// Returns a chip after power-on, over empty queues of one size and an empty wire, with this
+    /// journal.
     ///
     /// A character takes `char_ticks` ticks to be sent, and characters are cut to the word length
     /// if `cuts` is set.
@@ -108,8 +110,8 @@ impl<B: Fifo<u8>, W: Wire, C: Fifo<Character>, J: Journal> Uart<
         }
     }
 
-    /// Returns the chip with these data, over empty queues and a wire that holds its bytes, without
-    /// a schedule.
+    /// Returns the chip with these data, over empty queues of 16 and a wire that holds its bytes,
+    /// without a schedule.
     pub fn from_parts(bytes: B, wire: W, characters: C, journal: J, saved: &ChipData) -> Self {
         let receiver = Receiver::from_data(
             characters,
@@ -128,7 +130,8 @@ impl<B: Fifo<u8>, W: Wire, C: Fifo<Character>, J: Journal> Uart<
         }
     }
 
-    /// Returns the chip as plain data, without the bytes on its wire and without its schedule.
+    /// Returns the chip as plain data, without the bytes on its wire and without its schedule. The
+    /// data are those of a chip with FIFOs of 16.
     pub fn data(&self) -> ChipData {
         ChipData {
             model: self.model,
@@ -356,9 +359,34 @@ impl Uart<HeapFifo<u8>, HeapWire, HeapFifo<Character>, Marks> {
         arrivals: usize,
         cuts: bool,
     ) -> Result<Self, AllocError> {
-        let bytes = HeapFifo::new(alloc)?;
+        Self::new_sized(
+            alloc,
+            model,
+            FifoSize::Sixteen,
+            char_ticks,
+            capacity,
+            arrivals,
+            cuts,
+        )
+    }
+
+    /// Returns a chip as [`Uart::new`] does, whose FIFOs have this size.
+    ///
+    /// # Errors
+    ///
+    /// `AllocError` if memory could not be allocated.
+    pub fn new_sized(
+        alloc: Global,
+        model: Chip,
+        size: FifoSize,
+        char_ticks: u16,
+        capacity: usize,
+        arrivals: usize,
+        cuts: bool,
+    ) -> Result<Self, AllocError> {
+        let bytes = HeapFifo::new(alloc, size)?;
         let wire = HeapWire::new(alloc, capacity)?;
-        let characters = HeapFifo::new(alloc)?;
+        let characters = HeapFifo::new(alloc, size)?;
         let journal = Marks::new(alloc, arrivals)?;
         Ok(Uart::with_parts(bytes, wire, characters, journal, model, char_ticks, cuts))
     }
@@ -370,10 +398,10 @@ impl Uart<HeapFifo<u8>, HeapWire, HeapFifo<Character>, Marks> {
     ///
     /// `AllocError` if memory could not be allocated.
     pub fn from_data(alloc: Global, saved: &ChipData, wire: &[u8]) -> Result<Self, AllocError> {
-        let bytes = HeapFifo::new(alloc)?;
+        let bytes = HeapFifo::new(alloc, FifoSize::Sixteen)?;
         let mut sent = HeapWire::new(alloc, saved.transmitter.wire_capacity)?;
         send(&mut sent, wire);
-        let characters = HeapFifo::new(alloc)?;
+        let characters = HeapFifo::new(alloc, FifoSize::Sixteen)?;
         let journal = Marks::new(alloc, 0)?;
         Ok(Uart::from_parts(bytes, sent, characters, journal, saved))
     }

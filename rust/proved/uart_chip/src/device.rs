@@ -4,6 +4,7 @@ use std::{Vec};
 
 use crate::{ArrivalMark, BuildError, Chip, Event, Uart, arrivals, refusal};
 use std::alloc::Global;
+use uart_spec::FifoSize;
 use uart_spec::backend::Backend;
 
 /// A serial chip in software under a schedule: a [`Uart`], and the events that happen to it. It is
@@ -64,7 +65,15 @@ impl Device16550 {
         wire_capacity: usize,
         schedule: Vec<Event>,
     ) -> Result<Self, BuildError> {
-        Self::build(alloc, chip, char_ticks, wire_capacity, schedule, false)
+        Self::new_sized(
+            alloc,
+            chip,
+            FifoSize::Sixteen,
+            char_ticks,
+            wire_capacity,
+            schedule,
+            false,
+        )
     }
 
     /// Returns a machine as [`Device16550::new`] does, whose chip cuts each character to the word
@@ -90,13 +99,48 @@ impl Device16550 {
         wire_capacity: usize,
         schedule: Vec<Event>,
     ) -> Result<Self, BuildError> {
-        Self::build(alloc, chip, char_ticks, wire_capacity, schedule, true)
+        Self::new_sized(
+            alloc,
+            chip,
+            FifoSize::Sixteen,
+            char_ticks,
+            wire_capacity,
+            schedule,
+            true,
+        )
     }
 
-    // Returns a machine that cuts characters, or one that does not.
-    fn build(
+    /// Returns a machine as [`Device16550::new`] does, whose FIFOs have this size, and whose chip
+    /// cuts each character to the word length of LCR if `cuts` is set, as that of
+    /// [`Device16550::new_cut`] does.
+    ///
+    /// Both FIFOs have room for as many characters, and the four trigger levels are those of a chip
+    /// with FIFOs of this size. A 16450 has no FIFO, so the size changes nothing that it does.
+    ///
+    /// The size is that from the start. A real 16750 begins with FIFOs of 16, and bit 5 of FCR
+    /// switches them to 64 if it is written under DLAB. This chip ignores the bit.
+    ///
+    /// # Errors
+    ///
+    /// Those of [`Device16550::new`], in the same order.
+    ///
+    /// # Examples
+    ///
+    /// ```text
+    /// Ok(Device16550::new_sized(
+    ///     rt.alloc(),
+    ///     Chip::Uart16550A,
+    ///     FifoSize::SixtyFour,
+    ///     4,
+    ///     256,
+    ///     schedule,
+    ///     false,
+    /// )?)
+    /// ```
+    pub fn new_sized(
         alloc: Global,
         chip: Chip,
+        size: FifoSize,
         char_ticks: u16,
         wire_capacity: usize,
         schedule: Vec<Event>,
@@ -106,7 +150,8 @@ impl Device16550 {
             return Err(reason);
         }
         let arrivals = arrivals(&schedule);
-        let Ok(uart) = Uart::new(alloc, chip, char_ticks, wire_capacity, arrivals, cuts) else {
+        let Ok(uart) = Uart::new_sized(alloc, chip, size, char_ticks, wire_capacity, arrivals, cuts)
+        else {
             return Err(BuildError::OutOfMemory);
         };
         Ok(Self {

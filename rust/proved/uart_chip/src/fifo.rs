@@ -14,9 +14,7 @@ pub fn room_of(fifo: bool, size: FifoSize) -> usize {
 /// A queue that has room for each character of a FIFO, wherever its items are.
 pub trait Fifo<T> {
     /// Returns the size of the FIFO: the queue has room for as many items.
-    fn size(&self) -> FifoSize {
-        FifoSize::Sixteen
-    }
+    fn size(&self) -> FifoSize;
 
     /// Returns the number of items.
     fn len(&self) -> usize;
@@ -40,13 +38,14 @@ pub trait Fifo<T> {
 }
 
 /// Appends items to an empty queue.
+// They fit: each FIFO has room for at least so many.
 pub fn fill<T: Copy, Q: Fifo<T>>(queue: &mut Q, items: &ArrayVec<T, FIFO_SIZE>) {
     for item in items.as_slice() {
         queue.push(*item);
     }
 }
 
-/// Returns the items of a queue, from the front.
+/// Returns the items of a queue of 16, from the front.
 pub fn items_of<T: Copy + Default, Q: Fifo<T>>(queue: &Q) -> ArrayVec<T, FIFO_SIZE> {
     let mut items = ArrayVec::new();
     for i in 0..queue.len() {
@@ -58,21 +57,27 @@ pub fn items_of<T: Copy + Default, Q: Fifo<T>>(queue: &Q) -> ArrayVec<T, FIFO_SI
 /// A queue in memory that is allocated once.
 pub struct HeapFifo<T> {
     ring: HeapCircularBuffer<T>,
+    size: FifoSize,
 }
 
 impl<T> HeapFifo<T> {
-    /// Returns an empty queue. Allocates its memory.
+    /// Returns an empty queue, with room for as many items as a FIFO of this size. Allocates its
+    /// memory.
     ///
     /// # Errors
     ///
     /// `AllocError` if memory could not be allocated.
-    pub fn new(alloc: Global) -> Result<Self, AllocError> {
-        let ring = HeapCircularBuffer::with_capacity(alloc, FIFO_SIZE)?;
-        Ok(HeapFifo { ring })
+    pub fn new(alloc: Global, size: FifoSize) -> Result<Self, AllocError> {
+        let ring = HeapCircularBuffer::with_capacity(alloc, size.characters())?;
+        Ok(HeapFifo { ring, size })
     }
 }
 
 impl<T: Copy> Fifo<T> for HeapFifo<T> {
+    fn size(&self) -> FifoSize {
+        self.size
+    }
+
     fn len(&self) -> usize {
         self.ring.len()
     }

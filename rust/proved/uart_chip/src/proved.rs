@@ -44,22 +44,11 @@ pub mod receiver {}
 ///
 /// From `crates/uart_chip/specs/Chip.antt`.
 ///
-/// <span id="size_of"></span>
-///
-/// # `size_of`
-///
-/// The size of the FIFOs of a model; a 16450 has none, and nothing that it does depends on its size.
-///
-/// ```text
-/// abbrev pub size_of : Chip → FifoSize
-/// size_of _ = Sixteen
-/// ```
-///
 /// <span id="fresh"></span>
 ///
 /// # `fresh`
 ///
-/// A chip after power-on, for a schedule with this number of arrivals.
+/// A chip after power-on, whose FIFOs hold 16 characters, for a schedule with this number of arrivals.
 ///
 /// ```text
 /// abbrev pub fresh : Chip → ℕ → ℕ → ℕ → ChipState
@@ -68,14 +57,14 @@ pub mod receiver {}
 ///       model = model;
 ///       latches = record { ier = 0; lcr = 0; mcr = 0; scr = 0; dll = 0; dlm = 0 };
 ///       fifo = false;
-///       transmitter = transmitter.fresh (size_of model) char_ticks capacity;
-///       receiver = receiver.fresh (size_of model) char_ticks arrivals;
+///       transmitter = transmitter.fresh Sixteen char_ticks capacity;
+///       receiver = receiver.fresh Sixteen char_ticks arrivals;
 ///       modem = modem.fresh;
 ///       cuts = false;
 ///     }
 /// ```
 ///
-/// It uses [`size_of`](crate::proved::chip#size_of); `ChipState` of this file; `fresh` of `crates/uart_chip/specs/Transmitter.antt`; `fresh` of `crates/uart_chip/specs/Receiver.antt`; `fresh` of `crates/uart_chip/specs/Modem.antt`.
+/// It uses `ChipState` of this file; `fresh` of `crates/uart_chip/specs/Transmitter.antt`; `fresh` of `crates/uart_chip/specs/Receiver.antt`; `fresh` of `crates/uart_chip/specs/Modem.antt`.
 ///
 /// <span id="is_dlab_set"></span>
 ///
@@ -292,7 +281,7 @@ pub mod receiver {}
 /// ```
 ///
 /// It uses [`is_dlab_set`](crate::proved::chip#is_dlab_set); `ChipState`, `write_data`, `with_latches`, `enable`, `control`, `control_modem` of this file; `mcr_bits` of `crates/uart_chip/specs/Masks.antt`.
-#[doc(alias("size_of", "fresh", "is_dlab_set", "is_loopback", "divisor", "cut_of", "ticks", "arrive_live", "receive_room", "take_wire", "change_lines", "interrupt", "with_thr_pending", "answer", "after_read", "after_write"))]
+#[doc(alias("fresh", "is_dlab_set", "is_loopback", "divisor", "cut_of", "ticks", "arrive_live", "receive_room", "take_wire", "change_lines", "interrupt", "with_thr_pending", "answer", "after_read", "after_write"))]
 pub mod chip {}
 
 /// Ticks in jumps: when a character moves next, what happens until then, and how many jumps there are at most. No theorem rests on these definitions but that of `idle`, whose contract gives the effect of the ticks by those of `Chip`.

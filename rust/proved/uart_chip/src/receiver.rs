@@ -130,8 +130,8 @@ impl<Q: Fifo<Character>, J: Journal> Receiver<Q, J> {
         }
     }
 
-    /// Returns the receiver with these data, over an empty queue, with this journal. None of its
-    /// arrivals has arrived.
+    /// Returns the receiver with these data, over an empty queue of 16, with this journal. None of
+    /// its arrivals has arrived.
     pub fn from_data(queue: Q, journal: J, char_ticks: u16, saved: &ReceiverData) -> Self {
         let queue = Characters::filled(queue, &saved.queue);
         let status = status_of(&queue, saved.is_overrun, saved.is_front_reported);
@@ -152,7 +152,8 @@ impl<Q: Fifo<Character>, J: Journal> Receiver<Q, J> {
         }
     }
 
-    /// Returns the receiver as plain data, without its marks.
+    /// Returns the receiver as plain data, without its marks. The data are those of one with a FIFO
+    /// of 16.
     pub fn data(&self) -> ReceiverData {
         ReceiverData {
             queue: items_of(&self.queue),

@@ -70,7 +70,7 @@ impl<Q: Fifo<u8>, W: Wire> Transmitter<Q, W> {
         }
     }
 
-    /// Returns the transmitter with these data, over an empty queue and a wire that holds its
+    /// Returns the transmitter with these data, over an empty queue of 16 and a wire that holds its
     /// bytes.
     pub fn from_data(mut queue: Q, wire: W, saved: &TransmitterData) -> Self {
         fill(&mut queue, &saved.queue);
@@ -86,7 +86,8 @@ impl<Q: Fifo<u8>, W: Wire> Transmitter<Q, W> {
         }
     }
 
-    /// Returns the transmitter as plain data, without the bytes on its wire.
+    /// Returns the transmitter as plain data, without the bytes on its wire. The data are those of
+    /// one with a FIFO of 16.
     pub fn data(&self) -> TransmitterData {
         TransmitterData {
             queue: items_of(&self.queue),

@@ -3,7 +3,7 @@
 
 use uart_chip::{Character, Fifo, Journal, Origin, Wire};
 use uart_events::ArrivalMark;
-use uart_spec::FIFO_SIZE;
+use uart_spec::{FIFO_SIZE, FifoSize};
 
 /// The most bytes that the wire of a live chip has room for.
 pub const WIRE_ROOM: usize = 64;
@@ -45,6 +45,10 @@ impl<T: Copy> FixedFifo<T> {
 }
 
 impl<T: Copy> Fifo<T> for FixedFifo<T> {
+    fn size(&self) -> FifoSize {
+        FifoSize::Sixteen
+    }
+
     fn len(&self) -> usize {
         self.len
     }

@@ -83,7 +83,7 @@ impl LiveChip {
     ///
     /// # Proved
     ///
-    /// - *built*: if it returns `Ok live`: `live` is [`fresh`](uart_chip::proved::chip#fresh) `chip char_ticks wire_capacity 0`: a chip after power-on, for a schedule with this number of arrivals.
+    /// - *built*: if it returns `Ok live`: `live` is [`fresh`](uart_chip::proved::chip#fresh) `chip char_ticks wire_capacity 0`: a chip after power-on, whose FIFOs hold 16 characters, for a schedule with this number of arrivals.
     /// - *refused*: for each `reason`: if `refusal char_ticks wire_capacity ≡ Some reason`: returns `Err reason`.
     ///   - [`refusal`](crate::proved::refused#refusal): why no chip is made, if none is: the ticks of a character are not in their range, or else the wire has room for too much.
     /// - *accepted*: if `refusal char_ticks wire_capacity ≡ None`: returns `Ok`.
@@ -220,7 +220,7 @@ impl LiveChip {
     /// # Proved
     ///
     /// - *sends*: returns [`sends_at_once`](uart_chip::proved::sending#sends_at_once) `self.now`: a byte that is written to DATA would be on the wire at once: DLAB and loopback are off, the transmitter holds nothing, and the wire has room.
-    /// - *live*: [`IsLive`](crate::proved::live#IsLive) `self.now`: the chip is sound and has nothing of a schedule: no event is to come, no arrival has a mark, none can be lost unnoticed; the wire has room for at most as much as a wire may have.
+    /// - *live*: [`IsLive`](crate::proved::live#IsLive) `self.now`: the chip is sound and has nothing of a schedule: no event is to come, no arrival has a mark, none can be lost unnoticed; the wire has room for at most as much as a wire may have, and the FIFOs hold 16 characters.
     ///
     /// <details><summary>The clauses</summary>
     ///
@@ -296,7 +296,7 @@ impl LiveChip {
     /// - *after*: for each `value`: if it returns `true`, and `self.old.transmitter.wire ≡ []`: `self` becomes [`take_wire`](uart_chip::proved::chip#take_wire) `1 (sending_spec.send_at_once value self.old)`: a number of bytes are taken from the front of the wire.
     ///   - [`send_at_once`](uart_chip::proved::sending#send_at_once): the byte, cut to the word length, is on the wire, and THR became empty, which is an interrupt; no time passed.
     /// - *left*: if it returns `false`: nothing changes.
-    /// - *live*: [`IsLive`](crate::proved::live#IsLive) `self.old`: the chip is sound and has nothing of a schedule: no event is to come, no arrival has a mark, none can be lost unnoticed; the wire has room for at most as much as a wire may have.
+    /// - *live*: [`IsLive`](crate::proved::live#IsLive) `self.old`: the chip is sound and has nothing of a schedule: no event is to come, no arrival has a mark, none can be lost unnoticed; the wire has room for at most as much as a wire may have, and the FIFOs hold 16 characters.
     ///
     /// <details><summary>The clauses</summary>
     ///
@@ -426,7 +426,7 @@ impl LiveChip {
     /// # Proved
     ///
     /// - *on*: returns `not (self.now.latches.ier == 0)`.
-    /// - *live*: [`IsLive`](crate::proved::live#IsLive) `self.now`: the chip is sound and has nothing of a schedule: no event is to come, no arrival has a mark, none can be lost unnoticed; the wire has room for at most as much as a wire may have.
+    /// - *live*: [`IsLive`](crate::proved::live#IsLive) `self.now`: the chip is sound and has nothing of a schedule: no event is to come, no arrival has a mark, none can be lost unnoticed; the wire has room for at most as much as a wire may have, and the FIFOs hold 16 characters.
     ///
     /// <details><summary>The clauses</summary>
     ///
@@ -448,7 +448,7 @@ impl LiveChip {
     /// # Proved
     ///
     /// - *on*: returns [`has_any`](uart_spec::proved::bits#has_any) `self.now.latches.ier IER.DATA_READY.0`: the value has at least one of these bits.
-    /// - *live*: [`IsLive`](crate::proved::live#IsLive) `self.now`: the chip is sound and has nothing of a schedule: no event is to come, no arrival has a mark, none can be lost unnoticed; the wire has room for at most as much as a wire may have.
+    /// - *live*: [`IsLive`](crate::proved::live#IsLive) `self.now`: the chip is sound and has nothing of a schedule: no event is to come, no arrival has a mark, none can be lost unnoticed; the wire has room for at most as much as a wire may have, and the FIFOs hold 16 characters.
     ///
     /// <details><summary>The clauses</summary>
     ///
@@ -471,7 +471,7 @@ impl LiveChip {
     ///
     /// - *answers*: returns [`answer`](uart_chip::proved::chip#answer) `offsets.DATA self.old`: what a read of the register returns.
     /// - *after*: `self` becomes [`after_read`](uart_chip::proved::chip#after_read) `offsets.DATA self.old`: the chip after a read of the register.
-    /// - *live*: [`IsLive`](crate::proved::live#IsLive) `self.old`: the chip is sound and has nothing of a schedule: no event is to come, no arrival has a mark, none can be lost unnoticed; the wire has room for at most as much as a wire may have.
+    /// - *live*: [`IsLive`](crate::proved::live#IsLive) `self.old`: the chip is sound and has nothing of a schedule: no event is to come, no arrival has a mark, none can be lost unnoticed; the wire has room for at most as much as a wire may have, and the FIFOs hold 16 characters.
     ///
     /// <details><summary>The clauses</summary>
     ///
@@ -503,7 +503,7 @@ impl LiveChip {
     /// - *value*: returns [`clear_status`](crate::proved::quick#clear_status) `self.old`: what a read of LSR returns, if it shows no error and no character that waits has one.
     /// - *read*: if it returns `Some`: `self` becomes [`after_read`](uart_chip::proved::chip#after_read) `offsets.LSR self.old`: the chip after a read of the register.
     /// - *left*: if it returns `None`: nothing changes.
-    /// - *live*: [`IsLive`](crate::proved::live#IsLive) `self.old`: the chip is sound and has nothing of a schedule: no event is to come, no arrival has a mark, none can be lost unnoticed; the wire has room for at most as much as a wire may have.
+    /// - *live*: [`IsLive`](crate::proved::live#IsLive) `self.old`: the chip is sound and has nothing of a schedule: no event is to come, no arrival has a mark, none can be lost unnoticed; the wire has room for at most as much as a wire may have, and the FIFOs hold 16 characters.
     ///
     /// <details><summary>The clauses</summary>
     ///
@@ -557,9 +557,8 @@ impl LiveChip {
     ///
     /// - *after*: `self` becomes [`ticks`](uart_chip::proved::chip#ticks) `count self.old`: the chip after so many ticks.
     /// - *jumps*: returns [`jumps_in`](uart_chip::proved::jumps#jumps_in) `count self.old`: how many jumps so many ticks are: each ends with a tick in which a character moves, and the last one with the last tick.
-    /// - *most*: `result ≤ most_jumps (spec.size_of self.old.model)`.
+    /// - *most*: `result ≤ most_jumps Sixteen`.
     ///   - [`most_jumps`](uart_chip::proved::jumps#most_jumps): the most jumps that any number of ticks takes with a FIFO of this size, which are 18 with one of 16: one for each character in the queue, and for the one that enters or leaves the shift register, and one for what is left.
-    ///   - [`size_of`](uart_chip::proved::chip#size_of): the size of the FIFOs of a model; a 16450 has none, and nothing that it does depends on its size.
     ///
     /// <details><summary>The clauses</summary>
     ///
@@ -568,7 +567,7 @@ impl LiveChip {
     /// ```text
     /// ensures after { self.new ≡ spec.ticks count self.old }
     /// ensures jumps { result ≡ jumps_in count self.old }
-    /// ensures most { result ≤ most_jumps (spec.size_of self.old.model) }
+    /// ensures most { result ≤ most_jumps Sixteen }
     /// ```
     ///
     /// </details>
@@ -743,7 +742,7 @@ impl LiveChip {
     /// - *shown*: returns `not (has_any (spec.answer offsets.ISR self.now) ISR.INTERRUPT_STATUS.0)`.
     ///   - [`has_any`](uart_spec::proved::bits#has_any): the value has at least one of these bits.
     ///   - [`answer`](uart_chip::proved::chip#answer): what a read of the register returns.
-    /// - *live*: [`IsLive`](crate::proved::live#IsLive) `self.now`: the chip is sound and has nothing of a schedule: no event is to come, no arrival has a mark, none can be lost unnoticed; the wire has room for at most as much as a wire may have.
+    /// - *live*: [`IsLive`](crate::proved::live#IsLive) `self.now`: the chip is sound and has nothing of a schedule: no event is to come, no arrival has a mark, none can be lost unnoticed; the wire has room for at most as much as a wire may have, and the FIFOs hold 16 characters.
     ///
     /// <details><summary>The clauses</summary>
     ///
@@ -827,7 +826,7 @@ impl LiveChip {
     /// # Proved
     ///
     /// - *room*: returns `self.now.transmitter.capacity - length self.now.transmitter.wire`.
-    /// - *live*: [`IsLive`](crate::proved::live#IsLive) `self.now`: the chip is sound and has nothing of a schedule: no event is to come, no arrival has a mark, none can be lost unnoticed; the wire has room for at most as much as a wire may have.
+    /// - *live*: [`IsLive`](crate::proved::live#IsLive) `self.now`: the chip is sound and has nothing of a schedule: no event is to come, no arrival has a mark, none can be lost unnoticed; the wire has room for at most as much as a wire may have, and the FIFOs hold 16 characters.
     ///
     /// <details><summary>The clauses</summary>
     ///

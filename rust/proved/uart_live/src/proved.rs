@@ -16,7 +16,7 @@ pub use uart_events::proved as of_events;
 ///
 /// # `IsLive`
 ///
-/// The chip is sound and has nothing of a schedule: no event is to come, no arrival has a mark, none can be lost unnoticed; the wire has room for at most as much as a wire may have.
+/// The chip is sound and has nothing of a schedule: no event is to come, no arrival has a mark, none can be lost unnoticed; the wire has room for at most as much as a wire may have, and the FIFOs hold 16 characters.
 ///
 /// ```text
 /// pub record IsLive (c : ChipState) : Type 0 where
@@ -24,6 +24,7 @@ pub use uart_events::proved as of_events;
 ///   pub no_marks : length c.receiver.marks ≡ 0
 ///   pub none_lost : c.receiver.is_unscheduled_lost ≡ false
 ///   pub room : c.transmitter.capacity ≤ MAX_WIRE_CAPACITY
+///   pub size : c.transmitter.size ≡ Sixteen
 /// ```
 ///
 /// It uses `ChipState` of `crates/uart_chip/specs/Chip.antt`; `IsWhole` of `crates/uart_chip/specs/Sound.antt`.

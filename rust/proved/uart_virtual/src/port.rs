@@ -167,9 +167,8 @@ pub fn settle_ticks() -> u16 {
 /// # Proved
 ///
 /// - *after*: `chip` becomes [`settle`](crate::proved::port#settle) `chip.old`: so much time passes that nothing is left to happen.
-/// - *most*: `result ≤ most_jumps (spec.size_of chip.old.model)`.
+/// - *most*: `result ≤ most_jumps Sixteen`.
 ///   - [`most_jumps`](uart_chip::proved::jumps#most_jumps): the most jumps that any number of ticks takes with a FIFO of this size, which are 18 with one of 16: one for each character in the queue, and for the one that enters or leaves the shift register, and one for what is left.
-///   - [`size_of`](uart_chip::proved::chip#size_of): the size of the FIFOs of a model; a 16450 has none, and nothing that it does depends on its size.
 ///
 /// <details><summary>The clauses</summary>
 ///
@@ -177,7 +176,7 @@ pub fn settle_ticks() -> u16 {
 ///
 /// ```text
 /// ensures after { chip.new ≡ settle chip.old }
-/// ensures most { result ≤ most_jumps (spec.size_of chip.old.model) }
+/// ensures most { result ≤ most_jumps Sixteen }
 /// ```
 ///
 /// </details>

@@ -6,4 +6,5 @@ abbrev pub invariant-loop-item : goal.invariant-loop-item
 invariant-loop-item g l = record {
   told : g.Q.Fifo.items l.queue ++ drop l.item-index l.items.items ≡ l.items.items;
   fits : length l.items.items ≤ 16;
+  same : g.Q.Fifo.size_of l.queue ≡ g.Q.Fifo.size_of l.fn.queue;
 }

@@ -24,7 +24,7 @@ impl LiveChip {
     ///
     /// - *data*: `chip_of result self.now.transmitter.wire ≡ self.now`.
     ///   - [`chip_of`](uart_chip::proved::snapshot#chip_of): the chip that these data describe, with these bytes on its wire and without a schedule.
-    /// - *live*: [`IsLive`](crate::proved::live#IsLive) `self.now`: the chip is sound and has nothing of a schedule: no event is to come, no arrival has a mark, none can be lost unnoticed; the wire has room for at most as much as a wire may have.
+    /// - *live*: [`IsLive`](crate::proved::live#IsLive) `self.now`: the chip is sound and has nothing of a schedule: no event is to come, no arrival has a mark, none can be lost unnoticed; the wire has room for at most as much as a wire may have, and the FIFOs hold 16 characters.
     ///
     /// <details><summary>The clauses</summary>
     ///
@@ -64,7 +64,7 @@ impl LiveChip {
     ///
     /// - *restored*: if it returns `Ok live`: `live` is [`chip_of`](uart_chip::proved::snapshot#chip_of) `saved.now wire.now`: the chip that these data describe, with these bytes on its wire and without a schedule.
     /// - *refused*: unless [`IsLive`](crate::proved::live#IsLive) `(chip_of saved.now wire.now)`: returns `Err RestoreError.BadData`.
-    ///   - [`IsLive`](crate::proved::live#IsLive): the chip is sound and has nothing of a schedule: no event is to come, no arrival has a mark, none can be lost unnoticed; the wire has room for at most as much as a wire may have.
+    ///   - [`IsLive`](crate::proved::live#IsLive): the chip is sound and has nothing of a schedule: no event is to come, no arrival has a mark, none can be lost unnoticed; the wire has room for at most as much as a wire may have, and the FIFOs hold 16 characters.
     /// - *large*: if [`IsLive`](crate::proved::live#IsLive) `(chip_of saved.now wire.now)`, and `WIRE_ROOM < saved.now.transmitter.wire_capacity`: returns `Err RestoreError.BadWire`.
     /// - *accepted*: if [`IsLive`](crate::proved::live#IsLive) `(chip_of saved.now wire.now)`, and `saved.now.transmitter.wire_capacity ≤ WIRE_ROOM`: returns `Ok`.
     ///

@@ -10,3 +10,4 @@ mod machines;
 mod paths;
 mod rings;
 mod schedules;
+mod sized;

@@ -1,7 +1,6 @@
 use Rattle.std.proofs.Common.{◌≤◌, arith}
 use Rattle.uart_chip.specs.Jumps.{moves}
 use Rattle.uart_chip.proofs.soundness.Idle.{moves-most}
-use Rattle.uart_chip.proofs.soundness.Sixteen.{sends_16}
 use Rattle.uart_live.proofs.Lives.{live-ticks}
 use Rattle.uart_live.proofs.live.LiveChip.ticks.Goals as goal
 
@@ -12,5 +11,5 @@ pub returns-clause-most : goal.returns-clause-most
 returns-clause-most c =
     let chip = c.self.invariant.whole.sound.chip in
     let few = moves-most c.self.inside.uart.fifo c.self.inside.uart.transmitter chip.transmitter in
-    let most : moves c.self.inside.uart.transmitter ≤ 17 = rw (sends_16 c.self.inside.uart chip) at few in
+    let most : moves c.self.inside.uart.transmitter ≤ 17 = rw c.self.invariant.size at few in
     omega (arith, most, c.ticks.ensures.most)
