@@ -344,7 +344,8 @@ header_by line h false (Some word.Chip) b f e =
     words_are_header line (words_of line) h refl b (name_is _ word.Chip f) r.0 r.1
 header_by line h false (Some w) b f e = absurd cc
 
-pub says_header : (line : List ℕ) (h : Header) → header_at line ≡ Ok h → IsHeader line h.chip.model h.chip.size h.ticks h.wire_capacity h.cuts
+pub says_header : (line : List ℕ) (h : Header) → header_at line ≡ Ok h
+    → IsHeader line h.chip.model h.chip.size h.ticks h.wire_capacity h.cuts
 unfolding header_at starts_with
 says_header line h e = header_by line h _ _ refl refl e
 

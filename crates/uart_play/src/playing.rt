@@ -17,7 +17,7 @@ use uart_language::limits::MOST_READ;
 use uart_language::{Input, Output, PlayError, Script, parse, read_all, render, write_all};
 use uart_run::run;
 
-/// Returns the machine of a script, under its schedule.
+/// Returns the machine of a script, with FIFOs of the size that it names, under its schedule.
 ///
 /// # Errors
 ///
@@ -27,12 +27,15 @@ pub fn machine_for(alloc: Global, script: &Script) -> Result<Device16550, AllocE
     ensures { IfOk result (λ machine. machine ≡ first_machine (plan_of script.now)) }
 {
     let schedule = script.events().to_vec(alloc)?;
-    let (chip, ticks, capacity) = (script.chip(), script.ticks(), script.wire_capacity());
-    let machine = if script.cut() {
-        Device16550::new_cut(alloc, chip, ticks, capacity, schedule)
-    } else {
-        Device16550::new(alloc, chip, ticks, capacity, schedule)
-    };
+    let machine = Device16550::new_sized(
+        alloc,
+        script.chip(),
+        script.fifo_size(),
+        script.ticks(),
+        script.wire_capacity(),
+        schedule,
+        script.cut(),
+    );
     match machine {
         Ok(machine) => Ok(machine),
         Err(_) => Err(AllocError),

@@ -10,19 +10,22 @@ use uart_language::limits::MOST_READ;
 use uart_language::{Input, Output, PlayError, Script, parse, read_all, render, write_all};
 use uart_run::run;
 
-/// Returns the machine of a script, under its schedule.
+/// Returns the machine of a script, with FIFOs of the size that it names, under its schedule.
 ///
 /// # Errors
 ///
 /// If memory for the schedule or the machine could not be allocated.
 pub fn machine_for(alloc: Global, script: &Script) -> Result<Device16550, AllocError> {
     let schedule = script.events().to_vec_with(alloc)?;
-    let (chip, ticks, capacity) = (script.chip(), script.ticks(), script.wire_capacity());
-    let machine = if script.cut() {
-        Device16550::new_cut(alloc, chip, ticks, capacity, schedule)
-    } else {
-        Device16550::new(alloc, chip, ticks, capacity, schedule)
-    };
+    let machine = Device16550::new_sized(
+        alloc,
+        script.chip(),
+        script.fifo_size(),
+        script.ticks(),
+        script.wire_capacity(),
+        schedule,
+        script.cut(),
+    );
     match machine {
         Ok(machine) => Ok(machine),
         Err(_) => Err(AllocError),

@@ -1,6 +1,6 @@
 //! What each line means, and how a faulty one is told.
 
-use crate::{HEADER, assert_told};
+use crate::{HEADER, assert_told, played};
 use geesetrunk_kit::ArrayString;
 use geesetrunk_kit::alloc::Global;
 use proved_uart_machine::script::{Script, parse};
@@ -77,14 +77,40 @@ fn each_chip_has_its_model_and_its_fifos() {
         ("16750", Chip::Uart16550A, FifoSize::SixtyFour),
         ("16850", Chip::Uart16550A, FifoSize::OneHundredTwentyEight),
         ("16950", Chip::Uart16550A, FifoSize::OneHundredTwentyEight),
-        (
-            "16550a-256",
-            Chip::Uart16550A,
-            FifoSize::TwoHundredFiftySix,
-        ),
+        ("16550a-256", Chip::Uart16550A, FifoSize::TwoHundredFiftySix),
     ] {
         let script = parsed(format!("chip {name} 4 64").as_bytes());
         assert_eq!((script.chip(), script.fifo_size()), (model, size), "{name}");
+    }
+}
+
+// With a FIFO of 16 in place of a larger one, less is left of what arrives.
+#[test]
+fn each_chip_has_room_for_what_its_fifos_hold() {
+    for (name, room) in [
+        ("16550a", 16),
+        ("16650", 32),
+        ("16750", 64),
+        ("16850", 128),
+        ("16950", 128),
+        ("16550a-256", 256),
+    ] {
+        for cut in ["", " cut"] {
+            let arrivals = "arrive 41\n".repeat(room + 1);
+            let head = format!("chip {name} 4 64{cut}\ninit 14 9600 nocts 00 8\n");
+            let mut output = Vec::new();
+            played(
+                format!("{head}next\n{arrivals}lsr\n").as_bytes(),
+                &mut output,
+            )
+            .unwrap();
+            let wanted = format!(
+                "ok\nok\nok 63\nwire -\nheld -\nwaiting {}\nmarks {}x\n",
+                "41".repeat(room),
+                "w".repeat(room)
+            );
+            assert_eq!(String::from_utf8_lossy(&output), wanted, "{name}{cut}");
+        }
     }
 }
 
