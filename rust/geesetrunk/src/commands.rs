@@ -111,7 +111,7 @@ const FIFO: Flag = Flag {
 const CHIP: Flag = Flag {
     name: "chip",
     value: Some("CHIP"),
-    help: "The chip: 16550a, or 16450, which has no FIFOs [default: 16550a]",
+    help: "The chip, as a script names it: 16750 has FIFOs of 64, 16450 has none [default: 16550a]",
 };
 
 const RECORDING: Operand = Operand {

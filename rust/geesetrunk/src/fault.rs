@@ -74,7 +74,7 @@ fn misplaced(number: u32, line: &[u8]) -> &'static str {
     } else if number > 1 && is_ring_line(line) {
         "the words of the rings come after the line of rings"
     } else if number == 1 {
-        "the first line names the chip: chip 16550a|16450 T W [cut]"
+        "the first line names the chip: chip NAME T W [cut]"
     } else if first_word(line) == b"limit" {
         "only line 2 may set the limit"
     } else {

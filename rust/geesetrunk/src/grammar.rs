@@ -14,7 +14,7 @@ use uart_ring::MAX_CAPACITY;
 /// A field of a line.
 #[derive(Clone, Copy, Debug, PartialEq, Eq)]
 pub enum Field {
-    /// The model of the chip.
+    /// The kind of chip.
     Chip,
     /// The ticks of a character.
     CharTicks,
@@ -74,7 +74,7 @@ impl Field {
     /// Returns what the field accepts, for people.
     pub fn wants(self) -> &'static str {
         match self {
-            Field::Chip => "a chip: 16550a or 16450",
+            Field::Chip => "a chip: 16550a, 16450, 16650, 16750, 16850, 16950 or 16550a-256",
             Field::CharTicks => "how many ticks a character takes: a number from 1 to 1000",
             Field::WireRoom => "how many bytes the wire has room for: a number from 0 to 65536",
             Field::Cut => "cut, or nothing",
@@ -154,7 +154,7 @@ pub struct Form {
 // The first word of a usage is that of the line.
 const FORMS: [Form; 28] = [
     Form {
-        usage: "chip 16550a|16450 T W [cut]",
+        usage: "chip NAME T W [cut]",
         fields: &[Field::Chip, Field::CharTicks, Field::WireRoom, Field::Cut],
     },
     Form {

@@ -7,7 +7,9 @@ use crate::known::{Known, Scale};
 use crate::piece::Piece;
 use geesetrunk_kit::alloc::AllocError;
 use std::io::{self, Read};
-use uart_judges::audit::{Answers, Auditor, ChipAuditor, Finding, Findings, Severity};
+use uart_judges::audit::{
+    Answers, Auditor, ChipAuditor, Finding, Findings, MOST_UNREAD, Severity, Unread,
+};
 use uart_judges::recording::{Entry, Happening, Recording, RecordingError};
 use uart_judges::replay::{Difference, Replayer, Start};
 use uart_spec::access::Access;
@@ -77,6 +79,9 @@ pub trait Steps: Copy + PartialEq {
 
     /// Returns whether an equal entry at another time would change nothing that this one did not.
     fn is_timeless(&self) -> bool;
+
+    /// Returns the characters that are known to wait.
+    fn unread_mut(&mut self) -> &mut Unread;
 }
 
 impl Steps for Auditor {
@@ -94,6 +99,10 @@ impl Steps for Auditor {
     fn is_timeless(&self) -> bool {
         self.going_out == 0 && self.up.is_none()
     }
+
+    fn unread_mut(&mut self) -> &mut Unread {
+        &mut self.unread
+    }
 }
 
 impl Steps for ChipAuditor {
@@ -110,6 +119,10 @@ impl Steps for ChipAuditor {
     // Time changes what is known only while bytes go out.
     fn is_timeless(&self) -> bool {
         self.seen.going_out == 0
+    }
+
+    fn unread_mut(&mut self) -> &mut Unread {
+        &mut self.seen.unread
     }
 }
 
@@ -149,6 +162,17 @@ impl Audited {
 }
 
 impl<A: Steps> Audited<A> {
+    // Forgets the characters that wait, before one more arrives than the judge follows: it would take that one for lost, and a FIFO with
+    // more room has it.
+    fn make_room(&mut self, known: &Known, entry: &Entry) {
+        let is_arrival = matches!(entry.happening, Happening::Arrive { .. });
+        let unread = self.auditor.unread_mut();
+        if is_arrival && usize::from(known.fifo_room()) > MOST_UNREAD && unread.count == MOST_UNREAD
+        {
+            *unread = Auditor::new().unread;
+        }
+    }
+
     /// Goes on by an entry, which is made so many times as it says, and tells what is found, with
     /// how many times in turn. A judge that an entry leaves as it was finds the same at each that
     /// follows: from the third equal read on it knows no more, but for bytes that wait, of which
@@ -263,11 +287,13 @@ impl DriverJudge {
                 }
             }
         };
+        self.usual.make_room(&known, entry);
         match &mut self.scaled {
             None => self
                 .usual
                 .step(entry, |findings, times| tell_all(findings, times, |_| true)),
             Some((scaled, scale)) => {
+                scaled.make_room(&known, entry);
                 scaled.step(&scale.scaled(entry), |findings, times| {
                     tell_all(findings, times, |finding| !is_about_time(finding));
                 });
@@ -334,7 +360,7 @@ impl ChipJudge {
             known: *known,
             audited,
             scale: known.clock.map(Scale::new),
-            replayer: Replayer::new(known.chip, Start::InUse),
+            replayer: Replayer::new(known.chip.model, Start::InUse),
         }
     }
 
@@ -382,6 +408,7 @@ impl ChipJudge {
             Some(scale) => scale.scaled(entry),
             None => *entry,
         };
+        self.audited.make_room(&known, entry);
         self.audited.step(&timed, |findings, times| {
             for &finding in findings.iter().flatten() {
                 if let Some(finding) = known.adapted(finding) {

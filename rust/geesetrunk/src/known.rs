@@ -4,9 +4,10 @@ use std::num::NonZeroU64;
 use uart_chip::Chip;
 use uart_judges::audit::{Auditor, Finding, Setup};
 use uart_judges::recording::{Entry, Happening};
-use uart_spec::FIFO_SIZE;
+use uart_language::fields::ChipKind;
 use uart_spec::access::Access;
 use uart_spec::registers::offsets;
+use uart_spec::{FIFO_SIZE, FifoSize};
 
 /// The clock at which the judges take a divisor, in hertz.
 pub const USUAL_CLOCK: u64 = 1_843_200;
@@ -36,7 +37,7 @@ pub struct Known {
     /// The FIFOs at the beginning.
     pub fifo: Option<Fifo>,
     /// The chip.
-    pub chip: Chip,
+    pub chip: ChipKind,
 }
 
 impl Default for Known {
@@ -45,7 +46,10 @@ impl Default for Known {
             clock: None,
             divisor: None,
             fifo: None,
-            chip: Chip::Uart16550A,
+            chip: ChipKind {
+                model: Chip::Uart16550A,
+                size: FifoSize::Sixteen,
+            },
         }
     }
 }
@@ -59,7 +63,7 @@ impl Known {
             auditor.setup.divisor.low = Some(low);
             auditor.setup.divisor.high = Some(high);
         }
-        auditor.setup.has_fifo = match (self.chip, self.fifo) {
+        auditor.setup.has_fifo = match (self.chip.model, self.fifo) {
             (Chip::Uart16450, _) | (_, Some(Fifo::Off)) => Some(false),
             (_, Some(Fifo::Bytes(_))) => Some(true),
             (_, None) => None,
@@ -73,14 +77,21 @@ impl Known {
             entry.happening,
             Happening::Access(Access::Write(offsets::FCR, _))
         );
-        self.chip == Chip::Uart16550A || !is_fcr
+        self.chip.model == Chip::Uart16550A || !is_fcr
     }
 
-    /// Returns a finding as it is with FIFOs of another size, or `None` if it is none then. The judges take them to have 16 bytes.
+    /// Returns how many bytes a FIFO that is on has room for.
+    pub fn fifo_room(&self) -> u16 {
+        match self.fifo {
+            Some(Fifo::Bytes(size)) => size,
+            // At most `MOST_FIFO`.
+            _ => self.chip.size.characters() as u16,
+        }
+    }
+
+    /// Returns a finding as it is with FIFOs of this size, or `None` if it is none then. The judges take them to have 16 bytes.
     pub fn adapted(&self, finding: Finding) -> Option<Finding> {
-        let Some(Fifo::Bytes(size)) = self.fifo else {
-            return Some(finding);
-        };
+        let size = self.fifo_room();
         match finding {
             Finding::SentBeyondRoom { sent, room } if usize::from(room) == FIFO_SIZE => {
                 (sent > size.into()).then_some(Finding::SentBeyondRoom {
@@ -88,8 +99,6 @@ impl Known {
                     room: size.min(u8::MAX.into()) as u8,
                 })
             }
-            // What a FIFO with more room loses, the judge does not know.
-            Finding::OverrunHidden if usize::from(size) > FIFO_SIZE => None,
             other => Some(other),
         }
     }
@@ -177,6 +186,18 @@ mod tests {
         assert_eq!(known.adapted(beyond(64, 16)), None);
         assert_eq!(known.adapted(beyond(65, 16)), Some(beyond(65, 64)));
         assert_eq!(known.adapted(beyond(2, 1)), Some(beyond(2, 1)));
+        let named = |size| Known {
+            chip: ChipKind {
+                model: Chip::Uart16550A,
+                size,
+            },
+            ..Known::default()
+        };
+        let known = named(FifoSize::SixtyFour);
+        assert_eq!(known.adapted(beyond(64, 16)), None);
+        assert_eq!(known.adapted(beyond(65, 16)), Some(beyond(65, 64)));
+        let known = named(FifoSize::Sixteen);
+        assert_eq!(known.adapted(beyond(17, 16)), Some(beyond(17, 16)));
     }
 
     #[test]

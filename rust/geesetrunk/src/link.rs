@@ -13,7 +13,7 @@ use crate::history::History;
 use crate::picture::{DrawnEnd, picture_of_link};
 use crate::ring_language::{AnyScript, RingScript, parse};
 use crate::rings::{Scheduled, ring_lines, rings_over, run_rings};
-use crate::script::title;
+use crate::script::{kind_of, title};
 use crate::streams::{bytes_of, print};
 use crate::terminal::Style;
 use crate::text::{STANDARD_INPUT, lines, words};
@@ -354,7 +354,7 @@ fn told(
     let drawn = |side: usize, file: &str| DrawnEnd {
         title: format!("{}: {}", SIDES[side], title(file, scripts[side].plain())),
         name: SIDES[side],
-        chip: scripts[side].plain().chip(),
+        chip: kind_of(scripts[side].plain()),
         history: &histories[side],
         moments: ends[side].history().0,
         spans: ends[side].history().1,

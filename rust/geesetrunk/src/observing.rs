@@ -60,14 +60,16 @@ fn spread(events: &[Event]) -> Result<List<Event>, AllocError> {
 
 // Returns the machine of a script, under that schedule.
 fn machine_for(script: &Script) -> Result<Device16550, AllocError> {
-    let (chip, ticks, capacity) = (script.chip(), script.ticks(), script.wire_capacity());
-    let schedule = spread(script.events())?;
-    let build = if script.cut() {
-        Device16550::new_cut
-    } else {
-        Device16550::new
-    };
-    build(heap(), chip, ticks, capacity, schedule).map_err(|_| AllocError)
+    Device16550::new_sized(
+        heap(),
+        script.chip(),
+        script.fifo_size(),
+        script.ticks(),
+        script.wire_capacity(),
+        spread(script.events())?,
+        script.cut(),
+    )
+    .map_err(|_| AllocError)
 }
 
 /// The second machine, and what shows what happens to it.

@@ -3,10 +3,11 @@
 use crate::command_line::{Given, Reply};
 use crate::commands::GEESETRUNK;
 use crate::end::End;
+use crate::grammar::Field;
 use crate::import::{Import, Kind, MOST_STRIDE, Window};
 use crate::known::{Fifo, Known, MOST_FIFO};
 use std::num::NonZeroU64;
-use uart_chip::Chip;
+use uart_language::fields::chip_in;
 
 /// Returns what options of `geesetrunk audit` say about a log and its chip. They are words with spaces between them.
 ///
@@ -132,11 +133,7 @@ pub fn known_of(given: &Given) -> Result<Known, End> {
             .filter(|size| (1..=MOST_FIFO).contains(size))
             .map(Fifo::Bytes),
     };
-    let chip = |word: &str| match word {
-        "16550a" => Some(Chip::Uart16550A),
-        "16450" => Some(Chip::Uart16450),
-        _ => None,
-    };
+    let chip = |word: &str| chip_in(word.as_bytes()).ok();
     Ok(Known {
         clock: value_of(given, "clock", clock, "a number of hertz, as 1843200")?,
         divisor: value_of(given, "divisor", divisor, "a number from 1 to 65535")?,
@@ -146,6 +143,6 @@ pub fn known_of(given: &Given) -> Result<Known, End> {
             fifo,
             &format!("off, or a number of bytes from 1 to {MOST_FIFO}"),
         )?,
-        chip: value_of(given, "chip", chip, "16550a or 16450")?.unwrap_or(Chip::Uart16550A),
+        chip: value_of(given, "chip", chip, Field::Chip.wants())?.unwrap_or(Known::default().chip),
     })
 }

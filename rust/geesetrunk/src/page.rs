@@ -10,6 +10,6 @@ mod state;
 
 pub use beside::{Beside, WIRE, chip_of};
 pub use document::{page_of_run, print_page_of_log};
-pub use exploring::{explored, played};
+pub use exploring::{ONLY_SIXTEEN, explored, played};
 pub use recorded::{entries, explanations_of_all, findings};
 pub use state::state_of;

@@ -7,14 +7,16 @@ pub use of_link::{DrawnEnd, picture_of_link};
 use crate::boxes::{self, COLUMN, LETTER, STYLE, cut, escaped, letters_in, rectangle};
 use crate::end::End;
 use crate::history::{History, ToldCall};
+use crate::known::Known;
 use crate::moments::{Arrival, Moment};
 use crate::observing::{Show, observe};
 use crate::repeats::{Merging, Shown, merged};
 use crate::ring_language::AnyScript;
+use crate::script::kind_of;
 use std::fmt::Write;
 use std::io;
 use uart_chip::Chip;
-use uart_spec::FIFO_SIZE;
+use uart_language::fields::ChipKind;
 
 // How many moments are in a band, and the room for names to the left of them.
 const COLUMNS: usize = 34;
@@ -82,10 +84,11 @@ impl Lane {
     }
 
     // Returns how many characters a full bar of this row is: as many as the chip has room for.
-    fn most(self, chip: Chip) -> Option<usize> {
-        match (self, chip) {
-            (Lane::Waiting, Chip::Uart16550A) => Some(FIFO_SIZE),
-            (Lane::Held, Chip::Uart16550A) => Some(FIFO_SIZE + 1),
+    fn most(self, chip: ChipKind) -> Option<usize> {
+        let room = chip.size.characters();
+        match (self, chip.model) {
+            (Lane::Waiting, Chip::Uart16550A) => Some(room),
+            (Lane::Held, Chip::Uart16550A) => Some(room + 1),
             (Lane::Waiting, Chip::Uart16450) => Some(1),
             (Lane::Held, Chip::Uart16450) => Some(2),
             _ => None,
@@ -191,7 +194,7 @@ impl Show for Columns<'_> {
 struct Drawing<'a> {
     // The name of the last row.
     clock: &'static str,
-    chip: Chip,
+    chip: ChipKind,
     // The run, and `None` if it is a recording.
     history: Option<&'a History>,
 }
@@ -390,7 +393,7 @@ pub fn picture(
     check_columns(cells.len(), "take --text, or a shorter script")?;
     let drawing = Drawing {
         clock: "tick",
-        chip: script.plain().chip(),
+        chip: kind_of(script.plain()),
         history: Some(history),
     };
     Ok(drawing.picture(title, &cells, &history.last))
@@ -429,7 +432,7 @@ pub fn picture_of_recording(moments: &[Moment], warnings: &[String], title: &str
     let drawing = Drawing {
         clock: "line",
         // No bar is drawn of a recording, so any chip will do.
-        chip: Chip::Uart16550A,
+        chip: Known::default().chip,
         history: None,
     };
     drawing.picture(title, &cells, &lines)

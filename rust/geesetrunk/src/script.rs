@@ -5,7 +5,7 @@ use crate::excerpt::Form;
 use crate::fault::Explanation;
 use crate::heap;
 use crate::history::History;
-use crate::page::page_of_run;
+use crate::page::{ONLY_SIXTEEN, page_of_run};
 use crate::picture::picture;
 use crate::ring_language::{AnyScript, parse};
 use crate::rings::play_rings;
@@ -17,8 +17,10 @@ use crate::trace::{write_ring_trace, write_trace};
 use std::fs::File;
 use std::io::{self, Write};
 use uart_chip::Chip;
+use uart_language::fields::ChipKind;
 use uart_language::{Script, ScriptError};
 use uart_play::{PlayError, Std, play};
+use uart_spec::FifoSize;
 use uart_trace::{MOST_READ, plain};
 
 /// What to do with a script.
@@ -36,14 +38,27 @@ pub enum Task {
     Page,
 }
 
+/// Returns the kind of chip of a script.
+pub fn kind_of(script: &Script) -> ChipKind {
+    ChipKind {
+        model: script.chip(),
+        size: script.fifo_size(),
+    }
+}
+
+// Returns the name of a chip, with the size of its FIFOs if they are larger than those of its model.
+fn name_of(chip: ChipKind) -> String {
+    match (chip.model, chip.size) {
+        (Chip::Uart16450, _) => "16450".into(),
+        (Chip::Uart16550A, FifoSize::Sixteen) => "16550A".into(),
+        (Chip::Uart16550A, size) => format!("16550A with FIFOs of {}", size.characters()),
+    }
+}
+
 /// Returns the title of a timeline: the file by its name, without the folders that it lies in, and the
 /// chip of its script.
 pub fn title(file: &str, script: &Script) -> String {
-    let name = file_name(file);
-    let chip = match script.chip() {
-        Chip::Uart16550A => "16550A",
-        Chip::Uart16450 => "16450",
-    };
+    let (name, chip) = (file_name(file), name_of(kind_of(script)));
     format!("{name}: {chip}, {} ticks a character", script.ticks())
 }
 
@@ -94,6 +109,10 @@ fn write_output(
             }
             AnyScript::Rings(_) => write_ring_trace(script, text, &history(), out),
         },
+        Task::Page if script.plain().fifo_size() != FifoSize::Sixteen => {
+            let others = "take the picture, or --text";
+            Err(End::failed(format!("{file}: {ONLY_SIXTEEN}: {others}")))
+        }
         Task::Page => {
             let page = page_of_run(file_name(file), text);
             out.write_all(page.as_bytes()).map_err(End::unwritten)

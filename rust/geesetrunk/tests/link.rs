@@ -166,7 +166,7 @@ fn hex(random: &mut Random) -> String {
 
 // A script with an `init` and some calls that neither discard what waits nor look into loopback.
 fn any_script(random: &mut Random) -> String {
-    let chip = random.pick(&["16550a", "16450"]);
+    let chip = random.pick(&["16550a", "16450", "16650", "16850"]);
     let ticks = random.pick(&[1, 4, 9]);
     let level = random.pick(&["off", "1", "14"]);
     let checks = random.pick(&["cts", "nocts"]);

@@ -4,6 +4,8 @@ mod common;
 
 use common::{EXAMPLES, GEESETRUNK, Random, parts, run};
 use std::fs;
+use std::iter;
+use std::ops::Range;
 use std::path::Path;
 
 fn log(name: &str) -> Vec<u8> {
@@ -334,6 +336,11 @@ fn what_is_known_of_a_chip_counts() {
         (&["--chip", "16450"], 2, true),
         (&["--fifo", "64"], 64, false),
         (&["--fifo", "64"], 65, true),
+        (&["--chip", "16750"], 64, false),
+        (&["--chip", "16750"], 65, true),
+        (&["--chip", "16550a-256"], 256, false),
+        (&["--chip", "16750", "--fifo", "off"], 2, true),
+        (&["--chip", "16750", "--fifo", "32"], 33, true),
     ] {
         let output = run(
             GEESETRUNK,
@@ -362,6 +369,29 @@ fn what_is_known_of_a_chip_counts() {
         ));
         assert_eq!(status, 2);
         assert!(error.contains(words[0]), "{error}");
+    }
+}
+
+// The judges follow 16 characters that wait. They do not say that a FIFO with more room has lost the others.
+#[test]
+fn a_larger_fifo_keeps_what_arrives() {
+    let arrives = |bytes: Range<u8>| bytes.map(|byte| format!("a 00 {byte:02x}\n"));
+    let is_read = |bytes: Range<u8>| bytes.map(|byte| format!("r 5 61\nr 0 {byte:02x}\n"));
+    let recording: String = iter::once("w 2 07\nr 5 60\n".into())
+        .chain(arrives(0..20))
+        .chain(is_read(0..10))
+        .chain(arrives(20..21))
+        .chain(is_read(10..21))
+        .chain(iter::once("r 5 60\n".into()))
+        .collect();
+    for (words, status) in [
+        (&[][..], 1),
+        (&["--fifo", "64"], 0),
+        (&["--chip", "16750"], 0),
+    ] {
+        let words = [&["replay"][..], words].concat();
+        let output = run(GEESETRUNK, &words, recording.as_bytes());
+        assert_eq!(output.status.code(), Some(status), "{words:?}");
     }
 }
 

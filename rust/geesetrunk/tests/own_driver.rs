@@ -112,7 +112,7 @@ fn script(numbers: &mut Numbers) -> String {
     let mut lines = vec![
         format!(
             "chip {} {} {}",
-            numbers.one_of(&["16550a", "16450"]),
+            numbers.one_of(&["16550a", "16450", "16750", "16550a-256"]),
             1 + numbers.below(40),
             1000 * numbers.below(2)
         ),

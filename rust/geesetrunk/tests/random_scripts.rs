@@ -185,7 +185,7 @@ fn line(random: &mut Random) -> String {
 }
 
 fn script(random: &mut Random) -> String {
-    let chip = random.pick(&["16550a", "16550a", "16450"]);
+    let chip = random.pick(&["16550a", "16550a", "16450", "16650", "16750", "16950"]);
     let ticks = random.pick(&[1, 1, 2, 4, 7, 1000]);
     let room = random.pick(&[0, 1, 5, 64, 65_536]);
     let cut = random.pick(&["", "", "", " cut"]);

@@ -57,14 +57,14 @@ impl End {
     ///
     /// `AllocError` if out of memory.
     pub fn new(side: usize, script: &Script, arrivals: usize) -> Result<Self, AllocError> {
-        let (ticks, capacity) = (script.ticks(), script.wire_capacity());
         Ok(End {
             side,
-            chip: Uart::new(
+            chip: Uart::new_sized(
                 heap(),
                 script.chip(),
-                ticks,
-                capacity,
+                script.fifo_size(),
+                script.ticks(),
+                script.wire_capacity(),
                 arrivals,
                 script.cut(),
             )?,

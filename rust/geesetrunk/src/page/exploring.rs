@@ -20,7 +20,14 @@ use std::fmt::Write;
 use std::io;
 use uart_chip::Chip;
 use uart_language::{Cause, ScriptError};
+use uart_spec::FifoSize;
 use uart_trace::plain;
+
+/// What a page says of a chip with larger FIFOs. The live chip that goes beside a run has FIFOs of 16.
+pub const ONLY_SIXTEEN: &str = "a page shows no chip with FIFOs of more than 16 characters";
+
+// The column of the chip's name in the first line.
+const NAME_COLUMN: usize = "chip ".len() + 1;
 
 // The most steps that are kept. The others are counted.
 const MOST: usize = 20_000;
@@ -294,6 +301,9 @@ pub fn explored(bytes: &[u8]) -> String {
         return out_of_memory();
     };
     match parse(&text) {
+        Ok(script) if script.plain().fifo_size() != FifoSize::Sixteen => {
+            refused(1, NAME_COLUMN, ONLY_SIXTEEN, "16550a or 16450")
+        }
         Ok(script) => run_of(&script, &text).unwrap_or_else(out_of_memory),
         Err(ScriptError::OutOfMemory) => out_of_memory(),
         Err(ScriptError::Refused { line, cause }) => why_refused(bytes, line, cause),
@@ -312,6 +322,15 @@ mod tests {
         assert!(run.contains(",\"times\":300000,"), "{run}");
         assert!(run.contains("\"stray\":null"));
         assert!(run.matches("\"state\":").count() < 60, "{run}");
+    }
+
+    #[test]
+    fn larger_fifos_are_not_shown() {
+        let refused = explored(b"chip 16750 4 64\nlsr\n");
+        assert!(
+            refused.starts_with(r#"{"line":1,"column":6,"cause":"a page shows no chip"#),
+            "{refused}"
+        );
     }
 
     #[test]

@@ -8,7 +8,7 @@ use crate::history::History;
 use crate::link::Span;
 use crate::repeats::Shown;
 use std::fmt::Write;
-use uart_chip::Chip;
+use uart_language::fields::ChipKind;
 
 // The room for the name of an end above its rows, and between two bands.
 const NAME: usize = 18;
@@ -22,7 +22,7 @@ pub struct DrawnEnd<'a> {
     /// Its name.
     pub name: &'static str,
     /// Its chip.
-    pub chip: Chip,
+    pub chip: ChipKind,
     /// Its calls, and the last state of its chip.
     pub history: &'a History,
     /// What happened at it.
