@@ -125,18 +125,18 @@ live-steady c d w s whole k = record { whole = whole; no_marks = s.known ∙ w.n
 pub live-read : (offset : ℕ) (c : ChipState) → IsLive c → IsLive (after_read offset c)
 live-read offset c w =
     live-steady c _ w (steady_read offset c w.whole.sound.chip) (whole_read offset (record { chip = c; ahead = [] }) w.whole)
-    (keeps-read offset c (w.none_lost, w.room, w.size))
+    (keeps-read offset c (w.none_lost, (w.room, w.size)))
 
 pub live-write : (offset value : ℕ) (c : ChipState) → value < 256 → IsLive c → IsLive (after_write offset value c)
 live-write offset value c v w =
     live-steady c _ w (steady_write offset value c w.whole.sound.chip) (whole_write offset value
     (record { chip = c; ahead = [] }) v w.whole)
-    (keeps-write offset value c (w.none_lost, w.room, w.size))
+    (keeps-write offset value c (w.none_lost, (w.room, w.size)))
 
 pub live-ticks : (n : ℕ) (c : ChipState) → IsLive c → IsLive (ticks n c)
 live-ticks n c w =
     live-steady c _ w (steady_ticks n c w.whole.sound.chip) (whole_ticks n c (ticks n c) [] refl w.whole)
-    (keeps-ticks n c (w.none_lost, w.room, w.size))
+    (keeps-ticks n c (w.none_lost, (w.room, w.size)))
 
 pub live-lines : (inputs : ℕ) (c : ChipState) → IsWithin inputs MSR.LINES.0 → IsLive c → IsLive (change_lines inputs c)
 live-lines inputs c i w =
@@ -145,7 +145,7 @@ live-lines inputs c i w =
       sound = record { chip = w.whole.sound.chip; foreseen = w.whole.sound.foreseen; legal = (i, tt) };
       bytes = w.whole.bytes;
     }))
-    (w.none_lost, w.room, w.size)
+    (w.none_lost, (w.room, w.size))
 
 -- a move of one part that leaves the latches alone
 pub live-part : (c d : ChipState) → IsLive c → Steady c.receiver.arrived c d → d.latches ≡ c.latches → Keeps d → IsLive d
@@ -164,7 +164,7 @@ live-arrival byte errors c l w =
     live-part c (arrive_live byte errors c) w
     (steady_receiver c.receiver.arrived c (receiver.arrive_live loopback c.fifo (cut_of c byte) errors c.receiver) w.whole.sound.chip
     (safe_bring loopback c.fifo c.receiver (cut_of c byte) errors w.whole.sound.chip.receiver l)) refl
-    (none_lost-arrival loopback c.fifo (cut_of c byte) errors c.receiver w.none_lost, w.room, w.size)
+    (none_lost-arrival loopback c.fifo (cut_of c byte) errors c.receiver w.none_lost, (w.room, w.size))
 
 pub live-expire : (c : ChipState) → IsLive c → IsLive (expire c)
 live-expire c w =
@@ -189,7 +189,7 @@ live-expire c w =
       limit = refl;
       size = refl;
     })) refl
-    (w.none_lost, w.room, w.size)
+    (w.none_lost, (w.room, w.size))
 
 pub live-hold : (byte errors : ℕ) (c : ChipState) → IsWithin errors LSR.CHARACTER_ERRORS.0 → IsLive c →
     IsLive (arrive_holding byte errors c)
@@ -207,7 +207,7 @@ live-take count c w =
     (steady_transmitter c (transmitter.take_wire count c.transmitter) w.whole.sound.chip
     (record { in_room = t.in_room; ticking = t.ticking; at_least_one = t.at_least_one; at_most = t.at_most; on_wire = fewer })
     refl refl) refl
-    (w.none_lost, w.room, w.size)
+    (w.none_lost, (w.room, w.size))
 
 -- ---- a new chip
 
