@@ -6,10 +6,10 @@ use Rattle.uart_spec.specs.declared.access.Access.TheVariants.{Read, Write}
 use Rattle.uart_events.specs.declared.event.Chip.{Chip}
 use Rattle.uart_chip.specs.Modem.{lines_under}
 use Rattle.uart_chip.specs.Chip.{ChipState, after_read, after_write}
-use Rattle.uart_chip.specs.Machine.{MachineState, MachineStep, fresh, at_access}
+use Rattle.uart_chip.specs.Machine.{MachineState, MachineStep, at_access}
 use Rattle.uart_chip.specs.Sound.{IsSound}
 use Rattle.uart_chip.proofs.lasting.Lasting.{LastsInEvents, chip_lasts-before}
-use Rattle.uart_chip.proofs.soundness.Builds.{whole_fresh, whole_cutting}
+use Rattle.uart_chip.proofs.soundness.Builds.{whole_sized}
 use Rattle.uart_chip.proofs.soundness.Sounds.{sound_access, sound_step}
 use Rattle.uart_judges.specs.Replays.{Seen, Did, Asked, SeenPath, IsBuilt}
 use Rattle.uart_chip.proofs.AccessMoves.{ReadMove, takes, read_move, WriteMove, steers, write_lasts}
@@ -71,8 +71,6 @@ machine_seen m n (Asked offset ∷ seen) w p =
 pub machine_built : (model : Chip) (m : MachineState) → IsBuilt model m → IsMachine m
 machine_built model m b =
     rw b.built (record {
-      sound =
-          (whole_cutting b.cuts (fresh model b.char_ticks b.capacity b.events)
-          (whole_fresh model b.char_ticks b.capacity b.events b.accepted)).sound;
+      sound = (whole_sized model b.size b.char_ticks b.capacity b.cuts b.events b.accepted).sound;
       looped = refl;
     })

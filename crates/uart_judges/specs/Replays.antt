@@ -4,10 +4,11 @@ use Rattle.std.specs.Prelude.{IsSome, is_some, ⊤}
 use Rattle.uart_spec.specs.Access.{Path}
 use Rattle.uart_spec.specs.declared.access.Access.{Access}
 use Rattle.uart_spec.specs.declared.access.Access.TheVariants.{Read, Write}
+use Rattle.uart_spec.specs.declared.setup.FifoSize.{FifoSize}
 use Rattle.uart_events.specs.declared.event.Chip.{Chip}
 use Rattle.uart_events.specs.declared.event.Event.{Event}
 use Rattle.uart_events.specs.Build.{refusal}
-use Rattle.uart_chip.specs.Machine.{MachineState, MachineStep, fresh, cutting}
+use Rattle.uart_chip.specs.Machine.{MachineState, MachineStep, fresh, cutting, sized}
 use Rattle.uart_judges.specs.declared.replay.difference.Difference.{Difference}
 use Rattle.uart_judges.specs.declared.replay.difference.Reported.{Reported}
 use Rattle.uart_judges.specs.declared.replay.known.Known.{Known}
@@ -39,15 +40,16 @@ abbrev pub SeenPath : MachineState → List Seen → MachineState → Type 0
 SeenPath m [] n = n ≡ m
 SeenPath m (access ∷ accesses) n = (mid : MachineState) × SeenStep m access mid × SeenPath mid accesses n
 
--- a machine of this model after power-on, with any schedule: ticks, arrivals, changes of lines, in any order, before
--- each access
+-- a machine of this model after power-on, with FIFOs of any size and any schedule: ticks, arrivals, changes of lines,
+-- in any order, before each access
 pub record IsBuilt (model : Chip) (m : MachineState) : Type 0 where
+  pub size : FifoSize
   pub char_ticks : ℕ
   pub capacity : ℕ
   pub events : List Event
   pub cuts : Bool
   pub accepted : refusal char_ticks capacity events ≡ None
-  pub built : m ≡ cutting cuts (fresh model char_ticks capacity events)
+  pub built : m ≡ sized size (cutting cuts (fresh model char_ticks capacity events))
 
 -- a machine of this model that was built, after any accesses
 pub record IsUsed (model : Chip) (m : MachineState) : Type 0 where
