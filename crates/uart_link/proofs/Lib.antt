@@ -27,3 +27,4 @@ pub mod Taking
 pub mod SendsOn
 pub mod Rounds
 pub mod Agrees
+pub mod XoffEnds

@@ -41,6 +41,7 @@ use Rattle.uart_link.proofs.LinkTold.{tells_drops}
 use Rattle.uart_link.proofs.Rounds.{progresses, empties_receiver, keeps_rts_on, all_leave_armed}
 use Rattle.uart_link.proofs.Takings.{takes_all_gone}
 use Rattle.uart_link.proofs.Wholes.{delivers, carries_all}
+use Rattle.uart_link.proofs.XoffEnds.{all_tell_and_hold}
 use Rattle.uart_link.proofs.XoffFlows.{xoff_drops_nothing}
 
 -- ---- characters that have not arrived are not dropped
@@ -217,6 +218,8 @@ link_conserves a b steps sound_left sound_right wired_left wired_right joined re
           (drops_nothing x y pace end a b steps w v joined chain paced);
       whole_by_xoff = λ end pace paced. delivers end a b steps (sound_there end) (all steps b chain end)
           (xoff_drops_nothing x y pace end a b steps w v joined chain paced);
+      told_and_held = λ end. all_tell_and_hold x y end steps a b (record { left = w; right = v; joined = joined }) (cuts_nothing a.left)
+          (cuts_nothing a.right) chain;
       agreed = λ end. keeps_agreed x y end a b steps w v joined (cuts_nothing a.left) (cuts_nothing a.right)
           (λ u o part in_left in_right between within. carries x y u o part in_left in_right between (cuts_nothing a.left)
           (cuts_nothing a.right) within end) chain;

@@ -91,12 +91,12 @@ sent_end x moments there s t c a w h =
 
 -- a call at an end: if it leaves the transmit ring held, no more bytes leave the driver than urgent ones that waited or were queued; no
 -- more of them wait then; and only `adjust_xoff` changes what was told last
-record Urges (c : RingCall) (a : RingAnswer) (s t : RingState) : Type 0 where
+pub record Urges (c : RingCall) (a : RingAnswer) (s t : RingState) : Type 0 where
   pub held : is_holding t ≡ true → sent_of t + urgent_at t ≤ sent_of s + (urgent_at s + urged_by c a)
   pub urgent : urgent_at t ≤ urgent_at s + urged_by c a
   pub told : xoff_hold_of c ≡ None → has_told t ≡ has_told s
 
-urges : (x : Modes) (moments : List Moment) (there s t : RingState) (c : RingCall) (a : RingAnswer) → InEnd x s →
+pub urges : (x : Modes) (moments : List Moment) (there s t : RingState) (c : RingCall) (a : RingAnswer) → InEnd x s →
     EndStep moments there s c a t → Urges c a s t
 urges x moments there s t c a w h =
     let p = sent_end x moments there s t c a w h in

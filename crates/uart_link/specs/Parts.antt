@@ -12,13 +12,14 @@ use Rattle.uart_link.specs.Flow.{Pace, IsPaced, Delivers}
 use Rattle.uart_link.specs.Link.{Step, LinkCallStep, LinkChain}
 use Rattle.uart_link.specs.Progress.{Progresses, EmptiesReceiver, KeepsRtsOn, AllLeaveArmed}
 use Rattle.uart_link.specs.Told.{TellsDrops}
-use Rattle.uart_link.specs.Xoff.{XoffPace, IsPacedByXoff}
+use Rattle.uart_link.specs.Xoff.{XoffPace, IsPacedByXoff, AllTellAndHold}
 
 -- a part of a run carries the bytes of both ends; an end that never clears its receive ring has taken all that left
 -- it; a `take_line` at its end tells of a drop; if both programs keep to flow control from one end to the other, by RTS
--- or by XOFF, no character is dropped there, and all is carried; an end holds its transmit ring as it was told by XOFF
--- and XON; if there are rounds enough, all is taken that was queued; a run of the handler empties the receiver; RTS
--- stays on that was turned on; rings that are armed stay so; and a part may follow for which all this holds
+-- or by XOFF, no character is dropped there, and all is carried; what an end tells by XOFF goes out next, and a ring
+-- that is held stays; an end holds its transmit ring as it was told by XOFF and XON; if there are rounds enough, all is
+-- taken that was queued; a run of the handler empties the receiver; RTS stays on that was turned on; rings that are
+-- armed stay so; and a part may follow for which all this holds
 pub record LinkConserves (a : Link) (steps : List Step) (b : Link) : Type 0 where
   pub rightward : Carries Left a steps b
   pub leftward : Carries Right a steps b
@@ -26,6 +27,7 @@ pub record LinkConserves (a : Link) (steps : List Step) (b : Link) : Type 0 wher
   pub tells : (end : Side) → TellsDrops end a steps b
   pub whole : (end : Side) (pace : Pace) → IsPaced pace end a steps → Delivers end a steps b
   pub whole_by_xoff : (end : Side) (pace : XoffPace) → IsPacedByXoff pace end a steps → Delivers end a steps b
+  pub told_and_held : (end : Side) → AllTellAndHold end steps
   pub agreed : (end : Side) → KeepsAgreed end a steps b
   pub progress : (end : Side) → Progresses end a steps b
   pub handled : (end : Side) → EmptiesReceiver end steps b

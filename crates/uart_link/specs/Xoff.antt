@@ -1,15 +1,16 @@
 -- Flow control by XOFF and XON in one direction: what both programs do so that no character is dropped on the way from
 -- one end to the other. It may be so in both directions, or in one alone.
-use Rattle.std.specs.Prelude.{◌≡◌, ◌⊎◌, ◌≤◌, ◌+◌, ⊤, ℕ, Bool, true, false, not, ◌&&◌, List, [], ◌∷◌, length, Option}
-use Rattle.std.specs.Prelude.{Some, None, option_to_list}
+use Rattle.std.specs.Prelude.{◌≡◌, ◌⊎◌, ◌≤◌, ◌+◌, ⊤, ℕ, Bool, true, false, not, ◌&&◌, List, [], ◌∷◌, ◌++◌, length}
+use Rattle.std.specs.Prelude.{Option, Some, None, option_to_list}
 use Rattle.std.specs.List.{AllByRecursion}
 use Rattle.uart_spec.specs.declared.baud.TheConstants.{FIFO_SIZE}
-use Rattle.uart_chip.specs.Conserved.{waiting}
+use Rattle.uart_chip.specs.Conserved.{waiting, out}
 use Rattle.uart_ring.specs.Ring.{ring_fields}
 use Rattle.uart_ring_runs.specs.declared.call.RingAnswer.{RingAnswer}
 use Rattle.uart_ring_runs.specs.declared.call.RingAnswer.TheVariants as answers
 use Rattle.uart_ring_runs.specs.declared.call.RingCall.{RingCall}
 use Rattle.uart_ring_runs.specs.declared.call.RingCall.TheVariants as call
+use Rattle.uart_ring_runs.specs.RingBytes.{to_send}
 use Rattle.uart_ring_runs.specs.RingRun.{RingState, ring_machine}
 use Rattle.uart_link.specs.declared.call.Side.{Side}
 use Rattle.uart_link.specs.declared.link.Link.{Link}
@@ -161,3 +162,34 @@ pub record IsPacedByXoff (pace : XoffPace) (end : Side) (a : Link) (steps : List
   pub each : AllByRecursion (IsXoffStep pace end) steps
   pub in_time : AllXoffInTime (other end) pace.between 0 steps
   pub obeyed : AllObeyed pace end (from_now_on (at_end end a) (at_end (other end) a)) steps
+
+-- ---- each end by itself
+
+-- all that has left an end or is to leave it, in order: what has left its chip, what its transmitter holds, and what
+-- waits in its rings
+abbrev pub all_sent : RingState → List ℕ
+all_sent s = out (ring_machine s) ++ to_send s
+
+-- what a call tells goes out right behind what the transmitter holds, and before all that waits
+abbrev pub TellsNext : RingCall → RingAnswer → (before after : RingState) → Type 0
+TellsNext (call.AdjustXoff marks) (answers.Told (Some byte)) before after =
+    all_sent after ≡ out (ring_machine before) ++ byte ∷ to_send before
+TellsNext other answer before after = ⊤
+
+-- a call that leaves the transmit ring held hands no byte of it to the chip: no more than urgent ones, which waited or
+-- were queued
+abbrev pub HoldsBack : RingCall → RingAnswer → (before after : RingState) → Type 0
+HoldsBack c answer before after =
+    is_holding after ≡ true →
+    length (out (ring_machine after)) + urgent_at after ≤
+    length (out (ring_machine before)) + (urgent_at before + urged_by c answer)
+
+-- a call of this end does both
+pub record TellsAndHolds (end : Side) (step : Step) : Type 0 where
+  pub tells : OfEnd end step.call.side
+      (TellsNext step.call.call step.answer (at_end end step.before) (at_end end step.after))
+  pub holds : OfEnd end step.call.side
+      (HoldsBack step.call.call step.answer (at_end end step.before) (at_end end step.after))
+
+abbrev pub AllTellAndHold : Side → List Step → Type 0
+AllTellAndHold end steps = AllByRecursion (TellsAndHolds end) steps

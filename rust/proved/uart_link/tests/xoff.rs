@@ -215,6 +215,38 @@ fn an_xoff_that_is_taken_first_is_not_obeyed() {
     assert!(!link.left.is_held());
 }
 
+/// XOFF goes out behind what the chip holds, and before what waits in the ring, while that is held and when it is not.
+#[test]
+fn what_is_told_goes_out_next() {
+    for is_held in [false, true] {
+        let mut link = link(32);
+        let bytes = RingCall::Queue(listed(&[b'x'; 40]));
+        answers(
+            &mut link,
+            Side::Right,
+            &AT_ONCE,
+            bytes,
+            RingAnswer::Count(40),
+        );
+        if is_held {
+            let hold = RingCall::HoldTransmit;
+            answers(&mut link, Side::Right, &AT_ONCE, hold, RingAnswer::Done);
+        }
+        tells(&mut link, 33, Some(XOFF));
+        for _ in 0..2 {
+            passes(&mut link, Side::Right, &[Moment::Ticks(100)]);
+            let resume = RingCall::ResumeTransmit;
+            answers(&mut link, Side::Right, &AT_ONCE, resume, RingAnswer::Done);
+        }
+        let mut wire = vec![b'x'; 16];
+        wire.push(XOFF);
+        if !is_held {
+            wire.extend([b'x'; 15]);
+        }
+        assert_eq!(link.right.inner().backend().wire(), wire);
+    }
+}
+
 /// Pseudorandom numbers: xorshift.
 struct Random(u64);
 
