@@ -56,6 +56,11 @@ class Patience:
         return (self.slept > self.seconds or self.worked() - self.work > self.seconds
                 or time.monotonic() - self.began > MOST * self.seconds)
 
+    def run_out(self):
+        """Waits until it is lost, whatever is sent: a pause in which the machine works, on a busy computer too."""
+        while not self.is_lost():
+            time.sleep(LOOK)
+
     def can_read(self, file):
         """Waits until there is something to read, or the end. Whether there is."""
         while not select.select([file], [], [], LOOK)[0]:

@@ -25,7 +25,7 @@ TYPED = 10_000
 TYPED_BY_INTERRUPTS = int(os.environ.get("BY_INTERRUPTS", TYPED))
 PATTERN = bytes(at % 251 for at in range(65_536))
 PATIENCE = 20  # seconds in which the machine works or sleeps and sends no byte, after which it is stopped
-PAUSE = 1  # seconds in which nothing is read
+PAUSE = 1  # seconds in which the machine works and nothing is read
 # As little as a pipe can hold, so that the machine notices that nobody reads.
 PIPE_SIZE = 4096
 # Around the sizes of a FIFO and of the rings, so that each is filled again while it is read, and runs empty.
@@ -109,7 +109,7 @@ def talk(machine, by_interrupts):
     machine.expect_line(rb"console: loopback ok")
     machine.echo(numbers, in_bursts=False)
     machine.expect_line(rb"echoed by polling, errors 00")
-    time.sleep(PAUSE)
+    Patience([machine.process], PAUSE).run_out()
     machine.expect(PATTERN, "the pattern")
     stalls, = machine.expect_line(rb"sent, stalls (\d+)")
     if stalls == 0:
