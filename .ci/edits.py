@@ -58,16 +58,27 @@ class Edit:
         self.pairs = [*pairs(self.text)]
         self.place = place(crate, self.pairs)
 
+    def change(self, texts):
+        """Makes the edit in the texts of the crate's files, and returns whether each text that it replaces is there once. Else it changes
+        none of them."""
+        changed = dict(texts)
+        for file, old, new in self.pairs:
+            if not old or changed.get(file, "").count(old) != 1:
+                return False
+            changed[file] = changed[file].replace(old, new)
+        texts.update(changed)
+        return bool(self.pairs)
+
     def apply(self, folder):
         """Makes the edit in a copy of the crate, and returns whether each text that it replaces is there once."""
-        for file, old, new in self.pairs:
-            path = os.path.join(folder, file or "")
-            text = text_of(path) if file and os.path.isfile(path) else ""
-            if not old or text.count(old) != 1:
-                return False
-            with open(path, "w", encoding="utf-8") as to:
-                to.write(text.replace(old, new))
-        return bool(self.pairs)
+        paths = {file: os.path.join(folder, file) for file, *_ in self.pairs if file}
+        texts = {file: text_of(path) for file, path in paths.items() if os.path.isfile(path)}
+        if not self.change(texts):
+            return False
+        for file, text in texts.items():
+            with open(paths[file], "w", encoding="utf-8") as to:
+                to.write(text)
+        return True
 
     def key(self, faces):
         """Returns a sum of all that the verdict on the edit can depend on."""
@@ -316,19 +327,27 @@ def judged_alone(edit, status, out):
     return "does not compile" if re.search(r"\berror\[[\w-]+\]", out) else "not tried"
 
 
+def together(left, most):
+    """Returns edits of different functions that can be made one after the other, at most so many. An edit may write a text that another
+    replaces, which then is there twice: the other one is for a later check."""
+    files = {file for edit in left for file, *_ in edit.pairs}
+    texts = {file: source(left[0].crate, file)[0] for file in files}
+    batch = {}
+    for edit in left:
+        if len(batch) < most and edit.place.key() not in batch and edit.change(texts):
+            batch[edit.place.key()] = edit
+    return [*batch.values()] or left[:1]
+
+
 def in_batches(prover, left, is_narrow, verdicts, seconds):
     """Tries edits that are each in the body of a function, many in one check: of these functions and what they call, or of the whole crate.
     Notes the verdict 'refused' on those that are, and returns those that are to be tried alone."""
     say, crate, alone, most = prover.say, prover.crate, [], BATCH
     while left:
-        batch = {}
-        for edit in left:
-            if len(batch) < most:
-                batch.setdefault(edit.place.key(), edit)
-        batch = [*batch.values()]
+        batch = together(left, most)
         _, out, took = prover.check(batch, only=[*map(prover.name_of, batch)] if is_narrow else ())
         if not SAID.search(out):
-            # One does not compile, or two change one line: half of them, and then the other.
+            # One does not compile: half of them, and then the other.
             if len(batch) == 1:
                 alone += batch
                 left.remove(batch[0])
