@@ -19,7 +19,7 @@ import tty
 
 sys.dont_write_bytecode = True
 
-from guest import CLOCK, RECEIVED, SENT, Guest, Line, Task, Unexpected, stream
+from guest import CLOCK, RECEIVED, SENT, Guest, Line, Silent, Task, Unexpected, stream
 
 OWN, HERE, JOINED, OTHER, MODEM = "ttyS1", "ttyP0", "ttyP1", "ttyS3", "ttyP2"
 PORTS = "ports=0x2f8,0x3e8,0x3f8 irqs=3,3,4"
@@ -75,8 +75,9 @@ class Modem:
 class Bench:
     """The guest with its ports, and what was found."""
 
-    def __init__(self, work, kernel, initramfs, lines, whole):
+    def __init__(self, work, kernel, initramfs, lines, whole, processors):
         self.whole, self.passed, self.failed, self.log = whole, 0, 0, ""
+        os.makedirs(work, exist_ok=True)
         self.modem = Modem(work)
         self.trace = f"{work}/trace"
         ports = []
@@ -87,7 +88,7 @@ class Bench:
                 ("modem", f"serial,path={self.modem.name}", 0x3F8, 4)):
             ports += ["-chardev", f"{chardev},id={name}", "-device", f"isa-serial,chardev={name},iobase={base:#x},irq={interrupt}"]
         self.guest = Guest(work, kernel, initramfs, [*ports, "-D", self.trace], append=f"console={HERE},115200",
-                           processors=2, environment={**os.environ, **self.modem.environment, "LD_PRELOAD": lines})
+                           processors=processors, environment={**os.environ, **self.modem.environment, "LD_PRELOAD": lines})
         self.here = Line(f"{work}/here")
         self.run = self.guest.run
         self.devices = {base: self.find(base) for base in TAKEN}
@@ -119,6 +120,11 @@ class Bench:
         news = self.run("dmesg -c")
         self.log += news
         return news
+
+    def wrong(self):
+        """What the kernel has said until now that the driver is wrong, or it itself."""
+        self.take_log()
+        return re.findall(r".*(?:WARNING|BUG|Oops|Unknown symbol|u16550_tty: ttyP.: [a-z_]+:).*", self.log)
 
     def task(self, command):
         return Task(self.guest, command)
@@ -295,29 +301,31 @@ def sleep_and_wake(bench):
     bench.guest.count += 1
     bench.guest.shell.send(b"echo deep > /sys/power/mem_sleep; echo mem > /sys/power/state\n")
     end = CLOCK.now() + 60
-    while "suspended" not in (told := bench.guest.tell_monitor("info status")) and CLOCK.now() < end:
+    # Not before it sleeps: the emulator forgets what would wake up a machine that is awake.
+    while "suspended" not in (status := bench.guest.tell_monitor("info status")):
+        if CLOCK.now() > end:
+            raise Silent(f"the machine does not sleep: {status}")
         time.sleep(0.1)
     bench.guest.tell_monitor("system_wakeup")
-    return told + bench.guest.read_until(rb"shell: done %d (\d+)\r?\n" % bench.guest.count, 120)
+    bench.guest.read_until(rb"shell: done %d (\d+)\r?\n" % bench.guest.count, 120)
 
 
 def hears_after_sleep(bench):
+    bench.own_driver("unbind")
     for more, console_sleeps in ("", "Y"), ("console=1", "N"):
         bench.run(f"rmmod u16550_tty; echo {console_sleeps} > /sys/module/printk/parameters/console_suspend")
         bench.insert(more)
         bench.here.drain(0.5)
         task = bench.task(f"terminal transfer /dev/{HERE} 0 3000 0").ready()
-        told = sleep_and_wake(bench)
+        sleep_and_wake(bench)
         if not more:
             # The program in the guest counts its looks, and not only its seconds: else it has given up here, and receives nothing.
             bench.guest.stall(PATIENCE + 1)
         bench.here.drain(0.5)
         bench.here.exchange(stream(3000, RECEIVED), 0, 10)
-        told += task.result(60)
+        told, wrong = task.result(60), bench.wrong()
         bench.judge(f"a port that is open hears after suspend to memory{', also a console that does not sleep' if more else ''}",
-                    "suspended" in told and "received 3000 of 3000, wrong 0, overruns 0" in told, told)
-    bench.run("rmmod u16550_tty; echo Y > /sys/module/printk/parameters/console_suspend")
-    bench.insert()
+                    "received 3000 of 3000, wrong 0, overruns 0" in told and not wrong, "\n".join([told, *wrong]))
 
 
 def moves_bytes(bench):
@@ -634,8 +642,7 @@ def is_removed_while_busy(bench):
     bench.here.drain(0.3)
     ended = task.result()
     bench.judge("removed while a program sends: it is hung up", "u16550_tty" not in told and "hangup" in ended, told + ended)
-    bench.take_log()
-    wrong = re.findall(r".*(?:WARNING|BUG|Oops|Unknown symbol|u16550_tty: ttyP.: [a-z_]+:).*", bench.log)
+    wrong = bench.wrong()
     bench.judge("the kernel and the driver have found nothing wrong until here", not wrong, "\n".join(wrong))
 
 
@@ -651,12 +658,38 @@ def writes_in_a_panic(bench):
 
 
 QUICK = (takes_no_port_of_another, finds_chips, shares_an_interrupt, needs_no_interrupt, moves_a_port, finds_no_chip, is_another_chip,
-         has_a_divisor_of_its_own, loops_back, hears_after_sleep, moves_bytes, sets_rates, changes_speed, has_modem_lines, waits_for_cts,
-         sends_breaks, marks_breaks, obeys_xoff, logs_in, is_a_console, gives_up_a_broken_chip, is_removed_while_busy, writes_in_a_panic)
+         has_a_divisor_of_its_own, loops_back, moves_bytes, sets_rates, changes_speed, has_modem_lines, waits_for_cts, sends_breaks,
+         marks_breaks, obeys_xoff, logs_in, is_a_console, gives_up_a_broken_chip, is_removed_while_busy, writes_in_a_panic)
 WHOLE = (takes_no_port_of_another, finds_chips, shares_an_interrupt, needs_no_interrupt, moves_a_port, finds_no_chip, is_another_chip,
-         has_a_divisor_of_its_own, loops_back, hears_after_sleep, moves_bytes, sets_rates, opens_and_closes, changes_speed,
+         has_a_divisor_of_its_own, loops_back, moves_bytes, sets_rates, opens_and_closes, changes_speed,
          changes_speed_while_receiving, has_modem_lines, waits_for_cts, sends_breaks, marks_breaks, obeys_xoff, sends_xoff, hangs_up,
          logs_in, moves_files, carries_ip, compares, debugs, is_a_console, gives_up_a_broken_chip, is_removed_while_busy, writes_in_a_panic)
+
+# Checks of a machine that sleeps have a guest of their own, with one processor: an emulated PC with two may wake up broken. When it wakes,
+# its firmware, SeaBIOS, starts the second processor, while its own memory is protected against writing. So it does not wait until that one
+# has come, and cannot free the lock at which that one waits for it. The second processor stays there until Linux resets it. If it comes
+# late it does not find the firmware at all, and runs what is at 0x10000: the beginning of the kernel's file.
+#
+# While it is at the lock, QEMU 7.2 at times gives the first processor flags that no instruction sets, such as dffee26e. Then Linux traps at
+# single steps, and comes to a double fault: it resets the machine, or hangs. With Linux 6.12 that was 18 of 59 awakenings, most of them with
+# Linux's own driver alone. It was none with one processor, with two in one thread of QEMU, with QEMU 10, or with Linux 6.1.
+ASLEEP = (hears_after_sleep,)
+
+
+def make(checks, processors, given):
+    """Makes checks in a guest with so many processors. Returns how many things passed and failed."""
+    bench = Bench(f"{given.work}/{processors}", given.kernel, given.initramfs, given.lines, given.whole, processors)
+    try:
+        for check in checks:
+            try:
+                check(bench)
+            except (Unexpected, OSError, TypeError) as wrong:
+                bench.judge(check.__name__, False, wrong)
+                if isinstance(wrong, Silent) or bench.guest.process.poll() is not None:
+                    break
+    finally:
+        bench.guest.end()
+    return bench.passed, bench.failed
 
 
 def main():
@@ -667,23 +700,16 @@ def main():
     for name in "work", "kernel", "initramfs":
         parser.add_argument(name)
     given = parser.parse_args()
-    os.makedirs(given.work, exist_ok=True)
-    bench = Bench(given.work, given.kernel, given.initramfs, given.lines, given.whole)
-    checks = WHOLE if given.whole else QUICK
+    checks = (WHOLE if given.whole else QUICK) + ASLEEP
     if given.only:
         checks = [globals()[name] for name in given.only.split(",")]
-    try:
-        for check in checks:
-            try:
-                check(bench)
-            except (Unexpected, OSError, TypeError) as wrong:
-                bench.judge(check.__name__, False, wrong)
-                if bench.guest.process.poll() is not None:
-                    break
-    finally:
-        bench.guest.end()
-    print(f"{bench.passed} passed, {bench.failed} failed")
-    return bench.failed > 0
+    passed = failed = 0
+    for processors in 2, 1:
+        if chosen := [check for check in checks if (check in ASLEEP) == (processors == 1)]:
+            more_passed, more_failed = make(chosen, processors, given)
+            passed, failed = passed + more_passed, failed + more_failed
+    print(f"{passed} passed, {failed} failed")
+    return failed > 0
 
 
 if __name__ == "__main__":

@@ -23,6 +23,10 @@ class Unexpected(Exception):
     """What the guest did otherwise."""
 
 
+class Silent(Unexpected):
+    """The guest, or its emulator, does not answer. It can be asked nothing more."""
+
+
 class Clock:
     """Time in which the emulator, or this program, could do something. While their threads wait for a processor, one after the other, it all
     but stands still, so that a bound of so many seconds is a bound on what was done, and not on what else the machine does. It goes on by a
@@ -165,8 +169,8 @@ class Guest:
         end = CLOCK.now() + seconds
         while not (match := re.search(pattern, self.found)):
             if self.process.poll() is not None or CLOCK.now() > end:
-                raise Unexpected(f"the guest's shell: no {pattern}, {self.state()}. Its console ends with:\n"
-                                 f"{self.found[-1500:].decode(errors='replace')}")
+                raise Silent(f"the guest's shell: no {pattern}, {self.state()}. Its console ends with:\n"
+                             f"{self.found[-1500:].decode(errors='replace')}")
             self.found += self.shell.take(0.2)
         before, self.found = self.found[:match.start()], self.found[match.end():]
         self.last = match
@@ -206,7 +210,11 @@ class Guest:
     def monitor_text(self):
         text = b""
         while not text.endswith(b"(qemu) "):
-            text += self.monitor.recv(PIECE)
+            piece = self.monitor.recv(PIECE)
+            if not piece:
+                self.process.wait(20)
+                raise Silent(f"the emulator's monitor: {self.state()}")
+            text += piece
         return text.decode(errors="replace")
 
     def interrupts(self, number):
