@@ -1,5 +1,6 @@
 -- Ticks in jumps come to the same as ticks.
-use Rattle.std.proofs.Common.{◌≡◌, ℕ, zero, suc, ◌+◌, ◌-◌, min, max, ◌≤◌, ◌<◌, Bool, true, false, not, ◌==◌, nat_lt, List, [], ◌∷◌, ◌++◌, length}
+use Rattle.std.proofs.Common.{◌≡◌, ℕ, zero, suc, ◌+◌, ◌-◌, min, max, ◌≤◌, ◌<◌, Bool, true, false, not, ◌==◌, nat_lt, List, [], ◌∷◌, ◌++◌}
+use Rattle.std.proofs.Common.{length}
 use Rattle.std.proofs.Common.{Option, Some, None, refl, arith, zero-le, sym, ◌∙◌, ap, subst, if◌then◌else◌}
 use Rattle.std.proofs.lemmas.Grind.{common_steps}
 use Rattle.uart_chip.specs.declared.transmitter.Shifting.{Shifting}
@@ -95,7 +96,8 @@ still-looped false may_enter n place queue t h = refl
 still-looped true may_enter n None queue t h = refl
 still-looped true may_enter n (Some s) queue t h = rw (not_done n s.ticks_left h) refl
 
-tick_skip : (n : ℕ) (c : ChipState) → StillFor (suc n) (next_move (is_loopback c.latches) (is_held_off c) c.transmitter) → tick (skip n c) ≡ skip (suc n) c
+tick_skip : (n : ℕ) (c : ChipState) → StillFor (suc n) (next_move (is_loopback c.latches) (is_held_off c) c.transmitter) →
+    tick (skip n c) ≡ skip (suc n) c
 tick_skip n c h =
     let loopback : Bool = is_loopback c.latches in
     let held_off : Bool = is_held_off c in
@@ -103,7 +105,8 @@ tick_skip n c h =
     let a = still-tick loopback held_off n t.shift_register t.queue t h in
     let b : receiver.tick c.fifo (looped_byte loopback (place_after n t.shift_register)) (count_up n c.receiver) ≡
     count_up (suc n) c.receiver =
-    ap (λ looped. receiver.tick c.fifo looped (count_up n c.receiver)) (still-looped loopback (not held_off) n t.shift_register t.queue t h) ∙
+    ap (λ looped. receiver.tick c.fifo looped (count_up n c.receiver))
+    (still-looped loopback (not held_off) n t.shift_register t.queue t h) ∙
     count_up-next n c.receiver in
     ap (λ (u : TransmitterState). record c {
       transmitter = u;
@@ -124,7 +127,8 @@ skip-none c =
     (place-same c.transmitter.shift_register)
 
 -- ticks in which nothing moves
-pub ticks_skip : (n : ℕ) (c : ChipState) → StillFor n (next_move (is_loopback c.latches) (is_held_off c) c.transmitter) → ticks n c ≡ skip n c
+pub ticks_skip : (n : ℕ) (c : ChipState) → StillFor n (next_move (is_loopback c.latches) (is_held_off c) c.transmitter) →
+    ticks n c ≡ skip n c
 ticks_skip zero c h =
     ap (λ (place : Option Shifting). record c { transmitter = record c.transmitter { shift_register = place } })
     (sym (place-same c.transmitter.shift_register))
@@ -162,10 +166,8 @@ moves_in-most c = go (is_held_off c) c.transmitter.shift_register c.transmitter.
 freed : (held_off : Bool) (queue : List ℕ) (t : TransmitterState) →
     moves_from held_off (let u = with_place None queue t in if held_off then u else refill None queue u) ≡
     length (if held_off then [] else queue)
-freed true queue t = refl
-freed false (x ∷ []) t = refl
-freed false [] t = refl
 freed false (x ∷ y ∷ xs) t = refl
+freed _ _ t = refl
 
 moved-tick : (loopback held_off : Bool) (k : ℕ) (place : Option Shifting) (queue : List ℕ) (t : TransmitterState) →
     next_move_of (leaves loopback t) (not held_off) place queue ≡ Some (suc k) →
@@ -202,7 +204,8 @@ moved-tick loopback held_off k (Some s) queue t h = go loopback refl (nat_lt (le
 -- ---- jumps
 
 -- no character moves in the tick after j still ones, if it is still too
-still-unmoving : (j : ℕ) (c : ChipState) → StillFor (suc j) (next_move (is_loopback c.latches) (is_held_off c) c.transmitter) → is_moving (skip j c) ≡ false
+still-unmoving : (j : ℕ) (c : ChipState) → StillFor (suc j) (next_move (is_loopback c.latches) (is_held_off c) c.transmitter) →
+    is_moving (skip j c) ≡ false
 still-unmoving j c h =
     go (leaves (is_loopback c.latches) c.transmitter) (is_held_off c) c.transmitter.shift_register c.transmitter.queue h
   where
@@ -218,7 +221,8 @@ still-unmoving j c h =
     go false held_off (Some s) queue h = refl
 
 -- a character moves in the tick after k still ones
-moving : (k : ℕ) (c : ChipState) → next_move (is_loopback c.latches) (is_held_off c) c.transmitter ≡ Some (suc k) → is_moving (skip k c) ≡ true
+moving : (k : ℕ) (c : ChipState) → next_move (is_loopback c.latches) (is_held_off c) c.transmitter ≡ Some (suc k) →
+    is_moving (skip k c) ≡ true
 moving k c h =
     go (leaves (is_loopback c.latches) c.transmitter) (is_held_off c) c.transmitter.shift_register c.transmitter.queue h
   where
@@ -274,7 +278,8 @@ jumps-still zero j n c h =
 jumps-still (suc k) j n c h =
     ap (λ (m : ℕ). jumps_in m (skip j c)) (one_more k (suc n)) ∙
     (still-tick-jumps (k + suc n) (skip j c) (skip (suc j) c) (omega arith) (still-unmoving j c (still h)) (tick_skip j c (still h)) ∙
-    (jumps-still k (suc j) n c (subst (λ (i : ℕ). StillFor i (next_move (is_loopback c.latches) (is_held_off c) c.transmitter)) (moved j k) h) ∙
+    (jumps-still k (suc j) n c (subst (λ (i : ℕ). StillFor i (next_move (is_loopback c.latches) (is_held_off c) c.transmitter))
+    (moved j k) h) ∙
     ap (λ (i : ℕ). jumps_in (suc n) (skip i c)) (sym (moved j k))))
   where
     one_more : (k n : ℕ) → suc k + n ≡ suc (k + n)
@@ -296,7 +301,8 @@ still-first : (k n : ℕ) (c : ChipState) → StillFor k (next_move (is_loopback
     jumps_in (k + suc n) c ≡ jumps_in (suc n) (skip k c)
 still-first k n c h =
     ap (λ (d : ChipState). jumps_in (k + suc n) d) (sym (skip-none c)) ∙
-    (jumps-still k 0 n c (subst (λ (i : ℕ). StillFor i (next_move (is_loopback c.latches) (is_held_off c) c.transmitter)) (sym (none-first k)) h) ∙
+    (jumps-still k 0 n c (subst (λ (i : ℕ). StillFor i (next_move (is_loopback c.latches) (is_held_off c) c.transmitter))
+    (sym (none-first k)) h) ∙
     ap (λ (i : ℕ). jumps_in (suc n) (skip i c)) (none-first k))
 
 -- how many jumps there may be for so many ticks
@@ -361,7 +367,8 @@ goes_after left k c h le = record { same = same; fewer = fewer; counted = counte
         (sym (still-first k (left - suc k) c (still _ h)) ∙ ap (λ (n : ℕ). jumps_in n c) (split left k le)))
 
 -- something moves after k ticks
-pub goes_on : (left k : ℕ) (c d e : ChipState) → next_move (is_loopback c.latches) (is_held_off c) c.transmitter ≡ Some k → 1 ≤ k → k ≤ left →
+pub goes_on : (left k : ℕ) (c d e : ChipState) → next_move (is_loopback c.latches) (is_held_off c) c.transmitter ≡ Some k → 1 ≤ k →
+    k ≤ left →
     d ≡ skip (k - 1) c → e ≡ tick d → IsTurn left c (left - k) e
 goes_on left zero c d e h few le p q = absurd (omega arith)
 goes_on left (suc k) c d e h few le p q =
@@ -369,7 +376,8 @@ goes_on left (suc k) c d e h few le p q =
     let here : e ≡ tick (skip k c) = q ∙ ap tick (p ∙ ap (λ (n : ℕ). skip n c) one) in
     subst (λ (e : ChipState). IsTurn left c (left - suc k) e) (sym here) (goes_after left k c h le)
 
-one-jump : (left : ℕ) (c : ChipState) → 0 < left → StillFor left (next_move (is_loopback c.latches) (is_held_off c) c.transmitter) → jumps_in left c ≡ 1
+one-jump : (left : ℕ) (c : ChipState) → 0 < left → StillFor left (next_move (is_loopback c.latches) (is_held_off c) c.transmitter) →
+    jumps_in left c ≡ 1
 one-jump zero c some still = absurd (omega arith)
 one-jump (suc m) c some still =
     ap (λ (n : ℕ). jumps_in n c) (last m) ∙ (still-first m 0 c (still-less m _ still) ∙ ends-last (is_moving (skip m c)))
@@ -378,7 +386,8 @@ one-jump (suc m) c some still =
     last m = omega arith
 
 -- nothing moves
-pub stays : (left : ℕ) (c d : ChipState) → 0 < left → StillFor left (next_move (is_loopback c.latches) (is_held_off c) c.transmitter) → d ≡ skip left c →
+pub stays : (left : ℕ) (c d : ChipState) → 0 < left → StillFor left (next_move (is_loopback c.latches) (is_held_off c) c.transmitter) →
+    d ≡ skip left c →
     IsTurn left c 0 d
 stays left c d some still p =
     rw p (record {

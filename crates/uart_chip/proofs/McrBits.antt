@@ -1,5 +1,6 @@
 -- What MCR keeps of a chip that has automatic flow control, or has not.
-use Rattle.std.proofs.Common.{◌≡◌, ℕ, ◌*◌, ◌^◌, ◌<◌, zero, suc, Bool, true, false, not, ◌&&◌, ◌==◌, refl, arith, sym, ◌∙◌, ap, bit_and, bit_or}
+use Rattle.std.proofs.Common.{◌≡◌, ℕ, ◌*◌, ◌^◌, ◌<◌, zero, suc, Bool, true, false, not, ◌&&◌, ◌==◌, refl, arith, sym, ◌∙◌, ap, bit_and}
+use Rattle.std.proofs.Common.{bit_or}
 use Rattle.std.specs.Int.{bit_at}
 use Rattle.std.proofs.lemmas.Nat.{and_assoc}
 use Rattle.std.proofs.lemmas.Nat.Bits.{same_from_bits, bit_at_or, bit_at_and, and_pow, bit_at-lt}
@@ -77,7 +78,8 @@ kept_bit false k value e f = ap (λ (v : ℕ). has_any v (2 ^ k)) (kept_without 
 kept_bit true k value e f = ap (λ (v : ℕ). has_any v (2 ^ k)) (kept_all value) ∙ has_and k value (mcr_bits_of true) f
 
 -- the bit of automatic flow control is there only in a chip that has it
-pub flow_bit : (auto_flow : Bool) (value : ℕ) → has_any (kept_mcr auto_flow value) MCR._RESERVED0.0 ≡ (has_any value MCR._RESERVED0.0 && auto_flow)
+pub flow_bit : (auto_flow : Bool) (value : ℕ) →
+    has_any (kept_mcr auto_flow value) MCR._RESERVED0.0 ≡ (has_any value MCR._RESERVED0.0 && auto_flow)
 flow_bit true value =
     ap (λ (v : ℕ). has_any v MCR._RESERVED0.0) (kept_all value) ∙
     (has_and 5 value (mcr_bits_of true) refl ∙ sym (yes_and (has_any value MCR._RESERVED0.0)))

@@ -96,11 +96,11 @@ is_auto_flow c = c.auto_flow && has_any c.latches.mcr MCR._RESERVED0.0
 abbrev pub is_held_off : ChipState → Bool
 is_held_off c = is_auto_flow c && not (has_any c.modem.lines MSR.CTS.0)
 
--- A real 16750 sets RTS again only once its FIFO is empty. So it holds the other end off longer than this chip does, and
--- never shorter: what is proved of loss here holds there too.
+-- A real 16750 sets RTS again only once its FIFO is empty. So it holds the other end off longer than this chip
+-- does, and never shorter: what is proved of loss here holds there too.
 
--- the RTS output: RTS of MCR, but with automatic flow control and the FIFO on it is off while as many characters wait as
--- the trigger level
+-- the RTS output: RTS of MCR, but with automatic flow control and the FIFO on it is off while as many characters wait
+-- as the trigger level
 abbrev pub rts_output : ChipState → Bool
 rts_output c =
     has_any c.latches.mcr MCR.RTS.0 && not (is_auto_flow c && (c.fifo && is_data_pending c.fifo c.receiver))

@@ -1,5 +1,5 @@
-//! Whether a chip has automatic flow control: MCR bit 5, by which the transmitter obeys CTS, and the
-//! receiver switches RTS.
+//! Whether a chip has automatic flow control: MCR bit 5, by which the transmitter obeys CTS, and
+//! the receiver switches RTS.
 ghost use Rattle.std.specs.Prelude.{◌≡◌, Bool, true, false};
 
 /// Whether a chip has automatic flow control.

@@ -12,7 +12,8 @@ use Rattle.uart_chip.specs.Transmitter as transmitter
 use Rattle.uart_chip.specs.Transmitter.{TransmitterState, room, looped_byte, shift, refill, load}
 use Rattle.uart_chip.specs.Receiver as receiver
 use Rattle.uart_chip.specs.Receiver.{ReceiverState, enter, replace, come_back, take_front, is_data_pending}
-use Rattle.uart_chip.specs.Chip.{ChipState, cut_of, is_dlab_set, is_loopback, is_held_off, tick, ticks, arrive_live, take_wire, change_lines}
+use Rattle.uart_chip.specs.Chip.{ChipState, cut_of, is_dlab_set, is_loopback, is_held_off, tick, ticks, arrive_live, take_wire}
+use Rattle.uart_chip.specs.Chip.{change_lines}
 use Rattle.uart_chip.specs.Chip.{line_status, interrupt, is_thr_empty, with_thr_pending, answer, after_read, after_write}
 use Rattle.uart_chip.specs.Chip.{set_fifo, control, switch, is_same, reset_receiver, reset_transmitter, set_trigger, trigger_level}
 use Rattle.uart_chip.proofs.soundness.Sounds.{latches-ticks}

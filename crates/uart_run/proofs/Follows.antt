@@ -56,11 +56,14 @@ succeeds s t call.TestLoopback a w h timely = λ ready unheld room. test_succeed
 succeeds s t call.Flush a w h timely =
     λ ready unheld room. flush_succeeds s t a h.did.list h.outcome w timely unheld room h.answered h.did.does.0 h.did.path
 succeeds s t (call.SendExact bytes) a w h timely =
-    λ ready unheld off room. send_exact_succeeds s t a h.did.list bytes.items h.outcome w ready timely unheld off room h.answered h.did.does.0 h.did.path
+    λ ready unheld off room.
+    send_exact_succeeds s t a h.did.list bytes.items h.outcome w ready timely unheld off room h.answered h.did.does.0 h.did.path
 succeeds s t (call.Write bytes) a w h timely =
-    λ ready unheld off room. write_succeeds s t a h.did.list bytes.items h.outcome w timely unheld off room h.answered h.did.does.0 h.did.path
+    λ ready unheld off room.
+    write_succeeds s t a h.did.list bytes.items h.outcome w timely unheld off room h.answered h.did.does.0 h.did.path
 succeeds s t (call.Text text) a w h timely =
-    λ ready unheld off room. text_succeeds s t a h.did.list text.bytes h.outcome w ready timely unheld off room h.answered h.did.does.0.1 h.did.path
+    λ ready unheld off room.
+    text_succeeds s t a h.did.list text.bytes h.outcome w ready timely unheld off room h.answered h.did.does.0.1 h.did.path
 succeeds s t other a w h timely = tt
 
 follow_chain : (s t : State) (links : List Link) → IsSound (machine_of s) → Chain s links t → AllFollow links

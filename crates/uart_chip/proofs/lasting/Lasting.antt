@@ -12,7 +12,8 @@ use Rattle.uart_events.specs.declared.event.Event.TheVariants.{Ticks, Arrive, Li
 use Rattle.uart_spec.specs.declared.registers.offsets.TheConstants as offsets
 use Rattle.uart_chip.specs.Transmitter as transmitter
 use Rattle.uart_chip.specs.Transmitter.{TransmitterState}
-use Rattle.uart_chip.specs.Chip.{ChipState, is_dlab_set, is_loopback, is_held_off, tick, ticks, arrive, change_lines, after_read, after_write}
+use Rattle.uart_chip.specs.Chip.{ChipState, is_dlab_set, is_loopback, is_held_off, tick, ticks, arrive, change_lines, after_read}
+use Rattle.uart_chip.specs.Chip.{after_write}
 use Rattle.uart_chip.proofs.AccessMoves.{ReadMove, acknowledges, read_move, WriteMove, sends, enables, switches, empties, write_lasts}
 use Rattle.uart_chip.specs.Machine.{MachineState, MachineStep, perform, before_access, before_mark, at_access}
 

@@ -90,7 +90,8 @@ steady_transmitter c t w a e s = record {
 }
 
 -- the latches
-pub steady_latches : (c : ChipState) (l : LatchesState) → IsSoundChip c → IsSoundLatches c.auto_flow l → Steady c.receiver.arrived c (with_latches l c)
+pub steady_latches : (c : ChipState) (l : LatchesState) → IsSoundChip c → IsSoundLatches c.auto_flow l →
+    Steady c.receiver.arrived c (with_latches l c)
 steady_latches c l w a = record {
   sound = record {
     receiver = w.receiver;

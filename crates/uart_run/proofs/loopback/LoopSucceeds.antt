@@ -166,7 +166,8 @@ no_stall-begin s n mcr ier l w timely unheld room t path =
     let only = Read offsets.MCR mcr ∷ Read offsets.IER ier ∷ [] in
     let still : IsUnheld p.between = ap (λ (k : Kept). k.auto_flow && has_any k.latches.mcr MCR._RESERVED0.0)
     (kept_list p.front only (machine_of s) p.between p.first.is p.before) ∙ unheld in
-    no_stall-empty v v.limit p.back p.between n (free_runs p.between still a) (few_left s p.front p.between w timely p.before) p.second p.after
+    no_stall-empty v v.limit p.back p.between n (free_runs p.between still a)
+    (few_left s p.front p.between w timely p.before) p.second p.after
 
 pub test_succeeds : (s t : State) (a : Answer) → IsSound (machine_of s) → Ready s → IsTimely s → IsUnheld (machine_of s) →
     HasRoom 0 (machine_of s) → CallStep s call.TestLoopback a t → a ≡ test_answer (is_narrow (machine_of s).chip)

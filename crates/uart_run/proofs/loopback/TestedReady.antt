@@ -105,7 +105,8 @@ restored mcr ier k = record k { latches = record k.latches { ier = bit_and ier i
 
 pub written_back : (mcr ier now : ℕ) (k : Kept) → is_dlab_set k.latches ≡ false → kept_after (leaving mcr ier now) k ≡ restored mcr ier k
 written_back mcr ier now k d =
-    ap (λ (b : Bool). if b then record k { latches = record k.latches { mcr = kept_mcr k.auto_flow mcr; dlm = ier } } else restored mcr ier k) d
+    let shown : Kept = record k { latches = record k.latches { mcr = kept_mcr k.auto_flow mcr; dlm = ier } } in
+    ap (λ (b : Bool). if b then shown else restored mcr ier k) d
 
 pub leaves_list : (mcr ier before noted : ℕ) (f after : Fields) (l : List Access) (t : Leaves mcr ier before noted f l after) →
     l ≡ leaving mcr ier t.0

@@ -128,7 +128,8 @@ pub record Runs (m : MachineState) : Type 0 where
 -- the events before an access
 nearer-access : (m : MachineState) → Runs m → Nearer 1 m.chip.transmitter (at_access m).chip.transmitter
 nearer-access m r =
-    nearer-before 0 m.ahead m.chip (record { chip = r.sound.chip; foreseen = r.sound.foreseen; legal = r.sound.legal }) r.flows r.off r.ticked
+    nearer-before 0 m.ahead m.chip
+    (record { chip = r.sound.chip; foreseen = r.sound.foreseen; legal = r.sound.legal }) r.flows r.off r.ticked
 
 -- and an effect
 nearer-effect : (m n : MachineState) (d : ChipState) → Runs m → n ≡ record (at_access m) { chip = d } →

@@ -101,7 +101,8 @@ module _ (s t : State) (sound : IsSound (machine_of s)) (plain : IsPlain s) (is_
       a.parts.after
 
 pub size_found : (s t : State) → IsSound (machine_of s) → MayFind s → (fields (inner_of s)).fifo ≡ true → IsTimely s →
-    IsUnheld (machine_of s) → HasRoom 0 (machine_of s) → (found : Found) (l : List Access) → FindsFifoSize found (fields (inner_of s)) l (fields (inner_of t)) →
+    IsUnheld (machine_of s) → HasRoom 0 (machine_of s) → (found : Found) (l : List Access) →
+    FindsFifoSize found (fields (inner_of s)) l (fields (inner_of t)) →
     Path MachineStep (machine_of s) l (machine_of t) → found ≡ Ok (size_in s)
 size_found s t sound may is_on timely unheld room found l does path = go (finds_size s t sound may is_on found l does path).answers
   where

@@ -30,9 +30,11 @@ loop-left-preserved g c =
           let still : StillFor c.loop-left.left (next_move (is_loopback d.latches) (is_held_off d) d.transmitter) =
           elim w.in_default.branch [
             | in_default-via-in-Some+else-ticks-left v ↦ still_some c.loop-left.left v.in-Some.ticks _
-                (seen _ _ _ _ _ _ _ c.is_loopback-loopback.ensures c.is_held_off-held_off.ensures c.transmitter.ensures v.in-Some.ensures) v.if-ticks-left.false
+                (seen _ _ _ _ _ _ _ c.is_loopback-loopback.ensures c.is_held_off-held_off.ensures c.transmitter.ensures
+                v.in-Some.ensures) v.if-ticks-left.false
             | in_default-via-in_default v ↦ still_none c.loop-left.left _
-                (seen _ _ _ _ _ _ None c.is_loopback-loopback.ensures c.is_held_off-held_off.ensures c.transmitter.ensures v.in_default.ensures)
+                (seen _ _ _ _ _ _ None c.is_loopback-loopback.ensures c.is_held_off-held_off.ensures c.transmitter.ensures
+                v.in_default.ensures)
           ] in
           let jump = stays c.loop-left.left d (state w.skip-in_default.new.parts) (omega arith) still w.skip-in_default.ensures.after in
           rw (w.parts-is, w.left-is)
