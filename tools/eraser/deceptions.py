@@ -89,7 +89,7 @@ DEFINED = [
     ("frequency_of", "= 16 * (prescaler factor + 1)", "= 8 * (prescaler factor + 1)"),
     ("prescaler", "unwrap_or factor 0", "unwrap_or factor 1"),
     ("IsComputable", "  pub baud_rate : 0 < to_integer config.baud_rate\n", ""),
-    ("sends_at_once", "is_ready c.transmitter)", "is_ready c.transmitter || true)"),
+    ("sends_at_once", "is_ready c.transmitter))", "(is_ready c.transmitter || true)))"),
     ("IsStill", "pub due : c.receiver.timeout_ticks ≡ c.receiver.timeout_limit", "pub due : c.receiver.timeout_ticks ≡ 0"),
     ("IsTold", "pub line : p.told.line ≡ is_up p.chip", "pub line : p.told.line ≡ false"),
 ]

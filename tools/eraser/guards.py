@@ -43,7 +43,8 @@ MEANINGS = {
         "Rattle.uart_chip.specs.Sending",
         "uart_chip/specs/Sending.antt",
         "abbrev pub sends_at_once : ChipState → Bool "
-        "sends_at_once c = not (is_dlab_set c.latches) && (not (is_loopback c.latches) && is_ready c.transmitter)",
+        "sends_at_once c = not (is_dlab_set c.latches) && "
+        "(not (is_loopback c.latches) && (not (is_held_off c) && is_ready c.transmitter))",
     ),
     "IsStill": (
         "Rattle.uart_virtual.specs.Port",

@@ -388,6 +388,7 @@ CLAUSES = {
     "chip::Uart::data": [
         "requires transmitter { self.now.transmitter.size ≡ Sixteen }",
         "requires receiver { self.now.receiver.size ≡ Sixteen }",
+        "requires flow { self.now.auto_flow ≡ false }",
     ],
     "chip::Uart::arrive": ["requires { self.old.receiver.arrived < length self.old.receiver.marks }"],
     "chip::Uart::perform": [

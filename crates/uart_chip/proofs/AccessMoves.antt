@@ -9,7 +9,7 @@ use Rattle.uart_spec.specs.Bits.{has_any}
 use Rattle.uart_spec.specs.declared.registers.fifo_control.TheConstants.FCR
 use Rattle.uart_spec.specs.declared.registers.fifo_trigger_level.FifoTriggerLevel.{FifoTriggerLevel}
 use Rattle.uart_spec.specs.declared.registers.offsets.TheConstants as offsets
-use Rattle.uart_chip.specs.Masks.{mcr_bits}
+use Rattle.uart_chip.specs.Masks.{kept_mcr}
 use Rattle.uart_chip.specs.Receiver.{take_front, report, clear}
 use Rattle.uart_chip.specs.Transmitter.{load}
 use Rattle.uart_chip.specs.Chip.{ChipState, cut_of, is_dlab_set, interrupt, is_thr_empty, with_thr_pending, with_latches, enable}
@@ -66,7 +66,7 @@ pub data WriteMove (offset value : ℕ) (c : ChipState) : ChipState → Type 0 w
       WriteMove offset value c (record c { transmitter = record c.transmitter { queue = []; is_thr_pending = true } })
   triggers : offset ≡ offsets.FCR → (level : FifoTriggerLevel) → WriteMove offset value c (set_trigger level c)
   frames : offset ≡ offsets.LCR → WriteMove offset value c (with_latches (record c.latches { lcr = value }) c)
-  steers : offset ≡ offsets.MCR → WriteMove offset value c (control_modem (bit_and value mcr_bits) c)
+  steers : offset ≡ offsets.MCR → WriteMove offset value c (control_modem (kept_mcr c.auto_flow value) c)
   notes : offset ≡ offsets.SPR → WriteMove offset value c (with_latches (record c.latches { scr = value }) c)
 
 -- a write is one move, or of FCR

@@ -1,4 +1,6 @@
 pub mod Sizes
+pub mod McrBits
+pub mod AutoFlow
 pub mod Jumps
 pub mod Bits
 pub mod Snapshots

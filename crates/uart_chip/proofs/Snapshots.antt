@@ -1,5 +1,5 @@
 -- A chip of which every part is that of another one without its schedule.
-use Rattle.std.proofs.Common.{◌≡◌, refl}
+use Rattle.std.proofs.Common.{◌≡◌, Bool, refl}
 use Rattle.uart_chip.specs.Transmitter.{TransmitterState}
 use Rattle.uart_chip.specs.Receiver.{ReceiverState}
 use Rattle.uart_chip.specs.Modem.{ModemState}
@@ -7,7 +7,7 @@ use Rattle.uart_chip.specs.Chip.{ChipState}
 use Rattle.uart_chip.specs.Data.{without_schedule}
 use Rattle.uart_chip.specs.Snapshot.{unscheduled}
 
-pub same_parts : (c : ChipState) (t : TransmitterState) (r : ReceiverState) (m : ModemState) → t ≡ c.transmitter →
-    r ≡ without_schedule c.transmitter.char_ticks c.receiver → m ≡ c.modem →
-    record c { transmitter = t; receiver = r; modem = m } ≡ unscheduled c
-same_parts c t r m e f g = rw (e, f, g) refl
+pub same_parts : (c : ChipState) (t : TransmitterState) (r : ReceiverState) (m : ModemState) (flow : Bool) → t ≡ c.transmitter →
+    r ≡ without_schedule c.transmitter.char_ticks c.receiver → m ≡ c.modem → flow ≡ c.auto_flow →
+    record c { transmitter = t; receiver = r; modem = m; auto_flow = flow } ≡ unscheduled c
+same_parts c t r m flow e f g h = rw (e, f, g, h) refl

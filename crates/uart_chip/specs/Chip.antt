@@ -23,10 +23,11 @@ use Rattle.uart_spec.specs.declared.registers.fifo_control.TheConstants.FCR
 use Rattle.uart_spec.specs.declared.registers.line_control.TheConstants.LCR
 use Rattle.uart_spec.specs.declared.registers.modem_control.TheConstants.MCR
 use Rattle.uart_spec.specs.declared.registers.line_status.TheConstants.LSR
+use Rattle.uart_spec.specs.declared.registers.modem_status.TheConstants.MSR
 use Rattle.uart_spec.specs.declared.registers.offsets.TheConstants as offsets
 use Rattle.uart_spec.specs.declared.setup.FifoSize.{FifoSize}
 use Rattle.uart_spec.specs.declared.setup.FifoSize.TheVariants.{Sixteen}
-use Rattle.uart_chip.specs.Masks.{ier_bits, mcr_bits}
+use Rattle.uart_chip.specs.Masks.{ier_bits, kept_mcr}
 use Rattle.uart_chip.specs.Transmitter as transmitter
 use Rattle.uart_chip.specs.Transmitter.{TransmitterState, looped_byte, load}
 use Rattle.uart_chip.specs.Receiver as receiver
@@ -48,7 +49,7 @@ pub record LatchesState : Type 0 where
   pub dlm : ℕ
 
 -- the model, which says whether there is a FIFO at all, the latches, whether the FIFO is on, transmitter, receiver,
--- modem lines, and whether characters are cut to the word length
+-- modem lines, whether characters are cut to the word length, and whether the chip has automatic flow control
 pub record ChipState : Type 0 where
   pub model : Chip
   pub latches : LatchesState
@@ -57,6 +58,7 @@ pub record ChipState : Type 0 where
   pub receiver : ReceiverState
   pub modem : ModemState
   pub cuts : Bool
+  pub auto_flow : Bool
 
 -- a chip after power-on, whose FIFOs hold 16 characters, for a schedule with this number of arrivals
 abbrev pub fresh : Chip → ℕ → ℕ → ℕ → ChipState
@@ -69,6 +71,7 @@ fresh model char_ticks capacity arrivals =
       receiver = receiver.fresh Sixteen char_ticks arrivals;
       modem = modem.fresh;
       cuts = false;
+      auto_flow = false;
     }
 
 -- the same chip, with FIFOs of this size; a 16450 has none, and nothing that it does depends on their size
@@ -83,6 +86,24 @@ is_dlab_set l = has_any l.lcr LCR.DLAB.0
 -- whether what leaves the transmitter comes back to the receiver
 abbrev pub is_loopback : LatchesState → Bool
 is_loopback l = has_any l.mcr MCR.LOOP_BACK.0
+
+-- whether automatic flow control is on: the chip has it, and its bit of MCR is set
+abbrev pub is_auto_flow : ChipState → Bool
+is_auto_flow c = c.auto_flow && has_any c.latches.mcr MCR._RESERVED0.0
+
+-- whether the transmitter takes no next character: automatic flow control is on, and CTS is off as MSR shows it, which
+-- in loopback is RTS of MCR
+abbrev pub is_held_off : ChipState → Bool
+is_held_off c = is_auto_flow c && not (has_any c.modem.lines MSR.CTS.0)
+
+-- A real 16750 sets RTS again only once its FIFO is empty. So it holds the other end off longer than this chip
+-- does, and never shorter: what is proved of loss here holds there too.
+
+-- the RTS output: RTS of MCR, but with automatic flow control and the FIFO on it is off while as many characters wait
+-- as the trigger level
+abbrev pub rts_output : ChipState → Bool
+rts_output c =
+    has_any c.latches.mcr MCR.RTS.0 && not (is_auto_flow c && (c.fifo && is_data_pending c.fifo c.receiver))
 
 -- what the divisor latch holds
 abbrev pub divisor : LatchesState → ℕ
@@ -107,7 +128,7 @@ cut_of c byte = cut_to c.cuts (word_length c.latches.lcr) byte
 abbrev pub tick : ChipState → ChipState
 tick c =
     record c {
-      transmitter = transmitter.tick (is_loopback c.latches) c.transmitter;
+      transmitter = transmitter.tick (is_loopback c.latches) (is_held_off c) c.transmitter;
       receiver = receiver.tick c.fifo (looped_byte (is_loopback c.latches) c.transmitter.shift_register) c.receiver;
     }
 
@@ -296,6 +317,6 @@ after_write offset value c =
     then (if is_dlab_set c.latches then with_latches (record c.latches { dlm = value }) c else enable value c)
     else if offset == offsets.FCR then control c.model value c
     else if offset == offsets.LCR then with_latches (record c.latches { lcr = value }) c
-    else if offset == offsets.MCR then control_modem (bit_and value mcr_bits) c
+    else if offset == offsets.MCR then control_modem (kept_mcr c.auto_flow value) c
     else if offset == offsets.SPR then with_latches (record c.latches { scr = value }) c
     else c

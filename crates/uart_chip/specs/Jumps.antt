@@ -1,7 +1,7 @@
 -- Ticks in jumps: when a character moves next, what happens until then, and how many jumps there are at most. No
 -- theorem rests on these definitions but that of `idle`, whose contract gives the effect of the ticks by those of
 -- `Chip`.
-use Rattle.std.specs.Prelude.{ℕ, ◌+◌, ◌-◌, ◌==◌, min, max, zero, suc, Bool, false, List, [], ◌∷◌, length}
+use Rattle.std.specs.Prelude.{ℕ, ◌+◌, ◌-◌, ◌==◌, min, max, zero, suc, Bool, false, not, List, [], ◌∷◌, length}
 use Rattle.std.specs.Prelude.{Option, Some, None, nat_lt}
 use Rattle.std.specs.Prelude.{if◌then◌else◌}
 use Rattle.uart_chip.specs.declared.transmitter.Shifting.{Shifting}
@@ -9,18 +9,21 @@ use Rattle.uart_spec.specs.FifoSize.{characters}
 use Rattle.uart_spec.specs.declared.setup.FifoSize.{FifoSize}
 use Rattle.uart_chip.specs.Transmitter.{TransmitterState}
 use Rattle.uart_chip.specs.Receiver.{ReceiverState}
-use Rattle.uart_chip.specs.Chip.{ChipState, is_loopback, tick}
+use Rattle.uart_chip.specs.Chip.{ChipState, is_loopback, is_held_off, tick}
 
--- the ticks until the character in the shift register leaves it, if it may, or the next one enters an empty one
-abbrev pub next_move_of : (may_leave : Bool) → Option Shifting → List ℕ → Option ℕ
-next_move_of may_leave None [] = None
-next_move_of may_leave None (x ∷ xs) = Some 1
-next_move_of may_leave (Some s) queue = if may_leave then Some (max s.ticks_left 1) else None
+-- the ticks until the character in the shift register leaves it, if it may, or the next one enters an empty one, if it
+-- may
+abbrev pub next_move_of : (may_leave may_enter : Bool) → Option Shifting → List ℕ → Option ℕ
+next_move_of may_leave may_enter None [] = None
+next_move_of may_leave may_enter None (x ∷ xs) = if may_enter then Some 1 else None
+next_move_of may_leave may_enter (Some s) queue = if may_leave then Some (max s.ticks_left 1) else None
 
--- of a transmitter: none if it is empty, or if the wire is full and it is not in loopback
-abbrev pub next_move : Bool → TransmitterState → Option ℕ
-next_move loopback t =
-    next_move_of (if loopback then loopback else nat_lt (length t.wire) t.capacity) t.shift_register t.queue
+-- of a transmitter: none if it is empty, if it is held off and nothing is shifted out, or if the wire is full and it is
+-- not in loopback
+abbrev pub next_move : (loopback held_off : Bool) → TransmitterState → Option ℕ
+next_move loopback held_off t =
+    next_move_of (if loopback then loopback else nat_lt (length t.wire) t.capacity) (not held_off) t.shift_register
+    t.queue
 
 -- ---- n ticks in which no character moves
 
@@ -58,7 +61,7 @@ is_one (Some k) = k == 1
 
 -- whether a character leaves the shift register or enters it in the next tick
 abbrev pub is_moving : ChipState → Bool
-is_moving c = is_one (next_move (is_loopback c.latches) c.transmitter)
+is_moving c = is_one (next_move (is_loopback c.latches) (is_held_off c) c.transmitter)
 
 -- The number of jumps is defined tick by tick, and not as the code jumps. That a jump of the code counts as one is then
 -- something to prove.

@@ -31,6 +31,10 @@ fresh model char_ticks capacity events =
 abbrev pub cutting : Bool → MachineState → MachineState
 cutting cuts m = record m { chip = record m.chip { cuts = cuts } }
 
+-- the same machine, which has automatic flow control, or has not
+abbrev pub flowing : (auto_flow : Bool) → MachineState → MachineState
+flowing auto_flow m = record m { chip = record m.chip { auto_flow = auto_flow } }
+
 -- the same machine, with FIFOs of this size
 abbrev pub sized : FifoSize → MachineState → MachineState
 sized size m = record m { chip = with_size size m.chip }

@@ -1,5 +1,5 @@
 -- The whole chip as plain data.
-use Rattle.std.specs.Prelude.{ℕ, List}
+use Rattle.std.specs.Prelude.{ℕ, false, List}
 use Rattle.uart_chip.specs.declared.chip.ChipData.{ChipData}
 use Rattle.uart_chip.specs.declared.chip.Latches.{Latches}
 use Rattle.uart_chip.specs.Chip.{LatchesState, ChipState}
@@ -9,7 +9,8 @@ use Rattle.uart_chip.specs.Data.{transmitter_of, receiver_of, without_schedule, 
 abbrev pub latches_of : Latches → LatchesState
 latches_of l = record { ier = l.ier.0; lcr = l.lcr.0; mcr = l.mcr.0; scr = l.scr; dll = l.dll; dlm = l.dlm }
 
--- the chip that these data describe, with these bytes on its wire and without a schedule
+-- the chip that these data describe, with these bytes on its wire and without a schedule; such a chip has no automatic
+-- flow control
 abbrev pub chip_of : ChipData → List ℕ → ChipState
 chip_of c wire =
     record {
@@ -20,6 +21,7 @@ chip_of c wire =
       receiver = receiver_of c.transmitter.char_ticks c.receiver;
       modem = modem_of c.modem;
       cuts = c.cuts;
+      auto_flow = false;
     }
 
 -- a chip without its schedule

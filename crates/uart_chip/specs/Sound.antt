@@ -13,7 +13,7 @@ use Rattle.uart_chip.specs.declared.receiver.Origin.TheVariants.{Arrived, Looped
 use Rattle.uart_chip.specs.declared.transmitter.Shifting.{Shifting}
 use Rattle.uart_spec.specs.declared.registers.line_status.TheConstants.LSR
 use Rattle.uart_spec.specs.declared.registers.modem_status.TheConstants.MSR
-use Rattle.uart_chip.specs.Masks.{ier_bits, mcr_bits}
+use Rattle.uart_chip.specs.Masks.{ier_bits, mcr_bits_of}
 use Rattle.uart_spec.specs.Bits.{IsWithin}
 use Rattle.uart_chip.specs.Transmitter.{TransmitterState, room}
 use Rattle.uart_chip.specs.Receiver.{ReceiverState, mark_at}
@@ -101,9 +101,9 @@ pub record IsSoundModem (m : ModemState) : Type 0 where
   pub deltas : IsWithin m.deltas MSR.CHANGES.0
 
 -- IER and MCR hold only bits that they keep
-pub record IsSoundLatches (l : LatchesState) : Type 0 where
+pub record IsSoundLatches (auto_flow : Bool) (l : LatchesState) : Type 0 where
   pub ier : IsWithin l.ier ier_bits
-  pub mcr : IsWithin l.mcr mcr_bits
+  pub mcr : IsWithin l.mcr (mcr_bits_of auto_flow)
 
 -- every latch holds a byte
 pub record HoldBytes (l : LatchesState) : Type 0 where
@@ -124,7 +124,7 @@ pub record IsSoundChip (c : ChipState) : Type 0 where
   pub receiver : IsSoundReceiver c.fifo c.receiver
   pub transmitter : IsSoundTransmitter c.fifo c.transmitter
   pub modem : IsSoundModem c.modem
-  pub latches : IsSoundLatches c.latches
+  pub latches : IsSoundLatches c.auto_flow c.latches
   pub sizes : c.receiver.size ≡ c.transmitter.size
   pub implemented : c.fifo ≡ true → c.model ≡ Uart16550A
   pub limit : c.receiver.timeout_limit ≡ 4 * c.transmitter.char_ticks

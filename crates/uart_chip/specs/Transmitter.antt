@@ -66,9 +66,10 @@ refill None (x ∷ []) t =
 refill None (x ∷ y ∷ xs) t =
     record t { queue = y ∷ xs; shift_register = Some (record { byte = x; ticks_left = t.char_ticks }) }
 
--- one tick: shift, then refill
-abbrev pub tick : Bool → TransmitterState → TransmitterState
-tick loopback t = let u = shift loopback t.shift_register t in refill u.shift_register u.queue u
+-- one tick: shift, and then refill unless the transmitter is held off. So a character that has begun goes out
+abbrev pub tick : (loopback held_off : Bool) → TransmitterState → TransmitterState
+tick loopback held_off t =
+    let u = shift loopback t.shift_register t in if held_off then u else refill u.shift_register u.queue u
 
 -- a byte is written to DATA: if there is room, it is put last; otherwise a full FIFO loses it, and without the FIFO it
 -- replaces the one that waits

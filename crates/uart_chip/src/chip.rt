@@ -1,5 +1,5 @@
 //! The chip: its registers, its transmitter, its receiver and its modem lines.
-ghost use Rattle.std.specs.Prelude.{◌≡◌, ◌<◌, ◌≤◌, ◌+◌, ℕ, [], ◌∷◌, true};
+ghost use Rattle.std.specs.Prelude.{◌≡◌, ◌<◌, ◌≤◌, ◌+◌, ℕ, [], ◌∷◌, true, false};
 ghost use Rattle.std.specs.Prelude.{length, replicate, is_some, IfOk};
 ghost use Rattle.uart_chip.specs.Chip as spec;
 ghost use Rattle.uart_chip.specs.Sending as sending_spec;
@@ -14,9 +14,10 @@ ghost use Rattle.uart_spec.specs.declared.setup.FifoSize.TheVariants.{Sixteen};
 
 use crate::controlling::{
     ChipParts, advance, arrive_live, change_lines, cut, divisor, is_dlab_set, is_interrupting,
-    is_loopback, read, receive_room, tick, write,
+    is_loopback, read, receive_room, rts_output, tick, write,
 };
 use crate::fifo::{Fifo, HeapFifo};
+use crate::flow::{ChosenFlow, FlowControl};
 use crate::journal::{Journal, Marks};
 use crate::modem::{Modem, ModemData};
 use crate::receiver::{Character, Receiver, ReceiverData};
@@ -77,6 +78,7 @@ pub struct Uart<
     W: Wire + Drop = HeapWire,
     C: Fifo<Character> + Drop = HeapFifo<Character>,
     J: Journal + Drop = Marks,
+    F: FlowControl + Drop = ChosenFlow,
 > {
     model: Chip,
     latches: Latches,
@@ -85,10 +87,16 @@ pub struct Uart<
     receiver: Receiver<C, J>,
     modem: Modem,
     cuts: bool,
+    flow: F,
 }
 
-impl<B: Fifo<u8> + Drop, W: Wire + Drop, C: Fifo<Character> + Drop, J: Journal + Drop> Model
-    for Uart<B, W, C, J> {
+impl<
+    B: Fifo<u8> + Drop,
+    W: Wire + Drop,
+    C: Fifo<Character> + Drop,
+    J: Journal + Drop,
+    F: FlowControl + Drop,
+> Model for Uart<B, W, C, J, F> {
     ghost use Rattle.uart_chip.specs.Chip.{ChipState};
     ghost use Rattle.uart_chip.specs.Snapshot.{latches_of};
 
@@ -98,6 +106,7 @@ impl<B: Fifo<u8> + Drop, W: Wire + Drop, C: Fifo<Character> + Drop, J: Journal +
     ghost view = { λ c. record {
       model = c.model;
       cuts = c.cuts;
+      auto_flow = F.automatic c.flow;
       latches = latches_of c.latches;
       fifo = c.fifo;
       transmitter = c.transmitter;
@@ -106,14 +115,15 @@ impl<B: Fifo<u8> + Drop, W: Wire + Drop, C: Fifo<Character> + Drop, J: Journal +
     } };
 }
 
-impl<B: Fifo<u8> + Drop, W: Wire + Drop, C: Fifo<Character> + Drop, J: Journal + Drop> Uart<
-    B,
-    W,
-    C,
-    J,
-> {
+impl<
+    B: Fifo<u8> + Drop,
+    W: Wire + Drop,
+    C: Fifo<Character> + Drop,
+    J: Journal + Drop,
+    F: FlowControl + Drop,
+> Uart<B, W, C, J, F> {
     /// Returns a chip after power-on, over empty queues of one size and an empty wire, with this
-    /// journal.
+    /// journal, and without automatic flow control.
     ///
     /// A character takes `char_ticks` ticks to be sent, and characters are cut to the word length
     /// if `cuts` is set.
@@ -150,11 +160,12 @@ impl<B: Fifo<u8> + Drop, W: Wire + Drop, C: Fifo<Character> + Drop, J: Journal +
             receiver: Receiver::new(characters, journal, char_ticks),
             modem: Modem::new(),
             cuts,
+            flow: F::by_driver(),
         }
     }
 
     /// Returns the chip with these data, over empty queues of 16 and a wire that holds its bytes,
-    /// without a schedule.
+    /// without a schedule and without automatic flow control.
     pub fn from_parts(bytes: B, wire: W, characters: C, journal: J, saved: &ChipData) -> Self
         requires char_ticks { saved.now.transmitter.char_ticks ≤ MAX_CHAR_TICKS }
         requires bytes { B.items bytes ≡ [] }
@@ -178,14 +189,16 @@ impl<B: Fifo<u8> + Drop, W: Wire + Drop, C: Fifo<Character> + Drop, J: Journal +
             receiver,
             modem: Modem::from_data(saved.modem),
             cuts: saved.cuts,
+            flow: F::by_driver(),
         }
     }
 
     /// Returns the chip as plain data, without the bytes on its wire and without its schedule. The
-    /// data are those of a chip with FIFOs of 16.
+    /// data are those of a chip with FIFOs of 16 that has no automatic flow control.
     pub fn data(&self) -> ChipData
         requires transmitter { self.now.transmitter.size ≡ Sixteen }
         requires receiver { self.now.receiver.size ≡ Sixteen }
+        requires flow { self.now.auto_flow ≡ false }
         ensures { chip_of result self.now.transmitter.wire ≡ unscheduled self.now }
     {
         ChipData {
@@ -232,6 +245,13 @@ impl<B: Fifo<u8> + Drop, W: Wire + Drop, C: Fifo<Character> + Drop, J: Journal +
         ensures { result ≡ spec.is_dlab_set self.now.latches }
     {
         is_dlab_set(self)
+    }
+
+    /// Returns whether the chip asks the other end to send, by its output RTS.
+    pub fn rts_output(&self) -> bool
+        ensures { result ≡ spec.rts_output self.now }
+    {
+        rts_output(self)
     }
 
     /// Returns the divisor in the divisor latch.
@@ -357,7 +377,7 @@ impl<B: Fifo<u8> + Drop, W: Wire + Drop, C: Fifo<Character> + Drop, J: Journal +
     }
 
     /// Returns whether a byte that is written to DATA can go onto the wire at once: outside of
-    /// loopback, with nothing in the transmitter and with room on the wire.
+    /// loopback, with nothing in the transmitter, which is not held off, and with room on the wire.
     pub fn sends_at_once(&self) -> bool
         ensures { result ≡ sending_spec.sends_at_once self.now }
     {
@@ -374,8 +394,13 @@ impl<B: Fifo<u8> + Drop, W: Wire + Drop, C: Fifo<Character> + Drop, J: Journal +
     }
 }
 
-impl<B: Fifo<u8> + Drop, W: Wire + Drop, C: Fifo<Character> + Drop, J: Journal + Drop> ChipParts
-    for Uart<B, W, C, J> {
+impl<
+    B: Fifo<u8> + Drop,
+    W: Wire + Drop,
+    C: Fifo<Character> + Drop,
+    J: Journal + Drop,
+    F: FlowControl + Drop,
+> ChipParts for Uart<B, W, C, J, F> {
     type Transmitter = Transmitter<B, W>;
 
     type Receiver = Receiver<C, J>;
@@ -394,6 +419,10 @@ impl<B: Fifo<u8> + Drop, W: Wire + Drop, C: Fifo<Character> + Drop, J: Journal +
 
     fn cuts(&self) -> bool {
         self.cuts
+    }
+
+    fn has_auto_flow(&self) -> bool {
+        self.flow.is_automatic()
     }
 
     fn transmitter(&self) -> &Transmitter<B, W> {
@@ -436,6 +465,10 @@ impl<B: Fifo<u8> + Drop, W: Wire + Drop, C: Fifo<Character> + Drop, J: Journal +
         self.modem.has_changes()
     }
 
+    fn is_clear_to_send(&self) -> bool {
+        self.modem.is_clear_to_send()
+    }
+
     fn ier(&self) -> IER {
         self.latches.ier
     }
@@ -457,7 +490,7 @@ impl<B: Fifo<u8> + Drop, W: Wire + Drop, C: Fifo<Character> + Drop, J: Journal +
     }
 }
 
-impl Uart<HeapFifo<u8>, HeapWire, HeapFifo<Character>, Marks> {
+impl Uart<HeapFifo<u8>, HeapWire, HeapFifo<Character>, Marks, ChosenFlow> {
     /// Returns a chip after power-on, for a schedule with this number of arrivals. Allocates all of
     /// its memory.
     ///
@@ -513,6 +546,16 @@ impl Uart<HeapFifo<u8>, HeapWire, HeapFifo<Character>, Marks> {
         let characters = HeapFifo::new(alloc, size)?;
         let journal = Marks::new(alloc, arrivals)?;
         Ok(Uart::with_parts(bytes, wire, characters, journal, model, char_ticks, cuts))
+    }
+
+    /// Returns the same chip with automatic flow control: MCR then keeps bit 5.
+    pub fn with_auto_flow(self) -> Self
+        ensures { result ≡ record self { auto_flow = true } }
+    {
+        Self {
+            flow: ChosenFlow::by_chip(),
+            ..self
+        }
     }
 
     /// Returns the chip with these data, and with these bytes on its wire. Allocates all of its

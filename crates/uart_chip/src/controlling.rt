@@ -5,7 +5,7 @@ ghost use Rattle.uart_chip.specs.Chip as spec;
 ghost use Rattle.uart_chip.specs.Chip.{ChipState};
 ghost use Rattle.uart_chip.specs.Jumps as jumps;
 ghost use Rattle.uart_chip.specs.Jumps.{moves, jumps_in};
-ghost use Rattle.uart_chip.specs.Masks.{mcr_bits};
+ghost use Rattle.uart_chip.specs.Masks.{kept_mcr};
 ghost use Rattle.uart_chip.specs.Modem.{renew};
 ghost use Rattle.uart_chip.specs.Receiver as receiver;
 ghost use Rattle.uart_chip.specs.Snapshot.{latches_of};
@@ -13,10 +13,12 @@ ghost use Rattle.uart_chip.specs.Status.{fifo_status};
 ghost use Rattle.uart_chip.specs.Transmitter as transmitter;
 ghost use Rattle.uart_chip.specs.Transmitter.{looped_byte};
 ghost use Rattle.uart_spec.specs.declared.baud.TheConstants.{NUM_REGISTERS};
+ghost use Rattle.uart_spec.specs.Bits.{has_any};
+ghost use Rattle.uart_spec.specs.declared.registers.modem_status.TheConstants.MSR;
 ghost use Rattle.uart_spec.specs.declared.registers.offsets.TheConstants as offsets;
 
 use crate::chip::Latches;
-use crate::masks::{kept_interrupts, kept_modem_control};
+use crate::masks::{kept_interrupts, kept_modem_control_of};
 use crate::receiving::{
     ReceiverParts, clear, count_up, is_data_pending, is_timed_out, report, take_front,
 };
@@ -59,6 +61,10 @@ pub trait ChipParts {
     /// Returns whether characters are cut to the word length.
     fn cuts(&self) -> bool
         ensures { result ≡ (state self.now).cuts };
+
+    /// Returns whether the chip has automatic flow control.
+    fn has_auto_flow(&self) -> bool
+        ensures { result ≡ (state self.now).auto_flow };
 
     /// Returns the transmitter.
     fn transmitter(&self) -> &Self::Transmitter
@@ -126,6 +132,10 @@ pub trait ChipParts {
     /// Returns whether a modem line has changed since the last read of MSR.
     fn has_modem_changes(&self) -> bool
         ensures { result ≡ not ((state self.now).modem.deltas == 0) };
+
+    /// Returns whether MSR shows CTS: the other end is ready to receive.
+    fn is_clear_to_send(&self) -> bool
+        ensures { result ≡ has_any (state self.now).modem.lines MSR.CTS.0 };
 
     /// Returns the interrupt enable register.
     fn ier(&self) -> IER
@@ -224,13 +234,38 @@ pub fn is_loopback<P: ChipParts>(parts: &P) -> bool
     parts.mcr().intersects(MCR::LOOP_BACK)
 }
 
+// Returns whether automatic flow control is on.
+fn is_auto_flow<P: ChipParts>(parts: &P) -> bool
+    ensures { result ≡ spec.is_auto_flow (P.state parts.now) }
+{
+    parts.has_auto_flow() && parts.mcr().intersects(MCR::_RESERVED0)
+}
+
+/// Returns whether the transmitter takes no next character: automatic flow control is on, and the
+/// other end is not ready to receive.
+pub fn is_held_off<P: ChipParts>(parts: &P) -> bool
+    ensures { result ≡ spec.is_held_off (P.state parts.now) }
+{
+    is_auto_flow(parts) && !parts.is_clear_to_send()
+}
+
+/// Returns whether the chip asks the other end to send, by its output RTS.
+pub fn rts_output<P: ChipParts>(parts: &P) -> bool
+    ensures { result ≡ spec.rts_output (P.state parts.now) }
+{
+    let is_full = is_auto_flow(parts)
+        && (parts.fifo() && is_data_pending(parts.receiver(), parts.fifo()));
+    parts.mcr().intersects(MCR::RTS) && !is_full
+}
+
 /// Lets one tick pass.
 pub fn tick<P: ChipParts>(parts: &mut P)
     ensures after { P.state parts.new ≡ spec.tick (P.state parts.old) }
     ensures canonical { P.canonical parts.old → P.canonical parts.new }
 {
     let loopback = is_loopback(parts);
-    let looped = transmitting::tick(parts.transmitter_mut(), loopback);
+    let held_off = is_held_off(parts);
+    let looped = transmitting::tick(parts.transmitter_mut(), loopback, held_off);
     let fifo = parts.fifo();
     receiving::tick(parts.receiver_mut(), fifo, looped);
 }
@@ -261,7 +296,8 @@ pub fn advance<P: ChipParts>(parts: &mut P, n: u16) -> usize
     let mut jumps = 0;
     while left > 0 {
         let loopback = is_loopback(parts);
-        match next_move(parts.transmitter(), loopback) {
+        let held_off = is_held_off(parts);
+        match next_move(parts.transmitter(), loopback, held_off) {
             Some(ticks) if ticks <= left => {
                 skip(parts, ticks - 1);
                 tick(parts);
@@ -533,11 +569,11 @@ fn enable<P: ChipParts>(parts: &mut P, interrupts: IER)
 
 // Writes MCR.
 fn control_modem<P: ChipParts>(parts: &mut P, value: MCR)
-    ensures after { P.state parts.new ≡
-        spec.control_modem (bit_and value.0 mcr_bits) (P.state parts.old) }
+    ensures after { P.state parts.new ≡ spec.control_modem
+        (kept_mcr (P.state parts.old).auto_flow value.0) (P.state parts.old) }
     ensures canonical { P.canonical parts.old → P.canonical parts.new }
 {
-    let mcr = kept_modem_control(value);
+    let mcr = kept_modem_control_of(parts.has_auto_flow(), value);
     let latches = parts.latches();
     parts.set_latches(Latches { mcr, ..latches });
     parts.renew_modem(mcr);

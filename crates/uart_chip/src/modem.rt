@@ -2,6 +2,8 @@
 ghost use Rattle.std.specs.Prelude.{◌≡◌, ◌==◌, not, bit_or};
 ghost use Rattle.uart_chip.specs.Modem as spec;
 ghost use Rattle.uart_chip.specs.Data.{modem_of};
+ghost use Rattle.uart_spec.specs.Bits.{has_any};
+ghost use Rattle.uart_spec.specs.declared.registers.modem_status.TheConstants.MSR;
 
 use bitflags::Flags;
 use std::marker::Model;
@@ -115,6 +117,13 @@ impl Modem {
         let status = self.lines.union(self.deltas);
         self.deltas = MSR::empty();
         status
+    }
+
+    /// Returns whether MSR shows CTS: the other end is ready to receive.
+    pub fn is_clear_to_send(&self) -> bool
+        ensures { result ≡ has_any self.now.lines MSR.CTS.0 }
+    {
+        self.lines.intersects(MSR::CTS)
     }
 
     /// Returns whether a line has changed since the last read of MSR.

@@ -2,7 +2,7 @@
 ghost use Rattle.std.specs.Prelude.{◌≡◌, true};
 ghost use Rattle.uart_chip.specs.Sending as spec;
 
-use crate::controlling::{ChipParts, cut, is_loopback};
+use crate::controlling::{ChipParts, cut, is_held_off, is_loopback};
 use crate::transmitting::TransmitterParts;
 use bitflags::Flags;
 use uart_spec::registers::LCR;
@@ -15,11 +15,12 @@ fn is_ready<T: TransmitterParts>(parts: &T) -> bool
 }
 
 /// Returns whether a byte that is written to DATA can go onto the wire at once: outside of
-/// loopback, with nothing in the transmitter and with room on the wire.
+/// loopback, with nothing in the transmitter, which is not held off, and with room on the wire.
 pub fn sends_at_once<P: ChipParts>(parts: &P) -> bool
     ensures { result ≡ spec.sends_at_once (P.state parts.now) }
 {
-    !parts.lcr().intersects(LCR::DLAB) && (!is_loopback(parts) && is_ready(parts.transmitter()))
+    !parts.lcr().intersects(LCR::DLAB)
+        && (!is_loopback(parts) && (!is_held_off(parts) && is_ready(parts.transmitter())))
 }
 
 // Puts a byte onto the wire. THR is as empty as before, and that counts as a new interrupt.

@@ -140,24 +140,27 @@ fn refill<T: TransmitterParts>(parts: &mut T)
     }
 }
 
-/// Lets one tick pass, and returns the byte that loopback returns in it.
-pub fn tick<T: TransmitterParts>(parts: &mut T, loopback: bool) -> Option<u8>
-    ensures after { T.state parts.new ≡ spec.tick loopback (T.state parts.old) }
+/// Lets one tick pass, and returns the byte that loopback returns in it. A transmitter that is held
+/// off takes no next character from its queue; the one that it shifts out goes on.
+pub fn tick<T: TransmitterParts>(parts: &mut T, loopback: bool, held_off: bool) -> Option<u8>
+    ensures after { T.state parts.new ≡ spec.tick loopback held_off (T.state parts.old) }
     ensures looped { result ≡ looped_byte loopback (T.state parts.old).shift_register }
     ensures canonical { T.canonical parts.old → T.canonical parts.new }
 {
     let looped = shift(parts, loopback);
-    refill(parts);
+    if !held_off {
+        refill(parts);
+    }
     looped
 }
 
 /// Returns the ticks until a character enters or leaves the shift register: `None` if none can, as
 /// with a full wire.
-pub fn next_move<T: TransmitterParts>(parts: &T, loopback: bool) -> Option<u16>
-    ensures { result ≡ jumps.next_move loopback (T.state parts.now) }
+pub fn next_move<T: TransmitterParts>(parts: &T, loopback: bool, held_off: bool) -> Option<u16>
+    ensures { result ≡ jumps.next_move loopback held_off (T.state parts.now) }
 {
     match parts.shifting() {
-        None if parts.queue_len() == 0 => None,
+        None if held_off || parts.queue_len() == 0 => None,
         None => Some(1),
         Some(shifting) if loopback || parts.has_room() => Some(shifting.ticks_left.max(1)),
         Some(_) => None,

@@ -231,7 +231,7 @@ script_is_read bytes plan s =
     rw (
       le-ltb MOST_BYTES (length bytes) s.fits,
       s.lines,
-      reads_header s.first plan.chip plan.fifo_size plan.ticks plan.wire_capacity plan.cuts s.header,
+      reads_header s.first plan.chip plan.fifo_size plan.auto_flow plan.ticks plan.wire_capacity plan.cuts s.header,
       read,
       ← s.limit,
       ← s.events,

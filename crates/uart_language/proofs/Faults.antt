@@ -295,12 +295,12 @@ is_cut C cuts e = go (bytes_eq C (codes "cut")) refl cuts e
 
 words_are_header : (line : List ℕ) (ws : List (List ℕ)) (h : Header) → words_of line ≡ ws → has_bad_byte line ≡ false
     → name_of word.Chip ≡ word_at 0 ws → has_count word.Chip (length ws) ≡ true → header_in ws ≡ Ok h
-    → IsHeader line h.chip.model h.chip.size h.ticks h.wire_capacity h.cuts
+    → IsHeader line h.chip.model h.chip.size h.chip.auto_flow h.ticks h.wire_capacity h.cuts
 unfolding header_in
 words_are_header line (name ∷ NAME ∷ T ∷ W ∷ []) h w b n c e =
     let make : ChipKind → ℕ → ℕ → Header = λ chip ticks capacity. header_of chip ticks capacity false in
     let r = three_ok (chip_in NAME) (char_ticks_in T) (wire_capacity_in W) make h e in
-    subst (λ (x : Header). IsHeader line x.chip.model x.chip.size x.ticks x.wire_capacity x.cuts) r.6 (record {
+    subst (λ (x : Header). IsHeader line x.chip.model x.chip.size x.chip.auto_flow x.ticks x.wire_capacity x.cuts) r.6 (record {
       NAME = NAME;
       T = T;
       W = W;
@@ -313,7 +313,7 @@ words_are_header line (name ∷ NAME ∷ T ∷ W ∷ []) h w b n c e =
 words_are_header line (name ∷ NAME ∷ T ∷ W ∷ C ∷ []) h w b n c e =
     let r = four_ok (chip_in NAME) (char_ticks_in T) (wire_capacity_in W) (cut_in C) header_of h e in
     let o = is_cut C r.3 r.7 in
-    subst (λ (x : Header). IsHeader line x.chip.model x.chip.size x.ticks x.wire_capacity x.cuts) r.8
+    subst (λ (x : Header). IsHeader line x.chip.model x.chip.size x.chip.auto_flow x.ticks x.wire_capacity x.cuts) r.8
     (record {
       NAME = NAME;
       T = T;
@@ -336,7 +336,7 @@ counted false r x e = absurd cc
 header_by : (line : List ℕ) (h : Header) (bad : Bool) (first : Option Word) → has_bad_byte line ≡ bad
     → word_of (word_at 0 (words_of line)) ≡ first
     → (cond bad (Err BadByte) (placed_word 1 (words_of line) first) >>= (λ w. header_in (words_of line))) ≡ Ok h
-    → IsHeader line h.chip.model h.chip.size h.ticks h.wire_capacity h.cuts
+    → IsHeader line h.chip.model h.chip.size h.chip.auto_flow h.ticks h.wire_capacity h.cuts
 header_by line h true first b f e = absurd cc
 header_by line h false None b f e = absurd cc
 header_by line h false (Some word.Chip) b f e =
@@ -345,12 +345,13 @@ header_by line h false (Some word.Chip) b f e =
 header_by line h false (Some w) b f e = absurd cc
 
 pub says_header : (line : List ℕ) (h : Header) → header_at line ≡ Ok h
-    → IsHeader line h.chip.model h.chip.size h.ticks h.wire_capacity h.cuts
+    → IsHeader line h.chip.model h.chip.size h.chip.auto_flow h.ticks h.wire_capacity h.cuts
 unfolding header_at starts_with
 says_header line h e = header_by line h _ _ refl refl e
 
-pub reads_header : (line : List ℕ) (chip : Chip) (size : FifoSize) (ticks capacity : ℕ) (cuts : Bool)
-    → IsHeader line chip size ticks capacity cuts → header_at line ≡ Ok (header_of (kind chip size) ticks capacity cuts)
+pub reads_header : (line : List ℕ) (chip : Chip) (size : FifoSize) (flow : Bool) (ticks capacity : ℕ) (cuts : Bool)
+    → IsHeader line chip size flow ticks capacity cuts
+    → header_at line ≡ Ok (header_of (kind chip size flow) ticks capacity cuts)
 unfolding header_at starts_with header_in word_of cut_in
-reads_header line chip size ticks capacity false h = rw (h.printable, h.words, h.chip_is, h.ticks_is, h.wire_capacity_is) refl
-reads_header line chip size ticks capacity true h = rw (h.printable, h.words, h.chip_is, h.ticks_is, h.wire_capacity_is) refl
+reads_header line chip size flow ticks capacity false h = rw (h.printable, h.words, h.chip_is, h.ticks_is, h.wire_capacity_is) refl
+reads_header line chip size flow ticks capacity true h = rw (h.printable, h.words, h.chip_is, h.ticks_is, h.wire_capacity_is) refl

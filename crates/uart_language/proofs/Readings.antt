@@ -105,6 +105,7 @@ abbrev pub empty_plan : Header → Plan
 empty_plan header = record {
   chip = header.chip.model;
   fifo_size = header.chip.size;
+  auto_flow = header.chip.auto_flow;
   ticks = header.ticks;
   wire_capacity = header.wire_capacity;
   cuts = header.cuts;

@@ -118,17 +118,19 @@ errors_in word = among (
     ∷ (codes "fb", LSR.FRAMING_ERROR.0 + LSR.BREAK_INTERRUPT.0)
     ∷ (codes "pfb", LSR.CHARACTER_ERRORS.0) ∷ []) word
 
--- a model, with FIFOs of this size
-abbrev pub kind : Chip → FifoSize → ChipKind
-kind model size = record { model = model; size = size }
+-- a model, with FIFOs of this size, and with automatic flow control or without
+abbrev pub kind : Chip → FifoSize → (auto_flow : Bool) → ChipKind
+kind model size auto_flow = record { model = model; size = size; auto_flow = auto_flow }
 
--- NAME: the kind of chip; a chip with larger FIFOs is a 16550A in all else
+-- NAME: the kind of chip; a chip with larger FIFOs is a 16550A in all else, but that a 16750 and a 16950 have automatic
+-- flow control
 unfoldable pub chip_in : List ℕ → Result ChipKind Cause
 chip_in word = among (
-    (codes "16550a", kind Uart16550A Sixteen) ∷ (codes "16450", kind Uart16450 Sixteen)
-    ∷ (codes "16650", kind Uart16550A ThirtyTwo) ∷ (codes "16750", kind Uart16550A SixtyFour)
-    ∷ (codes "16850", kind Uart16550A OneHundredTwentyEight) ∷ (codes "16950", kind Uart16550A OneHundredTwentyEight)
-    ∷ (codes "16550a-256", kind Uart16550A TwoHundredFiftySix) ∷ []) word
+    (codes "16550a", kind Uart16550A Sixteen false) ∷ (codes "16450", kind Uart16450 Sixteen false)
+    ∷ (codes "16650", kind Uart16550A ThirtyTwo false) ∷ (codes "16750", kind Uart16550A SixtyFour true)
+    ∷ (codes "16850", kind Uart16550A OneHundredTwentyEight false)
+    ∷ (codes "16950", kind Uart16550A OneHundredTwentyEight true)
+    ∷ (codes "16550a-256", kind Uart16550A TwoHundredFiftySix false) ∷ []) word
 
 -- the option that may end the first line
 unfoldable pub cut_in : List ℕ → Result Bool Cause

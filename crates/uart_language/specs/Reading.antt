@@ -47,6 +47,7 @@ abbrev pub plan_by : Header → List Saying → Plan
 plan_by header sayings = record {
   chip = header.chip.model;
   fifo_size = header.chip.size;
+  auto_flow = header.chip.auto_flow;
   ticks = header.ticks;
   wire_capacity = header.wire_capacity;
   cuts = header.cuts;

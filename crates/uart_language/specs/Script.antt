@@ -40,10 +40,12 @@ SayInOrder number [] (said ∷ sayings) = ⊥
 SayInOrder number (line ∷ lines) [] = ⊥
 SayInOrder number (line ∷ lines) (said ∷ sayings) = Says number line said × SayInOrder (number + 1) lines sayings
 
--- a script as a value: chip, size of its FIFOs, ticks, wire capacity, whether characters are cut, limit, events, calls
+-- a script as a value: chip, size of its FIFOs, whether it has automatic flow control, ticks, wire capacity, whether
+-- characters are cut, limit, events, calls
 pub record Plan : Type 0 where
   pub chip : Chip
   pub fifo_size : FifoSize
+  pub auto_flow : Bool
   pub ticks : ℕ
   pub wire_capacity : ℕ
   pub cuts : Bool
@@ -56,6 +58,7 @@ abbrev pub plan_of : Script → Plan
 plan_of s = record {
   chip = s.header.chip.model;
   fifo_size = s.header.chip.size;
+  auto_flow = s.header.chip.auto_flow;
   ticks = s.header.ticks;
   wire_capacity = s.header.wire_capacity;
   cuts = s.header.cuts;
@@ -70,14 +73,14 @@ option_words false = []
 option_words true = codes "cut" ∷ []
 
 -- the line is `chip NAME T W`, or `chip NAME T W cut`, with these values
-pub record IsHeader (line : List ℕ) (chip : Chip) (fifo_size : FifoSize) (ticks wire_capacity : ℕ) (cuts : Bool)
-    : Type 0 where
+pub record IsHeader (line : List ℕ) (chip : Chip) (fifo_size : FifoSize) (auto_flow : Bool) (ticks wire_capacity : ℕ)
+    (cuts : Bool) : Type 0 where
   pub NAME : List ℕ
   pub T : List ℕ
   pub W : List ℕ
   pub printable : has_bad_byte line ≡ false
   pub words : words_of line ≡ codes "chip" ∷ NAME ∷ T ∷ W ∷ option_words cuts
-  pub chip_is : chip_in NAME ≡ Ok (kind chip fifo_size)
+  pub chip_is : chip_in NAME ≡ Ok (kind chip fifo_size auto_flow)
   pub ticks_is : char_ticks_in T ≡ Ok ticks
   pub wire_capacity_is : wire_capacity_in W ≡ Ok wire_capacity
 
@@ -96,7 +99,7 @@ pub record IsScript (bytes : List ℕ) (plan : Plan) : Type 0 where
   pub fits : length bytes ≤ MOST_BYTES
   pub lines : lines_of bytes ≡ first ∷ others
   pub few : length others < MOST_LINES
-  pub header : IsHeader first plan.chip plan.fifo_size plan.ticks plan.wire_capacity plan.cuts
+  pub header : IsHeader first plan.chip plan.fifo_size plan.auto_flow plan.ticks plan.wire_capacity plan.cuts
   pub body : SayInOrder 2 others sayings
   pub limit : plan.limit ≡ limit_from DEFAULT_LIMIT sayings
   pub events : plan.events ≡ flat_map events_said sayings

@@ -42,6 +42,13 @@ impl Script {
         self.header.chip.size
     }
 
+    /// Returns whether the chip has automatic flow control.
+    pub fn has_auto_flow(&self) -> bool
+        ensures { result ≡ (plan_of self.now).auto_flow }
+    {
+        self.header.chip.auto_flow
+    }
+
     /// Returns the number of ticks that the chip takes to send a character.
     pub fn ticks(&self) -> u16
         ensures { result ≡ (plan_of self.now).ticks }

@@ -8,7 +8,7 @@ use Rattle.uart_events.specs.declared.event.Event.{Event}
 use Rattle.uart_spec.specs.Bits.{IsWithin, has_any}
 use Rattle.uart_spec.specs.declared.registers.modem_control.TheConstants.MCR
 use Rattle.uart_spec.specs.declared.registers.modem_status.TheConstants.MSR
-use Rattle.uart_chip.specs.Chip.{ChipState, is_loopback}
+use Rattle.uart_chip.specs.Chip.{ChipState, is_loopback, rts_output}
 use Rattle.uart_chip.specs.Machine.{MachineState, arrivals}
 use Rattle.uart_chip.proofs.soundness.Within.{within_or, within_flag}
 use Rattle.uart_link.specs.declared.call.Moment.{Moment}
@@ -21,10 +21,10 @@ use Rattle.uart_link.proofs.Schedules.{arrivals-unknown}
 pub lines_within : (c : ChipState) → IsWithin (lines_from c) MSR.LINES.0
 lines_within c = go (is_loopback c.latches)
   where
-    go : (b : Bool) → IsWithin (if b then 0 else lines_joined c.latches.mcr) MSR.LINES.0
+    go : (b : Bool) → IsWithin (if b then 0 else lines_joined (rts_output c) (has_any c.latches.mcr MCR.DTR.0)) MSR.LINES.0
     go true = refl
     go false =
-        within_or _ _ MSR.LINES.0 (within_flag (has_any c.latches.mcr MCR.RTS.0) MSR.CTS.0 MSR.LINES.0 refl refl)
+        within_or _ _ MSR.LINES.0 (within_flag (rts_output c) MSR.CTS.0 MSR.LINES.0 refl refl)
         (within_or _ _ MSR.LINES.0 (within_flag (has_any c.latches.mcr MCR.DTR.0) MSR.DSR.0 MSR.LINES.0 refl refl)
         (within_flag (has_any c.latches.mcr MCR.DTR.0) MSR.CD.0 MSR.LINES.0 refl refl))
 

@@ -17,18 +17,19 @@ use Rattle.uart_spec.specs.declared.registers.modem_status.TheConstants.MSR
 use Rattle.uart_spec.specs.declared.registers.offsets.TheConstants as offsets
 use Rattle.uart_chip.specs.declared.receiver.Character.{Character}
 use Rattle.uart_chip.specs.declared.receiver.Origin.TheVariants.{Arrived}
-use Rattle.uart_chip.specs.Masks.{mcr_bits}
+use Rattle.uart_chip.specs.Masks.{kept_mcr}
+use Rattle.uart_chip.proofs.McrBits.{kept_bit}
 use Rattle.uart_chip.specs.Modem.{ModemState}
 use Rattle.uart_chip.specs.Receiver as receiver
 use Rattle.uart_chip.specs.Receiver.{ReceiverState, take_front, report, grow_timeout}
 use Rattle.uart_chip.specs.Transmitter as transmitter
 use Rattle.uart_chip.specs.Transmitter.{looped_byte}
-use Rattle.uart_chip.specs.Chip.{ChipState, is_loopback, is_dlab_set, interrupt, is_thr_empty, tick, ticks, arrive, change_lines, answer}
+use Rattle.uart_chip.specs.Chip.{ChipState, is_loopback, is_held_off, is_dlab_set, interrupt, is_thr_empty, tick, ticks, arrive}
+use Rattle.uart_chip.specs.Chip.{change_lines, answer}
 use Rattle.uart_chip.specs.Chip.{after_read, after_write, cut_of, control_modem, with_latches}
 use Rattle.uart_chip.specs.Machine.{MachineState, MachineStep, before_access, after_access, at_access, before_mark}
 use Rattle.uart_chip.specs.Sound.{IsSound}
 use Rattle.uart_spec.specs.FifoSize.{characters}
-use Rattle.uart_chip.proofs.Sizes.{at_least_16}
 use Rattle.uart_chip.proofs.Bits.{has_one, has_or, has_not}
 use Rattle.uart_chip.proofs.Lists.{each-append}
 use Rattle.uart_chip.proofs.conservation.Blocks.{is_quiet, Block, Look, Hit, Burst, Other, Divisor, accesses_of, AllQuiet, IsFit}
@@ -46,7 +47,7 @@ abbrev pub IsMild : Access → Type 0
 IsMild (Read offset value) = Unit {0}
 IsMild (Write offset value) =
     ((offset == offsets.FCR) ≡ false)
-    × ((offset == offsets.MCR) ≡ true → has_any (bit_and value mcr_bits) MCR.LOOP_BACK.0 ≡ false)
+    × ((offset == offsets.MCR) ≡ true → has_any value MCR.LOOP_BACK.0 ≡ false)
 
 abbrev pub AllMild : List Access → Type 0
 AllMild accesses = AllByRecursion IsMild accesses
@@ -182,7 +183,7 @@ module _ (cts : Bool) where
       cts_before events (arrive byte errors c) e.1 (cts_face c (arrive byte errors c) (record { mcr = refl; lines = refl }) h)
   cts_before (Lines inputs ∷ events) c e h = cts_before events (change_lines inputs c) e.1 (cts_lines inputs c e.0 h.loopback)
 
-  cts_after : (events : List Event) → AllLeaveCts cts events → AllLeaveCts cts (after_access events)
+  pub cts_after : (events : List Event) → AllLeaveCts cts events → AllLeaveCts cts (after_access events)
   cts_after [] e = tt
   cts_after (Gate ∷ events) e = e.1
   cts_after (Mark ∷ events) e = e
@@ -236,7 +237,7 @@ module _ (cts : Bool) where
 pub record HasRoomTo (last : ℕ) (r : ReceiverState) (c : ChipState) : Type 0 where
   pub fifo : c.fifo ≡ true
   pub loopback : is_loopback c.latches ≡ false
-  pub room : c.receiver.arrived ≤ last → length c.receiver.queue + last ≤ 16 + c.receiver.arrived
+  pub room : c.receiver.arrived ≤ last → length c.receiver.queue + last ≤ characters c.receiver.size + c.receiver.arrived
   pub whole : c.receiver.arrived ≤ last → Drop r c.receiver → ⊥
 
 -- the marks and the missing flag stay
@@ -247,13 +248,15 @@ no_drop_same r s m l d = let h : origin_stands r.marks r.is_unscheduled_lost d.o
 record IsStill (r s : ReceiverState) : Type 0 where
   pub arrived : s.arrived ≡ r.arrived
   pub fewer : length s.queue ≤ length r.queue
+  pub size : s.size ≡ r.size
   pub whole : Drop r s → ⊥
 
 still_same : (r s : ReceiverState) → s.arrived ≡ r.arrived → s.queue ≡ r.queue → s.marks ≡ r.marks →
-    s.is_unscheduled_lost ≡ r.is_unscheduled_lost → IsStill r s
-still_same r s arrived queue marks lost = record {
+    s.is_unscheduled_lost ≡ r.is_unscheduled_lost → s.size ≡ r.size → IsStill r s
+still_same r s arrived queue marks lost size = record {
   arrived = arrived;
   fewer = rw queue (omega arith);
+  size = size;
   whole = λ d. no_drop_same r s marks lost d;
 }
 
@@ -263,7 +266,8 @@ room_still last r c d fifo loopback s h = record {
   fifo = fifo ∙ h.fifo;
   loopback = loopback;
   room = λ few. let g : c.receiver.arrived ≤ last = omega (arith, few, s.arrived) in
-      let k = h.room g in omega (arith, k, s.arrived, s.fewer);
+      let k = h.room g in
+      let same = ap characters s.size in omega (arith, k, s.arrived, s.fewer, same);
   whole = λ few d. let g : c.receiver.arrived ≤ last = omega (arith, few, s.arrived) in split g (drop_split r c.receiver _ d);
 }
   where
@@ -272,22 +276,23 @@ room_still last r c d fifo loopback s h = record {
     split g (inr e) = s.whole e
 
 tick_still : (c : ChipState) → is_loopback c.latches ≡ false →
-    tick c ≡ record c { transmitter = transmitter.tick false c.transmitter; receiver = grow_timeout c.receiver }
+    tick c ≡ record c { transmitter = transmitter.tick false (is_held_off c) c.transmitter; receiver = grow_timeout c.receiver }
 tick_still c e =
     ap (λ (b : Bool). record c {
-      transmitter = transmitter.tick b c.transmitter;
+      transmitter = transmitter.tick b (is_held_off c) c.transmitter;
       receiver = receiver.tick c.fifo (looped_byte b c.transmitter.shift_register) c.receiver;
     }) e
 
 room_tick : (last : ℕ) (r : ReceiverState) (c : ChipState) → HasRoomTo last r c → HasRoomTo last r (tick c)
 room_tick last r c h = rw (tick_still c h.loopback)
-    (room_still last r c _ refl h.loopback (still_same c.receiver _ refl refl refl refl) h)
+    (room_still last r c _ refl h.loopback (still_same c.receiver _ refl refl refl refl refl) h)
 
 -- a character arrives while there is room
 record Enters (r s : ReceiverState) : Type 0 where
   pub arrived : s.arrived ≡ r.arrived + 1
-  pub fuller : length r.queue < 16 → length s.queue ≡ length r.queue + 1
-  pub whole : length r.queue < 16 → Drop r s → ⊥
+  pub fuller : length r.queue < characters r.size → length s.queue ≡ length r.queue + 1
+  pub whole : length r.queue < characters r.size → Drop r s → ⊥
+  pub size : s.size ≡ r.size
 
 enters : (r : ReceiverState) (byte errors : ℕ) → Enters r (receiver.arrive false true byte errors r)
 enters r byte errors = go (nat_lt (length r.queue) (characters r.size)) refl
@@ -297,14 +302,15 @@ enters r byte errors = go (nat_lt (length r.queue) (characters r.size)) refl
       arrived = refl;
       fuller = λ few. simp length-append (omega arith);
       whole = λ few d. no_drop-set r _ (Arrived r.arrived) marks.Waiting (λ q. cc) refl refl d;
+      size = refl;
     })
     go false e =
-        let least = at_least_16 r.size in
-        let full : 16 ≤ length r.queue = grind (arith, common_steps) in
+        let full : characters r.size ≤ length r.queue = grind (arith, common_steps) in
         rw e (record {
           arrived = refl;
           fuller = λ few. absurd (omega (arith, few, full));
           whole = λ few d. omega (arith, few, full);
+          size = refl;
         })
 
 room_entered : (last : ℕ) (r s : ReceiverState) (c : ChipState) → Enters c.receiver s → HasRoomTo last r c →
@@ -315,16 +321,16 @@ room_entered last r s c n h = record {
   room = λ few.
       let g : c.receiver.arrived ≤ last = omega (arith, few, n.arrived) in
       let k = h.room g in
-      let free : length c.receiver.queue < 16 = omega (arith, few, n.arrived, k) in
-      omega (arith, k, n.arrived, n.fuller free);
+      let free : length c.receiver.queue < characters c.receiver.size = omega (arith, few, n.arrived, k) in
+      let same = ap characters n.size in omega (arith, k, n.arrived, n.fuller free, same);
   whole = λ few d.
       let g : c.receiver.arrived ≤ last = omega (arith, few, n.arrived) in
       let k = h.room g in
-      let free : length c.receiver.queue < 16 = omega (arith, few, n.arrived, k) in
+      let free : length c.receiver.queue < characters c.receiver.size = omega (arith, few, n.arrived, k) in
       split g free (drop_split r c.receiver s d);
 }
   where
-    split : c.receiver.arrived ≤ last → length c.receiver.queue < 16 → Drop r c.receiver ⊎ Drop c.receiver s → ⊥
+    split : c.receiver.arrived ≤ last → length c.receiver.queue < characters c.receiver.size → Drop r c.receiver ⊎ Drop c.receiver s → ⊥
     split g free (inl e) = h.whole g e
     split g free (inr e) = n.whole free e
 
@@ -343,7 +349,7 @@ room_events last r = record {
   in_tick = room_tick last r;
   in_arrival = room_arrive last r;
   in_lines = λ inputs c h.
-      room_still last r c (change_lines inputs c) refl h.loopback (still_same c.receiver c.receiver refl refl refl refl) h;
+      room_still last r c (change_lines inputs c) refl h.loopback (still_same c.receiver c.receiver refl refl refl refl refl) h;
 }
 
 module _ (last : ℕ) (r : ReceiverState) where
@@ -356,13 +362,14 @@ module _ (last : ℕ) (r : ReceiverState) where
       HasRoomTo last r d
   room_same c d fifo loopback same h =
       let R : ReceiverState → Type 0 = λ s. IsStill c.receiver s in
-      room_still last r c d fifo loopback (subst R (sym same) (still_same c.receiver c.receiver refl refl refl refl)) h
+      room_still last r c d fifo loopback (subst R (sym same) (still_same c.receiver c.receiver refl refl refl refl refl)) h
 
   still_front : (s : ReceiverState) (queue : List Character) → s.queue ≡ queue → IsStill s (take_front queue s)
-  still_front s [] e = still_same s s refl refl refl refl
+  still_front s [] e = still_same s s refl refl refl refl refl
   still_front s (front ∷ others) e = record {
     arrived = refl;
     fewer = rw e (omega arith);
+    size = refl;
     whole = λ d. no_drop-set s _ front.origin marks.Read (λ q. cc) refl refl d;
   }
 
@@ -374,7 +381,7 @@ module _ (last : ℕ) (r : ReceiverState) where
       (room_if _ _ (offset == offsets.ISR)
       (room_if _ _ (is_thr_empty (interrupt c)) (room_same c _ refl h.loopback refl h) h)
       (room_if _ _ (offset == offsets.LSR)
-      (room_still last r c _ refl h.loopback (still_same c.receiver (report c.receiver) refl refl refl refl) h)
+      (room_still last r c _ refl h.loopback (still_same c.receiver (report c.receiver) refl refl refl refl refl) h)
       (room_if _ _ (offset == offsets.MSR) (room_same c _ refl h.loopback refl h) h)))
 
   room_write : (offset value : ℕ) (c : ChipState) → IsMild (Write offset value) → HasRoomTo last r c →
@@ -388,9 +395,9 @@ module _ (last : ℕ) (r : ReceiverState) where
       (controls (offset == offsets.MCR) refl))))
     where
       controls : (b : Bool) → (offset == offsets.MCR) ≡ b →
-          HasRoomTo last r (if b then control_modem (bit_and value mcr_bits) c
+          HasRoomTo last r (if b then control_modem (kept_mcr c.auto_flow value) c
           else if offset == offsets.SPR then with_latches (record c.latches { scr = value }) c else c)
-      controls true e = room_same c _ refl (mild.1 e) refl h
+      controls true e = room_same c _ refl (kept_bit c.auto_flow 4 value refl refl ∙ mild.1 e) refl h
       controls false e = room_if _ _ (offset == offsets.SPR) (room_same c _ refl h.loopback refl h) h
 
   pub room_path : (made : List Access) (m n : MachineState) → AllMild made → HasRoomTo last r m.chip → Path MachineStep m made n →
@@ -408,7 +415,7 @@ module _ (last : ℕ) (r : ReceiverState) where
 
 -- at first
 pub room_first : (last : ℕ) (c : ChipState) → c.fifo ≡ true → is_loopback c.latches ≡ false →
-    length c.receiver.queue + last ≤ 16 + c.receiver.arrived → HasRoomTo last c.receiver c
+    length c.receiver.queue + last ≤ characters c.receiver.size + c.receiver.arrived → HasRoomTo last c.receiver c
 room_first last c fifo loopback h = record {
   fifo = fifo;
   loopback = loopback;

@@ -1,6 +1,6 @@
 -- What a call at one end does there, in numbers: how many characters came, were moved to the receive ring, and left the driver.
 use Rattle.std.proofs.Common.{◌≡◌, ◌⊎◌, inl, inr, ℕ, zero, suc, ◌+◌, ◌-◌, ◌<◌, ◌≤◌, ◌||◌, nat_lt, nat_le, Bool, true, false, List, [], ◌∷◌}
-use Rattle.std.proofs.Common.{◌++◌, length, length-append, map}
+use Rattle.std.proofs.Common.{◌++◌, ◌&&◌, not, length, length-append, map}
 use Rattle.std.proofs.Common.{take, refl, replicate, sym, ◌∙◌, ap, subst, arith, filter, Option, Some, None, bit_and, bit_or, if◌then◌else◌}
 use Rattle.std.proofs.lemmas.Grind.{common_steps}
 use Rattle.std.proofs.lemmas.List.{length-map}
@@ -17,14 +17,16 @@ use Rattle.uart_spec.specs.declared.registers.offsets.TheConstants as offsets
 use Rattle.uart_16550.specs.Frame.{switched, unlooped}
 use Rattle.uart_16550.specs.Driver.{settings_of}
 use Rattle.uart_chip.specs.declared.receiver.Character.{Character}
-use Rattle.uart_chip.specs.Receiver.{ReceiverState}
+use Rattle.uart_chip.specs.Receiver.{ReceiverState, is_data_pending}
 use Rattle.uart_chip.specs.Conserved.{out, stands}
-use Rattle.uart_chip.specs.Chip.{ChipState, is_loopback}
+use Rattle.uart_chip.specs.Chip.{ChipState, is_loopback, is_auto_flow, rts_output}
 use Rattle.uart_chip.specs.Transmitter as transmitter
 use Rattle.uart_chip.specs.Machine.{MachineState, MachineStep, at_access, before_access, at_mark, arrivals}
 use Rattle.uart_chip.proofs.conservation.Passed.{Passed, passed-mark}
 use Rattle.uart_chip.proofs.Lists.{each-append}
-use Rattle.uart_chip.specs.Masks.{mcr_bits}
+use Rattle.uart_spec.specs.FifoSize.{characters}
+use Rattle.uart_chip.proofs.McrBits.{kept_bit}
+use Rattle.uart_link.proofs.Lines.{rts_of_mcr}
 use Rattle.uart_chip.proofs.Bits.{has_one, has_or, has_and, has_not}
 use Rattle.uart_chip.proofs.conservation.BlockLaws.{IsOpen, Stands, path_as}
 use Rattle.uart_chip.proofs.conservation.Receives.{Drop}
@@ -33,7 +35,6 @@ use Rattle.uart_chip.specs.Sound.{IsSound}
 use Rattle.uart_run.proofs.CallBlocks.{InBlocks, passed_in_blocks}
 use Rattle.uart_run.specs.Wired.{IsWired, IsWiredChip}
 use Rattle.uart_run.proofs.CallLaws.{InSession}
-use Rattle.uart_run.proofs.FrameLaws.{unlooped_off}
 use Rattle.uart_run.proofs.Wired.{wired_mark}
 use Rattle.uart_ring.specs.Ring.{RingDid, RingFields, ring_fields, free}
 use Rattle.uart_ring.specs.Receive.{rts_at, write_if_other, MakesRtsIfAny, AdjustsRts}
@@ -64,14 +65,14 @@ use Rattle.uart_link.proofs.Held.{HoldsBack, HeldBack, in_held}
 
 -- ---- what a ring call does, over any backend
 
-record CallFacts (f : RingFields) (l : List Access) (after : RingFields) : Type 0 where
+pub record CallFacts (f : RingFields) (l : List Access) (after : RingFields) : Type 0 where
   pub blocks : InBlocks f.driver.fifo l (data_written l) (data_read l)
   pub fewer : length after.receive.items ≤ length f.receive.items + length (data_read l)
   pub capacity : after.receive.capacity ≡ f.receive.capacity
   pub held : HoldsBack f l after
 
 -- a ring call made accesses, of which this is known
-record CallDid (s t : RingState) : Type 0 where
+pub record CallDid (s t : RingState) : Type 0 where
   pub list : List Access
   pub path : Path MachineStep (ring_machine s) list (ring_machine t)
   pub facts : CallFacts (ring_fields s) list (ring_fields t)
@@ -94,7 +95,7 @@ did s t c a k = record {
 }
 
 -- each call that does not adjust RTS: it made accesses; or all moments happened, and the rings are as they were
-call_did : (s t : RingState) (c : RingCall) (a : RingAnswer) → hold_of c ≡ None → CabledCallStep s c a t →
+pub call_did : (s t : RingState) (c : RingCall) (a : RingAnswer) → hold_of c ≡ None → CabledCallStep s c a t →
     CallDid s t ⊎ ((ring_machine t ≡ settled (ring_machine s)) × (ring_fields t ≡ ring_fields s))
 call_did s t (call.AdjustRts marks) a none h = absurd (cc)
 call_did s t call.Next a none h = inr (h.passes.machine, h.passes.rings)
@@ -155,7 +156,8 @@ pub record EndFlows (Held Kept : Type 0) (s t : RingState) : Type 0 where
   pub kept : Kept
   pub checks : (settings_of (ring_fields t).driver).checks ≡ (settings_of (ring_fields s).driver).checks
   pub held : (settings_of (ring_fields s).driver).checks ≡ true → Held → written ≡ 0
-  pub whole : (ring_machine s).chip.fifo ≡ true → waits s + came ≤ 16 → Drop (receiver_at s) (receiver_at t) → ⊥
+  pub whole : (ring_machine s).chip.fifo ≡ true → waits s + came ≤ characters (receiver_at s).size →
+      Drop (receiver_at s) (receiver_at t) → ⊥
   pub fifo : (ring_machine t).chip.fifo ≡ (ring_machine s).chip.fifo
 
 -- ---- the lines that come with a call
@@ -352,7 +354,7 @@ join x Held Within_kept Kept s begins t w b chip k keeps =
       whole = λ fifo few d.
           let last = (receiver_at t).arrived in
           let r = receiver_at s in
-          let all : length m.chip.receiver.queue + last ≤ 16 + m.chip.receiver.arrived =
+          let all : length m.chip.receiver.queue + last ≤ characters m.chip.receiver.size + m.chip.receiver.arrived =
           omega (arith, few, b.counts.arrived, k.counts.arrived) in
           let R : ChipState → Type 0 = λ d. HasRoomTo last r d in
           let begun : HasRoomTo last r (ring_machine begins).chip =
@@ -381,38 +383,38 @@ plain_flows x moments there s t c a none w h =
 
 -- ---- `adjust_rts`
 
--- RTS of an end is off, as the other end sees it
+-- RTS of an end is off in MCR
 abbrev pub IsRtsOff : RingState → Type 0
-IsRtsOff s = has_any (lines_from (ring_machine s).chip) MSR.CTS.0 ≡ false
+IsRtsOff s = has_any (ring_machine s).chip.latches.mcr MCR.RTS.0 ≡ false
 
 -- CTS of the other end is RTS
-cts_is_rts : (mcr : ℕ) → has_any (lines_joined mcr) MSR.CTS.0 ≡ has_any mcr MCR.RTS.0
-cts_is_rts mcr =
-    let rts : Bool = has_any mcr MCR.RTS.0 in
-    let on : Bool = has_any mcr MCR.DTR.0 in
-    has_or 4 (flag rts MSR.CTS.0) (bit_or (flag on MSR.DSR.0) (flag on MSR.CD.0)) ∙
-    (ap (λ b. b || has_any (bit_or (flag on MSR.DSR.0) (flag on MSR.CD.0)) MSR.CTS.0) (its rts) ∙
-    (ap (λ b. rts || b) (others on) ∙ or-false rts))
-  where
-    its : (b : Bool) → has_any (flag b MSR.CTS.0) MSR.CTS.0 ≡ b
-    its true = refl
-    its false = refl
+cts_is_rts : (rts dtr : Bool) → has_any (lines_joined rts dtr) MSR.CTS.0 ≡ rts
+cts_is_rts true true = refl
+cts_is_rts true false = refl
+cts_is_rts false true = refl
+cts_is_rts false false = refl
 
-    others : (b : Bool) → has_any (bit_or (flag b MSR.DSR.0) (flag b MSR.CD.0)) MSR.CTS.0 ≡ false
-    others true = refl
-    others false = refl
-
-rts_off : (s : RingState) → has_any (ring_machine s).chip.latches.mcr MCR.RTS.0 ≡ false → IsRtsOff s
-rts_off s off = go (is_loopback (ring_machine s).chip.latches)
+-- as the other end sees an output that is off
+pub cts_off : (c : ChipState) → rts_output c ≡ false → has_any (lines_from c) MSR.CTS.0 ≡ false
+cts_off c off = go (is_loopback c.latches)
   where
-    go : (b : Bool) → has_any (if b then 0 else lines_joined (ring_machine s).chip.latches.mcr) MSR.CTS.0 ≡ false
+    go : (b : Bool) → has_any (if b then 0 else lines_joined (rts_output c) (has_any c.latches.mcr MCR.DTR.0)) MSR.CTS.0 ≡ false
     go true = refl
-    go false = cts_is_rts (ring_machine s).chip.latches.mcr ∙ off
+    go false = cts_is_rts (rts_output c) (has_any c.latches.mcr MCR.DTR.0) ∙ off
 
--- RTS of an end is on
-pub rts_on : (s : RingState) → is_loopback (ring_machine s).chip.latches ≡ false →
+-- RTS that is off in MCR is off
+pub rts_off : (s : RingState) → IsRtsOff s → has_any (lines_from (ring_machine s).chip) MSR.CTS.0 ≡ false
+rts_off s off =
+    let c = (ring_machine s).chip in
+    cts_off c (ap (λ (b : Bool). b && not (is_auto_flow c && (c.fifo && is_data_pending c.fifo c.receiver))) off)
+
+-- and RTS that is on there is on, without automatic flow control
+pub rts_on : (s : RingState) → is_loopback (ring_machine s).chip.latches ≡ false → is_auto_flow (ring_machine s).chip ≡ false →
     has_any (ring_machine s).chip.latches.mcr MCR.RTS.0 ≡ true → has_any (lines_from (ring_machine s).chip) MSR.CTS.0 ≡ true
-rts_on s off on = rw off (cts_is_rts (ring_machine s).chip.latches.mcr ∙ on)
+rts_on s off by_driver on =
+    let c = (ring_machine s).chip in
+    ap (λ (b : Bool). has_any (if b then 0 else lines_joined (rts_output c) (has_any c.latches.mcr MCR.DTR.0)) MSR.CTS.0) off
+    ∙ (cts_is_rts (rts_output c) (has_any c.latches.mcr MCR.DTR.0) ∙ (rts_of_mcr c by_driver ∙ on))
 
 -- the accesses that make RTS so
 abbrev rts_list : (on : Bool) (mcr : ℕ) → List Access
@@ -423,8 +425,8 @@ rts_mild : (shown on : Bool) (mcr : ℕ) →
     AllMild (Read offsets.MCR mcr ∷ write_if_other shown on (Write offsets.MCR (unlooped (switched on MCR.RTS.0 mcr))))
 rts_mild true true mcr = (tt, tt)
 rts_mild false false mcr = (tt, tt)
-rts_mild true false mcr = (tt, ((refl, λ e. unlooped_off (switched false MCR.RTS.0 mcr)), tt))
-rts_mild false true mcr = (tt, ((refl, λ e. unlooped_off (switched true MCR.RTS.0 mcr)), tt))
+rts_mild true false mcr = (tt, ((refl, λ e. has_not 4 (switched false MCR.RTS.0 mcr) 239 refl), tt))
+rts_mild false true mcr = (tt, ((refl, λ e. has_not 4 (switched true MCR.RTS.0 mcr) 239 refl), tt))
 
 -- what the call does to the fields, and to RTS
 record Adjusted (marks : ReceiveMarks) (begins t : RingState) (l : List Access) : Type 0 where
@@ -443,10 +445,11 @@ shown_rts mcr m mid n read same =
     ap (λ v. has_any v MCR.RTS.0) (ap (λ (o : MachineState). o.chip.latches.mcr) read.0 ∙ sym read.1)
 
 written_rts : (value : ℕ) (mid last n : MachineState) → MachineStep mid (Write offsets.MCR (unlooped value)) last → n ≡ last →
-    has_any n.chip.latches.mcr MCR.RTS.0 ≡ has_any (bit_and (unlooped value) mcr_bits) MCR.RTS.0
+    has_any n.chip.latches.mcr MCR.RTS.0 ≡ has_any (unlooped value) MCR.RTS.0
 written_rts value mid last n write same =
     ap (λ (o : MachineState). has_any o.chip.latches.mcr MCR.RTS.0) same ∙
-    ap (λ (o : MachineState). has_any o.chip.latches.mcr MCR.RTS.0) write
+    (ap (λ (o : MachineState). has_any o.chip.latches.mcr MCR.RTS.0) write ∙
+    kept_bit (at_access mid).chip.auto_flow 1 (unlooped value) refl refl)
 
 -- RTS is so after these accesses
 now_rts : (shown on : Bool) (mcr : ℕ) (m n : MachineState) → has mcr MCR.RTS.0 ≡ shown →
@@ -456,11 +459,10 @@ now_rts true true mcr m n e (mid, read, same) = shown_rts mcr m mid n read same 
 now_rts false false mcr m n e (mid, read, same) = shown_rts mcr m mid n read same ∙ (sym (has_one 1 mcr) ∙ e)
 now_rts true false mcr m n e (mid, read, (last, write, same)) =
     let low = switched false MCR.RTS.0 mcr in
-    written_rts low mid last n write same ∙ (has_and 1 (unlooped low) mcr_bits refl ∙ (has_and 1 low 239 refl ∙ has_not 1 mcr 253 refl))
+    written_rts low mid last n write same ∙ (has_and 1 low 239 refl ∙ has_not 1 mcr 253 refl)
 now_rts false true mcr m n e (mid, read, (last, write, same)) =
     let high = switched true MCR.RTS.0 mcr in
-    written_rts high mid last n write same ∙ (has_and 1 (unlooped high) mcr_bits refl ∙ (has_and 1 high 239 refl ∙
-    (has_or 1 mcr MCR.RTS.0 ∙ or-true (has_any mcr MCR.RTS.0))))
+    written_rts high mid last n write same ∙ (has_and 1 high 239 refl ∙ (has_or 1 mcr MCR.RTS.0 ∙ or-true (has_any mcr MCR.RTS.0)))
 
 -- below the mark RTS is made off
 below_mark : (marks : ReceiveMarks) (room : ℕ) → room < marks.hold → rts_at marks room ≡ Some false
@@ -531,7 +533,7 @@ within_adjusts x Held marks s begins t w wired d =
         checks = adjusts.checks;
       };
       kept = λ low. let e : receive_room t ≡ receive_room begins = ap free adjusts.receive in
-          rts_off t (adjusts.made false (below_mark marks (receive_room begins) (omega (arith, e, low))));
+          adjusts.made false (below_mark marks (receive_room begins) (omega (arith, e, low)));
       is_fifo = q.passed.passed.went.modes.fifo;
       held = λ on back. ap length adjusts.written;
       room = λ last r h. room_path last r d.list m n adjusts.mild h d.path;

@@ -6,7 +6,6 @@ use Rattle.std.proofs.lemmas.Grind.{common_steps}
 use Rattle.std.proofs.lemmas.List.{length-drop, length-map}
 use Rattle.uart_spec.specs.Bits.{has_any}
 use Rattle.uart_spec.specs.declared.registers.modem_control.TheConstants.MCR
-use Rattle.uart_spec.specs.declared.registers.modem_status.TheConstants.MSR
 use Rattle.uart_16550.specs.Driver.{settings_of}
 use Rattle.uart_chip.specs.declared.transmitter.Shifting.{Shifting}
 use Rattle.uart_chip.specs.Transmitter.{TransmitterState, held, shift_bytes}
@@ -27,13 +26,13 @@ use Rattle.uart_link.specs.declared.call.Moment.{Moment}
 use Rattle.uart_link.specs.declared.call.Side.{Side}
 use Rattle.uart_link.specs.declared.call.Side.TheVariants.{Left, Right}
 use Rattle.uart_link.specs.declared.link.Link.{Link}
-use Rattle.uart_link.specs.Cable.{on_cable, lines_joined}
+use Rattle.uart_link.specs.Cable.{on_cable}
 use Rattle.uart_link.specs.Carried.{receiver_at, IsJoined, OfEnd}
 use Rattle.uart_link.specs.Flow.{Pace, beyond, receive_room, hold_of, AdjustsIfAny, SeesLines, IsPacedStep, arrived_in, since_call}
 use Rattle.uart_link.specs.Flow.{since_at, AllInTime, BeginsPaced, IsPaced, DropsNothing}
 use Rattle.uart_link.specs.Link.{at_end, other, EndStep, Step, LinkChain}
 use Rattle.uart_link.proofs.Calm.{no_drop_same}
-use Rattle.uart_link.proofs.EndFlows.{waits, in_ring, sent_of, IsHeldBack, KeepsMcr, IsRtsOff, EndKept, EndFlows, end_moves}
+use Rattle.uart_link.proofs.EndFlows.{waits, in_ring, sent_of, IsHeldBack, KeepsMcr, IsRtsOff, EndKept, EndFlows, end_moves, rts_off}
 use Rattle.uart_link.proofs.EndPasses.{InEnd}
 use Rattle.uart_link.proofs.LinkSteps.{link_chain, joined_after}
 use Rattle.uart_link.proofs.Stretches.{same_rooms}
@@ -134,8 +133,13 @@ keeps_all : (pace : Pace) (extra since : ℕ) (Held Kept : Type 0) (s t r : Ring
 keeps_all pace extra since Held Kept s t r e behind few small h =
     let all = sent_is r in
     let line : line_of r t + e.came ≡ line_of r s = omega (arith, e.arrived, behind, all) in
-    e.whole h.fifo (flows_room (pace.on_cable + extra) pace.between since e.came (waits s) (receive_room s) (line_of r s) (line_of r t)
-    (IsRtsOff s) few small line h.flow)
+    let least = at_least_16 (receiver_at s).size in
+    e.whole h.fifo (at_least least (flows_room (pace.on_cable + extra) pace.between since e.came (waits s) (receive_room s) (line_of r s)
+    (line_of r t)
+    (IsRtsOff s) few small line h.flow))
+  where
+    at_least : {i n : ℕ} → 16 ≤ n → i ≤ 16 → i ≤ n
+    at_least h k = omega (arith, h, k)
 
 -- a call at the end that sends
 sent : (pace : Pace) (extra since : ℕ) (moments : List Moment) (Kept : Type 0) (s t r : RingState) →
@@ -150,7 +154,7 @@ sent pace extra since moments Kept s t r e lines behind size h =
       held = ap (λ size. characters size + 1) size ∙ h.held;
       flow = flows_sent (pace.on_cable + extra) pace.between since (waits r) (receive_room r) (line_of s r) (line_of t r)
           e.written (IsRtsOff r) line
-          (λ off. e.held h.checks (lines, off)) h.flow;
+          (λ off. e.held h.checks (lines, rts_off r off)) h.flow;
       checks = e.checks ∙ h.checks;
       fifo = h.fifo;
       behind = behind;
@@ -187,8 +191,7 @@ some_beyond extra t held = let least = at_least_16 t.size in omega (arith, least
 
 -- RTS is off as MCR has it
 rts_same : (s t : RingState) → KeepsMcr s t → IsRtsOff s → IsRtsOff t
-rts_same s t same off =
-    ap (λ mcr. has_any (if has_any mcr MCR.LOOP_BACK.0 then 0 else lines_joined mcr) MSR.CTS.0) same ∙ off
+rts_same s t same off = ap (λ mcr. has_any mcr MCR.RTS.0) same ∙ off
 
 pub none_waits : (s : RingState) → (waiting (ring_machine s) ≡ []) ⊎ (receive_room s ≡ 0) → (waits s ≡ 0) ⊎ (receive_room s ≡ 0)
 none_waits s (inl none) = inl (sym (length-map (receiver_at s).queue (λ character. character.byte)) ∙ ap length none)

@@ -82,8 +82,9 @@ module _ (bytes : List ℕ) where
   grown_lasts = record {
     in_accesses = record { pending = λ u pending p. p; cleared = λ u pending p. p };
     in_tick =
-        λ loopback u p. let v : TransmitterState = shift loopback u.shift_register u in
-        refill_grown v.shift_register v.queue v (shift_grown loopback u.shift_register u p);
+        λ loopback held_off u p. let v : TransmitterState = shift loopback u.shift_register u in
+        let q : Grown bytes v = shift_grown loopback u.shift_register u p in
+        either_grown _ _ held_off q (refill_grown v.shift_register v.queue v q);
   }
 
   write_grown : (offset value : ℕ) (c : ChipState) → Grown bytes c.transmitter → Grown bytes (after_write offset value c).transmitter

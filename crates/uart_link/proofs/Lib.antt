@@ -28,3 +28,4 @@ pub mod SendsOn
 pub mod Rounds
 pub mod Agrees
 pub mod XoffEnds
+pub mod AutoFlows

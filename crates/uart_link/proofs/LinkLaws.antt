@@ -35,6 +35,7 @@ use Rattle.uart_link.proofs.Agrees.{keeps_agreed}
 use Rattle.uart_link.proofs.Crossings.{arriving_numbered}
 use Rattle.uart_link.proofs.EndActs.{arrived_after}
 use Rattle.uart_link.proofs.EndPasses.{InEnd, EndPasses}
+use Rattle.uart_link.proofs.AutoFlows.{chips_drop_nothing}
 use Rattle.uart_link.proofs.Flows.{drops_nothing}
 use Rattle.uart_link.proofs.LinkSteps.{Brings, LinkPasses, link_chain, joined_after}
 use Rattle.uart_link.proofs.LinkTold.{tells_drops}
@@ -218,6 +219,8 @@ link_conserves a b steps sound_left sound_right wired_left wired_right joined re
           (drops_nothing x y pace end a b steps w v joined chain paced);
       whole_by_xoff = λ end pace paced. delivers end a b steps (sound_there end) (all steps b chain end)
           (xoff_drops_nothing x y pace end a b steps w v joined chain paced);
+      whole_by_chip = λ end late paced. delivers end a b steps (sound_there end) (all steps b chain end)
+          (chips_drop_nothing x y late end a b steps w v joined chain paced);
       told_and_held = λ end. all_tell_and_hold x y end steps a b (record { left = w; right = v; joined = joined }) (cuts_nothing a.left)
           (cuts_nothing a.right) chain;
       agreed = λ end. keeps_agreed x y end a b steps w v joined (cuts_nothing a.left) (cuts_nothing a.right)

@@ -9,10 +9,14 @@ use Rattle.uart_spec.specs.declared.registers.offsets.TheConstants as offsets
 use Rattle.uart_chip.proofs.conservation.Sends.{sends-tick}
 use Rattle.uart_chip.proofs.soundness.Sounds.{steady_tick, steady_ticks, steady_arrive, steady_read, steady_write, latches-read, size-tick}
 use Rattle.uart_spec.specs.declared.setup.FifoSize.{FifoSize}
-use Rattle.uart_chip.specs.Chip.{ChipState, is_loopback, is_dlab_set, is_thr_empty, interrupt, tick, ticks, after_read, after_write, cut_of}
+use Rattle.uart_chip.specs.Chip.{ChipState, is_loopback, is_held_off, is_dlab_set, is_thr_empty, interrupt, tick, ticks, after_read}
+use Rattle.uart_chip.specs.Chip.{after_write, cut_of}
 use Rattle.uart_chip.specs.Chip.{control_modem, with_latches}
 use Rattle.uart_chip.specs.Machine.{perform}
-use Rattle.uart_chip.specs.Masks.{mcr_bits}
+use Rattle.uart_chip.specs.Masks.{kept_mcr}
+use Rattle.uart_chip.proofs.McrBits.{kept_bit}
+use Rattle.uart_chip.proofs.AutoFlow.{never_held_off}
+use Rattle.uart_chip.proofs.lasting.Constants.{pace_tick}
 use Rattle.uart_chip.specs.Sound.{IsSound, IsSoundChip, IsSoundTransmitter, IsTicking}
 use Rattle.uart_chip.specs.Transmitter.{TransmitterState, shift, refill, out, load, room, shift_bytes}
 use Rattle.uart_chip.specs.Transmitter as transmitter
@@ -145,11 +149,11 @@ sooner_freed goal s t u e some f g wire c k have = go u.queue refl
     go (x ∷ y ∷ xs) q = record { fewer = filled x; capacity = k; char_ticks = c }
 
 sooner_shifted : (goal : ℕ) (t u : TransmitterState) → shift false t.shift_register t ≡ u →
-    Sooner goal t (refill u.shift_register u.queue u) → Sooner goal t (transmitter.tick false t)
+    Sooner goal t (refill u.shift_register u.queue u) → Sooner goal t (transmitter.tick false false t)
 sooner_shifted goal t u e n = subst (λ (v : TransmitterState). Sooner goal t (refill v.shift_register v.queue v)) (sym e) n
 
 sooner_some : (goal : ℕ) (s : Shifting) (t : TransmitterState) → t.shift_register ≡ Some s → 1 ≤ s.ticks_left → goal ≤ length (out t) →
-    goal ≤ t.capacity → Sooner goal t (transmitter.tick false t)
+    goal ≤ t.capacity → Sooner goal t (transmitter.tick false false t)
 sooner_some goal s t e some have room = go (nat_lt 1 s.ticks_left) refl
   where
     shifts : (u : TransmitterState) → shift false (Some s) t ≡ u → shift false t.shift_register t ≡ u
@@ -160,7 +164,7 @@ sooner_some goal s t e some have room = go (nat_lt 1 s.ticks_left) refl
     less n (suc j) = omega (arith, some)
 
     sent : (free : Bool) → nat_lt (length t.wire) t.capacity ≡ free → nat_lt 1 s.ticks_left ≡ false →
-        Sooner goal t (transmitter.tick false t)
+        Sooner goal t (transmitter.tick false false t)
     sent true h f =
         let u : TransmitterState = record t { shift_register = None; wire = t.wire ++ s.byte ∷ [] } in
         sooner_shifted goal t u (shifts u (rw (f, h) refl))
@@ -172,7 +176,7 @@ sooner_some goal s t e some have room = go (nat_lt 1 s.ticks_left) refl
         Sooner goal t (refill place t.queue t)) (sym e) (record { fewer = omega (arith, none); capacity = refl; char_ticks = refl }) in
         sooner_shifted goal t t (shifts t (rw (f, h) refl)) stays
 
-    go : (more : Bool) → nat_lt 1 s.ticks_left ≡ more → Sooner goal t (transmitter.tick false t)
+    go : (more : Bool) → nat_lt 1 s.ticks_left ≡ more → Sooner goal t (transmitter.tick false false t)
     go true f =
         let u : TransmitterState = record t { shift_register = Some (record { byte = s.byte; ticks_left = s.ticks_left - 1 }) } in
         sooner_shifted goal t u (shifts u (rw f refl))
@@ -180,10 +184,10 @@ sooner_some goal s t e some have room = go (nat_lt 1 s.ticks_left) refl
     go false f = sent (nat_lt (length t.wire) t.capacity) refl f
 
 sooner_tick : (goal : ℕ) (fifo : Bool) (t : TransmitterState) → IsSoundTransmitter fifo t → goal ≤ length (out t) → goal ≤ t.capacity →
-    Sooner goal t (transmitter.tick false t)
+    Sooner goal t (transmitter.tick false false t)
 sooner_tick goal fifo t w have room = go t.shift_register refl
   where
-    go : (place : Option Shifting) → t.shift_register ≡ place → Sooner goal t (transmitter.tick false t)
+    go : (place : Option Shifting) → t.shift_register ≡ place → Sooner goal t (transmitter.tick false false t)
     go None e =
         sooner_shifted goal t t (ap (λ place. shift false place t) e)
         (subst (λ (place : Option Shifting). Sooner goal t (refill place t.queue t)) (sym e) (sooner_none goal t t.queue e refl have))
@@ -191,28 +195,32 @@ sooner_tick goal fifo t w have room = go t.shift_register refl
 
 -- ---- the ticks that are due at an end
 
--- outside of loopback, so many ticks are enough for so many bytes to leave, which the transmitter has, and the wire has
--- room for
+-- outside of loopback, and without automatic flow control, so many ticks are enough for so many bytes to leave, which the transmitter has,
+-- and the wire has room for
 pub record DueTicks (goal : ℕ) (c : ChipState) (ticks : ℕ) : Type 0 where
   pub loopback : is_loopback c.latches ≡ false
+  pub flow : c.auto_flow ≡ false
   pub have : goal ≤ length (out c.transmitter)
   pub room : goal ≤ c.transmitter.capacity
   pub few : need goal c.transmitter ≤ ticks
 
 due_less : (goal : ℕ) (c : ChipState) (j k : ℕ) → j ≤ k → DueTicks goal c j → DueTicks goal c k
-due_less goal c j k h d = record { loopback = d.loopback; have = d.have; room = d.room; few = omega (arith, h, d.few) }
+due_less goal c j k h d =
+    record { loopback = d.loopback; flow = d.flow; have = d.have; room = d.room; few = omega (arith, h, d.few) }
 
 due_tick : (goal : ℕ) (c : ChipState) (n : ℕ) → IsSoundChip c → DueTicks goal c n → DueTicks goal (tick c) (n - 1)
 due_tick goal c n w d =
     let t = c.transmitter in
     let s = sooner_tick goal c.fifo t w.transmitter d.have d.room in
-    let same : (tick c).transmitter ≡ transmitter.tick false t = ap (λ b. transmitter.tick b t) d.loopback in
-    let grown : length (out (transmitter.tick false t)) ≡ length (out t ++ []) = ap length (sends-tick t).grows in
+    let same : (tick c).transmitter ≡ transmitter.tick false false t =
+    ap (λ b. transmitter.tick b (is_held_off c) t) d.loopback ∙ ap (λ b. transmitter.tick false b t) (never_held_off c d.flow) in
+    let grown : length (out (transmitter.tick false false t)) ≡ length (out t ++ []) = ap length (sends-tick false t).grows in
     let sum = length-append (out t) [] in
     let capacity = s.capacity in
     let T : TransmitterState → Type 0 = λ u. DueTicks goal (record (tick c) { transmitter = u }) (n - 1) in
-    let after : DueTicks goal (record (tick c) { transmitter = transmitter.tick false t }) (n - 1) = record {
+    let after : DueTicks goal (record (tick c) { transmitter = transmitter.tick false false t }) (n - 1) = record {
       loopback = d.loopback;
+      flow = d.flow;
       have = let h = d.have in omega (arith, h, grown, sum);
       room = let h = d.room in omega (arith, h, capacity);
       few = let h = d.few in omega (arith, h, s.fewer);
@@ -238,9 +246,9 @@ record Keeps (t u : TransmitterState) : Type 0 where
 keeps-refl : (t : TransmitterState) → Keeps t t
 keeps-refl t = record { wire = refl; place = refl; queue = omega arith; capacity = refl; char_ticks = refl; size = refl }
 
-due_kept : (goal : ℕ) (c d : ChipState) (n : ℕ) → is_loopback d.latches ≡ false → Keeps c.transmitter d.transmitter →
-    DueTicks goal c n → DueTicks goal d n
-due_kept goal c d n off k h =
+due_kept : (goal : ℕ) (c d : ChipState) (n : ℕ) → is_loopback d.latches ≡ false → d.auto_flow ≡ c.auto_flow →
+    Keeps c.transmitter d.transmitter → DueTicks goal c n → DueTicks goal d n
+due_kept goal c d n off flow k h =
     let t = c.transmitter in
     let u = d.transmitter in
     let before = length-append t.wire (shift_bytes t.shift_register ++ t.queue) in
@@ -253,6 +261,7 @@ due_kept goal c d n off k h =
     let same : need goal u ≡ need goal t = rw (k.wire, k.place, k.char_ticks) refl in
     record {
       loopback = off;
+      flow = flow ∙ h.flow;
       have = let have = h.have in omega (arith, have, before, after, held_before, held_after, wire, place, k.queue);
       room = let room = h.room in let e = k.capacity in omega (arith, room, e);
       few = let few = h.few in omega (arith, few, same);
@@ -321,10 +330,29 @@ write_off offset value c mild off =
     (off_if _ _ (offset == offsets.LCR) off (controls (offset == offsets.MCR) refl))))
   where
     controls : (b : Bool) → (offset == offsets.MCR) ≡ b →
-        is_loopback (if b then control_modem (bit_and value mcr_bits) c
+        is_loopback (if b then control_modem (kept_mcr c.auto_flow value) c
         else if offset == offsets.SPR then with_latches (record c.latches { scr = value }) c else c).latches ≡ false
-    controls true e = mild.1 e
+    controls true e = kept_bit c.auto_flow 4 value refl refl ∙ mild.1 e
     controls false e = off_if _ _ (offset == offsets.SPR) off off
+
+-- nor does the chip get automatic flow control
+flow_if : (c x y : ChipState) (b : Bool) → x.auto_flow ≡ c.auto_flow → y.auto_flow ≡ c.auto_flow →
+    (if b then x else y).auto_flow ≡ c.auto_flow
+flow_if c x y true p q = p
+flow_if c x y false p q = q
+
+write_flow : (offset value : ℕ) (c : ChipState) → IsMild (Write offset value) → (after_write offset value c).auto_flow ≡ c.auto_flow
+write_flow offset value c mild =
+    rw mild.0 (flow_if c _ _ (offset == offsets.DATA) (flow_if c _ _ (is_dlab_set c.latches) refl refl)
+    (flow_if c _ _ (offset == offsets.IER) (flow_if c _ _ (is_dlab_set c.latches) refl refl)
+    (flow_if c _ _ (offset == offsets.LCR) refl (flow_if c _ _ (offset == offsets.MCR) refl
+    (flow_if c _ _ (offset == offsets.SPR) refl refl)))))
+
+read_flow : (offset : ℕ) (c : ChipState) → (after_read offset c).auto_flow ≡ c.auto_flow
+read_flow offset c =
+    flow_if c _ _ (offset == offsets.DATA) (flow_if c _ _ (is_dlab_set c.latches) refl refl)
+    (flow_if c _ _ (offset == offsets.ISR) (flow_if c _ _ (is_thr_empty (interrupt c)) refl refl)
+    (flow_if c _ _ (offset == offsets.LSR) refl (flow_if c _ _ (offset == offsets.MSR) refl refl)))
 
 read_off : (offset : ℕ) (c : ChipState) → is_loopback c.latches ≡ false → is_loopback (after_read offset c).latches ≡ false
 read_off offset c off = ap (λ l. is_loopback l) (latches-read offset c) ∙ off
@@ -334,18 +362,19 @@ ticks_spend goal = record {
   in_event = in_event;
   in_tick = λ c n w h. due_less goal (tick c) (n - 1) n (omega arith) (due_tick goal c n w h);
   in_read = λ offset c n w h.
-      due_kept goal c (after_read offset c) n (read_off offset c h.loopback) (read_keeps offset c) h;
+      due_kept goal c (after_read offset c) n (read_off offset c h.loopback) (read_flow offset c) (read_keeps offset c) h;
   in_write = λ offset value c n mild w h.
-      due_kept goal c (after_write offset value c) n (write_off offset value c mild h.loopback) (write_keeps offset value c mild w) h;
+      due_kept goal c (after_write offset value c) n (write_off offset value c mild h.loopback) (write_flow offset value c mild)
+      (write_keeps offset value c mild w) h;
 }
   where
     in_event : (event : Event) (events : List Event) (c : ChipState) (n : ℕ) → IsSound (record { chip = c; ahead = event ∷ events }) →
         DueTicks goal c (ticks_of event + n) → DueTicks goal (perform event c) n
     in_event (Ticks k) events c n s h = due_ticks goal k c n s.chip h
     in_event (Arrive byte errors) events c n s h =
-        due_kept goal c _ n h.loopback (keeps-refl c.transmitter) (due_less goal c (0 + n) n (omega arith) h)
+        due_kept goal c _ n h.loopback refl (keeps-refl c.transmitter) (due_less goal c (0 + n) n (omega arith) h)
     in_event (Lines inputs) events c n s h =
-        due_kept goal c _ n h.loopback (keeps-refl c.transmitter) (due_less goal c (0 + n) n (omega arith) h)
+        due_kept goal c _ n h.loopback refl (keeps-refl c.transmitter) (due_less goal c (0 + n) n (omega arith) h)
     in_event event events c n s h = due_less goal c (0 + n) n (omega arith) h
 
 -- ---- the arrivals that are due at an end
@@ -387,43 +416,45 @@ arrivals_spend goal = record {
 -- ---- the room of an end
 
 -- outside of loopback: how many bytes the wire has room for, how many arrivals the journal has, the ticks of a
--- character, and the size of the FIFO. Nothing changes them
-pub record HasRooms (bytes arrivals ticks : ℕ) (size : FifoSize) (c : ChipState) (none : ℕ) : Type 0 where
+-- character, the size of the FIFO, and whether the chip has automatic flow control. Nothing changes them
+pub record HasRooms (bytes arrivals ticks : ℕ) (size : FifoSize) (flow : Bool) (c : ChipState) (none : ℕ) : Type 0 where
   pub loopback : is_loopback c.latches ≡ false
   pub capacity : c.transmitter.capacity ≡ bytes
   pub marks : length c.receiver.marks ≡ arrivals
   pub char_ticks : c.transmitter.char_ticks ≡ ticks
   pub same_size : c.transmitter.size ≡ size
+  pub same_flow : c.auto_flow ≡ flow
 
-module _ (bytes arrivals ticks_each : ℕ) (size : FifoSize) where
+module _ (bytes arrivals ticks_each : ℕ) (size : FifoSize) (flow : Bool) where
   abbrev Rooms : ChipState → ℕ → Type 0
-  Rooms = HasRooms bytes arrivals ticks_each size
+  Rooms = HasRooms bytes arrivals ticks_each size flow
 
-  rooms_kept : (c d : ChipState) (n k : ℕ) → is_loopback d.latches ≡ false → Keeps c.transmitter d.transmitter →
-      length d.receiver.marks ≡ length c.receiver.marks → Rooms c n → Rooms d k
-  rooms_kept c d n k off kept known h = record {
+  rooms_kept : (c d : ChipState) (n k : ℕ) → is_loopback d.latches ≡ false → d.auto_flow ≡ c.auto_flow →
+      Keeps c.transmitter d.transmitter → length d.receiver.marks ≡ length c.receiver.marks → Rooms c n → Rooms d k
+  rooms_kept c d n k off same kept known h = record {
     loopback = off;
     capacity = kept.capacity ∙ h.capacity;
     marks = known ∙ h.marks;
     char_ticks = kept.char_ticks ∙ h.char_ticks;
     same_size = kept.size ∙ h.same_size;
+    same_flow = same ∙ h.same_flow;
   }
 
   rooms_tick : (c : ChipState) (n k : ℕ) → IsSoundChip c → Rooms c n → Rooms (tick c) k
   rooms_tick c n k w h =
       let t = c.transmitter in
-      let s = sooner_tick 0 c.fifo t w.transmitter zero-le zero-le in
-      let same : (tick c).transmitter ≡ transmitter.tick false t = ap (λ b. transmitter.tick b t) h.loopback in
+      let pace = pace_tick (is_loopback c.latches) (is_held_off c) t in
       record {
         loopback = h.loopback;
-        capacity = ap (λ (u : TransmitterState). u.capacity) same ∙ (s.capacity ∙ h.capacity);
+        capacity = pace.capacity ∙ h.capacity;
         marks = (steady_tick c w).known ∙ h.marks;
-        char_ticks = ap (λ (u : TransmitterState). u.char_ticks) same ∙ (s.char_ticks ∙ h.char_ticks);
-        same_size = size-tick (is_loopback c.latches) t ∙ h.same_size;
+        char_ticks = pace.char_ticks ∙ h.char_ticks;
+        same_size = pace.size ∙ h.same_size;
+        same_flow = h.same_flow;
       }
 
   rooms_ticks : (count : ℕ) (c : ChipState) (n k : ℕ) → IsSoundChip c → Rooms c n → Rooms (ticks count c) k
-  rooms_ticks zero c n k w h = rooms_kept c c n k h.loopback (keeps-refl c.transmitter) refl h
+  rooms_ticks zero c n k w h = rooms_kept c c n k h.loopback refl (keeps-refl c.transmitter) refl h
   rooms_ticks (suc count) c n k w h = rooms_tick (ticks count c) n k (steady_ticks count c w).sound (rooms_ticks count c n n w h)
 
   pub rooms_spend : Spends arrives_of Rooms
@@ -431,9 +462,11 @@ module _ (bytes arrivals ticks_each : ℕ) (size : FifoSize) where
     in_event = in_event;
     in_tick = λ c n w h. rooms_tick c n n w h;
     in_read = λ offset c n w h.
-        rooms_kept c (after_read offset c) n n (read_off offset c h.loopback) (read_keeps offset c) (steady_read offset c w).known h;
+        rooms_kept c (after_read offset c) n n (read_off offset c h.loopback) (read_flow offset c) (read_keeps offset c)
+        (steady_read offset c w).known h;
     in_write = λ offset value c n mild w h.
-        rooms_kept c (after_write offset value c) n n (write_off offset value c mild h.loopback) (write_keeps offset value c mild w)
+        rooms_kept c (after_write offset value c) n n (write_off offset value c mild h.loopback) (write_flow offset value c mild)
+        (write_keeps offset value c mild w)
         (steady_write offset value c w).known h;
   }
     where
@@ -442,8 +475,8 @@ module _ (bytes arrivals ticks_each : ℕ) (size : FifoSize) where
       in_event (Ticks k) events c n s h = rooms_ticks k c (0 + n) n s.chip h
       in_event (Arrive byte errors) events c n s h =
           let f = s.foreseen in
-          rooms_kept c (perform (Arrive byte errors) c) (1 + n) n h.loopback (keeps-refl c.transmitter)
+          rooms_kept c (perform (Arrive byte errors) c) (1 + n) n h.loopback refl (keeps-refl c.transmitter)
           (steady_arrive byte errors c s.chip (omega (arith, f)) s.legal.0).known h
       in_event (Lines inputs) events c n s h =
-          rooms_kept c (perform (Lines inputs) c) (0 + n) n h.loopback (keeps-refl c.transmitter) refl h
-      in_event event events c n s h = rooms_kept c c (0 + n) n h.loopback (keeps-refl c.transmitter) refl h
+          rooms_kept c (perform (Lines inputs) c) (0 + n) n h.loopback refl (keeps-refl c.transmitter) refl h
+      in_event event events c n s h = rooms_kept c c (0 + n) n h.loopback refl (keeps-refl c.transmitter) refl h

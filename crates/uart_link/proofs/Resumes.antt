@@ -19,7 +19,7 @@ use Rattle.uart_chip.proofs.Lists.{each-front, each-back}
 use Rattle.uart_chip.proofs.conservation.BlockLaws.{path_as, look_room}
 use Rattle.uart_chip.proofs.lasting.Lasting.{Lasts, lasts-before, lasts-read}
 use Rattle.uart_chip.specs.Machine.{MachineState, MachineStep, at_access}
-use Rattle.uart_chip.specs.Transmitter.{TransmitterState, shift, refill}
+use Rattle.uart_chip.specs.Transmitter.{TransmitterState, shift, refill, tick}
 use Rattle.uart_chip.specs.declared.transmitter.Shifting.{Shifting}
 use Rattle.uart_ring.proofs.Losses.{data_written-append, sends_move, resumes_lose_nothing}
 use Rattle.uart_ring.specs.Lossless.{data_written}
@@ -35,8 +35,7 @@ IsThrEmpty t = t.queue ≡ []
 pub thr_empty_lasts : Lasts IsThrEmpty
 thr_empty_lasts = record {
   in_accesses = record { pending = λ t pending e. e; cleared = λ t pending e. refl };
-  in_tick = λ loopback t e. let u : TransmitterState = shift loopback t.shift_register t in
-      refilled u.shift_register u.queue u (shifted loopback t.shift_register t e) (shifted loopback t.shift_register t e);
+  in_tick = ticked;
 }
   where
     either : (u v : TransmitterState) (b : Bool) → IsThrEmpty u → IsThrEmpty v → IsThrEmpty (if b then u else v)
@@ -53,6 +52,12 @@ thr_empty_lasts = record {
     refilled (Some s) queue t n e = e
     refilled None [] t n e = e
     refilled None (x ∷ xs) t n e = absurd (cc)
+
+    ticked : (loopback held_off : Bool) (t : TransmitterState) → IsThrEmpty t → IsThrEmpty (tick loopback held_off t)
+    ticked loopback true t e = shifted loopback t.shift_register t e
+    ticked loopback false t e =
+        let u : TransmitterState = shift loopback t.shift_register t in
+        refilled u.shift_register u.queue u (shifted loopback t.shift_register t e) (shifted loopback t.shift_register t e)
 
 -- a first read of LSR shows it
 first_shows : (m n : MachineState) (value : ℕ) (rest : List Access) → IsThrEmpty m.chip.transmitter →

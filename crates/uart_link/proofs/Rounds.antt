@@ -224,11 +224,12 @@ cut x y end Such Follow steps a b g chain (part, rest, whole, such, follow) =
 
 -- ---- room
 
--- a character takes so many ticks, and there is room for so many bytes
+-- a character takes so many ticks, there is room for so many bytes, and flow control is left to the driver of the sender
 record Roomy (end : Side) (ticks total : ℕ) (a : Link) : Type 0 where
   pub pace : enough_ticks (transmitter_at end a) ≡ ticks
   pub wire : total ≤ (transmitter_at end a).capacity
   pub arrivals : total ≤ length (chip_at (other end) a).receiver.marks
+  pub flow : (chip_at end a).auto_flow ≡ false
 
 roomy_after : (x y : Modes) (end : Side) (ticks total : ℕ) (steps : List Step) (a b : Link) → Going x y a → LinkChain a steps b →
     Roomy end ticks total a → Roomy end ticks total b
@@ -239,6 +240,7 @@ roomy_after x y end ticks total steps a b g chain r =
       pace = rw (here.size, here.char_ticks) r.pace;
       wire = let h = r.wire in let e = here.capacity in omega (arith, h, e);
       arrivals = let h = r.arrivals in let e = there.marks in omega (arith, h, e);
+      flow = here.flow ∙ r.flow;
     }
 
 queued_append : (end : Side) (front back : List Step) →
@@ -264,6 +266,7 @@ passed_time x y end ticks total part a b g chain r few p =
     let room = r.wire in
     let same = r.pace in
     time_passes x y end part a b g chain p.happened (let h = p.enough in omega (arith, h, same)) (omega (arith, few, room))
+    r.flow
 
 -- all has arrived: what had left the other chip
 brought_time : (x y : Modes) (end : Side) (ticks total : ℕ) (part : List Step) (a b : Link) → Going x y a → LinkChain a part b →
@@ -604,7 +607,7 @@ pub progresses : (x y : Modes) (end : Side) (steps : List Step) (a b : Link) →
     LinkChain a steps b →
     ((front : List Step) (u : Link) → LinkChain a front u → DropsNothing (other end) a u → CarriesAll end a front u) →
     Progresses end a steps b
-progresses x y end steps a b w v joined chain carries order none journals rounds =
+progresses x y end steps a b w v joined chain carries by_driver order none journals rounds =
     let to = other end in
     let s = at_end end a in
     let g : Going x y a = record { left = w; right = v; joined = joined } in
@@ -615,6 +618,7 @@ progresses x y end steps a b w v joined chain carries order none journals rounds
       pace = refl;
       wire = let h = journals.wire in omega (arith, h);
       arrivals = let h = journals.arrivals in omega (arith, h);
+      flow = by_driver;
     } in
     let d = delivered x y end ticks total (all_of s) (unsent s) steps a b g chain order roomy (omega arith) (omega arith) (omega arith)
     (subst (λ n. HasRounds end ticks n steps) number rounds) in
@@ -698,7 +702,7 @@ keeps_mcr x y end (step ∷ steps) a b g chain none =
 
 pub keeps_rts_on : (x y : Modes) (end : Side) (steps : List Step) (a b : Link) → InEnd x a.left → InEnd y a.right → IsJoined a →
     LinkChain a steps b → KeepsRtsOn end steps b
-keeps_rts_on x y end steps a b w v joined chain comes =
+keeps_rts_on x y end steps a b w v joined chain comes by_driver =
     let f = find x y end _ _ steps a b (record { left = w; right = v; joined = joined }) chain comes in
     let p = f.such in
     let step = f.step in
@@ -707,7 +711,7 @@ keeps_rts_on x y end steps a b w v joined chain comes =
     let same = keeps_mcr x y end f.back step.after b f.after.going f.second f.follow in
     let e = in_end x y end b (going_after x y f.back step.after b f.after.going f.second) in
     rts_on (at_end end b)
-    (loopback-in _ (ring_machine (at_end end b)).chip e.1.session.stands.modes ∙ e.1.session.open_modes.loopback)
+    (loopback-in _ (ring_machine (at_end end b)).chip e.1.session.stands.modes ∙ e.1.session.open_modes.loopback) by_driver
     (ap (λ v. has_any v MCR.RTS.0) same ∙ on)
 
 -- ---- the handler

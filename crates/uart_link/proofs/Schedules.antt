@@ -1,5 +1,6 @@
 -- The schedule of a chip at a cable: what is known of it, and behind that what nobody knows yet.
-use Rattle.std.proofs.Common.{◌≡◌, ◌≢◌, ℕ, zero, suc, ◌+◌, ◌-◌, ◌<◌, ◌≤◌, List, [], ◌∷◌, ◌++◌, length, drop, replicate, refl, sym, ◌∙◌, ap}
+use Rattle.std.proofs.Common.{◌≡◌, ◌≢◌, ℕ, zero, suc, true, ◌+◌, ◌-◌, ◌<◌, ◌≤◌, List, [], ◌∷◌, ◌++◌, length, drop, replicate, refl, sym}
+use Rattle.std.proofs.Common.{◌∙◌, ap}
 use Rattle.std.proofs.Common.{slice_index_or, drop-cons, add-one, arith, zero-le}
 use Rattle.std.proofs.lemmas.List.{drop_all}
 use Rattle.uart_events.specs.declared.event.Event.{Event}
@@ -11,6 +12,7 @@ use Rattle.uart_chip.specs.Chip.{ChipState}
 use Rattle.uart_chip.specs.Machine.{MachineState, arrivals, perform}
 use Rattle.uart_chip.specs.Sound.{AllLegal, IsSound}
 use Rattle.uart_chip.proofs.Lists.{each-append}
+use Rattle.uart_chip.proofs.soundness.Builds.{whole_flowing}
 use Rattle.uart_chip.proofs.soundness.Sounds.{whole_perform}
 use Rattle.uart_run.specs.Wired.{IsWiredChip}
 use Rattle.uart_run.proofs.Wired.{wired-ticks}
@@ -80,6 +82,15 @@ known_settled c count k =
     let h = count_to_come c count k.whole.sound in
     let e : to_come c - 0 ≡ count = omega (arith, h) in
     ap f e
+
+-- automatic flow control changes none of it
+pub known_flowing : (c : ChipState) (known : List Event) (count : ℕ) → IsKnown c known count →
+    IsKnown (record c { auto_flow = true }) known count
+known_flowing c known count k = record {
+  whole = whole_flowing (record { chip = c; ahead = known ++ unknown count }) k.whole;
+  unmarked = k.unmarked;
+  wired = k.wired;
+}
 
 -- new events are known
 pub known_ahead : (c : ChipState) (count : ℕ) (events : List Event) → IsKnown c [] count → AllLegal events → AllUnmarked events →

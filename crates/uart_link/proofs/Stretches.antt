@@ -1,6 +1,6 @@
 -- What passes at an end in calls of a link: time, and arrivals.
 use Rattle.std.proofs.Common.{◌≡◌, ℕ, zero, suc, ◌+◌, ◌-◌, ◌≤◌, Bool, List, [], ◌∷◌, ◌++◌, length, length-append, take, Option, Some, None}
-use Rattle.std.proofs.Common.{refl, sym, ◌∙◌, ap, subst, arith}
+use Rattle.std.proofs.Common.{false, refl, sym, ◌∙◌, ap, subst, arith}
 use Rattle.std.proofs.lemmas.List.{length-drop, length-take}
 use Rattle.uart_events.specs.declared.event.Event.{Event}
 use Rattle.uart_spec.specs.declared.setup.FifoSize.{FifoSize}
@@ -169,8 +169,9 @@ Always o = Unit {0}
 pub time_passes : (x y : Modes) (end : Side) (steps : List Step) (a b : Link) → Going x y a → LinkChain a steps b →
     EndInNext end steps → enough_ticks (ring_machine (at_end end a)).chip.transmitter ≤ in_calls_at ticks_in end steps →
     sent_of (at_end end a) ≤ (ring_machine (at_end end a)).chip.transmitter.capacity →
+    (ring_machine (at_end end a)).chip.auto_flow ≡ false →
     sent_of (at_end end a) ≤ length (ring_machine (at_end end b)).chip.transmitter.wire
-time_passes x y end steps a b g chain happened enough room =
+time_passes x y end steps a b g chain happened enough room by_driver =
     let goal = sent_of (at_end end a) in
     let m = ring_machine (at_end end a) in
     let n = ring_machine (at_end end b) in
@@ -185,6 +186,7 @@ time_passes x y end steps a b g chain happened enough room =
     let most = left-most m.chip sound.chip in
     let due : DueTicks goal m.chip (ahead_of ticks_of m.ahead + (in_calls_at ticks_in end steps + 0)) = record {
       loopback = loopback-in _ m.chip e.1.session.stands.modes ∙ e.1.session.open_modes.loopback;
+      flow = by_driver;
       have = omega arith;
       room = room;
       few = omega (arith, first, most, enough);
@@ -272,6 +274,7 @@ pub record SameRooms (c d : ChipState) : Type 0 where
   pub marks : length d.receiver.marks ≡ length c.receiver.marks
   pub char_ticks : d.transmitter.char_ticks ≡ c.transmitter.char_ticks
   pub size : d.transmitter.size ≡ c.transmitter.size
+  pub flow : d.auto_flow ≡ c.auto_flow
 
 pub same_rooms : (x y : Modes) (end : Side) (steps : List Step) (a b : Link) → Going x y a → LinkChain a steps b →
     SameRooms (ring_machine (at_end end a)).chip (ring_machine (at_end end b)).chip
@@ -282,21 +285,25 @@ same_rooms x y end steps a b g chain =
     let l = length c.receiver.marks in
     let t = c.transmitter.char_ticks in
     let z = c.transmitter.size in
-    let first : HasRooms k l t z c (ahead_of arrives_of (ring_machine (at_end end a)).ahead + (in_calls_at arrives_in end steps + 0)) =
+    let f = c.auto_flow in
+    let first : HasRooms k l t z f c (ahead_of arrives_of (ring_machine (at_end end a)).ahead + (in_calls_at arrives_in end steps + 0)) =
     record {
       loopback = loopback-in _ c e.1.session.stands.modes ∙ e.1.session.open_modes.loopback;
       capacity = refl;
       marks = refl;
       char_ticks = refl;
       same_size = refl;
+      same_flow = refl;
     } in
-    let after = spend_chain arrives_of (HasRooms k l t z) (rooms_spend k l t z) arrives_in Always x y end (λ steps a b g chain holds. tt)
+    let after = spend_chain arrives_of (HasRooms k l t z f) (rooms_spend k l t z f) arrives_in Always x y end
+    (λ steps a b g chain holds. tt)
     (λ o moments n holds h. record {
       loopback = h.loopback;
       capacity = h.capacity;
       marks = h.marks;
       char_ticks = h.char_ticks;
       same_size = h.same_size;
+      same_flow = h.same_flow;
     })
     steps a b 0 g tt chain first in
-    record { capacity = after.capacity; marks = after.marks; char_ticks = after.char_ticks; size = after.same_size }
+    record { capacity = after.capacity; marks = after.marks; char_ticks = after.char_ticks; size = after.same_size; flow = after.same_flow }

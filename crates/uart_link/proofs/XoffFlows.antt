@@ -366,8 +366,11 @@ receiver_acts x pace extra since y moments c a s t r u w sound h same adjusts sm
             fifo = e.fifo ∙ flows.fifo;
             behind = behind;
           };
-          whole = e.whole flows.fifo
-              (fits pace extra since y _ _ (has_told s) r s t sound flows.held e behind (omega (arith, came, few)) small flows.phase);
+          whole =
+              let least = at_least_16 (receiver_at s).size in
+              let room =
+              fits pace extra since y _ _ (has_told s) r s t sound flows.held e behind (omega (arith, came, few)) small flows.phase in
+              e.whole flows.fifo (omega (arith, least, room));
         }
 
 -- ---- a call of the sender

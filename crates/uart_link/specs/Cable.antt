@@ -1,12 +1,12 @@
 -- A null-modem cable between two chips: which characters are on it, which lines it joins, and the schedule that it
 -- makes of the moments at one end.
-use Rattle.std.specs.Prelude.{ℕ, ◌-◌, List, [], ◌∷◌, ◌++◌, take, drop, length, replicate, bit_or, if◌then◌else◌}
+use Rattle.std.specs.Prelude.{ℕ, ◌-◌, Bool, List, [], ◌∷◌, ◌++◌, take, drop, length, replicate, bit_or, if◌then◌else◌}
 use Rattle.uart_events.specs.declared.event.Event.{Event}
 use Rattle.uart_events.specs.declared.event.Event.TheVariants as event
 use Rattle.uart_spec.specs.Bits.{has_any, flag}
 use Rattle.uart_spec.specs.declared.registers.modem_control.TheConstants.MCR
 use Rattle.uart_spec.specs.declared.registers.modem_status.TheConstants.MSR
-use Rattle.uart_chip.specs.Chip.{ChipState, is_loopback}
+use Rattle.uart_chip.specs.Chip.{ChipState, is_loopback, rts_output}
 use Rattle.uart_chip.specs.Machine.{MachineState, arrivals, before_mark}
 use Rattle.uart_link.specs.declared.call.Moment.{Moment}
 use Rattle.uart_link.specs.declared.call.Moment.TheVariants as moment
@@ -17,17 +17,18 @@ use Rattle.uart_link.specs.declared.call.Moment.TheVariants as moment
 abbrev pub on_cable : (sender receiver : ChipState) → List ℕ
 on_cable sender receiver = drop receiver.receiver.arrived sender.transmitter.wire
 
--- the modem lines at one end by the modem control register at the other: RTS is CTS, and DTR is DSR and CD
-abbrev pub lines_joined : (mcr : ℕ) → ℕ
-lines_joined mcr =
-    let cts = flag (has_any mcr MCR.RTS.0) MSR.CTS.0 in
-    let dsr = flag (has_any mcr MCR.DTR.0) MSR.DSR.0 in
-    let cd = flag (has_any mcr MCR.DTR.0) MSR.CD.0 in
+-- the modem lines at one end by the outputs of the other: RTS is CTS, and DTR is DSR and CD
+abbrev pub lines_joined : (rts dtr : Bool) → ℕ
+lines_joined rts dtr =
+    let cts = flag rts MSR.CTS.0 in
+    let dsr = flag dtr MSR.DSR.0 in
+    let cd = flag dtr MSR.CD.0 in
     bit_or cts (bit_or dsr cd)
 
--- in loopback a chip turns its outputs off
+-- those of this chip: RTS as the chip gives it, which automatic flow control may turn off, and DTR of MCR; in loopback
+-- a chip turns its outputs off
 abbrev pub lines_from : ChipState → ℕ
-lines_from c = if is_loopback c.latches then 0 else lines_joined c.latches.mcr
+lines_from c = if is_loopback c.latches then 0 else lines_joined (rts_output c) (has_any c.latches.mcr MCR.DTR.0)
 
 -- ---- what the cable makes of the moments at an end
 

@@ -7,5 +7,6 @@ pub mod Told
 pub mod Flow
 pub mod Progress
 pub mod Xoff
+pub mod AutoFlow
 pub mod Agreed
 pub mod Parts

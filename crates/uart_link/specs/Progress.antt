@@ -9,7 +9,7 @@ use Rattle.uart_chip.specs.Chip.{ChipState}
 use Rattle.uart_chip.specs.Conserved.{out}
 use Rattle.uart_chip.specs.Receiver.{characters_of}
 use Rattle.uart_chip.specs.Transmitter.{TransmitterState}
-use Rattle.uart_run.specs.Progress.{HasRoom, most_held}
+use Rattle.uart_run.specs.Progress.{HasRoom, IsUnheld, most_held}
 use Rattle.uart_ring.specs.Ring.{ring_fields, sendable, waiting}
 use Rattle.uart_ring.specs.declared.ring.receive.ReceiveMarks.{ReceiveMarks}
 use Rattle.uart_ring.specs.declared.ring.service.HandleEnd.TheVariants.{Idle}
@@ -204,9 +204,10 @@ abbrev pub NoneAdjusts : Side → List Step → Type 0
 NoneAdjusts end [] = ⊤
 NoneAdjusts end (step ∷ steps) = OfEnd end step.call.side (hold_of step.call.call ≡ None) × NoneAdjusts end steps
 
--- RTS stays on that was turned on, until the end adjusts it again
+-- RTS stays on that was turned on, until the end adjusts it again, if its chip does not turn it off by itself
 abbrev pub KeepsRtsOn : Side → List Step → Link → Type 0
-KeepsRtsOn end steps b = Comes (TurnsRtsOn end) (NoneAdjusts end) steps → IsRtsOn end b
+KeepsRtsOn end steps b =
+    Comes (TurnsRtsOn end) (NoneAdjusts end) steps → IsUnheld (ring_machine (at_end end b)) → IsRtsOn end b
 
 -- a call of an end whose driver does not check CTS leaves its rings armed, if it finds them so or arms them; each call
 -- does
@@ -233,11 +234,11 @@ TakesQueued end a steps =
 abbrev pub enough_rounds : RingState → ℕ
 enough_rounds s = length (to_send s) + 1
 
--- If no character is dropped at the other end, no call lets a byte overtake or drops one, and there is room, all that
--- was queued is taken within rounds enough with ticks enough. So at most `enough_rounds` times `enough_ticks` have to
--- pass
+-- If the sender's chip has no automatic flow control, no character is dropped at the other end, no call lets a byte
+-- overtake or drops one, and there is room, all that was queued is taken within rounds enough with ticks enough. So at
+-- most `enough_rounds` times `enough_ticks` have to pass
 abbrev pub Progresses : Side → Link → List Step → Link → Type 0
 Progresses end a steps b =
-    AllKeepOrderAt end steps → DropsNothing (other end) a b → HasJournals end a steps →
-    HasRounds end (enough_ticks (transmitter_at end a)) (enough_rounds (at_end end a)) steps →
+    (chip_at end a).auto_flow ≡ false → AllKeepOrderAt end steps → DropsNothing (other end) a b →
+    HasJournals end a steps → HasRounds end (enough_ticks (transmitter_at end a)) (enough_rounds (at_end end a)) steps →
     TakesQueued end a steps

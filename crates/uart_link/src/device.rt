@@ -1,5 +1,5 @@
 //! The chip at one end of a cable.
-ghost use Rattle.std.specs.Prelude.{◌≡◌, ◌≤◌, ◌<◌, ◌+◌, List, [], ◌∷◌, ◌++◌, length, drop};
+ghost use Rattle.std.specs.Prelude.{◌≡◌, ◌≤◌, ◌<◌, ◌+◌, true, List, [], ◌∷◌, ◌++◌, length, drop};
 ghost use Rattle.std.specs.Prelude.{ℕ, vec_len, vec_capacity, slice_get, IfOk, IsOkUnless, IsTrue};
 ghost use Rattle.uart_chip.specs.Conserved.{waiting};
 ghost use Rattle.uart_chip.specs.Machine as machine;
@@ -59,13 +59,13 @@ impl Model for CabledChip {
         × IsKnown m.uart (drop m.cursor m.events.items) m.remaining };
 }
 
-// Returns the modem lines at one end by the modem control register at the other.
-fn lines_joined(mcr: MCR) -> MSR
-    ensures { result.0 ≡ spec.lines_joined mcr.0 }
+// Returns the modem lines at one end by the outputs of the other.
+fn lines_joined(rts: bool, dtr: bool) -> MSR
+    ensures { result.0 ≡ spec.lines_joined rts dtr }
 {
-    let cts = flag(mcr.intersects(MCR::RTS), MSR::CTS);
-    let dsr = flag(mcr.intersects(MCR::DTR), MSR::DSR);
-    let cd = flag(mcr.intersects(MCR::DTR), MSR::CD);
+    let cts = flag(rts, MSR::CTS);
+    let dsr = flag(dtr, MSR::DSR);
+    let cd = flag(dtr, MSR::CD);
     cts.union(dsr.union(cd))
 }
 
@@ -181,6 +181,29 @@ impl CabledChip {
         })
     }
 
+    /// Returns the same chip with automatic flow control, as a 16750 and a 16950 have it.
+    ///
+    /// MCR then keeps bit 5. While it is set, the transmitter takes no next character while CTS is
+    /// off, and with the FIFO on the RTS output is off while as many characters wait as the trigger
+    /// level.
+    ///
+    /// # Examples
+    ///
+    /// ```
+    /// let machine = CabledChip::new(rt.alloc(), Chip::Uart16550A, 4, 64, 64)?.with_auto_flow();
+    /// let mut uart = Uart16550::new_with_backend(machine);
+    /// uart.init(Config::DEFAULT)?;
+    /// ```
+    #[tactic(auto, using(crate::proofs::Schedules::known_flowing))]
+    pub fn with_auto_flow(self) -> Self
+        ensures { result ≡ machine.flowing true self }
+    {
+        Self {
+            uart: self.uart.with_auto_flow(),
+            ..self
+        }
+    }
+
     // Performs the events before an access.
     fn reach_access(&mut self)
         ensures { self.new ≡ machine.at_access self.old }
@@ -235,7 +258,7 @@ impl CabledChip {
         if self.uart.is_loopback() {
             MSR::empty()
         } else {
-            lines_joined(self.uart.mcr())
+            lines_joined(self.uart.rts_output(), self.uart.mcr().intersects(MCR::DTR))
         }
     }
 

@@ -12,7 +12,8 @@ use Rattle.uart_chip.specs.Transmitter as transmitter
 use Rattle.uart_chip.specs.Transmitter.{TransmitterState, room, looped_byte, shift, refill, load}
 use Rattle.uart_chip.specs.Receiver as receiver
 use Rattle.uart_chip.specs.Receiver.{ReceiverState, enter, replace, come_back, take_front, is_data_pending}
-use Rattle.uart_chip.specs.Chip.{ChipState, cut_of, is_dlab_set, is_loopback, tick, ticks, arrive_live, take_wire, change_lines}
+use Rattle.uart_chip.specs.Chip.{ChipState, cut_of, is_dlab_set, is_loopback, is_held_off, tick, ticks, arrive_live, take_wire}
+use Rattle.uart_chip.specs.Chip.{change_lines}
 use Rattle.uart_chip.specs.Chip.{line_status, interrupt, is_thr_empty, with_thr_pending, answer, after_read, after_write}
 use Rattle.uart_chip.specs.Chip.{set_fifo, control, switch, is_same, reset_receiver, reset_transmitter, set_trigger, trigger_level}
 use Rattle.uart_chip.proofs.soundness.Sounds.{latches-ticks}
@@ -98,9 +99,10 @@ refill-plain : (place : Option Shifting) (queue : List ℕ) (t : TransmitterStat
 refill-plain None (x ∷ []) t = refl
 refill-plain _ _ t = refl
 
-shifts-plain : (loopback : Bool) (t : TransmitterState) →
-    AlikeTransmitters (transmitter.tick loopback t) (transmitter.tick loopback (plain_transmitter t))
-shifts-plain loopback t =
+shifts-plain : (loopback held_off : Bool) (t : TransmitterState) →
+    AlikeTransmitters (transmitter.tick loopback held_off t) (transmitter.tick loopback held_off (plain_transmitter t))
+shifts-plain loopback true t = sym (ap plain_transmitter (shift-plain loopback t.shift_register t))
+shifts-plain loopback false t =
     let u : TransmitterState = shift loopback t.shift_register t in
     sym (ap (λ (v : TransmitterState). plain_transmitter (refill v.shift_register v.queue v)) (shift-plain loopback t.shift_register t) ∙
     refill-plain u.shift_register u.queue u)
@@ -110,8 +112,10 @@ tick-plain c =
     let loopback : Bool = is_loopback c.latches in
     let looped : Option ℕ = looped_byte loopback c.transmitter.shift_register in
     let r : ReceiverState = receiver.tick c.fifo looped c.receiver in
-    let u : TransmitterState = transmitter.tick loopback (plain_transmitter c.transmitter) in
-    ap (λ (t : TransmitterState). record c { transmitter = t; receiver = plain_receiver r }) (shifts-plain loopback c.transmitter) ∙
+    let held_off : Bool = is_held_off c in
+    let u : TransmitterState = transmitter.tick loopback held_off (plain_transmitter c.transmitter) in
+    ap (λ (t : TransmitterState). record c { transmitter = t; receiver = plain_receiver r })
+    (shifts-plain loopback held_off c.transmitter) ∙
     ap (λ (s : ReceiverState). record c { transmitter = plain_transmitter u; receiver = s }) (come_back-plain c.fifo looped c.receiver)
 
 ticks-plain : (n : ℕ) (c : ChipState) → Alike (ticks n c) (ticks n (plain c))

@@ -16,7 +16,7 @@ use Rattle.uart_chip.specs.Transmitter as transmitter
 use Rattle.uart_chip.specs.Transmitter.{TransmitterState, room, looped_byte}
 use Rattle.uart_chip.specs.Receiver as receiver
 use Rattle.uart_chip.specs.Receiver.{ReceiverState, is_unscheduled, enter, replace, come_back, take_front}
-use Rattle.uart_chip.specs.Chip.{ChipState, fresh, cut_of, is_loopback, ticks, arrive_live, take_wire, change_lines}
+use Rattle.uart_chip.specs.Chip.{ChipState, fresh, cut_of, is_loopback, is_held_off, ticks, arrive_live, take_wire, change_lines}
 use Rattle.uart_chip.specs.Chip.{identification, after_read, after_write}
 use Rattle.uart_chip.specs.Sound.{IsWhole}
 use Rattle.uart_chip.proofs.soundness.Builds.{whole_fresh}
@@ -83,15 +83,16 @@ room-refill : (place : Option Shifting) (queue : List ℕ) (t : TransmitterState
 room-refill None (x ∷ []) t h = h
 room-refill _ _ t h = h
 
-room-tick : (loopback : Bool) (t : TransmitterState) → HasRoom t → HasRoom (transmitter.tick loopback t)
-room-tick loopback t h =
+room-tick : (loopback held_off : Bool) (t : TransmitterState) → HasRoom t → HasRoom (transmitter.tick loopback held_off t)
+room-tick loopback true t h = room-shift loopback t.shift_register t h
+room-tick loopback false t h =
     let u : TransmitterState = transmitter.shift loopback t.shift_register t in
     room-refill u.shift_register u.queue u (room-shift loopback t.shift_register t h)
 
 -- ---- both, of the chip
 
 abbrev pub Keeps : ChipState → Type 0
-Keeps c = NoneLost c.receiver × HasRoom c.transmitter
+Keeps c = NoneLost c.receiver × (HasRoom c.transmitter × (c.auto_flow ≡ false))
 
 keeps-ticks : (n : ℕ) (c : ChipState) → Keeps c → Keeps (ticks n c)
 keeps-ticks zero c k = k
@@ -99,7 +100,7 @@ keeps-ticks (suc n) c k =
     let d : ChipState = ticks n c in
     let w = keeps-ticks n c k in (
       none_lost-come_back d.fifo (looped_byte (is_loopback d.latches) d.transmitter.shift_register) d.receiver w.0,
-      room-tick (is_loopback d.latches) d.transmitter w.1,
+      (room-tick (is_loopback d.latches) (is_held_off d) d.transmitter w.1.0, w.1.1),
     )
 
 keeps-reads : (offset : ℕ) (c d : ChipState) → ReadMove offset c d → Keeps c → Keeps d
@@ -111,7 +112,8 @@ keeps-read offset c k = keeps-reads offset c _ (read_move offset c) k
 
 keeps-writes : (offset value : ℕ) (c d : ChipState) → WriteMove offset value c d → Keeps c → Keeps d
 keeps-writes offset value c d (sends p q) k =
-    let t : TransmitterState = c.transmitter in (k.0, both_if HasRoom _ _ (nat_lt (length t.queue) (room c.fifo t.size)) k.1 k.1)
+    let t : TransmitterState = c.transmitter in
+    (k.0, (both_if HasRoom _ _ (nat_lt (length t.queue) (room c.fifo t.size)) k.1.0 k.1.0, k.1.1))
 keeps-writes offset value c d _ k = k
 
 keeps-write : (offset value : ℕ) (c : ChipState) → Keeps c → Keeps (after_write offset value c)
@@ -120,23 +122,31 @@ keeps-write offset value c k = write_lasts Keeps offset value (keeps-writes offs
 -- ---- the chip stays live
 
 live-steady : (c d : ChipState) → IsLive c → Steady c.receiver.arrived c d → IsWhole (record { chip = d; ahead = [] }) → Keeps d → IsLive d
-live-steady c d w s whole k = record { whole = whole; no_marks = s.known ∙ w.no_marks; none_lost = k.0; room = k.1.0; size = k.1.1 }
+live-steady c d w s whole k =
+    record {
+      whole = whole;
+      no_marks = s.known ∙ w.no_marks;
+      none_lost = k.0;
+      room = k.1.0.0;
+      size = k.1.0.1;
+      flow = k.1.1;
+    }
 
 pub live-read : (offset : ℕ) (c : ChipState) → IsLive c → IsLive (after_read offset c)
 live-read offset c w =
     live-steady c _ w (steady_read offset c w.whole.sound.chip) (whole_read offset (record { chip = c; ahead = [] }) w.whole)
-    (keeps-read offset c (w.none_lost, (w.room, w.size)))
+    (keeps-read offset c (w.none_lost, ((w.room, w.size), w.flow)))
 
 pub live-write : (offset value : ℕ) (c : ChipState) → value < 256 → IsLive c → IsLive (after_write offset value c)
 live-write offset value c v w =
     live-steady c _ w (steady_write offset value c w.whole.sound.chip) (whole_write offset value
     (record { chip = c; ahead = [] }) v w.whole)
-    (keeps-write offset value c (w.none_lost, (w.room, w.size)))
+    (keeps-write offset value c (w.none_lost, ((w.room, w.size), w.flow)))
 
 pub live-ticks : (n : ℕ) (c : ChipState) → IsLive c → IsLive (ticks n c)
 live-ticks n c w =
     live-steady c _ w (steady_ticks n c w.whole.sound.chip) (whole_ticks n c (ticks n c) [] refl w.whole)
-    (keeps-ticks n c (w.none_lost, (w.room, w.size)))
+    (keeps-ticks n c (w.none_lost, ((w.room, w.size), w.flow)))
 
 pub live-lines : (inputs : ℕ) (c : ChipState) → IsWithin inputs MSR.LINES.0 → IsLive c → IsLive (change_lines inputs c)
 live-lines inputs c i w =
@@ -145,7 +155,7 @@ live-lines inputs c i w =
       sound = record { chip = w.whole.sound.chip; foreseen = w.whole.sound.foreseen; legal = (i, tt) };
       bytes = w.whole.bytes;
     }))
-    (w.none_lost, (w.room, w.size))
+    (w.none_lost, ((w.room, w.size), w.flow))
 
 -- a move of one part that leaves the latches alone
 pub live-part : (c d : ChipState) → IsLive c → Steady c.receiver.arrived c d → d.latches ≡ c.latches → Keeps d → IsLive d
@@ -164,7 +174,7 @@ live-arrival byte errors c l w =
     live-part c (arrive_live byte errors c) w
     (steady_receiver c.receiver.arrived c (receiver.arrive_live loopback c.fifo (cut_of c byte) errors c.receiver) w.whole.sound.chip
     (safe_bring loopback c.fifo c.receiver (cut_of c byte) errors w.whole.sound.chip.receiver l)) refl
-    (none_lost-arrival loopback c.fifo (cut_of c byte) errors c.receiver w.none_lost, (w.room, w.size))
+    (none_lost-arrival loopback c.fifo (cut_of c byte) errors c.receiver w.none_lost, ((w.room, w.size), w.flow))
 
 pub live-expire : (c : ChipState) → IsLive c → IsLive (expire c)
 live-expire c w =
@@ -189,7 +199,7 @@ live-expire c w =
       limit = refl;
       size = refl;
     })) refl
-    (w.none_lost, (w.room, w.size))
+    (w.none_lost, ((w.room, w.size), w.flow))
 
 pub live-hold : (byte errors : ℕ) (c : ChipState) → IsWithin errors LSR.CHARACTER_ERRORS.0 → IsLive c →
     IsLive (arrive_holding byte errors c)
@@ -207,7 +217,7 @@ live-take count c w =
     (steady_transmitter c (transmitter.take_wire count c.transmitter) w.whole.sound.chip
     (record { in_room = t.in_room; ticking = t.ticking; at_least_one = t.at_least_one; at_most = t.at_most; on_wire = fewer })
     refl refl) refl
-    (w.none_lost, (w.room, w.size))
+    (w.none_lost, ((w.room, w.size), w.flow))
 
 -- ---- a new chip
 
@@ -243,6 +253,7 @@ live-fresh chip char_ticks capacity e =
       none_lost = refl;
       room = within_room char_ticks capacity e;
       size = refl;
+      flow = refl;
     }
 
 -- ---- the interrupt line

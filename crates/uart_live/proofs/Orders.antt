@@ -7,7 +7,7 @@ use Rattle.uart_chip.specs.declared.receiver.Origin.TheVariants.{Live}
 use Rattle.uart_chip.specs.Transmitter as transmitter
 use Rattle.uart_chip.specs.Transmitter.{TransmitterState, room, held, out}
 use Rattle.uart_chip.specs.Receiver.{ReceiverState, enter, replace, take_front}
-use Rattle.uart_chip.specs.Chip.{ChipState, cut_of, is_loopback, line_status, ticks, arrive_live}
+use Rattle.uart_chip.specs.Chip.{ChipState, cut_of, is_loopback, is_held_off, line_status, ticks, arrive_live}
 use Rattle.uart_chip.specs.Chip.{after_read}
 use Rattle.uart_chip.proofs.conservation.Sends.{sends-tick, sends-load}
 use Rattle.uart_chip.proofs.soundness.Sounds.{latches-ticks}
@@ -43,8 +43,8 @@ goes-ticks zero c l = refl
 goes-ticks (suc n) c l =
     let d : ChipState = ticks n c in
     let outside : is_loopback d.latches ≡ false = rw (latches-ticks n c) l in
-    let ticked : out (transmitter.tick (is_loopback d.latches) d.transmitter) ≡ out d.transmitter =
-    rw outside ((sends-tick d.transmitter).grows ∙ append-nil (out d.transmitter)) in
+    let ticked : out (transmitter.tick (is_loopback d.latches) (is_held_off d) d.transmitter) ≡ out d.transmitter =
+    rw outside ((sends-tick (is_held_off d) d.transmitter).grows ∙ append-nil (out d.transmitter)) in
     ticked ∙ goes-ticks n c l
 
 -- a write of another register than FCR

@@ -191,6 +191,7 @@ live_of c wire e bytes =
       none_lost = refl;
       room = fits.room;
       size = refl;
+      flow = refl;
     }
 
 pub of_live : (c : ChipData) (wire : List ℕ) → IsLive (chip_of c wire) → is_live c wire ≡ true

@@ -5,16 +5,18 @@ use Rattle.uart_16550.specs.Driver.{fields}
 use Rattle.uart_16550.specs.Tty.{inner_of}
 use Rattle.uart_events.specs.declared.call.Answer.{Answer}
 use Rattle.uart_chip.specs.Transmitter.{held}
-use Rattle.uart_chip.specs.Machine.{MachineState, fresh, cutting, sized}
+use Rattle.uart_chip.specs.Machine.{MachineState, fresh, cutting, sized, flowing}
 use Rattle.uart_chip.specs.Conserved.{waiting}
 use Rattle.uart_run.specs.Run.{State, machine_of, IsRun}
 use Rattle.uart_language.specs.Script.{Plan}
 use Rattle.uart_language.specs.Output.{printed}
 
--- the machine of the script after power-on, whose FIFOs have the size that the script names
+-- the machine of the script after power-on, whose FIFOs have the size that the script names, and which has automatic
+-- flow control if the chip that it names has it
 abbrev pub first_machine : Plan → MachineState
 first_machine plan =
-    sized plan.fifo_size (cutting plan.cuts (fresh plan.chip plan.ticks plan.wire_capacity plan.events))
+    flowing plan.auto_flow
+    (sized plan.fifo_size (cutting plan.cuts (fresh plan.chip plan.ticks plan.wire_capacity plan.events)))
 
 -- this machine, and a new driver with the limit of the script
 pub record IsFirst (plan : Plan) (s : State) : Type 0 where

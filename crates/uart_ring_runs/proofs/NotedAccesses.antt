@@ -18,7 +18,7 @@ use Rattle.uart_spec.specs.declared.registers.offsets.TheConstants as offsets
 use Rattle.uart_chip.specs.Chip.{ChipState, is_dlab_set, is_loopback, line_status, after_read, after_write}
 use Rattle.uart_chip.specs.Laws.{front_of, reported_front}
 use Rattle.uart_chip.specs.Machine.{MachineState, MachineStep, at_access, at_mark}
-use Rattle.uart_chip.specs.Masks.{mcr_bits}
+use Rattle.uart_chip.proofs.McrBits.{kept_bit}
 use Rattle.uart_chip.specs.Receiver as receiver
 use Rattle.uart_chip.specs.Receiver.{ReceiverState, front_errors, report, grow_timeout}
 use Rattle.uart_chip.specs.Sound.{IsMarked, IsSound}
@@ -228,7 +228,7 @@ pub data Tame : Access → Type 0 where
   Sends : (value : ℕ) → Tame (Write offsets.DATA value)
   Enables : (value : ℕ) → Tame (Write offsets.IER value)
   Frames : (value : ℕ) → Tame (Write offsets.LCR value)
-  Steers : (value : ℕ) → has_any (bit_and value mcr_bits) MCR.LOOP_BACK.0 ≡ false → Tame (Write offsets.MCR value)
+  Steers : (value : ℕ) → has_any value MCR.LOOP_BACK.0 ≡ false → Tame (Write offsets.MCR value)
   Keeps : (value : ℕ) → Tame (Write offsets.SPR value)
 
 -- a read leaves latches and mode
@@ -317,7 +317,7 @@ tame_noted access a m n (Frames value) w s =
 tame_noted access a m n (Steers value off) w s =
     let k = kept_step (Write offsets.MCR value) m n s in
     write_still a a m n offsets.MCR value w s refl (ap (λ (v : Kept). v.fifo) k)
-    (ap (λ (v : Kept). is_loopback v.latches) k ∙ off)
+    (ap (λ (v : Kept). is_loopback v.latches) k ∙ (kept_bit m.chip.auto_flow 4 value refl refl ∙ off))
     (w.latch ∙ sym (ap (λ (v : Kept). is_dlab_set v.latches) k)) refl refl
 tame_noted access a m n (Keeps value) w s =
     let k = kept_step (Write offsets.SPR value) m n s in

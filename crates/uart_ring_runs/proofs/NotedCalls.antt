@@ -13,14 +13,13 @@ use Rattle.uart_spec.specs.declared.registers.offsets.TheConstants as offsets
 use Rattle.uart_16550.specs.Frame.{switched, unlooped}
 use Rattle.uart_16550.specs.Grammar.{Settings}
 use Rattle.uart_chip.specs.Machine.{MachineState, MachineStep}
-use Rattle.uart_chip.specs.Masks.{mcr_bits}
 use Rattle.uart_chip.specs.declared.receiver.Character.{Character}
 use Rattle.uart_chip.proofs.conservation.BlockLaws.{IsOpen, stands-after}
 use Rattle.uart_chip.proofs.conservation.Passed.{Passed, passed-refl, passed-trans, passed-mark}
 use Rattle.uart_chip.proofs.conservation.Went.{Modes}
 use Rattle.uart_run.specs.Chains.{calls_of}
 use Rattle.uart_run.proofs.CallBlocks.{InBlocks}
-use Rattle.uart_run.proofs.FrameLaws.{unlooped_off}
+use Rattle.uart_chip.proofs.Bits.{has_not}
 use Rattle.uart_run.specs.Wired.{IsWired}
 use Rattle.uart_ring.specs.Lossless.{data_written, data_read, LosesOnly, with_accepted}
 use Rattle.uart_ring.specs.Notes.{Notes, NotesErrors, notes_of}
@@ -144,7 +143,7 @@ record Steered (l : List Access) : Type 0 where
   pub tame : AllTame l
   pub none : data_read l ≡ []
 
-rts_steered : (shown on : Bool) (mcr value : ℕ) → has_any (bit_and value mcr_bits) MCR.LOOP_BACK.0 ≡ false →
+rts_steered : (shown on : Bool) (mcr value : ℕ) → has_any value MCR.LOOP_BACK.0 ≡ false →
     Steered (Read offsets.MCR mcr ∷ write_if_other shown on (Write offsets.MCR value))
 rts_steered true true mcr value off = record { tame = (Reads offsets.MCR mcr refl refl, tt); none = refl }
 rts_steered false false mcr value off = record { tame = (Reads offsets.MCR mcr refl refl, tt); none = refl }
@@ -156,7 +155,7 @@ rts_steered false true mcr value off =
 steered : (wanted : Option Bool) (f : RingFields) (l : List Access) (after : RingFields) → MakesRtsIfAny wanted f l after → Steered l
 steered None f l after t = rw t.0 (record { tame = tt; none = refl })
 steered (Some on) f l after (((mcr, is), saved), same) =
-    rw is (rts_steered (has mcr MCR.RTS.0) on mcr (unlooped (switched on MCR.RTS.0 mcr)) (unlooped_off (switched on MCR.RTS.0 mcr)))
+    rw is (rts_steered (has mcr MCR.RTS.0) on mcr (unlooped (switched on MCR.RTS.0 mcr)) (has_not 4 (switched on MCR.RTS.0 mcr) 239 refl))
 
 -- nothing was taken
 none_left : (takes : List Character) → only_bytes takes ≡ [] → (items more : List ℕ) → more ≡ items ++ [] → more ≡ items ++ only_bytes takes

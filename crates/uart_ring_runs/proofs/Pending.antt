@@ -12,7 +12,7 @@ use Rattle.uart_chip.specs.Transmitter as transmitter
 use Rattle.uart_chip.specs.Transmitter.{TransmitterState, shift, refill, room}
 use Rattle.uart_chip.specs.Receiver as receiver
 use Rattle.uart_chip.specs.Receiver.{ReceiverState, enter, replace, front_errors}
-use Rattle.uart_chip.specs.Chip.{ChipState, LatchesState, tick, ticks, arrive, change_lines, is_loopback}
+use Rattle.uart_chip.specs.Chip.{ChipState, LatchesState, tick, ticks, arrive, change_lines, is_loopback, is_held_off}
 use Rattle.uart_chip.specs.Machine.{MachineState, perform, before_access, after_access}
 use Rattle.uart_chip.proofs.AccessMoves.{both_if}
 use Rattle.uart_ring_runs.specs.Healthy.{news}
@@ -129,12 +129,16 @@ refilled None (x ∷ y ∷ xs) t e =
     let bound : one_if t.is_thr_pending + one_if (not (length (y ∷ xs) == 0)) ≤
     one_if t.is_thr_pending + one_if (not (length t.queue == 0)) = omega (arith, most, one) in bound
 
-sent_tick : (loopback : Bool) (t : TransmitterState) → sent_left (transmitter.tick loopback t) ≤ sent_left t
-sent_tick loopback t =
+sent_shift : (loopback : Bool) (t : TransmitterState) → sent_left (shift loopback t.shift_register t) ≡ sent_left t
+sent_shift loopback t =
+    let s = shifted loopback t.shift_register t in λ i. one_if (s.1 i) + one_if (not (length (s.0 i) == 0))
+
+sent_tick : (loopback held_off : Bool) (t : TransmitterState) → sent_left (transmitter.tick loopback held_off t) ≤ sent_left t
+sent_tick loopback true t = let same = sent_shift loopback t in omega (arith, same)
+sent_tick loopback false t =
     let u : TransmitterState = shift loopback t.shift_register t in
-    let s = shifted loopback t.shift_register t in
     let less = refilled u.shift_register u.queue u refl in
-    let same : sent_left u ≡ sent_left t = λ i. one_if (s.1 i) + one_if (not (length (s.0 i) == 0)) in
+    let same = sent_shift loopback t in
     omega (arith, less, same)
 
 drifts-tick : (c : ChipState) → is_loopback c.latches ≡ false → Drifts c (tick c) 0
@@ -144,7 +148,7 @@ drifts-tick c off = record {
   brought = omega arith;
   line = rw off (omega arith);
   modem = omega arith;
-  sent = sent_tick (is_loopback c.latches) c.transmitter;
+  sent = sent_tick (is_loopback c.latches) (is_held_off c) c.transmitter;
   latches = refl;
   waits = rw off (λ w. w);
 }

@@ -71,8 +71,9 @@ due-refill None [] t h = h
 due-refill None (x ∷ []) t h = inr refl
 due-refill None (x ∷ y ∷ xs) t h = inl (omega arith)
 
-pub due-tick : (loopback : Bool) (t : TransmitterState) → IsDue t → IsDue (transmitter.tick loopback t)
-due-tick loopback t h =
+pub due-tick : (loopback held_off : Bool) (t : TransmitterState) → IsDue t → IsDue (transmitter.tick loopback held_off t)
+due-tick loopback true t h = due-shift loopback t.shift_register t h
+due-tick loopback false t h =
     let u : TransmitterState = shift loopback t.shift_register t in
     due-refill u.shift_register u.queue u (due-shift loopback t.shift_register t h)
 

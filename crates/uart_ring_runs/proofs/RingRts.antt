@@ -7,15 +7,16 @@ use Rattle.uart_spec.specs.declared.access.Access.TheVariants.{Read, Write}
 use Rattle.uart_spec.specs.declared.registers.modem_control.TheConstants.MCR
 use Rattle.uart_spec.specs.declared.registers.offsets.TheConstants as offsets
 use Rattle.uart_16550.specs.Frame.{switched, unlooped}
-use Rattle.uart_chip.specs.Masks.{mcr_bits}
-use Rattle.uart_chip.specs.Machine.{MachineState, MachineStep}
+use Rattle.uart_chip.specs.Masks.{kept_mcr}
+use Rattle.uart_chip.proofs.Bits.{has_not}
+use Rattle.uart_chip.proofs.McrBits.{kept_bit}
+use Rattle.uart_chip.specs.Machine.{MachineState, MachineStep, at_access}
 use Rattle.uart_chip.proofs.conservation.Went.{Modes, loopback-in}
 use Rattle.uart_chip.proofs.conservation.Passed.{Passed, passed-trans}
 use Rattle.uart_chip.proofs.conservation.BlockLaws.{IsOpen, Stands, PassedBlocks, nothing_taken, passed_quiet, path_as, stands-after}
 use Rattle.uart_run.specs.Wired.{IsWired, IsWiredChip}
 use Rattle.uart_run.proofs.CallBlocks.{InBlocks, passed_in_blocks}
 use Rattle.uart_run.proofs.CallLaws.{InSession}
-use Rattle.uart_run.proofs.FrameLaws.{unlooped_off}
 use Rattle.uart_run.proofs.Wired.{wired_step, passed_mcr}
 use Rattle.uart_ring.specs.Ring.{RingFields, ring_fields}
 use Rattle.uart_ring.specs.Receive.{write_if_other, MakesRtsIfAny}
@@ -74,26 +75,28 @@ rts_read x m n mcr o w p =
     came x m.chip.latches.mcr m n (Read offsets.MCR mcr ∷ []) [] [] o (nothing_taken (with_mcr_of x m) m n _ [] whole)
 
 rts_written : (x : Modes) (m n : MachineState) (mcr value : ℕ) → IsOpen (with_mcr_of x m) → Stands (with_mcr_of x m) m →
-    IsWiredChip m.chip → has_any (bit_and value mcr_bits) MCR.LOOP_BACK.0 ≡ false →
+    IsWiredChip m.chip → has_any value MCR.LOOP_BACK.0 ≡ false →
     Path MachineStep m (Read offsets.MCR mcr ∷ Write offsets.MCR value ∷ []) n →
     Came x m n (Read offsets.MCR mcr ∷ Write offsets.MCR value ∷ []) [] []
 rts_written x m n mcr value o w wired off p =
     let y = with_mcr_of x m in
-    let z : Modes = record x { mcr = bit_and value mcr_bits } in
     let q = p.2 in
+    let f = (at_access p.0).chip.auto_flow in
+    let z : Modes = record x { mcr = kept_mcr f value } in
+    let still = kept_bit f 4 value refl refl ∙ off in
     let read = passed_quiet y m p.0 (Read offsets.MCR mcr) o w refl p.1 in
-    let written = passed_mcr y p.0 q.0 value o off (stands-after y m p.0 (Read offsets.MCR mcr ∷ []) [] [] read)
+    let written = passed_mcr y p.0 q.0 value o still (stands-after y m p.0 (Read offsets.MCR mcr ∷ []) [] [] read)
     (wired_step (Read offsets.MCR mcr) m p.0 p.1 wired) q.1 in
     let both = passed-trans y z m p.0 q.0 (Read offsets.MCR mcr ∷ []) (Write offsets.MCR value ∷ []) [] [] [] [] refl read written in
     let whole : Passed z m n (Read offsets.MCR mcr ∷ Write offsets.MCR value ∷ []) [] [] = rw q.2 both in
-    came x (bit_and value mcr_bits) m n (Read offsets.MCR mcr ∷ Write offsets.MCR value ∷ []) [] []
-    (record { dlab = o.dlab; loopback = off }) (nothing_taken z m n _ [] whole)
+    came x (kept_mcr f value) m n (Read offsets.MCR mcr ∷ Write offsets.MCR value ∷ []) [] []
+    (record { dlab = o.dlab; loopback = still }) (nothing_taken z m n _ [] whole)
 
 abbrev rts_accesses : (shown on : Bool) (mcr value : ℕ) → List Access
 rts_accesses shown on mcr value = Read offsets.MCR mcr ∷ write_if_other shown on (Write offsets.MCR value)
 
 rts_came : (x : Modes) (m n : MachineState) (shown on : Bool) (mcr value : ℕ) → IsOpen (with_mcr_of x m) →
-    Stands (with_mcr_of x m) m → IsWiredChip m.chip → has_any (bit_and value mcr_bits) MCR.LOOP_BACK.0 ≡ false →
+    Stands (with_mcr_of x m) m → IsWiredChip m.chip → has_any value MCR.LOOP_BACK.0 ≡ false →
     Path MachineStep m (rts_accesses shown on mcr value) n →
     let made = rts_accesses shown on mcr value in Came x m n made (data_written made) (data_read made)
 rts_came x m n true true mcr value o w wired off p = rts_read x m n mcr o w p
@@ -122,7 +125,7 @@ came_rts x s t (Some on) l w wired (((mcr, is), saved), same) path =
     let shown = has mcr MCR.RTS.0 in
     let value = unlooped (switched on MCR.RTS.0 mcr) in
     let C : List Access → Type 0 = λ k. Came x m n k (data_written k) (data_read k) in
-    subst C (sym is) (rts_came x m n shown on mcr value w.open_modes w.stands wired (unlooped_off (switched on MCR.RTS.0 mcr))
+    subst C (sym is) (rts_came x m n shown on mcr value w.open_modes w.stands wired (has_not 4 (switched on MCR.RTS.0 mcr) 239 refl)
     (path_as m n l (rts_accesses shown on mcr value) is path))
 
 -- LCR is not written

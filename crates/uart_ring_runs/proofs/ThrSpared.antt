@@ -55,7 +55,7 @@ comes m h = (h.0, says_due m.chip.transmitter h.1)
 
 pub in_events : LastsInEvents IsToCome
 in_events = record {
-  in_tick = λ c h. (h.0, due-tick _ c.transmitter h.1);
+  in_tick = λ c h. (h.0, due-tick _ _ c.transmitter h.1);
   in_arrival = λ byte errors c h. h;
   in_lines = λ inputs c h. h;
 }

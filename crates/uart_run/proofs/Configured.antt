@@ -28,12 +28,13 @@ use Rattle.uart_chip.specs.Masks.{ier_bits, mcr_bits}
 use Rattle.uart_chip.specs.Sound.{IsSound}
 use Rattle.uart_run.specs.Ready.{IsInitialised, IsSetUp, IsConfigured, latches_of}
 use Rattle.uart_run.specs.ReceivedErrors.{under_terminal}
-use Rattle.uart_run.specs.Run.{State}
+use Rattle.uart_run.specs.Run.{State, machine_of}
 use Rattle.uart_run.proofs.CheckAnswers.{check_found}
 use Rattle.uart_run.proofs.OutputLaws.{within_unlooped}
 use Rattle.uart_run.proofs.initialising.Initialised as initialised
 use Rattle.uart_run.proofs.initialising.Inits.{frame-low}
 use Rattle.uart_run.proofs.initialising.SetUp as arranged
+use Rattle.uart_chip.proofs.McrBits.{within_any}
 
 -- ---- the configuration that is stored
 
@@ -124,7 +125,7 @@ set_up_is_configured : (setup : Setup) (config : Config) (t : State) → IsCompu
 set_up_is_configured setup config t ok within kept stored i = record {
   computable = subst IsComputable (sym stored) ok;
   lcr = ap (λ (v : ℕ). without 8 v LCR.SET_BREAK.0) i.lcr ∙ (frame_whole config ∙ sym (ap frame_bits stored));
-  mcr = i.mcr ∙ within_unlooped setup.outputs.0 kept;
+  mcr = i.mcr ∙ (let f = (machine_of t).chip.auto_flow in within_unlooped f setup.outputs.0 (within_any f setup.outputs.0 kept));
   ier = i.ier ∙ (within ∙ sym (ap (λ (c : Config). c.interrupts.0) stored));
   divisor_latch = subst (λ (c : Config). DivisorOf c (Ok (divisor (latches_of t)))) (sym stored) i.divisor_latch;
   fifo = i.ready.fifo;

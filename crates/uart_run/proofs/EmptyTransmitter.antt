@@ -1,5 +1,5 @@
 -- An empty transmitter: while no byte is written it stays empty, in loopback or not, and the wire stays as it is.
-use Rattle.std.proofs.Common.{◌≡◌, ℕ, ◌%◌, ◌/◌, Bool, true, List, [], ◌∷◌, ◌++◌, append-nil, Option, Some, None, refl, sym, ◌∙◌, ap}
+use Rattle.std.proofs.Common.{◌≡◌, ℕ, ◌%◌, ◌/◌, Bool, true, false, List, [], ◌∷◌, ◌++◌, append-nil, Option, Some, None, refl, sym, ◌∙◌, ap}
 use Rattle.std.proofs.Common.{bit_or, arith}
 use Rattle.std.proofs.lemmas.Grind.{common_steps}
 use Rattle.uart_spec.specs.declared.registers.line_control.TheConstants.LCR
@@ -60,8 +60,9 @@ sent_refill gone (Some shifting) queue t e s = s
 sent_refill gone None [] t e s = s
 sent_refill gone None (x ∷ xs) t e s = absurd (cc)
 
-pub sent_tick : (gone : List ℕ) (loopback : Bool) (t : TransmitterState) → IsSent gone t → IsSent gone (tick loopback t)
-sent_tick gone loopback t s =
+pub sent_tick : (gone : List ℕ) (loopback held_off : Bool) (t : TransmitterState) → IsSent gone t → IsSent gone (tick loopback held_off t)
+sent_tick gone loopback true t s = sent_shift loopback gone t.shift_register t s.place s
+sent_tick gone loopback false t s =
     let u : TransmitterState = shift loopback t.shift_register t in
     let v : IsSent gone u = sent_shift loopback gone t.shift_register t s.place s in
     sent_refill gone u.shift_register u.queue u v.queue v
@@ -72,7 +73,7 @@ sent_lasts gone = record {
     pending = λ t pending s. record { queue = s.queue; place = s.place; wire = s.wire };
     cleared = λ t pending s. record { queue = refl; place = s.place; wire = s.wire };
   };
-  in_tick = λ loopback t s. sent_tick gone loopback t s;
+  in_tick = λ loopback held_off t s. sent_tick gone loopback held_off t s;
 }
 
 pub sent_path : (gone : List ℕ) (accesses : List Access) (m n : MachineState) → AllSendNothing accesses → IsSent gone m.chip.transmitter →

@@ -47,20 +47,23 @@ succeeds : (s t : State) (call : Call) (a : Answer) → IsSound (machine_of s) �
 succeeds s t (call.Init config) a w h timely =
     λ room divisor. init_succeeds s t config a w timely room divisor h (initialises s t config a w h).is_present
 succeeds s t (call.InitWith config setup) a w h timely =
-    λ room divisor. init_with_succeeds s t config setup a w timely room divisor h (arranges s t config setup a w h).is_present
+    λ unheld room divisor. init_with_succeeds s t config setup a w timely unheld room divisor h (arranges s t config setup a w h).is_present
 succeeds s t (call.SetFrameWhenIdle config) a w h timely =
-    λ ready room divisor.
-    frame_when_idle_succeeds s t config a h.did.list h.outcome w timely room divisor h.answered h.did.does h.did.path
+    λ ready unheld room divisor.
+    frame_when_idle_succeeds s t config a h.did.list h.outcome w timely unheld room divisor h.answered h.did.does h.did.path
 succeeds s t call.Attach a w h timely = λ ready some. attach_finds s t a h ready some
-succeeds s t call.TestLoopback a w h timely = λ ready room. test_succeeds s t a w ready timely room h
+succeeds s t call.TestLoopback a w h timely = λ ready unheld room. test_succeeds s t a w ready timely unheld room h
 succeeds s t call.Flush a w h timely =
-    λ ready room. flush_succeeds s t a h.did.list h.outcome w timely room h.answered h.did.does.0 h.did.path
+    λ ready unheld room. flush_succeeds s t a h.did.list h.outcome w timely unheld room h.answered h.did.does.0 h.did.path
 succeeds s t (call.SendExact bytes) a w h timely =
-    λ ready off room. send_exact_succeeds s t a h.did.list bytes.items h.outcome w ready timely off room h.answered h.did.does.0 h.did.path
+    λ ready unheld off room.
+    send_exact_succeeds s t a h.did.list bytes.items h.outcome w ready timely unheld off room h.answered h.did.does.0 h.did.path
 succeeds s t (call.Write bytes) a w h timely =
-    λ ready off room. write_succeeds s t a h.did.list bytes.items h.outcome w timely off room h.answered h.did.does.0 h.did.path
+    λ ready unheld off room.
+    write_succeeds s t a h.did.list bytes.items h.outcome w timely unheld off room h.answered h.did.does.0 h.did.path
 succeeds s t (call.Text text) a w h timely =
-    λ ready off room. text_succeeds s t a h.did.list text.bytes h.outcome w ready timely off room h.answered h.did.does.0.1 h.did.path
+    λ ready unheld off room.
+    text_succeeds s t a h.did.list text.bytes h.outcome w ready timely unheld off room h.answered h.did.does.0.1 h.did.path
 succeeds s t other a w h timely = tt
 
 follow_chain : (s t : State) (links : List Link) → IsSound (machine_of s) → Chain s links t → AllFollow links

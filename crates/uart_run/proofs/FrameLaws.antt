@@ -36,7 +36,8 @@ use Rattle.uart_spec.specs.declared.registers.interrupt_status.TheConstants.ISR
 use Rattle.uart_spec.specs.declared.registers.line_status.TheConstants.LSR
 use Rattle.uart_spec.specs.declared.registers.modem_control.TheConstants.MCR
 use Rattle.uart_spec.specs.declared.registers.modem_status.TheConstants.MSR
-use Rattle.uart_chip.specs.Masks.{mcr_bits}
+use Rattle.uart_chip.specs.Masks.{kept_mcr}
+use Rattle.uart_chip.proofs.McrBits.{kept_bit}
 use Rattle.uart_16550.specs.Tty.{inner_of}
 use Rattle.uart_calls.specs.Meaning.{frame_answer, attach_answer}
 use Rattle.uart_chip.specs.declared.receiver.Character.{Character}
@@ -44,7 +45,7 @@ use Rattle.uart_chip.specs.Chip.{ChipState, answer, divisor, is_dlab_set, is_loo
 use Rattle.uart_chip.specs.Machine.{MachineState, MachineStep, at_access}
 use Rattle.uart_chip.proofs.Bits.{has_or, has_and, has_not, has_one}
 use Rattle.uart_chip.proofs.conservation.Went.{Modes, fixed}
-use Rattle.uart_chip.proofs.conservation.Passed.{passed-refl, passed-trans}
+use Rattle.uart_chip.proofs.conservation.Passed.{Passed, passed-refl, passed-trans}
 use Rattle.uart_chip.proofs.conservation.BlockLaws.{IsOpen, PassedBlocks, nothing_taken, passed_frame, relined, path_as, stands-after}
 use Rattle.uart_chip.proofs.conservation.BlockLaws.{passed_quiet}
 use Rattle.uart_chip.proofs.conservation.Blocks.{is_quiet}
@@ -218,8 +219,8 @@ goes_break x N M s t l w ((lcr, is), saved) path =
 
 -- ---- writes of MCR, on a wired machine
 
-pub unlooped_off : (bits : ℕ) → has_any (bit_and (unlooped bits) mcr_bits) MCR.LOOP_BACK.0 ≡ false
-unlooped_off bits = has_and 4 (unlooped bits) mcr_bits refl ∙ has_not 4 bits 239 refl
+pub unlooped_off : (f : Bool) (bits : ℕ) → has_any (kept_mcr f (unlooped bits)) MCR.LOOP_BACK.0 ≡ false
+unlooped_off f bits = kept_bit f 4 (unlooped bits) refl refl ∙ has_not 4 bits 239 refl
 
 goes_control : (x : Modes) (N M : Type 0) (s t : State) (bits : ℕ) (l : List Access) → InSession x s → IsWired s →
     Saving (SetsControl bits) (fields (inner_of s)) l (fields (inner_of t)) → Path MachineStep (machine_of s) l (machine_of t) →
@@ -227,14 +228,15 @@ goes_control : (x : Modes) (N M : Type 0) (s t : State) (bits : ℕ) (l : List A
 goes_control x N M s t bits l w wired (done, saved) path =
     let value = unlooped bits in
     let made : List Access = Write offsets.MCR value ∷ [] in
-    let z : Modes = record x { mcr = bit_and value mcr_bits } in
+    let f = (at_access (machine_of s)).chip.auto_flow in
+    let z : Modes = record x { mcr = kept_mcr f value } in
     let p = path_as (machine_of s) (machine_of t) l made done.is path in
-    let passed = passed_mcr x (machine_of s) p.0 value w.open_modes (unlooped_off bits) w.stands wired p.1 in
+    let passed = passed_mcr x (machine_of s) p.0 value w.open_modes (unlooped_off f bits) w.stands wired p.1 in
     record {
       modes = z;
       same = refl;
       unbroken = λ u. u;
-      open_modes = record { dlab = w.open_modes.dlab; loopback = unlooped_off bits };
+      open_modes = record { dlab = w.open_modes.dlab; loopback = unlooped_off f bits };
       passes = record {
         made = made;
         passed = nothing_taken z (machine_of s) (machine_of t) made [] (rw p.2 passed);
@@ -254,10 +256,11 @@ goes_steered : (x : Modes) (N M : Type 0) (s t : State) (access : Access) (bits 
 goes_steered x N M s t access bits l quiet w wired is path fifo lsr msr =
     let value = unlooped bits in
     let made : List Access = access ∷ Write offsets.MCR value ∷ [] in
-    let z : Modes = record x { mcr = bit_and value mcr_bits } in
-    let off = unlooped_off bits in
     let p = path_as (machine_of s) (machine_of t) l made is path in
     let q = p.2 in
+    let f = (at_access p.0).chip.auto_flow in
+    let z : Modes = record x { mcr = kept_mcr f value } in
+    let off = unlooped_off f bits in
     let first = passed_quiet x (machine_of s) p.0 access w.open_modes w.stands quiet p.1 in
     let written = passed_mcr x p.0 q.0 value w.open_modes off (stands-after x (machine_of s) p.0 (access ∷ []) [] [] first)
     (wired_step access (machine_of s) p.0 p.1 wired) q.1 in
@@ -269,7 +272,8 @@ goes_steered x N M s t access bits l quiet w wired is path fifo lsr msr =
       open_modes = record { dlab = w.open_modes.dlab; loopback = off };
       passes = record {
         made = made;
-        passed = nothing_taken z (machine_of s) (machine_of t) made [] (rw q.2 both);
+        passed = nothing_taken z (machine_of s) (machine_of t) made []
+            (subst (λ (n : MachineState). Passed z (machine_of s) n made [] []) (sym q.2) both);
         fifo = fifo;
         lsr = λ n. lsr;
         msr = λ n. msr;
@@ -369,11 +373,11 @@ set_break_ready s t on l ((lcr, is), saved) path ready =
 -- ---- calls that write MCR
 
 control_ready : (s t : State) (bits : ℕ) (l made : List Access) → l ≡ made → ((k : Kept) →
-    kept_after made k ≡ record k { latches = record k.latches { mcr = bit_and (unlooped bits) mcr_bits } }) →
+    kept_after made k ≡ record k { latches = record k.latches { mcr = kept_mcr k.auto_flow (unlooped bits) } }) →
     (fields (inner_of t)).fifo ≡ (fields (inner_of s)).fifo → Path MachineStep (machine_of s) l (machine_of t) → Ready s → Ready t
 control_ready s t bits l made is kept fifo path ready =
     ready_by t _ (kept_list l made (machine_of s) (machine_of t) is path ∙ kept (kept_in (machine_of s).chip)) ready.dlab
-    (unlooped_off bits) (fifo ∙ sym ready.fifo)
+    (unlooped_off (machine_of s).chip.auto_flow bits) (fifo ∙ sym ready.fifo)
 
 pub set_control_ready : (s t : State) (bits : ℕ) (l : List Access) →
     Saving (SetsControl bits) (fields (inner_of s)) l (fields (inner_of t)) →

@@ -11,21 +11,22 @@ use Rattle.uart_16550.specs.Driver.{Fields}
 use Rattle.uart_spec.specs.Bits.{has_any}
 use Rattle.uart_spec.specs.declared.registers.fifo_control.TheConstants.FCR
 use Rattle.uart_spec.specs.declared.registers.offsets.TheConstants as offsets
-use Rattle.uart_chip.specs.Masks.{ier_bits, mcr_bits}
+use Rattle.uart_chip.specs.Masks.{ier_bits, kept_mcr}
 use Rattle.uart_chip.specs.Chip.{LatchesState, ChipState, word_length, cut_to, is_dlab_set, ticks, after_read, after_write, switch, is_same}
 use Rattle.uart_chip.specs.Chip.{set_fifo, control}
 use Rattle.uart_chip.proofs.AccessMoves.{ReadMove, takes, read_move, resets_last}
 use Rattle.uart_chip.specs.Machine.{MachineState, MachineStep, perform, before_access, at_access, before_mark, at_mark}
 
--- what is kept until it is written: the latches, and whether the FIFO is on; and the model and the option, which are never written
+-- what is kept until it is written: the latches, and whether the FIFO is on; and the model and the options, which are never written
 pub record Kept : Type 0 where
   pub latches : LatchesState
   pub fifo : Bool
   pub model : Chip
   pub cuts : Bool
+  pub auto_flow : Bool
 
 abbrev pub kept_in : ChipState → Kept
-kept_in c = record { latches = c.latches; fifo = c.fifo; model = c.model; cuts = c.cuts }
+kept_in c = record { latches = c.latches; fifo = c.fifo; model = c.model; cuts = c.cuts; auto_flow = c.auto_flow }
 
 -- how a byte is cut
 abbrev pub kept_cut : Kept → ℕ → ℕ
@@ -44,7 +45,7 @@ keep_write offset value k =
     { latches = record k.latches { ier = bit_and value ier_bits } })
     else if offset == offsets.FCR then keep_control k.model value k
     else if offset == offsets.LCR then record k { latches = record k.latches { lcr = value } }
-    else if offset == offsets.MCR then record k { latches = record k.latches { mcr = bit_and value mcr_bits } }
+    else if offset == offsets.MCR then record k { latches = record k.latches { mcr = kept_mcr k.auto_flow value } }
     else if offset == offsets.SPR then record k { latches = record k.latches { scr = value } }
     else k
 
@@ -154,34 +155,47 @@ pub record LeftBy (made : List Access) (f after : Fields) (m n : MachineState) :
 
 -- ---- what no access and no event changes
 
--- the option
+-- the option for characters
 abbrev pub CutsAs : Bool → MachineState → Type 0
 CutsAs cuts m = m.chip.cuts ≡ cuts
 
-cuts-control : (model : Chip) (value : ℕ) (k : Kept) → (keep_control model value k).cuts ≡ k.cuts
-cuts-control Uart16450 value k = refl
-cuts-control Uart16550A value k = refl
+-- both options
+abbrev options : Kept → Bool × Bool
+options k = (k.cuts, k.auto_flow)
 
-cuts_if : (b : Bool) (x y k : Kept) → x.cuts ≡ k.cuts → y.cuts ≡ k.cuts → (if b then x else y).cuts ≡ k.cuts
-cuts_if true x y k p q = p
-cuts_if false x y k p q = q
+options-control : (model : Chip) (value : ℕ) (k : Kept) → options (keep_control model value k) ≡ options k
+options-control Uart16450 value k = refl
+options-control Uart16550A value k = refl
 
-cuts-keep : (access : Access) (k : Kept) → (keep access k).cuts ≡ k.cuts
-cuts-keep (Read offset answer) k = refl
-cuts-keep (Write offset value) k =
-    cuts_if (offset == offsets.DATA) _ _ k (cuts_if (is_dlab_set k.latches) _ _ k refl refl)
-    (cuts_if (offset == offsets.IER) _ _ k (cuts_if (is_dlab_set k.latches) _ _ k refl refl)
-    (cuts_if (offset == offsets.FCR) _ _ k (cuts-control k.model value k)
-    (cuts_if (offset == offsets.LCR) _ _ k refl
-    (cuts_if (offset == offsets.MCR) _ _ k refl
-    (cuts_if (offset == offsets.SPR) _ _ k refl refl)))))
+options_if : (b : Bool) (x y k : Kept) → options x ≡ options k → options y ≡ options k → options (if b then x else y) ≡ options k
+options_if true x y k p q = p
+options_if false x y k p q = q
 
-cuts-after : (made : List Access) (k : Kept) → (kept_after made k).cuts ≡ k.cuts
-cuts-after [] k = refl
-cuts-after (access ∷ accesses) k = cuts-after accesses (keep access k) ∙ cuts-keep access k
+options-keep : (access : Access) (k : Kept) → options (keep access k) ≡ options k
+options-keep (Read offset answer) k = refl
+options-keep (Write offset value) k =
+    options_if (offset == offsets.DATA) _ _ k (options_if (is_dlab_set k.latches) _ _ k refl refl)
+    (options_if (offset == offsets.IER) _ _ k (options_if (is_dlab_set k.latches) _ _ k refl refl)
+    (options_if (offset == offsets.FCR) _ _ k (options-control k.model value k)
+    (options_if (offset == offsets.LCR) _ _ k refl
+    (options_if (offset == offsets.MCR) _ _ k refl
+    (options_if (offset == offsets.SPR) _ _ k refl refl)))))
+
+options-after : (made : List Access) (k : Kept) → options (kept_after made k) ≡ options k
+options-after [] k = refl
+options-after (access ∷ accesses) k = options-after accesses (keep access k) ∙ options-keep access k
 
 pub cuts_path : (cuts : Bool) (made : List Access) (m n : MachineState) → CutsAs cuts m → Path MachineStep m made n → CutsAs cuts n
-cuts_path cuts made m n e p = ap (λ (k : Kept). k.cuts) (kept_path made m n p) ∙ (cuts-after made (kept_in m.chip) ∙ e)
+cuts_path cuts made m n e p =
+    ap (λ (k : Kept). k.cuts) (kept_path made m n p) ∙ (ap (λ (o : Bool × Bool). o.0) (options-after made (kept_in m.chip)) ∙ e)
+
+-- which chip has automatic flow control
+pub flow_path : (made : List Access) (m n : MachineState) → Path MachineStep m made n → n.chip.auto_flow ≡ m.chip.auto_flow
+flow_path made m n p =
+    ap (λ (k : Kept). k.auto_flow) (kept_path made m n p) ∙ ap (λ (o : Bool × Bool). o.1) (options-after made (kept_in m.chip))
+
+pub flow_access : (m : MachineState) → (at_access m).chip.auto_flow ≡ m.chip.auto_flow
+flow_access m = ap (λ (k : Kept). k.auto_flow) (kept_access m)
 
 pub kept-before_mark : (events : List Event) (c : ChipState) → kept_in (before_mark events c) ≡ kept_in c
 kept-before_mark [] c = refl

@@ -12,9 +12,10 @@ use Rattle.uart_16550.specs.Frame.{switched, unlooped, SetsControl, SetsOutput, 
 use Rattle.uart_16550.specs.Grammar.{Settings}
 use Rattle.uart_16550.proofs.Switching.{changes_rts, changes_dtr}
 use Rattle.uart_chip.specs.Machine.{MachineStep}
-use Rattle.uart_chip.specs.Masks.{mcr_bits}
+use Rattle.uart_chip.specs.Masks.{mcr_bits, mcr_bits_of, kept_mcr}
 use Rattle.uart_chip.specs.Sound.{IsSound}
 use Rattle.uart_chip.proofs.Bits.{and_or}
+use Rattle.uart_chip.proofs.McrBits.{kept_same}
 use Rattle.uart_run.specs.Ready.{latches_of, ChangesOutputs, SetsOutputs, Switches}
 use Rattle.uart_run.specs.Run.{State, machine_of}
 use Rattle.uart_run.proofs.FrameLaws.{mcr_read}
@@ -24,16 +25,33 @@ use Rattle.uart_chip.proofs.conservation.BlockLaws.{path_as}
 -- ---- MCR keeps all of what is written
 
 -- the outputs among these bits stay among them
-pub within_unlooped : (value : ℕ) → IsWithin value mcr_bits → bit_and (unlooped value) mcr_bits ≡ unlooped value
-within_unlooped value within =
-    and_assoc mcr_bits value 239 ∙ (sym (and_assoc 239 value mcr_bits) ∙ ap (λ (v : ℕ). bit_and v 239) within)
+pub within_unlooped : (f : Bool) (value : ℕ) → IsWithin value (mcr_bits_of f) → kept_mcr f (unlooped value) ≡ unlooped value
+within_unlooped f value within = kept_same f (unlooped value) (go f within)
+  where
+    go : (f : Bool) → IsWithin value (mcr_bits_of f) → IsWithin (unlooped value) (mcr_bits_of f)
+    go true within = and_assoc (mcr_bits_of true) value 239 ∙ (sym (and_assoc 239 value (mcr_bits_of true))
+        ∙ ap (λ (v : ℕ). bit_and v 239) within)
+    go false within = and_assoc mcr_bits value 239 ∙ (sym (and_assoc 239 value mcr_bits) ∙ ap (λ (v : ℕ). bit_and v 239) within)
 
-within_switched : (on : Bool) (output mcr : ℕ) → IsWithin mcr mcr_bits → IsWithin output mcr_bits →
-    bit_and (255 - output) mcr_bits ≡ bit_and mcr_bits (255 - output) → IsWithin (switched on output mcr) mcr_bits
-within_switched true output mcr within is swap = and_or mcr output mcr_bits ∙ (λ i. bit_or (within i) (is i))
-within_switched false output mcr within is swap =
-    and_assoc mcr_bits mcr (255 - output) ∙ (ap (bit_and mcr) swap ∙ (sym (and_assoc (255 - output) mcr mcr_bits)
+within_switched : (on : Bool) (output mcr mask : ℕ) → IsWithin mcr mask → IsWithin output mask →
+    bit_and (255 - output) mask ≡ bit_and mask (255 - output) → IsWithin (switched on output mcr) mask
+within_switched true output mcr mask within is swap = and_or mcr output mask ∙ (λ i. bit_or (within i) (is i))
+within_switched false output mcr mask within is swap =
+    and_assoc mask mcr (255 - output) ∙ (ap (bit_and mcr) swap ∙ (sym (and_assoc (255 - output) mcr mask)
     ∙ ap (λ (v : ℕ). bit_and v (255 - output)) within))
+
+-- an output that each chip has, as its bit is in both masks
+record IsOutput (output : ℕ) (f : Bool) : Type 0 where
+  within : IsWithin output (mcr_bits_of f)
+  swaps : bit_and (255 - output) (mcr_bits_of f) ≡ bit_and (mcr_bits_of f) (255 - output)
+
+is_rts : (f : Bool) → IsOutput MCR.RTS.0 f
+is_rts true = record { within = refl; swaps = refl }
+is_rts false = record { within = refl; swaps = refl }
+
+is_dtr : (f : Bool) → IsOutput MCR.DTR.0 f
+is_dtr true = record { within = refl; swaps = refl }
+is_dtr false = record { within = refl; swaps = refl }
 
 -- ---- a write of MCR
 
@@ -53,18 +71,19 @@ sets_outputs s t outputs v l made path =
     let kept = kept_list l (Write offsets.MCR (unlooped outputs) ∷ []) (machine_of s) (machine_of t) made.is path in
     record { changes = outputs_changed s t _ kept; mcr = ap (λ (k : Kept). k.latches.mcr) kept }
 
-switches : (s t : State) (output : ℕ) (on : Bool) (v : Settings) (l : List Access) → ChangesOutput output → IsWithin output mcr_bits →
-    bit_and (255 - output) mcr_bits ≡ bit_and mcr_bits (255 - output) → IsSound (machine_of s) → SetsOutput output on v l →
+switches : (s t : State) (output : ℕ) (on : Bool) (v : Settings) (l : List Access) → ChangesOutput output →
+    ((f : Bool) → IsOutput output f) → IsSound (machine_of s) → SetsOutput output on v l →
     Path MachineStep (machine_of s) l (machine_of t) → Switches output on s t
-switches s t output on v l changes is swap w (mcr, list) path =
+switches s t output on v l changes is w (mcr, list) path =
+    let f = (machine_of s).chip.auto_flow in
     let value = unlooped (switched on output mcr) in
     let made : List Access = Read offsets.MCR mcr ∷ Write offsets.MCR value ∷ [] in
     let p = path_as (machine_of s) (machine_of t) l made list path in
     let shown : mcr ≡ (latches_of s).mcr = mcr_read (machine_of s) p.0 mcr p.1 in
     let kept = kept_list l made (machine_of s) (machine_of t) list path in
-    let within : IsWithin mcr mcr_bits = ap (λ (n : ℕ). bit_and n mcr_bits) shown ∙ (w.chip.latches.mcr ∙ sym shown) in
+    let within : IsWithin mcr (mcr_bits_of f) = ap (λ (n : ℕ). bit_and n (mcr_bits_of f)) shown ∙ (w.chip.latches.mcr ∙ sym shown) in
     let now : (latches_of t).mcr ≡ value = ap (λ (k : Kept). k.latches.mcr) kept
-    ∙ within_unlooped (switched on output mcr) (within_switched on output mcr within is swap) in
+    ∙ within_unlooped f (switched on output mcr) (within_switched on output mcr (mcr_bits_of f) within (is f).within (is f).swaps) in
     let only = changes on mcr in
     record {
       changes = outputs_changed s t _ kept;
@@ -74,8 +93,8 @@ switches s t output on v l changes is swap w (mcr, list) path =
 
 pub switches_rts : (s t : State) (on : Bool) (v : Settings) (l : List Access) → IsSound (machine_of s) → SetsOutput MCR.RTS.0 on v l →
     Path MachineStep (machine_of s) l (machine_of t) → Switches MCR.RTS.0 on s t
-switches_rts s t on v l = switches s t MCR.RTS.0 on v l changes_rts refl refl
+switches_rts s t on v l = switches s t MCR.RTS.0 on v l changes_rts is_rts
 
 pub switches_dtr : (s t : State) (on : Bool) (v : Settings) (l : List Access) → IsSound (machine_of s) → SetsOutput MCR.DTR.0 on v l →
     Path MachineStep (machine_of s) l (machine_of t) → Switches MCR.DTR.0 on s t
-switches_dtr s t on v l = switches s t MCR.DTR.0 on v l changes_dtr refl refl
+switches_dtr s t on v l = switches s t MCR.DTR.0 on v l changes_dtr is_dtr

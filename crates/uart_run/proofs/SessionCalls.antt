@@ -32,6 +32,10 @@ pub modes_cut : (s : State) → (modes_of s).cut ≡ cut_of (machine_of s).chip
 unfolding modes_of
 modes_cut s = refl
 
+pub modes_mcr : (s : State) → (modes_of s).mcr ≡ (machine_of s).chip.latches.mcr
+unfolding modes_of
+modes_mcr s = refl
+
 pub in_session : (s : State) → Ready s → IsSound (machine_of s) → InSession (modes_of s) s
 unfolding modes_of
 in_session s ready sound = record {

@@ -34,7 +34,7 @@ use Rattle.uart_events.specs.declared.call.Answer.{Answer}
 use Rattle.uart_events.specs.declared.event.Chip.{Chip}
 use Rattle.uart_events.specs.declared.event.Chip.TheVariants.{Uart16550A}
 use Rattle.uart_calls.specs.Meaning.{frame_when_idle_answer, trigger_answer}
-use Rattle.uart_chip.specs.Masks.{ier_bits, mcr_bits}
+use Rattle.uart_chip.specs.Masks.{ier_bits, kept_mcr}
 use Rattle.uart_chip.specs.Chip.{ChipState, is_dlab_set, divisor, interrupt, control, trigger_level}
 use Rattle.uart_chip.specs.Machine.{MachineState, MachineStep, at_access}
 use Rattle.uart_chip.specs.Sound.{IsSound}
@@ -188,9 +188,9 @@ fifo_kept Disable on level k e implemented = controlled k.model None k implement
 quiet_kept : (outputs : ℕ) (action : FifoAction) (on : Bool) (level : Option FifoTriggerLevel) (k : Kept) → is_dlab_set k.latches ≡ false →
     k.fifo ≡ on → (k.fifo ≡ true → k.model ≡ Uart16550A) →
     kept_after (Write offsets.IER 0 ∷ Write offsets.MCR (unlooped outputs) ∷ fifo_writes action on level) k ≡
-    record k { latches = record k.latches { ier = 0; mcr = bit_and (unlooped outputs) mcr_bits }; fifo = stays_on action on }
+    record k { latches = record k.latches { ier = 0; mcr = kept_mcr k.auto_flow (unlooped outputs) }; fifo = stays_on action on }
 quiet_kept outputs action on level k dlab e implemented =
-    let begun : Kept = record k { latches = record k.latches { ier = 0; mcr = bit_and (unlooped outputs) mcr_bits } } in
+    let begun : Kept = record k { latches = record k.latches { ier = 0; mcr = kept_mcr k.auto_flow (unlooped outputs) } } in
     ap (λ (b : Bool). kept_after (fifo_writes action on level) (keep (Write offsets.MCR (unlooped outputs))
     (if b then record k { latches = record k.latches { dlm = 0 } } else record k { latches = record k.latches { ier = 0 } }))) dlab
     ∙ fifo_kept action on level begun e implemented
@@ -201,7 +201,7 @@ none_enabled c e = rw e refl
 quieted : (s t : State) (outputs : ℕ) (action : FifoAction) (l : List Access) → IsSound (machine_of s) → Ready s →
     Quiesces outputs action (fields (inner_of s)) l (fields (inner_of t)) → Path MachineStep (machine_of s) l (machine_of t) →
     kept_in (machine_of t).chip ≡ record (kept_in (machine_of s).chip) {
-      latches = record (latches_of s) { ier = 0; mcr = bit_and (unlooped outputs) mcr_bits };
+      latches = record (latches_of s) { ier = 0; mcr = kept_mcr (machine_of s).chip.auto_flow (unlooped outputs) };
       fifo = stays_on action (fields (inner_of s)).fifo;
     }
 quieted s t outputs action l w ready does path =
@@ -229,7 +229,7 @@ pub quiesce_ready : (s t : State) (outputs : ℕ) (action : FifoAction) (l : Lis
     Quiesces outputs action (fields (inner_of s)) l (fields (inner_of t)) → Path MachineStep (machine_of s) l (machine_of t) →
     Ready s → Ready t
 quiesce_ready s t outputs action l w does path ready =
-    ready_by t _ (quieted s t outputs action l w ready does path) ready.dlab (unlooped_off outputs)
+    ready_by t _ (quieted s t outputs action l w ready does path) ready.dlab (unlooped_off (machine_of s).chip.auto_flow outputs)
     (ap (λ (g : Fields). g.fifo) does.second.second.1)
 
 -- ---- `restore`
@@ -240,7 +240,7 @@ put_back dump on k = record k {
   latches = record {
     ier = bit_and dump.ier.0 ier_bits;
     lcr = without 8 dump.lcr.0 LCR.DLAB.0;
-    mcr = bit_and (unlooped dump.mcr.0) mcr_bits;
+    mcr = kept_mcr k.auto_flow (unlooped dump.mcr.0);
     scr = dump.spr;
     dll = divisor_of dump % 256;
     dlm = divisor_of dump / 256;
@@ -296,10 +296,11 @@ restored s t dump on l w does path =
         on ≡ (is_level (dumped_level dump (fields (inner_of s)).config) && has_fifo k.model) → (fields (inner_of t)).fifo ≡ on →
         IsRestored dump t
     by_kept k kept is_on knows = record {
-      ready = ready_by t (put_back dump on k) kept (no_dlab dump.lcr.0) (unlooped_off dump.mcr.0) knows;
+      ready = ready_by t (put_back dump on k) kept (no_dlab dump.lcr.0) (unlooped_off k.auto_flow dump.mcr.0) knows;
       divisor_latch = ap (λ (v : Kept). divisor v.latches) kept ∙ div-add-mod (divisor_of dump) 256;
       lcr = ap (λ (v : Kept). v.latches.lcr) kept;
-      mcr = ap (λ (v : Kept). v.latches.mcr) kept;
+      mcr = ap (λ (v : Kept). v.latches.mcr) kept
+          ∙ ap (λ (f : Bool). kept_mcr f (unlooped dump.mcr.0)) (sym (ap (λ (v : Kept). v.auto_flow) kept));
       ier = ap (λ (v : Kept). v.latches.ier) kept;
       spr = ap (λ (v : Kept). v.latches.scr) kept;
       fifo = ap (λ (v : Kept). v.fifo) kept ∙ (is_on

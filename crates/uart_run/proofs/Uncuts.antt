@@ -61,7 +61,7 @@ tests_uncut s t a e f =
     record {
       answers = λ ready. subst (λ (b : Answer). (a ≡ b) ⊎ (a ≡ LoopbackRefused Stalled)) same (f.comes_to ready).answers;
       leaves = λ ready done. (f.comes_to ready).leaves (done ∙ sym same);
-      succeeds = λ timely ready room. f.succeeds timely ready room ∙ same;
+      succeeds = λ timely ready unheld room. f.succeeds timely ready unheld room ∙ same;
     }
 
 follows_uncut : (s t : State) (call : Call) (a : Answer) → IsUncut s → Follows s call a t → FollowsUncut s call a t

@@ -12,7 +12,7 @@ use Rattle.uart_spec.specs.declared.access.Access.TheVariants.{Read, Write}
 use Rattle.uart_spec.specs.declared.registers.modem_control.TheConstants.MCR
 use Rattle.uart_spec.specs.declared.registers.modem_status.TheConstants.MSR
 use Rattle.uart_spec.specs.declared.registers.offsets.TheConstants as offsets
-use Rattle.uart_chip.specs.Masks.{mcr_bits}
+use Rattle.uart_chip.specs.Masks.{kept_mcr}
 use Rattle.uart_chip.specs.Modem.{ModemState, renew, lines_under}
 use Rattle.uart_chip.specs.Chip.{ChipState, ticks, after_read, after_write}
 use Rattle.uart_chip.specs.Machine.{MachineState, MachineStep, perform, before_access, at_access, before_mark, at_mark}
@@ -122,24 +122,25 @@ changed-control mcr m e is =
       deltas = ap (bit_or m.deltas) (ap (line_changes m.lines) same ∙ same_changes m.lines);
     }
 
-went-write_mcr : (x : Modes) (c : ChipState) (value : ℕ) → loopback x ≡ false → has_any (bit_and value mcr_bits) MCR.LOOP_BACK.0 ≡ false →
-    IsSoundChip c → IsIn x c → IsWiredChip c →
-    Went (record x { mcr = bit_and value mcr_bits }) c (after_write offsets.MCR value c) [] (Write offsets.MCR value ∷ []) [] []
+went-write_mcr : (x : Modes) (c : ChipState) (value : ℕ) → loopback x ≡ false →
+    has_any (kept_mcr c.auto_flow value) MCR.LOOP_BACK.0 ≡ false → IsSoundChip c → IsIn x c → IsWiredChip c →
+    Went (record x { mcr = kept_mcr c.auto_flow value }) c (after_write offsets.MCR value c) [] (Write offsets.MCR value ∷ []) [] []
 went-write_mcr x c value outside stays s w wired = record {
   modes = record { lcr = w.lcr; mcr = refl; fifo = w.fifo; cut = w.cut };
   sends = sends-refl c.transmitter;
   receives = receives-refl x.fifo c.receiver (marked-in x c s w);
   reports = reports-refl x.fifo c.receiver;
   modem_lines =
-      changed-control (bit_and value mcr_bits) c.modem stays
+      changed-control (kept_mcr c.auto_flow value) c.modem stays
       (wired ∙ under_open c.latches.mcr c.modem.inputs (loopback-in x c w ∙ outside));
 }
 
 -- the outputs are written, and loopback stays off
-pub passed_mcr : (x : Modes) (m n : MachineState) (value : ℕ) → IsOpen x → has_any (bit_and value mcr_bits) MCR.LOOP_BACK.0 ≡ false →
-    Stands x m → IsWiredChip m.chip → MachineStep m (Write offsets.MCR value) n →
-    Passed (record x { mcr = bit_and value mcr_bits }) m n (Write offsets.MCR value ∷ []) [] []
+pub passed_mcr : (x : Modes) (m n : MachineState) (value : ℕ) → IsOpen x →
+    has_any (kept_mcr (at_access m).chip.auto_flow value) MCR.LOOP_BACK.0 ≡ false → Stands x m → IsWiredChip m.chip →
+    MachineStep m (Write offsets.MCR value) n →
+    Passed (record x { mcr = kept_mcr (at_access m).chip.auto_flow value }) m n (Write offsets.MCR value ∷ []) [] []
 passed_mcr x m n value o stays w wired s =
-    passed-effect x (record x { mcr = bit_and value mcr_bits }) m n (after_write offsets.MCR value (at_access m).chip)
+    passed-effect x (record x { mcr = kept_mcr (at_access m).chip.auto_flow value }) m n (after_write offsets.MCR value (at_access m).chip)
     (Write offsets.MCR value) [] [] o.loopback refl w.sound w.modes s (sound_write offsets.MCR value (at_access m) (sound_access m w.sound))
     (λ p. went-write_mcr x (at_access m).chip value o.loopback stays p.sound.chip p.went.modes (wired_access m wired))

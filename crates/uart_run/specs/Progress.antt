@@ -1,8 +1,11 @@
 -- When a call must succeed: ticks pass before each access, the spin limit is long enough, and the wire has room.
-use Rattle.std.specs.Prelude.{◌≡◌, ◌<◌, ◌≤◌, ℕ, ◌+◌, ◌*◌, false, List, [], ◌∷◌, length, Option, Some, None, Ok}
+use Rattle.std.specs.Prelude.{◌≡◌, ◌<◌, ◌≤◌, ℕ, ◌+◌, ◌*◌, false, ◌&&◌, List, [], ◌∷◌, length, Option, Some, None, Ok}
+use Rattle.uart_spec.specs.Bits.{has_any}
 use Rattle.uart_spec.specs.Config.{IsComputable}
 use Rattle.uart_spec.specs.FifoSize.{characters}
 use Rattle.uart_spec.specs.declared.config.Config.{Config}
+use Rattle.uart_spec.specs.declared.registers.modem_control.TheConstants.MCR
+use Rattle.uart_spec.specs.declared.setup.Setup.{Setup}
 use Rattle.uart_16550.specs.Driver.{fields}
 use Rattle.uart_16550.specs.Init.{DivisorOf}
 use Rattle.uart_16550.specs.Expansion.{expansion}
@@ -15,7 +18,7 @@ use Rattle.uart_events.specs.declared.event.Event.{Event}
 use Rattle.uart_events.specs.declared.event.Event.TheVariants.{Ticks, Access as Gate, Mark}
 use Rattle.uart_chip.specs.declared.transmitter.Shifting.{Shifting}
 use Rattle.uart_chip.specs.Transmitter.{TransmitterState}
-use Rattle.uart_chip.specs.Chip.{divisor}
+use Rattle.uart_chip.specs.Chip.{divisor, is_auto_flow}
 use Rattle.uart_chip.specs.Machine.{MachineState}
 use Rattle.uart_chip.specs.Conserved.{out}
 use Rattle.uart_run.specs.Run.{State, machine_of}
@@ -55,6 +58,17 @@ left t = left_of t.char_ticks t.shift_register t.queue
 abbrev pub HasRoom : ℕ → MachineState → Type 0
 HasRoom n m = length (out m) + n ≤ m.chip.transmitter.capacity
 
+-- A chip that holds its transmitter off by CTS goes on when the other end lets it: nothing is said of when that is. A
+-- chip that has no automatic flow control never does, so for it these two hold in each state.
+
+-- automatic flow control is off
+abbrev pub IsUnheld : MachineState → Type 0
+IsUnheld m = is_auto_flow m.chip ≡ false
+
+-- it is off, and this setup does not turn it on
+abbrev pub StaysUnheld : Setup → MachineState → Type 0
+StaysUnheld setup m = IsUnheld m × ((m.chip.auto_flow && has_any setup.outputs.0 MCR._RESERVED0.0) ≡ false)
+
 -- A transmitter holds at most n characters of t ticks, n being `most_held`, and with a tick before each look every look
 -- finds less left. The premises can be checked against a schedule. CTS checking is left out, because a remote may never
 -- be clear to send.
@@ -74,20 +88,26 @@ pub record HasDivisor (config : Config) : Type 0 where
   pub divisor : ℕ
   pub is_divisor : DivisorOf config (Ok divisor)
 
--- with room on the wire for what it sends, a call does not stall: an `init` and an `init_with` from any state; a
--- `set_frame_when_idle`, a loopback test (with the answer of `test_answer`), a flush, an exact send, a `write` and a
--- text from a ready one, the last three if CTS is not checked; and an `attach` in a ready state takes the port if its
--- divisor is not 0
+-- with room on the wire for what it sends, and but for an `init`, which turns it off, without automatic flow control, a
+-- call does not stall: an `init` and an `init_with` from any state; a `set_frame_when_idle`, a loopback test (with the
+-- answer of `test_answer`), a flush, an exact send, a `write` and a text from a ready one, the last three if CTS is not
+-- checked; and an `attach` in a ready state takes the port if its divisor is not 0
 abbrev pub Succeeds : State → Call → Answer → Type 0
 Succeeds s (call.Init config) a = HasRoom 0 (machine_of s) → HasDivisor config → a ≡ Done
-Succeeds s (call.InitWith config setup) a = HasRoom 0 (machine_of s) → HasDivisor config → a ≡ Done
-Succeeds s (call.SetFrameWhenIdle config) a = Ready s → HasRoom 0 (machine_of s) → HasDivisor config → a ≡ Done
+Succeeds s (call.InitWith config setup) a =
+    StaysUnheld setup (machine_of s) → HasRoom 0 (machine_of s) → HasDivisor config → a ≡ Done
+Succeeds s (call.SetFrameWhenIdle config) a =
+    Ready s → IsUnheld (machine_of s) → HasRoom 0 (machine_of s) → HasDivisor config → a ≡ Done
 Succeeds s call.Attach a = Ready s → 0 < divisor (latches_of s) → (low high : ℕ) × (a ≡ Latch low high)
-Succeeds s call.TestLoopback a = Ready s → HasRoom 0 (machine_of s) → a ≡ test_answer (is_narrow (machine_of s).chip)
-Succeeds s call.Flush a = Ready s → HasRoom 0 (machine_of s) → a ≡ Done
-Succeeds s (call.SendExact bytes) a = Ready s → IsUnchecked s → HasRoom (length bytes.items) (machine_of s) → a ≡ Done
+Succeeds s call.TestLoopback a =
+    Ready s → IsUnheld (machine_of s) → HasRoom 0 (machine_of s) → a ≡ test_answer (is_narrow (machine_of s).chip)
+Succeeds s call.Flush a = Ready s → IsUnheld (machine_of s) → HasRoom 0 (machine_of s) → a ≡ Done
+Succeeds s (call.SendExact bytes) a =
+    Ready s → IsUnheld (machine_of s) → IsUnchecked s → HasRoom (length bytes.items) (machine_of s) → a ≡ Done
 Succeeds s (call.Write bytes) a =
-    Ready s → IsUnchecked s → HasRoom (length bytes.items) (machine_of s) → (count : ℕ) × (a ≡ Count count)
+    Ready s → IsUnheld (machine_of s) → IsUnchecked s → HasRoom (length bytes.items) (machine_of s) →
+    (count : ℕ) × (a ≡ Count count)
 Succeeds s (call.Text text) a =
-    Ready s → IsUnchecked s → HasRoom (length (expansion text.bytes)) (machine_of s) → a ≡ Done
+    Ready s → IsUnheld (machine_of s) → IsUnchecked s → HasRoom (length (expansion text.bytes)) (machine_of s) →
+    a ≡ Done
 Succeeds s other a = Unit {0}

@@ -32,7 +32,7 @@ use Rattle.uart_events.specs.declared.call.Answer.TheVariants.{Done, Latch, Init
 use Rattle.uart_events.specs.declared.call.Answer.TheVariants.{FrameWhenIdleRefused, AttachRefused, FifosOff}
 use Rattle.uart_events.specs.declared.event.Chip.{Chip}
 use Rattle.uart_events.specs.declared.event.Chip.TheVariants.{Uart16550A, Uart16450}
-use Rattle.uart_chip.specs.Masks.{ier_bits, mcr_bits}
+use Rattle.uart_chip.specs.Masks.{ier_bits, kept_mcr}
 use Rattle.uart_chip.specs.Chip.{LatchesState, ChipState, word_length, is_dlab_set}
 use Rattle.uart_chip.specs.Chip.{is_loopback, is_transmitter_empty, divisor, interrupt}
 use Rattle.uart_chip.specs.Machine.{MachineState}
@@ -120,7 +120,7 @@ pub record IsSetUp (setup : Setup) (config : Config) (t : State) : Type 0 where
   pub wired : IsWired t
   pub divisor_latch : DivisorOf config (Ok (divisor (latches_of t)))
   pub lcr : (latches_of t).lcr ≡ frame_bits config
-  pub mcr : (latches_of t).mcr ≡ bit_and (unlooped setup.outputs.0) mcr_bits
+  pub mcr : (latches_of t).mcr ≡ kept_mcr (machine_of t).chip.auto_flow (unlooped setup.outputs.0)
   pub ier : (latches_of t).ier ≡ bit_and config.interrupts.0 ier_bits
   pub is_empty : setup.wait ≢ NoWait →
       is_transmitter_empty (transmitter_of t).queue (transmitter_of t).shift_register ≡ true
@@ -151,7 +151,8 @@ pub record Levels (level : FifoTriggerLevel) (s : State) (a : Answer) (t : State
 -- the state after a `quiesce` in a ready state: no interrupt is enabled, so none is raised; MCR has the outputs that
 -- were asked for, and the FIFO stays as it is or is off
 pub record IsQuiet (outputs : ℕ) (action : FifoAction) (s t : State) : Type 0 where
-  pub latches : latches_of t ≡ record (latches_of s) { ier = 0; mcr = bit_and (unlooped outputs) mcr_bits }
+  pub latches : latches_of t ≡
+      record (latches_of s) { ier = 0; mcr = kept_mcr (machine_of s).chip.auto_flow (unlooped outputs) }
   pub fifo : (machine_of t).chip.fifo ≡ stays_on action (machine_of s).chip.fifo
   pub silent : interrupt (machine_of t).chip ≡ None
 
@@ -163,7 +164,7 @@ pub record IsRestored (dump : ConfigRegisterDump) (t : State) : Type 0 where
   pub ready : Ready t
   pub divisor_latch : divisor (latches_of t) ≡ divisor_of dump
   pub lcr : (latches_of t).lcr ≡ without 8 dump.lcr.0 LCR.DLAB.0
-  pub mcr : (latches_of t).mcr ≡ bit_and (unlooped dump.mcr.0) mcr_bits
+  pub mcr : (latches_of t).mcr ≡ kept_mcr (machine_of t).chip.auto_flow (unlooped dump.mcr.0)
   pub ier : (latches_of t).ier ≡ bit_and dump.ier.0 ier_bits
   pub spr : (latches_of t).scr ≡ dump.spr
   pub fifo : (machine_of t).chip.fifo ≡ (has dump.isr.0 ISR.FIFOS_ENABLED.0 && has_fifo (machine_of t).chip.model)
@@ -211,7 +212,7 @@ pub record ChangesOutputs (s t : State) : Type 0 where
 -- after a `set_modem_control` the outputs are as they were asked for, and loopback is off
 pub record SetsOutputs (outputs : ℕ) (s t : State) : Type 0 where
   pub changes : ChangesOutputs s t
-  pub mcr : (latches_of t).mcr ≡ bit_and (unlooped outputs) mcr_bits
+  pub mcr : (latches_of t).mcr ≡ kept_mcr (machine_of s).chip.auto_flow (unlooped outputs)
 
 -- after a `set_rts` or a `set_dtr` one output is as it was asked for, the other outputs are as they were, and loopback
 -- is off

@@ -14,7 +14,7 @@ use Rattle.uart_run.specs.Run.{State, machine_of, Link, Chain, IsRun}
 use Rattle.uart_run.specs.Served.{AllServe, IsFlushed}
 use Rattle.uart_run.specs.Statuses.{Tells}
 use Rattle.uart_run.specs.Ready.{Ready, IsUnbroken}
-use Rattle.uart_run.specs.Progress.{IsTimely, HasRoom}
+use Rattle.uart_run.specs.Progress.{IsTimely, IsUnheld, HasRoom}
 use Rattle.uart_run.specs.Session.{GoesOn, AllCalls, reported, received, overflows, AllFollow}
 use Rattle.uart_run.specs.Wired.{IsWired}
 
@@ -59,12 +59,12 @@ pub record ConservesUncut (s : State) (links : List Link) (t : State) : Type 0 w
   pub served : AllServe links
 
 -- a loopback test in a state in which a session may begin: it succeeds or stalls; if it succeeds, the transmitter is
--- empty and the wire has what was to be sent before it, and nothing else; and if ticks pass and the wire has room, it
--- succeeds
+-- empty and the wire has what was to be sent before it, and nothing else; and if ticks pass, the wire has room and
+-- automatic flow control is off, it succeeds
 pub record TestsUncut (s : State) (a : Answer) (t : State) : Type 0 where
   pub answers : Ready s → (a ≡ Done) ⊎ (a ≡ LoopbackRefused Stalled)
   pub leaves : Ready s → a ≡ Done → IsFlushed s t
-  pub succeeds : IsTimely s → Ready s → HasRoom 0 (machine_of s) → a ≡ Done
+  pub succeeds : IsTimely s → Ready s → IsUnheld (machine_of s) → HasRoom 0 (machine_of s) → a ≡ Done
 
 -- what a loopback test that is one of the calls promises; this for each call of some links
 abbrev pub FollowsUncut : State → Call → Answer → State → Type 0

@@ -32,7 +32,7 @@ ghost use Rattle.uart_run.specs.Wired.{IsWiredChip};
 ghost use Rattle.uart_run.specs.Ready.{KeepsReady, Ready};
 ghost use Rattle.uart_run.specs.Overruns.{FlagTells, LeavesReceiver, OverrunsStand};
 ghost use Rattle.uart_run.specs.ReceivedErrors.{ReceivedExactly, under_terminal};
-ghost use Rattle.uart_run.specs.Progress.{HasRoom, IsTimely};
+ghost use Rattle.uart_run.specs.Progress.{HasRoom, IsTimely, IsUnheld};
 ghost use Rattle.uart_run.specs.Sizes.{FindsNone, FindsOff, FindsSize, IsPlain, MayFind};
 ghost use Rattle.uart_run.specs.Sizes.{size_in};
 
@@ -133,7 +133,8 @@ pub fn configured_chips_pass_the_check(uart: &Uart16550<Device16550>)
 /// size of the FIFOs, or a stall, whatever the schedule is. A state in which a session may begin,
 /// with the FIFOs on, is such a state. Over any chip the call does not stall if each access of the
 /// schedule has a tick before it, the spin limit is at least n (t + 1) for characters of t ticks,
-/// of which the transmitter holds n, and the wire has room for what waits.
+/// of which the transmitter holds n, the wire has room for what waits, and automatic flow control
+/// is off.
 ///
 /// With a size nothing of the call went to the wire, and all that waited before it did; what is in
 /// the receiver arrived during the call; and a session may begin. After a stall at most one byte of
@@ -164,12 +165,14 @@ pub fn fifo_sizes_are_found(uart: &Uart16550<Device16550>)
         FindsNone (under_terminal uart.now) found (under_terminal after) }
     ensures ends { (after : Uart16550 MachineState) (found : Result FifoSize FifoSizeError) →
         IsPlain (under_terminal uart.now) → (fields uart.now).fifo ≡ true →
-        IsTimely (under_terminal uart.now) → HasRoom 0 (backend_of uart.now) →
+        IsTimely (under_terminal uart.now) → IsUnheld (backend_of uart.now) →
+        HasRoom 0 (backend_of uart.now) →
         Did MachineStep (FindsFifoSize found) uart.now after →
         found ≢ Err Stalled }
     ensures succeeds { (after : Uart16550 MachineState) (found : Result FifoSize FifoSizeError) →
         MayFind (under_terminal uart.now) → (fields uart.now).fifo ≡ true →
-        IsTimely (under_terminal uart.now) → HasRoom 0 (backend_of uart.now) →
+        IsTimely (under_terminal uart.now) → IsUnheld (backend_of uart.now) →
+        HasRoom 0 (backend_of uart.now) →
         Did MachineStep (FindsFifoSize found) uart.now after →
         found ≡ Ok (size_in (under_terminal uart.now)) }
 {

@@ -89,6 +89,7 @@ pub fn masks_are_these()
     ensures line_errors { LSR.LINE_ERRORS.0 ≡ LSR.OVERRUN_ERROR.0 + LSR.CHARACTER_ERRORS.0 }
     ensures errors { LSR.ERRORS.0 ≡ LSR.LINE_ERRORS.0 + LSR.FIFO_DATA_ERROR.0 }
     ensures ready { MCR.READY.0 ≡ MCR.DTR.0 + MCR.RTS.0 + MCR.OUT_2_INT_ENABLE.0 }
+    ensures auto_flow { MCR.AUTO_FLOW.0 ≡ MCR._RESERVED0.0 }
     ensures changes { MSR.CHANGES.0 ≡
         MSR.DELTA_CTS.0 + MSR.DELTA_DSR.0 + MSR.TRAILING_EDGE_RI.0 + MSR.DELTA_CD.0 }
     ensures lines { MSR.LINES.0 ≡ MSR.CTS.0 + MSR.DSR.0 + MSR.RI.0 + MSR.CD.0 }

@@ -12,7 +12,7 @@ use Rattle.uart_spec.specs.declared.registers.offsets.TheConstants as offsets
 use Rattle.uart_chip.specs.declared.transmitter.Shifting.{Shifting}
 use Rattle.uart_chip.specs.Transmitter.{TransmitterState, room, shift, refill, shift_bytes, held}
 use Rattle.uart_chip.specs.Receiver.{is_data_pending, is_timed_out}
-use Rattle.uart_chip.specs.Chip.{ChipState, ticks, is_loopback, is_dlab_set, interrupt, is_thr_empty, line_status}
+use Rattle.uart_chip.specs.Chip.{ChipState, ticks, is_loopback, is_held_off, is_dlab_set, interrupt, is_thr_empty, line_status}
 use Rattle.uart_chip.specs.Chip.{after_write, arrive_live}
 use Rattle.uart_chip.proofs.AccessMoves.{both_if, if_given}
 use Rattle.uart_chip.proofs.lasting.Lasting.{LastsInAccesses, lasts-write}
@@ -46,8 +46,8 @@ asks-ticks zero c h = h
 asks-ticks (suc n) c h =
     let d : ChipState = ticks n c in
     let u : TransmitterState = shift (is_loopback d.latches) d.transmitter.shift_register d.transmitter in
-    asks-refill u.shift_register u.queue u
-    (asks-shift (is_loopback d.latches) d.transmitter.shift_register d.transmitter (asks-ticks n c h))
+    let shifted = asks-shift (is_loopback d.latches) d.transmitter.shift_register d.transmitter (asks-ticks n c h) in
+    both_if Asks _ _ (is_held_off d) shifted (asks-refill u.shift_register u.queue u shifted)
 
 -- ---- in what happens
 

@@ -10,7 +10,7 @@ use Rattle.uart_chip.specs.Transmitter as transmitter
 use Rattle.uart_chip.specs.Transmitter.{TransmitterState, room, looped_byte, load}
 use Rattle.uart_chip.specs.Receiver as receiver
 use Rattle.uart_chip.specs.Receiver.{ReceiverState}
-use Rattle.uart_chip.specs.Chip.{ChipState, tick, ticks, is_loopback, cut_of, after_write}
+use Rattle.uart_chip.specs.Chip.{ChipState, tick, ticks, is_loopback, is_held_off, cut_of, after_write}
 use Rattle.uart_chip.specs.Sending.{sends_at_once, put_on_wire, send_at_once}
 use Rattle.uart_chip.specs.Sound.{IsSoundChip}
 use Rattle.uart_chip.proofs.Jumps.{ticks-add}
@@ -41,11 +41,11 @@ empty_has_room fifo size = let some = some_room fifo size in grind (arith, commo
 load-idle : (fifo : Bool) (byte : ℕ) (t : TransmitterState) → load fifo byte (idle t) ≡ queued byte t
 load-idle fifo byte t = rw (empty_has_room fifo t.size) refl
 
-first-tick : (byte : ℕ) (t : TransmitterState) → transmitter.tick false (queued byte t) ≡ shifted byte t
+first-tick : (byte : ℕ) (t : TransmitterState) → transmitter.tick false false (queued byte t) ≡ shifted byte t
 first-tick byte t = refl
 
 second-tick : (byte : ℕ) (t : TransmitterState) → t.char_ticks ≡ 1 → nat_lt (length t.wire) t.capacity ≡ true →
-    transmitter.tick false (shifted byte t) ≡ put_on_wire byte (idle t)
+    transmitter.tick false false (shifted byte t) ≡ put_on_wire byte (idle t)
 second-tick byte t one room =
     let last : nat_lt 1 t.char_ticks ≡ false = last_tick t.char_ticks (omega (arith, one)) (omega (arith, one)) in
     tick-shifted false (shifted byte t) (put_on_wire byte (idle t)) (rw (last, room) refl)
@@ -60,15 +60,18 @@ receiver-still false fifo place r l due =
     more : (i limit : ℕ) → i ≡ limit → min (i + 1) limit ≡ i
     more i limit e = omega (arith, e)
 
-tick-outside : (c : ChipState) (t : TransmitterState) → is_loopback c.latches ≡ false →
-    c.receiver.timeout_ticks ≡ c.receiver.timeout_limit → transmitter.tick false c.transmitter ≡ t →
+tick-outside : (c : ChipState) (t : TransmitterState) → is_loopback c.latches ≡ false → is_held_off c ≡ false →
+    c.receiver.timeout_ticks ≡ c.receiver.timeout_limit → transmitter.tick false false c.transmitter ≡ t →
     tick c ≡ record c { transmitter = t }
-tick-outside c t outside due e =
+tick-outside c t outside goes_on due e =
     let place : Option Shifting = c.transmitter.shift_register in
-    ap (λ (r : ReceiverState). record c { transmitter = transmitter.tick (is_loopback c.latches) c.transmitter; receiver = r })
-    (receiver-still (is_loopback c.latches) c.fifo place c.receiver outside due) ∙
-    (ap (λ (b : Bool). record c { transmitter = transmitter.tick b c.transmitter }) outside ∙
-    ap (λ (u : TransmitterState). record c { transmitter = u }) e)
+    ap (λ (r : ReceiverState). record c {
+      transmitter = transmitter.tick (is_loopback c.latches) (is_held_off c) c.transmitter;
+      receiver = r;
+    }) (receiver-still (is_loopback c.latches) c.fifo place c.receiver outside due) ∙
+    (ap (λ (b : Bool). record c { transmitter = transmitter.tick b (is_held_off c) c.transmitter }) outside ∙
+    (ap (λ (b : Bool). record c { transmitter = transmitter.tick false b c.transmitter }) goes_on ∙
+    ap (λ (u : TransmitterState). record c { transmitter = u }) e))
 
 nothing : (queue : List ℕ) → (length queue == 0) ≡ true → queue ≡ []
 nothing [] e = refl
@@ -98,9 +101,9 @@ two_ticks value c still s =
     let written : after_write offsets.DATA value c ≡ record c { transmitter = queued byte t } =
     rw s.latched (ap (λ (u : TransmitterState). record c { transmitter = u }) loaded) in
     let first : tick (record c { transmitter = queued byte t }) ≡ record c { transmitter = shifted byte t } =
-    tick-outside (record c { transmitter = queued byte t }) (shifted byte t) s.outside still.due (first-tick byte t) in
+    tick-outside (record c { transmitter = queued byte t }) (shifted byte t) s.outside s.goes_on still.due (first-tick byte t) in
     let second : tick (record c { transmitter = shifted byte t }) ≡ record c { transmitter = put_on_wire byte (idle t) } =
-    tick-outside (record c { transmitter = shifted byte t }) (put_on_wire byte (idle t)) s.outside still.due
+    tick-outside (record c { transmitter = shifted byte t }) (put_on_wire byte (idle t)) s.outside s.goes_on still.due
     (second-tick byte t still.paced.takes s.room) in
     ap (λ (d : ChipState). tick (tick d)) written ∙
     (ap tick first ∙ (second ∙ ap (λ (u : TransmitterState). record c { transmitter = put_on_wire byte u }) idle_is))

@@ -17,7 +17,7 @@ use Rattle.uart_chip.specs.Receiver as receiver
 use Rattle.std.specs.List.{list_any}
 use Rattle.uart_chip.specs.declared.receiver.Character.{Character}
 use Rattle.uart_chip.specs.Receiver.{ReceiverState, is_data_pending, is_timed_out, front_errors, unreported, has_errors, report}
-use Rattle.uart_chip.specs.Chip.{ChipState, tick, ticks, is_loopback, line_status, is_transmitter_empty}
+use Rattle.uart_chip.specs.Chip.{ChipState, tick, ticks, is_loopback, is_held_off, line_status, is_transmitter_empty}
 use Rattle.uart_chip.specs.Chip.{after_read, arrive_live, change_lines, take_wire}
 use Rattle.uart_chip.specs.Jumps.{timeout_after, count_down}
 use Rattle.uart_chip.proofs.Jumps.{StillFor, ticks_skip}
@@ -29,7 +29,7 @@ use Rattle.uart_virtual.specs.Port.{PortCall, Read, Write, Receive, ReceiveOne, 
 use Rattle.uart_virtual.specs.Port.{written}
 use Rattle.uart_virtual.specs.Port.{is_up, stays_up, happen, settle, kind_of, seen_of, is_news, accepted, arrive_all, IsStill, IsUnmoved}
 use Rattle.uart_virtual.specs.Laws.{LineStays, EachDipIsSignalled}
-use Rattle.uart_virtual.proofs.Times.{unmoved-read, unmoved-all}
+use Rattle.uart_virtual.proofs.Times.{unmoved-read, unmoved-all, still_too}
 
 -- ---- a pending THR-empty interrupt stays
 
@@ -48,8 +48,9 @@ pends-refill None [] t h = h
 pends-refill None (x ∷ []) t h = refl
 pends-refill None (x ∷ y ∷ xs) t h = h
 
-pends-tick : (t : TransmitterState) → Pends t → Pends (transmitter.tick false t)
-pends-tick t h =
+pends-tick : (held_off : Bool) (t : TransmitterState) → Pends t → Pends (transmitter.tick false held_off t)
+pends-tick true t h = pends-shift false t.shift_register t h
+pends-tick false t h =
     let u : TransmitterState = shift false t.shift_register t in
     pends-refill u.shift_register u.queue u (pends-shift false t.shift_register t h)
 
@@ -150,16 +151,16 @@ stays-part c t i pends due up =
 
 stays-tick : (c : ChipState) → is_loopback c.latches ≡ false → is_up c ≡ true → is_up (tick c) ≡ true
 stays-tick c outside up =
-    let t : TransmitterState = transmitter.tick false c.transmitter in
+    let t : TransmitterState = transmitter.tick false (is_held_off c) c.transmitter in
     let i : ℕ = min (c.receiver.timeout_ticks + 1) c.receiver.timeout_limit in
     let d : ChipState = record c { transmitter = t; receiver = record c.receiver { timeout_ticks = i } } in
     let ticked : tick c ≡ d =
     ap (λ (b : Bool). record c {
-      transmitter = transmitter.tick b c.transmitter;
+      transmitter = transmitter.tick b (is_held_off c) c.transmitter;
       receiver = receiver.tick c.fifo (looped_byte b c.transmitter.shift_register) c.receiver;
     }) outside in
     subst (λ (x : ChipState). is_up x ≡ true) (sym ticked)
-    (stays-part c t i (pends-tick c.transmitter) (at_limit c.receiver.timeout_ticks c.receiver.timeout_limit) up)
+    (stays-part c t i (pends-tick (is_held_off c) c.transmitter) (at_limit c.receiver.timeout_ticks c.receiver.timeout_limit) up)
 
 pub line_stays : LineStays
 line_stays zero c outside up = up
@@ -175,7 +176,7 @@ at_limit_after (suc n) i limit h = grind (arith, common_steps)
 unmoved_stays : (n : ℕ) (c : ChipState) → IsUnmoved c → is_up c ≡ true → is_up (ticks n c) ≡ true
 unmoved_stays n c u up =
     let i : ℕ = timeout_after n c.receiver.timeout_ticks c.receiver.timeout_limit in
-    subst (λ (x : ChipState). is_up x ≡ true) (sym (ticks_skip n c (subst (λ move. StillFor n move) (sym u) tt)))
+    subst (λ (x : ChipState). is_up x ≡ true) (sym (ticks_skip n c (still_too n (is_held_off c) c u)))
     (stays-part c (count_down n c.transmitter) i (λ h. h)
     (at_limit_after n c.receiver.timeout_ticks c.receiver.timeout_limit) up)
 

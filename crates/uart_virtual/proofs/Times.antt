@@ -10,10 +10,11 @@ use Rattle.uart_chip.specs.Transmitter as transmitter
 use Rattle.uart_chip.specs.Transmitter.{TransmitterState, room, looped_byte, shift, refill, held, shift_bytes}
 use Rattle.uart_chip.specs.Receiver as receiver
 use Rattle.uart_chip.specs.Receiver.{ReceiverState, grow_timeout}
-use Rattle.uart_chip.specs.Chip.{ChipState, tick, ticks, is_loopback, is_dlab_set, interrupt}
+use Rattle.uart_chip.specs.Chip.{ChipState, tick, ticks, is_loopback, is_held_off, is_dlab_set, interrupt}
 use Rattle.uart_chip.specs.Chip.{is_thr_empty, after_read, after_write, take_wire, arrive_live}
 use Rattle.uart_chip.specs.Jumps.{next_move_of, next_move, left_after, place_after, timeout_after, moves}
 use Rattle.uart_chip.specs.Sound.{IsSoundChip, IsTicking}
+use Rattle.uart_chip.proofs.AutoFlow.{never_held_off, flow-ticks}
 use Rattle.uart_chip.proofs.Jumps.{StillFor, ticks_skip}
 use Rattle.uart_chip.proofs.soundness.Idle.{moves-most}
 use Rattle.uart_chip.proofs.lasting.Lasting.{LastsInAccesses, lasts-read, lasts-write}
@@ -39,7 +40,7 @@ CharTakes k c = c.transmitter.char_ticks ≡ k
 takes-ticks : (k n : ℕ) (c : ChipState) → CharTakes k c → CharTakes k (ticks n c)
 takes-ticks k zero c h = h
 takes-ticks k (suc n) c h =
-    let d : ChipState = ticks n c in char_ticks-tick (is_loopback d.latches) d.transmitter ∙ takes-ticks k n c h
+    let d : ChipState = ticks n c in char_ticks-tick (is_loopback d.latches) (is_held_off d) d.transmitter ∙ takes-ticks k n c h
 
 abbrev SameRoom : TransmitterState → TransmitterState → Type 0
 SameRoom t u = u.capacity ≡ t.capacity
@@ -54,13 +55,16 @@ room-refill : (place : Option Shifting) (queue : List ℕ) (t : TransmitterState
 room-refill None (x ∷ []) t = refl
 room-refill _ _ t = refl
 
+room-tick : (loopback held_off : Bool) (t : TransmitterState) → SameRoom t (transmitter.tick loopback held_off t)
+room-tick loopback true t = room-shift loopback t.shift_register t
+room-tick loopback false t =
+    let u : TransmitterState = shift loopback t.shift_register t in
+    room-refill u.shift_register u.queue u ∙ room-shift loopback t.shift_register t
+
 room-ticks : (n : ℕ) (c : ChipState) → SameRoom c.transmitter (ticks n c).transmitter
 room-ticks zero c = refl
 room-ticks (suc n) c =
-    let d : ChipState = ticks n c in
-    let loopback : Bool = is_loopback d.latches in
-    let u : TransmitterState = shift loopback d.transmitter.shift_register d.transmitter in
-    room-refill u.shift_register u.queue u ∙ (room-shift loopback d.transmitter.shift_register d.transmitter ∙ room-ticks n c)
+    let d : ChipState = ticks n c in room-tick (is_loopback d.latches) (is_held_off d) d.transmitter ∙ room-ticks n c
 
 pub paced-ticks : (n : ℕ) (c : ChipState) → IsPaced c → IsPaced (ticks n c)
 paced-ticks n c h = record { takes = takes-ticks 1 n c h.takes; room = room-ticks n c ∙ h.room }
@@ -112,16 +116,20 @@ unmoved-all (byte ∷ bytes) c u = unmoved-all bytes (arrive_live byte 0 c) u
 -- ---- a tick moves a character, or nothing in the transmitter changes any more
 
 record IsStuck (loopback : Bool) (t : TransmitterState) : Type 0 where
-  none : next_move loopback t ≡ None
-  same : transmitter.tick loopback t ≡ t
+  none : next_move loopback false t ≡ None
+  same : (held_off : Bool) → transmitter.tick loopback held_off t ≡ t
   unlooped : looped_byte loopback t.shift_register ≡ None
 
 abbrev with_place : Option Shifting → List ℕ → TransmitterState → TransmitterState
 with_place place queue t = record t { shift_register = place; queue = queue }
 
 pub tick-shifted : (loopback : Bool) (t u : TransmitterState) → shift loopback t.shift_register t ≡ u →
-    transmitter.tick loopback t ≡ refill u.shift_register u.queue u
+    transmitter.tick loopback false t ≡ refill u.shift_register u.queue u
 tick-shifted loopback t u e = ap (λ (v : TransmitterState). refill v.shift_register v.queue v) e
+
+either-same : (held_off : Bool) (t : TransmitterState) → (if held_off then t else t) ≡ t
+either-same true t = refl
+either-same false t = refl
 
 freed : (queue : List ℕ) (t : TransmitterState) → moves (refill None queue (with_place None queue t)) ≡ length queue
 freed (x ∷ []) t = refl
@@ -136,8 +144,13 @@ last_tick left low high = grind (arith, common_steps)
 
 stuck_or_moves : (loopback : Bool) (place : Option Shifting) (queue : List ℕ) (t : TransmitterState) → IsTicking 1 place →
     IsStuck loopback (with_place place queue t) ⊎
-    (suc (moves (transmitter.tick loopback (with_place place queue t))) ≡ moves (with_place place queue t))
-stuck_or_moves loopback None [] t h = inl (record { none = refl; same = refl; unlooped = unlooped-none loopback })
+    (suc (moves (transmitter.tick loopback false (with_place place queue t))) ≡ moves (with_place place queue t))
+stuck_or_moves loopback None [] t h =
+    inl (record {
+      none = refl;
+      same = λ held_off. either-same held_off (with_place None [] t);
+      unlooped = unlooped-none loopback;
+    })
 stuck_or_moves loopback None (x ∷ []) t h = inr refl
 stuck_or_moves loopback None (x ∷ y ∷ xs) t h = inr refl
 stuck_or_moves loopback (Some s) queue t h =
@@ -148,7 +161,7 @@ stuck_or_moves loopback (Some s) queue t h =
 
     go : nat_lt 1 s.ticks_left ≡ false → (b : Bool) → loopback ≡ b → (free : Bool) → nat_lt (length t.wire) t.capacity ≡ free →
         IsStuck loopback (with_place (Some s) queue t) ⊎
-        (suc (moves (transmitter.tick loopback (with_place (Some s) queue t))) ≡ suc (length queue))
+        (suc (moves (transmitter.tick loopback false (with_place (Some s) queue t))) ≡ suc (length queue))
     go d true f free g =
         inr (ap (λ (w : TransmitterState). suc (moves w)) (tick-shifted loopback v (with_place None queue t) (rw (d, f) refl)) ∙
         ap suc (freed queue t))
@@ -157,7 +170,14 @@ stuck_or_moves loopback (Some s) queue t h =
         inr (ap (λ (w : TransmitterState). suc (moves w)) (tick-shifted loopback v (with_place None queue u) (rw (d, f, g) refl)) ∙
         ap suc (freed queue u))
     go d false f false g =
-        inl (record { none = rw (f, g) refl; same = tick-shifted loopback v v (rw (d, f, g) refl); unlooped = rw f refl })
+        let stays : shift loopback v.shift_register v ≡ v = rw (d, f, g) refl in
+        inl (record {
+          none = rw (f, g) refl;
+          same =
+              λ held_off. ap (λ (w : TransmitterState). if held_off then w else refill w.shift_register w.queue w) stays ∙
+              either-same held_off v;
+          unlooped = rw f refl;
+        })
 
 -- ---- after 21 ticks
 
@@ -183,38 +203,43 @@ stops-tick n c h =
     let r : (tick c).receiver ≡ grow_timeout c.receiver =
     ap (λ looped. receiver.tick c.fifo looped c.receiver) h.stuck.unlooped in
     record {
-      stuck = subst (λ (t : TransmitterState). IsStuck loopback t) (sym h.stuck.same) h.stuck;
+      stuck = subst (λ (t : TransmitterState). IsStuck loopback t) (sym (h.stuck.same (is_held_off c))) h.stuck;
       nears = subst (λ (r : ReceiverState). Nears (suc n) r) (sym r)
           (nears-tick n c.receiver.timeout_ticks c.receiver.timeout_limit h.nears);
     }
 
-nearer : (n : ℕ) (c : ChipState) → IsSoundChip c → c.transmitter.size ≡ Sixteen → CharTakes 1 c →
+nearer : (n : ℕ) (c : ChipState) → IsSoundChip c → c.transmitter.size ≡ Sixteen → c.auto_flow ≡ false → CharTakes 1 c →
     (moves (ticks n c).transmitter + n ≤ 17) ⊎ Stops n (ticks n c)
-nearer zero c w s k =
+nearer zero c w s f k =
     let few = moves-most c.fifo c.transmitter w.transmitter in
     let most : moves c.transmitter ≤ 17 = rw s at few in
     inl (omega (arith, most))
-nearer (suc n) c w s k =
+nearer (suc n) c w s f k =
     let d : ChipState = ticks n c in
     let t : TransmitterState = d.transmitter in
     let sound = (steady_ticks n c w).sound.transmitter in
     let ticking : IsTicking 1 t.shift_register =
     subst (λ m. IsTicking m t.shift_register) (takes-ticks 1 n c k) sound.ticking in
-    elim (nearer n c w s k) [
+    let goes_on : is_held_off d ≡ false = never_held_off d (flow-ticks n c ∙ f) in
+    elim (nearer n c w s f k) [
       | inl more ↦ elim (stuck_or_moves (is_loopback d.latches) t.shift_register t.queue t ticking) [
         | inl stuck ↦ inr (stops-tick n d (record { stuck = stuck; nears = inl (omega (arith, more)) }))
-        | inr moved ↦ inl (omega (arith, more, moved))
+        | inr moved ↦
+            let ticked : moves (tick d).transmitter ≡ moves (transmitter.tick (is_loopback d.latches) false t) =
+            ap (λ (b : Bool). moves (transmitter.tick (is_loopback d.latches) b t)) goes_on in
+            inl (omega (arith, more, moved, ticked))
       ]
       | inr stops ↦ inr (stops-tick n d stops)
     ]
 
 -- nothing is left to happen after 22 ticks
-still_after : (n : ℕ) (c : ChipState) → 22 ≤ n → IsSoundChip c → c.transmitter.size ≡ Sixteen → IsPaced c → IsStill (ticks n c)
-still_after n c many w s k =
+still_after : (n : ℕ) (c : ChipState) → 22 ≤ n → IsSoundChip c → c.transmitter.size ≡ Sixteen → c.auto_flow ≡ false → IsPaced c →
+    IsStill (ticks n c)
+still_after n c many w s f k =
     let d : ChipState = ticks n c in
     let sound = (steady_ticks n c w).sound in
     let one : d.transmitter.char_ticks ≡ 1 = takes-ticks 1 n c k.takes in
-    elim (nearer n c w s k.takes) [
+    elim (nearer n c w s f k.takes) [
       | inl more ↦ absurd (omega (arith, more, many))
       | inr stops ↦ record {
         paced = paced-ticks n c k;
@@ -226,9 +251,26 @@ still_after n c many w s k =
       }
     ]
 
-pub still_settle : (c : ChipState) → IsSoundChip c → c.transmitter.size ≡ Sixteen → IsPaced c → IsStill (settle c)
+pub still_settle : (c : ChipState) → IsSoundChip c → c.transmitter.size ≡ Sixteen → c.auto_flow ≡ false → IsPaced c →
+    IsStill (settle c)
 unfolding settle_ticks
-still_settle c w s k = still_after settle_ticks c (omega arith) w s k
+still_settle c w s f k = still_after settle_ticks c (omega arith) w s f k
+
+-- a transmitter that nothing moves stays so if it is held off too
+pub still_too : (n : ℕ) (held_off : Bool) (c : ChipState) → IsUnmoved c →
+    StillFor n (next_move (is_loopback c.latches) held_off c.transmitter)
+still_too n false c u = subst (λ move. StillFor n move) (sym u) tt
+still_too n true c u = go (leaves c) c.transmitter.shift_register c.transmitter.queue u
+  where
+    leaves : ChipState → Bool
+    leaves c = if is_loopback c.latches then is_loopback c.latches else nat_lt (length c.transmitter.wire) c.transmitter.capacity
+
+    go : (free : Bool) (place : Option Shifting) (queue : List ℕ) → next_move_of free true place queue ≡ None →
+        StillFor n (next_move_of free false place queue)
+    go free None [] e = tt
+    go free None (x ∷ xs) e = tt
+    go true (Some s) queue e = absurd (cc)
+    go false (Some s) queue e = tt
 
 -- ---- time does nothing to a chip that is still
 
@@ -248,7 +290,7 @@ pub still_ticks : (n : ℕ) (c : ChipState) → IsSoundChip c → IsStill c → 
 still_ticks n c w s =
     let ticking : IsTicking 1 c.transmitter.shift_register =
     subst (λ m. IsTicking m c.transmitter.shift_register) s.paced.takes w.transmitter.ticking in
-    ticks_skip n c (subst (λ move. StillFor n move) (sym s.unmoved) tt) ∙
+    ticks_skip n c (still_too n (is_held_off c) c s.unmoved) ∙
     (ap (λ (place : Option Shifting). record c {
       transmitter = record c.transmitter { shift_register = place };
       receiver = record c.receiver { timeout_ticks = timeout_after n c.receiver.timeout_ticks c.receiver.timeout_limit };
@@ -270,7 +312,7 @@ settle-unmoved c w k u =
     let held : IsTicking t.char_ticks t.shift_register = w.transmitter.ticking in
     let ticking : IsTicking 1 t.shift_register = subst (λ m. IsTicking m t.shift_register) k.takes held in
     let soon : r.timeout_limit ≤ 22 = omega (arith, limit, k.takes) in
-    ticks_skip 22 c (subst (λ move. StillFor 22 move) (sym u) tt) ∙
+    ticks_skip 22 c (still_too 22 (is_held_off c) c u) ∙
     (ap (λ (place : Option Shifting). record c {
       transmitter = record t { shift_register = place };
       receiver = record r { timeout_ticks = timeout_after 22 r.timeout_ticks r.timeout_limit };
@@ -312,7 +354,7 @@ still_take count c none s = record {
   where
     go : (place : Option Shifting) (queue : List ℕ) → length (shift_bytes place ++ queue) ≡ 0 →
         next_move_of (if is_loopback c.latches then is_loopback c.latches
-        else nat_lt (length (drop count c.transmitter.wire)) c.transmitter.capacity) place queue ≡ None
+        else nat_lt (length (drop count c.transmitter.wire)) c.transmitter.capacity) true place queue ≡ None
     go None [] e = refl
     go None (x ∷ xs) e = absurd (omega (arith, e))
     go (Some s) queue e = absurd (omega (arith, e))

@@ -27,7 +27,7 @@ held_full c still some outside =
     go c.transmitter.shift_register c.transmitter.queue (nat_lt (length c.transmitter.wire) c.transmitter.capacity)
     (rw outside at still.unmoved) some
   where
-    go : (place : Option Shifting) (queue : List ℕ) (free : Bool) → next_move_of free place queue ≡ None →
+    go : (place : Option Shifting) (queue : List ℕ) (free : Bool) → next_move_of free true place queue ≡ None →
         (shift_bytes place ++ queue ≢ []) → free ≡ false
     go None [] free e some = absurd (some refl)
     go None (x ∷ xs) free e some = absurd (cc)

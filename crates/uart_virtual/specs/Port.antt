@@ -253,9 +253,10 @@ pub record IsPaced (c : ChipState) : Type 0 where
   pub takes : c.transmitter.char_ticks ≡ 1
   pub room : c.transmitter.capacity ≡ WIRE_ROOM
 
--- no character can leave or enter the shift register
+-- no character can leave or enter the shift register; flow control is left to the driver, so nothing holds the
+-- transmitter off
 abbrev pub IsUnmoved : ChipState → Type 0
-IsUnmoved c = next_move (is_loopback c.latches) c.transmitter ≡ None
+IsUnmoved c = next_move (is_loopback c.latches) false c.transmitter ≡ None
 
 -- nothing is left to happen, however much time passes: no character can move, and a reception timeout is due if
 -- characters wait in the FIFO

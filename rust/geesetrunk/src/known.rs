@@ -49,6 +49,7 @@ impl Default for Known {
             chip: ChipKind {
                 model: Chip::Uart16550A,
                 size: FifoSize::Sixteen,
+                auto_flow: false,
             },
         }
     }
@@ -190,6 +191,7 @@ mod tests {
             chip: ChipKind {
                 model: Chip::Uart16550A,
                 size,
+                auto_flow: false,
             },
             ..Known::default()
         };

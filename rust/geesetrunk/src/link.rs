@@ -119,9 +119,12 @@ impl Cabled<'_> {
 impl Backend for Cabled<'_> {
     fn read(&mut self, register_offset: u8) -> u8 {
         self.reach_access();
-        self.end
+        let value = self
+            .end
             .as_mut()
-            .map_or(NOTHING, |end| end.read(register_offset))
+            .map_or(NOTHING, |end| end.read(register_offset));
+        self.give_lines();
+        value
     }
 
     fn write(&mut self, register_offset: u8, value: u8) {

@@ -60,7 +60,7 @@ fn spread(events: &[Event]) -> Result<List<Event>, AllocError> {
 
 // Returns the machine of a script, under that schedule.
 fn machine_for(script: &Script) -> Result<Device16550, AllocError> {
-    Device16550::new_sized(
+    let machine = Device16550::new_sized(
         heap(),
         script.chip(),
         script.fifo_size(),
@@ -69,7 +69,11 @@ fn machine_for(script: &Script) -> Result<Device16550, AllocError> {
         spread(script.events())?,
         script.cut(),
     )
-    .map_err(|_| AllocError)
+    .map_err(|_| AllocError)?;
+    Ok(match script.has_auto_flow() {
+        true => machine.with_auto_flow(),
+        false => machine,
+    })
 }
 
 /// The second machine, and what shows what happens to it.

@@ -43,6 +43,7 @@ pub fn kind_of(script: &Script) -> ChipKind {
     ChipKind {
         model: script.chip(),
         size: script.fifo_size(),
+        auto_flow: script.has_auto_flow(),
     }
 }
 

@@ -1,5 +1,6 @@
 -- What a stretch of a session does to the transmitter: bytes are written, move on, and none is lost.
-use Rattle.std.proofs.Common.{◌≡◌, ℕ, ◌+◌, ◌≤◌, ◌<◌, Bool, false, List, [], ◌∷◌, ◌++◌, length, length-append, append_assoc, append-nil}
+use Rattle.std.proofs.Common.{◌≡◌, ℕ, ◌+◌, ◌≤◌, ◌<◌, Bool, true, false, List, [], ◌∷◌, ◌++◌, length, length-append, append_assoc}
+use Rattle.std.proofs.Common.{append-nil}
 use Rattle.std.proofs.Common.{Option, Some, None, refl, arith, sym, ◌∙◌, ap}
 use Rattle.std.proofs.lemmas.Grind.{common_steps}
 use Rattle.uart_chip.specs.declared.transmitter.Shifting.{Shifting}
@@ -50,10 +51,11 @@ sends-refill None (x ∷ y ∷ xs) t e f = record {
   place = grind (arith, common_steps);
 }
 
-pub sends-tick : (t : TransmitterState) → Sends t (tick false t) []
-sends-tick t =
+pub sends-tick : (held_off : Bool) (t : TransmitterState) → Sends t (tick false held_off t) []
+sends-tick true t = sends-shift t.shift_register t refl
+sends-tick false t =
     let u : TransmitterState = shift false t.shift_register t in
-    sends-trans t u (tick false t) [] [] (sends-shift t.shift_register t refl) (sends-refill u.shift_register u.queue u refl refl)
+    sends-trans t u (tick false false t) [] [] (sends-shift t.shift_register t refl) (sends-refill u.shift_register u.queue u refl refl)
 
 -- ---- a write with room
 

@@ -22,7 +22,7 @@ use Rattle.uart_chip.specs.Transmitter as transmitter
 use Rattle.uart_chip.specs.Transmitter.{looped_byte}
 use Rattle.uart_chip.specs.Receiver as receiver
 use Rattle.uart_chip.specs.Receiver.{ReceiverState, grow_timeout}
-use Rattle.uart_chip.specs.Chip.{ChipState, cut_of, is_dlab_set, is_loopback, tick, ticks, arrive, change_lines}
+use Rattle.uart_chip.specs.Chip.{ChipState, cut_of, is_dlab_set, is_loopback, is_held_off, tick, ticks, arrive, change_lines}
 use Rattle.uart_chip.specs.Machine.{perform, arrivals}
 use Rattle.uart_chip.specs.Conserved.{arriving, cut_character}
 use Rattle.uart_chip.specs.Sound.{IsMarked, IsSoundChip}
@@ -154,17 +154,17 @@ went-refl x c s w = record {
 }
 
 tick-still : (c : ChipState) → is_loopback c.latches ≡ false →
-    tick c ≡ record c { transmitter = transmitter.tick false c.transmitter; receiver = grow_timeout c.receiver }
+    tick c ≡ record c { transmitter = transmitter.tick false (is_held_off c) c.transmitter; receiver = grow_timeout c.receiver }
 tick-still c e =
     ap (λ (b : Bool). record c {
-      transmitter = transmitter.tick b c.transmitter;
+      transmitter = transmitter.tick b (is_held_off c) c.transmitter;
       receiver = receiver.tick c.fifo (looped_byte b c.transmitter.shift_register) c.receiver;
     }) e
 
 pub went-tick : (x : Modes) (c : ChipState) → loopback x ≡ false → IsSoundChip c → IsIn x c → Went x c (tick c) [] [] [] []
 went-tick x c l s w = rw (tick-still c (loopback-in x c w ∙ l)) (record {
   modes = record { lcr = w.lcr; mcr = w.mcr; fifo = w.fifo; cut = w.cut };
-  sends = sends-tick c.transmitter;
+  sends = sends-tick (is_held_off c) c.transmitter;
   receives =
       receives-still x.fifo c.receiver (grow_timeout c.receiver) (marked-in x c s w)
       (record { queue = refl; marks = refl; missing = refl; arrived = refl }) refl;

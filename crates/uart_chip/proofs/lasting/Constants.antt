@@ -5,7 +5,7 @@ use Rattle.uart_spec.specs.declared.access.Access.{Access}
 use Rattle.uart_spec.specs.declared.access.Access.TheVariants.{Read, Write}
 use Rattle.uart_spec.specs.declared.registers.offsets.TheConstants as offsets
 use Rattle.uart_chip.specs.declared.transmitter.Shifting.{Shifting}
-use Rattle.uart_chip.specs.Transmitter.{TransmitterState, shift, refill, load, room}
+use Rattle.uart_chip.specs.Transmitter.{TransmitterState, shift, refill, tick, load, room}
 use Rattle.uart_chip.specs.Chip.{ChipState, cut_of, is_dlab_set, after_write}
 use Rattle.uart_chip.specs.Machine.{MachineState, MachineStep, at_access}
 use Rattle.uart_chip.proofs.lasting.Lasting.{Lasts, lasts-read, lasts-write, lasts-before}
@@ -43,8 +43,9 @@ module _ (t : TransmitterState) where
       cleared = λ u pending p. record { capacity = p.capacity; char_ticks = p.char_ticks; size = p.size };
     };
     in_tick =
-        λ loopback u p. let v : TransmitterState = shift loopback u.shift_register u in
-        refill-pace v.shift_register v.queue v (shift-pace loopback u.shift_register u p);
+        λ loopback held_off u p. let v : TransmitterState = shift loopback u.shift_register u in
+        let q : SamePace t v = shift-pace loopback u.shift_register u p in
+        one_of _ _ held_off q (refill-pace v.shift_register v.queue v q);
   }
 
   load-pace : (fifo : Bool) (byte : ℕ) (u : TransmitterState) → SamePace t u → SamePace t (load fifo byte u)
@@ -80,3 +81,7 @@ module _ (t : TransmitterState) where
 
 pub same_pace : (made : List Access) (m n : MachineState) → Path MachineStep m made n → SamePace m.chip.transmitter n.chip.transmitter
 same_pace made m n path = same_pace-path m.chip.transmitter made m n (record { capacity = refl; char_ticks = refl; size = refl }) path
+
+-- of one tick
+pub pace_tick : (loopback held_off : Bool) (t : TransmitterState) → SamePace t (tick loopback held_off t)
+pace_tick loopback held_off t = (pace_lasts t).in_tick loopback held_off t (record { capacity = refl; char_ticks = refl; size = refl })

@@ -12,7 +12,8 @@ use Rattle.uart_events.specs.declared.event.Event.TheVariants.{Ticks, Arrive, Li
 use Rattle.uart_spec.specs.declared.registers.offsets.TheConstants as offsets
 use Rattle.uart_chip.specs.Transmitter as transmitter
 use Rattle.uart_chip.specs.Transmitter.{TransmitterState}
-use Rattle.uart_chip.specs.Chip.{ChipState, is_dlab_set, is_loopback, tick, ticks, arrive, change_lines, after_read, after_write}
+use Rattle.uart_chip.specs.Chip.{ChipState, is_dlab_set, is_loopback, is_held_off, tick, ticks, arrive, change_lines, after_read}
+use Rattle.uart_chip.specs.Chip.{after_write}
 use Rattle.uart_chip.proofs.AccessMoves.{ReadMove, acknowledges, read_move, WriteMove, sends, enables, switches, empties, write_lasts}
 use Rattle.uart_chip.specs.Machine.{MachineState, MachineStep, perform, before_access, before_mark, at_access}
 
@@ -24,7 +25,7 @@ pub record LastsInAccesses (P : TransmitterState → Type 0) : Type 0 where
 -- and it lasts in a tick
 pub record Lasts (P : TransmitterState → Type 0) : Type 0 where
   pub in_accesses : LastsInAccesses P
-  pub in_tick : (loopback : Bool) (t : TransmitterState) → P t → P (transmitter.tick loopback t)
+  pub in_tick : (loopback held_off : Bool) (t : TransmitterState) → P t → P (transmitter.tick loopback held_off t)
 
 -- an access that sends nothing: a read, or a write of another register than that of the data
 abbrev pub SendsNothing : Access → Type 0
@@ -101,11 +102,12 @@ module _ (P : ChipState → Type 0) (w : LastsInEvents P) where
 
 -- ---- events, for the transmitter, and accesses after them
 
-module _ (P : TransmitterState → Type 0) (in_tick : (loopback : Bool) (t : TransmitterState) → P t → P (transmitter.tick loopback t)) where
+module _ (P : TransmitterState → Type 0)
+    (in_tick : (loopback held_off : Bool) (t : TransmitterState) → P t → P (transmitter.tick loopback held_off t)) where
   -- no event from outside reaches the transmitter
   in_events : LastsInEvents (λ c. P c.transmitter)
   in_events = record {
-    in_tick = λ c p. in_tick (is_loopback c.latches) c.transmitter p;
+    in_tick = λ c p. in_tick (is_loopback c.latches) (is_held_off c) c.transmitter p;
     in_arrival = λ byte errors c p. p;
     in_lines = λ inputs c p. p;
   }

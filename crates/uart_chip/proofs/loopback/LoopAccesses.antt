@@ -6,6 +6,8 @@ use Rattle.uart_chip.specs.declared.receiver.Character.{Character}
 use Rattle.uart_spec.specs.Access.{Path}
 use Rattle.uart_spec.specs.declared.access.Access.{Access}
 use Rattle.uart_spec.specs.declared.access.Access.TheVariants.{Read, Write}
+use Rattle.uart_spec.specs.Bits.{has_any}
+use Rattle.uart_spec.specs.declared.registers.modem_control.TheConstants.MCR
 use Rattle.uart_spec.specs.declared.registers.offsets.TheConstants as offsets
 use Rattle.uart_spec.specs.declared.setup.FifoSize.TheVariants.{Sixteen}
 use Rattle.uart_chip.specs.Transmitter.{TransmitterState, load, room}
@@ -19,10 +21,11 @@ use Rattle.uart_chip.proofs.conservation.Went.{Modes, IsIn, fixed_in, dlab, dlab
 use Rattle.uart_chip.proofs.loopback.Loops.{line_of, line_in, Carries, carries-refl, Loops, loops-trans, loops-still, loops-refl}
 use Rattle.uart_chip.proofs.loopback.Loops.{line-length, Fits, fits-after, loops_before}
 
--- these modes are those of a loopback test: loopback is set, and DLAB is not
+-- these modes are those of a loopback test: loopback is set, and DLAB and automatic flow control are not
 pub record IsLooped (x : Modes) : Type 0 where
   pub dlab : dlab x ≡ false
   pub loopback : loopback x ≡ true
+  pub goes_on : has_any x.mcr MCR._RESERVED0.0 ≡ false
 
 -- ---- effects on the chip
 

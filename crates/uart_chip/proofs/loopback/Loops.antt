@@ -10,7 +10,7 @@ use Rattle.uart_chip.specs.Transmitter as transmitter
 use Rattle.uart_chip.specs.Transmitter.{TransmitterState, shift, looped_byte, refill, room, held}
 use Rattle.uart_chip.specs.Receiver as receiver
 use Rattle.uart_chip.specs.Receiver.{ReceiverState, come_back, waiting}
-use Rattle.uart_chip.specs.Chip.{ChipState, cut_of, is_loopback, tick, ticks, arrive, change_lines}
+use Rattle.uart_chip.specs.Chip.{ChipState, cut_of, is_loopback, is_held_off, tick, ticks, arrive, change_lines}
 use Rattle.uart_chip.specs.Machine.{perform, before_access}
 use Rattle.uart_chip.proofs.conservation.Went.{Modes, IsIn, loopback, loopback-in}
 
@@ -77,14 +77,17 @@ carries_refill None (x ∷ []) t r e f =
 carries_refill None (x ∷ y ∷ xs) t r e f =
     record { line = rw (e, f) refl; wire = refl; place = rw f (omega arith); fuller = omega arith; size = refl }
 
-carries_tick : (fifo : Bool) (t : TransmitterState) (r : ReceiverState) → length (line_of t r) ≤ room fifo r.size →
-    Carries t (transmitter.tick true t) r (receiver.tick fifo (looped_byte true t.shift_register) r)
-carries_tick fifo t r h =
+carries_tick : (fifo held_off : Bool) (t : TransmitterState) (r : ReceiverState) → length (line_of t r) ≤ room fifo r.size →
+    Carries t (transmitter.tick true held_off t) r (receiver.tick fifo (looped_byte true t.shift_register) r)
+carries_tick fifo true t r h =
+    let a = carries_shift fifo t.shift_register t r refl h in
+    record { line = a.line; wire = a.wire; place = a.place; fuller = a.fuller; size = a.size }
+carries_tick fifo false t r h =
     let u : TransmitterState = shift true t.shift_register t in
     let s : ReceiverState = come_back fifo (looped_byte true t.shift_register) r in
     let a : Carries t u r s = carries_shift fifo t.shift_register t r refl h in
-    let b : Carries t (transmitter.tick true t) r s =
-    carries-trans t u (transmitter.tick true t) r s s a (carries_refill u.shift_register u.queue u s refl refl) in
+    let b : Carries t (transmitter.tick true false t) r s =
+    carries-trans t u (transmitter.tick true false t) r s s a (carries_refill u.shift_register u.queue u s refl refl) in
     record { line = b.line; wire = b.wire; place = b.place; fuller = b.fuller; size = b.size }
 
 -- ---- a stretch in loopback
@@ -148,17 +151,17 @@ loops_tick x c l f =
     let few : length (line_in c) ≤ room c.fifo c.receiver.size = rw f.modes.fifo f.few in
     rw (in_loopback (loopback-in x c f.modes ∙ l))
     (loops-still x c _ (record { lcr = f.modes.lcr; mcr = f.modes.mcr; fifo = f.modes.fifo; cut = f.modes.cut })
-    (carries_tick c.fifo c.transmitter c.receiver few))
+    (carries_tick c.fifo (is_held_off c) c.transmitter c.receiver few))
   where
     in_loopback : is_loopback c.latches ≡ true →
         tick c ≡
         record c {
-          transmitter = transmitter.tick true c.transmitter;
+          transmitter = transmitter.tick true (is_held_off c) c.transmitter;
           receiver = receiver.tick c.fifo (looped_byte true c.transmitter.shift_register) c.receiver;
         }
     in_loopback e =
         ap (λ (b : Bool). record c {
-          transmitter = transmitter.tick b c.transmitter;
+          transmitter = transmitter.tick b (is_held_off c) c.transmitter;
           receiver = receiver.tick c.fifo (looped_byte b c.transmitter.shift_register) c.receiver;
         }) e
 

@@ -18,10 +18,11 @@ use Rattle.uart_spec.specs.declared.registers.modem_status.TheConstants.MSR
 use Rattle.uart_chip.specs.Receiver.{mark_at}
 use Rattle.uart_chip.specs.Chip as chip
 use Rattle.uart_chip.specs.Chip.{ChipState}
-use Rattle.uart_chip.specs.Machine.{MachineState, arrivals, fresh, cutting, sized}
+use Rattle.uart_chip.specs.Machine.{MachineState, arrivals, fresh, cutting, flowing, sized}
 use Rattle.uart_spec.specs.declared.setup.FifoSize.{FifoSize}
 use Rattle.uart_events.specs.Build.{is_arrival, has_bad_errors, has_bad_lines, refusal}
 use Rattle.uart_chip.specs.Sound.{AllLegal, IsWhole}
+use Rattle.uart_chip.proofs.McrBits.{within_flowing}
 
 pub arrivals-count : (events : List Event) → arrivals events ≡ count_by is_arrival events
 arrivals-count events = is_count_by arrivals is_arrival refl next events
@@ -125,6 +126,28 @@ whole_cutting cuts m w = record {
       transmitter = w.sound.chip.transmitter;
       modem = w.sound.chip.modem;
       latches = w.sound.chip.latches;
+      implemented = w.sound.chip.implemented;
+      sizes = w.sound.chip.sizes;
+      limit = w.sound.chip.limit;
+    };
+    foreseen = w.sound.foreseen;
+    legal = w.sound.legal;
+  };
+  bytes = w.bytes;
+}
+
+-- with automatic flow control MCR keeps one bit more
+pub whole_flowing : (m : MachineState) → IsWhole m → IsWhole (flowing true m)
+whole_flowing m w = record {
+  sound = record {
+    chip = record {
+      receiver = w.sound.chip.receiver;
+      transmitter = w.sound.chip.transmitter;
+      modem = w.sound.chip.modem;
+      latches = record {
+        ier = w.sound.chip.latches.ier;
+        mcr = within_flowing m.chip.auto_flow m.chip.latches.mcr w.sound.chip.latches.mcr;
+      };
       implemented = w.sound.chip.implemented;
       sizes = w.sound.chip.sizes;
       limit = w.sound.chip.limit;

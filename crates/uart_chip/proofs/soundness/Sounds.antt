@@ -14,17 +14,19 @@ use Rattle.uart_spec.specs.declared.registers.fifo_control.TheConstants.FCR
 use Rattle.uart_spec.specs.declared.registers.line_status.TheConstants.LSR
 use Rattle.uart_spec.specs.declared.registers.modem_status.TheConstants.MSR
 use Rattle.uart_spec.specs.declared.registers.offsets.TheConstants as offsets
-use Rattle.uart_chip.specs.Masks.{ier_bits, mcr_bits}
+use Rattle.uart_chip.specs.Masks.{ier_bits, mcr_bits_of, kept_mcr}
 use Rattle.uart_chip.specs.declared.transmitter.Shifting.{Shifting}
 use Rattle.uart_chip.specs.Transmitter as transmitter
 use Rattle.uart_chip.specs.Transmitter.{TransmitterState, looped_byte, load}
 use Rattle.uart_chip.specs.Receiver as receiver
 use Rattle.uart_chip.specs.Receiver.{ReceiverState, take_front, report, clear}
-use Rattle.uart_chip.specs.Chip.{LatchesState, ChipState, cut_of, is_dlab_set, is_loopback, tick, ticks, arrive, change_lines, interrupt}
+use Rattle.uart_chip.specs.Chip.{LatchesState, ChipState, cut_of, is_dlab_set, is_loopback, is_held_off, tick, ticks, arrive}
+use Rattle.uart_chip.specs.Chip.{change_lines, interrupt}
 use Rattle.uart_chip.specs.Chip.{is_thr_empty, after_read, after_write, trigger_level, switch, reset_receiver, reset_transmitter}
 use Rattle.uart_chip.specs.Chip.{set_trigger, is_same, set_fifo, control, with_latches, enable, control_modem}
 use Rattle.uart_chip.specs.Machine.{MachineState, MachineStep, arrivals, perform, at_access, at_mark}
 use Rattle.uart_chip.specs.Sound.{IsSoundTransmitter, IsSoundLatches, IsSoundChip, HoldBytes, AllLegal, IsSound, IsWhole}
+use Rattle.uart_chip.proofs.McrBits.{kept_within}
 use Rattle.uart_chip.proofs.soundness.Within.{within_and, within-le}
 use Rattle.uart_chip.proofs.soundness.ReceiverSounds.{Safe, safe_tick, safe_arrive, safe_take_front, safe_clear, sound_report}
 use Rattle.uart_chip.proofs.soundness.ReceiverSounds.{sound_trigger}
@@ -88,7 +90,8 @@ steady_transmitter c t w a e s = record {
 }
 
 -- the latches
-pub steady_latches : (c : ChipState) (l : LatchesState) → IsSoundChip c → IsSoundLatches l → Steady c.receiver.arrived c (with_latches l c)
+pub steady_latches : (c : ChipState) (l : LatchesState) → IsSoundChip c → IsSoundLatches c.auto_flow l →
+    Steady c.receiver.arrived c (with_latches l c)
 steady_latches c l w a = record {
   sound = record {
     receiver = w.receiver;
@@ -122,8 +125,9 @@ char_ticks-refill : (place : Option Shifting) (queue : List ℕ) (t : Transmitte
 char_ticks-refill None (x ∷ []) t = refl
 char_ticks-refill _ _ t = refl
 
-pub char_ticks-tick : (loopback : Bool) (t : TransmitterState) → (transmitter.tick loopback t).char_ticks ≡ t.char_ticks
-char_ticks-tick loopback t =
+pub char_ticks-tick : (loopback held_off : Bool) (t : TransmitterState) → (transmitter.tick loopback held_off t).char_ticks ≡ t.char_ticks
+char_ticks-tick loopback true t = char_ticks-shift loopback t.shift_register t
+char_ticks-tick loopback false t =
     let u : TransmitterState = transmitter.shift loopback t.shift_register t in
     char_ticks-refill u.shift_register u.queue u ∙ char_ticks-shift loopback t.shift_register t
 
@@ -145,8 +149,9 @@ size-refill : (place : Option Shifting) (queue : List ℕ) (t : TransmitterState
 size-refill None (x ∷ []) t = refl
 size-refill _ _ t = refl
 
-pub size-tick : (loopback : Bool) (t : TransmitterState) → (transmitter.tick loopback t).size ≡ t.size
-size-tick loopback t =
+pub size-tick : (loopback held_off : Bool) (t : TransmitterState) → (transmitter.tick loopback held_off t).size ≡ t.size
+size-tick loopback true t = size-shift loopback t.shift_register t
+size-tick loopback false t =
     let u : TransmitterState = transmitter.shift loopback t.shift_register t in
     size-refill u.shift_register u.queue u ∙ size-shift loopback t.shift_register t
 
@@ -157,9 +162,10 @@ steady_tick c w =
     let a : Steady c.receiver.arrived c (record c { receiver = receiver.tick c.fifo looped c.receiver }) =
     steady_receiver c.receiver.arrived c (receiver.tick c.fifo looped c.receiver) w (safe_tick c.fifo looped c.receiver w.receiver) in
     let b =
-    steady_transmitter (record c { receiver = receiver.tick c.fifo looped c.receiver }) (transmitter.tick loopback c.transmitter) a.sound
-    (sound_shift_tick c.fifo loopback c.transmitter w.transmitter) (char_ticks-tick loopback c.transmitter)
-    (size-tick loopback c.transmitter) in
+    steady_transmitter (record c { receiver = receiver.tick c.fifo looped c.receiver })
+    (transmitter.tick loopback (is_held_off c) c.transmitter) a.sound
+    (sound_shift_tick c.fifo loopback (is_held_off c) c.transmitter w.transmitter)
+    (char_ticks-tick loopback (is_held_off c) c.transmitter) (size-tick loopback (is_held_off c) c.transmitter) in
     record { sound = b.sound; number = a.number; known = a.known }
 
 pub steady_ticks : (n : ℕ) (c : ChipState) → IsSoundChip c → Steady c.receiver.arrived c (ticks n c)
@@ -259,13 +265,13 @@ steady_enable value c w = record {
 }
 
 steady_modem_control : (value : ℕ) (c : ChipState) → IsSoundChip c →
-    Steady c.receiver.arrived c (control_modem (bit_and value mcr_bits) c)
+    Steady c.receiver.arrived c (control_modem (kept_mcr c.auto_flow value) c)
 steady_modem_control value c w = record {
   sound = record {
     receiver = w.receiver;
     transmitter = w.transmitter;
-    modem = sound_renew (bit_and value mcr_bits) c.modem.inputs c.modem w.modem.inputs w.modem;
-    latches = record { ier = w.latches.ier; mcr = within_and value mcr_bits };
+    modem = sound_renew (kept_mcr c.auto_flow value) c.modem.inputs c.modem w.modem.inputs w.modem;
+    latches = record { ier = w.latches.ier; mcr = kept_within c.auto_flow value };
     implemented = w.implemented;
     sizes = w.sizes;
     limit = w.limit;
@@ -424,9 +430,13 @@ bytes-write offset value c v w =
     (bytes_if _ _ (offset == offsets.FCR) (bytes_same c.latches (control c.model value c).latches (latches-control c.model value c) w)
     (bytes_if _ _ (offset == offsets.LCR) (record { ier = w.ier; lcr = v; mcr = w.mcr; scr = w.scr; dll = w.dll; dlm = w.dlm })
     (bytes_if _ _ (offset == offsets.MCR)
-    (record { ier = w.ier; lcr = w.lcr; mcr = below value mcr_bits refl; scr = w.scr; dll = w.dll; dlm = w.dlm })
+    (record { ier = w.ier; lcr = w.lcr; mcr = below-kept c.auto_flow; scr = w.scr; dll = w.dll; dlm = w.dlm })
     (bytes_if _ _ (offset == offsets.SPR) (record { ier = w.ier; lcr = w.lcr; mcr = w.mcr; scr = v; dll = w.dll; dlm = w.dlm }) w)))))
   where
+    below-kept : (auto_flow : Bool) → kept_mcr auto_flow value < 256
+    below-kept true = let h = within-le (kept_mcr true value) (mcr_bits_of true) (kept_within true value) in omega (arith, h)
+    below-kept false = let h = within-le (kept_mcr false value) (mcr_bits_of false) (kept_within false value) in omega (arith, h)
+
     below : (value mask : ℕ) → nat_lt mask 256 ≡ true → bit_and value mask < 256
     below value mask e =
         let few : mask < 256 = grind (arith, common_steps) in

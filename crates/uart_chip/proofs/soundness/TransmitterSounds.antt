@@ -73,8 +73,10 @@ sound_refill fifo None (x ∷ y ∷ xs) t e w =
       on_wire = w.on_wire;
     }
 
-pub sound_tick : (fifo loopback : Bool) (t : TransmitterState) → IsSoundTransmitter fifo t → IsSoundTransmitter fifo (tick loopback t)
-sound_tick fifo loopback t w =
+pub sound_tick : (fifo loopback held_off : Bool) (t : TransmitterState) → IsSoundTransmitter fifo t →
+    IsSoundTransmitter fifo (tick loopback held_off t)
+sound_tick fifo loopback true t w = sound_shift fifo loopback t.shift_register t refl w
+sound_tick fifo loopback false t w =
     let u : TransmitterState = shift loopback t.shift_register t in
     sound_refill fifo u.shift_register u.queue u refl (sound_shift fifo loopback t.shift_register t refl w)
 

@@ -31,14 +31,17 @@ use Rattle.uart_chip.specs.Machine.{MachineState, MachineStep, at_access}
 use Rattle.uart_chip.specs.Sound.{IsSound}
 use Rattle.uart_calls.specs.Meaning.{init_answer}
 use Rattle.uart_run.specs.Run.{State, machine_of, CallStep}
-use Rattle.uart_run.specs.Progress.{HasDivisor, IsTimely, HasRoom, left}
+use Rattle.uart_run.specs.Progress.{HasDivisor, IsTimely, HasRoom, left, IsUnheld}
 use Rattle.uart_run.proofs.Latches.{Kept, kept_access}
 use Rattle.uart_chip.proofs.conservation.BlockLaws.{path_as}
 use Rattle.uart_run.proofs.Pieces.{then_parts, next_stages}
-use Rattle.uart_run.proofs.progress.Nearing.{RunsFree, free_runs, free-step, free-path, nearer-latch}
+use Rattle.uart_run.proofs.progress.Nearing.{RunsFree, free_runs, free-path, free-latch}
 use Rattle.uart_run.proofs.SilentLists.{IsSilent, silent_presence, silent_sets_fifo, silent_drains}
 use Rattle.uart_run.proofs.progress.WaitEnds.{no_stall-empty}
 use Rattle.uart_run.proofs.progress.Succeeds.{few_left}
+use Rattle.uart_spec.specs.declared.registers.modem_control.TheConstants.MCR
+use Rattle.uart_chip.proofs.AutoFlow.{cleared_off}
+use Rattle.uart_run.proofs.initialising.Inits.{begun}
 
 -- ---- up to the wait
 
@@ -50,7 +53,7 @@ free-line divisor frame m n r (m₁, s₁, (m₂, s₂, (m₃, under, (m₄, lat
     let lcr : m₃.chip.latches.lcr ≡ 128 = ap (λ (o : MachineState). o.chip.latches.lcr) under in
     let on : is_dlab_set (at_access m₃).chip.latches ≡ true = ap (λ (k : Kept). is_dlab_set k.latches) (kept_access m₃)
     ∙ ap (λ value. has_any value LCR.DLAB.0) lcr in
-    let b = free-step m₃ m₄ (Write offsets.DLL (divisor % 256)) a latch (nearer-latch m₃ m₄ (divisor % 256) (free_runs m₃ a) on latch) in
+    let b = free-latch m₃ m₄ (divisor % 256) a on latch in
     free-path (Write offsets.DLM (divisor / 256) ∷ Write offsets.LCR 0 ∷ Write offsets.LCR frame ∷ []) m₄ n b
     (refl, (refl, (refl, tt))) rest
 
@@ -149,7 +152,9 @@ no_stall-init s t config divisor fifo l w timely room does path =
     (record { sound = w; ticked = timely.ticked; room = room }) a.parts.first a.parts.before in
     let few : left n.chip.transmitter < a.mid.limit = rw (limit-begins config divisor fifo f a.mid a.parts.front a.parts.first)
     (few_left s a.parts.front n w timely a.parts.before) in
-    no_stall-empty (settings_of a.mid) a.mid.limit a.parts.back n (machine_of t) (free_runs n b) few a.parts.second.0 a.parts.after
+    let set = begun config divisor fifo f a.mid a.parts.front (machine_of s) n w a.parts.first a.parts.before in
+    let unheld : IsUnheld n = cleared_off n.chip (ap (λ (k : Kept). has_any k.latches.mcr MCR._RESERVED0.0) set.kept) in
+    no_stall-empty (settings_of a.mid) a.mid.limit a.parts.back n (machine_of t) (free_runs n unheld b) few a.parts.second.0 a.parts.after
 
 pub init_succeeds : (s t : State) (config : Config) (a : Answer) → IsSound (machine_of s) → IsTimely s → HasRoom 0 (machine_of s) →
     HasDivisor config → CallStep s (call.Init config) a t → a ≢ InitRefused DeviceNotPresent → a ≡ Done

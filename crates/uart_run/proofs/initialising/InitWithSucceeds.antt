@@ -1,6 +1,6 @@
 -- Where ticks come before each access, the spin limit is long enough and the wire has room, neither an `init_with` nor a
 -- `set_frame_when_idle` stalls.
-use Rattle.std.proofs.Common.{◌≡◌, ◌≢◌, ℕ, ◌<◌, Bool, true, false, inl, inr, List, [], ◌∷◌, ◌++◌, Result, Ok, Err, refl}
+use Rattle.std.proofs.Common.{◌≡◌, ◌≢◌, ℕ, ◌<◌, Bool, true, false, inl, inr, List, [], ◌∷◌, ◌++◌, Result, Ok, Err, refl, ◌&&◌}
 use Rattle.std.proofs.Common.{sym, ◌∙◌, ap, subst}
 use Rattle.uart_spec.specs.declared.config.Config.{Config}
 use Rattle.uart_spec.specs.declared.errors.FrameError.{FrameError}
@@ -27,7 +27,7 @@ use Rattle.uart_chip.specs.Machine.{MachineState, MachineStep}
 use Rattle.uart_chip.specs.Sound.{IsSound}
 use Rattle.uart_calls.specs.Meaning.{init_answer, frame_when_idle_answer}
 use Rattle.uart_run.specs.Run.{State, machine_of, CallStep}
-use Rattle.uart_run.specs.Progress.{HasDivisor, IsTimely, HasRoom, left}
+use Rattle.uart_run.specs.Progress.{HasDivisor, IsTimely, HasRoom, left, IsUnheld, StaysUnheld}
 use Rattle.uart_chip.proofs.conservation.BlockLaws.{path_as}
 use Rattle.uart_run.proofs.ListsInTurn.{all_only, all_then, all_few}
 use Rattle.uart_run.proofs.Pieces.{then_parts, next_stages}
@@ -36,6 +36,15 @@ use Rattle.uart_run.proofs.SilentLists.{IsSilent, silence, silent_asks, silent_p
 use Rattle.uart_run.proofs.progress.WaitEnds.{no_stall-empty}
 use Rattle.uart_run.proofs.progress.Succeeds.{few_left, runs, settings_at}
 use Rattle.uart_run.proofs.initialising.InitSucceeds.{free-line, free-list, free-drained, free-sets, no_refusal}
+use Rattle.uart_spec.specs.declared.registers.modem_control.TheConstants.MCR
+use Rattle.uart_spec.specs.Bits.{has_any}
+use Rattle.uart_chip.specs.Masks.{kept_mcr}
+use Rattle.uart_chip.proofs.AutoFlow.{cleared_off}
+use Rattle.uart_chip.proofs.Bits.{has_and}
+use Rattle.uart_chip.proofs.McrBits.{flow_bit}
+use Rattle.uart_chip.proofs.soundness.Sounds.{sound_path}
+use Rattle.uart_run.proofs.Latches.{Kept, flow_path}
+use Rattle.uart_run.proofs.initialising.SetUp.{checks_if, placed}
 
 -- ---- what comes before a wait
 
@@ -76,6 +85,19 @@ limit-set setup config divisor fifo f mid l t =
     let d = c.second in
     ap at d.second.1 ∙ (ap at d.first.1 ∙ (ap at c.first.1 ∙ ap at t.first.1))
 
+-- the bit of automatic flow control is not kept
+outputs_off : (f : Bool) (outputs : ℕ) → (f && has_any outputs MCR._RESERVED0.0) ≡ false →
+    has_any (kept_mcr f (unlooped outputs)) MCR._RESERVED0.0 ≡ false
+outputs_off f outputs e =
+    flow_bit f (unlooped outputs) ∙ (ap (λ (b : Bool). b && f) (has_and 5 outputs 239 refl)
+    ∙ swapped f (has_any outputs MCR._RESERVED0.0) e)
+  where
+    swapped : (a b : Bool) → (a && b) ≡ false → (b && a) ≡ false
+    swapped true true e = e
+    swapped true false e = refl
+    swapped false true e = refl
+    swapped false false e = refl
+
 -- ---- waits in vain
 
 vain : (asked : Bool) (v : Settings) (l : List Access) (m n : MachineState) → Runs m → left m.chip.transmitter < v.limit →
@@ -92,10 +114,10 @@ after_sets change H f after l m n t path next =
     next t.mid t.back t.first.1 t.second (path_as m n l t.back whole path)
 
 no_stall-first : (setup : Setup) (config : Config) (s t : State) (l : List Access) → IsSound (machine_of s) → IsTimely s →
-    HasRoom 0 (machine_of s) →
+    IsUnheld (machine_of s) → HasRoom 0 (machine_of s) →
     Next (Sets (with_config config)) (Saving (Looks setup false)) (fields (inner_of s)) l (fields (inner_of t)) →
     Path MachineStep (machine_of s) l (machine_of t) → ⊥
-no_stall-first setup config s t l w timely room does path =
+no_stall-first setup config s t l w timely unheld room does path =
     after_sets (with_config config) (Saving (Looks setup false)) (fields (inner_of s)) (fields (inner_of t)) l (machine_of s) (machine_of t)
     does path looks
   where
@@ -110,14 +132,17 @@ no_stall-first setup config s t l w timely room does path =
         let few : left p.between.chip.transmitter < mid.limit =
         subst (λ (n : ℕ). left p.between.chip.transmitter < n) (sym (ap (λ (g : Fields). g.limit) same))
         (few_left s p.front p.between w timely p.before) in
-        vain (is_first setup.wait) v p.back p.between (machine_of t) (free_runs p.between r) few p.second p.after
+        let scratched = checks_if v asked p.front (machine_of s) p.between p.first p.before in
+        let still : IsUnheld p.between =
+        ap (λ (k : Kept). k.auto_flow && has_any k.latches.mcr MCR._RESERVED0.0) scratched.kept ∙ unheld in
+        vain (is_first setup.wait) v p.back p.between (machine_of t) (free_runs p.between still r) few p.second p.after
 
 no_stall-last : (setup : Setup) (config : Config) (divisor : ℕ) (fifo : Bool) (s t : State) (l : List Access) → IsSound (machine_of s) →
-    IsTimely s → HasRoom 0 (machine_of s) →
+    IsTimely s → StaysUnheld setup (machine_of s) → HasRoom 0 (machine_of s) →
     Next (Sets (with_config config)) (Next (Saving (Looks setup true))
     (Next (SetsUp setup config divisor fifo) (Saving (WaitsIf (is_last setup.wait) false)))) (fields (inner_of s)) l (fields (inner_of t)) →
     Path MachineStep (machine_of s) l (machine_of t) → ⊥
-no_stall-last setup config divisor fifo s t l w timely room does path =
+no_stall-last setup config divisor fifo s t l w timely unheld room does path =
     after_sets (with_config config) (Next (Saving (Looks setup true)) rest) (fields (inner_of s)) (fields (inner_of t)) l (machine_of s)
     (machine_of t) does path sets
   where
@@ -143,34 +168,43 @@ no_stall-last setup config divisor fifo s t l w timely room does path =
         subst (λ (n : ℕ). left c.parts.between.chip.transmitter < n) (sym limit)
         (few_left s (b.parts.front ++ c.parts.front) c.parts.between w timely
         (path_then MachineStep m b.parts.between c.parts.between b.parts.front c.parts.front b.parts.before c.parts.before)) in
-        vain (is_last setup.wait) (settings_of c.mid) c.parts.back c.parts.between n (free_runs c.parts.between set) few c.parts.second.0
-        c.parts.after
+        let begun = sound_path b.parts.front m b.parts.between w b.parts.before in
+        let put = placed setup config divisor fifo b.mid c.mid c.parts.front b.parts.between c.parts.between begun c.parts.first
+        c.parts.before in
+        let same = flow_path b.parts.front m b.parts.between b.parts.before in
+        let written = outputs_off b.parts.between.chip.auto_flow setup.outputs.0
+        (ap (λ (f : Bool). f && has_any setup.outputs.0 MCR._RESERVED0.0) same ∙ unheld.1) in
+        let off : IsUnheld c.parts.between = cleared_off c.parts.between.chip
+        (ap (λ (k : Kept). has_any k.latches.mcr MCR._RESERVED0.0) put.kept ∙ written) in
+        vain (is_last setup.wait) (settings_of c.mid) c.parts.back c.parts.between n (free_runs c.parts.between off set) few
+        c.parts.second.0 c.parts.after
 
 -- ---- `init_with`
 
 pub init_with_succeeds : (s t : State) (config : Config) (setup : Setup) (a : Answer) → IsSound (machine_of s) → IsTimely s →
-    HasRoom 0 (machine_of s) → HasDivisor config → CallStep s (call.InitWith config setup) a t → a ≢ InitRefused DeviceNotPresent →
-    a ≡ Done
-init_with_succeeds s t config setup a w timely room divisor h present = go h.outcome h.answered h.did.does
+    StaysUnheld setup (machine_of s) → HasRoom 0 (machine_of s) → HasDivisor config → CallStep s (call.InitWith config setup) a t →
+    a ≢ InitRefused DeviceNotPresent → a ≡ Done
+init_with_succeeds s t config setup a w timely unheld room divisor h present = go h.outcome h.answered h.did.does
   where
     go : (result : Result (Unit {0}) InitError) → a ≡ init_answer result →
         InitsWith setup config result (fields (inner_of s)) h.did.list (fields (inner_of t)) → a ≡ Done
     go (Ok x) e does = e
     go (Err (InvalidBaudRate cause)) e does = absurd (no_refusal config cause divisor does.0)
     go (Err DeviceNotPresent) e does = absurd (present e)
-    go (Err Stalled) e (other, of, inl does) = absurd (no_stall-first setup config s t h.did.list w timely room does h.did.path)
+    go (Err Stalled) e (other, of, inl does) = absurd (no_stall-first setup config s t h.did.list w timely unheld.0 room does h.did.path)
     go (Err Stalled) e (other, of, inr (fifo, does)) =
-        absurd (no_stall-last setup config other fifo s t h.did.list w timely room does h.did.path)
+        absurd (no_stall-last setup config other fifo s t h.did.list w timely unheld room does h.did.path)
 
 -- ---- `set_frame_when_idle`
 
 pub frame_when_idle_succeeds : (s t : State) (config : Config) (a : Answer) (l : List Access) (result : Result (Unit {0}) FrameError) →
-    IsSound (machine_of s) → IsTimely s → HasRoom 0 (machine_of s) → HasDivisor config → a ≡ frame_when_idle_answer result →
+    IsSound (machine_of s) → IsTimely s → IsUnheld (machine_of s) → HasRoom 0 (machine_of s) → HasDivisor config →
+    a ≡ frame_when_idle_answer result →
     SetsFrameWhenIdle config result (fields (inner_of s)) l (fields (inner_of t)) → Path MachineStep (machine_of s) l (machine_of t) →
     a ≡ Done
-frame_when_idle_succeeds s t config a l (Ok x) w timely room divisor e does path = e
-frame_when_idle_succeeds s t config a l (Err (frame_error.InvalidBaudRate cause)) w timely room divisor e does path =
+frame_when_idle_succeeds s t config a l (Ok x) w timely unheld room divisor e does path = e
+frame_when_idle_succeeds s t config a l (Err (frame_error.InvalidBaudRate cause)) w timely unheld room divisor e does path =
     absurd (no_refusal config cause divisor does.0)
-frame_when_idle_succeeds s t config a l (Err frame_error.Stalled) w timely room divisor e (other, of, (waits, saved)) path =
-    absurd (no_stall-empty (settings_at s) (settings_at s).limit l (machine_of s) (machine_of t) (runs s w timely room)
+frame_when_idle_succeeds s t config a l (Err frame_error.Stalled) w timely unheld room divisor e (other, of, (waits, saved)) path =
+    absurd (no_stall-empty (settings_at s) (settings_at s).limit l (machine_of s) (machine_of t) (runs s w timely unheld room)
     (few_left s [] (machine_of s) w timely refl) waits path)

@@ -98,6 +98,7 @@ record Lined (config : Config) (d : ℕ) (on : Bool) (m n : MachineState) : Type
     fifo = on;
     model = m.chip.model;
     cuts = m.chip.cuts;
+    auto_flow = m.chip.auto_flow;
   }
   pub is_on : on ≡ (is_level config.fifo_trigger_level && has_fifo m.chip.model)
 
@@ -146,7 +147,13 @@ drained_wired outputs f after l m n t p =
 -- the chip is set up, outside of loopback, and the driver takes the FIFO to be as it is
 pub record Begun (config : Config) (d : ℕ) (on : Bool) (m n : MachineState) (after : Fields) : Type 0 where
   pub scr : ℕ
-  pub kept : kept_in n.chip ≡ record { latches = set_up config d raised_outputs scr; fifo = on; model = m.chip.model; cuts = m.chip.cuts }
+  pub kept : kept_in n.chip ≡ record {
+    latches = set_up config d raised_outputs scr;
+    fifo = on;
+    model = m.chip.model;
+    cuts = m.chip.cuts;
+    auto_flow = m.chip.auto_flow;
+  }
   pub is_on : on ≡ (is_level config.fifo_trigger_level && has_fifo m.chip.model)
   pub knows : after.fifo ≡ on
   pub wired : IsWiredChip n.chip
@@ -176,6 +183,7 @@ begun config d on f after l m n w t p =
           fifo = on;
           model = m₁.chip.model;
           cuts = m₁.chip.cuts;
+          auto_flow = m₁.chip.auto_flow;
         } =
         ap (λ (o : MachineState). kept_in o.chip) still ∙ line.kept in
         let last = rest (ap (λ (k : Kept). is_dlab_set k.latches) set ∙ frame-dlab config) in
@@ -184,6 +192,7 @@ begun config d on f after l m n w t p =
           fifo = on;
           model = m₁.chip.model;
           cuts = m₁.chip.cuts;
+          auto_flow = m₁.chip.auto_flow;
         } = last.kept ∙ ap (kept_after (Write offsets.MCR raised_outputs ∷ [])) set in
         record {
           scr = line.scr;
@@ -195,6 +204,7 @@ begun config d on f after l m n w t p =
                 fifo = on;
                 model = o.chip.model;
                 cuts = o.chip.cuts;
+                auto_flow = o.chip.auto_flow;
               }) same;
           is_on = line.is_on ∙ ap (λ (o : MachineState). is_level config.fifo_trigger_level && has_fifo o.chip.model) same;
           knows = last.knows ∙ knows;

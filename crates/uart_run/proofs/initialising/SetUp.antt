@@ -25,7 +25,7 @@ use Rattle.uart_16550.specs.Tty.{inner_of}
 use Rattle.uart_events.specs.declared.call.Call.TheVariants as call
 use Rattle.uart_events.specs.declared.call.Answer.{Answer}
 use Rattle.uart_calls.specs.Meaning.{init_answer}
-use Rattle.uart_chip.specs.Masks.{ier_bits, mcr_bits}
+use Rattle.uart_chip.specs.Masks.{ier_bits, kept_mcr}
 use Rattle.uart_chip.specs.Chip.{is_dlab_set, divisor}
 use Rattle.uart_chip.specs.Machine.{MachineState, MachineStep}
 use Rattle.uart_chip.specs.Sound.{IsSound}
@@ -68,11 +68,11 @@ waits_if s false true = all_only reading s [] (λ k. refl)
 waits_if s false false = λ l t. absurd t
 
 -- the scratch register alone may have changed
-record Scratched (m n : MachineState) : Type 0 where
+pub record Scratched (m n : MachineState) : Type 0 where
   pub scr : ℕ
   pub kept : kept_in n.chip ≡ record (kept_in m.chip) { latches = record m.chip.latches { scr = scr } }
 
-checks_if : (s : Settings) (asked : Bool) (l : List Access) (m n : MachineState) → ChecksIf asked true s l → Path MachineStep m l n →
+pub checks_if : (s : Settings) (asked : Bool) (l : List Access) (m n : MachineState) → ChecksIf asked true s l → Path MachineStep m l n →
     Scratched m n
 checks_if s true l m n t p =
     let c = checked s l t in record { scr = c.scr; kept = kept_path l m n p ∙ c.kept (kept_in m.chip) }
@@ -105,24 +105,25 @@ never_missing s false l m n t p = absurd t
 -- ---- up to MCR
 
 -- the outputs as MCR keeps them
-abbrev kept_outputs : Setup → ℕ
-kept_outputs setup = bit_and (unlooped setup.outputs.0) mcr_bits
+abbrev pub kept_outputs : Bool → Setup → ℕ
+kept_outputs auto_flow setup = kept_mcr auto_flow (unlooped setup.outputs.0)
 
 -- the chip is set up, outside of loopback, and the driver takes the FIFO to be as it is; an empty transmitter stays
 -- empty
-record Placed (setup : Setup) (config : Config) (d : ℕ) (on : Bool) (m n : MachineState) (after : Fields) : Type 0 where
+pub record Placed (setup : Setup) (config : Config) (d : ℕ) (on : Bool) (m n : MachineState) (after : Fields) : Type 0 where
   pub kept : kept_in n.chip ≡ record {
-    latches = set_up config d (kept_outputs setup) m.chip.latches.scr;
+    latches = set_up config d (kept_outputs m.chip.auto_flow setup) m.chip.latches.scr;
     fifo = on;
     model = m.chip.model;
     cuts = m.chip.cuts;
+    auto_flow = m.chip.auto_flow;
   }
   pub is_on : on ≡ (is_level config.fifo_trigger_level && has_fifo m.chip.model)
   pub knows : after.fifo ≡ on
   pub wired : IsWiredChip n.chip
   pub empty : IsEmpty m.chip.transmitter → IsEmpty n.chip.transmitter
 
-placed : (setup : Setup) (config : Config) (d : ℕ) (on : Bool) (f after : Fields) (l : List Access) (m n : MachineState) → IsSound m →
+pub placed : (setup : Setup) (config : Config) (d : ℕ) (on : Bool) (f after : Fields) (l : List Access) (m n : MachineState) → IsSound m →
     SetsUp setup config d on f l after → Path MachineStep m l n → Placed setup config d on m n after
 placed setup config d on f after l m n w t p =
     let line : List Access = line_writes d (frame_bits config) in
@@ -145,6 +146,7 @@ placed setup config d on f after l m n w t p =
       fifo = on;
       model = m.chip.model;
       cuts = m.chip.cuts;
+      auto_flow = m.chip.auto_flow;
     } = ap (λ (o : MachineState). kept_in o.chip) sets ∙ (set.kept ∙ ap (λ (k : Kept). record k { fifo = on }) first) in
     let last = drained outputs b.mid after b.parts.back b.parts.between n
     (ap (λ (k : Kept). is_dlab_set k.latches) begun ∙ frame-dlab config) b.parts.second b.parts.after in
@@ -168,15 +170,16 @@ placed setup config d on f after l m n w t p =
 abbrev last : Setup → Config → ℕ → ℕ → Bool → Kept → Kept
 last setup config d scr on k =
     record k {
-      latches = record (set_up config d (kept_outputs setup) scr) { ier = bit_and config.interrupts.0 ier_bits };
+      latches = record (set_up config d (kept_outputs k.auto_flow setup) scr) { ier = bit_and config.interrupts.0 ier_bits };
       fifo = on;
     }
 
 enabled : (setup : Setup) (config : Config) (d scr : ℕ) (on : Bool) (k : Kept) →
-    kept_after (Write offsets.IER config.interrupts.0 ∷ []) (record k { latches = set_up config d (kept_outputs setup) scr; fifo = on }) ≡
+    kept_after (Write offsets.IER config.interrupts.0 ∷ [])
+    (record k { latches = set_up config d (kept_outputs k.auto_flow setup) scr; fifo = on }) ≡
     last setup config d scr on k
 enabled setup config d scr on k =
-    let begun : Kept = record k { latches = set_up config d (kept_outputs setup) scr; fifo = on } in
+    let begun : Kept = record k { latches = set_up config d (kept_outputs k.auto_flow setup) scr; fifo = on } in
     ap (λ (b : Bool). if b then record begun { latches = record begun.latches { dlm = config.interrupts.0 } }
     else last setup config d scr on k) (frame-dlab config)
 
@@ -186,12 +189,13 @@ arranged : (setup : Setup) (config : Config) (d scr : ℕ) (on : Bool) (k : Kept
     (fields (inner_of t)).fifo ≡ on → IsWired t → (setup.wait ≢ NoWait → IsEmpty (machine_of t).chip.transmitter) →
     IsSetUp setup config t
 arranged setup config d scr on k t of kept is_on knows wired empty = record {
-  ready = ready_by t (last setup config d scr on k) kept (frame-dlab config) (unlooped_off setup.outputs.0) knows;
+  ready = ready_by t (last setup config d scr on k) kept (frame-dlab config) (unlooped_off k.auto_flow setup.outputs.0) knows;
   unbroken = ap (λ (v : Kept). has_any v.latches.lcr LCR.SET_BREAK.0) kept ∙ frame-unbroken config;
   wired = wired;
   divisor_latch = subst (λ n. DivisorOf config (Ok n)) (sym (ap (λ (v : Kept). divisor v.latches) kept ∙ div-add-mod d 256)) of;
   lcr = ap (λ (v : Kept). v.latches.lcr) kept;
-  mcr = ap (λ (v : Kept). v.latches.mcr) kept;
+  mcr = ap (λ (v : Kept). v.latches.mcr) kept
+      ∙ ap (λ (f : Bool). kept_outputs f setup) (sym (ap (λ (v : Kept). v.auto_flow) kept));
   ier = ap (λ (v : Kept). v.latches.ier) kept;
   is_empty = empty;
   fifo = ap (λ (v : Kept). v.fifo) kept ∙ (is_on ∙ sym (ap (λ (v : Kept). is_level config.fifo_trigger_level && has_fifo v.model) kept));
@@ -295,7 +299,7 @@ stalled_last setup config d on f l m t w does p =
     let put = placed setup config d on b.mid c.mid c.parts.front b.parts.between c.parts.between sound c.parts.first c.parts.before in
     let waited = kept_path c.parts.back c.parts.between n c.parts.after
     ∙ waits_if (settings_of c.mid) (is_last setup.wait) false c.parts.back c.parts.second.0 (kept_in c.parts.between.chip) in
-    ready_by t _ (waited ∙ put.kept) (frame-dlab config) (unlooped_off setup.outputs.0)
+    ready_by t _ (waited ∙ put.kept) (frame-dlab config) (unlooped_off b.parts.between.chip.auto_flow setup.outputs.0)
     (ap (λ (g : Fields). g.fifo) c.parts.second.1 ∙ put.knows)
 
 -- ---- whatever it answers

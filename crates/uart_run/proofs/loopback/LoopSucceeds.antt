@@ -1,5 +1,5 @@
 -- Where ticks come before each access, the spin limit is long enough and the wire has room, a loopback test does not stall.
-use Rattle.std.proofs.Common.{◌≡◌, ℕ, ◌<◌, Bool, true, false, ◌⊎◌, inl, inr, List, [], ◌∷◌, ◌++◌, length, append_assoc}
+use Rattle.std.proofs.Common.{◌≡◌, ℕ, ◌<◌, Bool, true, false, ◌⊎◌, inl, inr, List, [], ◌∷◌, ◌++◌, length, append_assoc, ◌&&◌}
 use Rattle.std.proofs.Common.{drop, None, Result, Ok, Err, refl, arith, sym, ◌∙◌, ap, subst, MatchBool}
 use Rattle.uart_spec.specs.declared.errors.LoopbackError.{LoopbackError}
 use Rattle.uart_spec.specs.declared.errors.LoopbackError.TheVariants.{Stalled}
@@ -26,7 +26,7 @@ use Rattle.uart_calls.specs.Meaning.{loopback_answer}
 use Rattle.uart_run.specs.Run.{State, machine_of, CallStep}
 use Rattle.uart_run.specs.Ready.{Ready, is_narrow, test_answer}
 use Rattle.uart_chip.specs.Chip.{cut_of}
-use Rattle.uart_run.specs.Progress.{IsTimely, HasRoom}
+use Rattle.uart_run.specs.Progress.{IsTimely, HasRoom, IsUnheld}
 use Rattle.uart_chip.proofs.conservation.Went.{Modes}
 use Rattle.uart_chip.proofs.conservation.BlockLaws.{path_as}
 use Rattle.uart_run.proofs.CallBlocks.{Makes, makes_then, makes_reads, awaited_blocks, round_blocks, sends_all_blocks, try_sends_blocks}
@@ -38,6 +38,9 @@ use Rattle.uart_run.proofs.loopback.LoopTests.{tested, IsBegun, begun, looped_mo
 use Rattle.uart_run.proofs.progress.Nearing.{RunsFree, free_runs, free-path}
 use Rattle.uart_run.proofs.progress.WaitEnds.{no_stall-empty}
 use Rattle.uart_run.proofs.progress.Succeeds.{few_left}
+use Rattle.uart_spec.specs.declared.registers.modem_control.TheConstants.MCR
+use Rattle.uart_spec.specs.Bits.{has_any}
+use Rattle.uart_run.proofs.Latches.{Kept, kept_list}
 
 -- ---- the byte
 
@@ -152,18 +155,23 @@ no_stall-test cut gone mcr ier f after l m n v b (before, fifo, t) path =
     (subst (λ limit. Lives limit a.parts.between) same w) e c.parts.first.0 c.parts.before
 
 pub no_stall-begin : (s : State) (n : MachineState) (mcr ier : ℕ) (l : List Access) → IsSound (machine_of s) → IsTimely s →
-    HasRoom 0 (machine_of s) → BeginsTest mcr ier false (settings_of (fields (inner_of s))) l → Path MachineStep (machine_of s) l n → ⊥
-no_stall-begin s n mcr ier l w timely room t path =
+    IsUnheld (machine_of s) → HasRoom 0 (machine_of s) → BeginsTest mcr ier false (settings_of (fields (inner_of s))) l →
+    Path MachineStep (machine_of s) l n → ⊥
+no_stall-begin s n mcr ier l w timely unheld room t path =
     let v = settings_of (fields (inner_of s)) in
     let p = then_parts (Only (Read offsets.MCR mcr ∷ Read offsets.IER ier ∷ [])) (WaitsFor LSR.TRANSMITTER_EMPTY.0 false) v l
     (machine_of s) n t path in
     let r : RunsFree (machine_of s) = record { sound = w; ticked = timely.ticked; room = room } in
     let a = free-path p.front (machine_of s) p.between r (rw p.first.is (tt, (tt, tt))) p.before in
-    no_stall-empty v v.limit p.back p.between n (free_runs p.between a) (few_left s p.front p.between w timely p.before) p.second p.after
+    let only = Read offsets.MCR mcr ∷ Read offsets.IER ier ∷ [] in
+    let still : IsUnheld p.between = ap (λ (k : Kept). k.auto_flow && has_any k.latches.mcr MCR._RESERVED0.0)
+    (kept_list p.front only (machine_of s) p.between p.first.is p.before) ∙ unheld in
+    no_stall-empty v v.limit p.back p.between n (free_runs p.between still a)
+    (few_left s p.front p.between w timely p.before) p.second p.after
 
-pub test_succeeds : (s t : State) (a : Answer) → IsSound (machine_of s) → Ready s → IsTimely s → HasRoom 0 (machine_of s) →
-    CallStep s call.TestLoopback a t → a ≡ test_answer (is_narrow (machine_of s).chip)
-test_succeeds s t a w ready timely room h = go (tested s t a w ready h).answers
+pub test_succeeds : (s t : State) (a : Answer) → IsSound (machine_of s) → Ready s → IsTimely s → IsUnheld (machine_of s) →
+    HasRoom 0 (machine_of s) → CallStep s call.TestLoopback a t → a ≡ test_answer (is_narrow (machine_of s).chip)
+test_succeeds s t a w ready timely unheld room h = go (tested s t a w ready h).answers
   where
     f : Fields
     f = fields (inner_of s)
@@ -173,7 +181,7 @@ test_succeeds s t a w ready timely room h = go (tested s t a w ready h).answers
         begins (subst (λ (r : Result (Unit {0}) LoopbackError). TestsLoopback r f h.did.list (fields (inner_of t))) e does)
       where
         begins : TestsLoopback {T = Unit {0}} (Err Stalled) f h.did.list (fields (inner_of t)) → ⊥
-        begins (mcr, ier, inl k) = no_stall-begin s (machine_of t) mcr ier h.did.list w timely room k.1.0 h.did.path
+        begins (mcr, ier, inl k) = no_stall-begin s (machine_of t) mcr ier h.did.list w timely unheld room k.1.0 h.did.path
         begins (mcr, ier, inr k) =
             let c = next_stages (Saving (BeginsTest mcr ier true)) (Tests {T = Unit {0}} mcr ier (Err Stalled)) f (fields (inner_of t))
             h.did.list (machine_of s) (machine_of t) k h.did.path in

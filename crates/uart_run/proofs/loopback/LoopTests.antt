@@ -104,7 +104,7 @@ pub in_loopback : (cut : ℕ → ℕ) (gone : List ℕ) (level : Option FifoTrig
 in_loopback cut gone level before fifo f after l m n b t path =
     let e = entered level before fifo f after l m n b.sound b.dlab t path in
     record {
-      looped = record { dlab = b.dlab; loopback = refl };
+      looped = record { dlab = b.dlab; loopback = refl; goes_on = refl };
       fifo = e.knows;
       modes =
           record {

@@ -4,7 +4,7 @@ use Rattle.std.proofs.Common.{◌++◌, length, append-nil, map, Option, None, r
 use Rattle.std.proofs.lemmas.Grind.{common_steps}
 use Rattle.std.proofs.lemmas.Bool.{lt-ltb}
 use Rattle.std.proofs.lemmas.List.{length-map}
-use Rattle.uart_spec.specs.Bits.{has}
+use Rattle.uart_spec.specs.Bits.{has, has_any}
 use Rattle.uart_spec.specs.declared.registers.offsets.TheConstants as offsets
 use Rattle.uart_spec.specs.declared.registers.line_status.TheConstants.LSR
 use Rattle.uart_spec.specs.Access.{Path}
@@ -20,7 +20,7 @@ use Rattle.uart_spec.specs.FifoSize.{characters}
 use Rattle.uart_spec.specs.declared.setup.FifoSize.TheVariants.{Sixteen}
 use Rattle.uart_chip.specs.Transmitter.{room, out, shift_bytes}
 use Rattle.uart_chip.proofs.Sizes.{room_least, room_within}
-use Rattle.uart_chip.specs.Chip.{ChipState}
+use Rattle.uart_chip.specs.Chip.{ChipState, is_auto_flow}
 use Rattle.uart_chip.specs.Machine.{MachineState, MachineStep}
 use Rattle.uart_chip.specs.Sound.{IsSound}
 use Rattle.uart_run.specs.Progress.{IsTicked, left, most_held}
@@ -29,7 +29,7 @@ use Rattle.uart_chip.proofs.soundness.Sounds.{sound_path}
 use Rattle.uart_run.proofs.progress.Left.{exceeds, left-most}
 use Rattle.uart_run.proofs.progress.Nearing.{Runs, ticked-path}
 use Rattle.uart_chip.proofs.lasting.Constants.{same_pace}
-use Rattle.uart_chip.proofs.conservation.Went.{Modes, loopback-in}
+use Rattle.uart_chip.proofs.conservation.Went.{Modes, loopback-in, IsIn}
 use Rattle.uart_chip.proofs.conservation.BlockLaws.{look_data}
 use Rattle.uart_run.proofs.EmptyTransmitter.{IsSent, sent_shown}
 use Rattle.uart_run.proofs.CallBlocks.{InBlocks, Makes, blocks_none, blocks_then, hit_blocks}
@@ -39,6 +39,8 @@ use Rattle.uart_chip.proofs.loopback.LoopAccesses.{IsLooped, loops_read}
 use Rattle.uart_run.proofs.loopback.LoopBlocks.{loops_in_blocks}
 use Rattle.uart_run.proofs.loopback.LoopPhases.{IsEntered, IsReadyToTest, never_refused}
 use Rattle.uart_run.proofs.progress.WaitEnds.{Awaited, no_stall, all_empty}
+use Rattle.uart_spec.specs.declared.registers.modem_control.TheConstants.MCR
+use Rattle.uart_chip.proofs.AutoFlow.{cleared_off}
 
 -- a sound machine to which ticks come, and a limit that exceeds the ticks that its transmitter may take
 pub record Lives (limit : ℕ) (m : MachineState) : Type 0 where
@@ -60,6 +62,10 @@ left_and_more limit m v = exceeds m.chip.transmitter limit (left-most m.chip v.s
 
 pub few_left : (limit : ℕ) (m : MachineState) → Lives limit m → left m.chip.transmitter < limit
 few_left limit m v = let less = left_and_more limit m v in omega (arith, less)
+
+-- the modes of a loopback test have no automatic flow control
+pub looped_off : (x : Modes) (c : ChipState) → IsLooped x → IsIn x c → is_auto_flow c ≡ false
+looped_off x c i w = cleared_off c (ap (λ (v : ℕ). has_any v MCR._RESERVED0.0) w.mcr ∙ i.goes_on)
 
 -- ---- what is on its way comes back
 
@@ -121,6 +127,7 @@ never_dry x gone s L l m n ws rs v r few more makes t path =
       sound = w.sound;
       ticked = w.ticked;
       flows = λ off. absurd (cc (loopback-in x p.between.chip a.modes, r.looped.loopback, off));
+      off = looped_off x p.between.chip r.looped a.modes;
     } in
     no_stall (OnItsWay x) 1 (data_awaited x r.looped) s s.limit p.back p.between n runs on (few_left s.limit p.between w) p.second p.after
 

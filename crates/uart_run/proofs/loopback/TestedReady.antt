@@ -19,13 +19,13 @@ use Rattle.uart_16550.specs.Tty.{inner_of}
 use Rattle.uart_events.specs.declared.call.Call.TheVariants as call
 use Rattle.uart_events.specs.declared.call.Answer.{Answer}
 use Rattle.uart_spec.specs.Bits.{has_any}
-use Rattle.uart_chip.specs.Masks.{ier_bits, mcr_bits}
+use Rattle.uart_chip.specs.Masks.{ier_bits, kept_mcr}
 use Rattle.uart_chip.specs.Chip.{is_dlab_set}
 use Rattle.uart_chip.specs.Machine.{MachineState, MachineStep}
 use Rattle.uart_run.specs.Run.{State, machine_of, CallStep}
 use Rattle.uart_run.specs.Ready.{Ready, has_fifo, is_level}
 use Rattle.uart_chip.specs.Sound.{IsSound}
-use Rattle.uart_chip.proofs.Bits.{has_and}
+use Rattle.uart_chip.proofs.McrBits.{kept_bit}
 use Rattle.uart_chip.proofs.soundness.Sounds.{sound_path}
 use Rattle.uart_chip.proofs.conservation.BlockLaws.{path_as}
 use Rattle.uart_run.proofs.Latches.{Kept, kept_in, keep_write, kept_after, kept_list, kept_access, LeftBy}
@@ -101,11 +101,12 @@ leaving mcr ier now =
 
 -- what is kept after them
 abbrev pub restored : ℕ → ℕ → Kept → Kept
-restored mcr ier k = record k { latches = record k.latches { ier = bit_and ier ier_bits; mcr = bit_and mcr mcr_bits } }
+restored mcr ier k = record k { latches = record k.latches { ier = bit_and ier ier_bits; mcr = kept_mcr k.auto_flow mcr } }
 
 pub written_back : (mcr ier now : ℕ) (k : Kept) → is_dlab_set k.latches ≡ false → kept_after (leaving mcr ier now) k ≡ restored mcr ier k
 written_back mcr ier now k d =
-    ap (λ (b : Bool). if b then record k { latches = record k.latches { mcr = bit_and mcr mcr_bits; dlm = ier } } else restored mcr ier k) d
+    let shown : Kept = record k { latches = record k.latches { mcr = kept_mcr k.auto_flow mcr; dlm = ier } } in
+    ap (λ (b : Bool). if b then shown else restored mcr ier k) d
 
 pub leaves_list : (mcr ier before noted : ℕ) (f after : Fields) (l : List Access) (t : Leaves mcr ier before noted f l after) →
     l ≡ leaving mcr ier t.0
@@ -154,7 +155,7 @@ tests_ready result mcr ier f l m t w dlab no_loop (before, on, does) p =
         let dlab₁ : is_dlab_set m₁.chip.latches ≡ false = ap (λ (k : Kept). is_dlab_set k.latches) set ∙ dlab in
         let back = ap (kept_after (leaving mcr ier now)) (still dlab₁ ∙ set) ∙ written_back mcr ier now (looped on (kept_in m.chip)) dlab in
         ready_by t (restored mcr ier (looped on (kept_in m.chip))) (out.kept ∙ back) dlab
-        (has_and 4 mcr 31 refl ∙ no_loop) (out.knows ∙ knows)
+        (kept_bit m.chip.auto_flow 4 mcr refl refl ∙ no_loop) (out.knows ∙ knows)
 
 -- MCR is written back as it was
 pub tested_ready : (s t : State) (a : Answer) → IsSound (machine_of s) → CallStep s call.TestLoopback a t → Ready s → Ready t

@@ -50,7 +50,7 @@ nearer-refill (x ∷ y ∷ xs) t e f =
 
 -- after a shift that left the transmitter so
 nearer-shifted : (loopback : Bool) (t u : TransmitterState) → shift loopback t.shift_register t ≡ u →
-    Nearer 1 t (refill u.shift_register u.queue u) → Nearer 1 t (tick loopback t)
+    Nearer 1 t (refill u.shift_register u.queue u) → Nearer 1 t (tick loopback false t)
 nearer-shifted loopback t u e n = subst (λ (v : TransmitterState). Nearer 1 t (refill v.shift_register v.queue v)) (sym e) n
 
 -- a character has left its place, which is filled
@@ -83,7 +83,7 @@ nearer-freed s t u e last some f g c k h = go u.queue refl
 
 -- a character is shifted on, or leaves for the wire, where there is room, or comes back
 nearer-some : (loopback : Bool) (s : Shifting) (t : TransmitterState) → t.shift_register ≡ Some s → 1 ≤ s.ticks_left →
-    (loopback ≡ false → length (out t) ≤ t.capacity) → Nearer 1 t (tick loopback t)
+    (loopback ≡ false → length (out t) ≤ t.capacity) → Nearer 1 t (tick loopback false t)
 nearer-some loopback s t e some free = go (nat_lt 1 s.ticks_left) refl loopback refl
   where
     shifts : (u : TransmitterState) → shift loopback (Some s) t ≡ u → shift loopback t.shift_register t ≡ u
@@ -92,7 +92,7 @@ nearer-some loopback s t e some free = go (nat_lt 1 s.ticks_left) refl loopback 
     long : length (out t) ≡ length t.wire + suc (length t.queue)
     long = rw e (length-append t.wire (s.byte ∷ t.queue))
 
-    go : (more : Bool) → nat_lt 1 s.ticks_left ≡ more → (b : Bool) → loopback ≡ b → Nearer 1 t (tick loopback t)
+    go : (more : Bool) → nat_lt 1 s.ticks_left ≡ more → (b : Bool) → loopback ≡ b → Nearer 1 t (tick loopback false t)
     go true f b g =
         let u : TransmitterState = record t { shift_register = Some (record { byte = s.byte; ticks_left = s.ticks_left - 1 }) } in
         nearer-shifted loopback t u (shifts u (rw f refl)) (record {
@@ -112,18 +112,57 @@ nearer-some loopback s t e some free = go (nat_lt 1 s.ticks_left) refl loopback 
         nearer-shifted loopback t u (shifts u (rw (f, g, k) refl))
         (nearer-freed s t u e f some refl refl refl refl (rw long (simp length-append (omega arith))))
 
-nearer-none : (loopback : Bool) (t : TransmitterState) → t.shift_register ≡ None → Nearer 1 t (tick loopback t)
+nearer-none : (loopback : Bool) (t : TransmitterState) → t.shift_register ≡ None → Nearer 1 t (tick loopback false t)
 nearer-none loopback t e =
     nearer-shifted loopback t t (ap (λ place. shift loopback place t) e)
     (subst (λ (place : Option Shifting). Nearer 1 t (refill place t.queue t)) (sym e) (nearer-refill t.queue t e refl))
 
 pub nearer-tick : (fifo loopback : Bool) (t : TransmitterState) → IsSoundTransmitter fifo t →
-    (loopback ≡ false → length (out t) ≤ t.capacity) → Nearer 1 t (tick loopback t)
+    (loopback ≡ false → length (out t) ≤ t.capacity) → Nearer 1 t (tick loopback false t)
 nearer-tick fifo loopback t w free = go t.shift_register refl
   where
-    go : (place : Option Shifting) → t.shift_register ≡ place → Nearer 1 t (tick loopback t)
+    go : (place : Option Shifting) → t.shift_register ≡ place → Nearer 1 t (tick loopback false t)
     go None e = nearer-none loopback t e
     go (Some s) e = let ticking : IsTicking t.char_ticks (Some s) = rw e at w.ticking in nearer-some loopback s t e ticking.0 free
+
+-- ---- one tick, whether the transmitter is held off or not
+
+-- no more is to go out than was
+pub record NoLonger (t u : TransmitterState) : Type 0 where
+  pub no_longer : length (out u) ≤ length (out t)
+  pub capacity : u.capacity ≡ t.capacity
+
+no_longer-trans : (t u v : TransmitterState) → NoLonger t u → NoLonger u v → NoLonger t v
+no_longer-trans t u v a b = record { no_longer = omega (arith, a.no_longer, b.no_longer); capacity = b.capacity ∙ a.capacity }
+
+no_longer-shift : (loopback : Bool) (place : Option Shifting) (t : TransmitterState) → t.shift_register ≡ place →
+    NoLonger t (shift loopback place t)
+no_longer-shift loopback None t e = record { no_longer = omega arith; capacity = refl }
+no_longer-shift loopback (Some s) t e =
+    go (nat_lt 1 s.ticks_left) refl loopback refl (nat_lt (length t.wire) t.capacity) refl
+  where
+    long : length (out t) ≡ length t.wire + suc (length t.queue)
+    long = rw e (length-append t.wire (s.byte ∷ t.queue))
+
+    go : (more : Bool) → nat_lt 1 s.ticks_left ≡ more → (b : Bool) → loopback ≡ b → (room : Bool) →
+        nat_lt (length t.wire) t.capacity ≡ room → NoLonger t (shift loopback (Some s) t)
+    go true f b g room h = rw f (record { no_longer = rw long (simp length-append (omega arith)); capacity = refl })
+    go false f true g room h = rw (f, g) (record { no_longer = rw long (simp length-append (omega arith)); capacity = refl })
+    go false f false g true h = rw (f, g, h) (record { no_longer = rw long (simp length-append (omega arith)); capacity = refl })
+    go false f false g false h = rw (f, g, h) (record { no_longer = omega arith; capacity = refl })
+
+no_longer-refill : (place : Option Shifting) (queue : List ℕ) (t : TransmitterState) → t.shift_register ≡ place → t.queue ≡ queue →
+    NoLonger t (refill place queue t)
+no_longer-refill (Some s) queue t e f = record { no_longer = omega arith; capacity = refl }
+no_longer-refill None queue t e f =
+    let a = nearer-refill queue t e f in record { no_longer = a.no_longer; capacity = a.capacity }
+
+pub no_longer-tick : (loopback held_off : Bool) (t : TransmitterState) → NoLonger t (tick loopback held_off t)
+no_longer-tick loopback true t = no_longer-shift loopback t.shift_register t refl
+no_longer-tick loopback false t =
+    let u : TransmitterState = shift loopback t.shift_register t in
+    no_longer-trans t u (tick loopback false t) (no_longer-shift loopback t.shift_register t refl)
+    (no_longer-refill u.shift_register u.queue u refl refl)
 
 -- ---- how far the end is at most
 

@@ -1,5 +1,5 @@
 -- Where ticks come before each access and the wire has room, each access that sends nothing brings the transmitter nearer to its end.
-use Rattle.std.proofs.Common.{false, sym, ap, ◌∙◌, ◌≡◌, ℕ, zero, suc, ◌+◌, ◌-◌, ◌≤◌, true, List}
+use Rattle.std.proofs.Common.{Bool, false, sym, ap, subst, ◌∙◌, ◌&&◌, ◌≡◌, ℕ, zero, suc, ◌+◌, ◌-◌, ◌≤◌, true, refl, List}
 use Rattle.std.proofs.Common.{[], ◌∷◌, ◌++◌, length, length-append, Option, Some, None, arith}
 use Rattle.uart_spec.specs.declared.registers.offsets.TheConstants as offsets
 use Rattle.uart_spec.specs.Access.{Path}
@@ -9,14 +9,19 @@ use Rattle.uart_events.specs.declared.event.Event.{Event}
 use Rattle.uart_events.specs.declared.event.Event.TheVariants.{Ticks, Access as Gate, Mark}
 use Rattle.uart_chip.specs.declared.transmitter.Shifting.{Shifting}
 use Rattle.uart_chip.specs.Transmitter.{TransmitterState, out, shift_bytes}
-use Rattle.uart_chip.specs.Chip.{ChipState, is_dlab_set, is_loopback, tick, ticks, after_read, after_write}
+use Rattle.uart_spec.specs.Bits.{has_any}
+use Rattle.uart_spec.specs.declared.registers.modem_control.TheConstants.MCR
+use Rattle.uart_chip.specs.Transmitter as transmitter
+use Rattle.uart_chip.specs.Chip.{ChipState, is_dlab_set, is_loopback, is_auto_flow, tick, ticks, after_read, after_write}
 use Rattle.uart_chip.specs.Machine.{MachineState, MachineStep, perform, before_access, after_access, at_access}
 use Rattle.uart_chip.specs.Sound.{IsSoundChip, IsSound}
-use Rattle.uart_run.specs.Progress.{TickedAfter, IsTicked, left_of, HasRoom}
+use Rattle.uart_run.specs.Progress.{TickedAfter, IsTicked, left_of, HasRoom, IsUnheld}
+use Rattle.uart_chip.proofs.AutoFlow.{off_goes_on}
 use Rattle.uart_chip.proofs.soundness.Sounds.{steady_ticks, sound_perform, sound_step, latches-ticks}
 use Rattle.uart_run.proofs.Latches.{Kept, kept_step}
-use Rattle.uart_chip.proofs.lasting.Lasting.{LastsInAccesses, SendsNothing, AllSendNothing, lasts-read, lasts-write, lasts-latch}
-use Rattle.uart_run.proofs.progress.Left.{Nearer, nearer-refl, nearer-trans, nearer-less, nearer-tick}
+use Rattle.uart_chip.proofs.lasting.Lasting.{LastsInAccesses, Lasts, SendsNothing, AllSendNothing, lasts-read, lasts-write, lasts-latch}
+use Rattle.uart_chip.proofs.lasting.Lasting.{lasts-before, lasts-path}
+use Rattle.uart_run.proofs.progress.Left.{Nearer, nearer-refl, nearer-trans, nearer-less, nearer-tick, NoLonger, no_longer-tick}
 
 -- the wire takes all that is to go out
 abbrev pub Fits : TransmitterState → Type 0
@@ -34,31 +39,44 @@ flows-nearer k c d same a h e = fits-nearer k c.transmitter d.transmitter a (h (
 
 -- ---- events
 
-nearer-one : (c : ChipState) → IsSoundChip c → Flows c → Nearer 1 c.transmitter (tick c).transmitter
-nearer-one c w h = nearer-tick c.fifo (is_loopback c.latches) c.transmitter w.transmitter h
+-- automatic flow control is off
+abbrev IsOff : ChipState → Type 0
+IsOff c = is_auto_flow c ≡ false
 
-nearer-ticks : (n : ℕ) (c : ChipState) → IsSoundChip c → Flows c → Nearer n c.transmitter (ticks n c).transmitter
-nearer-ticks zero c w h = nearer-refl c.transmitter
-nearer-ticks (suc n) c w h =
+-- time leaves it as it is
+off-ticks : (n : ℕ) (c : ChipState) → is_auto_flow (ticks n c) ≡ is_auto_flow c
+off-ticks zero c = refl
+off-ticks (suc n) c = off-ticks n c
+
+nearer-one : (c : ChipState) → IsSoundChip c → Flows c → IsOff c → Nearer 1 c.transmitter (tick c).transmitter
+nearer-one c w h off =
+    let T : Bool → Type 0 = λ held_off. Nearer 1 c.transmitter (transmitter.tick (is_loopback c.latches) held_off c.transmitter) in
+    subst T (sym (off_goes_on c off)) (nearer-tick c.fifo (is_loopback c.latches) c.transmitter w.transmitter h)
+
+nearer-ticks : (n : ℕ) (c : ChipState) → IsSoundChip c → Flows c → IsOff c → Nearer n c.transmitter (ticks n c).transmitter
+nearer-ticks zero c w h off = nearer-refl c.transmitter
+nearer-ticks (suc n) c w h off =
     let d = ticks n c in
-    let a = nearer-ticks n c w h in
-    let b = nearer-one d (steady_ticks n c w).sound (flows-nearer n c d (latches-ticks n c) a h) in
+    let a = nearer-ticks n c w h off in
+    let b = nearer-one d (steady_ticks n c w).sound (flows-nearer n c d (latches-ticks n c) a h) (off-ticks n c ∙ off) in
     nearer-less (suc n) (n + 1) c.transmitter (tick d).transmitter (omega arith)
     (nearer-trans n 1 c.transmitter d.transmitter (tick d).transmitter a b)
 
 -- the events before an access, of which one is a tick if none passed before
-nearer-before : (passed : ℕ) (events : List Event) (c : ChipState) → IsSound (record { chip = c; ahead = events }) → Flows c →
+nearer-before : (passed : ℕ) (events : List Event) (c : ChipState) → IsSound (record { chip = c; ahead = events }) → Flows c → IsOff c →
     TickedAfter passed events → Nearer (1 - passed) c.transmitter (before_access events c).transmitter
-nearer-before passed [] c w h t = nearer-less (1 - passed) 1 _ _ (omega arith) (nearer-one c w.chip h)
-nearer-before passed (Ticks n ∷ events) c w h t =
+nearer-before passed [] c w h off t = nearer-less (1 - passed) 1 _ _ (omega arith) (nearer-one c w.chip h off)
+nearer-before passed (Ticks n ∷ events) c w h off t =
     let d = ticks n c in
-    let a = nearer-ticks n c w.chip h in
-    let b = nearer-before (passed + n) events d (sound_perform (Ticks n) events c w) (flows-nearer n c d (latches-ticks n c) a h) t in
+    let a = nearer-ticks n c w.chip h off in
+    let b = nearer-before (passed + n) events d (sound_perform (Ticks n) events c w) (flows-nearer n c d (latches-ticks n c) a h)
+    (off-ticks n c ∙ off) t in
     nearer-less (1 - passed) (n + (1 - (passed + n))) _ _ (omega arith)
     (nearer-trans n (1 - (passed + n)) c.transmitter d.transmitter _ a b)
-nearer-before passed (Gate ∷ events) c w h t = nearer-less (1 - passed) 0 _ _ (omega (arith, t.0)) (nearer-refl c.transmitter)
-nearer-before passed (Mark ∷ events) c w h t = nearer-less (1 - passed) 1 _ _ (omega arith) (nearer-one c w.chip h)
-nearer-before passed (event ∷ events) c w h t = nearer-before passed events (perform event c) (sound_perform event events c w) h t
+nearer-before passed (Gate ∷ events) c w h off t = nearer-less (1 - passed) 0 _ _ (omega (arith, t.0)) (nearer-refl c.transmitter)
+nearer-before passed (Mark ∷ events) c w h off t = nearer-less (1 - passed) 1 _ _ (omega arith) (nearer-one c w.chip h off)
+nearer-before passed (event ∷ events) c w h off t =
+    nearer-before passed events (perform event c) (sound_perform event events c w) h off t
 
 ticked-after : (passed : ℕ) (events : List Event) → TickedAfter passed events → TickedAfter 0 (after_access events)
 ticked-after passed [] t = tt
@@ -105,11 +123,13 @@ pub record Runs (m : MachineState) : Type 0 where
   pub sound : IsSound m
   pub ticked : IsTicked m
   pub flows : Flows m.chip
+  pub off : IsUnheld m
 
 -- the events before an access
 nearer-access : (m : MachineState) → Runs m → Nearer 1 m.chip.transmitter (at_access m).chip.transmitter
 nearer-access m r =
-    nearer-before 0 m.ahead m.chip (record { chip = r.sound.chip; foreseen = r.sound.foreseen; legal = r.sound.legal }) r.flows r.ticked
+    nearer-before 0 m.ahead m.chip
+    (record { chip = r.sound.chip; foreseen = r.sound.foreseen; legal = r.sound.legal }) r.flows r.off r.ticked
 
 -- and an effect
 nearer-effect : (m n : MachineState) (d : ChipState) → Runs m → n ≡ record (at_access m) { chip = d } →
@@ -128,13 +148,6 @@ nearer-step m n (Write offset value) r q s =
     nearer-effect m n (after_write offset value c) r s
     (lasts-write (Nearer 0 c.transmitter) (near_lasts c.transmitter) offset value c q (nearer-refl c.transmitter))
 
-pub nearer-latch : (m n : MachineState) (value : ℕ) → Runs m → is_dlab_set (at_access m).chip.latches ≡ true →
-    MachineStep m (Write offsets.DLL value) n → Nearer 1 m.chip.transmitter n.chip.transmitter
-nearer-latch m n value r on s =
-    let c = (at_access m).chip in
-    nearer-effect m n (after_write 0 value c) r s
-    (lasts-latch (Nearer 0 c.transmitter) (near_lasts c.transmitter) value c on (nearer-refl c.transmitter))
-
 -- a look leaves the modes as they are
 pub runs-look : (m n : MachineState) (line : ℕ) → Runs m → MachineStep m (Read offsets.LSR line) n →
     Nearer 1 m.chip.transmitter n.chip.transmitter → Runs n
@@ -142,6 +155,7 @@ runs-look m n line r s a = record {
   sound = sound_step m n (Read offsets.LSR line) r.sound s;
   ticked = ticked-step m n (Read offsets.LSR line) r.ticked s;
   flows = flows-nearer 1 m.chip n.chip (ap (λ (k : Kept). k.latches) (kept_step (Read offsets.LSR line) m n s)) a r.flows;
+  off = ap (λ (k : Kept). k.auto_flow && has_any k.latches.mcr MCR._RESERVED0.0) (kept_step (Read offsets.LSR line) m n s) ∙ r.off;
 }
 
 -- ---- with room on the wire, in whatever mode
@@ -151,19 +165,51 @@ pub record RunsFree (m : MachineState) : Type 0 where
   pub ticked : IsTicked m
   pub room : HasRoom 0 m
 
-pub free_runs : (m : MachineState) → RunsFree m → Runs m
-free_runs m r = record { sound = r.sound; ticked = r.ticked; flows = λ e. omega (arith, r.room) }
+-- nothing holds the transmitter off
+pub free_runs : (m : MachineState) → IsUnheld m → RunsFree m → Runs m
+free_runs m off r = record { sound = r.sound; ticked = r.ticked; flows = λ e. omega (arith, r.room); off = off }
 
-pub free-step : (m n : MachineState) (access : Access) → RunsFree m → MachineStep m access n →
-    Nearer 1 m.chip.transmitter n.chip.transmitter → RunsFree n
+-- no more is to go out than was, whether it was held off on the way or not
+no_longer_lasts : (t : TransmitterState) → Lasts (NoLonger t)
+no_longer_lasts t = record {
+  in_accesses = record {
+    pending = λ u pending a. record { no_longer = a.no_longer; capacity = a.capacity };
+    cleared = λ u pending a. record {
+      no_longer = let h = shorter u.wire u.shift_register u.queue in omega (arith, a.no_longer, h);
+      capacity = a.capacity;
+    };
+  };
+  in_tick = λ loopback held_off u a. let b = no_longer-tick loopback held_off u in
+      record { no_longer = omega (arith, a.no_longer, b.no_longer); capacity = b.capacity ∙ a.capacity };
+}
+  where
+    shorter : (wire : List ℕ) (place : Option Shifting) (queue : List ℕ) →
+        length (wire ++ (shift_bytes place ++ [])) ≤ length (wire ++ (shift_bytes place ++ queue))
+    shorter wire place queue = simp length-append (omega arith)
+
+free-step : (m n : MachineState) (access : Access) → RunsFree m → MachineStep m access n →
+    NoLonger m.chip.transmitter n.chip.transmitter → RunsFree n
 free-step m n access r s a = record {
   sound = sound_step m n access r.sound s;
   ticked = ticked-step m n access r.ticked s;
-  room = let h = fits-nearer 1 m.chip.transmitter n.chip.transmitter a (omega (arith, r.room)) in omega (arith, h);
+  room = let c = a.capacity in let h = a.no_longer in let k = r.room in omega (arith, c, h, k);
 }
 
 -- some accesses that send nothing
 pub free-path : (made : List Access) (m n : MachineState) → RunsFree m → AllSendNothing made → Path MachineStep m made n → RunsFree n
 free-path [] m n r q p = rw p r
 free-path (access ∷ made) m n r q p =
-    free-path made p.0 n (free-step m p.0 access r p.1 (nearer-step m p.0 access (free_runs m r) q.0 p.1)) q.1 p.2
+    let t = m.chip.transmitter in
+    let a = lasts-path (NoLonger t) (no_longer_lasts t) (access ∷ []) m p.0 (q.0, tt)
+    (record { no_longer = omega arith; capacity = refl }) (p.0, p.1, refl) in
+    free-path made p.0 n (free-step m p.0 access r p.1 a) q.1 p.2
+
+-- and a write of the divisor latch, under DLAB
+pub free-latch : (m n : MachineState) (value : ℕ) → RunsFree m → is_dlab_set (at_access m).chip.latches ≡ true →
+    MachineStep m (Write offsets.DLL value) n → RunsFree n
+free-latch m n value r on s =
+    let t = m.chip.transmitter in
+    let lasts = no_longer_lasts t in
+    let a = lasts-latch (NoLonger t) lasts.in_accesses value (at_access m).chip on
+    (lasts-before (NoLonger t) lasts.in_tick m.ahead m.chip (record { no_longer = omega arith; capacity = refl })) in
+    free-step m n (Write offsets.DLL value) r s (rw s a)

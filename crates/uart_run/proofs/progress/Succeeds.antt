@@ -1,5 +1,5 @@
 -- Where ticks come before each access, the spin limit is long enough and the wire has room, calls do not stall.
-use Rattle.std.proofs.Common.{◌≡◌, ◌*◌, ℕ, ◌+◌, ◌≤◌, ◌<◌, Bool, List, [], ◌++◌, length, map, length-append}
+use Rattle.std.proofs.Common.{◌≡◌, ◌*◌, ◌&&◌, ℕ, ◌+◌, ◌≤◌, ◌<◌, Bool, List, [], ◌++◌, length, map, length-append}
 use Rattle.std.proofs.Common.{take, Result, Ok, Err, refl, arith, sym, ◌∙◌, ap, subst}
 use Rattle.std.proofs.lemmas.List.{length-map, length-take}
 use Rattle.std.specs.List.{concat}
@@ -20,7 +20,11 @@ use Rattle.uart_chip.specs.Conserved.{out}
 use Rattle.uart_calls.specs.Meaning.{exact_answer, count_answer}
 use Rattle.uart_run.specs.Run.{State, machine_of}
 use Rattle.uart_run.specs.Ready.{Ready}
-use Rattle.uart_run.specs.Progress.{IsTimely, IsUnchecked, left, most_held, HasRoom}
+use Rattle.uart_run.specs.Progress.{IsTimely, IsUnchecked, IsUnheld, left, most_held, HasRoom}
+use Rattle.uart_spec.specs.Bits.{has_any}
+use Rattle.uart_spec.specs.declared.registers.modem_control.TheConstants.MCR
+use Rattle.uart_chip.proofs.conservation.Went.{Modes, IsIn}
+use Rattle.uart_run.proofs.Latches.{flow_path}
 use Rattle.uart_chip.proofs.soundness.Sounds.{sound_path}
 use Rattle.uart_run.proofs.progress.Left.{exceeds, left-most}
 use Rattle.uart_run.proofs.progress.Nearing.{Runs, ticked-path}
@@ -29,19 +33,26 @@ use Rattle.uart_chip.proofs.conservation.BlockLaws.{PassedBlocks, path_split, pa
 use Rattle.uart_run.proofs.CallBlocks.{InBlocks, Makes, passed_in_blocks, pieces_blocks, cut_whole}
 use Rattle.uart_run.proofs.CallKeeps.{sends_each_blocks}
 use Rattle.uart_run.proofs.CallLaws.{InSession}
-use Rattle.uart_run.proofs.SessionCalls.{modes_of, in_session}
+use Rattle.uart_run.proofs.SessionCalls.{modes_of, modes_mcr, in_session}
 use Rattle.uart_run.proofs.progress.WaitEnds.{no_stall-empty, no_stall-room}
 
 -- the call's own settings
 abbrev pub settings_at : State → Settings
 settings_at s = settings_of (fields (inner_of s))
 
+-- outside of MCR nothing turns automatic flow control on
+unheld_in : (s : State) (n : MachineState) (x : Modes) → IsUnheld (machine_of s) → (made : List Access) →
+    Path MachineStep (machine_of s) made n → IsIn x n.chip → x.mcr ≡ (machine_of s).chip.latches.mcr → IsUnheld n
+unheld_in s n x unheld made path modes same =
+    ap (λ (b : Bool). b && has_any n.chip.latches.mcr MCR._RESERVED0.0) (flow_path made (machine_of s) n path)
+    ∙ (ap (λ (v : ℕ). (machine_of s).chip.auto_flow && has_any v MCR._RESERVED0.0) (modes.mcr ∙ same) ∙ unheld)
+
 -- room for more is room
 less_room : (n k : ℕ) (m : MachineState) → n ≤ k → HasRoom k m → HasRoom n m
 less_room n k m h room = omega (arith, h, room)
 
-pub runs : (s : State) → IsSound (machine_of s) → IsTimely s → HasRoom 0 (machine_of s) → Runs (machine_of s)
-runs s w timely room = record { sound = w; ticked = timely.ticked; flows = λ e. omega (arith, room) }
+pub runs : (s : State) → IsSound (machine_of s) → IsTimely s → IsUnheld (machine_of s) → HasRoom 0 (machine_of s) → Runs (machine_of s)
+runs s w timely unheld room = record { sound = w; ticked = timely.ticked; flows = λ e. omega (arith, room); off = unheld }
 
 -- the limit exceeds what is left, there and after some accesses
 pub few_left : (s : State) (made : List Access) (m : MachineState) → IsSound (machine_of s) → IsTimely s →
@@ -55,9 +66,9 @@ few_left s made m w timely p =
 
 -- ---- bytes are sent, and then a wait for room is in vain: there was none
 no_stall-after : (s : State) (t : MachineState) (L : Language) (l : List Access) (written : List ℕ) → IsSound (machine_of s) → Ready s →
-    IsTimely s → IsUnchecked s → HasRoom (length written) (machine_of s) → Makes (settings_at s) L written [] →
+    IsTimely s → IsUnheld (machine_of s) → IsUnchecked s → HasRoom (length written) (machine_of s) → Makes (settings_at s) L written [] →
     Then L (AllMisses SendMiss) (settings_at s) l → Path MachineStep (machine_of s) l t → ⊥
-no_stall-after s t L l written w ready timely off room makes fits path =
+no_stall-after s t L l written w ready timely unheld off room makes fits path =
     let m = machine_of s in
     let q = path_split MachineStep m t fits.front fits.back (path_as m t l (fits.front ++ fits.back) fits.whole path) in
     let p = sent q.0 q.1 in
@@ -70,6 +81,7 @@ no_stall-after s t L l written w ready timely off room makes fits path =
       sound = p.passed.sound;
       ticked = ticked-path fits.front m q.0 timely.ticked q.1;
       flows = λ e. omega (arith, long, same, room);
+      off = unheld_in s q.0 (modes_of s) unheld fits.front q.1 p.passed.went.modes (modes_mcr s);
     } in
     no_stall-room (settings_at s) off (settings_at s).limit fits.back q.0 t r (few_left s fits.front q.0 w timely q.1) fits.second q.2
   where
@@ -86,40 +98,43 @@ no_stall-after s t L l written w ready timely off room makes fits path =
 -- ---- each call
 
 pub flush_succeeds : (s t : State) (a : Answer) (l : List Access) (result : Result (Unit {0}) StalledError) → IsSound (machine_of s) →
-    IsTimely s → HasRoom 0 (machine_of s) → a ≡ exact_answer result → Flushes result (settings_at s) l →
+    IsTimely s → IsUnheld (machine_of s) → HasRoom 0 (machine_of s) → a ≡ exact_answer result → Flushes result (settings_at s) l →
     Path MachineStep (machine_of s) l (machine_of t) → a ≡ Done
-flush_succeeds s t a l (Ok x) w timely room e h path = e
-flush_succeeds s t a l (Err stall) w timely room e h path =
-    absurd (no_stall-empty (settings_at s) (settings_at s).limit l (machine_of s) (machine_of t) (runs s w timely room)
+flush_succeeds s t a l (Ok x) w timely unheld room e h path = e
+flush_succeeds s t a l (Err stall) w timely unheld room e h path =
+    absurd (no_stall-empty (settings_at s) (settings_at s).limit l (machine_of s) (machine_of t) (runs s w timely unheld room)
     (few_left s [] (machine_of s) w timely refl) h.1 path)
 
 pub write_succeeds : (s t : State) (a : Answer) (l : List Access) (bytes : List ℕ) (result : Result ℕ StalledError) →
-    IsSound (machine_of s) → IsTimely s → IsUnchecked s → HasRoom (length bytes) (machine_of s) → a ≡ count_answer result →
+    IsSound (machine_of s) → IsTimely s → IsUnheld (machine_of s) → IsUnchecked s → HasRoom (length bytes) (machine_of s) →
+    a ≡ count_answer result →
     Writes bytes result (settings_at s) l → Path MachineStep (machine_of s) l (machine_of t) → (count : ℕ) × (a ≡ Count count)
-write_succeeds s t a l bytes (Ok count) w timely off room e h path = (count, e)
-write_succeeds s t a l bytes (Err stall) w timely off room e h path =
-    let r = runs s w timely (less_room 0 (length bytes) (machine_of s) (omega arith) room) in
+write_succeeds s t a l bytes (Ok count) w timely unheld off room e h path = (count, e)
+write_succeeds s t a l bytes (Err stall) w timely unheld off room e h path =
+    let r = runs s w timely unheld (less_room 0 (length bytes) (machine_of s) (omega arith) room) in
     absurd (no_stall-room (settings_at s) off (settings_at s).limit l (machine_of s) (machine_of t) r
     (few_left s [] (machine_of s) w timely refl) h.2 path)
 
 pub send_exact_succeeds : (s t : State) (a : Answer) (l : List Access) (bytes : List ℕ) (result : Result (Unit {0}) StalledError) →
-    IsSound (machine_of s) → Ready s → IsTimely s → IsUnchecked s → HasRoom (length bytes) (machine_of s) → a ≡ exact_answer result →
+    IsSound (machine_of s) → Ready s → IsTimely s → IsUnheld (machine_of s) → IsUnchecked s → HasRoom (length bytes) (machine_of s) →
+    a ≡ exact_answer result →
     SendsExact bytes result (settings_at s) l → Path MachineStep (machine_of s) l (machine_of t) → a ≡ Done
-send_exact_succeeds s t a l bytes (Ok x) w ready timely off room e h path = e
-send_exact_succeeds s t a l bytes (Err stall) w ready timely off room e (pieces, rest, cut, some, count, made) path =
+send_exact_succeeds s t a l bytes (Ok x) w ready timely unheld off room e h path = e
+send_exact_succeeds s t a l bytes (Err stall) w ready timely unheld off room e (pieces, rest, cut, some, count, made) path =
     let whole : length (concat pieces) + length rest ≡ length bytes = sym (length-append (concat pieces) rest)
     ∙ ap length (cut_whole (settings_at s) bytes pieces rest cut) in
     let free = less_room (length (concat pieces)) (length bytes) (machine_of s) (omega (arith, whole)) room in
-    absurd (no_stall-after s (machine_of t) (InOrder Round pieces) l (concat pieces) w ready timely off free
+    absurd (no_stall-after s (machine_of t) (InOrder Round pieces) l (concat pieces) w ready timely unheld off free
     (pieces_blocks (settings_at s) bytes pieces rest cut) made path)
 
 pub text_succeeds : (s t : State) (a : Answer) (l : List Access) (text : List ℕ) (result : Result (Unit {0}) StalledError) →
-    IsSound (machine_of s) → Ready s → IsTimely s → IsUnchecked s → HasRoom (length (expansion text)) (machine_of s) →
+    IsSound (machine_of s) → Ready s → IsTimely s → IsUnheld (machine_of s) → IsUnchecked s →
+    HasRoom (length (expansion text)) (machine_of s) →
     a ≡ exact_answer result → SendsText text result (settings_at s) l → Path MachineStep (machine_of s) l (machine_of t) → a ≡ Done
-text_succeeds s t a l text (Ok x) w ready timely off room e h path = e
-text_succeeds s t a l text (Err stall) w ready timely off room e (sent, count, beginning) path =
+text_succeeds s t a l text (Ok x) w ready timely unheld off room e h path = e
+text_succeeds s t a l text (Err stall) w ready timely unheld off room e (sent, count, beginning) path =
     let front : List ℕ = take sent (expansion text) in
     let few : length front ≤ length (expansion text) = rw length-take (omega arith) in
     let free = less_room (length front) (length (expansion text)) (machine_of s) few room in
-    absurd (no_stall-after s (machine_of t) (SendsEach front) l front w ready timely off free
+    absurd (no_stall-after s (machine_of t) (SendsEach front) l front w ready timely unheld off free
     (sends_each_blocks (settings_at s) front) beginning.1 path)

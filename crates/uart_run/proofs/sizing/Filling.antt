@@ -95,13 +95,16 @@ module _ (fifo : Bool) (gone : List ℕ) (byte more : ℕ) where
           let enough : room fifo r.size ≤ (length r.queue + (0 + length (x ∷ y ∷ ys))) + more = rw (e, q) at f.enough in
           record { wire = f.wire; place = (all.0, tt); queue = all.1; enough = omega (arith, enough); size = f.size }
 
-  pub fills_tick : (t : TransmitterState) (r : ReceiverState) → Fills fifo gone byte more t r →
-      Fills fifo gone byte more (transmitter.tick true t) (receiver.tick fifo (looped_byte true t.shift_register) r)
-  fills_tick t r f =
+  pub fills_tick : (held_off : Bool) (t : TransmitterState) (r : ReceiverState) → Fills fifo gone byte more t r →
+      Fills fifo gone byte more (transmitter.tick true held_off t) (receiver.tick fifo (looped_byte true t.shift_register) r)
+  fills_tick true t r f =
+      let a = fills_shift t.shift_register t r refl f in
+      record { wire = a.wire; place = a.place; queue = a.queue; enough = a.enough; size = a.size }
+  fills_tick false t r f =
       let u : TransmitterState = shift true t.shift_register t in
       let s : ReceiverState = come_back fifo (looped_byte true t.shift_register) r in
       let a : Fills fifo gone byte more u s = fills_shift t.shift_register t r refl f in
-      let b : Fills fifo gone byte more (transmitter.tick true t) s = fills_refill u.shift_register u.queue u s refl refl a in
+      let b : Fills fifo gone byte more (transmitter.tick true false t) s = fills_refill u.shift_register u.queue u s refl refl a in
       record { wire = b.wire; place = b.place; queue = b.queue; enough = b.enough; size = b.size }
 
 -- ---- a byte is written

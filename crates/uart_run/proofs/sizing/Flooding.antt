@@ -12,7 +12,7 @@ use Rattle.uart_16550.specs.Loopback.{test_byte}
 use Rattle.uart_chip.specs.Transmitter as transmitter
 use Rattle.uart_chip.specs.Transmitter.{room, load, looped_byte}
 use Rattle.uart_chip.specs.Receiver as receiver
-use Rattle.uart_chip.specs.Chip.{ChipState, cut_of, is_loopback, tick, arrive, after_write}
+use Rattle.uart_chip.specs.Chip.{ChipState, cut_of, is_loopback, is_held_off, tick, arrive, after_write}
 use Rattle.uart_chip.specs.Machine.{MachineState, MachineStep, at_access}
 use Rattle.uart_chip.specs.Sound.{IsSound}
 use Rattle.uart_chip.proofs.lasting.Lasting.{LastsInEvents, chip_lasts-before}
@@ -37,18 +37,18 @@ module _ (x : Modes) (gone : List ℕ) (i : IsLooped x) where
       rw (in_loopback (loopback-in x c w.modes ∙ i.loopback))
       (record {
         modes = record { lcr = w.modes.lcr; mcr = w.modes.mcr; fifo = w.modes.fifo; cut = w.modes.cut };
-        fills = fills_tick c.fifo gone (cut_of c test_byte) more c.transmitter c.receiver w.fills;
+        fills = fills_tick c.fifo gone (cut_of c test_byte) more (is_held_off c) c.transmitter c.receiver w.fills;
       })
     where
       in_loopback : is_loopback c.latches ≡ true →
           tick c ≡
           record c {
-            transmitter = transmitter.tick true c.transmitter;
+            transmitter = transmitter.tick true (is_held_off c) c.transmitter;
             receiver = receiver.tick c.fifo (looped_byte true c.transmitter.shift_register) c.receiver;
           }
       in_loopback e =
           ap (λ (b : Bool). record c {
-            transmitter = transmitter.tick b c.transmitter;
+            transmitter = transmitter.tick b (is_held_off c) c.transmitter;
             receiver = receiver.tick c.fifo (looped_byte b c.transmitter.shift_register) c.receiver;
           }) e
 

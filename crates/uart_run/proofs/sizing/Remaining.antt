@@ -19,7 +19,7 @@ use Rattle.uart_chip.specs.declared.transmitter.Shifting.{Shifting}
 use Rattle.uart_chip.specs.Transmitter.{looped_byte, room}
 use Rattle.uart_chip.specs.Receiver as receiver
 use Rattle.uart_chip.specs.Receiver.{ReceiverState, enter, come_back, take_front, replace}
-use Rattle.uart_chip.specs.Chip.{ChipState, is_loopback, tick, after_write, is_same, set_fifo, control}
+use Rattle.uart_chip.specs.Chip.{ChipState, is_loopback, is_held_off, tick, after_write, is_same, set_fifo, control}
 use Rattle.uart_chip.specs.Chip.{trigger_level}
 use Rattle.uart_chip.specs.Machine.{MachineState, MachineStep, at_access}
 use Rattle.uart_chip.proofs.AccessMoves.{ReadMove, takes, acknowledges, read_move, WriteMove, sends, enables, switches, clears, empties}
@@ -158,7 +158,7 @@ module _ (level : FifoTriggerLevel) (start : ℕ) (gone : List ℕ) where
       let r = c.receiver in
       let still : Remains level start (receiver.tick c.fifo None r) =
       record { trigger = w.1.trigger; waits = w.1.waits; number = w.1.number } in (
-        sent_tick gone (is_loopback c.latches) c.transmitter w.0,
+        sent_tick gone (is_loopback c.latches) (is_held_off c) c.transmitter w.0,
         subst (λ (byte : Option ℕ). Remains level start (receiver.tick c.fifo byte r)) (sym none) still,
       )
 
@@ -231,7 +231,7 @@ IsSentAt start gone c = IsSent gone c.transmitter × (start ≤ c.receiver.arriv
 
 sent_events : (start : ℕ) (gone : List ℕ) → LastsInEvents (IsSentAt start gone)
 sent_events start gone = record {
-  in_tick = λ c w. (sent_tick gone (is_loopback c.latches) c.transmitter w.0, (come_events start).in_tick c w.1);
+  in_tick = λ c w. (sent_tick gone (is_loopback c.latches) (is_held_off c) c.transmitter w.0, (come_events start).in_tick c w.1);
   in_arrival = λ byte errors c w. (w.0, (come_events start).in_arrival byte errors c w.1);
   in_lines = λ inputs c w. w;
 }

@@ -53,8 +53,9 @@ module _ (gone : List ℕ) (byte : ℕ) where
   last_refill None [] t e w = w
   last_refill None (x ∷ xs) t e w = absurd (cc)
 
-  last_tick : (loopback : Bool) (t : TransmitterState) → SendsLast gone byte t → SendsLast gone byte (tick loopback t)
-  last_tick loopback t w =
+  last_tick : (loopback held_off : Bool) (t : TransmitterState) → SendsLast gone byte t → SendsLast gone byte (tick loopback held_off t)
+  last_tick loopback true t w = last_shift loopback t.shift_register t refl w
+  last_tick loopback false t w =
       let u : TransmitterState = shift loopback t.shift_register t in
       let v : SendsLast gone byte u = last_shift loopback t.shift_register t refl w in
       last_refill u.shift_register u.queue u v.queue v
@@ -65,7 +66,7 @@ module _ (gone : List ℕ) (byte : ℕ) where
       pending = λ t pending w. record { queue = w.queue; rest = w.rest };
       cleared = λ t pending w. record { queue = refl; rest = w.rest };
     };
-    in_tick = λ loopback t w. last_tick loopback t w;
+    in_tick = λ loopback held_off t w. last_tick loopback held_off t w;
   }
 
   pub last_path : (made : List Access) (m n : MachineState) → AllSendNothing made → SendsLast gone byte m.chip.transmitter →

@@ -16,11 +16,11 @@ use Rattle.uart_chip.specs.Machine.{MachineState, MachineStep}
 use Rattle.uart_chip.specs.Sound.{IsSound}
 use Rattle.uart_chip.proofs.conservation.Went.{Modes, loopback-in}
 use Rattle.uart_run.specs.Run.{State, machine_of}
-use Rattle.uart_run.specs.Progress.{IsTimely, HasRoom}
+use Rattle.uart_run.specs.Progress.{IsTimely, HasRoom, IsUnheld}
 use Rattle.uart_run.specs.Sizes.{size_in, IsPlain, MayFind}
 use Rattle.uart_run.proofs.Pieces.{then_parts, next_stages}
 use Rattle.uart_run.proofs.loopback.LoopPhases.{IsEntered, drained}
-use Rattle.uart_run.proofs.loopback.LoopWaits.{Lives, lives-path, few_left, never_flooded}
+use Rattle.uart_run.proofs.loopback.LoopWaits.{Lives, lives-path, few_left, never_flooded, looped_off}
 use Rattle.uart_run.proofs.loopback.LoopTests.{IsBegun, begun, looped_modes, in_loopback}
 use Rattle.uart_run.proofs.loopback.LoopSucceeds.{no_stall-begin}
 use Rattle.uart_run.proofs.progress.Nearing.{Runs}
@@ -53,6 +53,7 @@ no_stall-measure x gone s found l m n v e stalled (inr (inl t)) path =
       sound = y.sound;
       ticked = y.ticked;
       flows = λ off. absurd (cc (loopback-in x b.between.chip w.modes, r.looped.loopback, off));
+      off = looped_off x b.between.chip r.looped w.modes;
     } in
     no_stall-empty s s.limit b.back b.between n runs (few_left s.limit b.between y) b.second b.after
 no_stall-measure x gone s found l m n v e stalled (inr (inr (count, tells, t))) path = no_stall-count count found stalled tells
@@ -80,12 +81,12 @@ no_stall-in_loop cut gone found mcr ier f after l m n v b stalled (before, on, d
     (subst (λ limit. Lives limit a.parts.between) same w) i stalled d.parts.first.0 d.parts.before
 
 module _ (s t : State) (sound : IsSound (machine_of s)) (plain : IsPlain s) (is_on : (fields (inner_of s)).fifo ≡ true)
-    (timely : IsTimely s) (room : HasRoom 0 (machine_of s)) where
+    (timely : IsTimely s) (unheld : IsUnheld (machine_of s)) (room : HasRoom 0 (machine_of s)) where
   pub never : (found : Found) (l : List Access) → found ≡ Err Stalled → FindsFifoSize found (fields (inner_of s)) l (fields (inner_of t)) →
       Path MachineStep (machine_of s) l (machine_of t) → ⊥
   never found l stalled (inl h) path = let other : true ≡ false = sym is_on ∙ h.1 in absurd (cc)
   never found l stalled (inr (_, (mcr, ier, inl k))) path =
-      no_stall-begin s (machine_of t) mcr ier l sound timely room k.1.0 path
+      no_stall-begin s (machine_of t) mcr ier l sound timely unheld room k.1.0 path
   never found l stalled (inr (_, (mcr, ier, inr does))) path =
       let f = fields (inner_of s) in
       let a = next_stages (Saving (BeginsTest mcr ier true)) (SizesInLoopback found mcr ier) f (fields (inner_of t)) l (machine_of s)
@@ -100,10 +101,11 @@ module _ (s t : State) (sound : IsSound (machine_of s)) (plain : IsPlain s) (is_
       a.parts.after
 
 pub size_found : (s t : State) → IsSound (machine_of s) → MayFind s → (fields (inner_of s)).fifo ≡ true → IsTimely s →
-    HasRoom 0 (machine_of s) → (found : Found) (l : List Access) → FindsFifoSize found (fields (inner_of s)) l (fields (inner_of t)) →
+    IsUnheld (machine_of s) → HasRoom 0 (machine_of s) → (found : Found) (l : List Access) →
+    FindsFifoSize found (fields (inner_of s)) l (fields (inner_of t)) →
     Path MachineStep (machine_of s) l (machine_of t) → found ≡ Ok (size_in s)
-size_found s t sound may is_on timely room found l does path = go (finds_size s t sound may is_on found l does path).answers
+size_found s t sound may is_on timely unheld room found l does path = go (finds_size s t sound may is_on found l does path).answers
   where
     go : (found ≡ Ok (size_in s)) ⊎ (found ≡ Err Stalled) → found ≡ Ok (size_in s)
     go (inl e) = e
-    go (inr e) = absurd (never s t sound may.plain is_on timely room found l e does path)
+    go (inr e) = absurd (never s t sound may.plain is_on timely unheld room found l e does path)

@@ -20,7 +20,8 @@ use Rattle.uart_16550.specs.Loopback.{EntersAt, Leaves, BeginsTest}
 use Rattle.uart_16550.specs.Sizing.{Measures, SwitchesFifo, Sizes, SizesInLoopback, FindsFifoSize}
 use Rattle.uart_16550.specs.Tty.{inner_of}
 use Rattle.uart_events.specs.declared.event.Chip.{Chip}
-use Rattle.uart_chip.specs.Masks.{ier_bits, mcr_bits}
+use Rattle.uart_chip.specs.Masks.{ier_bits, mcr_bits_of, kept_mcr}
+use Rattle.uart_chip.proofs.McrBits.{kept_same}
 use Rattle.uart_chip.specs.Transmitter.{out}
 use Rattle.uart_chip.specs.Chip.{cut_of, is_dlab_set}
 use Rattle.uart_chip.specs.Machine.{MachineState, MachineStep}
@@ -46,6 +47,7 @@ use Rattle.uart_run.proofs.loopback.TestedReady.{left}
 use Rattle.uart_run.proofs.sizing.Counting.{Found}
 use Rattle.uart_run.proofs.sizing.Measuring.{FoundIn, TellsAll, measured, keeps_measures}
 use Rattle.uart_run.proofs.sizing.Remaining.{come_path}
+use Rattle.uart_spec.specs.Bits.{IsWithin}
 
 -- ---- before the loopback
 
@@ -134,12 +136,12 @@ ier_read s mcr ier empty l m n dlab t p =
 
 -- what is kept is as before, but for the FIFO
 put_back : (mcr ier : ℕ) (on again : Bool) (k : Kept) → mcr ≡ k.latches.mcr → ier ≡ k.latches.ier →
-    bit_and k.latches.mcr mcr_bits ≡ k.latches.mcr → bit_and k.latches.ier ier_bits ≡ k.latches.ier →
+    IsWithin k.latches.mcr (mcr_bits_of k.auto_flow) → bit_and k.latches.ier ier_bits ≡ k.latches.ier →
     restored mcr ier (record (looped on k) { fifo = again }) ≡ record k { fifo = again }
 put_back mcr ier on again k same_mcr same_ier within_mcr within_ier =
     let back : ℕ → ℕ → Kept = λ (i c : ℕ). record k { fifo = again; latches = record k.latches { ier = i; mcr = c } } in
-    ap (λ (i : ℕ). back i (bit_and mcr mcr_bits)) (ap (λ (v : ℕ). bit_and v ier_bits) same_ier ∙ within_ier)
-    ∙ ap (back k.latches.ier) (ap (λ (v : ℕ). bit_and v mcr_bits) same_mcr ∙ within_mcr)
+    ap (λ (i : ℕ). back i (kept_mcr k.auto_flow mcr)) (ap (λ (v : ℕ). bit_and v ier_bits) same_ier ∙ within_ier)
+    ∙ ap (back k.latches.ier) (ap (kept_mcr k.auto_flow) same_mcr ∙ kept_same k.auto_flow k.latches.mcr within_mcr)
 
 -- the level that FIFOs are set to that are on
 abbrev pub level_on : Fields → Option FifoTriggerLevel

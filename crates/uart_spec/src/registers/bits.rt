@@ -409,6 +409,13 @@ impl MCR {
     /// No function on a 16550.
     pub const _RESERVED0: MCR = MCR(1 << 5);
 
+    /// Automatic flow control, on chips that have it, as a 16750: the transmitter takes no next
+    /// character while CTS is off, and the chip turns its output RTS off while its receiver has as
+    /// many characters as the trigger level.
+    // The same bit as `_RESERVED0`, by which the original crate calls it: that name is the one in
+    // the list of names, so that texts of MCR are those of the original.
+    pub const AUTO_FLOW: MCR = MCR(MCR::_RESERVED0.0);
+
     /// No function on a 16550.
     pub const _RESERVED1: MCR = MCR(1 << 6);
 

@@ -39,13 +39,13 @@ pub struct End {
     spans: Vec<Span>,
 }
 
-// Returns the modem lines that a chip gives to the other end: RTS is CTS, and DTR is DSR and CD. In
-// loopback a chip turns its outputs off.
-fn lines_from(chip: &Uart, mcr: MCR) -> MSR {
+// Returns the modem lines that a chip gives to the other end: RTS is CTS, and DTR is DSR and CD.
+// Automatic flow control may turn RTS off. In loopback a chip turns its outputs off.
+fn lines_from(chip: &Uart) -> MSR {
     let mut lines = MSR::empty();
     if !chip.is_loopback() {
-        lines.set(MSR::CTS, mcr.contains(MCR::RTS));
-        lines.set(MSR::DSR | MSR::CD, mcr.contains(MCR::DTR));
+        lines.set(MSR::CTS, chip.rts_output());
+        lines.set(MSR::DSR | MSR::CD, chip.mcr().contains(MCR::DTR));
     }
     lines
 }
@@ -57,17 +57,21 @@ impl End {
     ///
     /// `AllocError` if out of memory.
     pub fn new(side: usize, script: &Script, arrivals: usize) -> Result<Self, AllocError> {
+        let chip = Uart::new_sized(
+            heap(),
+            script.chip(),
+            script.fifo_size(),
+            script.ticks(),
+            script.wire_capacity(),
+            arrivals,
+            script.cut(),
+        )?;
         Ok(End {
             side,
-            chip: Uart::new_sized(
-                heap(),
-                script.chip(),
-                script.fifo_size(),
-                script.ticks(),
-                script.wire_capacity(),
-                arrivals,
-                script.cut(),
-            )?,
+            chip: match script.has_auto_flow() {
+                true => chip.with_auto_flow(),
+                false => chip,
+            },
             time: 0,
             sent: 0,
             arrived: 0,
@@ -170,6 +174,10 @@ impl End {
         while let Some(cargo) = ways.arrival(self.side, self.time) {
             self.take(cargo);
         }
+        // Automatic flow control may have turned RTS off, without an access.
+        if let Some(lines) = self.new_lines() {
+            ways.send(1 - self.side, self.time, Cargo::Lines(lines));
+        }
     }
 
     fn take(&mut self, cargo: Cargo) {
@@ -224,7 +232,7 @@ impl End {
 
     /// Returns the modem lines that the other end is to be given, if they are others than before.
     pub fn new_lines(&mut self) -> Option<u8> {
-        let lines = lines_from(&self.chip, self.chip.mcr()).bits();
+        let lines = lines_from(&self.chip).bits();
         let is_new = lines != self.given;
         self.given = lines;
         is_new.then_some(lines)

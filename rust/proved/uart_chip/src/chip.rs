@@ -2,9 +2,10 @@
 
 use crate::controlling::{
     ChipParts, advance, arrive_live, change_lines, cut, divisor, is_dlab_set, is_interrupting,
-    is_loopback, read, receive_room, tick, write,
+    is_loopback, read, receive_room, rts_output, tick, write,
 };
 use crate::fifo::{Fifo, HeapFifo};
+use crate::flow::{ChosenFlow, FlowControl};
 use crate::journal::{Journal, Marks};
 use crate::modem::{Modem, ModemData};
 use crate::receiver::{Character, Receiver, ReceiverData};
@@ -62,6 +63,7 @@ pub struct Uart<
     W: Wire = HeapWire,
     C: Fifo<Character> = HeapFifo<Character>,
     J: Journal = Marks,
+    F: FlowControl = ChosenFlow,
 > {
     model: Chip,
     latches: Latches,
@@ -70,16 +72,18 @@ pub struct Uart<
     receiver: Receiver<C, J>,
     modem: Modem,
     cuts: bool,
+    flow: F,
 }
 
-impl<B: Fifo<u8>, W: Wire, C: Fifo<Character>, J: Journal> Uart<
-    B,
-    W,
-    C,
-    J,
-> {
+impl<
+    B: Fifo<u8>,
+    W: Wire,
+    C: Fifo<Character>,
+    J: Journal,
+    F: FlowControl,
+> Uart<B, W, C, J, F> {
     /// Returns a chip after power-on, over empty queues of one size and an empty wire, with this
-    /// journal.
+    /// journal, and without automatic flow control.
     ///
     /// A character takes `char_ticks` ticks to be sent, and characters are cut to the word length
     /// if `cuts` is set.
@@ -107,11 +111,12 @@ impl<B: Fifo<u8>, W: Wire, C: Fifo<Character>, J: Journal> Uart<
             receiver: Receiver::new(characters, journal, char_ticks),
             modem: Modem::new(),
             cuts,
+            flow: F::by_driver(),
         }
     }
 
     /// Returns the chip with these data, over empty queues of 16 and a wire that holds its bytes,
-    /// without a schedule.
+    /// without a schedule and without automatic flow control.
     pub fn from_parts(bytes: B, wire: W, characters: C, journal: J, saved: &ChipData) -> Self {
         let receiver = Receiver::from_data(
             characters,
@@ -127,11 +132,12 @@ impl<B: Fifo<u8>, W: Wire, C: Fifo<Character>, J: Journal> Uart<
             receiver,
             modem: Modem::from_data(saved.modem),
             cuts: saved.cuts,
+            flow: F::by_driver(),
         }
     }
 
     /// Returns the chip as plain data, without the bytes on its wire and without its schedule. The
-    /// data are those of a chip with FIFOs of 16.
+    /// data are those of a chip with FIFOs of 16 that has no automatic flow control.
     pub fn data(&self) -> ChipData {
         ChipData {
             model: self.model,
@@ -167,6 +173,11 @@ impl<B: Fifo<u8>, W: Wire, C: Fifo<Character>, J: Journal> Uart<
     /// Returns whether DATA and IER are the divisor latch.
     pub fn is_dlab_set(&self) -> bool {
         is_dlab_set(self)
+    }
+
+    /// Returns whether the chip asks the other end to send, by its output RTS.
+    pub fn rts_output(&self) -> bool {
+        rts_output(self)
     }
 
     /// Returns the divisor in the divisor latch.
@@ -254,7 +265,7 @@ impl<B: Fifo<u8>, W: Wire, C: Fifo<Character>, J: Journal> Uart<
     }
 
     /// Returns whether a byte that is written to DATA can go onto the wire at once: outside of
-    /// loopback, with nothing in the transmitter and with room on the wire.
+    /// loopback, with nothing in the transmitter, which is not held off, and with room on the wire.
     pub fn sends_at_once(&self) -> bool {
         sends_at_once(self)
     }
@@ -266,8 +277,13 @@ impl<B: Fifo<u8>, W: Wire, C: Fifo<Character>, J: Journal> Uart<
     }
 }
 
-impl<B: Fifo<u8>, W: Wire, C: Fifo<Character>, J: Journal> ChipParts
-    for Uart<B, W, C, J> {
+impl<
+    B: Fifo<u8>,
+    W: Wire,
+    C: Fifo<Character>,
+    J: Journal,
+    F: FlowControl,
+> ChipParts for Uart<B, W, C, J, F> {
     type Transmitter = Transmitter<B, W>;
 
     type Receiver = Receiver<C, J>;
@@ -278,6 +294,10 @@ impl<B: Fifo<u8>, W: Wire, C: Fifo<Character>, J: Journal> ChipParts
 
     fn cuts(&self) -> bool {
         self.cuts
+    }
+
+    fn has_auto_flow(&self) -> bool {
+        self.flow.is_automatic()
     }
 
     fn transmitter(&self) -> &Transmitter<B, W> {
@@ -320,6 +340,10 @@ impl<B: Fifo<u8>, W: Wire, C: Fifo<Character>, J: Journal> ChipParts
         self.modem.has_changes()
     }
 
+    fn is_clear_to_send(&self) -> bool {
+        self.modem.is_clear_to_send()
+    }
+
     fn ier(&self) -> IER {
         self.latches.ier
     }
@@ -341,7 +365,7 @@ impl<B: Fifo<u8>, W: Wire, C: Fifo<Character>, J: Journal> ChipParts
     }
 }
 
-impl Uart<HeapFifo<u8>, HeapWire, HeapFifo<Character>, Marks> {
+impl Uart<HeapFifo<u8>, HeapWire, HeapFifo<Character>, Marks, ChosenFlow> {
     /// Returns a chip after power-on, for a schedule with this number of arrivals. Allocates all of
     /// its memory.
     ///
@@ -389,6 +413,14 @@ impl Uart<HeapFifo<u8>, HeapWire, HeapFifo<Character>, Marks> {
         let characters = HeapFifo::new(alloc, size)?;
         let journal = Marks::new(alloc, arrivals)?;
         Ok(Uart::with_parts(bytes, wire, characters, journal, model, char_ticks, cuts))
+    }
+
+    /// Returns the same chip with automatic flow control: MCR then keeps bit 5.
+    pub fn with_auto_flow(self) -> Self {
+        Self {
+            flow: ChosenFlow::by_chip(),
+            ..self
+        }
     }
 
     /// Returns the chip with these data, and with these bytes on its wire. Allocates all of its

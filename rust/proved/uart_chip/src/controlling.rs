@@ -1,7 +1,7 @@
 //! What happens in a chip, over its parts: what an access does, and what happens between accesses.
 
 use crate::chip::Latches;
-use crate::masks::{kept_interrupts, kept_modem_control};
+use crate::masks::{kept_interrupts, kept_modem_control_of};
 use crate::receiving::{
     ReceiverParts, clear, count_up, is_data_pending, is_timed_out, report, take_front,
 };
@@ -31,6 +31,9 @@ pub trait ChipParts {
 
     /// Returns whether characters are cut to the word length.
     fn cuts(&self) -> bool;
+
+    /// Returns whether the chip has automatic flow control.
+    fn has_auto_flow(&self) -> bool;
 
     /// Returns the transmitter.
     fn transmitter(&self) -> &Self::Transmitter;
@@ -62,6 +65,9 @@ pub trait ChipParts {
 
     /// Returns whether a modem line has changed since the last read of MSR.
     fn has_modem_changes(&self) -> bool;
+
+    /// Returns whether MSR shows CTS: the other end is ready to receive.
+    fn is_clear_to_send(&self) -> bool;
 
     /// Returns the interrupt enable register.
     fn ier(&self) -> IER;
@@ -138,10 +144,29 @@ pub fn is_loopback<P: ChipParts>(parts: &P) -> bool {
     parts.mcr().intersects(MCR::LOOP_BACK)
 }
 
+// Returns whether automatic flow control is on.
+fn is_auto_flow<P: ChipParts>(parts: &P) -> bool {
+    parts.has_auto_flow() && parts.mcr().intersects(MCR::_RESERVED0)
+}
+
+/// Returns whether the transmitter takes no next character: automatic flow control is on, and the
+/// other end is not ready to receive.
+pub fn is_held_off<P: ChipParts>(parts: &P) -> bool {
+    is_auto_flow(parts) && !parts.is_clear_to_send()
+}
+
+/// Returns whether the chip asks the other end to send, by its output RTS.
+pub fn rts_output<P: ChipParts>(parts: &P) -> bool {
+    let is_full = is_auto_flow(parts)
+        && (parts.fifo() && is_data_pending(parts.receiver(), parts.fifo()));
+    parts.mcr().intersects(MCR::RTS) && !is_full
+}
+
 /// Lets one tick pass.
 pub fn tick<P: ChipParts>(parts: &mut P) {
     let loopback = is_loopback(parts);
-    let looped = transmitting::tick(parts.transmitter_mut(), loopback);
+    let held_off = is_held_off(parts);
+    let looped = transmitting::tick(parts.transmitter_mut(), loopback, held_off);
     let fifo = parts.fifo();
     receiving::tick(parts.receiver_mut(), fifo, looped);
 }
@@ -164,7 +189,8 @@ pub fn advance<P: ChipParts>(parts: &mut P, n: u16) -> usize {
     let mut jumps = 0;
     while left > 0 {
         let loopback = is_loopback(parts);
-        match next_move(parts.transmitter(), loopback) {
+        let held_off = is_held_off(parts);
+        match next_move(parts.transmitter(), loopback, held_off) {
             Some(ticks) if ticks <= left => {
                 skip(parts, ticks - 1);
                 tick(parts);
@@ -381,7 +407,7 @@ fn enable<P: ChipParts>(parts: &mut P, interrupts: IER) {
 
 // Writes MCR.
 fn control_modem<P: ChipParts>(parts: &mut P, value: MCR) {
-    let mcr = kept_modem_control(value);
+    let mcr = kept_modem_control_of(parts.has_auto_flow(), value);
     let latches = parts.latches();
     parts.set_latches(Latches { mcr, ..latches });
     parts.renew_modem(mcr);

@@ -161,6 +161,37 @@ impl Device16550 {
         })
     }
 
+    /// Returns the same machine, whose chip has automatic flow control, as a 16750 and a 16950 have
+    /// it.
+    ///
+    /// MCR then keeps bit 5. While it is set, the transmitter takes no next character while CTS is
+    /// off; the one that it shifts out goes on. And with the FIFO on the RTS output is off while as
+    /// many characters wait as the trigger level, although MCR has RTS set. No access is needed for
+    /// either.
+    ///
+    /// # Examples
+    ///
+    /// ```text
+    /// let machine = Device16550::new_sized(
+    ///     rt.alloc(),
+    ///     Chip::Uart16550A,
+    ///     FifoSize::SixtyFour,
+    ///     4,
+    ///     256,
+    ///     schedule,
+    ///     false,
+    /// )?;
+    /// Ok(machine.with_auto_flow())
+    /// ```
+    // A real 16750 sets RTS again only once its FIFO is empty. This chip sets it as soon as fewer
+    // characters wait than the trigger level, so that the output needs no memory.
+    pub fn with_auto_flow(self) -> Self {
+        Self {
+            uart: self.uart.with_auto_flow(),
+            ..self
+        }
+    }
+
     /// Returns the bytes that have been sent, in order.
     ///
     /// # Examples

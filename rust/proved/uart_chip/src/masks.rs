@@ -19,3 +19,16 @@ pub fn kept_modem_control(written: MCR) -> MCR {
         .union(MCR::OUT_2_INT_ENABLE);
     written.intersection(outputs.union(MCR::LOOP_BACK))
 }
+
+/// Returns what MCR keeps of a write on a chip that has automatic flow control, or has not.
+pub fn kept_modem_control_of(auto_flow: bool, written: MCR) -> MCR {
+    let outputs = MCR::DTR
+        .union(MCR::RTS)
+        .union(MCR::OUT_1)
+        .union(MCR::OUT_2_INT_ENABLE);
+    if auto_flow {
+        written.intersection(outputs.union(MCR::LOOP_BACK).union(MCR::_RESERVED0))
+    } else {
+        kept_modem_control(written)
+    }
+}

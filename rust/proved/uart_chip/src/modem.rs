@@ -87,6 +87,11 @@ impl Modem {
         status
     }
 
+    /// Returns whether MSR shows CTS: the other end is ready to receive.
+    pub fn is_clear_to_send(&self) -> bool {
+        self.lines.intersects(MSR::CTS)
+    }
+
     /// Returns whether a line has changed since the last read of MSR.
     pub fn has_changes(&self) -> bool {
         !self.deltas.is_empty()

@@ -61,6 +61,7 @@ pub mod receiver {}
 ///       receiver = receiver.fresh Sixteen char_ticks arrivals;
 ///       modem = modem.fresh;
 ///       cuts = false;
+///       auto_flow = false;
 ///     }
 /// ```
 ///
@@ -275,12 +276,12 @@ pub mod receiver {}
 ///     then (if is_dlab_set c.latches then with_latches (record c.latches { dlm = value }) c else enable value c)
 ///     else if offset == offsets.FCR then control c.model value c
 ///     else if offset == offsets.LCR then with_latches (record c.latches { lcr = value }) c
-///     else if offset == offsets.MCR then control_modem (bit_and value mcr_bits) c
+///     else if offset == offsets.MCR then control_modem (kept_mcr c.auto_flow value) c
 ///     else if offset == offsets.SPR then with_latches (record c.latches { scr = value }) c
 ///     else c
 /// ```
 ///
-/// It uses [`is_dlab_set`](crate::proved::chip#is_dlab_set); `ChipState`, `write_data`, `with_latches`, `enable`, `control`, `control_modem` of this file; `mcr_bits` of `crates/uart_chip/specs/Masks.antt`.
+/// It uses [`is_dlab_set`](crate::proved::chip#is_dlab_set); `ChipState`, `write_data`, `with_latches`, `enable`, `control`, `control_modem` of this file; `kept_mcr` of `crates/uart_chip/specs/Masks.antt`.
 #[doc(alias("fresh", "is_dlab_set", "is_loopback", "divisor", "cut_of", "ticks", "arrive_live", "receive_room", "take_wire", "change_lines", "interrupt", "with_thr_pending", "answer", "after_read", "after_write"))]
 pub mod chip {}
 
@@ -338,7 +339,7 @@ pub mod jumps {}
 ///
 /// # `chip_of`
 ///
-/// The chip that these data describe, with these bytes on its wire and without a schedule.
+/// The chip that these data describe, with these bytes on its wire and without a schedule; such a chip has no automatic flow control.
 ///
 /// ```text
 /// abbrev pub chip_of : ChipData → List ℕ → ChipState
@@ -351,6 +352,7 @@ pub mod jumps {}
 ///       receiver = receiver_of c.transmitter.char_ticks c.receiver;
 ///       modem = modem_of c.modem;
 ///       cuts = c.cuts;
+///       auto_flow = false;
 ///     }
 /// ```
 ///
@@ -390,14 +392,15 @@ pub mod sound {}
 ///
 /// # `sends_at_once`
 ///
-/// A byte that is written to DATA would be on the wire at once: DLAB and loopback are off, the transmitter holds nothing, and the wire has room.
+/// A byte that is written to DATA would be on the wire at once: DLAB and loopback are off, the transmitter is not held off and holds nothing, and the wire has room.
 ///
 /// ```text
 /// abbrev pub sends_at_once : ChipState → Bool
-/// sends_at_once c = not (is_dlab_set c.latches) && (not (is_loopback c.latches) && is_ready c.transmitter)
+/// sends_at_once c =
+///     not (is_dlab_set c.latches) && (not (is_loopback c.latches) && (not (is_held_off c) && is_ready c.transmitter))
 /// ```
 ///
-/// It uses [`is_dlab_set`](crate::proved::chip#is_dlab_set), [`is_loopback`](crate::proved::chip#is_loopback); `ChipState` of `crates/uart_chip/specs/Chip.antt`; `is_ready` of this file.
+/// It uses [`is_dlab_set`](crate::proved::chip#is_dlab_set), [`is_loopback`](crate::proved::chip#is_loopback); `ChipState`, `is_held_off` of `crates/uart_chip/specs/Chip.antt`; `is_ready` of this file.
 ///
 /// <span id="send_at_once"></span>
 ///

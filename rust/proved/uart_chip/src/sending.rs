@@ -1,6 +1,6 @@
 //! A byte that goes onto the wire at once, without queue, shift register and time.
 
-use crate::controlling::{ChipParts, cut, is_loopback};
+use crate::controlling::{ChipParts, cut, is_held_off, is_loopback};
 use crate::transmitting::TransmitterParts;
 use bitflags::Flags;
 use uart_spec::registers::LCR;
@@ -11,9 +11,10 @@ fn is_ready<T: TransmitterParts>(parts: &T) -> bool {
 }
 
 /// Returns whether a byte that is written to DATA can go onto the wire at once: outside of
-/// loopback, with nothing in the transmitter and with room on the wire.
+/// loopback, with nothing in the transmitter, which is not held off, and with room on the wire.
 pub fn sends_at_once<P: ChipParts>(parts: &P) -> bool {
-    !parts.lcr().intersects(LCR::DLAB) && (!is_loopback(parts) && is_ready(parts.transmitter()))
+    !parts.lcr().intersects(LCR::DLAB)
+        && (!is_loopback(parts) && (!is_held_off(parts) && is_ready(parts.transmitter())))
 }
 
 // Puts a byte onto the wire. THR is as empty as before, and that counts as a new interrupt.

@@ -238,7 +238,7 @@ fn a_transmitter_takes_as_many_as_its_fifo_holds() {
         load(&mut parts, true, 0xee);
         assert_eq!((held_len(&parts), parts.overflows), (count, 1));
         while held_len(&parts) > 0 {
-            assert_eq!(tick(&mut parts, false), None);
+            assert_eq!(tick(&mut parts, false, false), None);
         }
         assert_eq!(parts.wire, bytes);
     }

@@ -13,10 +13,12 @@ use uart_spec::{BaudRate, ConfigRegisterDump, FifoAction, FifoSize, TransmitterW
 /// A kind of chip that a script can name.
 #[derive(Clone, Copy, Debug, PartialEq, Eq)]
 pub struct ChipKind {
-    /// The model. A chip with larger FIFOs is a 16550A in all else.
+    /// The model. A chip with larger FIFOs or with automatic flow control is a 16550A in all else.
     pub model: Chip,
     /// The size of its two FIFOs. A 16450 has none, and this is of no account.
     pub size: FifoSize,
+    /// Whether it has automatic flow control, which MCR bit 5 turns on.
+    pub auto_flow: bool,
 }
 
 /// Reads a number of a script, from `least` to `most`.
@@ -144,22 +146,28 @@ pub fn wire_capacity_in(word: &[u8]) -> Result<usize, Cause> {
 
 /// Reads the kind of chip.
 pub fn chip_in(word: &[u8]) -> Result<ChipKind, Cause> {
-    let (model, size) = if word == b"16550a".as_slice() {
-        (Chip::Uart16550A, FifoSize::Sixteen)
+    let (model, size, auto_flow) = if word == b"16550a".as_slice() {
+        (Chip::Uart16550A, FifoSize::Sixteen, false)
     } else if word == b"16450".as_slice() {
-        (Chip::Uart16450, FifoSize::Sixteen)
+        (Chip::Uart16450, FifoSize::Sixteen, false)
     } else if word == b"16650".as_slice() {
-        (Chip::Uart16550A, FifoSize::ThirtyTwo)
+        (Chip::Uart16550A, FifoSize::ThirtyTwo, false)
     } else if word == b"16750".as_slice() {
-        (Chip::Uart16550A, FifoSize::SixtyFour)
-    } else if word == b"16850".as_slice() || word == b"16950".as_slice() {
-        (Chip::Uart16550A, FifoSize::OneHundredTwentyEight)
+        (Chip::Uart16550A, FifoSize::SixtyFour, true)
+    } else if word == b"16850".as_slice() {
+        (Chip::Uart16550A, FifoSize::OneHundredTwentyEight, false)
+    } else if word == b"16950".as_slice() {
+        (Chip::Uart16550A, FifoSize::OneHundredTwentyEight, true)
     } else if word == b"16550a-256".as_slice() {
-        (Chip::Uart16550A, FifoSize::TwoHundredFiftySix)
+        (Chip::Uart16550A, FifoSize::TwoHundredFiftySix, false)
     } else {
         return Err(Cause::BadWord);
     };
-    Ok(ChipKind { model, size })
+    Ok(ChipKind {
+        model,
+        size,
+        auto_flow,
+    })
 }
 
 /// Reads the option that may end the first line.

@@ -30,6 +30,11 @@ impl Script {
         self.header.chip.size
     }
 
+    /// Returns whether the chip has automatic flow control.
+    pub fn has_auto_flow(&self) -> bool {
+        self.header.chip.auto_flow
+    }
+
     /// Returns the number of ticks that the chip takes to send a character.
     pub fn ticks(&self) -> u16 {
         self.header.ticks

@@ -27,11 +27,11 @@ pub struct CabledChip {
     remaining: usize,
 }
 
-// Returns the modem lines at one end by the modem control register at the other.
-fn lines_joined(mcr: MCR) -> MSR {
-    let cts = flag(mcr.intersects(MCR::RTS), MSR::CTS);
-    let dsr = flag(mcr.intersects(MCR::DTR), MSR::DSR);
-    let cd = flag(mcr.intersects(MCR::DTR), MSR::CD);
+// Returns the modem lines at one end by the outputs of the other.
+fn lines_joined(rts: bool, dtr: bool) -> MSR {
+    let cts = flag(rts, MSR::CTS);
+    let dsr = flag(dtr, MSR::DSR);
+    let cd = flag(dtr, MSR::CD);
     cts.union(dsr.union(cd))
 }
 
@@ -125,6 +125,26 @@ impl CabledChip {
         })
     }
 
+    /// Returns the same chip with automatic flow control, as a 16750 and a 16950 have it.
+    ///
+    /// MCR then keeps bit 5. While it is set, the transmitter takes no next character while CTS is
+    /// off, and with the FIFO on the RTS output is off while as many characters wait as the trigger
+    /// level.
+    ///
+    /// # Examples
+    ///
+    /// ```text
+    /// let machine = CabledChip::new(rt.alloc(), Chip::Uart16550A, 4, 64, 64)?.with_auto_flow();
+    /// let mut uart = Uart16550::new_with_backend(machine);
+    /// uart.init(Config::DEFAULT)?;
+    /// ```
+    pub fn with_auto_flow(self) -> Self {
+        Self {
+            uart: self.uart.with_auto_flow(),
+            ..self
+        }
+    }
+
     // Performs the events before an access.
     fn reach_access(&mut self) {
         while self.cursor < self.events.len() {
@@ -170,7 +190,7 @@ impl CabledChip {
         if self.uart.is_loopback() {
             MSR::empty()
         } else {
-            lines_joined(self.uart.mcr())
+            lines_joined(self.uart.rts_output(), self.uart.mcr().intersects(MCR::DTR))
         }
     }
 

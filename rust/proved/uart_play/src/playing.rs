@@ -10,7 +10,8 @@ use uart_language::limits::MOST_READ;
 use uart_language::{Input, Output, PlayError, Script, parse, read_all, render, write_all};
 use uart_run::run;
 
-/// Returns the machine of a script, with FIFOs of the size that it names, under its schedule.
+/// Returns the machine of a script, with FIFOs of the size that it names, and with automatic flow
+/// control if that chip has it, under its schedule.
 ///
 /// # Errors
 ///
@@ -27,6 +28,7 @@ pub fn machine_for(alloc: Global, script: &Script) -> Result<Device16550, AllocE
         script.cut(),
     );
     match machine {
+        Ok(machine) if script.has_auto_flow() => Ok(machine.with_auto_flow()),
         Ok(machine) => Ok(machine),
         Err(_) => Err(AllocError),
     }

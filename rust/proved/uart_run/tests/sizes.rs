@@ -214,6 +214,10 @@ impl ChipParts for SizedChip {
         false
     }
 
+    fn has_auto_flow(&self) -> bool {
+        false
+    }
+
     fn transmitter(&self) -> &Sender {
         &self.transmitter
     }
@@ -259,6 +263,10 @@ impl ChipParts for SizedChip {
 
     fn has_modem_changes(&self) -> bool {
         !self.modem.data().deltas.is_empty()
+    }
+
+    fn is_clear_to_send(&self) -> bool {
+        self.modem.is_clear_to_send()
     }
 
     fn ier(&self) -> IER {

@@ -16,9 +16,9 @@ returns c =
           λ after found plain model on did.
           finds_none before (under_terminal after) whole.sound plain model found did.list on did.does did.path;
       ends =
-          λ after found plain on timely room did stalled.
-          never before (under_terminal after) whole.sound plain on timely room found did.list stalled did.does did.path;
+          λ after found plain on timely unheld room did stalled.
+          never before (under_terminal after) whole.sound plain on timely unheld room found did.list stalled did.does did.path;
       succeeds =
-          λ after found may on timely room did.
-          size_found before (under_terminal after) whole.sound may on timely room found did.list did.does did.path;
+          λ after found may on timely unheld room did.
+          size_found before (under_terminal after) whole.sound may on timely unheld room found did.list did.does did.path;
     }

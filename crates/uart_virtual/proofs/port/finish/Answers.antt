@@ -7,4 +7,5 @@ decide-requires c = rw c.settle.ensures.after (paced-ticks settle_ticks c.args.c
 
 pub returns-clause-still : goal.returns-clause-still
 returns-clause-still c =
-    rw c.settle.ensures.after (still_settle c.args.chip.now c.requires.live.whole.sound.chip c.requires.live.size c.requires.paced)
+    rw c.settle.ensures.after
+    (still_settle c.args.chip.now c.requires.live.whole.sound.chip c.requires.live.size c.requires.live.flow c.requires.paced)

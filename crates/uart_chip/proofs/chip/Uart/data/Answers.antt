@@ -1,4 +1,4 @@
-use Rattle.std.proofs.Common.{◌≡◌, ◌∙◌, ap, ℕ}
+use Rattle.std.proofs.Common.{◌≡◌, ◌∙◌, ap, sym, ℕ, false}
 use Rattle.uart_chip.specs.Transmitter.{TransmitterState}
 use Rattle.uart_chip.specs.Chip.{ChipState}
 use Rattle.uart_chip.specs.Data.{without_schedule}
@@ -19,8 +19,9 @@ returns g c =
       receiver = c.self.inside.receiver;
       modem = c.self.inside.modem;
       cuts = c.self.inside.cuts;
+      auto_flow = g.F.FlowControl.automatic c.self.inside.flow;
     } in
     rw (← c.self.view_is)
-    (same_parts here _ _ _ c.data.ensures
+    (same_parts here _ _ _ false c.data.ensures
     (c.data-2.ensures c.data.result.char_ticks ∙ ap (λ (n : ℕ). without_schedule n c.self.inside.receiver) ticks)
-    c.data-3.ensures)
+    c.data-3.ensures (sym (ap (λ (d : ChipState). d.auto_flow) c.self.view_is ∙ c.requires.flow)))

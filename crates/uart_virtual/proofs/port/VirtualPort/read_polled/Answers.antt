@@ -23,7 +23,7 @@ invariant_of-self c =
     subst (λ (q : PortState). IsPort q) (sym same) (record {
       told = told_holds (kind_of (Read offsets.DATA) p.chip) (stays_up (Read offsets.DATA) (after_read offsets.DATA p.chip))
           (settle (after_read offsets.DATA p.chip)) p.told;
-      still = still_settle (after_read offsets.DATA p.chip) read.whole.sound.chip read.size
+      still = still_settle (after_read offsets.DATA p.chip) read.whole.sound.chip read.size read.flow
           (paced-happen (Read offsets.DATA) p.chip c.self.invariant.still.paced);
     })
 
