@@ -2,10 +2,10 @@
 use Rattle.std.proofs.Common.{◌≡◌, ◌<◌, ◌≤◌, ◌+◌, ℕ, zero, suc, Bool, true, false, List, [], ◌∷◌, ◌++◌, refl, sym, arith}
 use Rattle.std.proofs.Common.{append_assoc}
 use Rattle.std.proofs.Common.{append-nil, add-one, length, take, drop, inl, inr, Result, Ok, Err, is_ok, map}
+use Rattle.uart_spec.specs.FifoSize.{characters}
 use Rattle.uart_spec.specs.declared.access.Access.{Access}
 use Rattle.uart_spec.specs.declared.setup.FifoSize.{FifoSize}
-use Rattle.uart_spec.specs.declared.setup.FifoSize.TheVariants.{Sixteen, ThirtyTwo, SixtyFour, OneHundredTwentyEight}
-use Rattle.uart_spec.specs.declared.setup.FifoSize.TheVariants.{TwoHundredFiftySix}
+use Rattle.uart_spec.specs.declared.setup.FifoSize.TheVariants.{Sixteen}
 use Rattle.uart_16550.specs.Grammar.{Language, Settings, Then, InOrder, Times}
 use Rattle.uart_16550.specs.Receive.{Receives, Miss}
 use Rattle.uart_16550.specs.Transmit.{IsCut, burst_size, burst_limit, Sends, SendMiss, Burst, ReadyToSend}
@@ -69,14 +69,19 @@ pub cut_more : (s : Settings) (bytes : List ℕ) (pieces : List (List ℕ)) (res
 cut_more s bytes [] rest cut some = let same : rest ≡ bytes = cut in rw (← same) (some, refl, refl)
 cut_more s bytes (piece ∷ pieces) rest cut some = (cut.0, cut.1, cut_more s (drop (burst_size s bytes) bytes) pieces rest cut.2 some)
 
--- a burst is of some bytes
+-- a FIFO holds 16 characters or more
+pub at_least_sixteen : (size : FifoSize) → 16 ≤ characters size
+at_least_sixteen Sixteen = omega arith
+at_least_sixteen _ = omega arith
+
+-- a burst is of some bytes, and of no more than the FIFO holds
 pub some_limit : (fifo : Bool) (size : FifoSize) → 0 < burst_limit fifo size
+some_limit true size = omega (arith, at_least_sixteen size)
 some_limit false size = omega arith
-some_limit true Sixteen = omega arith
-some_limit true ThirtyTwo = omega arith
-some_limit true SixtyFour = omega arith
-some_limit true OneHundredTwentyEight = omega arith
-some_limit true TwoHundredFiftySix = omega arith
+
+pub limit_within : (fifo : Bool) (size : FifoSize) → burst_limit fifo size ≤ characters size
+limit_within true size = omega arith
+limit_within false size = omega (arith, at_least_sixteen size)
 
 -- what was sent, by its count
 pub sends_some : (s : Settings) (bytes : List ℕ) (k : ℕ) → 0 < k → (l : List Access) → Sends bytes k s l →

@@ -28,8 +28,8 @@ use crate::backend::Backend;
 use bitflags::Flags;
 pub use state::DriverState;
 use std::num::NonZeroU64;
-use uart_spec::{Config, FifoSize};
 use uart_spec::registers::{LSR, MSR, offsets};
+use uart_spec::{Config, FifoSize};
 
 /// The spin limit of a new driver: how many unsuccessful polls in a row a wait makes before it
 /// returns an error.

@@ -1,6 +1,7 @@
 -- What the law gives over backends.
 use Rattle.std.proofs.Common.{◌≡◌, ℕ, List, [], ◌∷◌, ◌++◌, refl, sym, ◌∙◌, ap, subst, append_assoc, inl, inr, ◌⊎◌}
 use Rattle.std.proofs.lemmas.List.{append_cancel_left}
+use Rattle.std.specs.Int.NonZero.{non_zero_u64_get}
 use Rattle.uart_spec.specs.Access.{Path}
 use Rattle.uart_spec.specs.declared.access.Access.{Access}
 use Rattle.uart_spec.specs.declared.access.Access.TheVariants.{Read, Write}
@@ -9,7 +10,6 @@ use Rattle.uart_16550.specs.Choice.{HasOneOutcome, HasOneOutcomeSaving}
 use Rattle.uart_16550.specs.Grammar.{Language}
 use Rattle.uart_16550.specs.Driver.{Made, Doing, Fields, Saving, fields, backend_of}
 use Rattle.uart_16550.specs.declared.driver.Uart16550.{Uart16550}
-use Rattle.uart_16550.proofs.Doings.{did_made}
 use Rattle.uart_16550.proofs.determined.Repeated.{same_first}
 
 -- over one stream
@@ -50,7 +50,17 @@ agree {R} {B} {C} {G} law stream a b old new other_old other_new p q same x y =
 -- what a call does that saves what it reads
 pub saved : {B : Type 0} {step : B → Access → B → Type 0} {L : Language} {old new : Uart16550 B} → (p : Made step L old new) →
     Saving L (fields old) p.list (fields new)
-saved p = (did_made p).does
+saved p = (
+  p.fits,
+  λ i. record {
+    config = p.config i;
+    fifo = p.fifo i;
+    size = p.size i;
+    lsr = p.lsr i;
+    msr = p.msr i;
+    limit = non_zero_u64_get (p.limit i);
+  },
+)
 
 pub agree_saving : {R B C : Type 0} (L : R → Language) {step : B → Access → B → Type 0} {other_step : C → Access → C → Type 0} →
     LeavesNoChoice (λ a. Saving (L a)) → AgreeSaving L step other_step

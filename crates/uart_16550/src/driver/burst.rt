@@ -58,6 +58,22 @@ impl<B: Backend> Uart16550<B> {
         self.write_up_to(limit, buffer)
     }
 
+    // Writes the urgent byte to DATA, if there is one, and returns how many bytes that were.
+    fn write_urgent(&mut self, urgent: Option<u8>) -> usize
+        ensures made { Made B.step (Only (data_writes (option_to_list urgent)))
+            self.old self.new }
+        ensures count { result ≡ length (option_to_list urgent) }
+        ensures few { result ≤ 1 }
+    {
+        match urgent {
+            None => 0,
+            Some(byte) => {
+                self.write_byte(byte);
+                1
+            }
+        }
+    }
+
     // Writes one burst to DATA: the urgent byte, and then bytes from the front of both parts.
     // Returns its length.
     fn write_gathered(&mut self, urgent: Option<u8>, first: &[u8], second: &[u8]) -> usize
@@ -67,13 +83,7 @@ impl<B: Backend> Uart16550<B> {
             (burst_limit (settings self.old).fifo (settings self.old).size) }
     {
         let limit = self.burst_limit(self.fifo_size);
-        let urgents = match urgent {
-            None => 0,
-            Some(byte) => {
-                self.write_byte(byte);
-                1
-            }
-        };
+        let urgents = self.write_urgent(urgent);
         let firsts = self.write_up_to(limit - urgents, first);
         let seconds = self.write_up_to(limit - urgents - firsts, second);
         urgents + firsts + seconds

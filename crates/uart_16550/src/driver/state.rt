@@ -7,8 +7,8 @@ use super::{DEFAULT_SPIN_LIMIT, Uart16550};
 use crate::backend::Backend;
 use bitflags::Flags;
 use std::num::NonZeroU64;
-use uart_spec::{Config, FifoSize};
 use uart_spec::registers::{LSR, MSR};
+use uart_spec::{Config, FifoSize};
 
 /// The state of a driver without its backend: everything that a driver over another backend needs
 /// to continue.
