@@ -116,7 +116,7 @@ initialised_is_configured config t ok within stored i = record {
   mcr = i.mcr;
   ier = i.ier ∙ (within ∙ sym (ap (λ (c : Config). c.interrupts.0) stored));
   divisor_latch = subst (λ (c : Config). DivisorOf c (Ok (divisor (latches_of t)))) (sym stored) i.divisor_latch;
-  fifo = i.ready.fifo;
+  fifo = i.knows;
 }
 
 set_up_is_configured : (setup : Setup) (config : Config) (t : State) → IsComputable config → IsWithin config.interrupts.0 ier_bits →
@@ -127,7 +127,7 @@ set_up_is_configured setup config t ok within kept stored i = record {
   mcr = i.mcr ∙ within_unlooped setup.outputs.0 kept;
   ier = i.ier ∙ (within ∙ sym (ap (λ (c : Config). c.interrupts.0) stored));
   divisor_latch = subst (λ (c : Config). DivisorOf c (Ok (divisor (latches_of t)))) (sym stored) i.divisor_latch;
-  fifo = i.ready.fifo;
+  fifo = i.knows;
 }
 
 -- ---- the check
