@@ -31,7 +31,17 @@ pub did_made : {B : Type 0} {step : B → Access → B → Type 0} {L : Language
 did_made p = record {
   list = p.list;
   path = p.path;
-  does = (p.fits, λ i. record { config = p.config i; fifo = p.fifo i; lsr = p.lsr i; msr = p.msr i; limit = non_zero_u64_get (p.limit i) });
+  does = (
+    p.fits,
+    λ i. record {
+      config = p.config i;
+      fifo = p.fifo i;
+      size = p.size i;
+      lsr = p.lsr i;
+      msr = p.msr i;
+      limit = non_zero_u64_get (p.limit i);
+    },
+  );
 }
 
 -- a list that shows nothing to save
@@ -39,7 +49,7 @@ pub saving-none : (f : Fields) (l : List Access) → saved_lsr l ≡ 0 → saved
 saving-none f l p q =
     let lsr : bit_or f.lsr (saved_lsr l) ≡ f.lsr = rw p (or_zero_r f.lsr) in
     let msr : bit_or f.msr (saved_msr l) ≡ f.msr = rw q (or_zero_r f.msr) in
-    λ i. record { config = f.config; fifo = f.fifo; lsr = lsr i; msr = msr i; limit = f.limit }
+    λ i. record { config = f.config; fifo = f.fifo; size = f.size; lsr = lsr i; msr = msr i; limit = f.limit }
 
 -- a call that saves, and has nothing to save
 pub did_unsaved : {B : Type 0} {step : B → Access → B → Type 0} (list : List Access) {a b : Uart16550 B} → saved_lsr list ≡ 0 →

@@ -1,7 +1,11 @@
 -- Lists of a language, one after another.
-use Rattle.std.proofs.Common.{◌≡◌, ◌<◌, ◌≤◌, ◌+◌, ℕ, zero, suc, true, false, List, [], ◌∷◌, ◌++◌, refl, sym, arith, append_assoc}
+use Rattle.std.proofs.Common.{◌≡◌, ◌<◌, ◌≤◌, ◌+◌, ℕ, zero, suc, Bool, true, false, List, [], ◌∷◌, ◌++◌, refl, sym, arith}
+use Rattle.std.proofs.Common.{append_assoc}
 use Rattle.std.proofs.Common.{append-nil, add-one, length, take, drop, inl, inr, Result, Ok, Err, is_ok, map}
+use Rattle.uart_spec.specs.FifoSize.{characters}
 use Rattle.uart_spec.specs.declared.access.Access.{Access}
+use Rattle.uart_spec.specs.declared.setup.FifoSize.{FifoSize}
+use Rattle.uart_spec.specs.declared.setup.FifoSize.TheVariants.{Sixteen}
 use Rattle.uart_16550.specs.Grammar.{Language, Settings, Then, InOrder, Times}
 use Rattle.uart_16550.specs.Receive.{Receives, Miss}
 use Rattle.uart_16550.specs.Transmit.{IsCut, burst_size, burst_limit, Sends, SendMiss, Burst, ReadyToSend}
@@ -65,6 +69,20 @@ pub cut_more : (s : Settings) (bytes : List ℕ) (pieces : List (List ℕ)) (res
 cut_more s bytes [] rest cut some = let same : rest ≡ bytes = cut in rw (← same) (some, refl, refl)
 cut_more s bytes (piece ∷ pieces) rest cut some = (cut.0, cut.1, cut_more s (drop (burst_size s bytes) bytes) pieces rest cut.2 some)
 
+-- a FIFO holds 16 characters or more
+pub at_least_sixteen : (size : FifoSize) → 16 ≤ characters size
+at_least_sixteen Sixteen = omega arith
+at_least_sixteen _ = omega arith
+
+-- a burst is of some bytes, and of no more than the FIFO holds
+pub some_limit : (fifo : Bool) (size : FifoSize) → 0 < burst_limit fifo size
+some_limit true size = omega (arith, at_least_sixteen size)
+some_limit false size = omega arith
+
+pub limit_within : (fifo : Bool) (size : FifoSize) → burst_limit fifo size ≤ characters size
+limit_within true size = omega arith
+limit_within false size = omega (arith, at_least_sixteen size)
+
 -- what was sent, by its count
 pub sends_some : (s : Settings) (bytes : List ℕ) (k : ℕ) → 0 < k → (l : List Access) → Sends bytes k s l →
     (k ≡ burst_size s bytes) × Burst (take k bytes) s l
@@ -76,8 +94,7 @@ pub sends_none : (s : Settings) (bytes : List ℕ) (k : ℕ) → 0 < length byte
 sends_none s bytes k some none l (inl t) = absurd (omega (arith, t.0))
 sends_none s bytes k some none l (inr (inl t)) = t.2
 sends_none s bytes k some none l (inr (inr t)) =
-    let one : 0 < burst_limit s.fifo = elim s.fifo as (λ b. 0 < burst_limit b) [ true ↦ omega arith | false ↦ omega arith ] in
-    absurd (omega (arith, t.1, one))
+    absurd (omega (arith, t.1, some_limit s.fifo s.size))
 
 -- what was received, by its count
 pub receives_none : (n : ℕ) (bytes : List ℕ) (s : Settings) (l : List Access) → 0 < n → length bytes ≤ 0 → Receives n bytes s l → Miss s l

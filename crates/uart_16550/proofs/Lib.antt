@@ -1,6 +1,7 @@
 pub mod Paths
 pub mod Languages
 pub mod Singly
+pub mod Gathering
 pub mod Making
 pub mod Waiting
 pub mod Doings

@@ -21,7 +21,12 @@ use Rattle.uart_16550.proofs.Languages.{in_order_more, in_order_append, times_mo
 -- a call leaves the settings
 pub made_settings : {B : Type 0} {step : B → Access → B → Type 0} {L : Language} {a b : Uart16550 B} → Made step L a b →
     settings b ≡ settings a
-made_settings p i = record { checks = (p.config i).check_cts_before_sending; fifo = p.fifo i; limit = non_zero_u64_get (p.limit i) }
+made_settings p i = record {
+  checks = (p.config i).check_cts_before_sending;
+  fifo = p.fifo i;
+  size = p.size i;
+  limit = non_zero_u64_get (p.limit i);
+}
 
 -- one call and then another
 pub made_then : {B : Type 0} {step : B → Access → B → Type 0} {L M : Language} {a b c : Uart16550 B} → Made step L a b → Made step M b c →
@@ -35,6 +40,7 @@ made_then {step} {M} {a} {b} {c} p q = record {
       (or_assoc a.saved_msr.0 (saved_msr p.list) (saved_msr q.list));
   config = q.config ∙ p.config;
   fifo = q.fifo ∙ p.fifo;
+  size = q.size ∙ p.size;
   limit = q.limit ∙ p.limit;
   fits = record {
     front = p.list;
@@ -48,8 +54,17 @@ made_then {step} {M} {a} {b} {c} p q = record {
 -- a call whose list is of another language too
 pub made_fits : {B : Type 0} {step : B → Access → B → Type 0} {L M : Language} {a b : Uart16550 B} (p : Made step L a b) →
     M (settings a) p.list → Made step M a b
-made_fits p fits =
-    record { list = p.list; path = p.path; lsr = p.lsr; msr = p.msr; config = p.config; fifo = p.fifo; limit = p.limit; fits = fits }
+made_fits p fits = record {
+  list = p.list;
+  path = p.path;
+  lsr = p.lsr;
+  msr = p.msr;
+  config = p.config;
+  fifo = p.fifo;
+  size = p.size;
+  limit = p.limit;
+  fits = fits;
+}
 
 -- a call whose lists are among more
 pub made_among : {B : Type 0} {step : B → Access → B → Type 0} {L M : Language} {a b : Uart16550 B} →
@@ -70,6 +85,7 @@ made_none {a} = record {
   msr = sym (or_zero_r a.saved_msr.0);
   config = refl;
   fifo = refl;
+  size = refl;
   limit = refl;
   fits = record { is = refl };
 }
@@ -87,6 +103,7 @@ made_access step a after access lsr msr taken saves_lsr saves_msr = record {
   msr = saves_msr;
   config = refl;
   fifo = refl;
+  size = refl;
   limit = refl;
   fits = record { is = refl };
 }

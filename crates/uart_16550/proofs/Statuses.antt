@@ -40,8 +40,14 @@ dumped dump lcr lsr msr p q shows_lsr r shows_msr s =
 saved_are : {B : Type 0} {step : B → Access → B → Type 0} {L : Language} {a b : Uart16550 B} → Made step L a b → (lsr msr x y : ℕ) →
     lsr ≡ x → msr ≡ y →
     fields (record b { saved_lsr = record { 0 = lsr }; saved_msr = record { 0 = msr } }) ≡ with_saved x y (fields a)
-saved_are p lsr msr x y same_lsr same_msr i =
-    record { config = p.config i; fifo = p.fifo i; lsr = same_lsr i; msr = same_msr i; limit = non_zero_u64_get (p.limit i) }
+saved_are p lsr msr x y same_lsr same_msr i = record {
+  config = p.config i;
+  fifo = p.fifo i;
+  size = p.size i;
+  lsr = same_lsr i;
+  msr = same_msr i;
+  limit = non_zero_u64_get (p.limit i);
+}
 
 -- one read of a status, joined with the saved bits as they are after it, which are then cleared
 pub takes_lsr : {B : Type 0} {step : B → Access → B → Type 0} (status result none : ℕ) {a b : Uart16550 B} →

@@ -5,6 +5,8 @@ use Rattle.std.specs.Int.NonZero.{non_zero_u64_get}
 use Rattle.uart_spec.specs.declared.config.Config.{Config}
 use Rattle.uart_spec.specs.Access.{Path, saved_lsr, saved_msr}
 use Rattle.uart_spec.specs.declared.access.Access.{Access}
+use Rattle.uart_spec.specs.declared.setup.FifoSize.{FifoSize}
+use Rattle.uart_spec.specs.declared.setup.FifoSize.TheVariants.{Sixteen}
 use Rattle.uart_16550.specs.Grammar.{Language, Settings}
 use Rattle.uart_16550.specs.declared.driver.TheConstants.{DEFAULT_SPIN_LIMIT}
 use Rattle.uart_16550.specs.declared.driver.Uart16550.{Uart16550}
@@ -13,11 +15,12 @@ use Rattle.uart_16550.specs.declared.driver.Uart16550.{Uart16550}
 abbrev pub backend_of : {B : Type 0} → Uart16550 B → B
 backend_of d = d.backend
 
--- a driver without its backend: its configuration, whether it takes the FIFO to be on, the saved bits of LSR and MSR,
--- the spin limit
+-- a driver without its backend: its configuration, whether it takes the FIFO to be on and which size it takes it to
+-- have, the saved bits of LSR and MSR, the spin limit
 pub record Fields : Type 0 where
   pub config : Config
   pub fifo : Bool
+  pub size : FifoSize
   pub lsr : ℕ
   pub msr : ℕ
   pub limit : ℕ
@@ -27,6 +30,7 @@ abbrev pub fields : {B : Type 0} → Uart16550 B → Fields
 fields d = record {
   config = d.config;
   fifo = d.fifo_enabled;
+  size = d.fifo_size;
   lsr = d.saved_lsr.0;
   msr = d.saved_msr.0;
   limit = non_zero_u64_get d.spin_limit;
@@ -34,16 +38,29 @@ fields d = record {
 
 -- what the lists of the next call depend on, as a function of the fields and of the driver
 abbrev pub settings_of : Fields → Settings
-settings_of f = record { checks = f.config.check_cts_before_sending; fifo = f.fifo; limit = f.limit }
+settings_of f =
+    record { checks = f.config.check_cts_before_sending; fifo = f.fifo; size = f.size; limit = f.limit }
 
 abbrev pub settings : {B : Type 0} → Uart16550 B → Settings
-settings d =
-    record { checks = d.config.check_cts_before_sending; fifo = d.fifo_enabled; limit = non_zero_u64_get d.spin_limit }
+settings d = record {
+  checks = d.config.check_cts_before_sending;
+  fifo = d.fifo_enabled;
+  size = d.fifo_size;
+  limit = non_zero_u64_get d.spin_limit;
+}
 
--- a driver over this backend that has made no access: FIFO treated as on, nothing saved, limit 1,000,000
+-- a driver over this backend that has made no access: FIFO treated as on, and of 16 characters, nothing saved, limit
+-- 1,000,000
 pub record IsFresh {B : Type 0} (d : Uart16550 B) (given : B) (config : Config) : Type 0 where
   pub backend : d.backend ≡ given
-  pub begins : fields d ≡ record { config = config; fifo = true; lsr = 0; msr = 0; limit = DEFAULT_SPIN_LIMIT }
+  pub begins : fields d ≡ record {
+    config = config;
+    fifo = true;
+    size = Sixteen;
+    lsr = 0;
+    msr = 0;
+    limit = DEFAULT_SPIN_LIMIT;
+  }
 
 -- A backend's step relation is a parameter about which nothing is known. Only an access that was really made gives a
 -- step. So 'the call made a path of steps with this list' says what happened, whatever the backend returns.
@@ -61,6 +78,7 @@ pub record Made {B : Type 0} (step : B → Access → B → Type 0) (L : Languag
   pub msr : new.saved_msr.0 ≡ bit_or old.saved_msr.0 (saved_msr list)
   pub config : new.config ≡ old.config
   pub fifo : new.fifo_enabled ≡ old.fifo_enabled
+  pub size : new.fifo_size ≡ old.fifo_size
   pub limit : new.spin_limit ≡ old.spin_limit
   pub fits : L (settings old) list
 
@@ -110,6 +128,10 @@ with_interrupts bits f = with_config (record f.config { interrupts = record { 0 
 -- the fields of a driver that takes the FIFO to be on, or off
 abbrev pub with_fifo : Bool → Fields → Fields
 with_fifo on f = record f { fifo = on }
+
+-- the fields of a driver that takes the FIFO to have this size
+abbrev pub with_fifo_size : FifoSize → Fields → Fields
+with_fifo_size size f = record f { size = size }
 
 -- the fields with these saved bits of LSR and MSR
 abbrev pub with_saved : ℕ → ℕ → Fields → Fields

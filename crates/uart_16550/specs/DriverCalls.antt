@@ -1,5 +1,5 @@
 -- The calls of a driver: the possible outcomes of each, and what it did for an outcome, as its contract says.
-use Rattle.std.specs.Prelude.{ℕ, Bool, List, [], ◌∷◌, Result}
+use Rattle.std.specs.Prelude.{ℕ, Bool, List, [], ◌∷◌, ◌++◌, Option, Result, option_to_list}
 use Rattle.std.specs.declared.fmt.Error.{Error}
 use Rattle.uart_spec.specs.Config.{IsComputable}
 use Rattle.uart_spec.specs.declared.config.Config.{Config}
@@ -22,7 +22,7 @@ use Rattle.uart_spec.specs.declared.setup.FifoSize.{FifoSize}
 use Rattle.uart_spec.specs.declared.setup.Setup.{Setup}
 use Rattle.uart_spec.specs.declared.access.Access.TheVariants.{Read}
 use Rattle.uart_16550.specs.Grammar.{Language, Only}
-use Rattle.uart_16550.specs.Driver.{Doing, Sets, with_limit}
+use Rattle.uart_16550.specs.Driver.{Doing, Sets, with_fifo_size, with_limit}
 use Rattle.uart_16550.specs.Receive.{ReadyToReceive, TryReceive, TryReceiveWithErrors}
 use Rattle.uart_spec.specs.declared.received.Received.{Received}
 use Rattle.uart_16550.specs.Transmit.{ReadyToSend, Sends, TrySends, SendsExact}
@@ -66,6 +66,7 @@ pub data SavingCall : Type 0 where
   receive_bytes_while : (slots : List ℕ) (answers : List Bool) → SavingCall
   flush_while : (answers : List Bool) → SavingCall
   send_burst : (size : FifoSize) (bytes : List ℕ) → SavingCall
+  send_gathered : (urgent : Option ℕ) (first second : List ℕ) → SavingCall
   read : (slots : List ℕ) → SavingCall
   write : (bytes : List ℕ) → SavingCall
   flush read_ready write_ready : SavingCall
@@ -95,6 +96,7 @@ SavingOutcome (receive_bytes_exact slots) = Result (Unit {0}) StalledError × Li
 SavingOutcome (try_send_byte byte) = Result (Unit {0}) ByteSendError
 SavingOutcome (send_bytes bytes) = ℕ
 SavingOutcome (send_burst size bytes) = ℕ
+SavingOutcome (send_gathered urgent first second) = ℕ
 SavingOutcome (send_bytes_exact bytes) = Result (Unit {0}) StalledError
 SavingOutcome (send_bytes_while bytes answers) = Result (Unit {0}) StalledError
 SavingOutcome (receive_bytes_while slots answers) = Result (Unit {0}) StalledError × List ℕ
@@ -130,6 +132,7 @@ SavingLists (receive_bytes_exact slots) end = ReceivesExactInto slots end.1 end.
 SavingLists (try_send_byte byte) result = TrySends byte result
 SavingLists (send_bytes bytes) count = Sends bytes count
 SavingLists (send_burst size bytes) count = SendsBurst size bytes count
+SavingLists (send_gathered urgent first second) count = Sends (option_to_list urgent ++ (first ++ second)) count
 SavingLists (send_bytes_exact bytes) result = SendsExact bytes result
 SavingLists (send_bytes_while bytes answers) result = AsAnswered answers (λ said. SendsWhile bytes said result)
 SavingLists (receive_bytes_while slots answers) end =
@@ -147,6 +150,7 @@ SavingLists (write_str text) result = SendsStr text result
 pub data ChangingCall : Type 0 where
   lsr msr config_register_dump : ChangingCall
   enable_interrupts disable_interrupts : (bits : ℕ) → ChangingCall
+  set_fifo_size : (size : FifoSize) → ChangingCall
   set_spin_limit : (limit : ℕ) → ChangingCall
   init start set_frame set_frame_when_idle : (config : Config) → IsComputable config → ChangingCall
   init_with : (setup : Setup) (config : Config) → IsComputable config → ChangingCall
@@ -162,6 +166,7 @@ ChangingOutcome msr = ℕ
 ChangingOutcome config_register_dump = ConfigRegisterDump
 ChangingOutcome (enable_interrupts bits) = Unit {0}
 ChangingOutcome (disable_interrupts bits) = Unit {0}
+ChangingOutcome (set_fifo_size size) = Unit {0}
 ChangingOutcome (set_spin_limit limit) = Unit {0}
 ChangingOutcome (init config computable) = Result (Unit {0}) InitError
 ChangingOutcome (start config computable) = Result (Unit {0}) Uart16550TtyError
@@ -182,6 +187,7 @@ ChangingDoing msr status = TakesMsr status
 ChangingDoing config_register_dump dump = Dumps dump
 ChangingDoing (enable_interrupts bits) result = Enables bits
 ChangingDoing (disable_interrupts bits) result = Disables bits
+ChangingDoing (set_fifo_size size) result = Sets (with_fifo_size size)
 ChangingDoing (set_spin_limit limit) result = Sets (with_limit limit)
 ChangingDoing (init config computable) result = Inits config result
 ChangingDoing (start config computable) result = Starts config result

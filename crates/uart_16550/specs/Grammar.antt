@@ -3,16 +3,18 @@ use Rattle.std.specs.Prelude.{◌≡◌, ◌<◌, ℕ, Bool, List, [], ◌∷◌
 use Rattle.uart_spec.specs.Bits.{has}
 use Rattle.uart_spec.specs.declared.access.Access.{Access}
 use Rattle.uart_spec.specs.declared.access.Access.TheVariants.{Read, Write}
+use Rattle.uart_spec.specs.declared.setup.FifoSize.{FifoSize}
 
 -- A call's list is a language of whole lists, made of the few words below. It is not the call's loop written again,
 -- which could repeat the loop's fault. A language takes the call's result too, so list and result are tied to each
 -- other.
 
--- what the lists of a call depend on: whether CTS is checked before sending, whether the FIFO is on, and the spin
--- limit
+-- what the lists of a call depend on: whether CTS is checked before sending, whether the FIFO is on, which size it is
+-- taken to have, and the spin limit
 pub record Settings : Type 0 where
   pub checks : Bool
   pub fifo : Bool
+  pub size : FifoSize
   pub limit : ℕ
 
 -- the lists of accesses that a call may make under some settings

@@ -8,7 +8,8 @@ use Rattle.uart_spec.specs.declared.registers.offsets.TheConstants as offsets
 use Rattle.uart_spec.specs.declared.registers.line_status.TheConstants.LSR
 use Rattle.uart_spec.specs.declared.registers.modem_control.TheConstants.MCR
 use Rattle.uart_spec.specs.declared.registers.modem_status.TheConstants.MSR
-use Rattle.uart_spec.specs.declared.baud.TheConstants.{FIFO_SIZE}
+use Rattle.uart_spec.specs.FifoSize.{characters}
+use Rattle.uart_spec.specs.declared.setup.FifoSize.{FifoSize}
 use Rattle.uart_spec.specs.declared.access.Access.{Access}
 use Rattle.uart_spec.specs.declared.access.Access.TheVariants.{Write}
 use Rattle.uart_16550.specs.Grammar.{Language, Settings, Only, Then, InOrder, FewMisses, AllMisses, Asks, IfChecks}
@@ -48,16 +49,16 @@ data_writes bytes = map (λ byte. Write offsets.DATA byte) bytes
 abbrev pub Burst : List ℕ → Language
 Burst bytes = Then SendHit (Only (data_writes bytes))
 
--- the most bytes in one burst: as many as the FIFO holds, or the one of the holding register
-abbrev pub burst_limit : Bool → ℕ
-burst_limit fifo = if fifo then FIFO_SIZE else 1
+-- the most bytes in one burst: as many as a FIFO of this size holds, or the one of the holding register
+abbrev pub burst_limit : (fifo : Bool) → FifoSize → ℕ
+burst_limit fifo size = if fifo then characters size else 1
 
 -- how many of these bytes are in one burst
 abbrev pub burst_size : Settings → List ℕ → ℕ
-burst_size s bytes = min (length bytes) (burst_limit s.fifo)
+burst_size s bytes = min (length bytes) (burst_limit s.fifo s.size)
 
 -- `send_bytes`: nothing if there are no bytes; else a send check and, if it succeeds, bytes from the front are written
--- to DATA: as many as the FIFO holds, or one if it is off. The result is how many
+-- to DATA: as many as a FIFO of the size that is set holds, or one if it is off. The result is how many
 abbrev pub Sends : List ℕ → ℕ → Language
 Sends bytes k s l =
     ((length bytes ≡ 0) × (k ≡ 0) × (l ≡ []))

@@ -7,7 +7,7 @@ ghost use Rattle.uart_spec.specs.declared.registers.offsets.TheConstants as offs
 ghost use Rattle.uart_spec.specs.declared.access.Access.TheVariants.{Read, Write};
 ghost use Rattle.uart_16550.specs.Grammar.{Only};
 ghost use Rattle.uart_16550.specs.Driver.{Made, Did, Plain, Sets, IsFresh};
-ghost use Rattle.uart_16550.specs.Driver.{backend_of, fields, with_limit};
+ghost use Rattle.uart_16550.specs.Driver.{backend_of, fields, with_fifo_size, with_limit};
 ghost use Rattle.uart_16550.specs.contracts.driver.Uart16550.{the_row};
 
 mod burst;
@@ -28,8 +28,8 @@ use crate::backend::Backend;
 use bitflags::Flags;
 pub use state::DriverState;
 use std::num::NonZeroU64;
-use uart_spec::Config;
 use uart_spec::registers::{LSR, MSR, offsets};
+use uart_spec::{Config, FifoSize};
 
 /// The spin limit of a new driver: how many unsuccessful polls in a row a wait makes before it
 /// returns an error.
@@ -65,6 +65,8 @@ pub struct Uart16550<B> {
     backend: B,
     config: Config,
     fifo_enabled: bool,
+    // What the program knows of the chip, as the spin limit is: no access changes it.
+    fifo_size: FifoSize,
     saved_lsr: LSR,
     saved_msr: MSR,
     spin_limit: NonZeroU64,
@@ -76,6 +78,7 @@ impl<B: Backend> Uart16550<B> {
     /// Makes no access: call `init` before any other call, or `attach`. Until then the
     /// configuration is `Config::DEFAULT`, no status bits are saved, and the FIFO is taken to be
     /// on. So a send before may write 16 bytes into a chip without a FIFO, which keeps one of them.
+    /// The size of the FIFOs is `FifoSize::Sixteen`, until `set_fifo_size` sets another.
     ///
     /// # Examples
     ///
@@ -91,6 +94,7 @@ impl<B: Backend> Uart16550<B> {
             backend,
             config: Config::DEFAULT,
             fifo_enabled: true,
+            fifo_size: FifoSize::Sixteen,
             saved_lsr: LSR::from_bits_retain(0),
             saved_msr: MSR::from_bits_retain(0),
             spin_limit: NonZeroU64::new(DEFAULT_SPIN_LIMIT).unwrap(),
@@ -156,7 +160,7 @@ impl<B: Backend> Uart16550<B> {
     /// After a `quiesce` that disables the FIFOs it is off. Makes no access.
     ///
     /// A driver that was never initialised takes the FIFO to be on. If it is on, a send check is
-    /// followed by up to 16 bytes, else by one.
+    /// followed by up to as many bytes as `fifo_size` says, else by one.
     ///
     /// # Examples
     ///
@@ -167,6 +171,44 @@ impl<B: Backend> Uart16550<B> {
         ensures { result ≡ (fields self.now).fifo }
     {
         self.fifo_enabled
+    }
+
+    /// Returns which size the FIFOs are taken to have: 16 characters, or what `set_fifo_size` set
+    /// last. Makes no access.
+    ///
+    /// # Examples
+    ///
+    /// ```
+    /// assert_eq!(rt; uart.fifo_size(), FifoSize::Sixteen);
+    /// ```
+    pub fn fifo_size(&self) -> FifoSize
+        ensures { result ≡ (fields self.now).size }
+    {
+        self.fifo_size
+    }
+
+    /// Sets which size the FIFOs are taken to have. Makes no access, and changes nothing else.
+    ///
+    /// From then on all that sends puts as many bytes into one burst as such a FIFO holds, if
+    /// `fifo_enabled`. So a larger size takes fewer looks and fewer interrupts for the same bytes.
+    /// No other call changes the size: `init` and `attach` keep it.
+    ///
+    /// The size is taken on trust. If it is larger than the chip's, the bytes that do not fit are
+    /// lost, and nothing tells. Some chips hold more than 16 characters only after a register of
+    /// their own was written. `find_fifo_size` finds the size of FIFOs as they are set up; a chip
+    /// of DesignWare may show it in CPR.
+    ///
+    /// # Examples
+    ///
+    /// ```
+    /// let size = uart.find_fifo_size()?;
+    /// uart.set_fifo_size(size);
+    /// uart.send_bytes_exact(bytes)?;
+    /// ```
+    pub fn set_fifo_size(&mut self, size: FifoSize)
+        ensures { Did B.step (Sets (with_fifo_size size)) self.old self.new }
+    {
+        self.fifo_size = size;
     }
 
     /// Returns how many unsuccessful polls in a row a wait makes before it returns an error. Makes
@@ -186,9 +228,10 @@ impl<B: Backend> Uart16550<B> {
     /// Sets how many unsuccessful polls in a row a wait makes before it returns an error. Makes no
     /// access, and changes nothing else.
     ///
-    /// Choose it by the time of one poll: at 9,600 baud a full FIFO and shift register hold 17
-    /// characters of 10 bits, which take about 17.7 ms to send. A limit near 2^64 is a wait without
-    /// end in practice: at a microsecond a poll it takes more than half a million years.
+    /// Choose it by the time of one poll: at 9,600 baud a full FIFO of 16 and the shift register
+    /// hold 17 characters of 10 bits, which take about 17.7 ms to send. A larger FIFO takes as much
+    /// longer as it is larger. A limit near 2^64 is a wait without end in practice: at a
+    /// microsecond a poll it takes more than half a million years.
     ///
     /// # Examples
     ///

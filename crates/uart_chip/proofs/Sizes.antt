@@ -35,6 +35,11 @@ pub room_within : (fifo : Bool) (size : FifoSize) → room fifo size ≤ charact
 room_within true size = omega arith
 room_within false size = let h = at_least_16 size in omega (arith, h)
 
+-- a larger FIFO has room for as many
+pub room_grows : (fifo : Bool) (small large : FifoSize) → characters small ≤ characters large → room fifo small ≤ room fifo large
+room_grows true small large fits = fits
+room_grows false small large fits = omega arith
+
 -- what fits into a FIFO of 16
 pub room_least : (fifo : Bool) (size : FifoSize) → room fifo Sixteen ≤ room fifo size
 room_least true size = at_least_16 size

@@ -51,19 +51,20 @@ one : (fifo : Bool) (x : RegisterAccess) → Moves (KnowsAsTaken fifo) x (KnowsA
     Goes (KnowsAsTaken fifo) (x ∷ []) (KnowsAsTaken fifo)
 one fifo x moves = goes_one (KnowsAsTaken fifo) (KnowsAsTaken fifo) x (stays_knows fifo) (stays_knows fifo) moves
 
-goes_block : (fifo : Bool) (block : Block) → IsFit fifo block → AreTaken fifo (accesses_of block) →
+goes_block : (fifo : Bool) (most : ℕ) (block : Block) → most ≤ room_of fifo Sixteen → IsFit most block → AreTaken fifo (accesses_of block) →
     Goes (KnowsAsTaken fifo) (accesses_of block) (KnowsAsTaken fifo)
-goes_block fifo (Look line) fit t = one fifo (Read offsets.LSR line) (moves_look fifo line)
-goes_block fifo (Hit line byte) fit t =
+goes_block fifo most (Look line) fits fit t = one fifo (Read offsets.LSR line) (moves_look fifo line)
+goes_block fifo most (Hit line byte) fits fit t =
     goes_on (KnowsAsTaken fifo) (Reading fifo) (KnowsAsTaken fifo) (Read offsets.LSR line) (Read offsets.DATA byte ∷ [])
     (stays_knows fifo) (stays_reading fifo) (reading_begins fifo line fit)
     (goes_one (Reading fifo) (KnowsAsTaken fifo) (Read offsets.DATA byte) (stays_reading fifo) (stays_knows fifo) (reading_ends fifo byte))
-goes_block fifo (Burst line checks bytes) fit t =
+goes_block fifo most (Burst line checks bytes) fits fit t =
+    let few = fit.2 in
     goes_on (KnowsAsTaken fifo) (Sending fifo 0) (KnowsAsTaken fifo) (Read offsets.LSR line) (checks ++ map (Write offsets.DATA) bytes)
     (stays_knows fifo) (stays_sending fifo 0) (sending_begins fifo line fit.0)
-    (checked fifo checks bytes fit.1 (taken_front fifo false checks (map (Write offsets.DATA) bytes) t.1) fit.2)
-goes_block fifo (Other access) fit t = one fifo access (moves_quiet fifo access fit t.0)
-goes_block fifo (Divisor lcr low high) fit t =
+    (checked fifo checks bytes fit.1 (taken_front fifo false checks (map (Write offsets.DATA) bytes) t.1) (omega (arith, few, fits)))
+goes_block fifo most (Other access) fits fit t = one fifo access (moves_quiet fifo access fit t.0)
+goes_block fifo most (Divisor lcr low high) fits fit t =
     let K = KnowsAsTaken fifo in
     let O = Opened fifo in
     goes_on K K K (Read offsets.LCR lcr) _ (stays_knows fifo) (stays_knows fifo) (moves_quiet fifo (Read offsets.LCR lcr) refl t.0)
@@ -72,19 +73,20 @@ goes_block fifo (Divisor lcr low high) fit t =
     (goes_on O O K (Read offsets.DLM high) _ (stays_opened fifo) (stays_opened fifo) (reads_high fifo high)
     (goes_one O K (Write offsets.LCR lcr) (stays_opened fifo) (stays_knows fifo) (closes_again fifo lcr (t.0.dlab refl refl))))))
 
-pub goes_blocks : (fifo : Bool) (blocks : List Block) → AllFit fifo blocks → AreTaken fifo (flat blocks) →
+pub goes_blocks : (fifo : Bool) (most : ℕ) (blocks : List Block) → most ≤ room_of fifo Sixteen → AllFit most blocks →
+    AreTaken fifo (flat blocks) →
     Goes (KnowsAsTaken fifo) (flat blocks) (KnowsAsTaken fifo)
-goes_blocks fifo [] fit t = goes_none (KnowsAsTaken fifo) (stays_knows fifo)
-goes_blocks fifo (block ∷ blocks) fit t =
+goes_blocks fifo most [] fits fit t = goes_none (KnowsAsTaken fifo) (stays_knows fifo)
+goes_blocks fifo most (block ∷ blocks) fits fit t =
     goes_then (KnowsAsTaken fifo) (KnowsAsTaken fifo) (KnowsAsTaken fifo) (accesses_of block) (flat blocks)
-    (goes_block fifo block fit.0 (taken_front fifo false (accesses_of block) (flat blocks) t))
-    (goes_blocks fifo blocks fit.1 (after_block fifo block (flat blocks) fit.0 t))
+    (goes_block fifo most block fits fit.0 (taken_front fifo false (accesses_of block) (flat blocks) t))
+    (goes_blocks fifo most blocks fits fit.1 (after_block fifo most block (flat blocks) fit.0 t))
 
-pub goes_in_blocks : (fifo : Bool) (l : List RegisterAccess) (ws rs : List ℕ) → InBlocks fifo l ws rs → AreTaken fifo l →
-    Goes (KnowsAsTaken fifo) l (KnowsAsTaken fifo)
-goes_in_blocks fifo l ws rs b t =
+pub goes_in_blocks : (fifo : Bool) (most : ℕ) (l : List RegisterAccess) (ws rs : List ℕ) → most ≤ room_of fifo Sixteen →
+    InBlocks most l ws rs → AreTaken fifo l → Goes (KnowsAsTaken fifo) l (KnowsAsTaken fifo)
+goes_in_blocks fifo most l ws rs fits b t =
     subst (λ (l : List RegisterAccess). Goes (KnowsAsTaken fifo) l (KnowsAsTaken fifo)) (sym b.joined)
-    (goes_blocks fifo b.blocks b.fit (subst (λ (l : List RegisterAccess). AreTaken fifo l) b.joined t))
+    (goes_blocks fifo most b.blocks fits b.fit (subst (λ (l : List RegisterAccess). AreTaken fifo l) b.joined t))
 
 -- ---- a check
 
@@ -140,11 +142,11 @@ goes_latch fifo _ (Looked lcr low high closed) t =
     (one fifo (Read offsets.LCR closed) (moves_quiet fifo (Read offsets.LCR closed) refl last)))
 
 pub goes_check : (fifo : Bool) (l : List RegisterAccess) → CheckList l → AreTaken fifo l → Goes (KnowsAsTaken fifo) l (KnowsAsTaken fifo)
-goes_check fifo _ (Quiet quiet q) t = goes_in_blocks fifo quiet [] [] (quiet_blocks fifo quiet q) t
+goes_check fifo _ (Quiet quiet q) t = goes_in_blocks fifo 0 quiet [] [] (omega arith) (quiet_blocks 0 quiet q) t
 goes_check fifo _ (Among front latch back p l q) t =
     let K = KnowsAsTaken fifo in
     let rest = after_quiet fifo front (latch ++ back) p t in
     goes_then K K K front (latch ++ back)
-    (goes_in_blocks fifo front [] [] (quiet_blocks fifo front p) (taken_front fifo false front (latch ++ back) t))
+    (goes_in_blocks fifo 0 front [] [] (omega arith) (quiet_blocks 0 front p) (taken_front fifo false front (latch ++ back) t))
     (goes_then K K K latch back (goes_latch fifo latch l (taken_front fifo false latch back rest))
-    (goes_in_blocks fifo back [] [] (quiet_blocks fifo back q) (after_latch fifo latch back l rest)))
+    (goes_in_blocks fifo 0 back [] [] (omega arith) (quiet_blocks 0 back q) (after_latch fifo latch back l rest)))

@@ -1,5 +1,5 @@
 -- The lists of the calls of a session: each is in blocks, sets the trigger level, or is that of a check.
-use Rattle.std.proofs.Common.{◌≡◌, ℕ, Bool, true, List, [], ◌∷◌, ◌++◌, Result, Ok, Err, refl, sym, ◌∙◌, ap, subst}
+use Rattle.std.proofs.Common.{◌≡◌, ◌≤◌, ℕ, Bool, true, List, [], ◌∷◌, ◌++◌, Result, Ok, Err, refl, sym, ◌∙◌, ap, subst, arith}
 use Rattle.uart_spec.specs.declared.access.Access.{Access as RegisterAccess}
 use Rattle.uart_spec.specs.declared.access.Access.TheVariants.{Write}
 use Rattle.uart_spec.specs.declared.errors.FifosOffError.{FifosOffError}
@@ -9,6 +9,8 @@ use Rattle.uart_spec.specs.declared.registers.fifo_trigger_level.FifoTriggerLeve
 use Rattle.uart_spec.specs.declared.registers.fifo_trigger_level.FifoTriggerLevel.TheVariants.{One}
 use Rattle.uart_spec.specs.declared.registers.line_status.TheConstants.LSR
 use Rattle.uart_spec.specs.declared.registers.offsets.TheConstants as offsets
+use Rattle.uart_spec.specs.declared.setup.FifoSize.TheVariants.{Sixteen}
+use Rattle.uart_chip.specs.Transmitter.{room}
 use Rattle.uart_16550.specs.Driver.{Fields, settings_of}
 use Rattle.uart_16550.specs.Grammar.{Settings}
 use Rattle.uart_16550.specs.Expansion.{expansion}
@@ -20,7 +22,7 @@ use Rattle.uart_events.specs.declared.call.Call.{Call}
 use Rattle.uart_events.specs.declared.call.Call.TheVariants as call
 use Rattle.uart_calls.specs.Lists.{IsListOf}
 use Rattle.uart_calls.specs.Meaning.{SendsShortText}
-use Rattle.uart_run.proofs.CallBlocks.{InBlocks, blocks_none, makes_look, ready_to_receive_blocks, ready_to_send_blocks}
+use Rattle.uart_run.proofs.CallBlocks.{InBlocks, most_in, blocks_none, makes_look, ready_to_receive_blocks, ready_to_send_blocks}
 use Rattle.uart_run.proofs.CallBlocks.{receives_blocks, receives_exact_blocks, receives_with_blocks, sends_blocks, sends_exact_blocks}
 use Rattle.uart_run.proofs.CallBlocks.{try_receive_blocks, try_sends_blocks}
 use Rattle.uart_run.proofs.CallKeeps.{answers_read_blocks, answers_write_blocks, checks_presence_blocks, connects_blocks, disables_keeps}
@@ -35,48 +37,48 @@ use Rattle.uart_judges_runs.proofs.Steps.{IsLevel, sets_level}
 use Rattle.uart_judges_runs.proofs.Blocks.{goes_check, goes_in_blocks}
 
 -- the list is in blocks, whatever is written and read; or it sets the trigger level; or it is that of `check_configured`
-pub data IsOfSession (fifo : Bool) (l : List RegisterAccess) : Type 0 where
-  blocks : (ws rs : List ℕ) → InBlocks fifo l ws rs → IsOfSession fifo l
-  level : (value : ℕ) → fifo ≡ true → IsLevel value → l ≡ Write offsets.FCR value ∷ [] → IsOfSession fifo l
-  check : CheckList l → IsOfSession fifo l
+pub data IsOfSession (fifo : Bool) (most : ℕ) (l : List RegisterAccess) : Type 0 where
+  blocks : (ws rs : List ℕ) → InBlocks most l ws rs → IsOfSession fifo most l
+  level : (value : ℕ) → fifo ≡ true → IsLevel value → l ≡ Write offsets.FCR value ∷ [] → IsOfSession fifo most l
+  check : CheckList l → IsOfSession fifo most l
 
-none_made : (fifo : Bool) (l : List RegisterAccess) → l ≡ [] → IsOfSession fifo l
-none_made fifo l is = blocks [] [] (subst (λ (l : List RegisterAccess). InBlocks fifo l [] []) (sym is) (blocks_none fifo))
+none_made : (fifo : Bool) (most : ℕ) (l : List RegisterAccess) → l ≡ [] → IsOfSession fifo most l
+none_made fifo most l is = blocks [] [] (subst (λ (l : List RegisterAccess). InBlocks most l [] []) (sym is) (blocks_none most))
 
 level_is : (level : FifoTriggerLevel) → IsLevel (level_bits level)
 level_is One = record { on = refl; keeps_received = refl; keeps_queued = refl }
 level_is _ = record { on = refl; keeps_received = refl; keeps_queued = refl }
 
 level_list : (v : FifoTriggerLevel) (r : Result (Unit {0}) FifosOffError) (f after : Fields) (l : List RegisterAccess) →
-    SetsTrigger v r f l after → IsOfSession f.fifo l
+    SetsTrigger v r f l after → IsOfSession f.fifo (most_in (settings_of f)) l
 level_list v (Ok u) f after l (on, d) =
     level (level_bits v) on (level_is v) (d.whole ∙ (ap (λ zs. zs ++ d.back) d.first.0 ∙ d.second.0.is))
-level_list v (Err e) f after l (off, is, same) = none_made f.fifo l is
+level_list v (Err e) f after l (off, is, same) = none_made f.fifo (most_in (settings_of f)) l is
 
 try_sends_list : (byte : ℕ) (s : Settings) (r : Result (Unit {0}) ByteSendError) (l : List RegisterAccess) → TrySends byte r s l →
-    IsOfSession s.fifo l
+    IsOfSession s.fifo (most_in s) l
 try_sends_list byte s (Ok x) l t = blocks _ _ (try_sends_blocks s byte (Ok x) l t)
 try_sends_list byte s (Err e) l t = blocks _ _ (try_sends_blocks {T = Unit {0}} s byte (Err e) l t)
 
 sends_exact_list : (bytes : List ℕ) (s : Settings) (r : Result (Unit {0}) StalledError) (l : List RegisterAccess) → SendsExact bytes r s l →
-    IsOfSession s.fifo l
+    IsOfSession s.fifo (most_in s) l
 sends_exact_list bytes s (Ok x) l t = blocks _ _ (sends_exact_blocks s bytes (Ok x) l t)
 sends_exact_list bytes s (Err e) l t = blocks _ _ (sends_exact_blocks {T = Unit {0}} s bytes (Err e) l t)
 
 text_list : (text : List ℕ) (s : Settings) (r : Result (Unit {0}) StalledError) (l : List RegisterAccess) → SendsShortText text r s l →
-    IsOfSession s.fifo l
+    IsOfSession s.fifo (most_in s) l
 text_list text s (Ok x) l (short, t) = blocks _ _ (sends_each_blocks s (expansion text) l t)
 text_list text s (Err e) l (short, (sent, is, t)) = blocks _ _ (sends_beginning_blocks s (expansion text) sent l t)
 
 receives_exact_list : (slots : ℕ) (s : Settings) (bytes : List ℕ) (r : Result (Unit {0}) StalledError) (l : List RegisterAccess) →
-    ReceivesExact slots bytes r s l → IsOfSession s.fifo l
+    ReceivesExact slots bytes r s l → IsOfSession s.fifo (most_in s) l
 receives_exact_list slots s bytes (Ok x) l t = blocks _ _ (receives_exact_blocks s slots bytes (Ok x) l t)
 receives_exact_list slots s bytes (Err e) l t = blocks _ _ (receives_exact_blocks {T = Unit {0}} s slots bytes (Err e) l t)
 
 -- each call
 pub list_of : (c : Call) (f after : Fields) (l : List RegisterAccess) (a : Answer) → IsSteady c → IsListOf c f l a after →
-    IsOfSession f.fifo l
-list_of call.Next f after l a i h = none_made f.fifo l h.does.0
+    IsOfSession f.fifo (most_in (settings_of f)) l
+list_of call.Next f after l a i h = none_made f.fifo (most_in (settings_of f)) l h.does.0
 list_of (call.SetTriggerLevel v) f after l a i h = level_list v h.outcome f after l h.does
 list_of (call.CheckConfigured outputs) f after l a i h =
     check (check_list (settings_of f) f.config outputs.0 h.outcome l h.does.0)
@@ -98,7 +100,7 @@ list_of call.PeekModem f after l a i h = blocks _ _ (plain_blocks (settings_of f
 list_of call.IsIdle f after l a i h = blocks _ _ (makes_look (settings_of f) LSR.TRANSMITTER_EMPTY.0 h.outcome l h.does.0)
 list_of call.Spr f after l a i h = blocks _ _ (plain_blocks (settings_of f) offsets.SPR h.outcome refl l h.does.0)
 list_of call.DllDlm f after l a i h = blocks _ _ (reads_divisor_blocks (settings_of f) h.outcome.0 h.outcome.1 l h.does.0)
-list_of call.FifoEnabled f after l a i h = none_made f.fifo l h.does.1.0
+list_of call.FifoEnabled f after l a i h = none_made f.fifo (most_in (settings_of f)) l h.does.1.0
 list_of call.Dump f after l a i h = blocks _ _ (dumps_keeps h.outcome f after l h.does).blocks
 list_of (call.TrySend byte) f after l a i h = try_sends_list byte (settings_of f) h.outcome l h.does.0
 list_of (call.Enable bits) f after l a i h = blocks _ _ (enables_keeps bits.0 f after l h.does).blocks
@@ -114,12 +116,16 @@ list_of (call.Write bytes) f after l a i h = blocks _ _ (writes_blocks (settings
 list_of (call.Text text) f after l a i h = text_list text.bytes (settings_of f) h.outcome l h.does.0
 list_of _ f after l a i h = absurd i
 
--- and so is each list of a session
-pub goes_list : (fifo : Bool) (l : List RegisterAccess) → IsOfSession fifo l → AreTaken fifo l →
-    Goes (KnowsAsTaken fifo) l (KnowsAsTaken fifo)
-goes_list fifo l (blocks ws rs b) t = goes_in_blocks fifo l ws rs b t
-goes_list fifo l (check c) t = goes_check fifo l c t
-goes_list fifo l (level value on v is) t =
+-- a driver that takes the FIFOs for 16 writes no more at once than fits into one of 16
+pub sixteen_at_once : (f : Fields) → f.size ≡ Sixteen → most_in (settings_of f) ≤ room f.fifo Sixteen
+sixteen_at_once f size = rw size (omega arith)
+
+-- and so is each list of a session, if it writes no more at once
+pub goes_list : (fifo : Bool) (most : ℕ) (l : List RegisterAccess) → most ≤ room fifo Sixteen → IsOfSession fifo most l →
+    AreTaken fifo l → Goes (KnowsAsTaken fifo) l (KnowsAsTaken fifo)
+goes_list fifo most l fits (blocks ws rs b) t = goes_in_blocks fifo most l ws rs fits b t
+goes_list fifo most l fits (check c) t = goes_check fifo l c t
+goes_list fifo most l fits (level value on v is) t =
     let one : Goes (KnowsAsTaken true) (Write offsets.FCR value ∷ []) (KnowsAsTaken true) =
     goes_one (KnowsAsTaken true) (KnowsAsTaken true) (Write offsets.FCR value) (stays_knows true) (stays_knows true) (sets_level value v) in
     subst (λ (l : List RegisterAccess). Goes (KnowsAsTaken fifo) l (KnowsAsTaken fifo)) (sym is)

@@ -48,15 +48,15 @@ data_leave (byte ∷ bytes) b = data_leave bytes b
 
 -- ---- blocks, and checks
 
-block_leaves : (fifo : Bool) (block : Block) → IsFit fifo block → AreTaken fifo (accesses_of block) →
+block_leaves : (fifo : Bool) (most : ℕ) (block : Block) → IsFit most block → AreTaken fifo (accesses_of block) →
     opened_after (accesses_of block) false ≡ false
-block_leaves fifo (Look line) fit t = refl
-block_leaves fifo (Hit line byte) fit t = refl
-block_leaves fifo (Burst line checks bytes) fit t =
+block_leaves fifo most (Look line) fit t = refl
+block_leaves fifo most (Hit line byte) fit t = refl
+block_leaves fifo most (Burst line checks bytes) fit t =
     let sent : List RegisterAccess = map (Write offsets.DATA) bytes in
     opened-append checks sent false ∙ (ap (opened_after sent) (quiets_leave checks false fit.1) ∙ data_leave bytes false)
-block_leaves fifo (Other access) fit t = quiet_leaves access false fit
-block_leaves fifo (Divisor lcr low high) fit t = t.0.dlab refl refl
+block_leaves fifo most (Other access) fit t = quiet_leaves access false fit
+block_leaves fifo most (Divisor lcr low high) fit t = t.0.dlab refl refl
 
 -- what follows a part that leaves DLAB off
 pub taken_rest : (fifo : Bool) (xs ys : List RegisterAccess) → opened_after xs false ≡ false → AreTaken fifo (xs ++ ys) → AreTaken fifo ys
@@ -67,18 +67,18 @@ both_leave : (xs ys : List RegisterAccess) → opened_after xs false ≡ false �
     opened_after (xs ++ ys) false ≡ false
 both_leave xs ys p q = opened-append xs ys false ∙ (ap (opened_after ys) p ∙ q)
 
-pub after_block : (fifo : Bool) (block : Block) (l : List RegisterAccess) → IsFit fifo block → AreTaken fifo (accesses_of block ++ l) →
-    AreTaken fifo l
-after_block fifo block l fit t =
-    taken_rest fifo (accesses_of block) l (block_leaves fifo block fit (taken_front fifo false (accesses_of block) l t)) t
+pub after_block : (fifo : Bool) (most : ℕ) (block : Block) (l : List RegisterAccess) → IsFit most block →
+    AreTaken fifo (accesses_of block ++ l) → AreTaken fifo l
+after_block fifo most block l fit t =
+    taken_rest fifo (accesses_of block) l (block_leaves fifo most block fit (taken_front fifo false (accesses_of block) l t)) t
 
-pub blocks_leave : (fifo : Bool) (blocks : List Block) → AllFit fifo blocks → AreTaken fifo (flat blocks) →
+pub blocks_leave : (fifo : Bool) (most : ℕ) (blocks : List Block) → AllFit most blocks → AreTaken fifo (flat blocks) →
     opened_after (flat blocks) false ≡ false
-blocks_leave fifo [] fit t = refl
-blocks_leave fifo (block ∷ blocks) fit t =
+blocks_leave fifo most [] fit t = refl
+blocks_leave fifo most (block ∷ blocks) fit t =
     both_leave (accesses_of block) (flat blocks)
-    (block_leaves fifo block fit.0 (taken_front fifo false (accesses_of block) (flat blocks) t))
-    (blocks_leave fifo blocks fit.1 (after_block fifo block (flat blocks) fit.0 t))
+    (block_leaves fifo most block fit.0 (taken_front fifo false (accesses_of block) (flat blocks) t))
+    (blocks_leave fifo most blocks fit.1 (after_block fifo most block (flat blocks) fit.0 t))
 
 latch_leaves : (fifo : Bool) (l : List RegisterAccess) → LatchList l → AreTaken fifo l → opened_after l false ≡ false
 latch_leaves fifo _ (Ignored lcr shown) t = t.0.dlab refl refl

@@ -4,7 +4,7 @@ use Rattle.std.specs.Prelude.{◌+◌, ◌*◌, nat_le, if◌then◌else◌}
 use Rattle.std.specs.List.{AllByRecursion}
 use Rattle.std.proofs.lemmas.Grind.{common_steps}
 use Rattle.std.proofs.lemmas.Nat.Bits.{bit_at_above}
-use Rattle.uart_spec.specs.Bits.{has}
+use Rattle.uart_spec.specs.Bits.{has, has_any}
 use Rattle.uart_spec.specs.Fields.{parity_code, word_length_code}
 use Rattle.uart_spec.specs.declared.config.Config.{Config}
 use Rattle.uart_spec.specs.declared.registers.frame.Parity.{Parity}
@@ -12,6 +12,7 @@ use Rattle.uart_spec.specs.declared.registers.frame.Parity.TheVariants.{Disabled
 use Rattle.uart_spec.specs.declared.registers.frame.WordLength.{WordLength}
 use Rattle.uart_spec.specs.declared.registers.frame.WordLength.TheVariants.{EightBits, FiveBits}
 use Rattle.uart_spec.specs.declared.registers.line_control.TheConstants.LCR as lcr_bits
+use Rattle.uart_spec.specs.declared.registers.modem_control.TheConstants.MCR
 use Rattle.uart_16550.specs.Driver.{Fields, fields}
 use Rattle.uart_16550.specs.Init.{frame_bits}
 use Rattle.uart_16550.specs.Tty.{inner_of}
@@ -19,6 +20,7 @@ use Rattle.uart_events.specs.declared.call.Call.{Call}
 use Rattle.uart_chip.proofs.Bits.{has_bit, has_one}
 use Rattle.uart_judges.specs.Findings.{enables_some, is_cut_off}
 use Rattle.uart_judges.specs.Shows.{is_cut}
+use Rattle.uart_run.proofs.initialising.Inits.{frame-dlab}
 use Rattle.uart_run.specs.Ready.{IsInitialised}
 use Rattle.uart_run.specs.Run.{State, machine_of}
 use Rattle.uart_judges_runs.specs.Causes.{AsksFor, Causes, Fits, GivesOnly, IsConfiguredFor}
@@ -71,17 +73,18 @@ pub initialised_gives : (c : Causes) (config : Config) (calls : List Call) (t : 
 initialised_gives c config calls t is stored set asks =
     let f : Fields = fields (inner_of t) in
     let m = machine_of t in
+    let dlab = ap (λ (v : ℕ). has_any v lcr_bits.DLAB.0) is.lcr ∙ frame-dlab config in
     record {
-      begins = record { dlab = is.ready.dlab; loopback = is.ready.loopback; fifo = is.ready.fifo };
+      begins = record { dlab = dlab; loopback = ap (λ (v : ℕ). has_any v MCR.LOOP_BACK.0) is.mcr; fifo = is.knows };
       interrupts = λ e.
           ap (λ (v : ℕ). enables_some (Some (record { 0 = v }))) is.ier ∙ part_off config.interrupts.0 15 (set.interrupts e);
       out2 = λ e. ap (λ (v : ℕ). is_cut_off (Some (record { 0 = v }))) is.mcr;
       set_up = record {
-        dlab = has_one 7 m.chip.latches.lcr ∙ is.ready.dlab;
+        dlab = has_one 7 m.chip.latches.lcr ∙ dlab;
         not_in_break = λ e. ap (λ (v : ℕ). has v lcr_bits.SET_BREAK.0) is.lcr
             ∙ no_break config.data_bits config.extra_stop_bits config.parity;
         checks = λ e. ap (λ (k : Config). k.check_cts_before_sending) stored ∙ set.checks e;
-        fifos = λ e. sym is.ready.fifo ∙ (is.fifo ∙ set.fifos e);
+        fifos = λ e. sym is.knows ∙ (is.fifo ∙ set.fifos e);
       };
       asks = subst (λ (line : ℕ). AllByRecursion (AsksFor c line) calls) (sym is.lcr) asks;
     }

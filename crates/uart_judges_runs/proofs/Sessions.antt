@@ -3,7 +3,8 @@ use Rattle.std.proofs.Common.{◌≡◌, Bool, List, [], ◌∷◌, Result, Ok, 
 use Rattle.uart_spec.specs.declared.access.Access.{Access as RegisterAccess}
 use Rattle.uart_spec.specs.declared.errors.FifosOffError.{FifosOffError}
 use Rattle.uart_spec.specs.declared.registers.fifo_trigger_level.FifoTriggerLevel.{FifoTriggerLevel}
-use Rattle.uart_16550.specs.Driver.{Fields}
+use Rattle.uart_spec.specs.declared.setup.FifoSize.TheVariants.{Sixteen}
+use Rattle.uart_16550.specs.Driver.{Fields, settings_of}
 use Rattle.uart_16550.specs.Setup.{SetsTrigger}
 use Rattle.uart_events.specs.declared.call.Answer.{Answer}
 use Rattle.uart_events.specs.declared.call.Call.{Call}
@@ -14,7 +15,9 @@ use Rattle.uart_judges_runs.specs.Calls.{IsSteady, KnowsAsTaken}
 use Rattle.uart_judges_runs.specs.Runs.{IsSession}
 use Rattle.uart_judges_runs.proofs.Recordings.{Goes, goes_none, goes_then}
 use Rattle.uart_judges_runs.proofs.Kept.{stays_knows}
-use Rattle.uart_judges_runs.proofs.CallLists.{goes_list, list_of}
+use Rattle.uart_run.proofs.CallBlocks.{most_in}
+use Rattle.uart_run.proofs.SizeKept.{call_leaves}
+use Rattle.uart_judges_runs.proofs.CallLists.{goes_list, list_of, sixteen_at_once}
 use Rattle.uart_judges_runs.proofs.Taken.{OpenIn, list_path}
 
 level_fifo : (v : FifoTriggerLevel) (r : Result (Unit {0}) FifosOffError) (f after : Fields) (l : List RegisterAccess) →
@@ -46,17 +49,23 @@ same_fifo (call.Enable bits) f after l a i h = ap (λ (g : Fields). g.fifo) h.do
 same_fifo (call.Disable bits) f after l a i h = ap (λ (g : Fields). g.fifo) h.does.2
 same_fifo _ f after l a i h = ap (λ (g : Fields). g.fifo) h.does.1
 
-pub goes_session : (calls : List Call) (f : Fields) (m n : MachineState) (l : List RegisterAccess) → OpenIn f.fifo m →
+-- and for as large as before
+same_size : (c : Call) (f after : Fields) (l : List RegisterAccess) (a : Answer) → IsListOf c f l a after → after.size ≡ f.size
+same_size c f after l a h = call_leaves c h.outcome f l after h.does
+
+pub goes_session : (calls : List Call) (f : Fields) (m n : MachineState) (l : List RegisterAccess) → f.size ≡ Sixteen → OpenIn f.fifo m →
     IsSession calls f m l n →
     Goes (KnowsAsTaken f.fifo) l (KnowsAsTaken f.fifo)
-goes_session [] f m n l o h =
+goes_session [] f m n l size o h =
     subst (λ (l : List RegisterAccess). Goes (KnowsAsTaken f.fifo) l (KnowsAsTaken f.fifo)) (sym h.0)
     (goes_none (KnowsAsTaken f.fifo) (stays_knows f.fifo))
-goes_session (c ∷ calls) f m n l o h =
+goes_session (c ∷ calls) f m n l size o h =
     let K = KnowsAsTaken f.fifo in
     let s = list_of c f h.after h.front h.answer h.steady h.list in
-    let t = list_path f.fifo h.front m h.mid s h.path o in
+    let t = list_path f.fifo (most_in (settings_of f)) h.front m h.mid s h.path o in
     let same : h.after.fifo ≡ f.fifo = same_fifo c f h.after h.front h.answer h.steady h.list in
-    let rest = goes_session calls h.after h.mid n h.back (subst (λ (b : Bool). OpenIn b h.mid) (sym same) t.after) h.follows in
+    let still : h.after.size ≡ Sixteen = same_size c f h.after h.front h.answer h.list ∙ size in
+    let rest = goes_session calls h.after h.mid n h.back still (subst (λ (b : Bool). OpenIn b h.mid) (sym same) t.after) h.follows in
     let back : Goes K h.back K = subst (λ (b : Bool). Goes (KnowsAsTaken b) h.back (KnowsAsTaken b)) same rest in
-    subst (λ (l : List RegisterAccess). Goes K l K) (sym h.whole) (goes_then K K K h.front h.back (goes_list f.fifo h.front s t.taken) back)
+    subst (λ (l : List RegisterAccess). Goes K l K) (sym h.whole) (goes_then K K K h.front h.back
+    (goes_list f.fifo (most_in (settings_of f)) h.front (sixteen_at_once f size) s t.taken) back)

@@ -160,25 +160,25 @@ data_plain (byte ∷ bytes) = (inl refl, data_plain bytes)
 line_plain : (value : ℕ) → IsPlain (Write offsets.LCR value)
 line_plain value = inr (inl refl)
 
-block_plain : (fifo : Bool) (block : Block) → IsFit fifo block → AllByRecursion IsPlain (accesses_of block)
-block_plain fifo (Look line) fit = (tt, tt)
-block_plain fifo (Hit line byte) fit = (tt, (tt, tt))
-block_plain fifo (Burst line checks bytes) fit =
+block_plain : (most : ℕ) (block : Block) → IsFit most block → AllByRecursion IsPlain (accesses_of block)
+block_plain most (Look line) fit = (tt, tt)
+block_plain most (Hit line byte) fit = (tt, (tt, tt))
+block_plain most (Burst line checks bytes) fit =
     (tt, all_plain-append checks (map (Write offsets.DATA) bytes) (quiets_plain checks fit.1) (data_plain bytes))
-block_plain fifo (Other x) fit = (quiet_plain x fit, tt)
-block_plain fifo (Divisor lcr low high) fit =
+block_plain most (Other x) fit = (quiet_plain x fit, tt)
+block_plain most (Divisor lcr low high) fit =
     (tt, (line_plain (bit_or lcr lcr_bits.DLAB.0), (tt, (tt, (line_plain lcr, tt)))))
 
-blocks_plain : (fifo : Bool) (more : List Block) → AllFit fifo more → AllByRecursion IsPlain (flat more)
-blocks_plain fifo [] fit = tt
-blocks_plain fifo (block ∷ more) fit =
-    all_plain-append (accesses_of block) (flat more) (block_plain fifo block fit.0) (blocks_plain fifo more fit.1)
+blocks_plain : (most : ℕ) (more : List Block) → AllFit most more → AllByRecursion IsPlain (flat more)
+blocks_plain most [] fit = tt
+blocks_plain most (block ∷ more) fit =
+    all_plain-append (accesses_of block) (flat more) (block_plain most block fit.0) (blocks_plain most more fit.1)
 
-blocks_path : (fifo : Bool) (more : List Block) (m n : MachineState) → AllFit fifo more → Path MachineStep m (flat more) n →
+blocks_path : (fifo : Bool) (most : ℕ) (more : List Block) (m n : MachineState) → AllFit most more → Path MachineStep m (flat more) n →
     OpenIn fifo m → Takes fifo (flat more) n
-blocks_path fifo more m n fit path o =
-    takes fifo (flat more) n (λ t. blocks_leave fifo more fit t)
-    (plain_path fifo false (flat more) m n (blocks_plain fifo more fit) path o)
+blocks_path fifo most more m n fit path o =
+    takes fifo (flat more) n (λ t. blocks_leave fifo most more fit t)
+    (plain_path fifo false (flat more) m n (blocks_plain most more fit) path o)
 
 -- ---- a check
 
@@ -215,13 +215,13 @@ level_path value m n v path o = record {
 
 -- ---- a list of a session
 
-pub list_path : (fifo : Bool) (l : List RegisterAccess) (m n : MachineState) → IsOfSession fifo l → Path MachineStep m l n → OpenIn fifo m →
-    Takes fifo l n
-list_path fifo l m n (blocks ws rs b) path o =
+pub list_path : (fifo : Bool) (most : ℕ) (l : List RegisterAccess) (m n : MachineState) → IsOfSession fifo most l →
+    Path MachineStep m l n → OpenIn fifo m → Takes fifo l n
+list_path fifo most l m n (blocks ws rs b) path o =
     subst (λ (l : List RegisterAccess). Takes fifo l n) (sym b.joined)
-    (blocks_path fifo b.blocks m n b.fit (path_as m n l (flat b.blocks) b.joined path) o)
-list_path fifo l m n (check c) path o = check_path fifo l m n c path o
-list_path fifo l m n (level value on v is) path o =
+    (blocks_path fifo most b.blocks m n b.fit (path_as m n l (flat b.blocks) b.joined path) o)
+list_path fifo most l m n (check c) path o = check_path fifo l m n c path o
+list_path fifo most l m n (level value on v is) path o =
     let p : Path MachineStep m (Write offsets.FCR value ∷ []) n = path_as m n l (Write offsets.FCR value ∷ []) is path in
     let t : Takes fifo (Write offsets.FCR value ∷ []) n =
     subst (λ (b : Bool). Takes b (Write offsets.FCR value ∷ []) n) (sym on)

@@ -3,7 +3,7 @@ use Rattle.std.proofs.Common.{◌≡◌, ◌≤◌, ℕ, Bool, true, false, not,
 use Rattle.std.proofs.Common.{arith}
 use Rattle.std.proofs.lemmas.Bool.{or_parts}
 use Rattle.uart_spec.specs.declared.access.Access.{Access as RegisterAccess}
-use Rattle.uart_16550.specs.Driver.{Fields}
+use Rattle.uart_16550.specs.Driver.{Fields, settings_of}
 use Rattle.uart_events.specs.declared.call.Answer.{Answer}
 use Rattle.uart_events.specs.declared.call.Call.{Call}
 use Rattle.uart_calls.specs.Lists.{IsListOf}
@@ -21,7 +21,8 @@ use Rattle.uart_judges_runs.specs.Causes.{AreShownFor, AreShownFrom, AsksFor, Ca
 use Rattle.uart_judges_runs.specs.Causes.{cause_some, has_cause, is_unfounded, is_warning}
 use Rattle.uart_judges_runs.specs.Lost.{IsSo}
 use Rattle.uart_judges_runs.specs.Recorded.{HasNone, IsNot, NoneIs, accesses_in, is_of_calls}
-use Rattle.uart_judges_runs.proofs.CallLists.{goes_list, list_of}
+use Rattle.uart_run.proofs.CallBlocks.{most_in}
+use Rattle.uart_judges_runs.proofs.CallLists.{goes_list, list_of, sixteen_at_once}
 use Rattle.uart_judges_runs.proofs.Founded.{is_of_caller}
 use Rattle.uart_judges_runs.proofs.GoodCalls.{good_list}
 use Rattle.uart_judges_runs.proofs.GoodLists.{Causal}
@@ -167,12 +168,13 @@ settled_at_first c line f a set taken k = record {
 
 pub unfounded_call : (c : Causes) (line : ℕ) (call : Call) (before after : Fields) (accesses : List RegisterAccess) (answer : Answer)
     (past entries : List Entry) → IsSteady call → AsksFor c line call → IsSetUpFor c line before →
-    IsListOf call before accesses answer after →
+    before.size ≡ Sixteen → IsListOf call before accesses answer after →
     AreTaken before.fifo accesses → AreShownFor c line accesses → KnowsAsTaken before.fifo (known past) → KnowsFor c line (known past) →
     accesses_in entries ≡ accesses → HasNone (is_unfounded c) past entries
-unfounded_call c line call before after accesses answer past entries steady asks set list taken shown knows knows_for is =
+unfounded_call c line call before after accesses answer past entries steady asks set size list taken shown knows knows_for is =
     let f : Stage = first before in
-    let twelve = (goes_list before.fifo accesses (list_of call before after accesses answer steady list) taken past entries is knows).0 in
+    let twelve = (goes_list before.fifo (most_in (settings_of before)) accesses (sixteen_at_once before size)
+    (list_of call before after accesses answer steady list) taken past entries is knows).0 in
     let causal = good_list c line before set call after accesses answer steady asks list before.config.check_cts_before_sending false
     (λ n e. e) in
     let walks : Walks c line f accesses = walks_of c line before.fifo accesses f _ shown taken causal in

@@ -35,10 +35,11 @@ ghost use Rattle.uart_calls.specs.Lists.{IsListOf};
 /// Of each call in a session, over whatever backend: the recording of its accesses has no finding
 /// that is about how a call is made, with whatever happens between them. The chip is to show
 /// loopback off, DLAB off unless the call has just set it, and the FIFOs as the driver takes them
-/// to be.
+/// to be. The judge takes FIFOs for 16, and the driver is one that does so too, here and below: one
+/// that takes them for larger writes more after a look.
 pub fn calls_are_not_warned()
     ensures { (call : Call) (before after : Fields) (accesses : List Access) (answer : Answer)
-        (past entries : List Entry) → IsSteady call →
+        (past entries : List Entry) → before.size ≡ Sixteen → IsSteady call →
         IsListOf call before accesses answer after → AreTaken before.fifo accesses →
         KnowsAsTaken before.fifo (known past) → accesses_in entries ≡ accesses →
         HasNone is_of_calls past entries }
@@ -47,9 +48,10 @@ pub fn calls_are_not_warned()
 /// Of a session over the software chip, whatever its schedule: its recording has no such finding.
 pub fn sessions_are_not_warned()
     ensures { (calls : List Call) (fields : Fields) (accesses : List Access)
-        (old new : MachineState) (past entries : List Entry) → IsOpenTo fields old →
-        IsSession calls fields old accesses new → KnowsAsTaken fields.fifo (known past) →
-        accesses_in entries ≡ accesses → HasNone is_of_calls past entries }
+        (old new : MachineState) (past entries : List Entry) → fields.size ≡ Sixteen →
+        IsOpenTo fields old → IsSession calls fields old accesses new →
+        KnowsAsTaken fields.fifo (known past) → accesses_in entries ≡ accesses →
+        HasNone is_of_calls past entries }
 {}
 
 /// Of each call in a session, over whatever backend: each warning in the recording of its accesses
@@ -57,7 +59,7 @@ pub fn sessions_are_not_warned()
 pub fn warned_calls_have_a_cause()
     ensures { (causes : Causes) (line : ℕ) (call : Call) (before after : Fields)
         (accesses : List Access) (answer : Answer) (past entries : List Entry) → IsSteady call →
-        AsksFor causes line call → IsSetUpFor causes line before →
+        AsksFor causes line call → IsSetUpFor causes line before → before.size ≡ Sixteen →
         IsListOf call before accesses answer after → AreTaken before.fifo accesses →
         AreShownFor causes line accesses → KnowsAsTaken before.fifo (known past) →
         KnowsFor causes line (known past) → accesses_in entries ≡ accesses →
@@ -70,12 +72,13 @@ pub fn warned_calls_have_a_cause()
 pub fn warned_sessions_have_a_cause()
     ensures caused { (causes : Causes) (calls : List Call) (fields : Fields)
         (accesses : List Access) (old new : MachineState) (past entries : List Entry) →
-        GivesOnly causes calls fields old → IsSession calls fields old accesses new →
+        fields.size ≡ Sixteen → GivesOnly causes calls fields old →
+        IsSession calls fields old accesses new →
         KnowsAsTaken fields.fifo (known past) → KnowsFor causes old.chip.latches.lcr (known past) →
         accesses_in entries ≡ accesses → HasNone (is_unfounded causes) past entries }
     ensures none { (causes : Causes) (calls : List Call) (fields : Fields)
         (accesses : List Access) (old new : MachineState) (past entries : List Entry) →
-        cause_some causes ≡ false → GivesOnly causes calls fields old →
+        cause_some causes ≡ false → fields.size ≡ Sixteen → GivesOnly causes calls fields old →
         IsSession calls fields old accesses new → KnowsAsTaken fields.fifo (known past) →
         KnowsFor causes old.chip.latches.lcr (known past) → accesses_in entries ≡ accesses →
         HasNone is_warning past entries }

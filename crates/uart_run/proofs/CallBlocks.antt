@@ -20,9 +20,8 @@ use Rattle.uart_16550.specs.Receive.{HitWithErrors, ReceivesWithErrors}
 use Rattle.uart_spec.specs.declared.received.Received.{Received}
 use Rattle.uart_run.specs.Session.{only_bytes}
 use Rattle.uart_16550.specs.Transmit.{LinesAllow, SendHit, SendRefused, SendMiss, ReadyToSend, Burst, burst_size}
-use Rattle.uart_16550.specs.Transmit.{Sends, Round, SendsSome, IsCut, SendsAll, SendsExact, TrySends, WaitsFor}
+use Rattle.uart_16550.specs.Transmit.{burst_limit, Sends, Round, SendsSome, IsCut, SendsAll, SendsExact, TrySends, WaitsFor}
 use Rattle.uart_spec.specs.Bits.{has_any}
-use Rattle.uart_spec.specs.declared.setup.FifoSize.TheVariants.{Sixteen}
 use Rattle.uart_chip.specs.Transmitter.{room}
 use Rattle.uart_chip.specs.Machine.{MachineState, MachineStep}
 use Rattle.uart_chip.proofs.Bits.{has_one}
@@ -33,11 +32,11 @@ use Rattle.uart_chip.proofs.conservation.BlockLaws.{IsOpen, Stands, PassedBlocks
 
 -- ---- accesses in blocks
 
--- these accesses are blocks of a driver that takes the FIFO to be on or off; they write these bytes and read those
-pub record InBlocks (fifo : Bool) (made : List Access) (written read : List ℕ) : Type 0 where
+-- these accesses are blocks, in which at most so many bytes are written after one look; they write these bytes and read those
+pub record InBlocks (most : ℕ) (made : List Access) (written read : List ℕ) : Type 0 where
   pub blocks : List Block
   pub joined : made ≡ flat blocks
-  pub fit : AllFit fifo blocks
+  pub fit : AllFit most blocks
   pub is_written : data_written blocks ≡ written
   pub is_read : data_read blocks ≡ read
 
@@ -45,9 +44,9 @@ flat-append : (xs ys : List Block) → flat (xs ++ ys) ≡ flat xs ++ flat ys
 flat-append [] ys = refl
 flat-append (x ∷ xs) ys = ap (λ zs. accesses_of x ++ zs) (flat-append xs ys) ∙ sym (append_assoc (accesses_of x) (flat xs) (flat ys))
 
-all_fit-append : (fifo : Bool) (xs ys : List Block) → AllFit fifo xs → AllFit fifo ys → AllFit fifo (xs ++ ys)
-all_fit-append fifo [] ys p q = q
-all_fit-append fifo (x ∷ xs) ys p q = (p.0, all_fit-append fifo xs ys p.1 q)
+all_fit-append : (most : ℕ) (xs ys : List Block) → AllFit most xs → AllFit most ys → AllFit most (xs ++ ys)
+all_fit-append most [] ys p q = q
+all_fit-append most (x ∷ xs) ys p q = (p.0, all_fit-append most xs ys p.1 q)
 
 written-append : (xs ys : List Block) → data_written (xs ++ ys) ≡ data_written xs ++ data_written ys
 written-append [] ys = refl
@@ -58,11 +57,11 @@ read-append : (xs ys : List Block) → data_read (xs ++ ys) ≡ data_read xs ++ 
 read-append [] ys = refl
 read-append (x ∷ xs) ys = ap (λ zs. read_in x ++ zs) (read-append xs ys) ∙ sym (append_assoc (read_in x) (data_read xs) (data_read ys))
 
-pub blocks_none : (fifo : Bool) → InBlocks fifo [] [] []
-blocks_none fifo = record { blocks = []; joined = refl; fit = tt; is_written = refl; is_read = refl }
+pub blocks_none : (most : ℕ) → InBlocks most [] [] []
+blocks_none most = record { blocks = []; joined = refl; fit = tt; is_written = refl; is_read = refl }
 
-pub blocks_one : (fifo : Bool) (block : Block) → IsFit fifo block → InBlocks fifo (accesses_of block) (written_in block) (read_in block)
-blocks_one fifo block fit = record {
+pub blocks_one : (most : ℕ) (block : Block) → IsFit most block → InBlocks most (accesses_of block) (written_in block) (read_in block)
+blocks_one most block fit = record {
   blocks = block ∷ [];
   joined = sym (append-nil (accesses_of block));
   fit = (fit, tt);
@@ -70,35 +69,65 @@ blocks_one fifo block fit = record {
   is_read = append-nil (read_in block);
 }
 
-pub blocks_then : (fifo : Bool) (xs ys : List Access) (ws vs rs qs : List ℕ) → InBlocks fifo xs ws rs → InBlocks fifo ys vs qs →
-    InBlocks fifo (xs ++ ys) (ws ++ vs) (rs ++ qs)
-blocks_then fifo xs ys ws vs rs qs a b = record {
+pub blocks_then : (most : ℕ) (xs ys : List Access) (ws vs rs qs : List ℕ) → InBlocks most xs ws rs → InBlocks most ys vs qs →
+    InBlocks most (xs ++ ys) (ws ++ vs) (rs ++ qs)
+blocks_then most xs ys ws vs rs qs a b = record {
   blocks = a.blocks ++ b.blocks;
   joined = rw (a.joined, b.joined) (sym (flat-append a.blocks b.blocks));
-  fit = all_fit-append fifo a.blocks b.blocks a.fit b.fit;
+  fit = all_fit-append most a.blocks b.blocks a.fit b.fit;
   is_written = rw (← a.is_written, ← b.is_written) (written-append a.blocks b.blocks);
   is_read = rw (← a.is_read, ← b.is_read) (read-append a.blocks b.blocks);
 }
 
--- what accesses in blocks do to a machine of a session
-pub passed_in_blocks : (x : Modes) (m n : MachineState) (made : List Access) (ws rs : List ℕ) → IsOpen x → Stands x m →
-    InBlocks x.fifo made ws rs → Path MachineStep m made n → PassedBlocks x m n made ws rs
-passed_in_blocks x m n made ws rs o w b p =
-    let q = passed_blocks x b.blocks m n o w b.fit (rw b.joined at p) in
+-- what accesses in blocks do to a machine of a session that has room for as many bytes as are written after one look
+pub passed_in_blocks : (x : Modes) (most : ℕ) (m n : MachineState) (made : List Access) (ws rs : List ℕ) → IsOpen x → Stands x m →
+    most ≤ room x.fifo m.chip.transmitter.size → InBlocks most made ws rs → Path MachineStep m made n → PassedBlocks x m n made ws rs
+passed_in_blocks x most m n made ws rs o w fits b p =
+    let q = passed_blocks x most b.blocks m n o w fits b.fit (rw b.joined at p) in
     rw (b.is_written, b.is_read, ← b.joined) at q
+
+none_left : (xs ys : List ℕ) → xs ++ ys ≡ [] → (length xs ≤ 0) × (ys ≡ [])
+none_left [] ys e = (omega arith, e)
+none_left (x ∷ xs) ys e = absurd (cc)
+
+-- blocks that write nothing
+silent_fit : (most : ℕ) (blocks : List Block) → AllFit most blocks → data_written blocks ≡ [] → AllFit 0 blocks
+silent_fit most [] fit e = tt
+silent_fit most (Burst_block line checks bytes ∷ blocks) fit e =
+    let none = none_left bytes (data_written blocks) e in
+    ((fit.0.0, fit.0.1, none.0), silent_fit most blocks fit.1 none.1)
+silent_fit most (block ∷ blocks) fit e = (fit.0, silent_fit most blocks fit.1 e)
+
+-- where nothing is written, any FIFO has room for it
+pub passed_silently : (x : Modes) (most : ℕ) (m n : MachineState) (made : List Access) (rs : List ℕ) → IsOpen x → Stands x m →
+    InBlocks most made [] rs → Path MachineStep m made n → PassedBlocks x m n made [] rs
+passed_silently x most m n made rs o w b p =
+    let silent : InBlocks 0 made [] rs = record {
+      blocks = b.blocks;
+      joined = b.joined;
+      fit = silent_fit most b.blocks b.fit b.is_written;
+      is_written = b.is_written;
+      is_read = b.is_read;
+    } in
+    passed_in_blocks x 0 m n made [] rs o w (omega arith) silent p
 
 -- ---- languages whose lists are blocks
 
+-- the most bytes that are written after one look under these settings
+abbrev pub most_in : Settings → ℕ
+most_in s = burst_limit s.fifo s.size
+
 -- each list of the language is blocks that write these bytes and read those
 abbrev pub Makes : Settings → Language → List ℕ → List ℕ → Type 0
-Makes s P ws rs = (l : List Access) → P s l → InBlocks s.fifo l ws rs
+Makes s P ws rs = (l : List Access) → P s l → InBlocks (most_in s) l ws rs
 
 pub makes_only_none : (s : Settings) → Makes s (Only []) [] []
-makes_only_none s l p = rw p.is (blocks_none s.fifo)
+makes_only_none s l p = rw p.is (blocks_none (most_in s))
 
 pub makes_then : (s : Settings) (P Q : Language) (ws vs rs qs : List ℕ) → Makes s P ws rs → Makes s Q vs qs →
     Makes s (Then P Q) (ws ++ vs) (rs ++ qs)
-makes_then s P Q ws vs rs qs p q l t = rw t.whole (blocks_then s.fifo t.front t.back ws vs rs qs (p t.front t.first) (q t.back t.second))
+makes_then s P Q ws vs rs qs p q l t =
+    rw t.whole (blocks_then (most_in s) t.front t.back ws vs rs qs (p t.front t.first) (q t.back t.second))
 
 pub makes_times : (s : Settings) (n : ℕ) (P : Language) → Makes s P [] [] → Makes s (Times n P) [] []
 makes_times s zero P p l t = makes_only_none s l t
@@ -114,12 +143,12 @@ makes_all s P p l t = makes_times s s.limit P p l t
 
 -- a look, whatever it shows
 pub makes_look : (s : Settings) (bits : ℕ) (outcome : Bool) → Makes s (Asks offsets.LSR bits outcome) [] []
-makes_look s bits outcome l t = rw t.is (blocks_one s.fifo (Look t.answer) tt)
+makes_look s bits outcome l t = rw t.is (blocks_one (most_in s) (Look t.answer) tt)
 
 -- a read that tells of no data
 pub makes_quiet : (s : Settings) (register bits : ℕ) (outcome : Bool) → is_quiet (Read register 0) ≡ true →
     Makes s (Asks register bits outcome) [] []
-makes_quiet s register bits outcome q l t = rw t.is (blocks_one s.fifo (Other (Read register t.answer)) q)
+makes_quiet s register bits outcome q l t = rw t.is (blocks_one (most_in s) (Other (Read register t.answer)) q)
 
 -- ---- the send check
 
@@ -163,7 +192,7 @@ refused_blocks : (s : Settings) (e : ByteSendError) → Makes s (SendRefused e) 
 refused_blocks s NoCapacity l t = makes_look s LSR.THR_EMPTY.0 false l t
 refused_blocks s RemoteNotClearToSend l t = go s.checks t
   where
-    go : (b : Bool) → MatchBool b (Then (Asks offsets.LSR LSR.THR_EMPTY.0 true) (LinesAllow false) s l) ⊥ → InBlocks s.fifo l [] []
+    go : (b : Bool) → MatchBool b (Then (Asks offsets.LSR LSR.THR_EMPTY.0 true) (LinesAllow false) s l) ⊥ → InBlocks (most_in s) l [] []
     go true t =
         makes_then s (Asks offsets.LSR LSR.THR_EMPTY.0 true) (LinesAllow false) [] [] [] [] (makes_look s LSR.THR_EMPTY.0 true)
         (lines_blocks s false) l t
@@ -175,7 +204,7 @@ send_miss_blocks s l t = refused_blocks s t.0 l t.1
 pub send_hit_blocks : (s : Settings) → Makes s SendHit [] []
 send_hit_blocks s l t =
     let c = send_check s l t in
-    rw (c.is, ← append-nil c.checks) (blocks_one s.fifo (Burst_block c.line c.checks []) (c.shows, c.quiet, omega arith))
+    rw (c.is, ← append-nil c.checks) (blocks_one (most_in s) (Burst_block c.line c.checks []) (c.shows, c.quiet, omega arith))
 
 pub ready_to_send_blocks : (s : Settings) (result : Result (Unit {0}) ByteSendError) → Makes s (ReadyToSend result) [] []
 ready_to_send_blocks s (Ok x) l t = send_hit_blocks s l t
@@ -183,21 +212,21 @@ ready_to_send_blocks s (Err e) l t = refused_blocks s e l t
 
 -- ---- sending
 
-burst_blocks : (s : Settings) (bytes : List ℕ) → length bytes ≤ room s.fifo Sixteen → Makes s (Burst bytes) bytes []
+burst_blocks : (s : Settings) (bytes : List ℕ) → length bytes ≤ most_in s → Makes s (Burst bytes) bytes []
 burst_blocks s bytes few l t =
     let c = send_check s t.front t.first in
-    rw (t.whole, t.second.is, c.is) (blocks_one s.fifo (Burst_block c.line c.checks bytes) (c.shows, c.quiet, few))
+    rw (t.whole, t.second.is, c.is) (blocks_one (most_in s) (Burst_block c.line c.checks bytes) (c.shows, c.quiet, few))
 
-burst_room : (s : Settings) (bytes : List ℕ) → length (take (burst_size s bytes) bytes) ≤ room s.fifo Sixteen
+burst_room : (s : Settings) (bytes : List ℕ) → length (take (burst_size s bytes) bytes) ≤ most_in s
 burst_room s bytes = rw length-take (omega arith)
 
 -- `send_bytes`: what it reports is what it wrote
 pub sends_blocks : (s : Settings) (bytes : List ℕ) (k : ℕ) → Makes s (Sends bytes k) (take k bytes) []
-sends_blocks s bytes k l (inl t) = rw (t.1, t.2) (blocks_none s.fifo)
+sends_blocks s bytes k l (inl t) = rw (t.1, t.2) (blocks_none (most_in s))
 sends_blocks s bytes k l (inr (inl t)) = rw t.1 (send_miss_blocks s l t.2)
 sends_blocks s bytes k l (inr (inr t)) = burst_blocks s (take k bytes) (rw t.1 (burst_room s bytes)) l t.2
 
-pub round_blocks : (s : Settings) (bytes : List ℕ) → length bytes ≤ room s.fifo Sixteen → Makes s (Round bytes) bytes []
+pub round_blocks : (s : Settings) (bytes : List ℕ) → length bytes ≤ most_in s → Makes s (Round bytes) bytes []
 round_blocks s bytes few l t =
     makes_then s (FewMisses SendMiss) (Burst bytes) [] bytes [] [] (makes_few s SendMiss (send_miss_blocks s))
     (burst_blocks s bytes few) l t
@@ -239,7 +268,7 @@ sends_exact_blocks s bytes (Err e) l (pieces, rest, cut, some, count, made) =
     let long : length (concat pieces) + length rest ≡ length bytes = sym (length-append (concat pieces) rest) ∙ ap length whole in
     let done : e.done ≡ length (concat pieces) = omega arith in
     let front : take e.done bytes ≡ concat pieces = rw (done, ← whole) (take-append_seam (concat pieces) rest) in
-    let b : InBlocks s.fifo l (concat pieces ++ []) [] =
+    let b : InBlocks (most_in s) l (concat pieces ++ []) [] =
     makes_then s (InOrder Round pieces) (AllMisses SendMiss) (concat pieces) [] [] [] (pieces_blocks s bytes pieces rest cut)
     (makes_all s SendMiss (send_miss_blocks s)) l made in
     rw front (rw (append-nil (concat pieces)) at b)
@@ -270,7 +299,7 @@ miss_blocks s l t = makes_look s LSR.DATA_READY.0 false l t
 pub hit_blocks : (s : Settings) (byte : ℕ) → Makes s (Hit byte) [] (byte ∷ [])
 hit_blocks s byte l t =
     let shows : has_any t.first.answer LSR.DATA_READY.0 ≡ true = sym (has_one 0 t.first.answer) ∙ t.first.shows in
-    rw (t.whole, t.first.is, t.second.is) (blocks_one s.fifo (Hit_block t.first.answer byte) shows)
+    rw (t.whole, t.first.is, t.second.is) (blocks_one (most_in s) (Hit_block t.first.answer byte) shows)
 
 pub ready_to_receive_blocks : {T E : Type 0} (s : Settings) (result : Result T E) → Makes s (ReadyToReceive result) [] []
 ready_to_receive_blocks s (Ok x) l t = makes_look s LSR.DATA_READY.0 true l t
@@ -296,7 +325,7 @@ makes_reads s P p (byte ∷ bytes) l t =
 makes_reads_then : (s : Settings) (P : ℕ → Language) (Q : Language) → ((byte : ℕ) → Makes s (P byte) [] (byte ∷ [])) → (bytes : List ℕ) →
     Makes s Q [] [] → Makes s (Then (InOrder P bytes) Q) [] bytes
 makes_reads_then s P Q p bytes q l t =
-    let b : InBlocks s.fifo l [] (bytes ++ []) = makes_then s (InOrder P bytes) Q [] [] bytes [] (makes_reads s P p bytes) q l t in
+    let b : InBlocks (most_in s) l [] (bytes ++ []) = makes_then s (InOrder P bytes) Q [] [] bytes [] (makes_reads s P p bytes) q l t in
     rw (append-nil bytes) at b
 
 -- `receive_bytes`
@@ -325,7 +354,7 @@ receives_exact_blocks s n bytes (Err e) l t =
 hit_with_blocks : (s : Settings) (received : Received) → Makes s (HitWithErrors received) [] (received.byte ∷ [])
 hit_with_blocks s received l (line, ready, shown, is) =
     let shows : has_any line LSR.DATA_READY.0 ≡ true = sym (has_one 0 line) ∙ ready in
-    rw is (blocks_one s.fifo (Hit_block line received.byte) shows)
+    rw is (blocks_one (most_in s) (Hit_block line received.byte) shows)
 
 hits_with_blocks : (s : Settings) (items : List Received) → Makes s (InOrder HitWithErrors items) [] (only_bytes items)
 hits_with_blocks s [] l t = makes_only_none s l t
@@ -336,6 +365,6 @@ hits_with_blocks s (received ∷ items) l t =
 pub receives_with_blocks : (s : Settings) (n : ℕ) (items : List Received) → Makes s (ReceivesWithErrors n items) [] (only_bytes items)
 receives_with_blocks s n items l (inl t) = hits_with_blocks s items l t.1
 receives_with_blocks s n items l (inr t) =
-    let b : InBlocks s.fifo l [] (only_bytes items ++ []) =
+    let b : InBlocks (most_in s) l [] (only_bytes items ++ []) =
     makes_then s (InOrder HitWithErrors items) Miss [] [] (only_bytes items) [] (hits_with_blocks s items) (miss_blocks s) l t.1 in
     rw (append-nil (only_bytes items)) at b

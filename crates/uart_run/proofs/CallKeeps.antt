@@ -21,40 +21,41 @@ use Rattle.uart_spec.specs.declared.dump.ConfigRegisterDump.{ConfigRegisterDump}
 use Rattle.uart_calls.specs.Meaning.{ShowsFifo}
 use Rattle.uart_spec.specs.declared.setup.FifoSize.TheVariants.{Sixteen}
 use Rattle.uart_chip.specs.Transmitter.{room}
+use Rattle.uart_chip.proofs.Sizes.{some_room}
 use Rattle.uart_chip.proofs.conservation.Blocks.{is_quiet, Look, Other, Divisor, AllQuiet}
-use Rattle.uart_run.proofs.CallBlocks.{InBlocks, blocks_none, blocks_one, blocks_then, Makes, makes_only_none}
+use Rattle.uart_run.proofs.CallBlocks.{InBlocks, blocks_none, blocks_one, blocks_then, most_in, Makes, makes_only_none}
 use Rattle.uart_run.proofs.CallBlocks.{makes_then, makes_all, makes_look, send_hit_blocks, send_miss_blocks, round_blocks}
 use Rattle.uart_run.proofs.CallBlocks.{sends_some_blocks, sends_some_none_blocks, waits_blocks, receives_some_blocks}
 
 -- ---- accesses that tell of no data
 
 -- some of them
-pub quiet_blocks : (fifo : Bool) (accesses : List Access) → AllQuiet accesses → InBlocks fifo accesses [] []
-quiet_blocks fifo [] q = blocks_none fifo
-quiet_blocks fifo (access ∷ accesses) q =
-    blocks_then fifo (access ∷ []) accesses [] [] [] [] (blocks_one fifo (Other access) q.0) (quiet_blocks fifo accesses q.1)
+pub quiet_blocks : (most : ℕ) (accesses : List Access) → AllQuiet accesses → InBlocks most accesses [] []
+quiet_blocks most [] q = blocks_none most
+quiet_blocks most (access ∷ accesses) q =
+    blocks_then most (access ∷ []) accesses [] [] [] [] (blocks_one most (Other access) q.0) (quiet_blocks most accesses q.1)
 
 -- a register that is read as it is
 pub plain_blocks : (s : Settings) (register value : ℕ) → is_quiet (Read register value) ≡ true →
     Makes s (Only (Read register value ∷ [])) [] []
-plain_blocks s register value q l t = rw t.is (blocks_one s.fifo (Other (Read register value)) q)
+plain_blocks s register value q l t = rw t.is (blocks_one (most_in s) (Other (Read register value)) q)
 
 -- `check_connected`
 pub connects_blocks : {T : Type 0} (s : Settings) (result : Result T RemoteReadyToReceiveError) → Makes s (Connects result) [] []
-connects_blocks s result l (status, shows, is) = rw is (blocks_one s.fifo (Other (Read offsets.MSR status)) refl)
+connects_blocks s result l (status, shows, is) = rw is (blocks_one (most_in s) (Other (Read offsets.MSR status)) refl)
 
 -- `dll_dlm`
 pub reads_divisor_blocks : (s : Settings) (low high : ℕ) → Makes s (ReadsDivisor low high) [] []
-reads_divisor_blocks s low high l (lcr, is) = rw is (blocks_one s.fifo (Divisor lcr low high) tt)
+reads_divisor_blocks s low high l (lcr, is) = rw is (blocks_one (most_in s) (Divisor lcr low high) tt)
 
 -- `retrigger_interrupts`
 pub retriggers_blocks : (s : Settings) → Makes s Retriggers [] []
-retriggers_blocks s l (ier, is) = rw is (quiet_blocks s.fifo (retrigger_accesses ier) (refl, (refl, (refl, tt))))
+retriggers_blocks s l (ier, is) = rw is (quiet_blocks (most_in s) (retrigger_accesses ier) (refl, (refl, (refl, tt))))
 
 -- `check_present`
 keeps_pattern_blocks : (s : Settings) (pattern : ℕ) (outcome : Bool) → Makes s (Keeps_pattern pattern outcome) [] []
 keeps_pattern_blocks s pattern outcome l (back, kept, is) =
-    rw is (quiet_blocks s.fifo (Write offsets.SPR pattern ∷ Read offsets.SPR back ∷ []) (refl, (refl, tt)))
+    rw is (quiet_blocks (most_in s) (Write offsets.SPR pattern ∷ Read offsets.SPR back ∷ []) (refl, (refl, tt)))
 
 keeps_patterns_blocks : (s : Settings) (present : Bool) → Makes s (KeepsPatterns present) [] []
 keeps_patterns_blocks s true l t =
@@ -66,7 +67,7 @@ keeps_patterns_blocks s false l (inr t) =
     (keeps_pattern_blocks s 115 false) l t
 
 scratch_blocks : (s : Settings) (old : ℕ) → Makes s (Only (Write offsets.SPR old ∷ [])) [] []
-scratch_blocks s old l t = rw t.is (blocks_one s.fifo (Other (Write offsets.SPR old)) refl)
+scratch_blocks s old l t = rw t.is (blocks_one (most_in s) (Other (Write offsets.SPR old)) refl)
 
 pub checks_presence_blocks : (s : Settings) (present : Bool) → Makes s (ChecksPresence present) [] []
 checks_presence_blocks s present l (old, t) =
@@ -79,7 +80,7 @@ checks_presence_blocks s present l (old, t) =
 
 -- `read`
 pub reads_blocks : (s : Settings) (n : ℕ) (bytes : List ℕ) (result : Result ℕ StalledError) → Makes s (Reads n bytes result) [] bytes
-reads_blocks s n bytes (Ok count) l (same, inl (none, zero, is)) = rw (nil_from_length bytes (same ∙ zero), is) (blocks_none s.fifo)
+reads_blocks s n bytes (Ok count) l (same, inl (none, zero, is)) = rw (nil_from_length bytes (same ∙ zero), is) (blocks_none (most_in s))
 reads_blocks s n bytes (Ok count) l (same, inr (some, t)) = receives_some_blocks s n bytes true l t
 reads_blocks s n bytes (Err e) l (some, none, t) = receives_some_blocks s n bytes false l t
 
@@ -91,7 +92,7 @@ written_by (Err e) bytes = []
 -- `write`
 pub writes_blocks : (s : Settings) (bytes : List ℕ) (result : Result ℕ StalledError) →
     Makes s (Writes bytes result) (written_by result bytes) []
-writes_blocks s bytes (Ok count) l (inl (none, zero, is)) = rw (zero, is) (blocks_none s.fifo)
+writes_blocks s bytes (Ok count) l (inl (none, zero, is)) = rw (zero, is) (blocks_none (most_in s))
 writes_blocks s bytes (Ok count) l (inr (some, t)) = sends_some_blocks s bytes count l t
 writes_blocks s bytes (Err e) l (some, none, t) = sends_some_none_blocks s bytes l t
 
@@ -117,15 +118,19 @@ pub one_fits : (fifo : Bool) → 1 ≤ room fifo Sixteen
 one_fits true = omega arith
 one_fits false = omega arith
 
+-- one byte may be written after each look
+pub one_sent : (s : Settings) → 1 ≤ most_in s
+one_sent s = some_room s.fifo s.size
+
 pub sends_each_blocks : (s : Settings) (bytes : List ℕ) → Makes s (SendsEach bytes) bytes []
 sends_each_blocks s [] l t = makes_only_none s l t
 sends_each_blocks s (byte ∷ bytes) l t =
-    makes_then s (Round (byte ∷ [])) (SendsEach bytes) (byte ∷ []) bytes [] [] (round_blocks s (byte ∷ []) (one_fits s.fifo))
+    makes_then s (Round (byte ∷ [])) (SendsEach bytes) (byte ∷ []) bytes [] [] (round_blocks s (byte ∷ []) (one_sent s))
     (λ k u. sends_each_blocks s bytes k u) l t
 
 pub sends_beginning_blocks : (s : Settings) (bytes : List ℕ) (n : ℕ) → Makes s (SendsBeginning bytes n) (take n bytes) []
 sends_beginning_blocks s bytes n l t =
-    let b : InBlocks s.fifo l (take n bytes ++ []) [] =
+    let b : InBlocks (most_in s) l (take n bytes ++ []) [] =
     makes_then s (SendsEach (take n bytes)) (AllMisses SendMiss) (take n bytes) [] [] [] (sends_each_blocks s (take n bytes))
     (makes_all s SendMiss (send_miss_blocks s)) l t.1 in
     rw (append-nil (take n bytes)) at b
@@ -134,7 +139,7 @@ sends_beginning_blocks s bytes n l t =
 
 -- the accesses are blocks, which write these bytes and read those; what the statuses showed is saved, and the FIFO is taken as before
 pub record Keeps (f : Fields) (l : List Access) (after : Fields) (written read : List ℕ) : Type 0 where
-  pub blocks : InBlocks f.fifo l written read
+  pub blocks : InBlocks (most_in (settings_of f)) l written read
   pub fifo : after.fifo ≡ f.fifo
   pub lsr : after.lsr ≡ bit_or f.lsr (saved_lsr l)
   pub msr : after.msr ≡ bit_or f.msr (saved_msr l)
@@ -149,8 +154,8 @@ saving_keeps L f after l ws rs b t = record {
 }
 
 -- no status is read
-no_status_keeps : (f after : Fields) (l made : List Access) → InBlocks f.fifo made [] [] → l ≡ made → saved_lsr made ≡ 0 →
-    saved_msr made ≡ 0 → after.fifo ≡ f.fifo → after.lsr ≡ f.lsr → after.msr ≡ f.msr → Keeps f l after [] []
+no_status_keeps : (f after : Fields) (l made : List Access) → InBlocks (most_in (settings_of f)) made [] [] → l ≡ made →
+    saved_lsr made ≡ 0 → saved_msr made ≡ 0 → after.fifo ≡ f.fifo → after.lsr ≡ f.lsr → after.msr ≡ f.msr → Keeps f l after [] []
 no_status_keeps f after l made b e p q fifo lsr msr = rw e (record {
   blocks = b;
   fifo = fifo;
@@ -161,14 +166,15 @@ no_status_keeps f after l made b e p q fifo lsr msr = rw e (record {
 -- no access, and the fields stay
 pub shows_fifo_keeps : (on : Bool) (f after : Fields) (l : List Access) → ShowsFifo on f l after → Keeps f l after [] []
 shows_fifo_keeps on f after l (shown, kept) =
-    no_status_keeps f after l [] (blocks_none f.fifo) kept.0 refl refl
+    no_status_keeps f after l [] (blocks_none (most_in (settings_of f))) kept.0 refl refl
     (ap (λ g. g.fifo) kept.1) (ap (λ g. g.lsr) kept.1) (ap (λ g. g.msr) kept.1)
 
 -- IER is read, and written with this
 changes_keeps : (ier value : ℕ) (f after : Fields) (l : List Access) → l ≡ Read offsets.IER ier ∷ Write offsets.IER value ∷ [] →
     after ≡ with_interrupts value f → Keeps f l after [] []
 changes_keeps ier value f after l is changed =
-    no_status_keeps f after l _ (quiet_blocks f.fifo (Read offsets.IER ier ∷ Write offsets.IER value ∷ []) (refl, (refl, tt))) is refl refl
+    no_status_keeps f after l _
+    (quiet_blocks (most_in (settings_of f)) (Read offsets.IER ier ∷ Write offsets.IER value ∷ []) (refl, (refl, tt))) is refl refl
     (ap (λ g. g.fifo) changed) (ap (λ g. g.lsr) changed) (ap (λ g. g.msr) changed)
 
 pub enables_keeps : (bits : ℕ) (f after : Fields) (l : List Access) → Enables bits f l after → Keeps f l after [] []
@@ -198,19 +204,19 @@ dumps_keeps dump f after l d = record {
 
 -- no data is moved, the FIFO is taken as before, and what is saved of the other status stays
 pub record KeepsButLsr (f : Fields) (l : List Access) (after : Fields) : Type 0 where
-  pub blocks : InBlocks f.fifo l [] []
+  pub blocks : InBlocks (most_in (settings_of f)) l [] []
   pub fifo : after.fifo ≡ f.fifo
   pub msr : after.msr ≡ bit_or f.msr (saved_msr l)
 
 pub record KeepsButMsr (f : Fields) (l : List Access) (after : Fields) : Type 0 where
-  pub blocks : InBlocks f.fifo l [] []
+  pub blocks : InBlocks (most_in (settings_of f)) l [] []
   pub fifo : after.fifo ≡ f.fifo
   pub lsr : after.lsr ≡ bit_or f.lsr (saved_lsr l)
 
 -- one look
 pub takes_lsr_keeps : (result : ℕ) (f after : Fields) (l : List Access) → TakesLsr result f l after → KeepsButLsr f l after
 takes_lsr_keeps result f after l (status, is, joined, emptied) = rw is (record {
-  blocks = blocks_one f.fifo (Look status) tt;
+  blocks = blocks_one (most_in (settings_of f)) (Look status) tt;
   fifo = ap (λ g. g.fifo) emptied;
   msr = ap (λ g. g.msr) emptied ∙ sym (or_zero_r f.msr);
 })
@@ -218,7 +224,7 @@ takes_lsr_keeps result f after l (status, is, joined, emptied) = rw is (record {
 -- one read of the modem status
 pub takes_msr_keeps : (result : ℕ) (f after : Fields) (l : List Access) → TakesMsr result f l after → KeepsButMsr f l after
 takes_msr_keeps result f after l (status, is, joined, emptied) = rw is (record {
-  blocks = blocks_one f.fifo (Other (Read offsets.MSR status)) refl;
+  blocks = blocks_one (most_in (settings_of f)) (Other (Read offsets.MSR status)) refl;
   fifo = ap (λ g. g.fifo) emptied;
   lsr = ap (λ g. g.lsr) emptied ∙ sym (or_zero_r f.lsr);
 })

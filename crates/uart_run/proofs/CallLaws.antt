@@ -33,14 +33,17 @@ use Rattle.uart_chip.specs.Machine.{MachineStep}
 use Rattle.uart_calls.specs.Meaning.{ShowsFifo, ChecksStored, SendsShortText, CalledAs, connected_answer, receive_ready_answer}
 use Rattle.uart_calls.specs.Meaning.{received_answer, sent_answer, exact_answer, count_answer}
 use Rattle.uart_calls.specs.Meaning.{ready_answer, latch_answer, bytes_answer, with_errors_answer, receive_exact_answer, read_answer}
+use Rattle.uart_run.specs.Ready.{BurstsFit}
 use Rattle.uart_run.specs.Run.{State, machine_of, CallStep}
 use Rattle.uart_run.specs.Session.{count_of, sent_of, sent_byte_of, byte_of, bytes_of, reported_by, received_by}
+use Rattle.uart_chip.specs.Transmitter.{room}
 use Rattle.uart_chip.proofs.Bits.{or_assoc}
+use Rattle.uart_chip.proofs.Sizes.{room_grows}
 use Rattle.uart_chip.proofs.conservation.Effects.{IsLevel}
 use Rattle.uart_chip.proofs.conservation.Went.{Modes, saved-append}
 use Rattle.uart_chip.proofs.conservation.Passed.{passed-refl, passed-mark}
 use Rattle.uart_chip.proofs.conservation.BlockLaws.{IsOpen, Stands, PassedBlocks, nothing_taken, path_as, passed_level}
-use Rattle.uart_run.proofs.CallBlocks.{InBlocks, Makes, makes_look, passed_in_blocks, ready_to_send_blocks}
+use Rattle.uart_run.proofs.CallBlocks.{InBlocks, Makes, most_in, makes_look, passed_in_blocks, ready_to_send_blocks}
 use Rattle.uart_run.proofs.CallBlocks.{ready_to_receive_blocks, sends_blocks, sends_exact_blocks, try_sends_blocks}
 use Rattle.uart_run.proofs.CallBlocks.{try_receive_blocks, receives_blocks, receives_exact_blocks, receives_with_blocks}
 use Rattle.uart_run.proofs.CallKeeps.{plain_blocks, connects_blocks, reads_divisor_blocks, retriggers_blocks, checks_presence_blocks}
@@ -69,17 +72,27 @@ pub record InSession (x : Modes) (s : State) : Type 0 where
   pub open_modes : IsOpen x
   pub stands : Stands x (machine_of s)
   pub fifo : (fields (inner_of s)).fifo ≡ x.fifo
+  pub fits : BurstsFit s
+
+-- the transmitter has room for all that the driver writes at once
+pub session_room : (x : Modes) (s : State) → InSession x s →
+    most_in (settings_of (fields (inner_of s))) ≤ room x.fifo (machine_of s).chip.transmitter.size
+session_room x s w =
+    let size = (fields (inner_of s)).size in
+    let held = (machine_of s).chip.transmitter.size in
+    subst (λ (fifo : Bool). room fifo size ≤ room x.fifo held) (sym w.fifo) (room_grows x.fifo size held w.fits)
 
 -- the accesses that a call made, by their blocks
 passed_did : (x : Modes) (G : Doing) (ws rs : List ℕ) (s t : State) → InSession x s → (did : Did MachineStep G (inner_of s) (inner_of t)) →
-    InBlocks (fields (inner_of s)).fifo did.list ws rs → PassedBlocks x (machine_of s) (machine_of t) did.list ws rs
+    InBlocks (most_in (settings_of (fields (inner_of s)))) did.list ws rs →
+    PassedBlocks x (machine_of s) (machine_of t) did.list ws rs
 passed_did x G ws rs s t w did blocks =
-    let B : Bool → Type 0 = λ fifo. InBlocks fifo did.list ws rs in
-    passed_in_blocks x (machine_of s) (machine_of t) did.list ws rs w.open_modes w.stands (subst B w.fifo blocks) did.path
+    passed_in_blocks x (most_in (settings_of (fields (inner_of s)))) (machine_of s) (machine_of t) did.list ws rs w.open_modes w.stands
+    (session_room x s w) blocks did.path
 
 -- a call, by its blocks and by what it saves
 passes_by : (x : Modes) (N M : Type 0) (G : Doing) (ws rs : List ℕ) (s t : State) → InSession x s →
-    (did : Did MachineStep G (inner_of s) (inner_of t)) → InBlocks (fields (inner_of s)).fifo did.list ws rs →
+    (did : Did MachineStep G (inner_of s) (inner_of t)) → InBlocks (most_in (settings_of (fields (inner_of s)))) did.list ws rs →
     (fields (inner_of t)).fifo ≡ (fields (inner_of s)).fifo →
     (N → (fields (inner_of t)).lsr ≡ bit_or (fields (inner_of s)).lsr (saved_lsr did.list)) →
     (M → (fields (inner_of t)).msr ≡ bit_or (fields (inner_of s)).msr (saved_msr did.list)) → Passes x N M s t ws rs

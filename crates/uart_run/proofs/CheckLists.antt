@@ -25,7 +25,7 @@ use Rattle.uart_chip.proofs.conservation.Effects.{went-read_latch, went-read_1, 
 use Rattle.uart_chip.proofs.conservation.Passed.{Passed, passed-trans, passed-effect}
 use Rattle.uart_chip.proofs.conservation.BlockLaws.{IsOpen, Stands, PassedBlocks, nothing_taken, path_split, stands-after}
 use Rattle.uart_chip.proofs.conservation.BlockLaws.{relined, passed_blocks-trans}
-use Rattle.uart_run.proofs.CallBlocks.{passed_in_blocks}
+use Rattle.uart_run.proofs.CallBlocks.{passed_silently}
 use Rattle.uart_run.proofs.CallKeeps.{quiet_blocks}
 
 -- ---- accesses while the divisor latch is open
@@ -297,14 +297,14 @@ passed_latch x m n _ o w (Looked lcr low high closed) path =
 -- and the whole check
 pub passed_check : (x : Modes) (m n : MachineState) (l : List Access) → IsOpen x → Stands x m → CheckList l → Path MachineStep m l n →
     PassedBlocks x m n l [] []
-passed_check x m n _ o w (Quiet quiet q) path = passed_in_blocks x m n quiet [] [] o w (quiet_blocks x.fifo quiet q) path
+passed_check x m n _ o w (Quiet quiet q) path = passed_silently x 0 m n quiet [] o w (quiet_blocks 0 quiet q) path
 passed_check x m n _ o w (Among front latch back p t q) path =
     let r = path_split MachineStep m n front (latch ++ back) path in
     let u = path_split MachineStep r.0 n latch back r.2 in
-    let a = passed_in_blocks x m r.0 front [] [] o w (quiet_blocks x.fifo front p) r.1 in
+    let a = passed_silently x 0 m r.0 front [] o w (quiet_blocks 0 front p) r.1 in
     let at_a = stands-after x m r.0 front [] a.takes a.passed in
     let b = passed_latch x r.0 u.0 latch o at_a t u.1 in
     let at_b = stands-after x r.0 u.0 latch [] b.takes b.passed in
-    let c = passed_in_blocks x u.0 n back [] [] o at_b (quiet_blocks x.fifo back q) u.2 in
+    let c = passed_silently x 0 u.0 n back [] o at_b (quiet_blocks 0 back q) u.2 in
     passed_blocks-trans x m r.0 n front (latch ++ back) [] [] [] [] a
     (passed_blocks-trans x r.0 u.0 n latch back [] [] [] [] b c)

@@ -117,7 +117,7 @@ initialised_is_configured config t ok within stored i = record {
   mcr = i.mcr;
   ier = i.ier ∙ (within ∙ sym (ap (λ (c : Config). c.interrupts.0) stored));
   divisor_latch = subst (λ (c : Config). DivisorOf c (Ok (divisor (latches_of t)))) (sym stored) i.divisor_latch;
-  fifo = i.ready.fifo;
+  fifo = i.knows;
 }
 
 set_up_is_configured : (setup : Setup) (config : Config) (t : State) → IsComputable config → IsWithin config.interrupts.0 ier_bits →
@@ -128,7 +128,7 @@ set_up_is_configured setup config t ok within kept stored i = record {
   mcr = i.mcr ∙ (let f = (machine_of t).chip.auto_flow in within_unlooped f setup.outputs.0 (within_any f setup.outputs.0 kept));
   ier = i.ier ∙ (within ∙ sym (ap (λ (c : Config). c.interrupts.0) stored));
   divisor_latch = subst (λ (c : Config). DivisorOf c (Ok (divisor (latches_of t)))) (sym stored) i.divisor_latch;
-  fifo = i.ready.fifo;
+  fifo = i.knows;
 }
 
 -- ---- the check

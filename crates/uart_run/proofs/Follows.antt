@@ -18,6 +18,7 @@ use Rattle.uart_run.proofs.CheckAnswers.{checks}
 use Rattle.uart_run.proofs.initialising.SetUp.{arranges}
 use Rattle.uart_run.proofs.initialising.Initialised.{initialises}
 use Rattle.uart_run.proofs.loopback.LoopTests.{tested}
+use Rattle.uart_run.proofs.SizeKept.{fits_kept}
 use Rattle.uart_run.proofs.ReadyKept.{follows_ready}
 use Rattle.uart_run.proofs.progress.Succeeds.{flush_succeeds, write_succeeds, send_exact_succeeds, text_succeeds}
 use Rattle.uart_run.proofs.initialising.InitSucceeds.{init_succeeds}
@@ -73,6 +74,7 @@ follow_chain s t (link ∷ links) w h =
     let begins = subst S (sym h.0) w in
     let follows : Follows link.before link.call link.answer link.after = record {
       ready = follows_ready link.before link.after link.call link.answer begins h.1;
+      fits = fits_kept link.before link.after link.call link.answer h.1;
       wired = λ wired. lasts_call link.before link.after link.call link.answer lasts_wired wired h.1;
       comes_to = comes_to link.before link.after link.call link.answer begins h.1;
       succeeds = succeeds link.before link.after link.call link.answer begins h.1;

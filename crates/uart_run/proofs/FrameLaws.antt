@@ -50,7 +50,7 @@ use Rattle.uart_chip.proofs.conservation.BlockLaws.{IsOpen, PassedBlocks, nothin
 use Rattle.uart_chip.proofs.conservation.BlockLaws.{passed_quiet}
 use Rattle.uart_chip.proofs.conservation.Blocks.{is_quiet}
 use Rattle.uart_run.specs.Run.{State, machine_of, Link, CallStep}
-use Rattle.uart_run.specs.Ready.{Ready, Frames, IsAttached, TakesPort, latches_of}
+use Rattle.uart_run.specs.Ready.{Ready, BurstsFit, Frames, IsAttached, TakesPort, latches_of}
 use Rattle.uart_run.specs.Session.{IsWithinSession, reported_by, received_by}
 use Rattle.uart_run.specs.Uncut.{IsWithinUncut}
 use Rattle.uart_run.specs.Wired.{IsWired}
@@ -58,7 +58,8 @@ use Rattle.uart_run.proofs.Wired.{wired_step, passed_mcr}
 use Rattle.uart_run.proofs.Latches.{Kept, kept_in, keep, kept_after, kept_step, kept_path, kept_list, kept_access}
 use Rattle.uart_run.proofs.Pieces.{then_parts, next_stages}
 use Rattle.uart_run.proofs.initialising.FifoShown.{fifo_shown}
-use Rattle.uart_run.proofs.CallBlocks.{InBlocks, Makes, makes_quiet, makes_then, passed_in_blocks, waits_blocks}
+use Rattle.uart_run.proofs.SizeKept.{fits_after, fits_kept}
+use Rattle.uart_run.proofs.CallBlocks.{Makes, most_in, makes_quiet, makes_then, passed_silently, waits_blocks}
 use Rattle.uart_run.proofs.CallKeeps.{reads_divisor_blocks, saving_keeps}
 use Rattle.uart_run.proofs.CallLaws.{Passes, InSession, passes_call, passes_did, passes_quietly, saved_both}
 use Rattle.uart_run.proofs.initialising.Inits.{frame-dlab, frame-unbroken}
@@ -89,11 +90,12 @@ same_cut x y same = ap (λ (p : Bool × (ℕ → ℕ)). p.1) same
 
 -- the state after it is one of the session
 pub in_session-gone : (x : Modes) (N M : Type 0) (s t : State) (ws rs : List ℕ) → InSession x s → (g : Goes x N M s t ws rs) →
-    InSession g.modes t
-in_session-gone x N M s t ws rs w g = record {
+    BurstsFit t → InSession g.modes t
+in_session-gone x N M s t ws rs w g fits = record {
   open_modes = g.open_modes;
   stands = stands-after g.modes (machine_of s) (machine_of t) _ _ _ g.passes.passed.passed;
   fifo = g.passes.fifo ∙ (w.fifo ∙ sym (same_fifo x g.modes g.same));
+  fits = fits;
 }
 
 pub passed_onwards : (x y : Modes) (m n o : MachineState) (xs ys : List Access) (ws vs rs qs : List ℕ) → fixed y ≡ fixed x →
@@ -133,9 +135,8 @@ pub waited : (x : Modes) (s : State) (empty : Bool) (l : List Access) (n : Machi
     WaitsFor LSR.TRANSMITTER_EMPTY.0 empty (settings_of (fields (inner_of s))) l → Path MachineStep (machine_of s) l n →
     PassedBlocks x (machine_of s) n l [] []
 waited x s empty l n w h path =
-    let B : Bool → Type 0 = λ fifo. InBlocks fifo l [] [] in
-    passed_in_blocks x (machine_of s) n l [] [] w.open_modes w.stands
-    (subst B w.fifo (waits_blocks (settings_of (fields (inner_of s))) LSR.TRANSMITTER_EMPTY.0 empty l h)) path
+    passed_silently x (most_in (settings_of (fields (inner_of s)))) (machine_of s) n l [] w.open_modes w.stands
+    (waits_blocks (settings_of (fields (inner_of s))) LSR.TRANSMITTER_EMPTY.0 empty l h) path
 
 goes_framed_when_idle : (x : Modes) (N M : Type 0) (s t : State) (config : Config) (result : Result (Unit {0}) FrameError)
     (l : List Access) → InSession x s → x.cut ≡ (λ (byte : ℕ). byte) →
@@ -320,18 +321,19 @@ framed_kept d config m n f after l k path =
 
 ready_framed : (s t : State) (config : Config) (result : Result (Unit {0}) InvalidDivisorError) (l : List Access) →
     SetsFrame config result (fields (inner_of s)) l (fields (inner_of t)) → Path MachineStep (machine_of s) l (machine_of t) →
-    Ready s → Ready t
-ready_framed s t config (Ok u) l d path ready =
+    BurstsFit t → Ready s → Ready t
+ready_framed s t config (Ok u) l d path fits ready =
     let f = framed_by d.0 config (fields (inner_of s)) (fields (inner_of t)) l d.2 in
     ready_by t _ (framed_kept d.0 config (machine_of s) (machine_of t) _ _ l f path) (frame-dlab config) ready.loopback
-    (f.fifo ∙ sym ready.fifo)
-ready_framed s t config (Err e) l d path ready =
+    (f.fifo ∙ sym ready.fifo) fits
+ready_framed s t config (Err e) l d path fits ready =
     let still : machine_of t ≡ machine_of s = path_as (machine_of s) (machine_of t) l [] d.1 path in
     ready_by t (kept_in (machine_of s).chip) (ap (λ (m : MachineState). kept_in m.chip) still) ready.dlab ready.loopback
-    (ap (λ (g : Fields). g.fifo) d.2 ∙ sym ready.fifo)
+    (ap (λ (g : Fields). g.fifo) d.2 ∙ sym ready.fifo) fits
 
 pub set_frame_ready : (s t : State) (config : Config) (a : Answer) → CallStep s (call.SetFrame config) a t → Ready s → Ready t
-set_frame_ready s t config a h ready = ready_framed s t config h.outcome h.did.list h.did.does h.did.path ready
+set_frame_ready s t config a h ready =
+    ready_framed s t config h.outcome h.did.list h.did.does h.did.path (fits_kept s t (call.SetFrame config) a h ready.fits) ready
 
 frames_by : (s t : State) (config : Config) (a : Answer) (result : Result (Unit {0}) InvalidDivisorError) (l : List Access) →
     a ≡ frame_answer result → SetsFrame config result (fields (inner_of s)) l (fields (inner_of t)) →
@@ -362,35 +364,36 @@ lcr_read : (m n : MachineState) (value : ℕ) → MachineStep m (Read offsets.LC
 lcr_read m n value s = s.1 ∙ ap (λ (k : Kept). k.latches.lcr) (kept_access m)
 
 pub set_break_ready : (s t : State) (on : Bool) (l : List Access) → Saving (SetsBreak on) (fields (inner_of s)) l (fields (inner_of t)) →
-    Path MachineStep (machine_of s) l (machine_of t) → Ready s → Ready t
-set_break_ready s t on l ((lcr, is), saved) path ready =
+    Path MachineStep (machine_of s) l (machine_of t) → BurstsFit t → Ready s → Ready t
+set_break_ready s t on l ((lcr, is), saved) path fits ready =
     let made : List Access = Read offsets.LCR lcr ∷ Write offsets.LCR (switched on LCR.SET_BREAK.0 lcr) ∷ [] in
     let p = path_as (machine_of s) (machine_of t) l made is path in
     ready_by t _ (kept_list l made (machine_of s) (machine_of t) is path)
     (break_dlab on lcr ∙ (ap (λ (v : ℕ). has_any v LCR.DLAB.0) (lcr_read (machine_of s) p.0 lcr p.1) ∙ ready.dlab)) ready.loopback
-    (ap (λ (g : Fields). g.fifo) saved ∙ sym ready.fifo)
+    (ap (λ (g : Fields). g.fifo) saved ∙ sym ready.fifo) fits
 
 -- ---- calls that write MCR
 
 control_ready : (s t : State) (bits : ℕ) (l made : List Access) → l ≡ made → ((k : Kept) →
     kept_after made k ≡ record k { latches = record k.latches { mcr = kept_mcr k.auto_flow (unlooped bits) } }) →
-    (fields (inner_of t)).fifo ≡ (fields (inner_of s)).fifo → Path MachineStep (machine_of s) l (machine_of t) → Ready s → Ready t
-control_ready s t bits l made is kept fifo path ready =
+    (fields (inner_of t)).fifo ≡ (fields (inner_of s)).fifo → Path MachineStep (machine_of s) l (machine_of t) → BurstsFit t → Ready s →
+    Ready t
+control_ready s t bits l made is kept fifo path fits ready =
     ready_by t _ (kept_list l made (machine_of s) (machine_of t) is path ∙ kept (kept_in (machine_of s).chip)) ready.dlab
-    (unlooped_off (machine_of s).chip.auto_flow bits) (fifo ∙ sym ready.fifo)
+    (unlooped_off (machine_of s).chip.auto_flow bits) (fifo ∙ sym ready.fifo) fits
 
 pub set_control_ready : (s t : State) (bits : ℕ) (l : List Access) →
     Saving (SetsControl bits) (fields (inner_of s)) l (fields (inner_of t)) →
-    Path MachineStep (machine_of s) l (machine_of t) → Ready s → Ready t
-set_control_ready s t bits l d path ready =
-    control_ready s t bits l (Write offsets.MCR (unlooped bits) ∷ []) d.0.is (λ k. refl) (ap (λ (g : Fields). g.fifo) d.1) path ready
+    Path MachineStep (machine_of s) l (machine_of t) → BurstsFit t → Ready s → Ready t
+set_control_ready s t bits l d path fits ready =
+    control_ready s t bits l (Write offsets.MCR (unlooped bits) ∷ []) d.0.is (λ k. refl) (ap (λ (g : Fields). g.fifo) d.1) path fits ready
 
 pub set_output_ready : (s t : State) (output : ℕ) (on : Bool) (l : List Access) →
     Saving (SetsOutput output on) (fields (inner_of s)) l (fields (inner_of t)) →
-    Path MachineStep (machine_of s) l (machine_of t) → Ready s → Ready t
-set_output_ready s t output on l ((mcr, is), saved) path ready =
+    Path MachineStep (machine_of s) l (machine_of t) → BurstsFit t → Ready s → Ready t
+set_output_ready s t output on l ((mcr, is), saved) path fits ready =
     control_ready s t (switched on output mcr) l (Read offsets.MCR mcr ∷ Write offsets.MCR (unlooped (switched on output mcr)) ∷ []) is
-    (λ k. refl) (ap (λ (g : Fields). g.fifo) saved) path ready
+    (λ k. refl) (ap (λ (g : Fields). g.fifo) saved) path fits ready
 
 -- ---- `attach`
 
@@ -505,26 +508,27 @@ attached s t on low high l some d path =
 
 -- a refusal leaves the registers
 refused_ready : (s t : State) (l : List Access) → kept_in (machine_of t).chip ≡ kept_in (machine_of s).chip →
-    fields (inner_of t) ≡ saving (fields (inner_of s)) l → Ready s → Ready t
-refused_ready s t l still saved ready =
-    ready_by t (kept_in (machine_of s).chip) still ready.dlab ready.loopback (ap (λ (g : Fields). g.fifo) saved ∙ sym ready.fifo)
+    fields (inner_of t) ≡ saving (fields (inner_of s)) l → BurstsFit t → Ready s → Ready t
+refused_ready s t l still saved fits ready =
+    ready_by t (kept_in (machine_of s).chip) still ready.dlab ready.loopback (ap (λ (g : Fields). g.fifo) saved ∙ sym ready.fifo) fits
 
 attaches_ready : (s t : State) (result : Result (ℕ × ℕ) AttachError) (l : List Access) →
-    Attaches result (fields (inner_of s)) l (fields (inner_of t)) → Path MachineStep (machine_of s) l (machine_of t) → Ready s → Ready t
-attaches_ready s t (Ok latch) l d path ready = (attached s t d.1 latch.0 latch.1 l d.0 d.2 path).ready
-attaches_ready s t (Err DivisorLatchOpen) l d path ready =
-    refused_ready s t l (kept_list l (Read offsets.LCR d.0.answer ∷ []) (machine_of s) (machine_of t) d.0.is path) d.1 ready
-attaches_ready s t (Err Loopback) l d path ready =
+    Attaches result (fields (inner_of s)) l (fields (inner_of t)) → Path MachineStep (machine_of s) l (machine_of t) → BurstsFit t →
+    Ready s → Ready t
+attaches_ready s t (Ok latch) l d path fits ready = (attached s t d.1 latch.0 latch.1 l d.0 d.2 path).ready fits
+attaches_ready s t (Err DivisorLatchOpen) l d path fits ready =
+    refused_ready s t l (kept_list l (Read offsets.LCR d.0.answer ∷ []) (machine_of s) (machine_of t) d.0.is path) d.1 fits ready
+attaches_ready s t (Err Loopback) l d path fits ready =
     let a = then_parts (FindsLatch false) (Asks offsets.MCR MCR.LOOP_BACK.0 true) (settings_of (fields (inner_of s))) l (machine_of s)
     (machine_of t) d.0 path in
     refused_ready s t l
     (kept_list a.back (Read offsets.MCR a.second.answer ∷ []) a.between (machine_of t) a.second.is a.after
-    ∙ kept_list a.front (Read offsets.LCR a.first.answer ∷ []) (machine_of s) a.between a.first.is a.before) d.1 ready
-attaches_ready s t (Err NoDivisor) l d path ready =
-    refused_ready s t l (looked (settings_of (fields (inner_of s))) 0 0 l (machine_of s) (machine_of t) d.0 path).still d.1 ready
+    ∙ kept_list a.front (Read offsets.LCR a.first.answer ∷ []) (machine_of s) a.between a.first.is a.before) d.1 fits ready
+attaches_ready s t (Err NoDivisor) l d path fits ready =
+    refused_ready s t l (looked (settings_of (fields (inner_of s))) 0 0 l (machine_of s) (machine_of t) d.0 path).still d.1 fits ready
 
 pub attach_ready : (s t : State) (a : Answer) → CallStep s call.Attach a t → Ready s → Ready t
-attach_ready s t a h ready = attaches_ready s t h.outcome h.did.list h.did.does h.did.path ready
+attach_ready s t a h ready = attaches_ready s t h.outcome h.did.list h.did.does h.did.path (fits_kept s t call.Attach a h ready.fits) ready
 
 -- one that succeeds leaves a ready state, whatever the machine was before
 taken_ready : (s t : State) (a : Answer) (result : Result (ℕ × ℕ) AttachError) (l : List Access) → a ≡ attach_answer result →
@@ -636,15 +640,14 @@ takes_port : (x : Modes) (N M : Type 0) (s t : State) (on : Bool) (low high : �
 takes_port x N M s t on low high l w some d path =
     let f = fields (inner_of s) in
     let is : l ≡ d.front = d.whole ∙ (ap (λ zs. d.front ++ zs) d.second.0 ∙ append-nil d.front) in
-    let B : Bool → Type 0 = λ fifo. InBlocks fifo d.front [] [] in
-    let passed = passed_in_blocks x (machine_of s) (machine_of t) d.front [] [] w.open_modes w.stands
-    (subst B w.fifo (finds_port_blocks (settings_of f) on low high d.front d.first.0))
-    (path_as (machine_of s) (machine_of t) l d.front is path) in
-    let taken = attached s t on low high l some d path in
+    let passed = passed_silently x (most_in (settings_of f)) (machine_of s) (machine_of t) d.front [] w.open_modes w.stands
+    (finds_port_blocks (settings_of f) on low high d.front d.first.0) (path_as (machine_of s) (machine_of t) l d.front is path) in
+    let size = ap (λ (g : Fields). g.size) d.second.1 ∙ ap (λ (g : Fields). g.size) d.first.1 in
+    let ready = (attached s t on low high l some d path).ready (fits_after s t l size path w.fits) in
     record {
       made = d.front;
       passed = passed;
-      fifo = sym taken.ready.fifo ∙ (passed.passed.went.modes.fifo ∙ sym w.fifo);
+      fifo = sym ready.fifo ∙ (passed.passed.went.modes.fifo ∙ sym w.fifo);
       lsr = λ no. ap (λ (g : Fields). g.lsr) d.second.1 ∙ ap (λ (g : Fields). g.lsr) d.first.1;
       msr = λ no. ap (λ (g : Fields). g.msr) d.second.1 ∙ ap (λ (g : Fields). g.msr) d.first.1;
     }

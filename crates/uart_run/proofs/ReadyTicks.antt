@@ -1,11 +1,14 @@
 -- Ticks outside of the schedule leave a ready state ready.
 use Rattle.std.proofs.Common.{◌≡◌, ℕ, zero, suc, refl, sym, ◌∙◌, ap}
+use Rattle.uart_spec.specs.declared.setup.FifoSize.{FifoSize}
 use Rattle.uart_16550.specs.Driver.{Fields}
 use Rattle.uart_chip.specs.Chip.{ChipState, is_dlab_set, is_loopback, ticks}
 use Rattle.uart_chip.specs.Machine.{MachineState}
 use Rattle.uart_run.specs.Run.{machine_of}
 use Rattle.uart_run.specs.Ready.{KeepsReady}
 use Rattle.uart_chip.proofs.soundness.Sounds.{latches-ticks}
+use Rattle.uart_chip.proofs.lasting.Constants.{same_pace-ticks}
+use Rattle.uart_run.proofs.SizeKept.{fits_by}
 
 fifo-ticks : (n : ℕ) (c : ChipState) → (ticks n c).fifo ≡ c.fifo
 fifo-ticks zero c = refl
@@ -17,8 +20,11 @@ ready_ticks n m o e s t f g h r =
     ap (λ (x : MachineState). x.chip.latches) (g ∙ e) ∙ (latches-ticks n m.chip ∙ sym (ap (λ (x : MachineState). x.chip.latches) f)) in
     let b : (machine_of t).chip.fifo ≡ (machine_of s).chip.fifo =
     ap (λ (x : MachineState). x.chip.fifo) (g ∙ e) ∙ (fifo-ticks n m.chip ∙ sym (ap (λ (x : MachineState). x.chip.fifo) f)) in
+    let held : MachineState → FifoSize = λ x. x.chip.transmitter.size in
+    let size = ap held (g ∙ e) ∙ ((same_pace-ticks n m.chip).size ∙ sym (ap held f)) in
     record {
       dlab = ap is_dlab_set l ∙ r.dlab;
       loopback = ap is_loopback l ∙ r.loopback;
       fifo = b ∙ (r.fifo ∙ sym (ap (λ (x : Fields). x.fifo) h));
+      fits = fits_by s t (ap (λ (x : Fields). x.size) h) size r.fits;
     }

@@ -48,10 +48,11 @@ use Rattle.uart_chip.proofs.conservation.Went.{Modes}
 use Rattle.uart_run.proofs.EmptyTransmitter.{wait_empties, empty_shown, sent_shown, shown_sent, sent_framed}
 use Rattle.uart_run.proofs.Pieces.{next_stages}
 use Rattle.uart_chip.proofs.conservation.BlockLaws.{PassedBlocks, path_as, path_split, look_data}
-use Rattle.uart_run.proofs.CallBlocks.{InBlocks, Makes, makes_look, passed_in_blocks}
+use Rattle.uart_run.proofs.CallBlocks.{Makes, most_in, makes_look, passed_in_blocks}
 use Rattle.uart_run.proofs.CallBlocks.{try_receive_blocks, receives_blocks, receives_exact_blocks, receives_with_blocks}
 use Rattle.uart_run.proofs.CallKeeps.{reads_blocks, flushes_blocks}
-use Rattle.uart_run.proofs.CallLaws.{InSession}
+use Rattle.uart_run.proofs.SizeKept.{fits_kept}
+use Rattle.uart_run.proofs.CallLaws.{InSession, session_room}
 use Rattle.uart_run.proofs.FrameLaws.{GoOn, AllAt, in_session-gone, same_cut, waited, framed_by}
 use Rattle.uart_run.proofs.ExactErrors.{exactly_received}
 
@@ -116,8 +117,8 @@ passed_list : (x : Modes) (s t : State) (L : Language) (l : List Access) (ws rs 
     Makes (settings_of (fields (inner_of s))) L ws rs → L (settings_of (fields (inner_of s))) l →
     Path MachineStep (machine_of s) l (machine_of t) → PassedBlocks x (machine_of s) (machine_of t) l ws rs
 passed_list x s t L l ws rs w makes fits path =
-    let B : Bool → Type 0 = λ fifo. InBlocks fifo l ws rs in
-    passed_in_blocks x (machine_of s) (machine_of t) l ws rs w.open_modes w.stands (subst B w.fifo (makes l fits)) path
+    passed_in_blocks x (most_in (settings_of (fields (inner_of s)))) (machine_of s) (machine_of t) l ws rs w.open_modes w.stands
+    (session_room x s w) (makes l fits) path
 
 -- the spin limit is not 0
 some_limit : (s : State) → 0 < (fields (inner_of s)).limit
@@ -331,5 +332,6 @@ serves_chain k x s t (link ∷ links) same w i h =
     let first = k.go x link.before link.after link.call link.answer same begins i.0 h.1 in (
       serves_call x link.before link.after link.call link.answer begins h.1,
       serves_chain k first.modes link.after t links (same_cut x first.modes first.same ∙ same)
-          (in_session-gone x _ _ link.before link.after _ _ begins first) i.1 h.2,
+          (in_session-gone x _ _ link.before link.after _ _ begins first
+          (fits_kept link.before link.after link.call link.answer h.1 begins.fits)) i.1 h.2,
     )

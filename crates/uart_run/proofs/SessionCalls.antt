@@ -14,7 +14,7 @@ use Rattle.uart_events.specs.declared.call.Call.{Call}
 use Rattle.uart_run.specs.Session.{reported, received, reported_by, received_by}
 use Rattle.uart_run.specs.Statuses.{AllNoLsr, AllNoMsr}
 use Rattle.uart_chip.proofs.conservation.Went.{Modes, fixed}
-use Rattle.uart_chip.proofs.conservation.BlockLaws.{stands-after}
+use Rattle.uart_run.proofs.SizeKept.{fits_kept}
 use Rattle.uart_run.proofs.CallLaws.{Passes, InSession, passes_none, saved_both}
 use Rattle.uart_run.proofs.FrameLaws.{Goes, GoOn, AllAt, goes_still, in_session-gone, passed_onwards, same_cut}
 
@@ -42,13 +42,7 @@ in_session s ready sound = record {
   open_modes = record { dlab = ready.dlab; loopback = ready.loopback };
   stands = record { sound = sound; modes = record { lcr = refl; mcr = refl; fifo = refl; cut = refl } };
   fifo = sym ready.fifo;
-}
-
-pub in_session-after : (x : Modes) (N M : Type 0) (s t : State) (ws rs : List ℕ) → InSession x s → Passes x N M s t ws rs → InSession x t
-in_session-after x N M s t ws rs w p = record {
-  open_modes = w.open_modes;
-  stands = stands-after x (machine_of s) (machine_of t) _ _ _ p.passed.passed;
-  fifo = p.fifo ∙ w.fifo;
+  fits = ready.fits;
 }
 
 passes-trans : (x y : Modes) (N M O P : Type 0) (s t u : State) (ws vs rs qs : List ℕ) → fixed y ≡ fixed x → Passes x N M s t ws rs →
@@ -86,7 +80,8 @@ goes_chain {Within} {cut} k x s t (link ∷ links) same w i h =
     let begins = subst W (sym h.0) w in
     let first = k.go x link.before link.after link.call link.answer same begins i.0 h.1 in
     let rest = goes_chain k first.modes link.after t links (same_cut x first.modes first.same ∙ same)
-    (in_session-gone x _ _ link.before link.after _ _ begins first) i.1 h.2 in
+    (in_session-gone x _ _ link.before link.after _ _ begins first (fits_kept link.before link.after link.call link.answer h.1 begins.fits))
+    i.1 h.2 in
     let P : State → Type 0 = λ v. Goes x (AllNoLsr (link ∷ links)) (AllNoMsr (link ∷ links)) v t (reported (link ∷ links))
     (received (link ∷ links)) in
     subst P h.0 (goes-trans x _ _ _ _ link.before link.after t (reported_by link.call link.answer) (reported links)

@@ -12,6 +12,7 @@ use Rattle.uart_chip.specs.Machine.{MachineState, MachineStep, at_mark}
 use Rattle.uart_chip.specs.Sound.{IsSound}
 use Rattle.uart_chip.specs.Conserved.{out}
 use Rattle.uart_run.specs.Run.{State, machine_of, Link, Chain, CallStep}
+use Rattle.uart_run.specs.Ready.{BurstsFit}
 use Rattle.uart_run.specs.Session.{GoesOn, IsWithinSession, AllCalls, IsSession, reported, received, Conserves}
 use Rattle.uart_run.specs.Uncut.{GoesOnUncut, IsWithinUncut, IsUncutSession}
 use Rattle.uart_run.specs.Wired.{IsWiredChip, IsWired}
@@ -19,6 +20,7 @@ use Rattle.uart_chip.proofs.soundness.Sounds.{sound_path, sound_mark}
 use Rattle.uart_chip.proofs.conservation.Went.{Modes, dlab-in, loopback-in}
 use Rattle.uart_chip.proofs.conservation.SessionLaws.{received_kept}
 use Rattle.uart_run.proofs.Chains.{chain_keeps}
+use Rattle.uart_run.proofs.SizeKept.{fits_kept}
 use Rattle.uart_run.proofs.CallLaws.{InSession}
 use Rattle.uart_run.proofs.Wired.{wired_path, wired_mark}
 use Rattle.uart_run.proofs.FrameLaws.{GoOn, AllAt, go_within, go_within_uncut, same_cut, same_fifo}
@@ -96,6 +98,7 @@ conserves k x s t links same w within chain =
         dlab = dlab-in y (machine_of t).chip went.modes ∙ g.open_modes.dlab;
         loopback = loopback-in y (machine_of t).chip went.modes ∙ g.open_modes.loopback;
         fifo = went.modes.fifo ∙ (same_fifo x y g.same ∙ (sym w.fifo ∙ sym p.fifo));
+        fits = chain_keeps CallStep BurstsFit (λ s t call a fits h. fits_kept s t call a h fits) s t links w.fits chain;
       };
       unbroken = λ u. ap (λ (v : ℕ). has_any v LCR.SET_BREAK.0) went.modes.lcr
           ∙ g.unbroken (sym (ap (λ (v : ℕ). has_any v LCR.SET_BREAK.0) w.stands.modes.lcr) ∙ u);

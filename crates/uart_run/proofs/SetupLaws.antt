@@ -43,9 +43,10 @@ use Rattle.uart_chip.proofs.conservation.BlockLaws.{path_as}
 use Rattle.uart_chip.proofs.conservation.Effects.{levelled}
 use Rattle.uart_chip.proofs.soundness.Sounds.{sound_path, sound_access}
 use Rattle.uart_run.specs.Run.{State, machine_of, CallStep}
-use Rattle.uart_run.specs.Ready.{Ready, latches_of, has_fifo, is_level, FramesWhenIdle, Levels, IsQuiet, IsRestored}
+use Rattle.uart_run.specs.Ready.{Ready, BurstsFit, latches_of, has_fifo, is_level, FramesWhenIdle, Levels, IsQuiet, IsRestored}
 use Rattle.uart_run.proofs.Latches.{Kept, kept_in, keep, kept_after, kept_list, kept_path, kept_access}
 use Rattle.uart_run.proofs.Pieces.{then_parts, next_stages}
+use Rattle.uart_run.proofs.SizeKept.{fits_kept}
 use Rattle.uart_run.proofs.CallLaws.{level_bits_keep}
 use Rattle.uart_run.proofs.FrameLaws.{framed_by, framed_kept, unlooped_off}
 use Rattle.uart_run.proofs.initialising.FifoSteps.{sets_fifo, controlled}
@@ -109,21 +110,23 @@ frames_when_idle s t config a h = framed_when_idle s t config a h.outcome h.did.
 
 ready_when_idle : (s t : State) (config : Config) (result : Result (Unit {0}) FrameError) (l : List Access) →
     SetsFrameWhenIdle config result (fields (inner_of s)) l (fields (inner_of t)) → Path MachineStep (machine_of s) l (machine_of t) →
-    Ready s → Ready t
-ready_when_idle s t config (Ok u) l (d, of, does) path ready =
+    BurstsFit t → Ready s → Ready t
+ready_when_idle s t config (Ok u) l (d, of, does) path fits ready =
     let k = framed_after d config s t l does path in
-    ready_by t _ k.kept (frame-dlab config) ready.loopback (k.knows ∙ sym ready.fifo)
-ready_when_idle s t config (Err (InvalidBaudRate x)) l d path ready =
+    ready_by t _ k.kept (frame-dlab config) ready.loopback (k.knows ∙ sym ready.fifo) fits
+ready_when_idle s t config (Err (InvalidBaudRate x)) l d path fits ready =
     ready_by t (kept_in (machine_of s).chip) (kept_list l [] (machine_of s) (machine_of t) d.1 path) ready.dlab ready.loopback
-    (ap (λ (g : Fields). g.fifo) d.2 ∙ sym ready.fifo)
-ready_when_idle s t config (Err Stalled) l (d, of, (waits, saved)) path ready =
+    (ap (λ (g : Fields). g.fifo) d.2 ∙ sym ready.fifo) fits
+ready_when_idle s t config (Err Stalled) l (d, of, (waits, saved)) path fits ready =
     ready_by t (kept_in (machine_of s).chip)
     (kept_path l (machine_of s) (machine_of t) path
     ∙ reads_waits (settings_of (fields (inner_of s))) LSR.TRANSMITTER_EMPTY.0 false l waits (kept_in (machine_of s).chip))
-    ready.dlab ready.loopback (ap (λ (g : Fields). g.fifo) saved ∙ sym ready.fifo)
+    ready.dlab ready.loopback (ap (λ (g : Fields). g.fifo) saved ∙ sym ready.fifo) fits
 
 pub frame_when_idle_ready : (s t : State) (config : Config) (a : Answer) → CallStep s (call.SetFrameWhenIdle config) a t → Ready s → Ready t
-frame_when_idle_ready s t config a h ready = ready_when_idle s t config h.outcome h.did.list h.did.does h.did.path ready
+frame_when_idle_ready s t config a h ready =
+    ready_when_idle s t config h.outcome h.did.list h.did.does h.did.path
+    (fits_kept s t (call.SetFrameWhenIdle config) a h ready.fits) ready
 
 -- ---- `set_trigger_level`
 
@@ -227,10 +230,10 @@ quiets s t outputs action l w does path ready =
 
 pub quiesce_ready : (s t : State) (outputs : ℕ) (action : FifoAction) (l : List Access) → IsSound (machine_of s) →
     Quiesces outputs action (fields (inner_of s)) l (fields (inner_of t)) → Path MachineStep (machine_of s) l (machine_of t) →
-    Ready s → Ready t
-quiesce_ready s t outputs action l w does path ready =
+    BurstsFit t → Ready s → Ready t
+quiesce_ready s t outputs action l w does path fits ready =
     ready_by t _ (quieted s t outputs action l w ready does path) ready.dlab (unlooped_off (machine_of s).chip.auto_flow outputs)
-    (ap (λ (g : Fields). g.fifo) does.second.second.1)
+    (ap (λ (g : Fields). g.fifo) does.second.second.1) fits
 
 -- ---- `restore`
 

@@ -1,10 +1,11 @@
 -- States in which a session may begin, and the outcomes of an `init` and a loopback test over the machine.
-use Rattle.std.specs.Prelude.{◌≡◌, ◌≢◌, ◌<◌, ◌⊎◌, ◌↔◌, ◌+◌, ◌*◌, ℕ, Bool, true, false}
+use Rattle.std.specs.Prelude.{◌≡◌, ◌≢◌, ◌<◌, ◌≤◌, ◌⊎◌, ◌↔◌, ◌+◌, ◌*◌, ℕ, Bool, true, false}
 use Rattle.std.specs.Prelude.{◌&&◌, nat_lt, Option, Some, None, Ok, bit_and}
 use Rattle.bitflags.specs.Sets.{without}
 use Rattle.uart_spec.specs.Bits.{has, has_any}
 use Rattle.uart_spec.specs.Config.{IsComputable}
 use Rattle.uart_spec.specs.Dump.{divisor_of}
+use Rattle.uart_spec.specs.FifoSize.{characters}
 use Rattle.uart_spec.specs.declared.config.Config.{Config}
 use Rattle.uart_spec.specs.declared.dump.ConfigRegisterDump.{ConfigRegisterDump}
 use Rattle.uart_spec.specs.declared.errors.AttachError.TheVariants.{NoDivisor}
@@ -44,14 +45,24 @@ use Rattle.uart_run.specs.Wired.{IsWired}
 abbrev pub latches_of : State → LatchesState
 latches_of s = (machine_of s).chip.latches
 
+-- A driver writes at once as many bytes as it takes the FIFO to hold, and bytes for which a smaller one has no room are
+-- lost. It has the size from its program, and no call looks whether it is true. A driver that was told none takes the
+-- FIFOs for 16, and every chip holds as many: so this holds of it wherever it is.
+
+-- the driver takes the chip's FIFOs for no larger than they are, so there is room for all that it writes at once
+abbrev pub BurstsFit : State → Type 0
+BurstsFit s = characters (fields (inner_of s)).size ≤ characters (transmitter_of s).size
+
 -- A session is a property of states. So it may begin after an `init` that stalled or was refused, in the middle of a
 -- list of calls, or in a later `run`.
 
--- DLAB and loopback are off, and the chip's FIFO is on exactly if the driver takes it to be on
+-- DLAB and loopback are off, the chip's FIFO is on exactly if the driver takes it to be on, and the driver takes it for
+-- no larger than it is
 pub record Ready (s : State) : Type 0 where
   pub dlab : is_dlab_set (latches_of s) ≡ false
   pub loopback : is_loopback (latches_of s) ≡ false
   pub fifo : (machine_of s).chip.fifo ≡ (fields (inner_of s)).fifo
+  pub fits : BurstsFit s
 
 -- The machine has no break on its line: what is shifted out goes to the wire. On a line that a break holds low the same
 -- characters are lost. So what is said of the wire is said of a line only while there is no break.
@@ -77,11 +88,12 @@ abbrev pub is_level : Option FifoTriggerLevel → Bool
 is_level (Some level) = true
 is_level None = false
 
--- the state after an `init` that is done, whatever the machine was before it: the state is ready, with no break, and
--- the machine wired, with the divisor, the frame and the interrupts as configured, MCR 0B, an empty transmitter, and
--- the FIFO on exactly if a level is configured and the chip has one
+-- the state after an `init` that is done, whatever the machine was before it: the state is ready, if the driver takes
+-- the FIFOs for no larger than they are, with no break, and the machine wired, with the divisor, the frame and the
+-- interrupts as configured, MCR 0B, an empty transmitter, and the FIFO on exactly if a level is configured and the chip
+-- has one, which the driver knows
 pub record IsInitialised (config : Config) (t : State) : Type 0 where
-  pub ready : Ready t
+  pub ready : BurstsFit t → Ready t
   pub unbroken : IsUnbroken t
   pub wired : IsWired t
   pub divisor_latch : DivisorOf config (Ok (divisor (latches_of t)))
@@ -90,6 +102,7 @@ pub record IsInitialised (config : Config) (t : State) : Type 0 where
   pub ier : (latches_of t).ier ≡ bit_and config.interrupts.0 ier_bits
   pub is_empty : is_transmitter_empty (transmitter_of t).queue (transmitter_of t).shift_register ≡ true
   pub fifo : (machine_of t).chip.fifo ≡ (is_level config.fifo_trigger_level && has_fifo (machine_of t).chip.model)
+  pub knows : (machine_of t).chip.fifo ≡ (fields (inner_of t)).fifo
 
 -- an `init` finds the device, and this is the state after an `init` that succeeds
 pub record Initialises (config : Config) (a : Answer) (t : State) : Type 0 where
@@ -115,7 +128,7 @@ pub record Frames (config : Config) (s : State) (a : Answer) (t : State) : Type 
 -- the state after an `init_with` that is done, whatever the machine was before it: as after an `init`, but MCR has the
 -- outputs that were asked for, and the transmitter is empty if there was a wait
 pub record IsSetUp (setup : Setup) (config : Config) (t : State) : Type 0 where
-  pub ready : Ready t
+  pub ready : BurstsFit t → Ready t
   pub unbroken : IsUnbroken t
   pub wired : IsWired t
   pub divisor_latch : DivisorOf config (Ok (divisor (latches_of t)))
@@ -125,6 +138,7 @@ pub record IsSetUp (setup : Setup) (config : Config) (t : State) : Type 0 where
   pub is_empty : setup.wait ≢ NoWait →
       is_transmitter_empty (transmitter_of t).queue (transmitter_of t).shift_register ≡ true
   pub fifo : (machine_of t).chip.fifo ≡ (is_level config.fifo_trigger_level && has_fifo (machine_of t).chip.model)
+  pub knows : (machine_of t).chip.fifo ≡ (fields (inner_of t)).fifo
 
 -- an `init_with` finds the device, and this is the state after one that succeeds
 pub record Arranges (setup : Setup) (config : Config) (a : Answer) (t : State) : Type 0 where
@@ -158,10 +172,11 @@ pub record IsQuiet (outputs : ℕ) (action : FifoAction) (s t : State) : Type 0 
 
 -- ---- after a `restore`
 
--- the state after a `restore`, whatever the machine was before it: it is ready, the registers are as the dump shows,
--- without DLAB and loopback, and the FIFO is on exactly if the dump shows it and the chip has one
+-- the state after a `restore`, whatever the machine was before it: it is ready, if the driver takes the FIFOs for no
+-- larger than they are, the registers are as the dump shows, without DLAB and loopback, and the FIFO is on exactly if
+-- the dump shows it and the chip has one
 pub record IsRestored (dump : ConfigRegisterDump) (t : State) : Type 0 where
-  pub ready : Ready t
+  pub ready : BurstsFit t → Ready t
   pub divisor_latch : divisor (latches_of t) ≡ divisor_of dump
   pub lcr : (latches_of t).lcr ≡ without 8 dump.lcr.0 LCR.DLAB.0
   pub mcr : (latches_of t).mcr ≡ kept_mcr (machine_of t).chip.auto_flow (unlooped dump.mcr.0)
@@ -171,10 +186,11 @@ pub record IsRestored (dump : ConfigRegisterDump) (t : State) : Type 0 where
 
 -- ---- after an `attach`
 
--- the state after an `attach` that returned this divisor latch, whatever the machine was before: it is ready, all
--- latches are as before, and the divisor is the one that was returned, which is not 0
+-- the state after an `attach` that returned this divisor latch, whatever the machine was before: it is ready, if the
+-- driver takes the FIFOs for no larger than they are, all latches are as before, and the divisor is the one that was
+-- returned, which is not 0
 pub record IsAttached (low high : ℕ) (s t : State) : Type 0 where
-  pub ready : Ready t
+  pub ready : BurstsFit t → Ready t
   pub latches : latches_of t ≡ latches_of s
   pub divisor_latch : divisor (latches_of t) ≡ 256 * high + low
   pub is_set_up : 0 < 256 * high + low

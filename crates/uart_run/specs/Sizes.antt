@@ -16,7 +16,7 @@ use Rattle.uart_chip.specs.Chip.{cut_of, is_dlab_set, is_loopback}
 use Rattle.uart_chip.specs.Receiver.{ReceiverState}
 use Rattle.uart_chip.specs.Conserved.{out}
 use Rattle.uart_run.specs.Run.{State, machine_of}
-use Rattle.uart_run.specs.Ready.{Ready, latches_of}
+use Rattle.uart_run.specs.Ready.{Ready, BurstsFit, latches_of}
 use Rattle.uart_run.specs.Served.{transmitter_of, IsFlushed}
 
 -- the size of the FIFOs of the chip
@@ -51,11 +51,11 @@ abbrev pub ArrivedSince : (number : ℕ) → List Character → Type 0
 ArrivedSince number characters =
     AllByRecursion (λ (character : Character). IsSince number character.origin) characters
 
--- after a size was found the state is ready; the transmitter is empty, and the wire has what was to be sent before, and
--- nothing else; all that waits has arrived during the call; and the receiver has the level of the configuration, or one
--- byte if there is none
+-- after a size was found the state is ready, if the driver takes the FIFOs for no larger than they are; the transmitter
+-- is empty, and the wire has what was to be sent before, and nothing else; all that waits has arrived during the call;
+-- and the receiver has the level of the configuration, or one byte if there is none
 pub record IsMeasured (s t : State) : Type 0 where
-  pub ready : Ready t
+  pub ready : BurstsFit t → Ready t
   pub flushed : IsFlushed s t
   pub waits : ArrivedSince (receiver_of s).arrived (receiver_of t).queue
   pub level : (receiver_of t).trigger ≡ unwrap_or (fields (inner_of s)).config.fifo_trigger_level One
@@ -89,9 +89,10 @@ pub record FindsOff (s : State) (found : Result FifoSize FifoSizeError) (t : Sta
 
 -- a find over a chip that has no FIFOs, by a driver that takes them to be on, returns that one byte came back, which is
 -- too few, or it stalls. If one came back, the transmitter is empty, with nothing of the call on the wire, and the
--- state is ready: the driver knows then that the FIFOs are off. The latches are as before
+-- state is ready: the driver knows then that the FIFOs are off, and it still has to take them for no larger than they
+-- are. The latches are as before
 pub record FindsNone (s : State) (found : Result FifoSize FifoSizeError) (t : State) : Type 0 where
   pub answers : (found ≡ Err (TooFew 1)) ⊎ (found ≡ Err Stalled)
   pub flushed : found ≡ Err (TooFew 1) → IsFlushed s t
-  pub ready : found ≡ Err (TooFew 1) → Ready t
+  pub ready : found ≡ Err (TooFew 1) → BurstsFit t → Ready t
   pub latches : latches_of t ≡ latches_of s

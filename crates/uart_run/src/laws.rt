@@ -13,6 +13,7 @@ ghost use Rattle.uart_spec.specs.Bits.{IsWithin};
 ghost use Rattle.uart_spec.specs.Config.{IsComputable};
 ghost use Rattle.uart_spec.specs.declared.config.Config.{Config};
 ghost use Rattle.uart_spec.specs.declared.setup.FifoSize.{FifoSize};
+ghost use Rattle.uart_spec.specs.declared.setup.FifoSize.TheVariants.{Sixteen};
 ghost use Rattle.uart_spec.specs.declared.setup.Setup.{Setup};
 ghost use Rattle.uart_spec.specs.declared.errors.FifoSizeError.{FifoSizeError};
 ghost use Rattle.uart_spec.specs.declared.errors.FifoSizeError.TheVariants.{Stalled};
@@ -29,7 +30,7 @@ ghost use Rattle.uart_spec.specs.declared.access.Access.{Access};
 ghost use Rattle.uart_spec.specs.declared.access.Access.TheVariants.{Read};
 ghost use Rattle.uart_spec.specs.declared.registers.offsets.TheConstants as offsets;
 ghost use Rattle.uart_run.specs.Wired.{IsWiredChip};
-ghost use Rattle.uart_run.specs.Ready.{KeepsReady, Ready};
+ghost use Rattle.uart_run.specs.Ready.{BurstsFit, KeepsReady, Ready};
 ghost use Rattle.uart_run.specs.Overruns.{FlagTells, LeavesReceiver, OverrunsStand};
 ghost use Rattle.uart_run.specs.ReceivedErrors.{ReceivedExactly, under_terminal};
 ghost use Rattle.uart_run.specs.Progress.{HasRoom, IsTimely, IsUnheld};
@@ -46,6 +47,15 @@ use uart_chip::Device16550;
 pub fn idle_keeps_ready()
     ensures { (n : ℕ) (machine : MachineState) →
         KeepsReady machine (record machine { chip = ticks n machine.chip }) }
+{}
+
+/// A driver that takes the FIFOs for 16, as each does that was told no other size, takes them for
+/// no larger than they are, whatever the chip is: the FIFOs of each hold at least as many. No call
+/// of a run changes that. So all that a session asks of such a driver is that it knows whether the
+/// FIFO is on, and of its chip that DLAB and loopback are off.
+pub fn smallest_size_fits()
+    ensures { (uart : Uart16550 MachineState) →
+        (fields uart).size ≡ Sixteen → BurstsFit (under_terminal uart) }
 {}
 
 /// With the FIFO on, each byte that `receive_with_errors` returns is the next character that is in
@@ -137,10 +147,11 @@ pub fn configured_chips_pass_the_check(uart: &Uart16550<Device16550>)
 /// is off.
 ///
 /// With a size nothing of the call went to the wire, and all that waited before it did; what is in
-/// the receiver arrived during the call; and a session may begin. After a stall at most one byte of
-/// the call goes out, and a session may begin if one might before. Either way the latches are as
-/// before. A driver that takes the FIFOs to be off does nothing. One that takes them to be on over
-/// a chip that has none is told that one byte came back, or of a stall.
+/// the receiver arrived during the call; and a session may begin, if the driver takes the FIFOs for
+/// no larger than they are. After a stall at most one byte of the call goes out, and a session may
+/// begin if one might before. Either way the latches are as before. A driver that takes the FIFOs
+/// to be off does nothing. One that takes them to be on over a chip that has none is told that one
+/// byte came back, or of a stall.
 ///
 /// # Examples
 ///

@@ -50,7 +50,17 @@ agree {R} {B} {C} {G} law stream a b old new other_old other_new p q same x y =
 -- what a call does that saves what it reads
 pub saved : {B : Type 0} {step : B → Access → B → Type 0} {L : Language} {old new : Uart16550 B} → (p : Made step L old new) →
     Saving L (fields old) p.list (fields new)
-saved p = (p.fits, λ i. record { config = p.config i; fifo = p.fifo i; lsr = p.lsr i; msr = p.msr i; limit = non_zero_u64_get (p.limit i) })
+saved p = (
+  p.fits,
+  λ i. record {
+    config = p.config i;
+    fifo = p.fifo i;
+    size = p.size i;
+    lsr = p.lsr i;
+    msr = p.msr i;
+    limit = non_zero_u64_get (p.limit i);
+  },
+)
 
 pub agree_saving : {R B C : Type 0} (L : R → Language) {step : B → Access → B → Type 0} {other_step : C → Access → C → Type 0} →
     LeavesNoChoice (λ a. Saving (L a)) → AgreeSaving L step other_step

@@ -1,9 +1,10 @@
 -- The calls of a driver leave no choice.
-use Rattle.std.proofs.Common.{◌≡◌, refl}
+use Rattle.std.proofs.Common.{◌≡◌, ◌++◌, refl}
+use Rattle.std.specs.Prelude.{option_to_list}
 use Rattle.std.specs.declared.fmt.Error.{Error}
 use Rattle.uart_16550.specs.Choice.{LeavesNoChoice}
 use Rattle.uart_16550.specs.Grammar.{Settings}
-use Rattle.uart_16550.specs.Driver.{Saving, with_limit}
+use Rattle.uart_16550.specs.Driver.{Saving, with_fifo_size, with_limit}
 use Rattle.uart_16550.specs.DriverCalls.{SavingCall, SavingOutcome, SavingLists, ChangingCall, ChangingDoing}
 use Rattle.uart_spec.specs.declared.registers.offsets.TheConstants as offsets
 use Rattle.uart_spec.specs.declared.registers.line_control.TheConstants.LCR
@@ -55,6 +56,7 @@ lists_determined (SavingCall.receive_bytes_exact slots) s = exact_into_determine
 lists_determined (SavingCall.try_send_byte byte) s = try_send_determined s byte
 lists_determined (SavingCall.send_bytes bytes) s = sends_determined s bytes
 lists_determined (SavingCall.send_burst size bytes) s = sends_burst_determined s size bytes
+lists_determined (SavingCall.send_gathered urgent first second) s = sends_determined s (option_to_list urgent ++ (first ++ second))
 lists_determined (SavingCall.send_bytes_exact bytes) s = sends_exact_determined s bytes
 lists_determined (SavingCall.send_bytes_while bytes answers) s = as_answered_determined s bytes answers
 lists_determined (SavingCall.receive_bytes_while slots answers) s = receives_while_determined s slots answers
@@ -76,6 +78,7 @@ changing_leaves_no_choice ChangingCall.msr = no_choice takes_msr_determined
 changing_leaves_no_choice ChangingCall.config_register_dump = no_choice dumps_determined
 changing_leaves_no_choice (ChangingCall.enable_interrupts bits) = no_choice (enables_determined bits)
 changing_leaves_no_choice (ChangingCall.disable_interrupts bits) = no_choice (disables_determined bits)
+changing_leaves_no_choice (ChangingCall.set_fifo_size size) = no_choice (λ f a b. does_so (λ t. refl) (does_set f (with_fifo_size size)))
 changing_leaves_no_choice (ChangingCall.set_spin_limit limit) = no_choice (λ f a b. does_so (λ t. refl) (does_set f (with_limit limit)))
 changing_leaves_no_choice (ChangingCall.init config computable) = no_choice (inits_determined config computable)
 changing_leaves_no_choice (ChangingCall.start config computable) = no_choice (starts_determined config computable)

@@ -1,5 +1,5 @@
 -- How the size of the FIFOs is found is determined.
-use Rattle.std.proofs.Common.{◌≡◌, ◌≤◌, ◌⊎◌, ℕ, zero, suc, Bool, true, false, List, [], ◌∷◌, refl, sym, ◌∙◌, ap, subst, arith, inl, inr}
+use Rattle.std.proofs.Common.{◌≡◌, ◌⊎◌, ℕ, zero, suc, Bool, true, false, List, [], ◌∷◌, refl, sym, ◌∙◌, ap, subst, arith, inl, inr}
 use Rattle.std.proofs.Common.{◌==◌, Result, Ok, Err, Option, Some, None, if◌then◌else◌}
 use Rattle.uart_spec.specs.FifoSize.{characters, IsLargestUpTo}
 use Rattle.uart_spec.specs.declared.setup.FifoSize.{FifoSize}
@@ -19,7 +19,7 @@ use Rattle.uart_16550.specs.Driver.{Fields, Saving, Next, settings_of}
 use Rattle.uart_16550.specs.Setup.{level_of}
 use Rattle.uart_16550.specs.Loopback.{test_byte, TakesOne, DrainsLoopback, EntersAt, Inside}
 use Rattle.uart_16550.specs.Sizing.{flood, Floods, TakesBack, Tells, Measures, SwitchesFifo, Sizes, SizesInLoopback, FindsFifoSize}
-use Rattle.uart_16550.proofs.Languages.{then_later}
+use Rattle.uart_16550.proofs.Languages.{then_later, at_least_sixteen}
 use Rattle.uart_16550.proofs.determined.Parting.{SameOrPart, Determined, so, determined_so, determined_sym, determined_among}
 use Rattle.uart_16550.proofs.determined.Parting.{determined_then, determined_front, determined_none, determined_only, not_both}
 use Rattle.uart_16550.proofs.determined.Repeated.{Misses, times_same, times_all}
@@ -45,10 +45,6 @@ size_of_characters : (size : FifoSize) → size_of (characters size) ≡ size
 unfolding size_of
 size_of_characters Sixteen = refl
 size_of_characters _ = refl
-
-at_least_sixteen : (size : FifoSize) → 16 ≤ characters size
-at_least_sixteen Sixteen = omega arith
-at_least_sixteen _ = omega arith
 
 largest_one : (count : ℕ) (a b : FifoSize) → IsLargestUpTo count (Some a) → IsLargestUpTo count (Some b) → a ≡ b
 largest_one count a b p q =

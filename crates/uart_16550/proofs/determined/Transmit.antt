@@ -11,8 +11,9 @@ use Rattle.uart_spec.specs.declared.registers.modem_status.TheConstants.MSR
 use Rattle.uart_spec.specs.declared.access.Access.{Access}
 use Rattle.uart_16550.specs.Grammar.{Settings, Then, AllMisses, Asks, Never}
 use Rattle.uart_16550.specs.Transmit.{LinesAllow, SendHit, SendRefused, SendMiss, ReadyToSend, Burst, Round, Sends, TrySends, burst_size}
+use Rattle.uart_16550.specs.Transmit.{burst_limit}
 use Rattle.uart_16550.specs.Transmit.{IsCut, SendsAll, SendsExact, SendsSome, WaitsFor}
-use Rattle.uart_16550.specs.Bursts.{SendsBurst, room}
+use Rattle.uart_16550.specs.Bursts.{SendsBurst}
 use Rattle.uart_spec.specs.declared.setup.FifoSize.{FifoSize}
 use Rattle.uart_16550.proofs.determined.Parting.{SameOrPart, Determined, so, determined_so, determined_sym, determined_then}
 use Rattle.uart_16550.proofs.determined.Parting.{determined_front, determined_only, determined_never, determined_checks, determined_if}
@@ -136,7 +137,7 @@ sends_determined s bytes j k = fronts_determined s (burst_size s bytes) bytes j 
 
 pub sends_burst_determined : (s : Settings) (size : FifoSize) (bytes : List ℕ) (j k : ℕ) →
     Determined (j ≡ k) (SendsBurst size bytes j s) (SendsBurst size bytes k s)
-sends_burst_determined s size bytes j k = fronts_determined s (min (length bytes) (room s.fifo size)) bytes j k
+sends_burst_determined s size bytes j k = fronts_determined s (min (length bytes) (burst_limit s.fifo size)) bytes j k
 
 pub try_send_determined : (s : Settings) (byte : ℕ) (a b : Result (Unit {0}) ByteSendError) →
     Determined (a ≡ b) (TrySends byte a s) (TrySends byte b s)

@@ -11,13 +11,11 @@ use Rattle.uart_spec.specs.Bits.{has_any}
 use Rattle.uart_spec.specs.declared.registers.line_control.TheConstants.LCR
 use Rattle.uart_spec.specs.declared.registers.line_status.TheConstants.LSR
 use Rattle.uart_spec.specs.declared.registers.offsets.TheConstants as offsets
-use Rattle.uart_spec.specs.declared.setup.FifoSize.TheVariants.{Sixteen}
 use Rattle.uart_chip.specs.Transmitter.{room}
 use Rattle.uart_chip.specs.Receiver.{report}
 use Rattle.uart_chip.specs.Chip.{word_length, line_status, after_read, after_write}
 use Rattle.uart_chip.specs.Machine.{MachineState, MachineStep, at_access}
 use Rattle.uart_chip.specs.Sound.{IsSound}
-use Rattle.uart_chip.proofs.Sizes.{room_least}
 use Rattle.uart_chip.proofs.Bits.{has_or, word_same}
 use Rattle.uart_chip.proofs.statuses.Status.{status_room, status_data}
 use Rattle.uart_chip.proofs.soundness.Sounds.{sound_access, sound_read, sound_write}
@@ -124,13 +122,14 @@ took x m n byte o w told s =
       passed = passed_read x m n 0 byte (t.front ∷ []) o.loopback w s (λ q. t.went);
     }
 
-passed_send : (x : Modes) (m n : MachineState) (byte : ℕ) → IsOpen x → Stands x m → length m.chip.transmitter.queue < room x.fifo Sixteen →
+passed_send : (x : Modes) (m n : MachineState) (byte : ℕ) → IsOpen x → Stands x m →
+    length m.chip.transmitter.queue < room x.fifo m.chip.transmitter.size →
     MachineStep m (Write offsets.DATA byte) n →
     Passed x m n (Write offsets.DATA byte ∷ []) (byte ∷ []) []
 passed_send x m n byte o w free s =
     passed_write x x m n offsets.DATA byte (byte ∷ []) o.loopback refl w s
-    (λ p. let any = room_least x.fifo (at_access m).chip.transmitter.size in
-    went-send x (at_access m).chip byte o.dlab p.sound.chip p.went.modes (omega (arith, p.went.sends.place, free, any)))
+    (λ p. let same = ap (room x.fifo) p.went.sends.size in
+    went-send x (at_access m).chip byte o.dlab p.sound.chip p.went.modes (omega (arith, p.went.sends.place, free, same)))
 
 pub passed_quiet : (x : Modes) (m n : MachineState) (access : Access) → IsOpen x → Stands x m → is_quiet access ≡ true →
     MachineStep m access n → Passed x m n (access ∷ []) [] []
@@ -162,13 +161,14 @@ passed_quiets x (access ∷ accesses) m n o w q p =
     (passed_quiets x accesses p.0 n o (stands-after x m p.0 _ _ _ a) q.1 p.2)
 
 passed_sends : (x : Modes) (bytes : List ℕ) (m n : MachineState) → IsOpen x → Stands x m →
-    length m.chip.transmitter.queue + length bytes ≤ room x.fifo Sixteen →
+    length m.chip.transmitter.queue + length bytes ≤ room x.fifo m.chip.transmitter.size →
     Path MachineStep m (map (Write offsets.DATA) bytes) n → Passed x m n (map (Write offsets.DATA) bytes) bytes []
 passed_sends x [] m n o w h p = passed_none x m n w p
 passed_sends x (byte ∷ bytes) m n o w h p =
     let a = passed_send x m p.0 byte o w (omega (arith, h)) p.1 in
+    let same = ap (room x.fifo) a.went.sends.size in
     passed-trans x x m p.0 n (Write offsets.DATA byte ∷ []) (map (Write offsets.DATA) bytes) (byte ∷ []) bytes [] [] refl a
-    (passed_sends x bytes p.0 n o (stands-after x m p.0 _ _ _ a) (omega (arith, a.went.sends.place, h)) p.2)
+    (passed_sends x bytes p.0 n o (stands-after x m p.0 _ _ _ a) (omega (arith, a.went.sends.place, h, same)) p.2)
 
 -- ---- blocks
 
@@ -199,7 +199,8 @@ passed_hit x m n line byte o w h (m₁, s₁, (m₂, s₂, e)) =
 
 passed_burst : (x : Modes) (m n : MachineState) (line : ℕ) (checks : List Access) (bytes : List ℕ) → IsOpen x → Stands x m →
     has_any line LSR.THR_EMPTY.0 ≡ true → AllQuiet checks →
-    length bytes ≤ room x.fifo Sixteen → Path MachineStep m (Read offsets.LSR line ∷ (checks ++ map (Write offsets.DATA) bytes)) n →
+    length bytes ≤ room x.fifo m.chip.transmitter.size →
+    Path MachineStep m (Read offsets.LSR line ∷ (checks ++ map (Write offsets.DATA) bytes)) n →
     Passed x m n (Read offsets.LSR line ∷ (checks ++ map (Write offsets.DATA) bytes)) bytes []
 passed_burst x m n line checks bytes o w h q few (m₁, s₁, p) =
     let a = passed-look x m m₁ line o.loopback w s₁ in
@@ -207,7 +208,8 @@ passed_burst x m n line checks bytes o w h q few (m₁, s₁, p) =
     let none : length m₁.chip.transmitter.queue ≡ 0 = grind (arith, common_steps) in
     let r = path_split MachineStep m₁ n checks (map (Write offsets.DATA) bytes) p in
     let b = passed_quiets x checks m₁ r.0 o (stands-after x m m₁ _ _ _ a) q r.1 in
-    let c = passed_sends x bytes r.0 n o (stands-after x m₁ r.0 _ _ _ b) (omega (arith, b.went.sends.place, none, few)) r.2 in
+    let same = ap (room x.fifo) (b.went.sends.size ∙ a.went.sends.size) in
+    let c = passed_sends x bytes r.0 n o (stands-after x m₁ r.0 _ _ _ b) (omega (arith, b.went.sends.place, none, few, same)) r.2 in
     let bc = passed-trans x x m₁ r.0 n checks (map (Write offsets.DATA) bytes) [] bytes [] [] refl b c in
     passed-trans x x m m₁ n (Read offsets.LSR line ∷ []) (checks ++ map (Write offsets.DATA) bytes) [] bytes [] [] refl a bc
 
@@ -295,15 +297,17 @@ passed_frame x m n low high frame o w whole (m₁, s₁, (m₂, s₂, (m₃, s�
     rw e (passed-trans y z m m₁ m₄ (Write offsets.LCR (bit_or frame LCR.DLAB.0) ∷ [])
     (Write offsets.DLL low ∷ Write offsets.DLM high ∷ Write offsets.LCR frame ∷ []) [] [] [] [] refl a bcd)
 
--- what a block does to a machine of a session
-pub passed_block : (x : Modes) (m n : MachineState) (block : Block) → IsOpen x → Stands x m → IsFit x.fifo block →
-    Path MachineStep m (accesses_of block) n →
+-- what a block does to a machine of a session that has room for as many bytes as are written after one look
+pub passed_block : (x : Modes) (most : ℕ) (m n : MachineState) (block : Block) → IsOpen x → Stands x m →
+    most ≤ room x.fifo m.chip.transmitter.size → IsFit most block → Path MachineStep m (accesses_of block) n →
     PassedBlocks x m n (accesses_of block) (written_in block) (read_in block)
-passed_block x m n (Look line) o w h p = nothing_taken x m n _ [] (rw p.2 (passed-look x m p.0 line o.loopback w p.1))
-passed_block x m n (Hit line byte) o w h p = passed_hit x m n line byte o w h p
-passed_block x m n (Burst line checks bytes) o w h p = nothing_taken x m n _ bytes (passed_burst x m n line checks bytes o w h.0 h.1 h.2 p)
-passed_block x m n (Other access) o w h p = nothing_taken x m n _ [] (rw p.2 (passed_quiet x m p.0 access o w h p.1))
-passed_block x m n (Divisor lcr low high) o w h p = nothing_taken x m n _ [] (passed_divisor x m n lcr low high o w p)
+passed_block x most m n (Look line) o w fits h p = nothing_taken x m n _ [] (rw p.2 (passed-look x m p.0 line o.loopback w p.1))
+passed_block x most m n (Hit line byte) o w fits h p = passed_hit x m n line byte o w h p
+passed_block x most m n (Burst line checks bytes) o w fits h p =
+    let few = h.2 in
+    nothing_taken x m n _ bytes (passed_burst x m n line checks bytes o w h.0 h.1 (omega (arith, few, fits)) p)
+passed_block x most m n (Other access) o w fits h p = nothing_taken x m n _ [] (rw p.2 (passed_quiet x m p.0 access o w h p.1))
+passed_block x most m n (Divisor lcr low high) o w fits h p = nothing_taken x m n _ [] (passed_divisor x m n lcr low high o w p)
 
 pub passed_blocks-trans : (x : Modes) (m n o : MachineState) (xs ys : List Access) (ws vs rs qs : List ℕ) → PassedBlocks x m n xs ws rs →
     PassedBlocks x n o ys vs qs →
@@ -317,13 +321,14 @@ passed_blocks-trans x m n o xs ys ws vs rs qs a b =
     }
 
 -- and what a list of blocks does
-pub passed_blocks : (x : Modes) (blocks : List Block) (m n : MachineState) → IsOpen x → Stands x m → AllFit x.fifo blocks →
-    Path MachineStep m (flat blocks) n →
+pub passed_blocks : (x : Modes) (most : ℕ) (blocks : List Block) (m n : MachineState) → IsOpen x → Stands x m →
+    most ≤ room x.fifo m.chip.transmitter.size → AllFit most blocks → Path MachineStep m (flat blocks) n →
     PassedBlocks x m n (flat blocks) (data_written blocks) (data_read blocks)
-passed_blocks x [] m n o w h p = nothing_taken x m n [] [] (passed_none x m n w p)
-passed_blocks x (block ∷ blocks) m n o w h p =
+passed_blocks x most [] m n o w fits h p = nothing_taken x m n [] [] (passed_none x m n w p)
+passed_blocks x most (block ∷ blocks) m n o w fits h p =
     let q = path_split MachineStep m n (accesses_of block) (flat blocks) p in
-    let a = passed_block x m q.0 block o w h.0 q.1 in
+    let a = passed_block x most m q.0 block o w fits h.0 q.1 in
+    let same = ap (room x.fifo) a.passed.went.sends.size in
     passed_blocks-trans x m q.0 n (accesses_of block) (flat blocks) (written_in block) (data_written blocks) (read_in block)
     (data_read blocks) a
-    (passed_blocks x blocks q.0 n o (stands-after x m q.0 _ _ _ a.passed) h.1 q.2)
+    (passed_blocks x most blocks q.0 n o (stands-after x m q.0 _ _ _ a.passed) (omega (arith, fits, same)) h.1 q.2)

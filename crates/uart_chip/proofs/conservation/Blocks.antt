@@ -10,8 +10,6 @@ use Rattle.uart_spec.specs.Bits.{has_any}
 use Rattle.uart_spec.specs.declared.registers.line_control.TheConstants.LCR
 use Rattle.uart_spec.specs.declared.registers.line_status.TheConstants.LSR
 use Rattle.uart_spec.specs.declared.registers.offsets.TheConstants as offsets
-use Rattle.uart_spec.specs.declared.setup.FifoSize.TheVariants.{Sixteen}
-use Rattle.uart_chip.specs.Transmitter.{room}
 
 -- a look at the line status; one that shows data, and the byte taken; one that shows room, with checks of the modem lines, and the bytes
 -- written; another access; the divisor latch read under DLAB
@@ -49,18 +47,17 @@ is_quiet (Write offset value) = (offset == offsets.IER) || (offset == offsets.SP
 abbrev pub AllQuiet : List Access → Type 0
 AllQuiet accesses = AllByRecursion (λ (access : Access). is_quiet access ≡ true) accesses
 
--- a block as a driver makes it that takes the FIFO to be on or off: it writes no more than a FIFO of 16 has room for, so
--- no more than any
-abbrev pub IsFit : Bool → Block → Type 0
-IsFit fifo (Look line) = Unit {0}
-IsFit fifo (Hit line byte) = has_any line LSR.DATA_READY.0 ≡ true
-IsFit fifo (Burst line checks bytes) = (has_any line LSR.THR_EMPTY.0 ≡ true) × AllQuiet checks × (length bytes ≤ room fifo Sixteen)
-IsFit fifo (Other access) = is_quiet access ≡ true
-IsFit fifo (Divisor lcr low high) = Unit {0}
+-- a block as a driver makes it that writes at most so many bytes after one look
+abbrev pub IsFit : (most : ℕ) → Block → Type 0
+IsFit most (Look line) = Unit {0}
+IsFit most (Hit line byte) = has_any line LSR.DATA_READY.0 ≡ true
+IsFit most (Burst line checks bytes) = (has_any line LSR.THR_EMPTY.0 ≡ true) × AllQuiet checks × (length bytes ≤ most)
+IsFit most (Other access) = is_quiet access ≡ true
+IsFit most (Divisor lcr low high) = Unit {0}
 
 -- each of these blocks fits
-abbrev pub AllFit : Bool → List Block → Type 0
-AllFit fifo blocks = AllByRecursion (IsFit fifo) blocks
+abbrev pub AllFit : (most : ℕ) → List Block → Type 0
+AllFit most blocks = AllByRecursion (IsFit most) blocks
 
 -- the bytes written to the data register
 abbrev pub written_in : Block → List ℕ

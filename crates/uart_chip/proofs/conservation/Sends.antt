@@ -6,25 +6,27 @@ use Rattle.std.proofs.lemmas.Grind.{common_steps}
 use Rattle.uart_chip.specs.declared.transmitter.Shifting.{Shifting}
 use Rattle.uart_chip.specs.Transmitter.{TransmitterState, shift, refill, tick, load, out, room}
 
--- from t to u these were written; the queue may have grown by no more than that
+-- from t to u these were written; the queue may have grown by no more than that, and the FIFO is as large as it was
 pub record Sends (t u : TransmitterState) (written : List ℕ) : Type 0 where
   pub grows : out u ≡ out t ++ written
   pub same_overflows : u.overflows ≡ t.overflows
   pub place : length u.queue ≤ length t.queue + length written
+  pub size : u.size ≡ t.size
 
 pub sends-refl : (t : TransmitterState) → Sends t t []
-sends-refl t = record { grows = sym (append-nil (out t)); same_overflows = refl; place = omega arith }
+sends-refl t = record { grows = sym (append-nil (out t)); same_overflows = refl; place = omega arith; size = refl }
 
 pub sends-trans : (t u v : TransmitterState) (xs ys : List ℕ) → Sends t u xs → Sends u v ys → Sends t v (xs ++ ys)
 sends-trans t u v xs ys a b = record {
   grows = b.grows ∙ (ap (λ zs. zs ++ ys) a.grows ∙ append_assoc (out t) xs ys);
   same_overflows = b.same_overflows ∙ a.same_overflows;
   place = simp length-append (omega (arith, a.place, b.place));
+  size = b.size ∙ a.size;
 }
 
 -- the interrupt flag of the transmitter doesn't matter
 pub sends-pending : (t : TransmitterState) (pending : Bool) → Sends t (record t { is_thr_pending = pending }) []
-sends-pending t pending = record { grows = sym (append-nil (out t)); same_overflows = refl; place = omega arith }
+sends-pending t pending = record { grows = sym (append-nil (out t)); same_overflows = refl; place = omega arith; size = refl }
 
 -- ---- a tick outside of loopback
 
@@ -34,6 +36,7 @@ sends-shift (Some s) t e = record {
   grows = grind (arith, common_steps);
   same_overflows = grind (arith, common_steps);
   place = grind (arith, common_steps);
+  size = grind (arith, common_steps);
 }
 
 sends-refill : (place : Option Shifting) (queue : List ℕ) (t : TransmitterState) → t.shift_register ≡ place → t.queue ≡ queue →
@@ -44,11 +47,13 @@ sends-refill None (x ∷ []) t e f = record {
   grows = grind (arith, common_steps);
   same_overflows = refl;
   place = grind (arith, common_steps);
+  size = refl;
 }
 sends-refill None (x ∷ y ∷ xs) t e f = record {
   grows = grind (arith, common_steps);
   same_overflows = refl;
   place = grind (arith, common_steps);
+  size = refl;
 }
 
 pub sends-tick : (held_off : Bool) (t : TransmitterState) → Sends t (tick false held_off t) []
@@ -64,4 +69,5 @@ sends-load fifo x t free = record {
   grows = grind (arith, common_steps);
   same_overflows = grind (arith, common_steps);
   place = grind (arith, common_steps);
+  size = grind (arith, common_steps);
 }

@@ -6,9 +6,9 @@ use Rattle.uart_spec.specs.declared.access.Access.TheVariants.{Read, Write}
 use Rattle.uart_spec.specs.declared.registers.offsets.TheConstants as offsets
 use Rattle.uart_chip.specs.declared.transmitter.Shifting.{Shifting}
 use Rattle.uart_chip.specs.Transmitter.{TransmitterState, shift, refill, tick, load, room}
-use Rattle.uart_chip.specs.Chip.{ChipState, cut_of, is_dlab_set, after_write}
-use Rattle.uart_chip.specs.Machine.{MachineState, MachineStep, at_access}
-use Rattle.uart_chip.proofs.lasting.Lasting.{Lasts, lasts-read, lasts-write, lasts-before}
+use Rattle.uart_chip.specs.Chip.{ChipState, cut_of, is_dlab_set, after_write, ticks}
+use Rattle.uart_chip.specs.Machine.{MachineState, MachineStep, at_access, at_mark}
+use Rattle.uart_chip.proofs.lasting.Lasting.{Lasts, lasts-read, lasts-write, lasts-before, lasts-ticks, lasts-before_mark}
 
 -- the two are of one make
 pub record SamePace (t u : TransmitterState) : Type 0 where
@@ -79,9 +79,20 @@ module _ (t : TransmitterState) where
       same_pace-path made mid n
       (rw step (write-pace offset value (at_access m).chip (lasts-before (SamePace t) pace_lasts.in_tick m.ahead m.chip p))) rest
 
+-- a make is its own
+same_make : (t : TransmitterState) → SamePace t t
+same_make t = record { capacity = refl; char_ticks = refl; size = refl }
+
+pub same_pace-ticks : (n : ℕ) (c : ChipState) → SamePace c.transmitter (ticks n c).transmitter
+same_pace-ticks n c = lasts-ticks (SamePace c.transmitter) (pace_lasts c.transmitter).in_tick n c (same_make c.transmitter)
+
+pub same_pace-mark : (m : MachineState) → SamePace m.chip.transmitter (at_mark m).chip.transmitter
+same_pace-mark m =
+    lasts-before_mark (SamePace m.chip.transmitter) (pace_lasts m.chip.transmitter).in_tick m.ahead m.chip (same_make m.chip.transmitter)
+
 pub same_pace : (made : List Access) (m n : MachineState) → Path MachineStep m made n → SamePace m.chip.transmitter n.chip.transmitter
-same_pace made m n path = same_pace-path m.chip.transmitter made m n (record { capacity = refl; char_ticks = refl; size = refl }) path
+same_pace made m n path = same_pace-path m.chip.transmitter made m n (same_make m.chip.transmitter) path
 
 -- of one tick
 pub pace_tick : (loopback held_off : Bool) (t : TransmitterState) → SamePace t (tick loopback held_off t)
-pace_tick loopback held_off t = (pace_lasts t).in_tick loopback held_off t (record { capacity = refl; char_ticks = refl; size = refl })
+pace_tick loopback held_off t = (pace_lasts t).in_tick loopback held_off t (same_make t)

@@ -115,6 +115,9 @@ module _ (P : TransmitterState → Type 0)
   pub lasts-before : (events : List Event) (c : ChipState) → P c.transmitter → P (before_access events c).transmitter
   lasts-before events c p = chip_lasts-before (λ c. P c.transmitter) in_events events c p
 
+  pub lasts-ticks : (n : ℕ) (c : ChipState) → P c.transmitter → P (ticks n c).transmitter
+  lasts-ticks n c p = chip_lasts-ticks (λ c. P c.transmitter) in_events n c p
+
   pub lasts-before_mark : (events : List Event) (c : ChipState) → P c.transmitter → P (before_mark events c).transmitter
   lasts-before_mark events c p = chip_lasts-before_mark (λ c. P c.transmitter) in_events events c p
 

@@ -24,10 +24,11 @@ use Rattle.uart_chip.specs.Chip.{is_dlab_set, is_loopback, divisor}
 use Rattle.uart_chip.specs.Machine.{MachineState, MachineStep}
 use Rattle.uart_calls.specs.Meaning.{init_answer}
 use Rattle.uart_run.specs.Run.{State, machine_of, CallStep}
-use Rattle.uart_run.specs.Ready.{Ready, has_fifo, is_level, IsInitialised, Initialises}
+use Rattle.uart_run.specs.Ready.{Ready, BurstsFit, has_fifo, is_level, IsInitialised, Initialises}
 use Rattle.uart_chip.specs.Sound.{IsSound}
 use Rattle.uart_run.specs.Wired.{IsWired}
 use Rattle.uart_run.proofs.Latches.{Kept, kept_in, kept_after, kept_list}
+use Rattle.uart_run.proofs.SizeKept.{fits_kept}
 use Rattle.uart_run.proofs.Wired.{wired_path}
 use Rattle.uart_run.proofs.Pieces.{then_parts, next_stages}
 use Rattle.uart_run.proofs.initialising.Presence.{never_absent}
@@ -37,11 +38,12 @@ use Rattle.uart_run.proofs.initialising.Inits.{frame-dlab, frame-unbroken, set_u
 
 -- ready by what the registers keep
 pub ready_by : (t : State) (k : Kept) → kept_in (machine_of t).chip ≡ k → is_dlab_set k.latches ≡ false → is_loopback k.latches ≡ false →
-    (fields (inner_of t)).fifo ≡ k.fifo → Ready t
-ready_by t k e dlab loopback knows = record {
+    (fields (inner_of t)).fifo ≡ k.fifo → BurstsFit t → Ready t
+ready_by t k e dlab loopback knows fits = record {
   dlab = ap (λ (v : Kept). is_dlab_set v.latches) e ∙ dlab;
   loopback = ap (λ (v : Kept). is_loopback v.latches) e ∙ loopback;
   fifo = ap (λ (v : Kept). v.fifo) e ∙ sym knows;
+  fits = fits;
 }
 
 -- ---- done
@@ -72,6 +74,7 @@ initialised config d scr on k t of kept is_on knows wired empty = record {
   ier = ap (λ (v : Kept). v.latches.ier) kept;
   is_empty = empty;
   fifo = ap (λ (v : Kept). v.fifo) kept ∙ (is_on ∙ sym (ap (λ (v : Kept). is_level config.fifo_trigger_level && has_fifo v.model) kept));
+  knows = ap (λ (v : Kept). v.fifo) kept ∙ sym knows;
 }
 
 -- a wait keeps the registers that were set up
@@ -122,20 +125,20 @@ found config f after l m n does p =
 -- a wait in vain for an empty transmitter, from any state
 stalled : (config : Config) (d : ℕ) (on : Bool) (f : Fields) (l : List Access) (m : MachineState) (t : State) → IsSound m →
     Next (Begins config d on) (Saving (WaitsFor LSR.TRANSMITTER_EMPTY.0 false)) f l (fields (inner_of t)) →
-    Path MachineStep m l (machine_of t) → Ready t
-stalled config d on f l m t w does p =
+    Path MachineStep m l (machine_of t) → BurstsFit t → Ready t
+stalled config d on f l m t w does p fits =
     let n = machine_of t in
     let a = next_stages (Begins config d on) (Saving (WaitsFor LSR.TRANSMITTER_EMPTY.0 false)) f (fields (inner_of t)) l m n does p in
     let b = begun config d on f a.mid a.parts.front m a.parts.between w a.parts.first a.parts.before in
     let set = still_begun config d on m a.parts.between n a.mid a.parts.back false b a.parts.second.0 a.parts.after ∙ b.kept in
-    ready_by t _ set (frame-dlab config) refl (ap (λ (g : Fields). g.fifo) a.parts.second.1 ∙ b.knows)
+    ready_by t _ set (frame-dlab config) refl (ap (λ (g : Fields). g.fifo) a.parts.second.1 ∙ b.knows) fits
 
 -- nothing was done
 pub untouched : (s t : State) (l : List Access) → l ≡ [] → fields (inner_of t) ≡ fields (inner_of s) →
-    Path MachineStep (machine_of s) l (machine_of t) → Ready s → Ready t
-untouched s t l none same p ready =
+    Path MachineStep (machine_of s) l (machine_of t) → BurstsFit t → Ready s → Ready t
+untouched s t l none same p fits ready =
     ready_by t (kept_in (machine_of s).chip) (kept_list l [] (machine_of s) (machine_of t) none p) ready.dlab ready.loopback
-    (ap (λ (g : Fields). g.fifo) same ∙ sym ready.fifo)
+    (ap (λ (g : Fields). g.fifo) same ∙ sym ready.fifo) fits
 
 -- ---- whatever it answers
 
@@ -160,9 +163,12 @@ pub init_ready : (s t : State) (config : Config) (a : Answer) → IsSound (machi
     Ready t
 init_ready s t config a w h ready = go h.outcome h.did.does
   where
+    fits : BurstsFit t
+    fits = fits_kept s t (call.Init config) a h ready.fits
+
     go : (result : Result (Unit {0}) InitError) → Inits config result (fields (inner_of s)) h.did.list (fields (inner_of t)) → Ready t
-    go (Ok x) (d, on, of, does) = (done config d on (fields (inner_of s)) h.did.list (machine_of s) t w of does h.did.path).ready
-    go (Err (InvalidBaudRate cause)) (of, none, same) = untouched s t h.did.list none same h.did.path ready
+    go (Ok x) (d, on, of, does) = (done config d on (fields (inner_of s)) h.did.list (machine_of s) t w of does h.did.path).ready fits
+    go (Err (InvalidBaudRate cause)) (of, none, same) = untouched s t h.did.list none same h.did.path fits ready
     go (Err DeviceNotPresent) (d, of, does) =
         absurd (found config (fields (inner_of s)) (fields (inner_of t)) h.did.list (machine_of s) (machine_of t) does h.did.path)
-    go (Err Stalled) (d, on, of, does) = stalled config d on (fields (inner_of s)) h.did.list (machine_of s) t w does h.did.path
+    go (Err Stalled) (d, on, of, does) = stalled config d on (fields (inner_of s)) h.did.list (machine_of s) t w does h.did.path fits

@@ -32,9 +32,10 @@ use Rattle.uart_chip.specs.Sound.{IsSound}
 use Rattle.uart_chip.proofs.soundness.Sounds.{sound_path}
 use Rattle.uart_chip.proofs.conservation.BlockLaws.{path_as}
 use Rattle.uart_run.specs.Run.{State, machine_of, CallStep}
-use Rattle.uart_run.specs.Ready.{Ready, has_fifo, is_level, IsSetUp, Arranges}
+use Rattle.uart_run.specs.Ready.{Ready, BurstsFit, has_fifo, is_level, IsSetUp, Arranges}
 use Rattle.uart_run.specs.Wired.{IsWiredChip, IsWired}
 use Rattle.uart_run.proofs.Wired.{wired_path, wired_control}
+use Rattle.uart_run.proofs.SizeKept.{fits_kept}
 use Rattle.uart_run.proofs.Latches.{Kept, kept_in, kept_after, kept_after-append, kept_list, kept_path}
 use Rattle.uart_run.proofs.ListsInTurn.{HoldsInTurn, HoldsOfAll, all_only, all_then, all_few, all_misses}
 use Rattle.uart_run.proofs.Pieces.{then_parts, next_stages}
@@ -199,6 +200,7 @@ arranged setup config d scr on k t of kept is_on knows wired empty = record {
   ier = ap (λ (v : Kept). v.latches.ier) kept;
   is_empty = empty;
   fifo = ap (λ (v : Kept). v.fifo) kept ∙ (is_on ∙ sym (ap (λ (v : Kept). is_level config.fifo_trigger_level && has_fifo v.model) kept));
+  knows = ap (λ (v : Kept). v.fifo) kept ∙ sym knows;
 }
 
 -- a wait comes first or last
@@ -269,23 +271,23 @@ found setup config f after l m n does p =
 -- a wait in vain that comes first: nothing but the scratch register was written
 stalled_first : (setup : Setup) (config : Config) (s t : State) (l : List Access) →
     Next (Sets (with_config config)) (Saving (Looks setup false)) (fields (inner_of s)) l (fields (inner_of t)) →
-    Path MachineStep (machine_of s) l (machine_of t) → Ready s → Ready t
-stalled_first setup config s t l does p ready =
+    Path MachineStep (machine_of s) l (machine_of t) → BurstsFit t → Ready s → Ready t
+stalled_first setup config s t l does p fits ready =
     let a = next_stages (Sets (with_config config)) (Saving (Looks setup false)) (fields (inner_of s)) (fields (inner_of t)) l
     (machine_of s) (machine_of t) does p in
     let begins = path_as (machine_of s) a.parts.between a.parts.front [] a.parts.first.0 a.parts.before in
     let c = looked setup false (settings_of a.mid) a.parts.back a.parts.between (machine_of t) a.parts.second.0 a.parts.after in
     let scratched : Kept → Kept = λ k. record k { latches = record k.latches { scr = c.scr } } in
     ready_by t (scratched (kept_in (machine_of s).chip)) (c.kept ∙ ap (λ (o : MachineState). scratched (kept_in o.chip)) begins) ready.dlab
-    ready.loopback (ap (λ (g : Fields). g.fifo) a.parts.second.1 ∙ (ap (λ (g : Fields). g.fifo) a.parts.first.1 ∙ sym ready.fifo))
+    ready.loopback (ap (λ (g : Fields). g.fifo) a.parts.second.1 ∙ (ap (λ (g : Fields). g.fifo) a.parts.first.1 ∙ sym ready.fifo)) fits
 
 -- one that comes last: the chip is set up
 stalled_last : (setup : Setup) (config : Config) (d : ℕ) (on : Bool) (f : Fields) (l : List Access) (m : MachineState) (t : State) →
     IsSound m →
     Next (Sets (with_config config)) (Next (Saving (Looks setup true))
     (Next (SetsUp setup config d on) (Saving (WaitsIf (is_last setup.wait) false)))) f l (fields (inner_of t)) →
-    Path MachineStep m l (machine_of t) → Ready t
-stalled_last setup config d on f l m t w does p =
+    Path MachineStep m l (machine_of t) → BurstsFit t → Ready t
+stalled_last setup config d on f l m t w does p fits =
     let n = machine_of t in
     let after = fields (inner_of t) in
     let a = next_stages (Sets (with_config config)) (Next (Saving (Looks setup true))
@@ -300,7 +302,7 @@ stalled_last setup config d on f l m t w does p =
     let waited = kept_path c.parts.back c.parts.between n c.parts.after
     ∙ waits_if (settings_of c.mid) (is_last setup.wait) false c.parts.back c.parts.second.0 (kept_in c.parts.between.chip) in
     ready_by t _ (waited ∙ put.kept) (frame-dlab config) (unlooped_off b.parts.between.chip.auto_flow setup.outputs.0)
-    (ap (λ (g : Fields). g.fifo) c.parts.second.1 ∙ put.knows)
+    (ap (λ (g : Fields). g.fifo) c.parts.second.1 ∙ put.knows) fits
 
 -- ---- whatever it answers
 
@@ -323,13 +325,16 @@ pub init_with_ready : (s t : State) (config : Config) (setup : Setup) (a : Answe
     CallStep s (call.InitWith config setup) a t → Ready s → Ready t
 init_with_ready s t config setup a w h ready = go h.outcome h.did.does
   where
+    fits : BurstsFit t
+    fits = fits_kept s t (call.InitWith config setup) a h ready.fits
+
     go : (result : Result (Unit {0}) InitError) →
         InitsWith setup config result (fields (inner_of s)) h.did.list (fields (inner_of t)) → Ready t
     go (Ok x) (d, on, of, does) =
-        (done setup config d on (fields (inner_of s)) h.did.list (machine_of s) t w of does h.did.path).ready
-    go (Err (InvalidBaudRate cause)) (of, none, same) = untouched s t h.did.list none same h.did.path ready
+        (done setup config d on (fields (inner_of s)) h.did.list (machine_of s) t w of does h.did.path).ready fits
+    go (Err (InvalidBaudRate cause)) (of, none, same) = untouched s t h.did.list none same h.did.path fits ready
     go (Err DeviceNotPresent) (d, of, does) =
         absurd (found setup config (fields (inner_of s)) (fields (inner_of t)) h.did.list (machine_of s) (machine_of t) does h.did.path)
-    go (Err Stalled) (d, of, inl does) = stalled_first setup config s t h.did.list does h.did.path ready
+    go (Err Stalled) (d, of, inl does) = stalled_first setup config s t h.did.list does h.did.path fits ready
     go (Err Stalled) (d, of, inr (on, does)) =
-        stalled_last setup config d on (fields (inner_of s)) h.did.list (machine_of s) t w does h.did.path
+        stalled_last setup config d on (fields (inner_of s)) h.did.list (machine_of s) t w does h.did.path fits

@@ -108,27 +108,32 @@ loops_burst x m n line checks bytes i w few burst h q (m₁, s₁, p) =
     loops-trans x x m.chip m₁.chip n.chip [] (map x.cut bytes) [] [] a
     (loops-trans x x m₁.chip r.0.chip n.chip [] (map x.cut bytes) [] [] b c)
 
--- what a block does in loopback, where what it writes still fits into the line
-loops_block : (x : Modes) (m n : MachineState) (block : Block) → IsLooped x → IsIn x m.chip →
-    length (line_in m.chip) + length (written_in block) ≤ room x.fifo m.chip.receiver.size → IsFit x.fifo block →
+-- what a block does in loopback, where what it writes still fits into the line, and into any FIFO. A loopback test writes no more, so it
+-- does not matter for how large the driver takes the FIFO
+loops_block : (x : Modes) (most : ℕ) (m n : MachineState) (block : Block) → IsLooped x → IsIn x m.chip →
+    length (line_in m.chip) + length (written_in block) ≤ room x.fifo m.chip.receiver.size →
+    length (written_in block) ≤ room x.fifo Sixteen → IsFit most block →
     Path MachineStep m (accesses_of block) n → Loops x m.chip n.chip (map x.cut (written_in block)) (read_in block)
-loops_block x m n (Look line) i w few h p = rw p.2 (loops_look x m p.0 line i.loopback (record { modes = w; few = omega (arith, few) }) p.1)
-loops_block x m n (Hit line byte) i w few h p = loops_hit x m n line byte i (record { modes = w; few = omega (arith, few) }) h p
-loops_block x m n (Burst line checks bytes) i w few h p = loops_burst x m n line checks bytes i w few h.2 h.0 h.1 p
-loops_block x m n (Other access) i w few h p =
+loops_block x most m n (Look line) i w few small h p =
+    rw p.2 (loops_look x m p.0 line i.loopback (record { modes = w; few = omega (arith, few) }) p.1)
+loops_block x most m n (Hit line byte) i w few small h p = loops_hit x m n line byte i (record { modes = w; few = omega (arith, few) }) h p
+loops_block x most m n (Burst line checks bytes) i w few small h p = loops_burst x m n line checks bytes i w few small h.0 h.1 p
+loops_block x most m n (Other access) i w few small h p =
     rw p.2 (loops_quiet x m p.0 access i.loopback (record { modes = w; few = omega (arith, few) }) h p.1)
-loops_block x m n (Divisor lcr low high) i w few h p = loops_divisor x m n lcr low high i (record { modes = w; few = omega (arith, few) }) p
+loops_block x most m n (Divisor lcr low high) i w few small h p =
+    loops_divisor x m n lcr low high i (record { modes = w; few = omega (arith, few) }) p
 
 -- and what a list of blocks does
-loops_blocks : (x : Modes) (blocks : List Block) (m n : MachineState) → IsLooped x → IsIn x m.chip →
-    length (line_in m.chip) + length (data_written blocks) ≤ room x.fifo m.chip.receiver.size → AllFit x.fifo blocks →
+loops_blocks : (x : Modes) (most : ℕ) (blocks : List Block) (m n : MachineState) → IsLooped x → IsIn x m.chip →
+    length (line_in m.chip) + length (data_written blocks) ≤ room x.fifo m.chip.receiver.size →
+    length (data_written blocks) ≤ room x.fifo Sixteen → AllFit most blocks →
     Path MachineStep m (flat blocks) n → Loops x m.chip n.chip (map x.cut (data_written blocks)) (data_read blocks)
-loops_blocks x [] m n i w few h p = loops_none x m n w p
-loops_blocks x (block ∷ blocks) m n i w few h p =
+loops_blocks x most [] m n i w few small h p = loops_none x m n w p
+loops_blocks x most (block ∷ blocks) m n i w few small h p =
     let q = path_split MachineStep m n (accesses_of block) (flat blocks) p in
     let e : length (written_in block ++ data_written blocks) ≡ length (written_in block) + length (data_written blocks) =
     length-append (written_in block) (data_written blocks) in
-    let a = loops_block x m q.0 block i w (omega (arith, e, few)) h.0 q.1 in
+    let a = loops_block x most m q.0 block i w (omega (arith, e, few)) (omega (arith, e, small)) h.0 q.1 in
     let long = line-length x m.chip q.0.chip (map x.cut (written_in block)) (read_in block) a in
     let size : length (map x.cut (written_in block)) ≡ length (written_in block) = length-map (written_in block) x.cut in
     let same = ap (room x.fifo) a.size in
@@ -137,14 +142,14 @@ loops_blocks x (block ∷ blocks) m n i w few h p =
     subst (λ (ws : List ℕ). Loops x m.chip n.chip ws (read_in block ++ data_read blocks)) both
     (loops-trans x x m.chip q.0.chip n.chip (map x.cut (written_in block)) (map x.cut (data_written blocks))
     (read_in block) (data_read blocks) a
-    (loops_blocks x blocks q.0 n i a.modes (omega (arith, e, long, size, few, same)) h.1 q.2))
+    (loops_blocks x most blocks q.0 n i a.modes (omega (arith, e, long, size, few, same)) (omega (arith, e, small)) h.1 q.2))
 
 -- what accesses in blocks do
-pub loops_in_blocks : (x : Modes) (m n : MachineState) (made : List Access) (ws rs : List ℕ) → IsLooped x → IsIn x m.chip →
-    length (line_in m.chip) + length ws ≤ room x.fifo m.chip.receiver.size → InBlocks x.fifo made ws rs → Path MachineStep m made n →
-    Loops x m.chip n.chip (map x.cut ws) rs
-loops_in_blocks x m n made ws rs i w few b p =
-    let a = loops_blocks x b.blocks m n i w (rw b.is_written few) b.fit (rw b.joined at p) in
+pub loops_in_blocks : (x : Modes) (most : ℕ) (m n : MachineState) (made : List Access) (ws rs : List ℕ) → IsLooped x → IsIn x m.chip →
+    length (line_in m.chip) + length ws ≤ room x.fifo m.chip.receiver.size → length ws ≤ room x.fifo Sixteen →
+    InBlocks most made ws rs → Path MachineStep m made n → Loops x m.chip n.chip (map x.cut ws) rs
+loops_in_blocks x most m n made ws rs i w few small b p =
+    let a = loops_blocks x most b.blocks m n i w (rw b.is_written few) (rw b.is_written small) b.fit (rw b.joined at p) in
     rw (b.is_written, b.is_read) at a
 
 -- ---- all that was sent comes back
@@ -171,13 +176,13 @@ pub record CameBack (x : Modes) (gone : List ℕ) (c : ChipState) (written read 
   pub same : read ≡ written
   pub idle : IsIdle x gone c
 
-pub comes_back : (x : Modes) (gone : List ℕ) (m n : MachineState) (made : List Access) (ws rs : List ℕ) → IsLooped x →
-    IsIdle x gone m.chip → length ws ≤ room x.fifo Sixteen → length rs ≡ length ws → InBlocks x.fifo made ws rs →
+pub comes_back : (x : Modes) (most : ℕ) (gone : List ℕ) (m n : MachineState) (made : List Access) (ws rs : List ℕ) → IsLooped x →
+    IsIdle x gone m.chip → length ws ≤ room x.fifo Sixteen → length rs ≡ length ws → InBlocks most made ws rs →
     Path MachineStep m made n → CameBack x gone n.chip (map x.cut ws) rs
-comes_back x gone m n made ws rs i idle few all b p =
+comes_back x most gone m n made ws rs i idle few all b p =
     let none : length (line_in m.chip) ≡ 0 = ap length idle.line in
     let any = room_least x.fifo m.chip.receiver.size in
-    let a = loops_in_blocks x m n made ws rs i idle.modes (omega (arith, none, few, any)) b p in
+    let a = loops_in_blocks x most m n made ws rs i idle.modes (omega (arith, none, few, any)) few b p in
     let e : rs ++ line_in n.chip ≡ map x.cut ws = a.line ∙ ap (λ zs. zs ++ map x.cut ws) idle.line in
     let s = same_lists rs (line_in n.chip) (map x.cut ws) e (all ∙ sym (length-map ws x.cut)) in
     record { same = s.0; idle = record { modes = a.modes; line = s.1; wire = a.wire ∙ idle.wire } }

@@ -6,10 +6,12 @@ use Rattle.uart_spec.specs.declared.errors.ByteSendError.{ByteSendError}
 use Rattle.uart_spec.specs.declared.errors.ByteSendError.TheVariants.{NoCapacity, RemoteNotClearToSend}
 use Rattle.uart_spec.specs.declared.errors.LoopbackError.{LoopbackError}
 use Rattle.uart_spec.specs.declared.errors.LoopbackError.TheVariants.{Stalled, SendError, UnexpectedLoopbackByte, UnexpectedLoopbackMsg}
+use Rattle.uart_spec.specs.declared.setup.FifoSize.{FifoSize}
 use Rattle.uart_spec.specs.Access.{Path}
 use Rattle.uart_spec.specs.declared.access.Access.{Access}
 use Rattle.uart_16550.specs.Grammar.{Settings, Then}
 use Rattle.uart_16550.specs.Transmit.{burst_limit, Sends, TrySends}
+use Rattle.uart_16550.proofs.Languages.{some_limit}
 use Rattle.uart_16550.specs.Loopback.{test_byte, test_message, DrainsLoopback, ExchangesByte, ExchangesMessage, Exchanges}
 use Rattle.uart_chip.specs.Machine.{MachineState, MachineStep}
 use Rattle.uart_chip.proofs.conservation.Went.{Modes}
@@ -34,9 +36,8 @@ leads_on narrow P Q (Err e) f (inr p) = inr (p.0, p.1, f p.2)
 
 -- ---- the byte
 
-some_room : (fifo : Bool) → 0 ≡ min 1 (burst_limit fifo) → ⊥
-some_room true e = omega arith
-some_room false e = omega arith
+some_room : (fifo : Bool) (size : FifoSize) → 0 ≡ min 1 (burst_limit fifo size) → ⊥
+some_room fifo size e = let some = some_limit fifo size in omega (arith, e, some)
 
 -- it is sent at once
 byte_never_refused : (x : Modes) (gone : List ℕ) (s : Settings) (e : ByteSendError) (l : List Access) (m n : MachineState) →
@@ -46,7 +47,7 @@ byte_never_refused x gone s NoCapacity l m n r t path = go t
     go : Sends (test_byte ∷ []) 0 s l → ⊥
     go (inl h) = omega (arith, h.0)
     go (inr (inl h)) = never_refused x gone s h.2.0 l m n r h.2.1 path
-    go (inr (inr h)) = some_room s.fifo h.1
+    go (inr (inr h)) = some_room s.fifo s.size h.1
 byte_never_refused x gone s RemoteNotClearToSend l m n r t path = t
 
 byte_leads : {T : Type 0} (narrow : Bool) (x : Modes) (gone : List ℕ) (s : Settings) (result : Result T LoopbackError) (l : List Access)

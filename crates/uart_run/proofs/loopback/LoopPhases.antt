@@ -28,9 +28,9 @@ use Rattle.uart_chip.proofs.conservation.Went.{Modes, IsIn, dlab-in}
 use Rattle.uart_run.proofs.EmptyTransmitter.{IsSent, sent_path}
 use Rattle.uart_run.proofs.SilentLists.{IsSilent, silence, silent_asks}
 use Rattle.uart_chip.proofs.conservation.BlockLaws.{path_as, look_room}
-use Rattle.uart_run.proofs.CallBlocks.{InBlocks, Makes, makes_then, makes_reads, awaited_blocks}
+use Rattle.uart_run.proofs.CallBlocks.{Makes, most_in, makes_then, makes_reads, awaited_blocks}
 use Rattle.uart_run.proofs.CallBlocks.{round_blocks, sends_all_blocks, try_sends_blocks}
-use Rattle.uart_run.proofs.CallKeeps.{one_fits}
+use Rattle.uart_run.proofs.CallKeeps.{one_fits, one_sent}
 use Rattle.uart_run.proofs.Served.{EndsDry, dry_empties}
 use Rattle.uart_run.proofs.Latches.{Kept, kept_in, kept_cut, kept_access, kept_list}
 use Rattle.uart_run.proofs.Pieces.{then_parts}
@@ -116,9 +116,8 @@ exchanged : (x : Modes) (gone : List ℕ) (s : Settings) (L : Language) (l : Lis
     IsReadyToTest x gone s m → length ws ≤ room s.fifo Sixteen → length rs ≡ length ws → Makes s L ws rs → L s l → Path MachineStep m l n →
     Exchanged x gone s n ws rs
 exchanged x gone s L l m n ws rs r few all makes t path =
-    let B : Bool → Type 0 = λ fifo. InBlocks fifo l ws rs in
-    let c : CameBack x gone n.chip (map x.cut ws) rs = comes_back x gone m n l ws rs r.looped r.idle (rw (← r.fifo) few) all
-    (subst B r.fifo (makes l t)) path in
+    let c : CameBack x gone n.chip (map x.cut ws) rs = comes_back x (most_in s) gone m n l ws rs r.looped r.idle (rw (← r.fifo) few) all
+    (makes l t) path in
     record { same = c.same; ready = record { looped = r.looped; fifo = r.fifo; idle = c.idle } }
 
 -- the byte
@@ -148,7 +147,7 @@ echo_exchanged : (x : Modes) (gone : List ℕ) (s : Settings) (pair : ℕ × ℕ
     IsReadyToTest x gone s m → Echo pair s l → Path MachineStep m l n → Exchanged x gone s n (pair.0 ∷ []) (pair.1 ∷ [])
 echo_exchanged x gone s pair l m n r t path =
     let makes : Makes s (Echo pair) (pair.0 ∷ []) (pair.1 ∷ []) = λ k u.
-    makes_then s (Round (pair.0 ∷ [])) (Awaited pair.1) (pair.0 ∷ []) [] [] (pair.1 ∷ []) (round_blocks s (pair.0 ∷ []) (one_fits s.fifo))
+    makes_then s (Round (pair.0 ∷ [])) (Awaited pair.1) (pair.0 ∷ []) [] [] (pair.1 ∷ []) (round_blocks s (pair.0 ∷ []) (one_sent s))
     (awaited_blocks s pair.1) k u in
     exchanged x gone s (Echo pair) l m n (pair.0 ∷ []) (pair.1 ∷ []) r (one_fits s.fifo) refl makes t path
 

@@ -1,6 +1,6 @@
 -- Where ticks come before each access, the spin limit is long enough and the wire has room, a loopback test does not stall.
 use Rattle.std.proofs.Common.{◌≡◌, ℕ, ◌<◌, Bool, true, false, ◌⊎◌, inl, inr, List, [], ◌∷◌, ◌++◌, length, append_assoc, ◌&&◌}
-use Rattle.std.proofs.Common.{drop, None, Result, Ok, Err, refl, arith, sym, ◌∙◌, ap, subst, MatchBool}
+use Rattle.std.proofs.Common.{drop, min, None, Result, Ok, Err, refl, arith, sym, ◌∙◌, ap, subst, MatchBool}
 use Rattle.uart_spec.specs.declared.errors.LoopbackError.{LoopbackError}
 use Rattle.uart_spec.specs.declared.errors.LoopbackError.TheVariants.{Stalled}
 use Rattle.uart_spec.specs.declared.registers.offsets.TheConstants as offsets
@@ -19,6 +19,7 @@ use Rattle.uart_16550.specs.Tty.{inner_of}
 use Rattle.uart_events.specs.declared.call.Call.TheVariants as call
 use Rattle.uart_events.specs.declared.call.Answer.{Answer}
 use Rattle.uart_events.specs.declared.call.Answer.TheVariants.{LoopbackRefused}
+use Rattle.uart_spec.specs.FifoSize.{characters}
 use Rattle.uart_chip.specs.Transmitter.{room, out}
 use Rattle.uart_chip.specs.Machine.{MachineState, MachineStep}
 use Rattle.uart_chip.specs.Sound.{IsSound}
@@ -27,10 +28,12 @@ use Rattle.uart_run.specs.Run.{State, machine_of, CallStep}
 use Rattle.uart_run.specs.Ready.{Ready, is_narrow, test_answer}
 use Rattle.uart_chip.specs.Chip.{cut_of}
 use Rattle.uart_run.specs.Progress.{IsTimely, HasRoom, IsUnheld}
+use Rattle.uart_run.specs.Sizes.{IsPlain}
+use Rattle.uart_chip.proofs.Sizes.{at_least_16}
 use Rattle.uart_chip.proofs.conservation.Went.{Modes}
 use Rattle.uart_chip.proofs.conservation.BlockLaws.{path_as}
 use Rattle.uart_run.proofs.CallBlocks.{Makes, makes_then, makes_reads, awaited_blocks, round_blocks, sends_all_blocks, try_sends_blocks}
-use Rattle.uart_run.proofs.CallKeeps.{one_fits}
+use Rattle.uart_run.proofs.CallKeeps.{one_fits, one_sent}
 use Rattle.uart_run.proofs.Pieces.{then_parts, next_stages}
 use Rattle.uart_run.proofs.loopback.LoopPhases.{IsEntered, IsReadyToTest, drained, each_exchanged, byte_exchanged}
 use Rattle.uart_run.proofs.loopback.LoopWaits.{Lives, lives-path, never_dry, never_full, never_flooded}
@@ -59,7 +62,10 @@ first_piece s [] rest fifo some cut = refl
 first_piece s (piece ∷ pieces) rest fifo some cut = absurd (last pieces (rw size at cut.2))
   where
     size : burst_size s test_message ≡ 16
-    size = rw fifo refl
+    size =
+        let least = at_least_16 s.size in
+        let whole : min 16 (characters s.size) ≡ 16 = omega (arith, least) in
+        rw fifo whole
 
     last : (pieces : List (List ℕ)) → IsCut s (drop 16 test_message) pieces rest → ⊥
     last [] cut = let none : length rest ≡ 0 = ap length cut in omega (arith, none, some)
@@ -98,7 +104,7 @@ no_stall-echo : (x : Modes) (gone : List ℕ) (s : Settings) (byte : ℕ) (l : L
 no_stall-echo x gone s byte l m n v r (inl t) path = never_full x gone s l m n v r t path
 no_stall-echo x gone s byte l m n v r (inr t) path =
     never_dry x gone s (Round (byte ∷ [])) l m n (byte ∷ []) [] v r (one_fits s.fifo) (omega arith)
-    (round_blocks s (byte ∷ []) (one_fits s.fifo)) t path
+    (round_blocks s (byte ∷ []) (one_sent s)) t path
 
 no_stall-each : (x : Modes) (gone : List ℕ) (s : Settings) (l : List Access) (m n : MachineState) → Lives s.limit m →
     IsReadyToTest x gone s m → EachFails test_message s l → Path MachineStep m l n → ⊥
@@ -185,7 +191,8 @@ test_succeeds s t a w ready timely unheld room h = go (tested s t a w ready h).a
         begins (mcr, ier, inr k) =
             let c = next_stages (Saving (BeginsTest mcr ier true)) (Tests {T = Unit {0}} mcr ier (Err Stalled)) f (fields (inner_of t))
             h.did.list (machine_of s) (machine_of t) k h.did.path in
-            let b = begun s c.parts.between mcr ier c.parts.front w ready c.parts.first.0 c.parts.before in
+            let plain : IsPlain s = record { dlab = ready.dlab; loopback = ready.loopback } in
+            let b = begun s c.parts.between mcr ier c.parts.front w plain c.parts.first.0 c.parts.before in
             let v : Lives f.limit (machine_of s) = record { sound = w; ticked = timely.ticked; enough = timely.limit } in
             let u = lives-path f.limit c.parts.front (machine_of s) c.parts.between v c.parts.before in
             let same : f.limit ≡ c.mid.limit = sym (ap (λ (g : Fields). g.limit) c.parts.first.1) in

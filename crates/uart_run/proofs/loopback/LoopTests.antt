@@ -33,12 +33,13 @@ use Rattle.uart_calls.specs.Meaning.{loopback_answer}
 use Rattle.uart_run.specs.Run.{State, machine_of, CallStep}
 use Rattle.uart_run.specs.Served.{IsFlushed}
 use Rattle.uart_run.specs.Ready.{Ready, is_narrow, test_answer, IsTested}
+use Rattle.uart_run.specs.Sizes.{IsPlain}
 use Rattle.uart_chip.proofs.conservation.Went.{Modes, IsIn}
 use Rattle.uart_run.proofs.EmptyTransmitter.{IsSent, sent_shown, shown_sent, wait_empties, sent_path}
 use Rattle.uart_run.proofs.ListsInTurn.{all_only, all_then}
 use Rattle.uart_run.proofs.SilentLists.{DoesSilently, silence, silent_sets_fifo, silent_next, silent_saving, silent_plain, silent_sets}
 use Rattle.uart_chip.proofs.conservation.BlockLaws.{IsOpen, Stands}
-use Rattle.uart_run.proofs.CallBlocks.{Makes, makes_then, passed_in_blocks, waits_blocks}
+use Rattle.uart_run.proofs.CallBlocks.{Makes, most_in, makes_then, passed_silently, waits_blocks}
 use Rattle.uart_run.proofs.CallKeeps.{quiet_blocks}
 use Rattle.uart_run.proofs.Latches.{Kept, kept_cut}
 use Rattle.uart_run.proofs.Pieces.{then_parts, next_stages}
@@ -58,20 +59,21 @@ pub record IsBegun (cut : ℕ → ℕ) (gone : List ℕ) (m : MachineState) : Ty
 begins_blocks : (s : Settings) (mcr ier : ℕ) → Makes s (BeginsTest mcr ier true) [] []
 begins_blocks s mcr ier l t =
     makes_then s (Only (Read offsets.MCR mcr ∷ Read offsets.IER ier ∷ [])) (WaitsFor LSR.TRANSMITTER_EMPTY.0 true) [] [] [] []
-    (λ k u. rw u.is (quiet_blocks s.fifo (Read offsets.MCR mcr ∷ Read offsets.IER ier ∷ []) (refl, (refl, tt))))
+    (λ k u. rw u.is (quiet_blocks (most_in s) (Read offsets.MCR mcr ∷ Read offsets.IER ier ∷ []) (refl, (refl, tt))))
     (waits_blocks s LSR.TRANSMITTER_EMPTY.0 true) l t
 
-pub begun : (s : State) (n : MachineState) (mcr ier : ℕ) (l : List Access) → IsSound (machine_of s) → Ready s →
+-- nothing is written before the loopback, so what the driver takes the FIFO to be is of no account
+pub begun : (s : State) (n : MachineState) (mcr ier : ℕ) (l : List Access) → IsSound (machine_of s) → IsPlain s →
     BeginsTest mcr ier true (settings_of (fields (inner_of s))) l → Path MachineStep (machine_of s) l n →
     IsBegun (cut_of (machine_of s).chip) (out (machine_of s).chip.transmitter) n
 begun s n mcr ier l sound r t path =
     let m = machine_of s in
     let v = settings_of (fields (inner_of s)) in
-    let x : Modes = record { lcr = m.chip.latches.lcr; mcr = m.chip.latches.mcr; fifo = v.fifo; cut = cut_of m.chip } in
-    let in_modes : IsIn x m.chip = record { lcr = refl; mcr = refl; fifo = r.fifo; cut = refl } in
+    let x : Modes = record { lcr = m.chip.latches.lcr; mcr = m.chip.latches.mcr; fifo = m.chip.fifo; cut = cut_of m.chip } in
+    let in_modes : IsIn x m.chip = record { lcr = refl; mcr = refl; fifo = refl; cut = refl } in
     let stands : Stands x m = record { sound = sound; modes = in_modes } in
     let opened : IsOpen x = record { dlab = r.dlab; loopback = r.loopback } in
-    let p = (passed_in_blocks x m n l [] [] opened stands (begins_blocks v mcr ier l t) path).passed in
+    let p = (passed_silently x (most_in v) m n l [] opened stands (begins_blocks v mcr ier l t) path).passed in
     let a = then_parts (Only (Read offsets.MCR mcr ∷ Read offsets.IER ier ∷ [])) (WaitsFor LSR.TRANSMITTER_EMPTY.0 true) v l m n t path in
     let empty = wait_empties v a.back a.between n a.second a.after in
     let same : out n.chip.transmitter ≡ out m.chip.transmitter = p.went.sends.grows ∙ append-nil (out m.chip.transmitter) in
@@ -199,7 +201,8 @@ tested s t a sound r h = answer_tested s t a h.outcome h.answered (go h.did.does
     go (mcr, ier, inr k) =
         let c = next_stages (Saving (BeginsTest mcr ier true)) (Tests mcr ier h.outcome) (fields (inner_of s)) (fields (inner_of t))
         h.did.list (machine_of s) (machine_of t) k h.did.path in
-        let b = begun s c.parts.between mcr ier c.parts.front sound r c.parts.first.0 c.parts.before in
+        let plain : IsPlain s = record { dlab = r.dlab; loopback = r.loopback } in
+        let b = begun s c.parts.between mcr ier c.parts.front sound plain c.parts.first.0 c.parts.before in
         leads_on (is_narrow (machine_of s).chip) _ _ h.outcome flushed
         (test_leads (is_narrow (machine_of s).chip) (cut_of (machine_of s).chip) gone mcr ier h.outcome c.mid (fields (inner_of t))
         c.parts.back c.parts.between (machine_of t) (chip_cuts (machine_of s).chip) b c.parts.second c.parts.after)

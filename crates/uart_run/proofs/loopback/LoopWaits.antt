@@ -32,7 +32,7 @@ use Rattle.uart_chip.proofs.lasting.Constants.{same_pace}
 use Rattle.uart_chip.proofs.conservation.Went.{Modes, loopback-in, IsIn}
 use Rattle.uart_chip.proofs.conservation.BlockLaws.{look_data}
 use Rattle.uart_run.proofs.EmptyTransmitter.{IsSent, sent_shown}
-use Rattle.uart_run.proofs.CallBlocks.{InBlocks, Makes, blocks_none, blocks_then, hit_blocks}
+use Rattle.uart_run.proofs.CallBlocks.{InBlocks, Makes, most_in, blocks_none, blocks_then, hit_blocks}
 use Rattle.uart_run.proofs.Pieces.{then_parts}
 use Rattle.uart_chip.proofs.loopback.Loops.{line_in, Fits, fits-after, line-length}
 use Rattle.uart_chip.proofs.loopback.LoopAccesses.{IsLooped, loops_read}
@@ -109,13 +109,12 @@ pub never_dry : (x : Modes) (gone : List ℕ) (s : Settings) (L : Language) (l :
     Then L (AllMisses Miss) s l → Path MachineStep m l n → ⊥
 never_dry x gone s L l m n ws rs v r few more makes t path =
     let p = then_parts L (AllMisses Miss) s l m n t path in
-    let B : Bool → Type 0 = λ fifo. InBlocks fifo p.front ws rs in
     let none : length (line_in m.chip) ≡ 0 = ap length r.idle.line in
     let same : room s.fifo Sixteen ≡ room x.fifo Sixteen = ap (λ fifo. room fifo Sixteen) r.fifo in
     let any = room_least x.fifo m.chip.receiver.size in
     let there = room_least x.fifo p.between.chip.receiver.size in
-    let a = loops_in_blocks x m p.between p.front ws rs r.looped r.idle.modes (omega (arith, none, few, same, any))
-    (subst B r.fifo (makes p.front p.first)) p.before in
+    let a = loops_in_blocks x (most_in s) m p.between p.front ws rs r.looped r.idle.modes (omega (arith, none, few, same, any))
+    (omega (arith, few, same)) (makes p.front p.first) p.before in
     let size : length (map x.cut ws) ≡ length ws = length-map ws x.cut in
     let long = line-length x m.chip p.between.chip (map x.cut ws) rs a in
     let w = lives-path s.limit p.front m p.between v p.before in
@@ -149,24 +148,23 @@ never_full x gone s l m n v r t path = go s.limit (some_limit s.limit m v) t
 -- ---- the drain ends
 
 pub takes_blocks : (s : Settings) (k : ℕ) (l : List Access) → Times k TakesOne s l →
-    (rs : List ℕ) × (length rs ≡ k) × InBlocks s.fifo l [] rs
-takes_blocks s zero l t = ([], refl, rw t.is (blocks_none s.fifo))
+    (rs : List ℕ) × (length rs ≡ k) × InBlocks (most_in s) l [] rs
+takes_blocks s zero l t = ([], refl, rw t.is (blocks_none (most_in s)))
 takes_blocks s (suc k) l t =
     let a = takes_blocks s k t.back t.second in (
       t.first.0 ∷ a.0,
       ap suc a.1,
-      rw t.whole (blocks_then s.fifo t.front t.back [] [] (t.first.0 ∷ []) a.0 (hit_blocks s t.first.0 t.front t.first.1) a.2),
+      rw t.whole (blocks_then (most_in s) t.front t.back [] [] (t.first.0 ∷ []) a.0 (hit_blocks s t.first.0 t.front t.first.1) a.2),
     )
 
 pub never_flooded : (x : Modes) (gone : List ℕ) (s : Settings) (l : List Access) (m n : MachineState) → Lives s.limit m →
     IsEntered x gone s m → DrainsLoopback false s l → Path MachineStep m l n → ⊥
 never_flooded x gone s l m n v e t path =
     let a = takes_blocks s s.limit l t in
-    let B : Bool → Type 0 = λ fifo. InBlocks fifo l [] a.0 in
     let few : length (line_in m.chip) ≤ room x.fifo m.chip.receiver.size =
     rw (← ap (λ fifo. room fifo m.chip.receiver.size) e.modes.fifo, all_waits gone m.chip e.sent)
     v.sound.chip.receiver.marked.in_room in
-    let b = loops_in_blocks x m n l [] a.0 e.looped e.modes (omega (arith, few)) (subst B e.fifo a.2) path in
+    let b = loops_in_blocks x (most_in s) m n l [] a.0 e.looped e.modes (omega (arith, few)) (omega arith) a.2 path in
     let long = line-length x m.chip n.chip [] a.0 b in
     let most = room_within x.fifo m.chip.receiver.size in
     let less = left_and_more s.limit m v in

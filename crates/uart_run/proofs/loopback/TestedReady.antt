@@ -23,11 +23,12 @@ use Rattle.uart_chip.specs.Masks.{ier_bits, kept_mcr}
 use Rattle.uart_chip.specs.Chip.{is_dlab_set}
 use Rattle.uart_chip.specs.Machine.{MachineState, MachineStep}
 use Rattle.uart_run.specs.Run.{State, machine_of, CallStep}
-use Rattle.uart_run.specs.Ready.{Ready, has_fifo, is_level}
+use Rattle.uart_run.specs.Ready.{BurstsFit, Ready, has_fifo, is_level}
 use Rattle.uart_chip.specs.Sound.{IsSound}
 use Rattle.uart_chip.proofs.McrBits.{kept_bit}
 use Rattle.uart_chip.proofs.soundness.Sounds.{sound_path}
 use Rattle.uart_chip.proofs.conservation.BlockLaws.{path_as}
+use Rattle.uart_run.proofs.SizeKept.{fits_kept}
 use Rattle.uart_run.proofs.Latches.{Kept, kept_in, keep_write, kept_after, kept_list, kept_access, LeftBy}
 use Rattle.uart_run.proofs.Pieces.{then_parts, next_stages}
 use Rattle.uart_run.proofs.ListsInTurn.{all_only, all_then}
@@ -134,8 +135,8 @@ left mcr ier before noted f after l m n (now, t) p =
 
 tests_ready : {T : Type 0} (result : Result T LoopbackError) (mcr ier : ℕ) (f : Fields) (l : List Access) (m : MachineState) (t : State) →
     IsSound m → is_dlab_set m.chip.latches ≡ false → has_any mcr MCR.LOOP_BACK.0 ≡ false → Tests mcr ier result f l (fields (inner_of t)) →
-    Path MachineStep m l (machine_of t) → Ready t
-tests_ready result mcr ier f l m t w dlab no_loop (before, on, does) p =
+    Path MachineStep m l (machine_of t) → BurstsFit t → Ready t
+tests_ready result mcr ier f l m t w dlab no_loop (before, on, does) p fits =
     let after = fields (inner_of t) in
     let n = machine_of t in
     let a = next_stages (Enters before on) (Next (Saving (Exchanges result)) (Leaves mcr ier before f.lsr)) f after l m n does p in
@@ -155,17 +156,21 @@ tests_ready result mcr ier f l m t w dlab no_loop (before, on, does) p =
         let dlab₁ : is_dlab_set m₁.chip.latches ≡ false = ap (λ (k : Kept). is_dlab_set k.latches) set ∙ dlab in
         let back = ap (kept_after (leaving mcr ier now)) (still dlab₁ ∙ set) ∙ written_back mcr ier now (looped on (kept_in m.chip)) dlab in
         ready_by t (restored mcr ier (looped on (kept_in m.chip))) (out.kept ∙ back) dlab
-        (kept_bit m.chip.auto_flow 4 mcr refl refl ∙ no_loop) (out.knows ∙ knows)
+        (kept_bit m.chip.auto_flow 4 mcr refl refl ∙ no_loop) (out.knows ∙ knows) fits
 
 -- MCR is written back as it was
 pub tested_ready : (s t : State) (a : Answer) → IsSound (machine_of s) → CallStep s call.TestLoopback a t → Ready s → Ready t
 tested_ready s t a w h ready = go h.did.does
   where
+    fits : BurstsFit t
+    fits = fits_kept s t call.TestLoopback a h ready.fits
+
     go : TestsLoopback h.outcome (fields (inner_of s)) h.did.list (fields (inner_of t)) → Ready t
     go (mcr, ier, inl (stalls, (begins, same))) =
         let still = kept_still (settings_of (fields (inner_of s))) (BeginsTest mcr ier false) h.did.list (machine_of s) (machine_of t)
         (keeps_begins (settings_of (fields (inner_of s))) mcr ier false) ready.dlab begins h.did.path in
         ready_by t (kept_in (machine_of s).chip) still ready.dlab ready.loopback (ap (λ (g : Fields). g.fifo) same ∙ sym ready.fifo)
+        fits
     go (mcr, ier, inr does) =
         let v = settings_of (fields (inner_of s)) in
         let a = next_stages (Saving (BeginsTest mcr ier true)) (Tests mcr ier h.outcome) (fields (inner_of s)) (fields (inner_of t))
@@ -177,4 +182,4 @@ tested_ready s t a w h ready = go h.did.does
         (ap (λ (k : Kept). is_dlab_set k.latches) still ∙ ready.dlab)
         (ap (λ b. has_any b MCR.LOOP_BACK.0) (mcr_read v mcr ier true a.parts.front (machine_of s) a.parts.between a.parts.first.0
         a.parts.before) ∙ ready.loopback)
-        a.parts.second a.parts.after
+        a.parts.second a.parts.after fits

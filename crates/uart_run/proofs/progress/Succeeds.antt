@@ -30,9 +30,9 @@ use Rattle.uart_run.proofs.progress.Left.{exceeds, left-most}
 use Rattle.uart_run.proofs.progress.Nearing.{Runs, ticked-path}
 use Rattle.uart_chip.proofs.lasting.Constants.{same_pace}
 use Rattle.uart_chip.proofs.conservation.BlockLaws.{PassedBlocks, path_split, path_as}
-use Rattle.uart_run.proofs.CallBlocks.{InBlocks, Makes, passed_in_blocks, pieces_blocks, cut_whole}
+use Rattle.uart_run.proofs.CallBlocks.{Makes, most_in, passed_in_blocks, pieces_blocks, cut_whole}
 use Rattle.uart_run.proofs.CallKeeps.{sends_each_blocks}
-use Rattle.uart_run.proofs.CallLaws.{InSession}
+use Rattle.uart_run.proofs.CallLaws.{InSession, session_room}
 use Rattle.uart_run.proofs.SessionCalls.{modes_of, modes_mcr, in_session}
 use Rattle.uart_run.proofs.progress.WaitEnds.{no_stall-empty, no_stall-room}
 
@@ -91,9 +91,8 @@ no_stall-after s t L l written w ready timely unheld off room makes fits path =
     sent : (n : MachineState) → Path MachineStep (machine_of s) fits.front n →
         PassedBlocks (modes_of s) (machine_of s) n fits.front written []
     sent n p =
-        let B : Bool → Type 0 = λ fifo. InBlocks fifo fits.front written [] in
-        passed_in_blocks (modes_of s) (machine_of s) n fits.front written [] session.open_modes session.stands
-        (subst B session.fifo (makes fits.front fits.first)) p
+        passed_in_blocks (modes_of s) (most_in (settings_at s)) (machine_of s) n fits.front written [] session.open_modes session.stands
+        (session_room (modes_of s) s session) (makes fits.front fits.first) p
 
 -- ---- each call
 

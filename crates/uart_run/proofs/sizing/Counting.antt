@@ -21,7 +21,7 @@ use Rattle.uart_chip.proofs.Sizes.{at_least_16, at_most_256, room_within}
 use Rattle.uart_chip.proofs.conservation.Went.{Modes}
 use Rattle.uart_chip.proofs.loopback.Loops.{line_in, line-length}
 use Rattle.uart_chip.proofs.loopback.LoopAccesses.{IsLooped}
-use Rattle.uart_run.proofs.CallBlocks.{InBlocks, blocks_then, makes_look}
+use Rattle.uart_run.proofs.CallBlocks.{InBlocks, most_in, blocks_then, makes_look}
 use Rattle.uart_run.proofs.EmptyTransmitter.{sent_path}
 use Rattle.uart_run.proofs.ListsInTurn.{all_then, all_times}
 use Rattle.uart_run.proofs.Served.{EndsDry, dry_empties}
@@ -41,14 +41,13 @@ silent_takes_back s count l (inl t) = all_times silence s flood TakesOne (silent
 silent_takes_back s count l (inr t) =
     all_then silence s (Times count TakesOne) Miss (all_times silence s count TakesOne (silent_takes_one s)) (silent_miss s) l t.1
 
-module _ (x : Modes) (gone : List ℕ) (s : Settings) (i : IsLooped x) (knows : s.fifo ≡ x.fifo) where
+module _ (x : Modes) (gone : List ℕ) (s : Settings) (i : IsLooped x) where
   -- what these accesses read, of all that is there
-  taken : (l : List Access) (m n : MachineState) (rs : List ℕ) → IsFull x gone m → InBlocks s.fifo l [] rs → Path MachineStep m l n →
+  taken : (l : List Access) (m n : MachineState) (rs : List ℕ) → IsFull x gone m → InBlocks (most_in s) l [] rs → Path MachineStep m l n →
       length rs + length (line_in n.chip) ≡ room x.fifo m.chip.receiver.size
   taken l m n rs w blocks path =
-      let B : Bool → Type 0 = λ fifo. InBlocks fifo l [] rs in
       let all = all_waits gone m.chip w.sent in
-      let a = loops_in_blocks x m n l [] rs i w.modes (omega (arith, all, w.full)) (subst B knows blocks) path in
+      let a = loops_in_blocks x (most_in s) m n l [] rs i w.modes (omega (arith, all, w.full)) (omega arith) blocks path in
       let long = line-length x m.chip n.chip [] rs a in
       omega (arith, long, all, w.full)
 
@@ -63,9 +62,9 @@ module _ (x : Modes) (gone : List ℕ) (s : Settings) (i : IsLooped x) (knows : 
   counted count l m n w (inr t) path =
       let u = t.1 in
       let a = takes_blocks s count u.front u.first in
-      let blocks : InBlocks s.fifo (u.front ++ u.back) [] (a.0 ++ []) =
-      blocks_then s.fifo u.front u.back [] [] a.0 [] a.2 (makes_look s LSR.DATA_READY.0 false u.back u.second) in
-      let B : List Access → Type 0 = λ k. InBlocks s.fifo k [] (a.0 ++ []) in
+      let blocks : InBlocks (most_in s) (u.front ++ u.back) [] (a.0 ++ []) =
+      blocks_then (most_in s) u.front u.back [] [] a.0 [] a.2 (makes_look s LSR.DATA_READY.0 false u.back u.second) in
+      let B : List Access → Type 0 = λ k. InBlocks (most_in s) k [] (a.0 ++ []) in
       let all = taken l m n (a.0 ++ []) w (subst B (sym u.whole) blocks) path in
       let dry : EndsDry s l = record { front = u.front; back = u.back; whole = u.whole; miss = u.second } in
       let none = dry_empties s m n l dry path in

@@ -26,11 +26,12 @@ use Rattle.uart_chip.proofs.conservation.Went.{Modes}
 use Rattle.uart_chip.proofs.conservation.BlockLaws.{path_as}
 use Rattle.uart_chip.proofs.loopback.LoopAccesses.{IsLooped}
 use Rattle.uart_run.specs.Run.{State, machine_of}
-use Rattle.uart_run.specs.Ready.{Ready, has_fifo}
+use Rattle.uart_run.specs.Ready.{Ready, BurstsFit, has_fifo}
 use Rattle.uart_run.specs.Served.{transmitter_of}
 use Rattle.uart_run.specs.Sizes.{size_in, MayFind, receiver_of, IsMeasured, SendsAtMostOne, FindsSize, FindsOff}
 use Rattle.uart_run.proofs.EmptyTransmitter.{IsSent, sent_path, shown_sent}
 use Rattle.uart_run.proofs.Latches.{Kept, kept_in, kept_access}
+use Rattle.uart_run.proofs.SizeKept.{leaves_finds, fits_after}
 use Rattle.uart_run.proofs.Pieces.{then_parts, next_stages}
 use Rattle.uart_run.proofs.SilentLists.{DoesSilently, silent_next, silent_saving, silent_sets, silent_sets_fifo, silent_asks}
 use Rattle.uart_chip.proofs.lasting.Lasting.{AllSendNothing}
@@ -177,7 +178,7 @@ module _ (s t : State) (sound : IsSound (machine_of s)) (may : MayFind s) (is_on
   is_stall : (found : Found) → found ≡ Err Stalled → found ≡ Ok (size_in s) → ⊥
   is_stall found a b = let other : Err Stalled ≡ Ok (size_in s) = sym a ∙ b in absurd (cc)
 
-  ended_measured : (found : Found) → EndsIn found → Ready t → found ≡ Ok (size_in s) → IsMeasured s t
+  ended_measured : (found : Found) → EndsIn found → (BurstsFit t → Ready t) → found ≡ Ok (size_in s) → IsMeasured s t
   ended_measured found (inl v) ready e =
       let sent : IsSent gone (transmitter_of t) = v.1.0 in
       let remains = v.1.1 in
@@ -189,36 +190,38 @@ module _ (s t : State) (sound : IsSound (machine_of s)) (may : MayFind s) (is_on
       }
   ended_measured found (inr v) ready e = absurd (is_stall found v.0 e)
 
-  finds : (found : Found) → StallsFirst found s t ⊎ Measured found s t → FindsSize s found t
-  finds found (inl w) = record {
+  finds : (found : Found) → (BurstsFit s → BurstsFit t) → StallsFirst found s t ⊎ Measured found s t → FindsSize s found t
+  finds found fits (inl w) = record {
     answers = inr w.stalled;
     measured = λ e. absurd (is_stall found w.stalled e);
     sends = inl w.out;
     latches = ap (λ (k : Kept). k.latches) w.kept;
-    ready = λ before. ready_by t (kept_in (machine_of s).chip) w.kept before.dlab before.loopback (w.knows ∙ sym before.fifo);
+    ready = λ before. ready_by t (kept_in (machine_of s).chip) w.kept before.dlab before.loopback (w.knows ∙ sym before.fifo)
+        (fits before.fits);
     fifo = λ before. ap (λ (k : Kept). k.fifo) w.kept;
   }
-  finds found (inr w) =
+  finds found fits (inr w) =
       let x = looped_modes w.lcr w.on (cut_of (machine_of s).chip) in
       let tells : TellsAll w.on (size_in s) (Ok (size_in s)) found =
       λ count e t. told (size_in s) count found (e ∙ ap (λ (fifo : Bool). room fifo (size_in s)) (set_on w.on w.is_on)) t in
       let by : EndsIn found = ended (level_in s) w.again (receiver_of s).arrived x gone w.looped (size_in s) found w.mcr w.ier w.before
       w.noted w.f w.g (fields (inner_of t)) w.front w.back w.between w.out_of (machine_of t) (w.model ∙ may.model) w.come
       (w.found_in (Ok (size_in s)) tells) w.switches w.first w.leaves w.second in
-      let ready : Ready t =
+      let ready : BurstsFit t → Ready t =
       ready_by t (record (kept_in (machine_of s).chip) { fifo = w.again }) w.kept may.plain.dlab may.plain.loopback w.knows in
       record {
         answers = ended_answer found by;
         measured = ended_measured found by ready;
         sends = ended_out found by;
         latches = ap (λ (k : Kept). k.latches) w.kept;
-        ready = λ before. ready;
+        ready = λ before. ready (fits before.fits);
         fifo = λ before. ap (λ (k : Kept). k.fifo) w.kept ∙ (set_on w.again w.is_again ∙ sym (before.fifo ∙ is_on));
       }
 
   pub finds_size : (found : Found) (l : List Access) → FindsFifoSize found (fields (inner_of s)) l (fields (inner_of t)) →
       Path MachineStep (machine_of s) l (machine_of t) → FindsSize s found t
-  finds_size found l does path = finds found (found_by s t sound may.plain found l is_on does path)
+  finds_size found l does path =
+      finds found (fits_after s t l (leaves_finds found _ l _ does) path) (found_by s t sound may.plain found l is_on does path)
 
 -- with the FIFOs off nothing is done
 pub finds_off : (s t : State) (found : Found) (l : List Access) → (fields (inner_of s)).fifo ≡ false →

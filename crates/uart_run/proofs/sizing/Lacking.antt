@@ -13,7 +13,7 @@ use Rattle.uart_chip.specs.Chip.{cut_of}
 use Rattle.uart_chip.specs.Machine.{MachineStep}
 use Rattle.uart_chip.specs.Sound.{IsSound}
 use Rattle.uart_run.specs.Run.{State, machine_of}
-use Rattle.uart_run.specs.Ready.{Ready, latches_of, has_fifo}
+use Rattle.uart_run.specs.Ready.{Ready, BurstsFit, latches_of, has_fifo}
 use Rattle.uart_run.specs.Served.{transmitter_of, IsFlushed}
 use Rattle.uart_run.specs.Sizes.{size_in, IsPlain, FindsNone}
 use Rattle.uart_run.proofs.EmptyTransmitter.{IsSent, sent_path, shown_sent}
@@ -53,12 +53,12 @@ module _ (s t : State) (sound : IsSound (machine_of s)) (plain : IsPlain s) (mod
       let off : w.on ≡ false = w.is_on ∙ ap (λ (chip : Chip). true && has_fifo chip) model in
       let tells : TellsAll w.on (size_in s) (Err (TooFew 1)) found =
       λ count e t. told_none count found (e ∙ ap (λ (fifo : Bool). room fifo (size_in s)) off) t in
-      let ready : Ready t =
+      let ready : BurstsFit t → Ready t =
       ready_by t (record (kept_in (machine_of s).chip) { fifo = w.again }) w.kept plain.dlab plain.loopback w.knows in
       let latches = ap (λ (k : Kept). k.latches) w.kept in
       go ready latches (w.found_in (Err (TooFew 1)) tells)
     where
-      go : Ready t → latches_of t ≡ latches_of s →
+      go : (BurstsFit t → Ready t) → latches_of t ≡ latches_of s →
           FoundIn (looped_modes w.lcr w.on (cut_of (machine_of s).chip)) gone (Err (TooFew 1)) found w.between → FindsNone s found t
       go ready latches (inl v) =
           record { answers = inl v.0; flushed = λ e. flushed found w v.1; ready = λ e. ready; latches = latches }

@@ -120,7 +120,7 @@ module _ (x : Modes) (gone : List ℕ) (s : Settings) where
       let sound_b = sound_path b.front a.between b.between sound_a b.before in
       let sound_c = sound_path c.front b.between c.between sound_b c.before in
       let full = filled x gone c.between sound_c v (wait_empties s c.front b.between c.between c.first c.before) in
-      let all = counted x gone s r.looped r.fifo count c.back c.between n full c.second c.after in
+      let all = counted x gone s r.looped count c.back c.between n full c.second c.after in
       let size_a = same_pace a.front m a.between a.before in
       let size_b = same_pace b.front a.between b.between b.before in
       let size_c = same_pace c.front b.between c.between c.before in

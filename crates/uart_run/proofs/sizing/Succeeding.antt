@@ -27,7 +27,7 @@ use Rattle.uart_run.proofs.progress.Nearing.{Runs}
 use Rattle.uart_run.proofs.progress.WaitEnds.{no_stall-empty}
 use Rattle.uart_run.proofs.sizing.Counting.{Found}
 use Rattle.uart_run.proofs.sizing.Measuring.{was_flooded}
-use Rattle.uart_run.proofs.sizing.Walking.{level_on, begins_alike, knowing, ready_knowing}
+use Rattle.uart_run.proofs.sizing.Walking.{level_on}
 use Rattle.uart_run.proofs.sizing.Finding.{finds_size}
 
 -- ---- the measure
@@ -91,8 +91,7 @@ module _ (s t : State) (sound : IsSound (machine_of s)) (plain : IsPlain s) (is_
       let f = fields (inner_of s) in
       let a = next_stages (Saving (BeginsTest mcr ier true)) (SizesInLoopback found mcr ier) f (fields (inner_of t)) l (machine_of s)
       (machine_of t) does path in
-      let alike = begins_alike (settings_of f) (machine_of s).chip.fifo mcr ier true a.parts.front a.parts.first.0 in
-      let b = begun (knowing s) a.parts.between mcr ier a.parts.front sound (ready_knowing s plain) alike a.parts.before in
+      let b = begun s a.parts.between mcr ier a.parts.front sound plain a.parts.first.0 a.parts.before in
       let v : Lives f.limit (machine_of s) = record { sound = sound; ticked = timely.ticked; enough = timely.limit } in
       let u = lives-path f.limit a.parts.front (machine_of s) a.parts.between v a.parts.before in
       let same : f.limit ≡ a.mid.limit = sym (ap (λ (g : Fields). g.limit) a.parts.first.1) in

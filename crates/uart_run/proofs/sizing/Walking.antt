@@ -1,6 +1,6 @@
 -- How a `find_fifo_size` goes: a first wait, the way into loopback, the measure, the FIFO step, and the way out.
 use Rattle.std.proofs.Common.{◌≡◌, ◌⊎◌, ◌&&◌, ℕ, Bool, true, false, inl, inr, List, [], ◌∷◌, append-nil, Err, Option, Some}
-use Rattle.std.proofs.Common.{zero, suc, ◌≤◌, arith, refl, sym, ◌∙◌, ap, subst, bit_and, if◌then◌else◌, unwrap_or}
+use Rattle.std.proofs.Common.{◌≤◌, arith, refl, sym, ◌∙◌, ap, subst, bit_and, if◌then◌else◌, unwrap_or}
 use Rattle.uart_spec.specs.declared.config.Config.{Config}
 use Rattle.uart_spec.specs.declared.setup.FifoSize.{FifoSize}
 use Rattle.uart_spec.specs.declared.errors.FifoSizeError.TheVariants.{Stalled}
@@ -11,7 +11,7 @@ use Rattle.uart_spec.specs.declared.registers.offsets.TheConstants as offsets
 use Rattle.uart_spec.specs.Access.{Path}
 use Rattle.uart_spec.specs.declared.access.Access.{Access}
 use Rattle.uart_spec.specs.declared.access.Access.TheVariants.{Read}
-use Rattle.uart_16550.specs.Grammar.{Settings, Only, Times, Asks}
+use Rattle.uart_16550.specs.Grammar.{Settings, Only}
 use Rattle.uart_16550.specs.Driver.{Fields, Saving, Sets, Next, fields, settings_of, with_fifo}
 use Rattle.uart_16550.specs.Transmit.{WaitsFor}
 use Rattle.uart_16550.specs.Init.{SetsFifo}
@@ -32,10 +32,10 @@ use Rattle.uart_chip.proofs.conservation.Went.{Modes, IsIn}
 use Rattle.uart_chip.proofs.conservation.BlockLaws.{IsOpen, Stands, path_as}
 use Rattle.uart_chip.proofs.loopback.LoopAccesses.{IsLooped}
 use Rattle.uart_run.specs.Run.{State, machine_of}
-use Rattle.uart_run.specs.Ready.{Ready, has_fifo}
+use Rattle.uart_run.specs.Ready.{has_fifo}
 use Rattle.uart_run.specs.Served.{transmitter_of}
 use Rattle.uart_run.specs.Sizes.{IsPlain, size_in}
-use Rattle.uart_run.proofs.CallBlocks.{Makes, makes_then, passed_in_blocks, waits_blocks}
+use Rattle.uart_run.proofs.CallBlocks.{Makes, most_in, makes_then, passed_silently, waits_blocks}
 use Rattle.uart_run.proofs.CallKeeps.{quiet_blocks}
 use Rattle.uart_run.proofs.KeptLists.{kept_still}
 use Rattle.uart_run.proofs.Latches.{Kept, kept_in, kept_after, kept_list, kept_step, kept_access}
@@ -54,68 +54,21 @@ use Rattle.uart_spec.specs.Bits.{IsWithin}
 begins_blocks : (s : Settings) (mcr ier : ℕ) (empty : Bool) → Makes s (BeginsTest mcr ier empty) [] []
 begins_blocks s mcr ier empty l t =
     makes_then s (Only (Read offsets.MCR mcr ∷ Read offsets.IER ier ∷ [])) (WaitsFor LSR.TRANSMITTER_EMPTY.0 empty) [] [] [] []
-    (λ k u. rw u.is (quiet_blocks s.fifo (Read offsets.MCR mcr ∷ Read offsets.IER ier ∷ []) (refl, (refl, tt))))
+    (λ k u. rw u.is (quiet_blocks (most_in s) (Read offsets.MCR mcr ∷ Read offsets.IER ier ∷ []) (refl, (refl, tt))))
     (waits_blocks s LSR.TRANSMITTER_EMPTY.0 empty) l t
 
--- What comes before the loopback does not depend on whether the driver takes the FIFO to be on. So it is as in a ready
--- state.
-
-module _ (v : Settings) (fifo : Bool) where
-  asks_alike : (bits : ℕ) (outcome : Bool) (l : List Access) → Asks offsets.LSR bits outcome v l →
-      Asks offsets.LSR bits outcome (record v { fifo = fifo }) l
-  asks_alike bits outcome l t = record { answer = t.answer; shows = t.shows; is = t.is }
-
-  times_alike : (n bits : ℕ) (l : List Access) → Times n (Asks offsets.LSR bits false) v l →
-      Times n (Asks offsets.LSR bits false) (record v { fifo = fifo }) l
-  times_alike zero bits l t = record { is = t.is }
-  times_alike (suc n) bits l t = record {
-    front = t.front;
-    back = t.back;
-    whole = t.whole;
-    first = asks_alike bits false t.front t.first;
-    second = times_alike n bits t.back t.second;
-  }
-
-  waits_alike : (bits : ℕ) (outcome : Bool) (l : List Access) → WaitsFor bits outcome v l →
-      WaitsFor bits outcome (record v { fifo = fifo }) l
-  waits_alike bits true l t = record {
-    front = t.front;
-    back = t.back;
-    whole = t.whole;
-    first = (t.first.0, t.first.1, times_alike t.first.0 bits t.front t.first.2);
-    second = asks_alike bits true t.back t.second;
-  }
-  waits_alike bits false l t = times_alike v.limit bits l t
-
-  pub begins_alike : (mcr ier : ℕ) (empty : Bool) (l : List Access) → BeginsTest mcr ier empty v l →
-      BeginsTest mcr ier empty (record v { fifo = fifo }) l
-  begins_alike mcr ier empty l t = record {
-    front = t.front;
-    back = t.back;
-    whole = t.whole;
-    first = record { is = t.first.is };
-    second = waits_alike LSR.TRANSMITTER_EMPTY.0 empty t.back t.second;
-  }
-
--- the same state, with a driver that knows whether the FIFO is on
-abbrev pub knowing : State → State
-knowing s = record { inner = record (inner_of s) { fifo_enabled = (machine_of s).chip.fifo } }
-
-pub ready_knowing : (s : State) → IsPlain s → Ready (knowing s)
-ready_knowing s plain = record { dlab = plain.dlab; loopback = plain.loopback; fifo = refl }
-
--- nothing is written before the loopback
-begins_out : (s : State) (n : MachineState) (mcr ier : ℕ) (empty : Bool) (l : List Access) → IsSound (machine_of s) → Ready s →
+-- nothing is written before the loopback, so what the driver takes the FIFO to be is of no account
+begins_out : (s : State) (n : MachineState) (mcr ier : ℕ) (empty : Bool) (l : List Access) → IsSound (machine_of s) → IsPlain s →
     BeginsTest mcr ier empty (settings_of (fields (inner_of s))) l → Path MachineStep (machine_of s) l n →
     out n.chip.transmitter ≡ out (machine_of s).chip.transmitter
 begins_out s n mcr ier empty l sound r t path =
     let m = machine_of s in
     let v = settings_of (fields (inner_of s)) in
-    let x : Modes = record { lcr = m.chip.latches.lcr; mcr = m.chip.latches.mcr; fifo = v.fifo; cut = cut_of m.chip } in
-    let in_modes : IsIn x m.chip = record { lcr = refl; mcr = refl; fifo = r.fifo; cut = refl } in
+    let x : Modes = record { lcr = m.chip.latches.lcr; mcr = m.chip.latches.mcr; fifo = m.chip.fifo; cut = cut_of m.chip } in
+    let in_modes : IsIn x m.chip = record { lcr = refl; mcr = refl; fifo = refl; cut = refl } in
     let stands : Stands x m = record { sound = sound; modes = in_modes } in
     let opened : IsOpen x = record { dlab = r.dlab; loopback = r.loopback } in
-    let p = (passed_in_blocks x m n l [] [] opened stands (begins_blocks v mcr ier empty l t) path).passed in
+    let p = (passed_silently x (most_in v) m n l [] opened stands (begins_blocks v mcr ier empty l t) path).passed in
     p.went.sends.grows ∙ append-nil (out m.chip.transmitter)
 
 -- IER is read as it is
@@ -277,10 +230,9 @@ module _ (s t : State) (sound : IsSound (machine_of s)) (plain : IsPlain s) wher
       let v = settings_of (fields (inner_of s)) in
       let m = machine_of s in
       let n = machine_of t in
-      let alike = begins_alike v m.chip.fifo mcr ier false l begins in
       inl (record {
         stalled = stalled;
-        out = begins_out (knowing s) n mcr ier false l sound (ready_knowing s plain) alike path;
+        out = begins_out s n mcr ier false l sound plain begins path;
         kept = kept_still v (BeginsTest mcr ier false) l m n (keeps_begins v mcr ier false) plain.dlab begins path;
         knows = ap (λ (g : Fields). g.fifo) same;
       })
@@ -290,8 +242,7 @@ module _ (s t : State) (sound : IsSound (machine_of s)) (plain : IsPlain s) wher
       let m = machine_of s in
       let n = machine_of t in
       let a = next_stages (Saving (BeginsTest mcr ier true)) (SizesInLoopback found mcr ier) f (fields (inner_of t)) l m n does path in
-      let alike = begins_alike v m.chip.fifo mcr ier true a.parts.front a.parts.first.0 in
-      let b = begun (knowing s) a.parts.between mcr ier a.parts.front sound (ready_knowing s plain) alike a.parts.before in
+      let b = begun s a.parts.between mcr ier a.parts.front sound plain a.parts.first.0 a.parts.before in
       let kept = kept_still v (BeginsTest mcr ier true) a.parts.front m a.parts.between (keeps_begins v mcr ier true) plain.dlab
       a.parts.first.0 a.parts.before in
       let pace = same_pace a.parts.front m a.parts.between a.parts.before in

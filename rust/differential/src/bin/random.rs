@@ -13,11 +13,19 @@ use std::num::NonZeroU64;
 use std::panic::{AssertUnwindSafe, catch_unwind, set_hook};
 use std::process::ExitCode;
 use uart_16550::spec::registers::{LSR, MSR};
-use uart_16550::{DriverState, Uart16550, Uart16550Tty};
+use uart_16550::{DriverState, FifoSize, Uart16550, Uart16550Tty};
 
 /// A case makes at most so many calls, and a wait so many polls.
 const MOST_CALLS: usize = 8;
 const MOST_POLLS: usize = 6;
+
+/// What a driver may take the FIFOs for. A call sends up to 64 bytes.
+const SIZES: [FifoSize; 4] = [
+    FifoSize::Sixteen,
+    FifoSize::ThirtyTwo,
+    FifoSize::SixtyFour,
+    FifoSize::TwoHundredFiftySix,
+];
 
 /// After so many cases that differ no more are made.
 const MOST_DIFFERENT: usize = 5;
@@ -39,6 +47,7 @@ fn random_state(random: &mut Random) -> DriverState {
     DriverState {
         config: random_config(random),
         fifo_enabled: random.is_among(128),
+        fifo_size: random.pick(&SIZES),
         saved_lsr: LSR::from_bits_retain(random.byte()),
         saved_msr: MSR::from_bits_retain(random.byte()),
         spin_limit,

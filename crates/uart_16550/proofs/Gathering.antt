@@ -1,0 +1,82 @@
+-- Bursts of bytes that lie in parts.
+use Rattle.std.proofs.Common.{◌≡◌, ◌≤◌, ◌+◌, ◌-◌, ◌⊎◌, ℕ, zero, suc, List, [], ◌∷◌, ◌++◌, refl, sym, ◌∙◌, ap}
+use Rattle.std.proofs.Common.{arith, length, take, min, inl, inr, Option, Some, None, is_some, true, length-append, append-nil, subst, ◌<◌}
+use Rattle.std.proofs.lemmas.Bool.{cases_lt}
+use Rattle.std.proofs.lemmas.List.{take-append-le}
+use Rattle.std.specs.Prelude.{option_to_list}
+use Rattle.uart_spec.specs.FifoSize.{characters}
+use Rattle.uart_spec.specs.declared.access.Access.{Access}
+use Rattle.uart_16550.specs.Grammar.{Settings}
+use Rattle.uart_16550.specs.Transmit.{Sends, Burst, data_writes}
+use Rattle.uart_16550.proofs.Languages.{some_limit, limit_within}
+
+-- the writes of some bytes and then of others
+pub writes_append : (xs ys : List ℕ) → data_writes (xs ++ ys) ≡ data_writes xs ++ data_writes ys
+writes_append [] ys = refl
+writes_append (x ∷ xs) ys = ap (λ l. data_writes (x ∷ []) ++ l) (writes_append xs ys)
+
+-- the first k bytes of two parts: f of the one, which are all of it, or none of the other
+take_both : (xs ys : List ℕ) (f s k : ℕ) → k ≡ f + s → f ≤ length xs → (f ≡ length xs) ⊎ (s ≡ 0) →
+    take f xs ++ take s ys ≡ take k (xs ++ ys)
+take_both [] ys f s k sum few whole =
+    let none : f ≡ 0 = omega (arith, few) in
+    let same : s ≡ k = omega (arith, sum, few) in
+    ap (λ n. take n [] ++ take s ys) none ∙ ap (λ n. take n ys) same
+take_both (x ∷ xs) ys zero s k sum few whole =
+    let none : s ≡ 0 = omega (arith, whole) in
+    let same : 0 ≡ k = omega (arith, sum, whole) in
+    ap (λ n. take n ys) none ∙ ap (λ n. take n (x ∷ (xs ++ ys))) same
+take_both (x ∷ xs) ys (suc f) s zero sum few whole = absurd (omega (arith, sum))
+take_both (x ∷ xs) ys (suc f) s (suc k) sum few whole =
+    let rest : (f ≡ length xs) ⊎ (s ≡ 0) = elim whole [ inl all ↦ inl (omega (arith, all)) | inr none ↦ inr none ] in
+    ap (λ l. x ∷ l) (take_both xs ys f s k (omega (arith, sum)) (omega (arith, few)) rest)
+
+-- an urgent byte, and the first bytes of two parts, as many as there is room for
+pub gathered : (urgent : Option ℕ) (xs ys : List ℕ) (n u f s : ℕ) → u ≡ length (option_to_list urgent) → u ≤ n →
+    f ≡ min (length xs) (n - u) → s ≡ min (length ys) (n - u - f) →
+    option_to_list urgent ++ (take f xs ++ take s ys) ≡ take (u + f + s) (option_to_list urgent ++ (xs ++ ys))
+gathered urgent xs ys n u f s is_u room is_f is_s = go urgent is_u
+  where
+    few : f ≤ length xs
+    few = omega (arith, is_f)
+
+    whole : (f ≡ length xs) ⊎ (s ≡ 0)
+    whole = elim (cases_lt f (length xs)) [
+      | inl less ↦ inr (omega (arith, less, is_f, is_s))
+      | inr all ↦ inl (omega (arith, all, is_f))
+    ]
+
+    go : (urgent : Option ℕ) → u ≡ length (option_to_list urgent) →
+        option_to_list urgent ++ (take f xs ++ take s ys) ≡ take (u + f + s) (option_to_list urgent ++ (xs ++ ys))
+    go None none = take_both xs ys f s (u + f + s) (omega (arith, none)) few whole
+    go (Some byte) one =
+        let more : suc (f + s) ≡ u + f + s = omega (arith, one) in
+        ap (λ l. byte ∷ l) (take_both xs ys f s (f + s) refl few whole) ∙ ap (λ k. take k (byte ∷ (xs ++ ys))) more
+
+pub gathered_size : (urgent : Option ℕ) (xs ys : List ℕ) (n u f s : ℕ) → u ≡ length (option_to_list urgent) → u ≤ n →
+    f ≡ min (length xs) (n - u) → s ≡ min (length ys) (n - u - f) →
+    u + f + s ≡ min (length (option_to_list urgent ++ (xs ++ ys))) n
+gathered_size urgent xs ys n u f s is_u room is_f is_s =
+    omega (arith, is_u, room, is_f, is_s, length-append (option_to_list urgent) (xs ++ ys), length-append xs ys)
+
+-- an urgent byte is a byte
+pub some_urgent : (urgent : Option ℕ) → is_some urgent ≡ true → 0 < length (option_to_list urgent)
+some_urgent None e = absurd (cc (e))
+some_urgent (Some byte) e = omega arith
+
+-- a burst that is in the first part
+pub sends_of_first : (xs ys : List ℕ) (k : ℕ) (s : Settings) (l : List Access) → (ys ≡ []) ⊎ (characters s.size ≤ length xs) →
+    Sends xs k s l → Sends (xs ++ ys) k s l
+sends_of_first xs ys k s l (inl none) t =
+    let S : List ℕ → Type 0 = λ zs. Sends zs k s l in subst S (sym (ap (λ zs. xs ++ zs) none ∙ append-nil xs)) t
+sends_of_first xs ys k s l (inr long) (inl t) = absurd (omega (arith, long, t.0, some_limit s.fifo s.size, limit_within s.fifo s.size))
+sends_of_first xs ys k s l (inr long) (inr (inl t)) = inr (inl (omega (arith, t.0, length-append xs ys), t.1, t.2))
+sends_of_first xs ys k s l (inr long) (inr (inr t)) =
+    let full = limit_within s.fifo s.size in
+    let same : take k (xs ++ ys) ≡ take k xs = take-append-le k xs ys (omega (arith, t.1)) in
+    let B : List ℕ → Type 0 = λ zs. Burst zs s l in
+    inr (inr (
+      omega (arith, t.0, length-append xs ys),
+      omega (arith, t.1, long, full, length-append xs ys),
+      subst B (sym same) t.2,
+    ))
