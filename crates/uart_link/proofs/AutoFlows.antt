@@ -292,7 +292,8 @@ call_make moments there s t c a none h =
     first : M (ring_machine h.begins).chip
     first = subst M (sym chip) (make_mark _ _ _ _ (ring_machine s).ahead old (record { set = (refl, refl); flow = refl; mcr = refl }))
 
-    by : CallDid h.begins t ⊎ ((ring_machine t ≡ settled (ring_machine h.begins)) × (ring_fields t ≡ ring_fields h.begins)) → M (ring_machine t).chip
+    by : CallDid h.begins t ⊎ ((ring_machine t ≡ settled (ring_machine h.begins)) × (ring_fields t ≡ ring_fields h.begins)) →
+        M (ring_machine t).chip
     by (inl d) =
         let l : AllLeaveMcr d.list = let A : List Access → Type 0 = λ l. AllLeaveMcr l in
         subst A (sym d.facts.blocks.joined) (blocks_leave _ d.facts.blocks.blocks d.facts.blocks.fit) in
@@ -360,7 +361,8 @@ call_begins_none moments there s t c a none loop on lines off h =
     settled_again : (m : MachineState) → Holds number (before_mark m.ahead m.chip) → Holds number (settled (settled m)).chip
     settled_again m w = w
 
-    by : CallDid h.begins t ⊎ ((ring_machine t ≡ settled begins) × (ring_fields t ≡ ring_fields h.begins)) → Holds number (settled (ring_machine t)).chip
+    by : CallDid h.begins t ⊎ ((ring_machine t ≡ settled begins) × (ring_fields t ≡ ring_fields h.begins)) →
+        Holds number (settled (ring_machine t)).chip
     by (inl d) =
         let l : AllLeaveMcr d.list = let A : List Access → Type 0 = λ l. AllLeaveMcr l in
         subst A (sym d.facts.blocks.joined) (blocks_leave _ d.facts.blocks.blocks d.facts.blocks.fit) in
