@@ -137,6 +137,8 @@ uart_16550::driver::Uart16550::backend
 uart_16550::driver::Uart16550::backend_mut
 uart_16550::driver::Uart16550::config
 uart_16550::driver::Uart16550::fifo_enabled
+uart_16550::driver::Uart16550::fifo_size
+uart_16550::driver::Uart16550::set_fifo_size
 uart_16550::driver::Uart16550::spin_limit
 uart_16550::driver::Uart16550::set_spin_limit
 uart_spec::dump::ConfigRegisterDump::divisor
@@ -314,17 +316,21 @@ GUARDS = {
     ),
     "uart_ring::queue::ByteQueue::drop_front": Guard(["requires { count ≤ length self.old.items }"], reason=INSIDE),
     "uart_ring::queue::ByteQueue::byte_at": Guard(["requires { place < length self.now.items }"], reason=INSIDE),
+    "uart_ring::queue::ByteQueue::front_slices": Guard(["requires { count ≤ length self.now.items }"], reason=INSIDE),
+    "uart_ring::queue::ByteQueue::receive_from": Guard(
+        ["requires { length self.old.items + slots ≤ self.old.capacity }"], reason=INSIDE
+    ),
     "uart_ring::queue::cell_behind": Guard(
         ["requires cell { cell ≤ cells }", "requires count { count ≤ cells }"], reason=IN_FILE
     ),
     "uart_ring::queue::copy": Guard(["requires { place ≤ length slots.old }"], reason=IN_FILE),
+    "uart_ring::queue::receive": Guard(["requires { place + slots ≤ length cells.old }"], reason=IN_FILE),
     "uart_ring::ring::noted::Uart16550Ring::drop_taken": Guard(
         ["requires { count ≤ length (ring_fields self.old).receive.items }"], reason=INSIDE
     ),
     "uart_ring::ring::noted::copy_with_errors": Guard(
         ["requires { length bytes.now.items ≤ length noted.now.items }"], reason=IN_FILE
     ),
-    "uart_ring::ring::transmit::Uart16550Ring::copy_sendable": Guard(["requires { 0 < length slots.old }"], reason=IN_FILE),
     "uart_ring::ring::transmit::Uart16550Ring::drop_queued": Guard(
         ["requires { count ≤ length self.old.transmit.items }"], reason=IN_FILE
     ),
