@@ -485,6 +485,8 @@ struct uart_driver {
     struct uart_config config;
     uint8_t fifo_enabled;
     uint8_t saved_lsr, saved_msr;
+    uint16_t fifo_size;                 /* 16, 32, 64, 128 or 256 characters, which are sent at once; another number counts as 16.
+                                           If the chip's FIFO is smaller, bytes are lost, and nothing tells */
 };
 
 #define UART_CALL_BYTES 64

@@ -10,6 +10,7 @@ use Rattle.uart_c.specs.declared.driver.UartDriver.{UartDriver}
 use Rattle.uart_spec.specs.BaudRate.{to_integer}
 use Rattle.uart_spec.specs.Bits.{flag}
 use Rattle.uart_spec.specs.Fields.{word_length_bits}
+use Rattle.uart_spec.specs.FifoSize.{characters}
 use Rattle.uart_spec.specs.declared.config.BaudRate.TheVariants.{Custom}
 use Rattle.uart_spec.specs.declared.config.Config.{Config}
 use Rattle.uart_spec.specs.declared.registers.fifo_trigger_level.FifoTriggerLevel.{FifoTriggerLevel}
@@ -17,10 +18,22 @@ use Rattle.uart_spec.specs.declared.registers.frame.Parity.{Parity}
 use Rattle.uart_spec.specs.declared.registers.frame.Parity.TheVariants.{Disabled, Odd, Even, Forced1, Forced0}
 use Rattle.uart_spec.specs.declared.registers.frame.WordLength.{WordLength}
 use Rattle.uart_spec.specs.declared.registers.frame.WordLength.TheVariants.{FiveBits, SixBits, SevenBits, EightBits}
+use Rattle.uart_spec.specs.declared.setup.FifoSize.{FifoSize}
+use Rattle.uart_spec.specs.declared.setup.FifoSize.TheVariants.{Sixteen, ThirtyTwo, SixtyFour, OneHundredTwentyEight}
+use Rattle.uart_spec.specs.declared.setup.FifoSize.TheVariants.{TwoHundredFiftySix}
 
 -- a trigger level of so many characters, or no FIFO
 abbrev pub level_of : (characters : ℕ) → Option FifoTriggerLevel
 level_of characters = if characters == 0 then None else Some (trigger_of characters)
+
+-- a FIFO of so many characters; any other number counts as 16
+abbrev pub size_of : (characters : ℕ) → FifoSize
+size_of characters =
+    if characters == 32 then ThirtyTwo
+    else if characters == 64 then SixtyFour
+    else if characters == 128 then OneHundredTwentyEight
+    else if characters == 256 then TwoHundredFiftySix
+    else Sixteen
 
 -- so many data bits; any other number counts as eight
 abbrev pub word_length_of : (bits : ℕ) → WordLength
@@ -57,6 +70,7 @@ fields_of d =
     record {
       config = config_of d.config;
       fifo = is_on d.fifo_enabled;
+      size = size_of d.fifo_size;
       lsr = d.saved_lsr;
       msr = d.saved_msr;
       limit = max d.spin_limit 1;
@@ -104,5 +118,6 @@ data_of f =
       fifo_enabled = flag f.fifo 1;
       saved_lsr = f.lsr;
       saved_msr = f.msr;
+      fifo_size = characters f.size;
       spin_limit = f.limit;
     }

@@ -4,6 +4,7 @@ ghost use Rattle.uart_16550.specs.State as driver_state;
 ghost use Rattle.uart_c.specs.Driver as spec;
 ghost use Rattle.uart_spec.specs.BaudRate.{to_integer};
 ghost use Rattle.uart_spec.specs.Fields.{word_length_bits};
+ghost use Rattle.uart_spec.specs.FifoSize.{characters};
 ghost use Rattle.uart_spec.specs.declared.config.BaudRate.TheVariants.{Custom};
 
 use crate::codes::{
@@ -15,7 +16,7 @@ use bitflags::Flags;
 use std::num::NonZeroU64;
 use uart_16550::DriverState;
 use uart_spec::registers::{FifoTriggerLevel, IER, LSR, MSR, Parity, WordLength};
-use uart_spec::{BaudRate, Config};
+use uart_spec::{BaudRate, Config, FifoSize};
 
 /// How a device is to be set up.
 #[repr(C)]
@@ -42,6 +43,7 @@ pub struct UartDriver {
     pub fifo_enabled: u8,
     pub saved_lsr: u8,
     pub saved_msr: u8,
+    pub fifo_size: u16,
 }
 
 fn level_of(characters: u8) -> Option<FifoTriggerLevel>
@@ -64,6 +66,31 @@ fn number_of_level(level: Option<FifoTriggerLevel>) -> u8
         Some(FifoTriggerLevel::Four) => 4,
         Some(FifoTriggerLevel::Eight) => 8,
         Some(FifoTriggerLevel::Fourteen) => 14,
+    }
+}
+
+fn size_of(characters: u16) -> FifoSize
+    ensures { result ≡ spec.size_of characters }
+{
+    match characters {
+        32 => FifoSize::ThirtyTwo,
+        64 => FifoSize::SixtyFour,
+        128 => FifoSize::OneHundredTwentyEight,
+        256 => FifoSize::TwoHundredFiftySix,
+        _ => FifoSize::Sixteen,
+    }
+}
+
+fn number_of_size(size: FifoSize) -> u16
+    ensures number { result ≡ characters size }
+    ensures size { spec.size_of result ≡ size }
+{
+    match size {
+        FifoSize::Sixteen => 16,
+        FifoSize::ThirtyTwo => 32,
+        FifoSize::SixtyFour => 64,
+        FifoSize::OneHundredTwentyEight => 128,
+        FifoSize::TwoHundredFiftySix => 256,
     }
 }
 
@@ -154,6 +181,7 @@ pub fn state_of(driver: &UartDriver) -> DriverState
     DriverState {
         config: config_of(&driver.config),
         fifo_enabled: is_on(driver.fifo_enabled),
+        fifo_size: size_of(driver.fifo_size),
         saved_lsr: LSR::from_bits_retain(driver.saved_lsr),
         saved_msr: MSR::from_bits_retain(driver.saved_msr),
         spin_limit: NonZeroU64::new(driver.spin_limit.max(1)).unwrap(),
@@ -171,5 +199,6 @@ pub fn kept(state: &DriverState) -> UartDriver
         fifo_enabled: state.fifo_enabled as u8,
         saved_lsr: state.saved_lsr.bits(),
         saved_msr: state.saved_msr.bits(),
+        fifo_size: number_of_size(state.fifo_size),
     }
 }

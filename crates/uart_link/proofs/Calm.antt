@@ -82,18 +82,18 @@ writes_leave : (bytes : List ℕ) → AllLeaveMcr (map (Write offsets.DATA) byte
 writes_leave [] = tt
 writes_leave (byte ∷ bytes) = ((refl, refl), writes_leave bytes)
 
-block_leaves : (fifo : Bool) (block : Block) → IsFit fifo block → AllLeaveMcr (accesses_of block)
-block_leaves fifo (Look line) h = (tt, tt)
-block_leaves fifo (Hit line byte) h = (tt, (tt, tt))
-block_leaves fifo (Burst line checks bytes) h =
+block_leaves : (most : ℕ) (block : Block) → IsFit most block → AllLeaveMcr (accesses_of block)
+block_leaves most (Look line) h = (tt, tt)
+block_leaves most (Hit line byte) h = (tt, (tt, tt))
+block_leaves most (Burst line checks bytes) h =
     (tt, each-append LeavesMcr checks (map (Write offsets.DATA) bytes) (quiets_leave checks h.1) (writes_leave bytes))
-block_leaves fifo (Other access) h = (quiet_leaves access h, tt)
-block_leaves fifo (Divisor lcr low high) h = (tt, ((refl, refl), (tt, (tt, ((refl, refl), tt)))))
+block_leaves most (Other access) h = (quiet_leaves access h, tt)
+block_leaves most (Divisor lcr low high) h = (tt, ((refl, refl), (tt, (tt, ((refl, refl), tt)))))
 
-pub blocks_leave : (fifo : Bool) (blocks : List Block) → AllFit fifo blocks → AllLeaveMcr (flat blocks)
-blocks_leave fifo [] h = tt
-blocks_leave fifo (block ∷ blocks) h =
-    each-append LeavesMcr (accesses_of block) (flat blocks) (block_leaves fifo block h.0) (blocks_leave fifo blocks h.1)
+pub blocks_leave : (most : ℕ) (blocks : List Block) → AllFit most blocks → AllLeaveMcr (flat blocks)
+blocks_leave most [] h = tt
+blocks_leave most (block ∷ blocks) h =
+    each-append LeavesMcr (accesses_of block) (flat blocks) (block_leaves most block h.0) (blocks_leave most blocks h.1)
 
 -- ---- what MCR and the modem lines are
 

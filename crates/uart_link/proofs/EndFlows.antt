@@ -32,9 +32,10 @@ use Rattle.uart_chip.proofs.conservation.BlockLaws.{IsOpen, Stands, path_as}
 use Rattle.uart_chip.proofs.conservation.Receives.{Drop}
 use Rattle.uart_chip.proofs.conservation.Went.{Modes, IsIn, loopback-in, arriving_cut}
 use Rattle.uart_chip.specs.Sound.{IsSound}
-use Rattle.uart_run.proofs.CallBlocks.{InBlocks, passed_in_blocks}
+use Rattle.uart_run.proofs.CallBlocks.{InBlocks, most_in, passed_in_blocks}
 use Rattle.uart_run.specs.Wired.{IsWired, IsWiredChip}
-use Rattle.uart_run.proofs.CallLaws.{InSession}
+use Rattle.uart_run.proofs.CallLaws.{InSession, session_room}
+use Rattle.uart_run.proofs.SizeKept.{fits_by}
 use Rattle.uart_run.proofs.Wired.{wired_mark}
 use Rattle.uart_ring.specs.Ring.{RingDid, RingFields, ring_fields, free}
 use Rattle.uart_ring.specs.Receive.{rts_at, write_if_other, MakesRtsIfAny, AdjustsRts}
@@ -66,7 +67,7 @@ use Rattle.uart_link.proofs.Held.{HoldsBack, HeldBack, in_held}
 -- ---- what a ring call does, over any backend
 
 pub record CallFacts (f : RingFields) (l : List Access) (after : RingFields) : Type 0 where
-  pub blocks : InBlocks f.driver.fifo l (data_written l) (data_read l)
+  pub blocks : InBlocks (most_in (settings_of f.driver)) l (data_written l) (data_read l)
   pub fewer : length after.receive.items ≤ length f.receive.items + length (data_read l)
   pub capacity : after.receive.capacity ≡ f.receive.capacity
   pub held : HoldsBack f l after
@@ -236,6 +237,8 @@ before_call x moments there s t c a w h =
           modes = subst M (sym chip) p.went.modes;
         };
         fifo = ap (λ (f : RingFields). f.driver.fifo) h.arranges.rings ∙ w.fifo;
+        fits = fits_by (under s) (under begins) (ap (λ (f : RingFields). f.driver.size) h.arranges.rings)
+            (ap (λ (d : ChipState). d.transmitter.size) chip ∙ p.went.sends.size) w.fits;
       };
       rings = h.arranges.rings;
     }
@@ -271,14 +274,14 @@ within_accesses x moments there s begins t w machine d =
     let c = (settled (ring_machine s)).chip in
     let left = to_come c - arrivals (arranged_events moments far c) in
     let f = ring_fields begins in
-    let B : Bool → Type 0 = λ fifo. InBlocks fifo d.list (data_written d.list) (data_read d.list) in
-    let blocks = subst B w.fifo d.facts.blocks in
-    let q = passed_in_blocks x m n d.list _ _ w.open_modes w.stands blocks d.path in
+    let blocks = d.facts.blocks in
+    let q = passed_in_blocks x (most_in (settings_of f.driver)) m n d.list _ _ w.open_modes w.stands
+    (session_room x (under begins) w) blocks d.path in
     let k = counts x m n d.list (data_written d.list) q.takes q.passed in
     let sizes : length (map (λ character. character.byte) q.takes) ≡ length (data_read d.list) = ap length q.bytes in
     let same : length q.takes ≡ length (data_read d.list) = sym (length-map q.takes (λ character. character.byte)) ∙ sizes in
     let A : List Access → Type 0 = λ l. AllLeaveMcr l in
-    let leaves : AllLeaveMcr d.list = subst A (sym blocks.joined) (blocks_leave x.fifo blocks.blocks blocks.fit) in
+    let leaves : AllLeaveMcr d.list = subst A (sym blocks.joined) (blocks_leave _ blocks.blocks blocks.fit) in
     let off : is_loopback m.chip.latches ≡ false = loopback-in x m.chip w.stands.modes ∙ w.open_modes.loopback in
     let here : c ≡ m.chip = sym (ap (λ (o : MachineState). o.chip) machine) in
     record {

@@ -15,6 +15,7 @@ use Rattle.uart_chip.proofs.conservation.Went.{Modes, Went, went-trans}
 use Rattle.uart_chip.proofs.conservation.Passed.{passed-mark}
 use Rattle.uart_chip.proofs.conservation.BlockLaws.{IsOpen}
 use Rattle.uart_run.specs.Wired.{IsWired}
+use Rattle.uart_run.proofs.SizeKept.{fits_by}
 use Rattle.uart_ring.specs.Ring.{RingFields, ring_fields, waiting}
 use Rattle.uart_ring.specs.Lossless.{data_written, data_read, untold_line}
 use Rattle.uart_ring.proofs.Losses.{data_written-append, data_read-append}
@@ -91,6 +92,7 @@ in_session-passed x Order NoLine s t q e events w p sound = record {
   open_modes = p.open_modes;
   stands = record { sound = sound; modes = p.went.modes };
   fifo = ap (λ (settings : Settings). settings.fifo) p.settings ∙ w.fifo;
+  fits = fits_by (under s) (under t) (ap (λ (settings : Settings). settings.size) p.settings) p.went.sends.size w.fits;
 }
 
 -- an end in a session: its machine is wired, so each call goes on with the session

@@ -7,7 +7,6 @@ use Rattle.std.proofs.lemmas.Grind.{common_steps}
 use Rattle.std.proofs.lemmas.List.{drop-append-le}
 use Rattle.std.specs.Prelude.{MatchOption, option_to_list}
 use Rattle.uart_spec.specs.declared.access.Access.{Access}
-use Rattle.uart_spec.specs.declared.baud.TheConstants.{FIFO_SIZE}
 use Rattle.uart_spec.specs.declared.registers.interrupt_enable.TheConstants.IER
 use Rattle.uart_spec.specs.declared.registers.interrupt_type.InterruptType.{InterruptType}
 use Rattle.uart_spec.specs.declared.registers.interrupt_type.InterruptType.TheVariants as interrupts
@@ -140,8 +139,7 @@ fewer_urgent (suc n) urgent = omega arith
 pub pumps : Implies Pumps Keeping
 pumps f l after (sent, (t, same)) =
     let bytes = sendable f in
-    let few = sent_within (take FIFO_SIZE bytes) sent (settings_of f.driver) t.front t.first.0 in
-    let short = length-take FIFO_SIZE bytes in
+    let few = sent_within bytes sent (settings_of f.driver) t.front t.first.0 in
     record {
       held = ap (λ (h : RingFields). h.is_held) same;
       told = ap (λ (h : RingFields). h.has_told_xoff) same;
@@ -150,7 +148,7 @@ pumps f l after (sent, (t, same)) =
           let k = fewer_urgent sent f.urgent in omega (arith, e, k);
       items = λ on.
           let k = held_allows f.stuck f.is_held f.urgent f.transmit.items on in
-          let none : sent - length (option_to_list f.urgent) ≡ 0 = omega (arith, few, short, k) in
+          let none : sent - length (option_to_list f.urgent) ≡ 0 = omega (arith, few, k) in
           ap (λ (h : RingFields). h.transmit.items) same ∙ ap (λ n. drop n f.transmit.items) none;
       text = λ t.
           subst (λ bytes. IsText bytes) (sym (ap (λ (h : RingFields). h.transmit.items) same))

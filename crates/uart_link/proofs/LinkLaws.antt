@@ -168,6 +168,7 @@ whole_session s ready uncut sound = record {
     modes = record { lcr = refl; mcr = refl; fifo = refl; cut = whole_cut (ring_machine s).chip uncut };
   };
   fifo = sym ready.fifo;
+  fits = ready.fits;
 }
 
 cuts_nothing : (s : RingState) → CutsNothing (whole_modes s)
@@ -184,6 +185,7 @@ ready_after x s w = record {
   dlab = dlab-in (modes_at x s) (ring_machine s).chip w.session.stands.modes ∙ w.session.open_modes.dlab;
   loopback = loopback-in (modes_at x s) (ring_machine s).chip w.session.stands.modes ∙ w.session.open_modes.loopback;
   fifo = w.session.stands.modes.fifo ∙ sym w.session.fifo;
+  fits = w.session.fits;
 }
 
 -- what each direction carries

@@ -6,7 +6,6 @@ use Rattle.uart_spec.specs.Access.{Path}
 use Rattle.uart_spec.specs.Bits.{has}
 use Rattle.uart_spec.specs.declared.access.Access.{Access}
 use Rattle.uart_spec.specs.declared.access.Access.TheVariants.{Read}
-use Rattle.uart_spec.specs.declared.baud.TheConstants.{FIFO_SIZE}
 use Rattle.uart_spec.specs.declared.errors.ByteSendError.{ByteSendError}
 use Rattle.uart_spec.specs.declared.errors.ByteSendError.TheVariants.{NoCapacity, RemoteNotClearToSend}
 use Rattle.uart_spec.specs.declared.registers.line_status.TheConstants.LSR
@@ -14,6 +13,7 @@ use Rattle.uart_spec.specs.declared.registers.offsets.TheConstants as offsets
 use Rattle.uart_16550.specs.Driver.{settings_of}
 use Rattle.uart_16550.specs.Grammar.{Settings, Then, Asks, Never}
 use Rattle.uart_16550.specs.Transmit.{Sends, SendRefused, LinesAllow, burst_limit}
+use Rattle.uart_16550.proofs.Languages.{some_limit}
 use Rattle.uart_chip.proofs.Bits.{has_one}
 use Rattle.uart_chip.proofs.Lists.{each-front, each-back}
 use Rattle.uart_chip.proofs.conservation.BlockLaws.{path_as, look_room}
@@ -101,14 +101,10 @@ sends_some bytes sent s l rest m n (inr (inl t)) some empty shown path =
     absurd (refused_not t.2.0 s l rest m n t.2.1 empty shown path)
 sends_some bytes sent s l rest m n (inr (inr t)) some empty shown path =
     let e : data_written l ≡ take sent bytes = (sends_move bytes sent s l (inr (inr t))).written_is in
-    let size : sent ≡ min (length bytes) (burst_limit s.fifo) = t.1 in
-    let least : 1 ≤ burst_limit s.fifo = limit s.fifo in
+    let size : sent ≡ min (length bytes) (burst_limit s.fifo s.size) = t.1 in
+    let least = some_limit s.fifo s.size in
     let long = length-take sent bytes in
     rw e (omega (arith, long, size, least, some))
-  where
-    limit : (fifo : Bool) → 1 ≤ burst_limit fifo
-    limit true = omega arith
-    limit false = omega arith
 
 -- so fewer bytes wait
 pub resumes_some : (f after : RingFields) (l : List Access) (m n : MachineState) → ResumesTransmit f l after →
@@ -126,10 +122,9 @@ resumes_some f after l m n h free some empty shown path = go (length (waiting f)
         let S : List Access → Type 0 = λ k. AllShowCts true k in
         let first : (settings_of f.driver).checks ≡ true → AllShowCts true t.front = λ on.
         each-front (ShowsCts true) t.front t.back (subst S t.whole (shown on)) in
-        let bytes = take FIFO_SIZE (sendable f) in
-        let long : 0 < length bytes = let k = length-take FIFO_SIZE (sendable f) in
-        let j : length (sendable f) ≡ length (waiting f) = ap length free in omega (arith, k, j, some) in
-        let wrote = sends_some bytes sent (settings_of f.driver) t.front t.back m n t.first.0 long empty first
+        let long : 0 < length (sendable f) =
+        let j : length (sendable f) ≡ length (waiting f) = ap length free in omega (arith, j, some) in
+        let wrote = sends_some (sendable f) sent (settings_of f.driver) t.front t.back m n t.first.0 long empty first
         (path_as m n l (t.front ++ t.back) t.whole path) in
         let parts : length (data_written l) ≡ length (data_written t.front ++ data_written t.back) =
         ap (λ k. length (data_written k)) t.whole ∙ ap length (data_written-append t.front t.back) in

@@ -1,5 +1,5 @@
 -- What each block of accesses does to the machine and to the notes above it, with the FIFO on.
-use Rattle.std.proofs.Common.{◌≡◌, ◌⊎◌, ℕ, ◌<◌, Bool, true, false, ◌==◌, inl, inr, List, [], ◌∷◌, ◌++◌, length, map, nat_lt, take}
+use Rattle.std.proofs.Common.{◌≡◌, ◌⊎◌, ℕ, ◌<◌, ◌≤◌, Bool, true, false, ◌==◌, inl, inr, List, [], ◌∷◌, ◌++◌, length, map, nat_lt, take}
 use Rattle.std.proofs.Common.{refl, sym, ◌∙◌, ap, subst, arith, ◌-◌, bit_or}
 use Rattle.std.proofs.lemmas.Grind.{common_steps}
 use Rattle.std.proofs.lemmas.List.{take-append-drop, map-append}
@@ -11,6 +11,7 @@ use Rattle.uart_spec.specs.declared.registers.line_control.TheConstants.LCR
 use Rattle.uart_spec.specs.declared.registers.line_status.TheConstants.LSR
 use Rattle.uart_spec.specs.declared.registers.offsets.TheConstants as offsets
 use Rattle.uart_chip.specs.Chip.{is_dlab_set, is_loopback}
+use Rattle.uart_chip.specs.Transmitter.{room}
 use Rattle.uart_chip.specs.Laws.{reported_front}
 use Rattle.uart_chip.specs.Machine.{MachineState, MachineStep, at_access}
 use Rattle.uart_chip.specs.Receiver.{ReceiverState}
@@ -199,33 +200,35 @@ hit_begins x a m n line byte o on w closed h (m₁, s₁, (m₂, s₂, e)) =
       flag = tells.flag;
     }))
 
-noted_block : (x : Modes) (block : Block) (a : Notes) (m n : MachineState) → IsOpen x → x.fifo ≡ true → Stands x m → Along a m →
-    IsFit x.fifo block → Path MachineStep m (accesses_of block) n →
+noted_block : (x : Modes) (most : ℕ) (block : Block) (a : Notes) (m n : MachineState) → IsOpen x → x.fifo ≡ true → Stands x m →
+    Along a m → most ≤ room x.fifo m.chip.transmitter.size → IsFit most block → Path MachineStep m (accesses_of block) n →
     NotedBlocks x a (with_accesses (accesses_of block) a) m n (accesses_of block) (written_in block) (read_in block)
-noted_block x (Look line) a m n o on w along fit p =
-    noted_nothing x a _ m n _ _ (passed_block x m n (Look line) o w fit p)
+noted_block x most (Look line) a m n o on w along fits fit p =
+    noted_nothing x a _ m n _ _ (passed_block x most m n (Look line) o w fits fit p)
     (all_tame_noted (accesses_of (Look line)) a m n (Looks line, tt) along p)
-noted_block x (Hit line byte) a m n o on w along fit p = hit_noted x a m n line byte o on w along fit p
-noted_block x (Burst line checks bytes) a m n o on w along fit p =
-    noted_nothing x a _ m n _ _ (passed_block x m n (Burst line checks bytes) o w fit p)
+noted_block x most (Hit line byte) a m n o on w along fits fit p = hit_noted x a m n line byte o on w along fit p
+noted_block x most (Burst line checks bytes) a m n o on w along fits fit p =
+    noted_nothing x a _ m n _ _ (passed_block x most m n (Burst line checks bytes) o w fits fit p)
     (all_tame_noted (accesses_of (Burst line checks bytes)) a m n
     (Looks line, each-append Tame checks (map (Write offsets.DATA) bytes) (quiets_tame checks fit.1) (sends_tame bytes)) along p)
-noted_block x (Other access) a m n o on w along fit p =
-    noted_nothing x a _ m n _ _ (passed_block x m n (Other access) o w fit p)
+noted_block x most (Other access) a m n o on w along fits fit p =
+    noted_nothing x a _ m n _ _ (passed_block x most m n (Other access) o w fits fit p)
     (all_tame_noted (accesses_of (Other access)) a m n (quiet_tame access fit, tt) along p)
-noted_block x (Divisor lcr low high) a m n o on w along fit p =
-    noted_nothing x a _ m n _ _ (passed_block x m n (Divisor lcr low high) o w fit p) (divisor_noted lcr low high a m n along p)
+noted_block x most (Divisor lcr low high) a m n o on w along fits fit p =
+    noted_nothing x a _ m n _ _ (passed_block x most m n (Divisor lcr low high) o w fits fit p) (divisor_noted lcr low high a m n along p)
 
-pub noted_blocks : (x : Modes) (blocks : List Block) (a : Notes) (m n : MachineState) → IsOpen x → x.fifo ≡ true → Stands x m →
-    Along a m → AllFit x.fifo blocks → Path MachineStep m (flat blocks) n →
+pub noted_blocks : (x : Modes) (most : ℕ) (blocks : List Block) (a : Notes) (m n : MachineState) → IsOpen x → x.fifo ≡ true → Stands x m →
+    Along a m → most ≤ room x.fifo m.chip.transmitter.size → AllFit most blocks → Path MachineStep m (flat blocks) n →
     NotedBlocks x a (with_accesses (flat blocks) a) m n (flat blocks) (data_written blocks) (data_read blocks)
-noted_blocks x [] a m n o on w along fit p =
+noted_blocks x most [] a m n o on w along fits fit p =
     rw p (record { takes = []; bytes = refl; passed = passed-refl x m w.sound w.modes; noted = noted_start a m along })
-noted_blocks x (block ∷ blocks) a m n o on w along fit p =
+noted_blocks x most (block ∷ blocks) a m n o on w along fits fit p =
     let q = path_split MachineStep m n (accesses_of block) (flat blocks) p in
     let b : Notes = with_accesses (accesses_of block) a in
-    let first = noted_block x block a m q.0 o on w along fit.0 q.1 in
-    let rest = noted_blocks x blocks b q.0 n o on (stands-after x m q.0 _ _ _ first.passed) first.noted.along fit.1 q.2 in
+    let first = noted_block x most block a m q.0 o on w along fits fit.0 q.1 in
+    let same = ap (room x.fifo) first.passed.went.sends.size in
+    let rest = noted_blocks x most blocks b q.0 n o on (stands-after x m q.0 _ _ _ first.passed) first.noted.along
+    (omega (arith, fits, same)) fit.1 q.2 in
     rw (with_append (accesses_of block) (flat blocks) a) (record {
       takes = first.takes ++ rest.takes;
       bytes = map-append (λ (character : Character). character.byte) first.takes rest.takes
@@ -236,9 +239,9 @@ noted_blocks x (block ∷ blocks) a m n o on w along fit p =
     })
 
 -- what accesses in blocks do
-pub noted_in_blocks : (x : Modes) (a : Notes) (m n : MachineState) (made : List Access) (ws rs : List ℕ) → IsOpen x → x.fifo ≡ true →
-    Stands x m → Along a m → InBlocks x.fifo made ws rs → Path MachineStep m made n →
-    NotedBlocks x a (with_accesses made a) m n made ws rs
-noted_in_blocks x a m n made ws rs o on w along b p =
-    let q = noted_blocks x b.blocks a m n o on w along b.fit (rw b.joined at p) in
+pub noted_in_blocks : (x : Modes) (most : ℕ) (a : Notes) (m n : MachineState) (made : List Access) (ws rs : List ℕ) → IsOpen x →
+    x.fifo ≡ true → Stands x m → Along a m → most ≤ room x.fifo m.chip.transmitter.size → InBlocks most made ws rs →
+    Path MachineStep m made n → NotedBlocks x a (with_accesses made a) m n made ws rs
+noted_in_blocks x most a m n made ws rs o on w along fits b p =
+    let q = noted_blocks x most b.blocks a m n o on w along fits b.fit (rw b.joined at p) in
     rw (b.is_written, b.is_read, ← b.joined) at q

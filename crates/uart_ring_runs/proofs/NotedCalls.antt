@@ -11,6 +11,7 @@ use Rattle.uart_spec.specs.declared.access.Access.TheVariants.{Read, Write}
 use Rattle.uart_spec.specs.declared.registers.modem_control.TheConstants.MCR
 use Rattle.uart_spec.specs.declared.registers.offsets.TheConstants as offsets
 use Rattle.uart_16550.specs.Frame.{switched, unlooped}
+use Rattle.uart_16550.specs.Driver.{settings_of}
 use Rattle.uart_16550.specs.Grammar.{Settings}
 use Rattle.uart_chip.specs.Machine.{MachineState, MachineStep}
 use Rattle.uart_chip.specs.declared.receiver.Character.{Character}
@@ -18,7 +19,10 @@ use Rattle.uart_chip.proofs.conservation.BlockLaws.{IsOpen, stands-after}
 use Rattle.uart_chip.proofs.conservation.Passed.{Passed, passed-refl, passed-trans, passed-mark}
 use Rattle.uart_chip.proofs.conservation.Went.{Modes}
 use Rattle.uart_run.specs.Chains.{calls_of}
-use Rattle.uart_run.proofs.CallBlocks.{InBlocks}
+use Rattle.uart_run.specs.Ready.{BurstsFit}
+use Rattle.uart_run.proofs.CallBlocks.{most_in}
+use Rattle.uart_run.proofs.CallLaws.{session_room}
+use Rattle.uart_run.proofs.SizeKept.{fits_by}
 use Rattle.uart_chip.proofs.Bits.{has_not}
 use Rattle.uart_run.specs.Wired.{IsWired}
 use Rattle.uart_ring.specs.Lossless.{data_written, data_read, LosesOnly, with_accepted}
@@ -98,6 +102,7 @@ pub record CallNoted (x : Modes) (s t : NotedState) (left : List ℕ) : Type 0 w
   pub open_modes : IsOpen (modes_at x (without_notes t))
   pub passed : Passed (modes_at x (without_notes t)) (ring_machine (without_notes s)) (ring_machine (without_notes t)) made written takes
   pub fifo : (ring_fields t).driver.fifo ≡ (ring_fields s).driver.fifo
+  pub fits : BurstsFit (under (without_notes s)) → BurstsFit (under (without_notes t))
   pub noted : Noted (notes_in s) (notes_in t) (ring_machine (without_notes s)) (ring_machine (without_notes t)) takes
   pub received : left ++ to_take (without_notes t) ≡ to_take (without_notes s) ++ only_bytes takes
 
@@ -121,9 +126,9 @@ of_blocks x s t c a on w along h =
     let n = ring_machine (without_notes t) in
     let parts = parted h.list (ring_backend_of s) (ring_backend_of t) h.path in
     let makes = h.walks MakesBlocks in_blocks in
-    let I : Bool → Type 0 = λ fifo. InBlocks fifo h.list (data_written h.list) (data_read h.list) in
-    let p = noted_in_blocks (modes_at x (without_notes s)) (notes_in s) m n h.list (data_written h.list) (data_read h.list) w.open_modes on
-    w.stands along (subst I w.fifo makes.blocks) parts.path in
+    let y = modes_at x (without_notes s) in
+    let p = noted_in_blocks y (most_in (settings_of (ring_fields s).driver)) (notes_in s) m n h.list (data_written h.list)
+    (data_read h.list) w.open_modes on w.stands along (session_room y (under (without_notes s)) w) makes.blocks parts.path in
     let N : Notes → Type 0 = λ v. Noted (notes_in s) v m n p.takes in
     record {
       made = h.list;
@@ -131,7 +136,9 @@ of_blocks x s t c a on w along h =
       takes = p.takes;
       open_modes = open_at x m.chip.latches.mcr m n h.list (data_written h.list) p.takes w.open_modes p.passed;
       passed = at_mcr x m.chip.latches.mcr m n h.list (data_written h.list) p.takes p.passed;
-      fifo = makes.fifo;
+      fifo = ap (λ (settings : Settings). settings.fifo) makes.settings;
+      fits = fits_by (under (without_notes s)) (under (without_notes t)) (ap (λ (settings : Settings). settings.size) makes.settings)
+          p.passed.went.sends.size;
       noted = subst N (sym parts.notes) p.noted;
       received = h.loses.received ∙ ap (λ zs. (ring_fields s).receive.items ++ zs) (sym p.bytes);
     }
@@ -182,6 +189,8 @@ of_rts x s t wanted on w along wired list does path loses =
       open_modes = came.open_modes;
       passed = came.passed.passed;
       fifo = ap (λ (settings : Settings). settings.fifo) loses.settings;
+      fits = fits_by (under (without_notes s)) (under (without_notes t)) (ap (λ (settings : Settings). settings.size) loses.settings)
+          came.passed.passed.went.sends.size;
       noted = subst P (sym (no_bytes came.passed.takes none))
           (subst N (sym parts.notes) (all_tame_noted list (notes_in s) m n plain.tame along parts.path));
       received = loses.received ∙ ap (λ zs. (ring_fields s).receive.items ++ zs) (plain.none ∙ sym none);
@@ -210,6 +219,8 @@ call_noted x s t call.Next a on w along o i (goes, same) =
       open_modes = open_at x m.chip.latches.mcr m n [] [] [] w.open_modes q;
       passed = at_mcr x m.chip.latches.mcr m n [] [] [] q;
       fifo = ap (λ (f : RingFields). f.driver.fifo) goes.rings;
+      fits = fits_by (under (without_notes s)) (under (without_notes t)) (ap (λ (f : RingFields). f.driver.size) goes.rings)
+          q.went.sends.size;
       noted = subst N (sym same) (subst M (sym goes.machine) (noted_mark (notes_in s) m along));
       received = ap (λ (f : RingFields). f.receive.items) goes.rings ∙ sym (append-nil (to_take (without_notes s)));
     }
@@ -223,6 +234,7 @@ in_session_noted x s t left w g = record {
   open_modes = g.open_modes;
   stands = stands-after (modes_at x (without_notes t)) (ring_machine (without_notes s)) (ring_machine (without_notes t)) _ _ _ g.passed;
   fifo = g.fifo ∙ w.fifo;
+  fits = g.fits w.fits;
 }
 
 noted_nowhere : (x : Modes) (s : NotedState) → InRingSession x (without_notes s) → Along (notes_in s) (ring_machine (without_notes s)) →
@@ -234,6 +246,7 @@ noted_nowhere x s w along = record {
   open_modes = w.open_modes;
   passed = passed-refl (modes_at x (without_notes s)) (ring_machine (without_notes s)) w.stands.sound w.stands.modes;
   fifo = refl;
+  fits = λ fits. fits;
   noted = noted_start (notes_in s) (ring_machine (without_notes s)) along;
   received = sym (append-nil (to_take (without_notes s)));
 }
@@ -252,6 +265,7 @@ calls_then x s t u e f p q =
       passed = passed-trans (modes_at x (without_notes t)) (modes_at x (without_notes u)) m n o p.made q.made p.written q.written p.takes
           q.takes refl p.passed q.passed;
       fifo = q.fifo ∙ p.fifo;
+      fits = λ fits. q.fits (p.fits fits);
       noted = noted_then (notes_in s) (notes_in t) (notes_in u) m n o p.takes q.takes p.noted q.noted;
       received = append_assoc e f (to_take (without_notes u)) ∙ (ap (λ zs. e ++ zs) q.received
           ∙ (sym (append_assoc e (to_take (without_notes t)) (only_bytes q.takes)) ∙ (ap (λ zs. zs ++ only_bytes q.takes) p.received

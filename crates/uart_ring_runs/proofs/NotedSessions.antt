@@ -218,6 +218,7 @@ notes_exactly s t before links sound begins within own chain =
         dlab = dlab;
         loopback = g.noted.along.loopback;
         fifo = g.noted.along.fifo ∙ sym (g.fifo ∙ on);
+        fits = g.fits ready.fits;
       };
       fifo = g.fifo ∙ on;
     }

@@ -107,6 +107,7 @@ ready_in x s w = record {
   dlab = dlab-in x (ring_machine s).chip w.stands.modes ∙ w.open_modes.dlab;
   loopback = loopback-in x (ring_machine s).chip w.stands.modes ∙ w.open_modes.loopback;
   fifo = w.stands.modes.fifo ∙ sym w.fifo;
+  fits = w.fits;
 }
 
 pub chain_leaves : (x : Modes) (s t : RingState) (links : List RingLink) → InSession x (under s) → AllWithinRingSession s links →

@@ -20,7 +20,7 @@ use Rattle.uart_ring.specs.Lossless.{data_written, data_read}
 use Rattle.uart_ring.proofs.Losses.{data_written-append, data_read-append, Moves, sends_move, receives_move}
 use Rattle.uart_ring_runs.proofs.RingWalk.{Walks, InRings}
 use Rattle.uart_chip.proofs.Lists.{each-append}
-use Rattle.uart_run.proofs.CallBlocks.{InBlocks, blocks_none, blocks_then, sends_blocks, receives_blocks}
+use Rattle.uart_run.proofs.CallBlocks.{InBlocks, most_in, blocks_none, blocks_then, sends_blocks, receives_blocks}
 use Rattle.uart_run.proofs.CallKeeps.{plain_blocks, quiet_blocks, saving_keeps, enables_keeps, disables_keeps, takes_lsr_keeps}
 use Rattle.uart_run.proofs.CallKeeps.{takes_msr_keeps}
 
@@ -88,68 +88,72 @@ receives_leave room bytes s l (inr (fewer, t)) =
 
 -- ---- what the driver does
 
--- its accesses are blocks, which write and read what the list shows, and none writes LCR; the FIFO is taken as before
+-- its accesses are blocks, which write and read what the list shows, and none writes LCR; the driver has the same settings
 pub record MakesBlocks (f : Fields) (l : List Access) (after : Fields) : Type 0 where
-  pub blocks : InBlocks f.fifo l (data_written l) (data_read l)
+  pub blocks : InBlocks (most_in (settings_of f)) l (data_written l) (data_read l)
   pub lcr : AllLeaveLcr l
-  pub fifo : after.fifo ≡ f.fifo
+  pub settings : settings_of after ≡ settings_of f
 
 makes-then : (f mid after : Fields) (l m : List Access) → MakesBlocks f l mid → MakesBlocks mid m after → MakesBlocks f (l ++ m) after
 makes-then f mid after l m a b = record {
-  blocks = let I : Bool → Type 0 = λ v. InBlocks v m (data_written m) (data_read m) in
+  blocks = let I : Settings → Type 0 = λ v. InBlocks (most_in v) m (data_written m) (data_read m) in
       rw (data_written-append l m, data_read-append l m)
-      (blocks_then f.fifo l m (data_written l) (data_written m) (data_read l) (data_read m) a.blocks (subst I a.fifo b.blocks));
+      (blocks_then (most_in (settings_of f)) l m (data_written l) (data_written m) (data_read l) (data_read m) a.blocks
+      (subst I a.settings b.blocks));
   lcr = each-append LeavesLcr l m a.lcr b.lcr;
-  fifo = b.fifo ∙ a.fifo;
+  settings = b.settings ∙ a.settings;
 }
 
-makes_kept : (f after : Fields) (l : List Access) (ws rs : List ℕ) → InBlocks f.fifo l ws rs → Moves ws rs l → AllLeaveLcr l →
-    after.fifo ≡ f.fifo → MakesBlocks f l after
-makes_kept f after l ws rs blocks moves lcr fifo =
-    record { blocks = rw (moves.written_is, moves.read_is) blocks; lcr = lcr; fifo = fifo }
+makes_kept : (f after : Fields) (l : List Access) (ws rs : List ℕ) → InBlocks (most_in (settings_of f)) l ws rs → Moves ws rs l →
+    AllLeaveLcr l → settings_of after ≡ settings_of f → MakesBlocks f l after
+makes_kept f after l ws rs blocks moves lcr settings =
+    record { blocks = rw (moves.written_is, moves.read_is) blocks; lcr = lcr; settings = settings }
 
 enables_make : (bits : ℕ) (f : Fields) (l : List Access) (after : Fields) → Enables bits f l after → MakesBlocks f l after
 enables_make bits f l after t =
     let k = enables_keeps bits f after l t in
-    makes_kept f after l [] [] k.blocks (rw t.1 (record { written_is = refl; read_is = refl })) (rw t.1 (tt, (refl, tt))) k.fifo
+    makes_kept f after l [] [] k.blocks (rw t.1 (record { written_is = refl; read_is = refl })) (rw t.1 (tt, (refl, tt)))
+    (ap settings_of t.2)
 
 disables_make : (bits : ℕ) (f : Fields) (l : List Access) (after : Fields) → Disables bits f l after → MakesBlocks f l after
 disables_make bits f l after t =
     let k = disables_keeps bits f after l t in
-    makes_kept f after l [] [] k.blocks (rw t.1 (record { written_is = refl; read_is = refl })) (rw t.1 (tt, (refl, tt))) k.fifo
+    makes_kept f after l [] [] k.blocks (rw t.1 (record { written_is = refl; read_is = refl })) (rw t.1 (tt, (refl, tt)))
+    (ap settings_of t.2)
 
 sends_make : (bytes : List ℕ) (sent : ℕ) (f : Fields) (l : List Access) (after : Fields) → Saving (Sends bytes sent) f l after →
     MakesBlocks f l after
 sends_make bytes sent f l after t =
     makes_kept f after l _ _ (sends_blocks (settings_of f) bytes sent l t.0) (sends_move bytes sent (settings_of f) l t.0)
-    (sends_leave bytes sent (settings_of f) l t.0) (ap (λ (g : Fields). g.fifo) t.1)
+    (sends_leave bytes sent (settings_of f) l t.0) (ap settings_of t.1)
 
 receives_make : (room : ℕ) (bytes : List ℕ) (f : Fields) (l : List Access) (after : Fields) → Saving (Receives room bytes) f l after →
     MakesBlocks f l after
 receives_make room bytes f l after t =
     makes_kept f after l _ _ (receives_blocks (settings_of f) room bytes l t.0) (receives_move room bytes (settings_of f) l t.0)
-    (receives_leave room bytes (settings_of f) l t.0) (ap (λ (g : Fields). g.fifo) t.1)
+    (receives_leave room bytes (settings_of f) l t.0) (ap settings_of t.1)
 
 lsr_makes : (result : ℕ) (f : Fields) (l : List Access) (after : Fields) → TakesLsr result f l after → MakesBlocks f l after
 lsr_makes result f l after t =
     let k = takes_lsr_keeps result f after l t in
-    makes_kept f after l [] [] k.blocks (rw t.1 (record { written_is = refl; read_is = refl })) (rw t.1 (tt, tt)) k.fifo
+    makes_kept f after l [] [] k.blocks (rw t.1 (record { written_is = refl; read_is = refl })) (rw t.1 (tt, tt)) (ap settings_of t.3)
 
 msr_makes : (result : ℕ) (f : Fields) (l : List Access) (after : Fields) → TakesMsr result f l after → MakesBlocks f l after
 msr_makes result f l after t =
     let k = takes_msr_keeps result f after l t in
-    makes_kept f after l [] [] k.blocks (rw t.1 (record { written_is = refl; read_is = refl })) (rw t.1 (tt, tt)) k.fifo
+    makes_kept f after l [] [] k.blocks (rw t.1 (record { written_is = refl; read_is = refl })) (rw t.1 (tt, tt)) (ap settings_of t.3)
 
 isr_read_makes : (isr : ℕ) (f : Fields) (l : List Access) (after : Fields) → Saving (Only (Read offsets.ISR isr ∷ [])) f l after →
     MakesBlocks f l after
 isr_read_makes isr f l after t =
     let k = saving_keeps (Only (Read offsets.ISR isr ∷ [])) f after l [] [] (plain_blocks (settings_of f) offsets.ISR isr refl) t in
-    makes_kept f after l [] [] k.blocks (rw t.0.is (record { written_is = refl; read_is = refl })) (rw t.0.is (tt, tt)) k.fifo
+    makes_kept f after l [] [] k.blocks (rw t.0.is (record { written_is = refl; read_is = refl })) (rw t.0.is (tt, tt))
+    (ap settings_of t.1)
 
 retriggers_make : (f : Fields) (l : List Access) (after : Fields) → Saving status.Retriggers f l after → MakesBlocks f l after
 retriggers_make f l after ((ier, is), saved) =
-    makes_kept f after l [] [] (rw is (quiet_blocks f.fifo (status.retrigger_accesses ier) (refl, (refl, (refl, tt)))))
-    (rw is (record { written_is = refl; read_is = refl })) (rw is (tt, (refl, (refl, tt)))) (ap (λ (g : Fields). g.fifo) saved)
+    makes_kept f after l [] [] (rw is (quiet_blocks (most_in (settings_of f)) (status.retrigger_accesses ier) (refl, (refl, (refl, tt)))))
+    (rw is (record { written_is = refl; read_is = refl })) (rw is (tt, (refl, (refl, tt)))) (ap settings_of saved)
 
 -- ---- what the rings do
 
@@ -159,7 +163,7 @@ MakesRingBlocks = InRings MakesBlocks
 
 pub in_blocks : Walks MakesBlocks
 in_blocks = record {
-  nothing = λ f. record { blocks = blocks_none f.fifo; lcr = tt; fifo = refl };
+  nothing = λ f. record { blocks = blocks_none (most_in (settings_of f)); lcr = tt; settings = refl };
   next = makes-then;
   sends = sends_make;
   receives = receives_make;

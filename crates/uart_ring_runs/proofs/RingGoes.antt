@@ -23,8 +23,10 @@ use Rattle.uart_chip.proofs.Bits.{or_assoc}
 use Rattle.uart_chip.proofs.conservation.Went.{Modes, fixed}
 use Rattle.uart_chip.proofs.conservation.Passed.{passed-refl}
 use Rattle.uart_chip.proofs.conservation.BlockLaws.{IsOpen, PassedBlocks, stands-after}
+use Rattle.uart_run.specs.Ready.{BurstsFit}
 use Rattle.uart_run.specs.Run.{State, CallStep}
 use Rattle.uart_run.specs.Session.{GoesOn, IsWithinSession, reported_by, received_by}
+use Rattle.uart_run.proofs.SizeKept.{fits_by, fits_kept}
 use Rattle.uart_run.proofs.CallLaws.{InSession}
 use Rattle.uart_run.proofs.FrameLaws.{GoOn, go_within, passed_onwards, same_fifo}
 use Rattle.uart_ring.specs.Ring.{RingFields, ring_fields, waiting}
@@ -61,6 +63,7 @@ pub record RingGoes (x : Modes) (Sent : List ℕ → Type 0) (Turn NoLine NoMode
   pub read : List ℕ
   pub passed : PassedBlocks modes (ring_machine s) (ring_machine t) made written read
   pub fifo : (ring_fields t).driver.fifo ≡ (ring_fields s).driver.fifo
+  pub fits : BurstsFit (under s) → BurstsFit (under t)
   pub checks : checks_of (ring_fields t).driver ≡ checks_of (ring_fields s).driver
   pub sent : Sent (written ++ to_send t)
   pub received : Turn → left ++ to_take t ≡ to_take s ++ read
@@ -101,6 +104,7 @@ of_rings x s t c a p = record {
   read = data_read p.made;
   passed = p.passed;
   fifo = ap (λ (settings : Settings). settings.fifo) p.settings;
+  fits = fits_by (under s) (under t) (ap (λ (settings : Settings). settings.size) p.settings) p.passed.passed.went.sends.size;
   checks = ap (λ (settings : Settings). settings.checks) p.settings;
   sent = p.sent;
   received = λ turn. p.received;
@@ -188,6 +192,7 @@ driver_goes x s t c a w i h =
       read = received_by c h.outcome;
       passed = p.passed;
       fifo = p.fifo;
+      fits = fits_kept (under s) (under t) c h.outcome step;
       checks = driver_checks _ (under s) (under t) c h.outcome i step;
       sent = ap (λ zs. reported_by c h.outcome ++ zs) sends;
       received = λ turn. ap (λ zs. received_by c h.outcome ++ zs) there ∙ received_in_turn c h.outcome (to_take s) turn;
@@ -214,6 +219,7 @@ in_session-gone x Sent T N M s t u w g = record {
   open_modes = g.open_modes;
   stands = stands-after g.modes (ring_machine s) (ring_machine t) _ _ _ g.passed.passed;
   fifo = g.fifo ∙ (w.fifo ∙ sym (same_fifo x g.modes g.same));
+  fits = g.fits w.fits;
 }
 
 -- ---- calls in turn
@@ -241,6 +247,7 @@ ring_goes-trans x A B T U N M O P s t u q p e f a b = record {
   passed = passed_onwards a.modes b.modes (ring_machine s) (ring_machine t) (ring_machine u) a.made b.made _ _ _ _ b.same
       a.passed b.passed;
   fifo = b.fifo ∙ a.fifo;
+  fits = λ fits. b.fits (a.fits fits);
   checks = b.checks ∙ a.checks;
   sent = λ o. append_assoc a.written b.written (to_send u) ∙ (ap (λ zs. a.written ++ zs) (b.sent o.1) ∙
       (sym (append_assoc a.written (to_send t) p) ∙ (ap (λ zs. zs ++ p) (a.sent o.0) ∙ append_assoc (to_send s) q p)));
@@ -266,6 +273,7 @@ ordered_call x T N M s t c a u g = record {
   read = g.read;
   passed = g.passed;
   fifo = g.fifo;
+  fits = g.fits;
   checks = g.checks;
   sent = λ o. g.sent ∙ in_order c a (to_send s) o;
   received = g.received;
@@ -289,6 +297,7 @@ goes_nowhere x s w = record {
   read = [];
   passed = record { takes = []; bytes = refl; passed = passed-refl x (ring_machine s) w.stands.sound w.stands.modes };
   fifo = refl;
+  fits = λ fits. fits;
   checks = refl;
   sent = λ o. sym (append-nil (to_send s));
   received = λ turn. sym (append-nil (to_take s));

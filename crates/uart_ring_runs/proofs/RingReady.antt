@@ -10,8 +10,10 @@ use Rattle.uart_chip.specs.Machine.{MachineState, MachineStep}
 use Rattle.uart_chip.specs.Sound.{IsSound}
 use Rattle.uart_ring.specs.Ring.{driver_of}
 use Rattle.uart_ring_runs.specs.RingRun.{RingState, under}
-use Rattle.uart_run.specs.Ready.{IsInitialised}
+use Rattle.uart_run.specs.Ready.{BurstsFit, IsInitialised}
+use Rattle.uart_run.specs.ReceivedErrors.{under_terminal}
 use Rattle.uart_run.specs.Run.{State, CallStep}
+use Rattle.uart_run.proofs.SizeKept.{fits_kept}
 use Rattle.uart_run.proofs.initialising.Initialised.{initialises}
 
 pub init_leaves : (before after : Uart16550 MachineState) (config : Config) (ring : RingState) → IsSound (backend_of before) →
@@ -22,3 +24,14 @@ init_leaves before after config ring sound did same =
     let step : CallStep s (call.Init config) Done t = record { outcome = Ok tt; answered = refl; did = did } in
     let R : Uart16550 MachineState → Type 0 = λ d. IsInitialised config (record { inner = d }) in
     subst R (sym same) ((initialises s t config Done sound step).leaves refl)
+
+-- an `init` does not change for how large the driver takes the FIFOs
+pub init_fits : (before after : Uart16550 MachineState) (config : Config) (ring : RingState) →
+    Did MachineStep (Inits {T = Unit {0}} config (Ok tt)) before after → driver_of ring ≡ after → BurstsFit (under_terminal before) →
+    BurstsFit (under ring)
+init_fits before after config ring did same fits =
+    let s : State = record { inner = before } in
+    let t : State = record { inner = after } in
+    let step : CallStep s (call.Init config) Done t = record { outcome = Ok tt; answered = refl; did = did } in
+    let R : Uart16550 MachineState → Type 0 = λ d. BurstsFit (record { inner = d }) in
+    subst R (sym same) (fits_kept s t (call.Init config) Done step fits)

@@ -15,8 +15,9 @@ use Rattle.uart_chip.proofs.conservation.Went.{Modes, loopback-in}
 use Rattle.uart_chip.proofs.conservation.Passed.{Passed, passed-trans}
 use Rattle.uart_chip.proofs.conservation.BlockLaws.{IsOpen, Stands, PassedBlocks, nothing_taken, passed_quiet, path_as, stands-after}
 use Rattle.uart_run.specs.Wired.{IsWired, IsWiredChip}
-use Rattle.uart_run.proofs.CallBlocks.{InBlocks, passed_in_blocks}
-use Rattle.uart_run.proofs.CallLaws.{InSession}
+use Rattle.uart_16550.specs.Driver.{settings_of}
+use Rattle.uart_run.proofs.CallBlocks.{most_in, passed_in_blocks}
+use Rattle.uart_run.proofs.CallLaws.{InSession, session_room}
 use Rattle.uart_run.proofs.Wired.{wired_step, passed_mcr}
 use Rattle.uart_ring.specs.Ring.{RingFields, ring_fields}
 use Rattle.uart_ring.specs.Receive.{write_if_other, MakesRtsIfAny}
@@ -49,6 +50,7 @@ begins_session x s w = record {
     modes = record { lcr = w.stands.modes.lcr; mcr = refl; fifo = w.stands.modes.fifo; cut = w.stands.modes.cut };
   };
   fifo = w.fifo;
+  fits = w.fits;
 }
 
 -- a stretch in a session that does not end it
@@ -111,9 +113,9 @@ pub came_blocks : (x : Modes) (s t : RingState) (l : List Access) → InRingSess
     Path MachineStep (ring_machine s) l (ring_machine t) →
     Came x (ring_machine s) (ring_machine t) l (data_written l) (data_read l)
 came_blocks x s t l w makes path =
-    let B : Bool → Type 0 = λ fifo. InBlocks fifo l (data_written l) (data_read l) in
     came x (ring_machine s).chip.latches.mcr (ring_machine s) (ring_machine t) l _ _ w.open_modes
-    (passed_in_blocks (modes_at x s) (ring_machine s) (ring_machine t) l _ _ w.open_modes w.stands (subst B w.fifo makes.blocks) path)
+    (passed_in_blocks (modes_at x s) (most_in (settings_of (ring_fields s).driver)) (ring_machine s) (ring_machine t) l _ _ w.open_modes
+    w.stands (session_room (modes_at x s) (under s) w) makes.blocks path)
 
 pub came_rts : (x : Modes) (s t : RingState) (wanted : Option Bool) (l : List Access) → InRingSession x s → IsWired (under s) →
     MakesRtsIfAny wanted (ring_fields s) l (ring_fields t) → Path MachineStep (ring_machine s) l (ring_machine t) →

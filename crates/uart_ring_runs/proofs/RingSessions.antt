@@ -101,6 +101,7 @@ ring_conserves x s t links w within chain =
         dlab = dlab-in y n.chip went.modes ∙ g.open_modes.dlab;
         loopback = loopback-in y n.chip went.modes ∙ g.open_modes.loopback;
         fifo = went.modes.fifo ∙ (same_fifo x y g.same ∙ (sym w.fifo ∙ sym g.fifo));
+        fits = g.fits w.fits;
       };
       wired = λ wired. wired_chain s t links wired chain;
       sent = sent;

@@ -4,7 +4,7 @@ use Rattle.std.proofs.Common.{sym, subst, Option, Some, None, Result}
 use Rattle.std.specs.Prelude.{MatchOption}
 use Rattle.uart_spec.specs.declared.access.Access.{Access}
 use Rattle.uart_spec.specs.declared.access.Access.TheVariants.{Read}
-use Rattle.uart_spec.specs.declared.baud.TheConstants.{FIFO_SIZE}
+use Rattle.uart_spec.specs.FifoSize.{characters}
 use Rattle.uart_spec.specs.declared.registers.interrupt_enable.TheConstants.IER
 use Rattle.uart_spec.specs.declared.registers.interrupt_type.InterruptType.{InterruptType}
 use Rattle.uart_spec.specs.declared.registers.interrupt_type.InterruptType.TheVariants as interrupts
@@ -73,7 +73,7 @@ module _ (P : Doing) (w : Walks P) where
   pumps : Implies Pumps (InRings P)
   pumps f l after (sent, (t, same)) =
       rw t.whole (w.next f.driver t.mid after.driver t.front t.back
-      (w.sends (take FIFO_SIZE (sendable f)) sent f.driver t.front t.mid t.first)
+      (w.sends (sendable f) sent f.driver t.front t.mid t.first)
       (arms (sendable (without_sent sent f)) t.mid t.back after.driver t.second))
 
   -- something if a flag is set, and else nothing
@@ -99,7 +99,8 @@ module _ (P : Doing) (w : Walks P) where
   fills : Implies FillsReceiveRing (InRings P)
   fills f l after (bytes, t) =
       rw t.whole (w.next f.driver t.mid.driver after.driver t.front t.back
-      (w.receives (min FIFO_SIZE (free f.receive)) bytes f.driver t.front t.mid.driver t.first.0) (pauses t.mid t.back after t.second))
+      (w.receives (min (characters f.driver.size) (free f.receive)) bytes f.driver t.front t.mid.driver t.first.0)
+      (pauses t.mid t.back after t.second))
 
   serves : (interrupt : InterruptType) → Implies (ServesInterrupt interrupt) (InRings P)
   serves interrupts.ReceiverLineStatus f l after (status, (t, same)) = w.lsr status f.driver l after.driver t

@@ -20,7 +20,8 @@ use Rattle.uart_spec.specs.declared.registers.line_status.TheConstants.LSR
 use Rattle.uart_spec.specs.declared.registers.offsets.TheConstants as offsets
 use Rattle.uart_events.specs.declared.event.Event.{Event}
 use Rattle.uart_16550.specs.Grammar.{Settings, Then, Asks}
-use Rattle.uart_16550.specs.Transmit.{LinesAllow, SendMiss, Sends, burst_limit}
+use Rattle.uart_16550.specs.Transmit.{LinesAllow, SendMiss, Sends}
+use Rattle.uart_16550.proofs.Languages.{some_limit}
 use Rattle.uart_chip.specs.declared.receiver.Character.{Character}
 use Rattle.uart_chip.specs.Masks.{ier_bits}
 use Rattle.uart_chip.specs.Receiver.{ReceiverState, report, front_errors, has_errors, unreported, is_data_pending, is_timed_out}
@@ -414,7 +415,7 @@ pub unsent_looks : (bytes : List ℕ) (s : Settings) (l : List Access) → Sends
 unsent_looks bytes s l (inl t) = rw t.2 tt
 unsent_looks bytes s l (inr (inl t)) = miss_looks s l t.2
 unsent_looks bytes s l (inr (inr (some, size, t))) =
-    let one : 0 < burst_limit s.fifo = elim s.fifo as (λ b. 0 < burst_limit b) [ true ↦ omega arith | false ↦ omega arith ] in
+    let one = some_limit s.fifo s.size in
     absurd (omega (arith, some, size, one))
 
 -- ---- data without a place

@@ -1,7 +1,7 @@
 -- A round in which no byte moves: each interrupt that it serves was left to be shown at its start, or was brought by the schedule.
 use Rattle.std.proofs.Common.{◌≡◌, ◌≢◌, ◌⊎◌, ℕ, ◌+◌, ◌≤◌, ◌<◌, ◌==◌, ◌-◌, ◌||◌, ◌&&◌, zero, suc, Bool, true, false, not, MatchBool, List}
-use Rattle.std.proofs.Common.{[], ◌∷◌, ◌++◌, length, length-append, length-take, append_assoc, append-nil, Option, Some, None, inl, inr}
-use Rattle.std.proofs.Common.{refl, sym, ◌∙◌, ap, subst, arith, take, drop, min, Result, Ok, Err}
+use Rattle.std.proofs.Common.{[], ◌∷◌, ◌++◌, length, length-append, append_assoc, append-nil, Option, Some, None, inl, inr}
+use Rattle.std.proofs.Common.{refl, sym, ◌∙◌, ap, subst, arith, drop, min, Result, Ok, Err}
 use Rattle.std.proofs.lemmas.Bool.{and_parts, false≢true}
 use Rattle.std.proofs.lemmas.Bool.Decides.{nat_tests}
 use Rattle.std.proofs.lemmas.List.{length-drop, nil_from_length}
@@ -12,7 +12,7 @@ use Rattle.uart_spec.specs.Access.{Path}
 use Rattle.uart_spec.specs.Bits.{has_any}
 use Rattle.uart_spec.specs.declared.access.Access.{Access}
 use Rattle.uart_spec.specs.declared.access.Access.TheVariants.{Read, Write}
-use Rattle.uart_spec.specs.declared.baud.TheConstants.{FIFO_SIZE}
+use Rattle.uart_spec.specs.FifoSize.{characters}
 use Rattle.uart_spec.specs.declared.registers.interrupt_enable.TheConstants.IER
 use Rattle.uart_spec.specs.declared.registers.interrupt_type.InterruptType.{InterruptType}
 use Rattle.uart_spec.specs.declared.registers.interrupt_type.InterruptType.TheVariants as interrupts
@@ -25,6 +25,7 @@ use Rattle.uart_16550.specs.Receive.{Receives}
 use Rattle.uart_16550.specs.Transmit.{Sends}
 use Rattle.uart_chip.specs.Chip.{interrupt, is_thr_empty}
 use Rattle.uart_chip.specs.Conserved.{between}
+use Rattle.uart_chip.proofs.Sizes.{at_least_16}
 use Rattle.uart_chip.specs.Machine.{MachineState, MachineStep, at_access, after_access}
 use Rattle.uart_chip.proofs.conservation.BlockLaws.{path_as, path_split}
 use Rattle.uart_run.specs.Ready.{Ready}
@@ -144,7 +145,7 @@ none_sent bytes count s l none (inr (inl t)) = t.1
 none_sent bytes count s l none (inr (inr t)) = absurd (let some = t.0 in omega (arith, some, none))
 
 -- if no byte moved, none was sent
-unsent : (sent : ℕ) (f : RingFields) (s : Settings) (l : List Access) → Sends (take FIFO_SIZE (sendable f)) sent s l →
+unsent : (sent : ℕ) (f : RingFields) (s : Settings) (l : List Access) → Sends (sendable f) sent s l →
     Still f (without_sent sent f) → sent ≡ 0
 unsent sent f s l sends still = go sent f.urgent f.transmit.items refl refl refl
   where
@@ -158,9 +159,7 @@ unsent sent f s l sends still = go sent f.urgent f.transmit.items refl refl refl
     go (suc n) None [] is u t =
         let none : sendable f ≡ [] =
         (λ i. allowed f.stuck f.is_held (u i) (t i)) ∙ none_allowed f.stuck f.is_held in
-        let short : length (take FIFO_SIZE (sendable f)) ≡ 0 =
-        omega (arith, length-take FIFO_SIZE (sendable f), ap length none) in
-        none_sent (take FIFO_SIZE (sendable f)) sent s l short sends
+        none_sent (sendable f) sent s l (ap length none) sends
     go (suc n) None (x ∷ xs) is u t =
         let same : length (drop (sent - length (option_to_list f.urgent)) f.transmit.items) ≡ length f.transmit.items = still.transmit in
         let fewer = length-drop (sent - length (option_to_list f.urgent)) f.transmit.items in
@@ -187,7 +186,7 @@ pump_left f after l m n (sent, (t, same)) still o enabled path =
     let none = unsent sent f (settings_of f.driver) t.front t.first.0
     (record { transmit = there.transmit; urgent = there.urgent; receive = there.receive }) in
     let p = path_split MachineStep m n t.front t.back (subst (λ k. Path MachineStep m k n) t.whole path) in
-    let looks = unsent_looks (take FIFO_SIZE (sendable f)) (settings_of f.driver) t.front (rw none at t.first.0) in
+    let looks = unsent_looks (sendable f) (settings_of f.driver) t.front (rw none at t.first.0) in
     let first = looks_left t.front m p.0 looks o p.1 in
     let kept : has_any p.0.chip.latches.ier IER.THR_EMPTY.0 ≡ true =
     ap (λ (v : ℕ). has_any v IER.THR_EMPTY.0) (looks_keep t.front m p.0 looks p.1) ∙ enabled in
@@ -249,7 +248,7 @@ fills_left f after l m o n isr d (bytes, t) still room path =
     let p = path_split MachineStep o n t.front t.back (subst (λ k. Path MachineStep o k n) t.whole path) in
     by (rw none at t.first.0.0) mid none p.0 p.1 p.2
   where
-    by : Receives (min FIFO_SIZE (free f.receive)) [] (settings_of f.driver) t.front →
+    by : Receives (min (characters f.driver.size) (free f.receive)) [] (settings_of f.driver) t.front →
         t.mid ≡ with_driver t.mid.driver (with_received bytes f) → bytes ≡ [] → (q : MachineState) → Path MachineStep o t.front q →
         Path MachineStep q t.back n → Leaves m n 1
     by (inl (all, hits)) mid none q front back =
@@ -258,7 +257,8 @@ fills_left f after l m o n isr d (bytes, t) still room path =
         ap (λ (k : RingFields). length k.receive.items) mid ∙ (ap (λ xs. length (f.receive.items ++ xs)) none
         ∙ ap length (append-nil f.receive.items)) in
         let wide : t.mid.receive.capacity ≡ f.receive.capacity = ap (λ (k : RingFields). k.receive.capacity) mid in
-        let same : length t.mid.receive.items ≡ t.mid.receive.capacity = omega (arith, all, room, long, wide) in
+        let some = at_least_16 f.driver.size in
+        let same : length t.mid.receive.items ≡ t.mid.receive.capacity = omega (arith, all, room, long, wide, some) in
         let full : is_full t.mid.receive ≡ true = grind (arith, nat_tests) in
         full_left t.mid after t.back m o n isr d full t.second (subst (λ k. Path MachineStep k t.back n) at back)
     by (inr (fewer, miss)) mid none q front back =

@@ -37,6 +37,7 @@ without_notes s =
       backend = (ring_backend_of s).backend;
       config = s.uart.config;
       fifo_enabled = s.uart.fifo_enabled;
+      fifo_size = s.uart.fifo_size;
       saved_lsr = s.uart.saved_lsr;
       saved_msr = s.uart.saved_msr;
       spin_limit = s.uart.spin_limit;

@@ -48,7 +48,8 @@ ghost use Rattle.uart_ring_runs.specs.declared.call.RingAnswer.{RingAnswer};
 ghost use Rattle.uart_ring_runs.specs.declared.call.RingCall.{RingCall};
 ghost use Rattle.uart_ring_runs.specs.declared.call.RingCall.TheVariants.{Driver};
 ghost use Rattle.uart_run.specs.Chains.{NoneIs, calls_of};
-ghost use Rattle.uart_run.specs.Ready.{Ready};
+ghost use Rattle.uart_run.specs.Ready.{BurstsFit, Ready};
+ghost use Rattle.uart_run.specs.ReceivedErrors.{under_terminal};
 ghost use Rattle.uart_run.specs.Wired.{IsWired};
 ghost use Rattle.uart_spec.specs.Access.{Path};
 ghost use Rattle.uart_spec.specs.Bits.{has_any};
@@ -65,7 +66,9 @@ use uart_ring::{ErrorNotes, Uart16550Ring};
 
 /// If an `init` of this driver returns `Ok`, a session of ring calls may begin with the driver that
 /// it leaves, whatever the chip did before, also one with calls of `adjust_rts`. The driver may be
-/// put into rings then, or be in rings already, which may hold anything.
+/// put into rings then, or be in rings already, which may hold anything. It takes the FIFOs for no
+/// larger than they are, as each driver does that was told no size:
+/// [`smallest_size_fits`](uart_run::laws::smallest_size_fits).
 ///
 /// # Examples
 ///
@@ -77,6 +80,7 @@ use uart_ring::{ErrorNotes, Uart16550Ring};
 /// ```
 pub fn init_leaves_ready(uart: &Uart16550<Device16550>)
     ensures ready { (config : Config) (after : Uart16550 MachineState) (ring : RingState) →
+        BurstsFit (under_terminal uart.now) →
         Did MachineStep (Inits {T = Unit {0}} config (Ok tt)) uart.now after →
         driver_of ring ≡ after → Ready (under ring) }
     ensures wired { (config : Config) (after : Uart16550 MachineState) (ring : RingState) →
