@@ -171,7 +171,7 @@ EXAMPLES = {
     "uart_16550::driver::init::Uart16550::check_present": compiles(UART),
     "uart_16550::driver::init::Uart16550::init": compiles(UART),
     "uart_16550::driver::loopback::Uart16550::test_loopback": compiles(UART),
-    "uart_16550::driver::sizing::Uart16550::find_fifo_size": compiles(UART + ", bytes: &[u8]"),
+    "uart_16550::driver::sizing::Uart16550::find_fifo_size": compiles(UART),
     "uart_16550::driver::receive::Uart16550::ready_to_receive": compiles(UART),
     "uart_16550::driver::receive::Uart16550::try_receive_byte": compiles(UART, "Option<u8>", True),
     "uart_16550::driver::receive::Uart16550::receive_bytes": compiles(UART),
@@ -203,6 +203,7 @@ EXAMPLES = {
     "uart_16550::driver::transmit::Uart16550::ready_to_send": compiles(UART),
     "uart_16550::driver::transmit::Uart16550::send_bytes": compiles(UART + ", bytes: &[u8]"),
     "uart_16550::driver::burst::Uart16550::send_burst": compiles(UART + ", bytes: &[u8]"),
+    "uart_16550::driver::burst::Uart16550::send_gathered": compiles(UART + ", mut queue: std::collections::VecDeque<u8>"),
     "uart_16550::driver::transmit::Uart16550::try_send_byte": compiles(UART),
     "uart_16550::driver::transmit::Uart16550::send_bytes_exact": (
         INCLUDE
@@ -229,6 +230,8 @@ EXAMPLES = {
     "uart_16550::driver::Uart16550::backend_mut": compiles(UART),
     "uart_16550::driver::Uart16550::config": compiles(UART),
     "uart_16550::driver::Uart16550::fifo_enabled": compiles(UART),
+    "uart_16550::driver::Uart16550::fifo_size": compiles(UART),
+    "uart_16550::driver::Uart16550::set_fifo_size": compiles(UART + ", bytes: &[u8]"),
     "uart_16550::driver::Uart16550::spin_limit": compiles(UART, "bool", True),
     "uart_16550::driver::Uart16550::set_spin_limit": compiles(UART),
     "uart_spec::dump::ConfigRegisterDump::divisor": compiles("shown: &ConfigRegisterDump"),

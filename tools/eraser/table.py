@@ -137,6 +137,8 @@ uart_16550::driver::Uart16550::backend
 uart_16550::driver::Uart16550::backend_mut
 uart_16550::driver::Uart16550::config
 uart_16550::driver::Uart16550::fifo_enabled
+uart_16550::driver::Uart16550::fifo_size
+uart_16550::driver::Uart16550::set_fifo_size
 uart_16550::driver::Uart16550::spin_limit
 uart_16550::driver::Uart16550::set_spin_limit
 uart_spec::dump::ConfigRegisterDump::divisor
