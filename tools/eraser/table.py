@@ -314,6 +314,10 @@ GUARDS = {
         panics="If that is not a whole number, and if it cannot be computed: if the divisor or the frequency is 0, or the factor\n"
         "above 15.",
     ),
+    "uart_ring::queue::ByteQueue::front_slices": Guard(["requires { count ≤ length self.now.items }"], reason=INSIDE),
+    "uart_ring::queue::ByteQueue::receive_from": Guard(
+        ["requires { length self.old.items + slots ≤ self.old.capacity }"], reason=INSIDE
+    ),
     "uart_ring::queue::ByteQueue::drop_front": Guard(["requires { count ≤ length self.old.items }"], reason=INSIDE),
     "uart_ring::queue::ByteQueue::byte_at": Guard(["requires { place < length self.now.items }"], reason=INSIDE),
     "uart_ring::queue::cell_behind": Guard(
@@ -326,7 +330,6 @@ GUARDS = {
     "uart_ring::ring::noted::copy_with_errors": Guard(
         ["requires { length bytes.now.items ≤ length noted.now.items }"], reason=IN_FILE
     ),
-    "uart_ring::ring::transmit::Uart16550Ring::copy_sendable": Guard(["requires { 0 < length slots.old }"], reason=IN_FILE),
     "uart_ring::ring::transmit::Uart16550Ring::drop_queued": Guard(
         ["requires { count ≤ length self.old.transmit.items }"], reason=IN_FILE
     ),

@@ -88,7 +88,7 @@ NOT_REACHED = {
 }
 
 # Functions that read outside of an empty slice, as their contract allows.
-NOT_EMPTY = ["receive_some", "write_burst", "send_some", "copy_sendable"]
+NOT_EMPTY = ["receive_some", "write_burst", "send_some"]
 
 # When a call breaks what a guard of the eraser is for, as Rust code over the arguments a0, a1, .. of the function: Rust has to panic then,
 # and at no other time. By the path that the eraser gives.
