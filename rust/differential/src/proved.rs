@@ -30,6 +30,7 @@ struct Driver {
     fifo_enabled: u8,
     saved_lsr: u8,
     saved_msr: u8,
+    fifo_size: u16,
 }
 
 #[repr(C)]
@@ -331,5 +332,7 @@ fn driver_of(state: &DriverState) -> Driver {
         fifo_enabled: state.fifo_enabled.into(),
         saved_lsr: state.saved_lsr.bits(),
         saved_msr: state.saved_msr.bits(),
+        // At most 256.
+        fifo_size: state.fifo_size.characters() as u16,
     }
 }

@@ -13,7 +13,7 @@ use std::num::NonZeroU64;
 use std::panic::{AssertUnwindSafe, catch_unwind, set_hook};
 use std::process::ExitCode;
 use uart_16550::spec::registers::{LSR, MSR};
-use uart_16550::{DriverState, Uart16550, Uart16550Tty};
+use uart_16550::{DriverState, FifoSize, Uart16550, Uart16550Tty};
 
 /// A case makes at most so many calls, and a wait so many polls.
 const MOST_CALLS: usize = 8;
@@ -29,6 +29,17 @@ struct Totals {
     accesses: usize,
 }
 
+/// Returns a size of FIFOs.
+fn random_size(random: &mut Random) -> FifoSize {
+    match random.below(5) {
+        0 => FifoSize::Sixteen,
+        1 => FifoSize::ThirtyTwo,
+        2 => FifoSize::SixtyFour,
+        3 => FifoSize::OneHundredTwentyEight,
+        _ => FifoSize::TwoHundredFiftySix,
+    }
+}
+
 /// Returns the state of a driver: a new one, or any.
 fn random_state(random: &mut Random) -> DriverState {
     let spin_limit = NonZeroU64::MIN.saturating_add(random.below(MOST_POLLS) as u64);
@@ -39,6 +50,7 @@ fn random_state(random: &mut Random) -> DriverState {
     DriverState {
         config: random_config(random),
         fifo_enabled: random.is_among(128),
+        fifo_size: random_size(random),
         saved_lsr: LSR::from_bits_retain(random.byte()),
         saved_msr: MSR::from_bits_retain(random.byte()),
         spin_limit,
