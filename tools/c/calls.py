@@ -343,7 +343,7 @@ VALUES = [
     Value("uint8_t on", "uart_check_flag(on)", "on == 1"),
     Value("uint8_t characters", "uart_decode_fifo_trigger_level(characters, &level)", "level", "enum u16550_core_fifo_trigger_level level"),
     Value("uint8_t fifos", "uart_decode_fifo_action(fifos, &action)", "action", "enum uart_fifo_action action"),
-    Value("uint16_t fifo_size", "uart_decode_fifo_size(fifo_size, &size)", "size", "enum uart_fifo_size size"),
+    Value("uint16_t fifo_size", "uart_decode_fifo_size(fifo_size, &size)", "size", "enum u16550_core_fifo_size size"),
     Value("uint64_t limit", "uart_if(limit == 0, U16550_ZERO_LIMIT)", "limit"),
     Value("const uint8_t *urgent", "uart_decode_urgent(urgent, &urgent_byte)", "urgent_byte", "struct u16550_core_maybe_u8 urgent_byte"),
     Value("const uint8_t *first", "uart_array(first, first_len, 1, 1)", "first"),
