@@ -203,7 +203,7 @@ EXAMPLES = {
     "uart_16550::driver::transmit::Uart16550::ready_to_send": compiles(UART),
     "uart_16550::driver::transmit::Uart16550::send_bytes": compiles(UART + ", bytes: &[u8]"),
     "uart_16550::driver::burst::Uart16550::send_burst": compiles(UART + ", bytes: &[u8]"),
-    "uart_16550::driver::burst::Uart16550::send_gathered": compiles(UART + ", mut queue: std::collections::VecDeque<u8>"),
+    "uart_16550::driver::burst::Uart16550::send_gathered": compiles(UART + ", queue: &mut std::collections::VecDeque<u8>"),
     "uart_16550::driver::transmit::Uart16550::try_send_byte": compiles(UART),
     "uart_16550::driver::transmit::Uart16550::send_bytes_exact": (
         INCLUDE

@@ -314,16 +314,17 @@ GUARDS = {
         panics="If that is not a whole number, and if it cannot be computed: if the divisor or the frequency is 0, or the factor\n"
         "above 15.",
     ),
+    "uart_ring::queue::ByteQueue::drop_front": Guard(["requires { count ≤ length self.old.items }"], reason=INSIDE),
+    "uart_ring::queue::ByteQueue::byte_at": Guard(["requires { place < length self.now.items }"], reason=INSIDE),
     "uart_ring::queue::ByteQueue::front_slices": Guard(["requires { count ≤ length self.now.items }"], reason=INSIDE),
     "uart_ring::queue::ByteQueue::receive_from": Guard(
         ["requires { length self.old.items + slots ≤ self.old.capacity }"], reason=INSIDE
     ),
-    "uart_ring::queue::ByteQueue::drop_front": Guard(["requires { count ≤ length self.old.items }"], reason=INSIDE),
-    "uart_ring::queue::ByteQueue::byte_at": Guard(["requires { place < length self.now.items }"], reason=INSIDE),
     "uart_ring::queue::cell_behind": Guard(
         ["requires cell { cell ≤ cells }", "requires count { count ≤ cells }"], reason=IN_FILE
     ),
     "uart_ring::queue::copy": Guard(["requires { place ≤ length slots.old }"], reason=IN_FILE),
+    "uart_ring::queue::receive": Guard(["requires { place + slots ≤ length cells.old }"], reason=IN_FILE),
     "uart_ring::ring::noted::Uart16550Ring::drop_taken": Guard(
         ["requires { count ≤ length (ring_fields self.old).receive.items }"], reason=INSIDE
     ),

@@ -1,14 +1,9 @@
 -- Bursts of bytes that lie in parts.
-use Rattle.std.proofs.Common.{◌≡◌, ◌≤◌, ◌+◌, ◌-◌, ◌⊎◌, ℕ, zero, suc, List, [], ◌∷◌, ◌++◌, refl, sym, ◌∙◌, ap}
-use Rattle.std.proofs.Common.{arith, length, take, min, inl, inr, Option, Some, None, is_some, true, length-append, append-nil, subst, ◌<◌}
+use Rattle.std.proofs.Common.{◌≡◌, ◌≤◌, ◌<◌, ◌+◌, ◌-◌, ◌⊎◌, ℕ, zero, suc, true, List, [], ◌∷◌, ◌++◌, refl, ◌∙◌, ap, arith}
+use Rattle.std.proofs.Common.{length, take, min, inl, inr, Option, Some, None, is_some, length-append}
 use Rattle.std.proofs.lemmas.Bool.{cases_lt}
-use Rattle.std.proofs.lemmas.List.{take-append-le}
 use Rattle.std.specs.Prelude.{option_to_list}
-use Rattle.uart_spec.specs.FifoSize.{characters}
-use Rattle.uart_spec.specs.declared.access.Access.{Access}
-use Rattle.uart_16550.specs.Grammar.{Settings}
-use Rattle.uart_16550.specs.Transmit.{Sends, Burst, data_writes}
-use Rattle.uart_16550.proofs.Languages.{some_limit, limit_within}
+use Rattle.uart_16550.specs.Transmit.{data_writes}
 
 -- the writes of some bytes and then of others
 pub writes_append : (xs ys : List ℕ) → data_writes (xs ++ ys) ≡ data_writes xs ++ data_writes ys
@@ -63,20 +58,3 @@ gathered_size urgent xs ys n u f s is_u room is_f is_s =
 pub some_urgent : (urgent : Option ℕ) → is_some urgent ≡ true → 0 < length (option_to_list urgent)
 some_urgent None e = absurd (cc (e))
 some_urgent (Some byte) e = omega arith
-
--- a burst that is in the first part
-pub sends_of_first : (xs ys : List ℕ) (k : ℕ) (s : Settings) (l : List Access) → (ys ≡ []) ⊎ (characters s.size ≤ length xs) →
-    Sends xs k s l → Sends (xs ++ ys) k s l
-sends_of_first xs ys k s l (inl none) t =
-    let S : List ℕ → Type 0 = λ zs. Sends zs k s l in subst S (sym (ap (λ zs. xs ++ zs) none ∙ append-nil xs)) t
-sends_of_first xs ys k s l (inr long) (inl t) = absurd (omega (arith, long, t.0, some_limit s.fifo s.size, limit_within s.fifo s.size))
-sends_of_first xs ys k s l (inr long) (inr (inl t)) = inr (inl (omega (arith, t.0, length-append xs ys), t.1, t.2))
-sends_of_first xs ys k s l (inr long) (inr (inr t)) =
-    let full = limit_within s.fifo s.size in
-    let same : take k (xs ++ ys) ≡ take k xs = take-append-le k xs ys (omega (arith, t.1)) in
-    let B : List ℕ → Type 0 = λ zs. Burst zs s l in
-    inr (inr (
-      omega (arith, t.0, length-append xs ys),
-      omega (arith, t.1, long, full, length-append xs ys),
-      subst B (sym same) t.2,
-    ))

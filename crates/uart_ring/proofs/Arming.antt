@@ -10,7 +10,6 @@ use Rattle.uart_spec.specs.declared.access.Access.{Access}
 use Rattle.uart_spec.specs.declared.access.Access.TheVariants.{Read, Write}
 use Rattle.uart_spec.specs.Bits.{has, field}
 use Rattle.uart_spec.specs.Fields.{Identifies, interrupt_code}
-use Rattle.uart_spec.specs.declared.baud.TheConstants.{FIFO_SIZE}
 use Rattle.uart_spec.specs.declared.errors.ByteSendError.TheVariants.{NoCapacity, RemoteNotClearToSend}
 use Rattle.uart_spec.specs.declared.registers.interrupt_enable.TheConstants.IER
 use Rattle.uart_spec.specs.declared.registers.interrupt_type.InterruptType.{InterruptType}
@@ -23,7 +22,8 @@ use Rattle.uart_spec.specs.declared.registers.offsets.TheConstants as offsets
 use Rattle.uart_16550.specs.Grammar.{Settings, Asks, Then, InOrder}
 use Rattle.uart_16550.specs.Driver.{Fields, settings_of}
 use Rattle.uart_16550.specs.Receive.{Receives, Hit}
-use Rattle.uart_16550.specs.Transmit.{Sends, SendMiss, LinesAllow, Burst, burst_limit, burst_size, data_writes}
+use Rattle.uart_16550.specs.Transmit.{Sends, SendMiss, LinesAllow, Burst, burst_size, data_writes}
+use Rattle.uart_16550.proofs.Languages.{some_limit}
 use Rattle.uart_16550.specs.Status.{Enables}
 use Rattle.uart_ring.specs.Ring.{RingFields, OnDriver, Stays, RingNext, RingTimes, IfAny, with_queued, without_taken}
 use Rattle.uart_ring.specs.Ring.{unchanged, is_full, waiting, sendable, allowed, RingSets, with_urgent, with_hold, with_low_mark, with_low}
@@ -177,7 +177,7 @@ asks_miss s off l (RemoteNotClearToSend, t) = absurd (rw off at t)
 burst_due : (known : ThrEmpty) (s : Settings) (bytes : List ℕ) (sent : ℕ) (l : List Access) → 0 < length bytes → sent ≡ burst_size s bytes →
     Burst (take sent bytes) s l → (known_after_all known l).due ≡ true
 burst_due known s bytes sent l any size t =
-    let one : 0 < burst_limit s.fifo = elim s.fifo as (λ b. 0 < burst_limit b) [ true ↦ omega arith | false ↦ omega arith ] in
+    let one = some_limit s.fifo s.size in
     let written : 0 < length (take sent bytes) = omega (arith, any, size, one, length-take sent bytes) in
     rw (t.whole, t.second.is, after-append known t.front (data_writes (take sent bytes)))
     (writes_due (known_after_all known t.front) (take sent bytes) (inr written))
@@ -264,7 +264,7 @@ leaves_others f l after items others = leaves_live f l after items (λ known kee
 
 -- a pump whose send leaves the interrupt due arms, or else this holds
 pumped_arms : (H : Type 0) (f : RingFields) (l : List Access) (after : RingFields) (p : Pumps f l after) (known : ThrEmpty) →
-    (0 < length (take FIFO_SIZE (sendable f)) → ((known_after_all known p.1.0.front).due ≡ true) ⊎ H) →
+    (0 < length (sendable f) → ((known_after_all known p.1.0.front).due ≡ true) ⊎ H) →
     IsArmed (known_after_all known l) after ⊎ H
 pumped_arms H f l after (sent, (t, same)) known due = go (sendable (without_sent sent f)) refl t.second
   where
@@ -282,12 +282,7 @@ pumped_arms H f l after (sent, (t, same)) known due = go (sendable (without_sent
     go [] e arms = inl (inl (left ∙ e))
     go (byte ∷ bytes) e arms =
         let long : 0 < length (sendable (without_sent sent f)) = rw e (omega arith) in
-        let some : 0 < length (take FIFO_SIZE (sendable f)) = omega (
-          arith,
-          long,
-          fewer_sendable f sent,
-          length-take FIFO_SIZE (sendable f),
-        ) in
+        let some : 0 < length (sendable f) = omega (arith, long, fewer_sendable f sent) in
         enabled byte bytes arms (due some)
 
 surely : {T : Type 0} → T ⊎ ⊥ → T
@@ -297,14 +292,14 @@ surely (inr none) = absurd none
 -- a pump arms
 pub pumps_arm : Implies Pumps Arms
 pumps_arm f l after p = λ off known. surely (pumped_arms ⊥ f l after p known
-    (λ some. inl (sent_due known (settings_of f.driver) (take FIFO_SIZE (sendable f)) p.0 p.1.0.front off p.1.0.first.0 some)))
+    (λ some. inl (sent_due known (settings_of f.driver) (sendable f) p.0 p.1.0.front off p.1.0.first.0 some)))
 
 -- also with CTS checking, unless CTS is clear
 pumps_arm_unless_held : Implies Pumps ArmsUnlessHeld
 pumps_arm_unless_held f l after p = λ known.
     let t = p.1.0 in
     pumped_arms (ShowsCtsClear l) f l after p known (λ some. in_whole t.front t.back l t.whole
-    (sent_or_held known (settings_of f.driver) (take FIFO_SIZE (sendable f)) p.0 t.front t.first.0 some))
+    (sent_or_held known (settings_of f.driver) (sendable f) p.0 t.front t.first.0 some))
   where
     in_whole : {T : Type 0} → (front back whole : List Access) → whole ≡ front ++ back → T ⊎ ShowsCtsClear front → T ⊎ ShowsCtsClear whole
     in_whole front back whole is (inl h) = inl h

@@ -1,10 +1,13 @@
 -- That ring calls make few accesses.
-use Rattle.std.proofs.Common.{◌≡◌, ◌≤◌, ◌+◌, ◌-◌, ◌*◌, ℕ, zero, suc, Bool, true, false, min, MatchBool, List, [], ◌∷◌, ◌++◌, length, take}
-use Rattle.std.proofs.Common.{length-append, length-take, refl, arith, ap, inl, inr, nat_lt, Option, Some, None, Result}
+use Rattle.std.proofs.Common.{◌≡◌, ◌<◌, ◌≤◌, ◌+◌, ◌-◌, ◌*◌, ℕ, zero, suc, Bool, true, false, min, MatchBool, List, [], ◌∷◌, ◌++◌}
+use Rattle.std.proofs.Common.{length, take, length-append, length-take, refl, arith, ap, subst, inl, inr, nat_lt, Option, Some, None}
+use Rattle.std.proofs.Common.{Result}
 use Rattle.std.specs.Prelude.{MatchOption}
 use Rattle.uart_spec.specs.declared.access.Access.{Access}
 use Rattle.uart_spec.specs.declared.access.Access.TheVariants.{Write}
-use Rattle.uart_spec.specs.declared.baud.TheConstants.{FIFO_SIZE}
+use Rattle.uart_spec.specs.FifoSize.{characters}
+use Rattle.uart_spec.specs.declared.setup.FifoSize.{FifoSize}
+use Rattle.uart_spec.specs.declared.setup.FifoSize.TheVariants.{Sixteen}
 use Rattle.uart_spec.specs.declared.errors.ByteSendError.TheVariants.{NoCapacity, RemoteNotClearToSend}
 use Rattle.uart_spec.specs.declared.registers.interrupt_enable.TheConstants.IER
 use Rattle.uart_spec.specs.declared.registers.interrupt_type.InterruptType.{InterruptType}
@@ -18,7 +21,7 @@ use Rattle.uart_16550.specs.Grammar.{Settings, Then, Asks, InOrder}
 use Rattle.uart_16550.specs.Driver.{Fields, settings_of}
 use Rattle.uart_16550.specs.Receive.{Receives, Hit}
 use Rattle.uart_16550.specs.Transmit.{Sends, SendHit, SendMiss, LinesAllow, data_writes}
-use Rattle.uart_ring.specs.Ring.{RingTimes, IfAny, with_queued, without_taken}
+use Rattle.uart_ring.specs.Ring.{RingFields, RingTimes, IfAny, with_queued, without_taken}
 use Rattle.uart_ring.specs.Ring.{free, is_full, waiting, sendable, without_sent, with_hold, with_urgent, with_rounds, RingSets}
 use Rattle.uart_ring.specs.Transmit.{ArmsIfLeft, Pumps, Queues, ResumesTransmit, Holds, Releases, QueuesUrgent, ClearsTransmit}
 use Rattle.uart_ring.specs.Transmit.{SetsLowMark, TakesLow}
@@ -41,11 +44,22 @@ use Rattle.uart_ring.specs.declared.ring.service.HandleEnd.{HandleEnd}
 use Rattle.uart_ring.specs.declared.ring.service.HandleEnd.TheVariants.{Idle, Unknown, Limit}
 use Rattle.uart_ring.specs.declared.ring.service.Handled.{Handled}
 use Rattle.uart_ring.specs.Lossless.{Implies}
+use Rattle.uart_16550.proofs.Languages.{at_least_sixteen, limit_within}
+use Rattle.uart_ring.proofs.Losses.{Carries, shows_carry, serves_one_carries, times_carry, enables_carry}
 use Rattle.uart_ring.proofs.Pausing.{ChangesIer, Pausing, joined_with, rid_of}
-use Rattle.uart_ring.specs.Bounded.{MakesAtMost, most_of_change, most_of_pump, most_of_receiving, most_of_service, most_of_dump}
+use Rattle.uart_ring.specs.Bounded.{MakesAtMost, MakesAtMostBySize}
+use Rattle.uart_ring.specs.Bounded.{most_of_change, most_of_pump, most_of_receiving, most_of_service, most_of_dump}
 use Rattle.uart_ring.specs.Bounded.{most_of_retrigger, most_of_handle, most_of_try_handle, most_of_restart, most_of_adjust}
 use Rattle.uart_spec.specs.declared.dump.ConfigRegisterDump.{ConfigRegisterDump}
 use Rattle.uart_16550.specs.Status.{Dumps}
+
+-- what was done to the rings leaves the size of the FIFOs
+size_kept : (f mid : RingFields) (l : List Access) → Carries f l mid → mid.driver.size ≡ f.driver.size
+size_kept f mid l c = ap (λ (s : Settings). s.size) c.settings
+
+-- so many by one size are as many by the same
+at_size : {size other : FifoSize} (most : FifoSize → ℕ) (l : List Access) → other ≡ size → length l ≤ most other → length l ≤ most size
+at_size most l same few = let L : FifoSize → Type 0 = λ x. length l ≤ most x in subst L same few
 
 -- two lists in turn
 pub both : (l m k : List Access) (x y : ℕ) → l ≡ m ++ k → length m ≤ x → length k ≤ y → length l ≤ x + y
@@ -80,19 +94,19 @@ writes_size : (bytes : List ℕ) → length (data_writes bytes) ≡ length bytes
 writes_size [] = refl
 writes_size (byte ∷ bytes) = ap suc (writes_size bytes)
 
-sends_size : (bytes : List ℕ) (sent : ℕ) (s : Settings) (l : List Access) → length bytes ≤ FIFO_SIZE → Sends bytes sent s l →
-    length l ≤ 3 + FIFO_SIZE
-sends_size bytes sent s l few (inl t) = omega (arith, ap length t.2)
-sends_size bytes sent s l few (inr (inl t)) = omega (arith, miss_size s l t.2)
-sends_size bytes sent s l few (inr (inr t)) =
-    let written : length t.2.back ≤ FIFO_SIZE = omega (
+sends_size : (bytes : List ℕ) (sent : ℕ) (s : Settings) (l : List Access) → Sends bytes sent s l → length l ≤ 3 + characters s.size
+sends_size bytes sent s l (inl t) = omega (arith, ap length t.2)
+sends_size bytes sent s l (inr (inl t)) = omega (arith, miss_size s l t.2)
+sends_size bytes sent s l (inr (inr t)) =
+    let written : length t.2.back ≤ characters s.size = omega (
       arith,
-      few,
+      t.1,
+      limit_within s.fifo s.size,
       ap length t.2.second.is,
       writes_size (take sent bytes),
       length-take sent bytes,
     ) in
-    both l t.2.front t.2.back 3 FIFO_SIZE t.2.whole (hit_size s t.2.front t.2.first) written
+    both l t.2.front t.2.back 3 (characters s.size) t.2.whole (hit_size s t.2.front t.2.first) written
 
 hits_size : (bytes : List ℕ) (s : Settings) (l : List Access) → InOrder Hit bytes s l → length l ≡ 2 * length bytes
 hits_size [] s l t = ap length t.is
@@ -106,13 +120,11 @@ hits_size (byte ∷ bytes) s l t =
     ) in
     omega (arith, ap length t.whole, length-append t.front t.back, one, hits_size bytes s t.back t.second)
 
-receives_size : (room : ℕ) (bytes : List ℕ) (s : Settings) (l : List Access) → room ≤ FIFO_SIZE → Receives room bytes s l →
-    length l ≤ 2 * FIFO_SIZE
-receives_size room bytes s l few (inl (all, t)) = omega (arith, few, all, hits_size bytes s l t)
-receives_size room bytes s l few (inr (fewer, t)) =
+receives_size : (room : ℕ) (bytes : List ℕ) (s : Settings) (l : List Access) → Receives room bytes s l → length l ≤ 2 * room
+receives_size room bytes s l (inl (all, t)) = omega (arith, all, hits_size bytes s l t)
+receives_size room bytes s l (inr (fewer, t)) =
     omega (
       arith,
-      few,
       fewer,
       ap length t.whole,
       length-append t.front t.back,
@@ -129,11 +141,10 @@ arms_size (byte ∷ bytes) f l after t = changes_size (joined_with IER.THR_EMPTY
 
 -- ---- each piece
 
-pumps_size : Implies Pumps (MakesAtMost most_of_pump)
+pumps_size : Implies Pumps (MakesAtMostBySize most_of_pump)
 pumps_size f l after (sent, (t, same)) =
-    let burst = take FIFO_SIZE (sendable f) in
-    let few : length burst ≤ FIFO_SIZE = omega (arith, length-take FIFO_SIZE (sendable f)) in
-    both l t.front t.back (3 + FIFO_SIZE) most_of_change t.whole (sends_size burst sent (settings_of f.driver) t.front few t.first.0)
+    both l t.front t.back (3 + characters f.driver.size) most_of_change t.whole
+    (sends_size (sendable f) sent (settings_of f.driver) t.front t.first.0)
     (arms_size (sendable (without_sent sent f)) t.mid t.back after.driver t.second)
 
 pausing_size : (change : ℕ → ℕ) (paused when : Bool) → Implies (Pausing change paused when) (MakesAtMost most_of_change)
@@ -146,63 +157,89 @@ pauses_size f l after t = pausing_size (rid_of IER.DATA_READY.0) true (is_full f
 ends_pause_size : Implies EndsPause (MakesAtMost most_of_change)
 ends_pause_size f l after t = pausing_size (joined_with IER.DATA_READY.0) false f.is_paused f l after t
 
-fills_size : Implies FillsReceiveRing (MakesAtMost most_of_receiving)
+fills_size : Implies FillsReceiveRing (MakesAtMostBySize most_of_receiving)
 fills_size f l after (bytes, t) =
-    let room = min FIFO_SIZE (free f.receive) in
-    let few : room ≤ FIFO_SIZE = omega arith in
-    both l t.front t.back (2 * FIFO_SIZE) most_of_change t.whole (receives_size room bytes (settings_of f.driver) t.front few t.first.0.0)
-    (pauses_size t.mid t.back after t.second)
+    let size = characters f.driver.size in
+    let most : length t.front ≤ 2 * size = omega (
+      arith,
+      receives_size (min size (free f.receive)) bytes (settings_of f.driver) t.front t.first.0.0,
+    ) in
+    both l t.front t.back (2 * size) most_of_change t.whole most (pauses_size t.mid t.back after t.second)
 
-serves_size : (interrupt : InterruptType) → Implies (ServesInterrupt interrupt) (MakesAtMost most_of_receiving)
+serves_size : (interrupt : InterruptType) → Implies (ServesInterrupt interrupt) (MakesAtMostBySize most_of_receiving)
 serves_size ReceiverLineStatus f l after (status, ((read, is, shown, changed), same)) = omega (arith, ap length is)
 serves_size ReceivedDataReady f l after t = fills_size f l after t
 serves_size ReceptionTimeout f l after t = fills_size f l after t
-serves_size TransmitterHoldingRegisterEmpty f l after t = omega (arith, pumps_size f l after t)
+serves_size TransmitterHoldingRegisterEmpty f l after t = omega (arith, pumps_size f l after t, at_least_sixteen f.driver.size)
 serves_size ModemStatus f l after (status, ((read, is, shown, changed), same)) = omega (arith, ap length is)
 serves_size DmaReceptionEndOfTransfer f l after t = omega (arith, ap length t.0)
 serves_size DmaTransmissionEndOfTransfer f l after t = omega (arith, ap length t.0)
 
-serves_one_size : Implies ServesOne (MakesAtMost (1 + most_of_receiving))
+serves_one_size : Implies ServesOne (MakesAtMostBySize (λ size. 1 + most_of_receiving size))
 serves_one_size f l after (interrupt, t) =
     let read : length t.front ≤ 1 = omega (arith, ap length t.first.0.2.0.is) in
-    both l t.front t.back 1 most_of_receiving t.whole read (serves_size interrupt t.mid t.back after t.second)
+    let same = size_kept f t.mid t.front (shows_carry (Some interrupt) f t.front t.mid t.first) in
+    both l t.front t.back 1 (most_of_receiving f.driver.size) t.whole read
+    (at_size most_of_receiving t.back same (serves_size interrupt t.mid t.back after t.second))
 
-times_size : (n : ℕ) → Implies (RingTimes n ServesOne) (MakesAtMost (n * (1 + most_of_receiving)))
+-- one interrupt more, and those that are left up to the limit
+one_more : (size : FifoSize) (n : ℕ) →
+    suc n * (1 + most_of_receiving size) ≡ (1 + most_of_receiving size) + n * (1 + most_of_receiving size)
+one_more Sixteen n = omega arith
+one_more _ n = omega arith
+
+up_to : (size : FifoSize) (limit served : ℕ) → served ≤ limit →
+    served * (1 + most_of_receiving size) + (limit - served) * (1 + most_of_receiving size) ≡ limit * (1 + most_of_receiving size)
+up_to Sixteen limit served few = omega (arith, few)
+up_to _ limit served few = omega (arith, few)
+
+one_left : (size : FifoSize) (limit served : ℕ) → served < limit → 1 ≤ (limit - served) * (1 + most_of_receiving size)
+one_left Sixteen limit served few = omega (arith, few)
+one_left _ limit served few = omega (arith, few)
+
+times_size : (n : ℕ) → Implies (RingTimes n ServesOne) (MakesAtMostBySize (λ size. n * (1 + most_of_receiving size)))
 times_size zero f l after t = omega (arith, ap length t.0)
 times_size (suc n) f l after t =
+    let same = size_kept f t.mid t.front (serves_one_carries f t.front t.mid t.first) in
     omega (
       arith,
+      one_more f.driver.size n,
       ap length t.whole,
       length-append t.front t.back,
       serves_one_size f t.front t.mid t.first,
-      times_size n t.mid t.back after t.second,
+      at_size (λ size. n * (1 + most_of_receiving size)) t.back same (times_size n t.mid t.back after t.second),
     )
 
 -- ---- each call
 
 -- the last read of ISR is of an interrupt that was not served
 stops_size : (limit served : ℕ) (end : HandleEnd) → IsWithin limit served end →
-    Implies (Stops end) (MakesAtMost ((limit - served) * (1 + most_of_receiving)))
-stops_size limit served Idle within f l after ((isr, shown, idle, t), same) = omega (arith, within, ap length t.0.is)
-stops_size limit served Unknown within f l after ((isr, shown, idle, t), same) = omega (arith, within, ap length t.0.is)
-stops_size limit served Limit within f l after t = omega (arith, within, ap length t.0)
+    Implies (Stops end) (MakesAtMostBySize (λ size. (limit - served) * (1 + most_of_receiving size)))
+stops_size limit served Idle within f l after ((isr, shown, idle, t), same) =
+    omega (arith, one_left f.driver.size limit served within, ap length t.0.is)
+stops_size limit served Unknown within f l after ((isr, shown, idle, t), same) =
+    omega (arith, one_left f.driver.size limit served within, ap length t.0.is)
+stops_size limit served Limit within f l after t = omega (arith, ap length t.0)
 
 within_limit : (limit served : ℕ) (end : HandleEnd) → IsWithin limit served end → served ≤ limit
 within_limit limit served Idle within = omega (arith, within)
 within_limit limit served _ within = omega (arith, within)
 
-serves_up_to_size : (limit : ℕ) (handled : Handled) → Implies (ServesUpTo limit handled) (MakesAtMost (limit * (1 + most_of_receiving)))
+serves_up_to_size : (limit : ℕ) (handled : Handled) →
+    Implies (ServesUpTo limit handled) (MakesAtMostBySize (λ size. limit * (1 + most_of_receiving size)))
 serves_up_to_size limit handled f l after (within, t) =
+    let same = size_kept f t.mid t.front (times_carry handled.served f t.front t.mid t.first) in
     omega (
       arith,
-      within_limit limit handled.served handled.end within,
+      up_to f.driver.size limit handled.served (within_limit limit handled.served handled.end within),
       ap length t.whole,
       length-append t.front t.back,
       times_size handled.served f t.front t.mid t.first,
-      stops_size limit handled.served handled.end within t.mid t.back after t.second,
+      at_size (λ size. (limit - handled.served) * (1 + most_of_receiving size)) t.back same
+          (stops_size limit handled.served handled.end within t.mid t.back after t.second),
     )
 
-pub services_size : (count : ℕ) → Implies (Services count) (MakesAtMost most_of_service)
+pub services_size : (count : ℕ) → Implies (Services count) (MakesAtMostBySize most_of_service)
 services_size count f l after (end, t) = serves_up_to_size MAX_INTERRUPTS (record { served = count; end = end }) f l after t
 
 pub retriggers_size : Implies Retriggers (MakesAtMost most_of_retrigger)
@@ -213,26 +250,26 @@ unless_idle_size Idle f l after t = omega (arith, ap length t.0)
 unless_idle_size Unknown f l after t = retriggers_size f l after t
 unless_idle_size Limit f l after t = retriggers_size f l after t
 
-pub handles_size : (limit : ℕ) (handled : Handled) → Implies (Handles limit handled) (MakesAtMost (most_of_handle limit))
+pub handles_size : (limit : ℕ) (handled : Handled) → Implies (Handles limit handled) (MakesAtMostBySize (most_of_handle limit))
 handles_size limit handled f l after t =
-    both l t.front t.back (limit * (1 + most_of_receiving)) most_of_retrigger t.whole
+    both l t.front t.back (limit * (1 + most_of_receiving f.driver.size)) most_of_retrigger t.whole
     (serves_up_to_size limit handled f t.front t.mid t.first)
     (unless_idle_size handled.end t.mid t.back after t.second)
 
-any_pumps_size : (count : ℕ) → Implies (IfAny count Pumps) (MakesAtMost most_of_pump)
+any_pumps_size : (count : ℕ) → Implies (IfAny count Pumps) (MakesAtMostBySize most_of_pump)
 any_pumps_size zero f l after t = omega (arith, ap length t.0)
 any_pumps_size (suc n) f l after t = pumps_size f l after t
 
-pub queues_size : (bytes : List ℕ) (count : ℕ) → Implies (Queues bytes count) (MakesAtMost most_of_pump)
+pub queues_size : (bytes : List ℕ) (count : ℕ) → Implies (Queues bytes count) (MakesAtMostBySize most_of_pump)
 queues_size bytes count f l after (is, t) = any_pumps_size count (with_queued (take count bytes) f) l after t
 
-pub resumes_size : Implies ResumesTransmit (MakesAtMost most_of_pump)
+pub resumes_size : Implies ResumesTransmit (MakesAtMostBySize most_of_pump)
 resumes_size f l after t = any_pumps_size (length (waiting f)) f l after t
 
-pub releases_size : Implies Releases (MakesAtMost most_of_pump)
+pub releases_size : Implies Releases (MakesAtMostBySize most_of_pump)
 releases_size f l after t = resumes_size (with_hold false f) l after t
 
-pub queues_urgent_size : (byte : ℕ) (replaced : Option ℕ) → Implies (QueuesUrgent byte replaced) (MakesAtMost most_of_pump)
+pub queues_urgent_size : (byte : ℕ) (replaced : Option ℕ) → Implies (QueuesUrgent byte replaced) (MakesAtMostBySize most_of_pump)
 queues_urgent_size byte replaced f l after t = pumps_size (with_urgent (Some byte) f) l after t.1
 
 pub holds_size : Implies Holds (MakesAtMost 0)
@@ -301,26 +338,29 @@ counts_size rounds Unknown found f l after t = counts_unfinished_size rounds fou
 counts_size rounds Limit found f l after t = counts_unfinished_size rounds found f l after t
 
 pub tries_size : (limit rounds : ℕ) (result : Result Handled StuckError) →
-    Implies (TriesToHandle limit rounds result) (MakesAtMost (most_of_try_handle limit))
+    Implies (TriesToHandle limit rounds result) (MakesAtMostBySize (most_of_try_handle limit))
 tries_size limit rounds result f l after t = go f.stuck t
   where
     go : (was : Option StuckError) → MatchOption was (HandlesRound limit rounds result f l after)
-        (λ error. StaysStuck result error f l after) → length l ≤ most_of_try_handle limit
+        (λ error. StaysStuck result error f l after) → length l ≤ most_of_try_handle limit f.driver.size
     go None (handled, found, is, t) =
-        both l t.front t.back (most_of_handle limit) (1 + most_of_change) t.whole (handles_size limit handled f t.front t.mid t.first)
+        both l t.front t.back (most_of_handle limit f.driver.size) (1 + most_of_change) t.whole
+        (handles_size limit handled f t.front t.mid t.first)
         (counts_size rounds (counts_as (has_moved f t.mid) handled.end) found t.mid t.back after t.second)
     go (Some error) t = omega (arith, changes_size (rid_of every_bit) f.driver l after.driver t.1.0)
 
 dumped_size : (dump : ConfigRegisterDump) (f : Fields) (l : List Access) (after : Fields) → Dumps dump f l after → length l ≤ 12
 dumped_size dump f l after d = rw d.is (omega arith)
 
-pub dumps_registers_size : (dump : ConfigRegisterDump) → Implies (DumpsRegisters dump) (MakesAtMost most_of_dump)
+pub dumps_registers_size : (dump : ConfigRegisterDump) → Implies (DumpsRegisters dump) (MakesAtMostBySize most_of_dump)
 dumps_registers_size dump f l after t =
-    both l t.front t.back 12 most_of_pump t.whole (dumped_size dump f.driver t.front t.mid.driver t.first.0)
-    (resumes_size t.mid t.back after t.second)
+    let same = ap (λ (g : Fields). g.size) t.first.0.keeps in
+    both l t.front t.back 12 (most_of_pump f.driver.size) t.whole (dumped_size dump f.driver t.front t.mid.driver t.first.0)
+    (at_size most_of_pump t.back same (resumes_size t.mid t.back after t.second))
 
-pub restarts_size : (bits : ℕ) → Implies (Restarts bits) (MakesAtMost most_of_restart)
+pub restarts_size : (bits : ℕ) → Implies (Restarts bits) (MakesAtMostBySize most_of_restart)
 restarts_size bits f l after t =
-    both l t.front t.back most_of_change most_of_pump t.whole
+    let same = size_kept f t.mid t.front (enables_carry (not_paused f.is_paused bits) f t.front t.mid t.first) in
+    both l t.front t.back most_of_change (most_of_pump f.driver.size) t.whole
     (changes_size (joined_with (not_paused f.is_paused bits)) f.driver t.front t.mid.driver t.first.0)
-    (resumes_size t.mid t.back after t.second)
+    (at_size most_of_pump t.back same (resumes_size t.mid t.back after t.second))

@@ -9,7 +9,7 @@ use Rattle.uart_spec.specs.declared.access.Access.{Access}
 use Rattle.uart_spec.specs.declared.access.Access.TheVariants.{Read, Write}
 use Rattle.uart_spec.specs.Bits.{IsOnlyIfAny}
 use Rattle.uart_spec.specs.Fields.{Identifies}
-use Rattle.uart_spec.specs.declared.baud.TheConstants.{FIFO_SIZE}
+use Rattle.uart_spec.specs.FifoSize.{characters}
 use Rattle.uart_spec.specs.declared.registers.interrupt_enable.TheConstants.IER
 use Rattle.uart_spec.specs.declared.registers.interrupt_type.InterruptType.{InterruptType}
 use Rattle.uart_spec.specs.declared.registers.interrupt_type.InterruptType.TheVariants.{ReceiverLineStatus, ReceivedDataReady}
@@ -122,11 +122,11 @@ pumps_same f = record {
 }
   where
     sends : (j k : ℕ) → Does (j ≡ k) f.driver
-        (Next (Saving (Sends (take FIFO_SIZE (sendable f)) j)) (ArmsIfLeft (sendable (without_sent j f))))
-        (Next (Saving (Sends (take FIFO_SIZE (sendable f)) k)) (ArmsIfLeft (sendable (without_sent k f))))
+        (Next (Saving (Sends (sendable f) j)) (ArmsIfLeft (sendable (without_sent j f))))
+        (Next (Saving (Sends (sendable f) k)) (ArmsIfLeft (sendable (without_sent k f))))
     sends j k =
-        does_next (does_saving f.driver (Sends (take FIFO_SIZE (sendable f)) j) (Sends (take FIFO_SIZE (sendable f)) k)
-        (sends_determined (settings_of f.driver) (take FIFO_SIZE (sendable f)) j k))
+        does_next (does_saving f.driver (Sends (sendable f) j) (Sends (sendable f) k)
+        (sends_determined (settings_of f.driver) (sendable f) j k))
         (λ e mid. does_so (λ t. e) (arms_alike (sendable (without_sent j f)) (sendable (without_sent k f))
         (ap (λ n. sendable (without_sent n f)) e) mid))
 
@@ -146,13 +146,15 @@ ends_pause_same f = let same = does_so (λ r. tt) (enables_determined IER.DATA_R
 fills_same : (f : RingFields) → RingDoes (Unit {0}) f FillsReceiveRing FillsReceiveRing
 fills_same f = record { at = λ l m a b p q. (both p.0 q.0).at l m a b p.1 q.1 }
   where
-    both : (xs ys : List ℕ) → RingDoes (Unit {0}) f (RingNext (OnDriver (Saving (Receives (min FIFO_SIZE (free f.receive)) xs))
-        (with_received xs)) PausesIfFull)
-        (RingNext (OnDriver (Saving (Receives (min FIFO_SIZE (free f.receive)) ys)) (with_received ys)) PausesIfFull)
+    room : ℕ
+    room = min (characters f.driver.size) (free f.receive)
+
+    both : (xs ys : List ℕ) → RingDoes (Unit {0}) f
+        (RingNext (OnDriver (Saving (Receives (min (characters f.driver.size) (free f.receive)) xs)) (with_received xs)) PausesIfFull)
+        (RingNext (OnDriver (Saving (Receives (min (characters f.driver.size) (free f.receive)) ys)) (with_received ys)) PausesIfFull)
     both xs ys =
         ring_next (on_driver {f = f} (with_received xs) (with_received ys)
-        (does_saving f.driver (Receives (min FIFO_SIZE (free f.receive)) xs) (Receives (min FIFO_SIZE (free f.receive)) ys)
-        (receives_determined (settings_of f.driver) (min FIFO_SIZE (free f.receive)) xs ys))
+        (does_saving f.driver (Receives room xs) (Receives room ys) (receives_determined (settings_of f.driver) room xs ys))
         (λ e. ap (λ zs. with_received zs f) e)) (λ e mid. pauses_same mid)
 
 -- a status is taken, and noted so

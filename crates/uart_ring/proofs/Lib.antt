@@ -1,6 +1,7 @@
 pub mod Queues
 pub mod Sending
 pub mod RingDoings
+pub mod Receiving
 pub mod Transfers
 pub mod RegisterBits
 pub mod Pausing

@@ -22,7 +22,7 @@ use Rattle.uart_ring.specs.Ring.{RingFields, OnDriver, Stays, RingNext, sendable
 use Rattle.uart_ring.specs.Storm.{every_bit, TurnsOff, TriesToHandle, EndsWith, LeavesOff}
 use Rattle.uart_ring.specs.Lossless.{Implies, LosesNothing}
 use Rattle.uart_ring.specs.Armed.{ThrEmpty, KeepsIer, LeavesArmed, known_after_all}
-use Rattle.uart_ring.specs.Bounded.{MakesAtMost, most_of_change, most_of_try_handle}
+use Rattle.uart_ring.specs.Bounded.{MakesAtMost, MakesAtMostBySize, most_of_change, most_of_try_handle}
 use Rattle.uart_ring.specs.Choice.{LeavesNoRingChoice}
 use Rattle.uart_ring.specs.Line.{ShowsEnabled, LowersLine, RaisesLine, most_of_lower}
 use Rattle.uart_ring.specs.Line.{AtPort, EachGoes, InTurn, IsSame, ServesInTurn}
@@ -162,11 +162,12 @@ port_leaves_off limit rounds lowered error is f l after t =
 
 -- ---- how many accesses
 
-pub lowers_size : (limit rounds : ℕ) (lowered : Lowered) → Implies (LowersLine limit rounds lowered) (MakesAtMost (most_of_lower limit))
+pub lowers_size : (limit rounds : ℕ) (lowered : Lowered) →
+    Implies (LowersLine limit rounds lowered) (MakesAtMostBySize (most_of_lower limit))
 lowers_size limit rounds lowered f l after t =
     let u = t.second in
     let read : length u.front ≤ 1 = omega (arith, ap length u.first.0.0.is) in
-    both l t.front t.back (most_of_try_handle limit) (1 + most_of_change) t.whole
+    both l t.front t.back (most_of_try_handle limit f.driver.size) (1 + most_of_change) t.whole
     (tries_size limit rounds lowered.handled f t.front t.mid t.first)
     (both t.back u.front u.back 1 most_of_change u.whole read (changes_size (rid_of every_bit) u.mid.driver u.back after.driver u.second.0))
 

@@ -3,13 +3,12 @@ use Rattle.std.proofs.Common.{◌≡◌, ◌≤◌, ◌==◌, ℕ, zero, suc, Bo
 use Rattle.std.proofs.Common.{drop, append_assoc, append-nil, take-append-drop, length-take, refl, arith, sym, ◌∙◌, ap, inl, inr}
 use Rattle.std.proofs.Common.{Option, Some, None, Result, bit_and, bit_or, nat_lt}
 use Rattle.std.specs.Prelude.{MatchOption}
-use Rattle.std.proofs.lemmas.List.{take-take, drop_min, drop_all}
+use Rattle.std.proofs.lemmas.List.{drop_min, drop_all}
 use Rattle.std.specs.Prelude.{option_to_list}
 use lib.Bits.{or_zero_r}
 use Rattle.uart_spec.specs.Access.{saved_lsr, saved_msr}
 use Rattle.uart_spec.specs.declared.access.Access.{Access}
 use Rattle.uart_spec.specs.declared.access.Access.TheVariants.{Read, Write}
-use Rattle.uart_spec.specs.declared.baud.TheConstants.{FIFO_SIZE}
 use Rattle.uart_spec.specs.declared.errors.ByteSendError.TheVariants.{NoCapacity, RemoteNotClearToSend}
 use Rattle.uart_spec.specs.declared.registers.interrupt_enable.TheConstants.IER
 use Rattle.uart_spec.specs.declared.registers.interrupt_type.InterruptType.{InterruptType}
@@ -255,16 +254,12 @@ pumps_carry : Implies Pumps Carries
 pumps_carry f l after (sent, (t, same)) =
     let bytes = sendable f in
     let s = settings_of f.driver in
-    let few : sent ≤ length (take FIFO_SIZE bytes) = sent_within (take FIFO_SIZE bytes) sent s t.front t.first.0 in
-    let within : sent ≤ length bytes = omega (arith, few, length-take FIFO_SIZE bytes) in
-    let front : take sent (take FIFO_SIZE bytes) ≡ take sent bytes = take-take sent FIFO_SIZE bytes
-    (omega (arith, few, length-take FIFO_SIZE bytes)) in
-    let first = saving_saves _ _ f.driver t.front t.mid (sends_move (take FIFO_SIZE bytes) sent s t.front t.first.0) t.first.1 in
+    let within : sent ≤ length bytes = sent_within bytes sent s t.front t.first.0 in
+    let first = saving_saves _ _ f.driver t.front t.mid (sends_move bytes sent s t.front t.first.0) t.first.1 in
     let both = saves-then f.driver t.mid after.driver t.front t.back _ _ _ _ first
     (arms_saves (sendable (without_sent sent f)) t.mid t.back after.driver t.second) in
-    let split : waiting f ≡ (take sent (take FIFO_SIZE bytes) ++ []) ++ waiting (without_sent sent f) =
-    sym (waiting_sent f sent within) ∙ ap (λ xs. xs ++ waiting (without_sent sent f)) (sym front
-    ∙ sym (append-nil (take sent (take FIFO_SIZE bytes)))) in
+    let split : waiting f ≡ (take sent bytes ++ []) ++ waiting (without_sent sent f) =
+    sym (waiting_sent f sent within) ∙ ap (λ xs. xs ++ waiting (without_sent sent f)) (sym (append-nil (take sent bytes))) in
     rw t.whole (carries_driver f (without_sent sent f) (t.front ++ t.back) after _ _ both same split
     (sym (append-nil f.receive.items)) refl refl refl refl)
 

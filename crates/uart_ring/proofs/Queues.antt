@@ -2,8 +2,8 @@
 use Rattle.std.proofs.Common.{◌≡◌, ℕ, zero, suc, ◌+◌, ◌-◌, ◌<◌, ◌≤◌, ◌⊎◌, List, [], ◌∷◌, ◌++◌, length, get_or}
 use Rattle.std.proofs.Common.{take, drop, min, ap, ◌∙◌, sym, refl, inl, inr}
 use Rattle.std.proofs.Common.{arith, append_assoc, length-append, length-drop, length-take-le, get_or-drop, get_or-take}
-use Rattle.std.proofs.lemmas.List.{same_lists, get_or_append_left, get_or-append_right, take-take, take_min, take_at, drop_at}
-use Rattle.std.proofs.lemmas.List.{drop-drop, drop-append-le, take-append-drop, append-nil}
+use Rattle.std.proofs.lemmas.List.{same_lists, get_or_append_left, get_or-append_right, take-take, take_all, take_min, take_at, drop_at}
+use Rattle.std.proofs.lemmas.List.{drop-drop, drop-append-le, take-append-le, take-append-drop, append-nil}
 use Rattle.std.proofs.lemmas.Bool.{cases_lt}
 use Rattle.uart_ring.specs.Queue.{bytes_from, latest, IsBehind}
 
@@ -182,6 +182,13 @@ halves front n f cells end fits is_end is_f =
     ap (λ xs. take f end ++ xs) (sym (take-take (n - f) front cells few)) ∙
     (first_of_both end (take front cells) n f (n - f) is_f left ∙ ap (λ xs. take n (xs ++ take front cells)) is_end)
 
+-- the same of so many bytes at its front
+pub front_halves : (front n count f : ℕ) (cells end : List ℕ) → n ≤ length cells → count ≤ n → end ≡ drop front cells →
+    f ≡ min count (length end) → take f end ++ take (count - f) cells ≡ take count (bytes_from front n cells)
+front_halves front n count f cells end fits few is_end is_f =
+    halves front count f cells end (omega (arith, fits, few)) is_end is_f ∙
+    sym (take-take count n (drop front cells ++ take front cells) few)
+
 -- the first bytes of two slices, once they were copied one after the other
 pub copied : (first second old one two mid post : List ℕ) (b k : ℕ) →
     b ≡ min (length first) (length old - 0) → one ≡ take b first ++ drop (0 + b) old → mid ≡ drop b one →
@@ -264,6 +271,55 @@ appended N k n p c b a xs bytes bs between more new front_fits len_fits length_x
           (after_append N k n p c b a xs bs front_fits fits length_xs length_bs place within to_end all goes_on ∙
           ap (λ ys. bytes_from k n xs ++ ys) (is_bs ∙ ap (λ m. take m bytes) (sym all)))),
     )
+
+-- ---- a queue into whose free cells bytes were received
+
+-- the first of some slots were written, and the others stayed
+written_over : (b m : ℕ) (cells slots : List ℕ) → b ≤ m → m ≤ length cells → drop b slots ≡ drop b (take m cells) →
+    slots ++ drop m cells ≡ take b slots ++ drop b cells
+written_over b m cells slots few enough rest =
+    let long : b ≤ length (take m cells) = omega (arith, few, length-take-le m cells enough) in
+    ap (λ xs. xs ++ drop m cells) (sym (take-append-drop b slots) ∙ ap (λ xs. take b slots ++ xs) rest) ∙
+    (append_assoc (take b slots) (drop b (take m cells)) (drop m cells) ∙
+    ap (λ xs. take b slots ++ xs) (sym (drop-append-le b (take m cells) (drop m cells) long) ∙
+    ap (λ xs. drop b xs) (take-append-drop m cells)))
+
+-- b of n cells from a place on were written, and the others stayed
+pub landed : (place n b : ℕ) (cells slots : List ℕ) → place ≤ length cells → b ≤ length slots →
+    take b (drop place (take place cells ++ (slots ++ drop n (drop place cells)))) ≡ take b slots
+landed place n b cells slots fits few =
+    ap (λ ys. take b ys) (drop_at (take place cells) (slots ++ drop n (drop place cells)) place (length-take-le place cells fits)) ∙
+    take-append-le b slots (drop n (drop place cells)) few
+
+pub others_stay : (place n b : ℕ) (cells slots : List ℕ) → place ≤ length cells → n ≤ length (drop place cells) → b ≤ n →
+    b ≤ length slots → drop b slots ≡ drop b (take n (drop place cells)) →
+    take place cells ++ (slots ++ drop n (drop place cells)) ≡ take place cells ++
+    (take b (drop place (take place cells ++ (slots ++ drop n (drop place cells)))) ++ drop (place + b) cells)
+others_stay place n b cells slots fits enough within few rest =
+    ap (λ ys. take place cells ++ ys) (written_over b n (drop place cells) slots within enough rest ∙
+    (λ i. sym (landed place n b cells slots fits few) i ++ drop-drop b place cells i))
+
+-- b bytes were received into the free cells from p on and, if that filled those up to the last one, a into the first
+-- cells: they are the last ones of the queue
+pub received_at_end : (N k n p slots m b r a : ℕ) (cells one between two new : List ℕ) → k ≤ N → n ≤ N → length cells ≡ N →
+    IsBehind k n N p → n + slots ≤ N → m ≡ min slots (N - p) → b ≤ m → length one ≡ b →
+    between ≡ take p cells ++ (one ++ drop (p + b) cells) → length between ≡ N →
+    ((b ≡ m) × (r ≡ slots - m)) ⊎ (r ≡ 0) → a ≤ r → length two ≡ a → new ≡ two ++ drop (0 + a) between →
+    (length new ≡ N) × (bytes_from k (n + (b + a)) new ≡ bytes_from k n cells ++ (one ++ two))
+received_at_end N k n p slots m b r a cells one between two new front_fits len_fits length_cells place
+    room is_m few length_one is_between length_between goes some length_two is_new =
+    let bytes = one ++ two in
+    let long : length bytes ≡ b + a = omega (arith, length-append one two, length_one, length_two) in
+    let all : take (b + a) bytes ≡ bytes = take_all (b + a) bytes (omega (arith, long)) in
+    let within : b + a ≤ slots = omega (arith, goes, few, some, is_m) in
+    let is_c : b + a ≡ min (length bytes) (N - n) = omega (arith, long, within, room) in
+    let is_b : b ≡ min (length bytes) (N - p) = omega (arith, long, goes, few, some, is_m) in
+    let is_a : a ≡ min (length two) (length between - 0) = omega (arith, length_two, length_between, within, room) in
+    let whole : take a two ≡ two = take_all a two (omega (arith, length_two)) in
+    let facts = appended N k n p (b + a) b a cells bytes bytes between two new front_fits len_fits length_cells place is_c (sym all) is_b
+    (is_between ∙ ap (λ ys. take p cells ++ (ys ++ drop (p + b) cells)) (sym (take_at one two b length_one)))
+    (sym (drop_at one two b length_one)) is_a (is_new ∙ ap (λ ys. ys ++ drop (0 + a) between) (sym whole)) in
+    (facts.0, facts.1 ∙ ap (λ ys. bytes_from k n cells ++ ys) all)
 
 -- ---- one more at the end, for which the first makes way
 

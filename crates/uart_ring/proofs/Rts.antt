@@ -14,7 +14,7 @@ use Rattle.uart_ring.specs.Transmit.{Pumps, Holds, Releases}
 use Rattle.uart_ring.specs.Receive.{write_if_other, rts_at, flow_character, to_tell, TellsIfAny, AdjustsXoff}
 use Rattle.uart_ring.specs.Receive.{xon, Obeys, ObeysXoff, held_as_told, HoldsAsTold}
 use Rattle.uart_ring.specs.Armed.{LeavesArmed}
-use Rattle.uart_ring.specs.Bounded.{MakesAtMost, most_of_pump}
+use Rattle.uart_ring.specs.Bounded.{MakesAtMostBySize, most_of_pump}
 use Rattle.uart_ring.specs.Choice.{LeavesNoRingChoice}
 use Rattle.uart_ring.specs.Lossless.{LosesOnly, LosesNothing, Implies, untold_line, untold_modem}
 use Rattle.uart_ring.specs.declared.ring.receive.ReceiveMarks.{ReceiveMarks}
@@ -76,12 +76,12 @@ tells_leaves (Some on) told f l after (is, t) = λ unchecked known keeps armed.
 pub adjusts_xoff_leave : (marks : ReceiveMarks) (told : Option ℕ) → Implies (AdjustsXoff marks told) LeavesArmed
 adjusts_xoff_leave marks told f l after t = tells_leaves (at_marks marks f) told f l after t
 
-tells_size : (wanted : Option Bool) (told : Option ℕ) → Implies (TellsIfAny wanted told) (MakesAtMost most_of_pump)
+tells_size : (wanted : Option Bool) (told : Option ℕ) → Implies (TellsIfAny wanted told) (MakesAtMostBySize most_of_pump)
 tells_size None told f l after (is, t) = omega (arith, ap length t.0)
 tells_size (Some on) told f l after (is, t) =
     queues_urgent_size (flow_character on) None (with_told_xoff (not on) f) l after t
 
-pub adjusts_xoff_size : (marks : ReceiveMarks) (told : Option ℕ) → Implies (AdjustsXoff marks told) (MakesAtMost most_of_pump)
+pub adjusts_xoff_size : (marks : ReceiveMarks) (told : Option ℕ) → Implies (AdjustsXoff marks told) (MakesAtMostBySize most_of_pump)
 adjusts_xoff_size marks told f l after t = tells_size (at_marks marks f) told f l after t
 
 tells_leave_no_choice : (wanted : Option Bool) → LeavesNoRingChoice (TellsIfAny wanted)
@@ -129,11 +129,11 @@ obeys_leaves (Some byte) f l after t = go (byte == xon) t
 pub obeys_xoff_leave : (told : Option ℕ) → Implies (ObeysXoff told) LeavesArmed
 obeys_xoff_leave told f l after (is, t) = obeys_leaves told (looked f) l after t
 
-obeys_size : (told : Option ℕ) → Implies (Obeys told) (MakesAtMost most_of_pump)
+obeys_size : (told : Option ℕ) → Implies (Obeys told) (MakesAtMostBySize most_of_pump)
 obeys_size None f l after t = omega (arith, ap length t.0)
 obeys_size (Some byte) f l after t = go (byte == xon) t
   where
-    go : (on : Bool) → MatchBool on (Releases f l after) (Holds f l after) → length l ≤ most_of_pump
+    go : (on : Bool) → MatchBool on (Releases f l after) (Holds f l after) → length l ≤ most_of_pump f.driver.size
     go true t = releases_size f l after t
     go false t = omega (arith, ap length t.0)
 
@@ -180,7 +180,7 @@ obeys_holds (Some byte) f l after t = go (byte == xon) t
     go false (none, same) =
         (ap (λ (g : RingFields). g.is_held) same, ap (λ (g : RingFields). g.receive) same, ap (λ (g : RingFields). g.unlooked) same)
 
-pub obeys_xoff_size : (told : Option ℕ) → Implies (ObeysXoff told) (MakesAtMost most_of_pump)
+pub obeys_xoff_size : (told : Option ℕ) → Implies (ObeysXoff told) (MakesAtMostBySize most_of_pump)
 obeys_xoff_size told f l after (is, t) = obeys_size told (looked f) l after t
 
 pub obeys_xoff_holds : (told : Option ℕ) → Implies (ObeysXoff told) (HoldsAsTold told)

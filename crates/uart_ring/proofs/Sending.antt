@@ -93,6 +93,11 @@ cleared_left (Some byte) items =
 pub none_stuck : (f : RingFields) (error : StuckError) → f.stuck ≡ Some error → sendable f ≡ []
 none_stuck f error is = ap (λ s. allowed s f.is_held f.urgent f.transmit.items) is
 
+pub none_if_stuck : (stuck : Option StuckError) (held : Bool) (urgent : Option ℕ) (items : List ℕ) → is_some stuck ≡ true →
+    allowed stuck held urgent items ≡ []
+none_if_stuck (Some error) held urgent items is = refl
+none_if_stuck None held urgent items is = absurd (cc (is))
+
 none_allowed : (stuck : Option StuckError) (held : Bool) (urgent : Option ℕ) (items : List ℕ) → option_to_list urgent ++ items ≡ [] →
     allowed stuck held urgent items ≡ []
 none_allowed (Some error) held urgent items e = refl

@@ -1,14 +1,13 @@
 -- Bytes between the rings and the driver.
-use Rattle.std.proofs.Common.{◌≡◌, ◌≤◌, ◌+◌, ℕ, true, false, ◌==◌, List, [], ◌∷◌, ◌++◌, sym, ◌∙◌, ap, subst, arith}
+use Rattle.std.proofs.Common.{◌≡◌, ◌+◌, ℕ, true, false, ◌==◌, List, [], ◌∷◌, ◌++◌, sym, ◌∙◌, ap, subst, arith}
 use Rattle.std.proofs.Common.{length, take, drop, min, not, refl, length-take}
 use Rattle.std.proofs.lemmas.Bool.{false≢true}
 use Rattle.std.proofs.lemmas.Bool.Decides.{nat_tests}
-use Rattle.std.proofs.lemmas.List.{take-append-le, length-take-le, take_all, take_at, take_min}
+use Rattle.std.proofs.lemmas.List.{length-take-le, take_at, take_min}
 use Rattle.uart_spec.specs.declared.access.Access.{Access}
-use Rattle.uart_spec.specs.declared.baud.TheConstants.{FIFO_SIZE}
+use Rattle.uart_spec.specs.FifoSize.{characters}
 use Rattle.uart_spec.specs.declared.registers.interrupt_enable.TheConstants.IER
-use Rattle.uart_16550.specs.Driver.{Made, Did, Doing, Fields, fields, Next, Saving}
-use Rattle.uart_16550.specs.Receive.{Receives}
+use Rattle.uart_16550.specs.Driver.{Did, Doing, Fields, fields, Next, Saving}
 use Rattle.uart_16550.specs.Transmit.{Sends}
 use Rattle.uart_16550.specs.Status.{Enables, Disables}
 use Rattle.uart_16550.specs.declared.driver.Uart16550.{Uart16550}
@@ -17,7 +16,7 @@ use Rattle.uart_ring.specs.Queue.{Queue, queue}
 use Rattle.uart_ring.specs.Ring.{RingDid, ring_fields, free, sendable, without_sent, without_sent_bytes, with_received, with_driver}
 use Rattle.uart_ring.specs.Ring.{IfAny, without_taken}
 use Rattle.uart_ring.specs.Transmit.{Pumps, ArmsIfLeft}
-use Rattle.uart_ring.specs.Receive.{PausesIfFull, FillsReceiveRing, EndsPause, TakesBytes}
+use Rattle.uart_ring.specs.Receive.{ReceivesToEnd, PausesIfFull, FillsReceiveRing, EndsPause, TakesBytes}
 use Rattle.uart_ring.specs.declared.ring.Uart16550Ring.{Uart16550Ring}
 use Rattle.uart_ring.proofs.RingDoings.{ring_did, ring_then, ring_among, ring_from}
 
@@ -46,67 +45,45 @@ arms_some [] e f l after does = absurd (false≢true (sym e))
 arms_some (byte ∷ bytes) e f l after does = does
 
 -- a pump: some of the burst were sent, the others still wait, and THR_EMPTY is enabled if they may be sent
-pub pumped : {B : Type 0} {step : B → Access → B → Type 0} (G : Doing) (sent : ℕ) (burst : List ℕ) (a mid : Uart16550Ring B)
-    (v u : Uart16550 B) →
-    burst ≡ take FIFO_SIZE (sendable (ring_fields a)) →
+pub pumped : {B : Type 0} {step : B → Access → B → Type 0} (G : Doing) (sent : ℕ) (a mid : Uart16550Ring B) (v u : Uart16550 B) →
     mid ≡ without_sent_bytes sent (record a { uart = v }) →
     ((f : Fields) (l : List Access) (after : Fields) → G f l after → ArmsIfLeft (sendable (ring_fields mid)) f l after) →
-    Did step (Saving (Sends burst sent)) a.uart v → Did step G mid.uart u → RingDid step Pumps a (record mid { uart = u })
-pumped {B} {step} G sent burst a mid v u front gone arms sends changes =
+    Did step (Saving (Sends (sendable (ring_fields a)) sent)) a.uart v → Did step G mid.uart u →
+    RingDid step Pumps a (record mid { uart = u })
+pumped {B} {step} G sent a mid v u gone arms sends changes =
     let D : Uart16550 B → Type 0 = λ x. Did step G x u in
     let p = did_then sends (subst D (ap (λ (r : Uart16550Ring B). r.uart) gone) changes) in
     let bytes = sendable (ring_fields a) in
     let left = sendable (without_sent sent (ring_fields a)) in
     let is_left : sendable (ring_fields mid) ≡ left = ap (λ (r : Uart16550Ring B). sendable (ring_fields r)) gone in
     ring_among (λ l t. (sent, t))
-    (ring_did {G = Next (Saving (Sends (take FIFO_SIZE bytes) sent)) (ArmsIfLeft left)} (without_sent sent) a
+    (ring_did {G = Next (Saving (Sends bytes sent)) (ArmsIfLeft left)} (without_sent sent) a
     (record mid { uart = u })
     (did_among (λ f l after t. record {
       front = t.front;
       back = t.back;
       mid = t.mid;
       whole = t.whole;
-      first = rw front at t.first;
+      first = t.first;
       second = let A : List ℕ → Type 0 = λ xs. ArmsIfLeft xs t.mid t.back after in subst A is_left (arms t.mid t.back after t.second);
     }) p)
     (ap (λ (r : Uart16550Ring B). ring_fields (record r { uart = u })) gone))
 
 -- ---- to the receive ring
 
--- all that was received fits
-fits : (bytes rest : List ℕ) (count appended room : ℕ) → count ≤ length bytes → length bytes ≤ room →
-    appended ≡ min (length (take count (bytes ++ rest))) room →
-    take appended (take count (bytes ++ rest)) ≡ take count bytes
-fits bytes rest count appended room few enough e =
-    let front : take count (bytes ++ rest) ≡ take count bytes = take-append-le count bytes rest few in
-    let size : length (take count (bytes ++ rest)) ≡ count = ap length front ∙ length-take-le count bytes few in
-    let all : length (take count (bytes ++ rest)) ≤ appended = omega (arith, e, size) in
-    take_all appended (take count (bytes ++ rest)) all ∙ front
-
--- bytes were received into the first of some slots, and put at the end of the receive ring
-pub filled : {B : Type 0} {step : B → Access → B → Type 0} (room count appended unlooked : ℕ) (empty slots rest : List ℕ)
-    (a : Uart16550Ring B) (u : Uart16550 B) (more : Queue) (b : Uart16550Ring B) →
-    length empty ≡ FIFO_SIZE → room ≡ min FIFO_SIZE (free a.receive) → length slots ≡ length (take room empty) →
-    count ≤ length (take room empty) →
-    appended ≡ min (length (take count (slots ++ rest))) (free a.receive) → more ≡ queue
-    (a.receive.items ++ take appended (take count (slots ++ rest))) a.receive.capacity →
-    unlooked ≡ min a.unlooked (length a.receive.items) + count →
-    Made step (Receives (length (take room empty)) (take count slots)) a.uart u →
+-- bytes were received to the end of the receive ring
+pub filled : {B : Type 0} {step : B → Access → B → Type 0} (slots count unlooked : ℕ) (a : Uart16550Ring B) (u : Uart16550 B)
+    (more : Queue) (b : Uart16550Ring B) → slots ≡ min (characters a.uart.fifo_size) (free a.receive) →
+    ReceivesToEnd step slots count a.receive more a.uart u → unlooked ≡ min a.unlooked (length a.receive.items) + count →
     RingDid step PausesIfFull (record a { uart = u; receive = more; unlooked = unlooked }) b → RingDid step FillsReceiveRing a b
-filled room count appended unlooked empty slots rest a u more b long is_room same few is_appended is_more is_unlooked made pauses =
-    let size : length (take room empty) ≡ room = length-take-le room empty (omega (arith, long, is_room)) in
-    let bytes : take appended (take count (slots ++ rest)) ≡ take count slots =
-    fits slots rest count appended (free a.receive) (omega (arith, few, same)) (omega (arith, same, size, is_room)) is_appended in
-    let all : more ≡ queue (a.receive.items ++ take count slots) a.receive.capacity = is_more
-    ∙ ap (λ (xs : List ℕ). queue (a.receive.items ++ xs) a.receive.capacity) bytes in
-    let long_bytes : length (take count slots) ≡ count = length-take-le count slots (omega (arith, few, same)) in
-    let fresh : unlooked ≡ min a.unlooked (length a.receive.items) + length (take count slots) =
-    is_unlooked ∙ ap (λ n. min a.unlooked (length a.receive.items) + n) (sym long_bytes) in
-    ring_among (λ l t. (take count slots, t))
-    (ring_then (ring_did (with_received (take count slots)) a (record a { uart = u; receive = more; unlooked = unlooked })
-    (did_made (rw (size, is_room) at made))
-    (ap (λ (r : Queue). with_driver (fields u) (record (ring_fields a) { receive = r; unlooked = unlooked })) all ∙
-    ap (λ n. with_driver (fields u) (record (with_received (take count slots) (ring_fields a)) { unlooked = n })) fresh)) pauses)
+filled slots count unlooked a u more b is_slots r is_unlooked pauses =
+    let fresh : unlooked ≡ min a.unlooked (length a.receive.items) + length r.bytes =
+    is_unlooked ∙ ap (λ n. min a.unlooked (length a.receive.items) + n) r.counted in
+    ring_among (λ l t. (r.bytes, t))
+    (ring_then (ring_did (with_received r.bytes) a (record a { uart = u; receive = more; unlooked = unlooked })
+    (did_made (rw is_slots at r.received))
+    (ap (λ (q : Queue). with_driver (fields u) (record (ring_fields a) { receive = q; unlooked = unlooked })) r.appended ∙
+    ap (λ n. with_driver (fields u) (record (with_received r.bytes (ring_fields a)) { unlooked = n })) fresh)) pauses)
 
 -- ---- from the receive ring
 

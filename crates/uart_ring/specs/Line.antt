@@ -5,6 +5,7 @@ use Rattle.std.specs.Prelude.{MatchOption}
 use Rattle.uart_spec.specs.declared.access.Access.{Access}
 use Rattle.uart_spec.specs.declared.access.Access.TheVariants.{Read}
 use Rattle.uart_spec.specs.declared.registers.offsets.TheConstants as offsets
+use Rattle.uart_spec.specs.declared.setup.FifoSize.{FifoSize}
 use Rattle.uart_16550.specs.Grammar.{Only}
 use Rattle.uart_16550.specs.Driver.{Doing, Saving}
 use Rattle.uart_16550.specs.Status.{Enables}
@@ -34,11 +35,11 @@ RaisesLine bits f l after =
     MatchOption f.stuck (OnDriver (Enables bits) unchanged f l after) (λ error. Stays f l after)
 
 -- how many accesses the first half makes at most, and both together
-abbrev pub most_of_lower : (limit : ℕ) → ℕ
-most_of_lower limit = most_of_try_handle limit + (1 + most_of_change)
+abbrev pub most_of_lower : (limit : ℕ) → FifoSize → ℕ
+most_of_lower limit size = most_of_try_handle limit size + (1 + most_of_change)
 
-abbrev pub most_of_port : (limit : ℕ) → ℕ
-most_of_port limit = most_of_lower limit + most_of_change
+abbrev pub most_of_port : (limit : ℕ) → FifoSize → ℕ
+most_of_port limit size = most_of_lower limit size + most_of_change
 
 -- an interrupt was served
 abbrev pub has_served : Result Handled StuckError → Bool

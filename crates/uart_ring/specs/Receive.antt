@@ -4,32 +4,44 @@ use Rattle.std.specs.Prelude.{not, Option, Some, None, MatchBool, if◌then◌el
 use Rattle.uart_spec.specs.declared.access.Access.{Access}
 use Rattle.uart_spec.specs.declared.access.Access.TheVariants.{Read, Write}
 use Rattle.uart_spec.specs.Bits.{has}
-use Rattle.uart_spec.specs.declared.baud.TheConstants.{FIFO_SIZE}
+use Rattle.uart_spec.specs.FifoSize.{characters}
 use Rattle.uart_spec.specs.declared.registers.interrupt_enable.TheConstants.IER
 use Rattle.uart_spec.specs.declared.registers.modem_control.TheConstants.MCR
 use Rattle.uart_spec.specs.declared.registers.offsets.TheConstants as offsets
-use Rattle.uart_16550.specs.Driver.{Saving}
+use Rattle.uart_16550.specs.Driver.{Made, Saving}
 use Rattle.uart_16550.specs.Frame.{switched, unlooped}
 use Rattle.uart_16550.specs.Grammar.{Language}
 use Rattle.uart_16550.specs.Receive.{Receives}
 use Rattle.uart_16550.specs.Status.{Enables, Disables}
-use Rattle.uart_ring.specs.Queue.{latest}
+use Rattle.uart_16550.specs.declared.driver.Uart16550.{Uart16550}
+use Rattle.uart_ring.specs.Queue.{Queue, latest}
 use Rattle.uart_ring.specs.declared.ring.receive.ReceiveMarks.{ReceiveMarks}
 use Rattle.uart_ring.specs.Ring.{RingDoing, OnDriver, Stays, RingNext, IfAny, free, is_full, unchanged}
-use Rattle.uart_ring.specs.Ring.{with_received, without_taken, with_paused, with_told_xoff, looked}
+use Rattle.uart_ring.specs.Ring.{with_last, with_received, without_taken, with_paused, with_told_xoff, looked}
 use Rattle.uart_ring.specs.Transmit.{QueuesUrgent, Holds, Releases}
+
+-- the driver's `receive_bytes` into so many slots at the end of a queue: the bytes that came are there then, and the
+-- result is how many
+pub record ReceivesToEnd {B : Type 0} (step : B → Access → B → Type 0) (slots count : ℕ)
+    (old new : Queue) (driver after : Uart16550 B) : Type 0 where
+  pub bytes : List ℕ
+  pub received : Made step (Receives slots bytes) driver after
+  pub appended : new ≡ with_last bytes old
+  pub counted : count ≡ length bytes
 
 -- if the receive ring is full, DATA_READY is disabled and receiving is paused
 abbrev pub PausesIfFull : RingDoing
 PausesIfFull f l after =
     MatchBool (is_full f.receive) (OnDriver (Disables IER.DATA_READY.0) (with_paused true) f l after) (Stays f l after)
 
--- `receive_bytes` into as many slots as the receive ring has room for, at most 16; the bytes are appended to it
+-- `receive_bytes` into as many slots as the receive ring has room for, at most as many as a FIFO of the size that is
+-- set holds; the bytes are appended to it
 abbrev pub FillsReceiveRing : RingDoing
 FillsReceiveRing f l after =
     (bytes : List ℕ)
-    × RingNext (OnDriver (Saving (Receives (min FIFO_SIZE (free f.receive)) bytes)) (with_received bytes)) PausesIfFull
-    f l after
+    × RingNext
+    (OnDriver (Saving (Receives (min (characters f.driver.size) (free f.receive)) bytes)) (with_received bytes))
+    PausesIfFull f l after
 
 -- if receiving is paused, DATA_READY is enabled, and the pause ends
 abbrev pub EndsPause : RingDoing

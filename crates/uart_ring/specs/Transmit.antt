@@ -1,6 +1,5 @@
 -- From the transmit ring to the chip.
 use Rattle.std.specs.Prelude.{◌≡◌, ℕ, Bool, true, false, List, [], ◌∷◌, length, take, min, Option, Some}
-use Rattle.uart_spec.specs.declared.baud.TheConstants.{FIFO_SIZE}
 use Rattle.uart_spec.specs.declared.registers.interrupt_enable.TheConstants.IER
 use Rattle.uart_16550.specs.Driver.{Doing, Saving, Next}
 use Rattle.uart_16550.specs.Transmit.{Sends}
@@ -14,12 +13,13 @@ abbrev pub ArmsIfLeft : List ℕ → Doing
 ArmsIfLeft [] = Disables IER.THR_EMPTY.0
 ArmsIfLeft (byte ∷ bytes) = Enables IER.THR_EMPTY.0
 
--- a pump: `send_bytes` of the first 16 bytes that may be sent, and those that were sent no longer wait; then THR_EMPTY
--- is enabled or disabled. Without an urgent byte, a hold or a stuck chip these are the bytes of the transmit ring
+-- a pump: `send_bytes` of the bytes that may be sent, which is one burst of them, and those that were sent no longer
+-- wait; then THR_EMPTY is enabled or disabled. Without an urgent byte, a hold or a stuck chip these are the bytes of
+-- the transmit ring
 abbrev pub Pumps : RingDoing
 Pumps f l after =
     (sent : ℕ)
-    × OnDriver (Next (Saving (Sends (take FIFO_SIZE (sendable f)) sent)) (ArmsIfLeft (sendable (without_sent sent f))))
+    × OnDriver (Next (Saving (Sends (sendable f) sent)) (ArmsIfLeft (sendable (without_sent sent f))))
     (without_sent sent) f l after
 
 -- `queue`: bytes from the front of the input are added at the end of the transmit ring, as many as it has room for; if

@@ -24,7 +24,8 @@ ghost use Rattle.uart_ring.specs.Lossless.{overtaken_by, without_dropped};
 ghost use Rattle.uart_ring.specs.Armed.{Arms, ArmsUnlessHeld, LeavesArmed};
 ghost use Rattle.uart_ring.specs.Armed.{AllHarmless, IsArmed, ThrEmpty, known_after_all};
 ghost use Rattle.uart_ring.specs.Choice.{LeavesNoRingChoice};
-ghost use Rattle.uart_ring.specs.Bounded.{MakesAtMost, most_of_change, most_of_adjust};
+ghost use Rattle.uart_ring.specs.Bounded.{MakesAtMost, MakesAtMostBySize};
+ghost use Rattle.uart_ring.specs.Bounded.{most_of_change, most_of_adjust};
 ghost use Rattle.uart_ring.specs.Bounded.{most_of_pump, most_of_service};
 ghost use Rattle.uart_ring.specs.Bounded.{most_of_handle, most_of_retrigger};
 ghost use Rattle.uart_ring.specs.Bounded.{most_of_try_handle, most_of_restart, most_of_dump};
@@ -128,33 +129,34 @@ pub fn other_accesses_leave_armed()
         IsArmed known f → IsArmed (known_after_all known l) f }
 {}
 
-/// No ring call waits: each makes at most this number of accesses, whatever they return.
+/// No ring call waits: each makes at most this number of accesses, whatever they return. Where a
+/// call may fill or empty a FIFO, the number depends on the size that is set.
 pub fn ring_calls_are_bounded()
     ensures queue { (bytes : List ℕ) (count : ℕ) →
-        Implies (Queues bytes count) (MakesAtMost most_of_pump) }
-    ensures resume_transmit { Implies ResumesTransmit (MakesAtMost most_of_pump) }
+        Implies (Queues bytes count) (MakesAtMostBySize most_of_pump) }
+    ensures resume_transmit { Implies ResumesTransmit (MakesAtMostBySize most_of_pump) }
     ensures take { (slots : ℕ) (bytes : List ℕ) →
         Implies (TakesBytes slots bytes) (MakesAtMost most_of_change) }
-    ensures service { (count : ℕ) → Implies (Services count) (MakesAtMost most_of_service) }
+    ensures service { (count : ℕ) → Implies (Services count) (MakesAtMostBySize most_of_service) }
     ensures handle { (limit : ℕ) (handled : Handled) →
-        Implies (Handles limit handled) (MakesAtMost (most_of_handle limit)) }
+        Implies (Handles limit handled) (MakesAtMostBySize (most_of_handle limit)) }
     ensures retrigger { Implies Retriggers (MakesAtMost most_of_retrigger) }
     ensures take_line { (line : ℕ) → Implies (TakesLine line) (MakesAtMost 1) }
     ensures take_modem { (modem : ℕ) → Implies (TakesModem modem) (MakesAtMost 1) }
     ensures hold_transmit { Implies Holds (MakesAtMost 0) }
-    ensures release_transmit { Implies Releases (MakesAtMost most_of_pump) }
+    ensures release_transmit { Implies Releases (MakesAtMostBySize most_of_pump) }
     ensures queue_urgent { (byte : ℕ) (replaced : Option ℕ) →
-        Implies (QueuesUrgent byte replaced) (MakesAtMost most_of_pump) }
+        Implies (QueuesUrgent byte replaced) (MakesAtMostBySize most_of_pump) }
     ensures clear_transmit { (count : ℕ) → Implies (ClearsTransmit count) (MakesAtMost 0) }
     ensures clear_receive { (count : ℕ) →
         Implies (ClearsReceive count) (MakesAtMost most_of_change) }
     ensures set_low_mark { (mark : ℕ) → Implies (SetsLowMark mark) (MakesAtMost 0) }
     ensures take_low { (low : Bool) → Implies (TakesLow low) (MakesAtMost 0) }
     ensures try_handle { (limit rounds : ℕ) (result : Result Handled StuckError) →
-        Implies (TriesToHandle limit rounds result) (MakesAtMost (most_of_try_handle limit)) }
-    ensures restart { (bits : ℕ) → Implies (Restarts bits) (MakesAtMost most_of_restart) }
+        Implies (TriesToHandle limit rounds result) (MakesAtMostBySize (most_of_try_handle limit)) }
+    ensures restart { (bits : ℕ) → Implies (Restarts bits) (MakesAtMostBySize most_of_restart) }
     ensures config_register_dump { (dump : ConfigRegisterDump) →
-        Implies (DumpsRegisters dump) (MakesAtMost most_of_dump) }
+        Implies (DumpsRegisters dump) (MakesAtMostBySize most_of_dump) }
     ensures adjust_rts { (marks : ReceiveMarks) →
         Implies (AdjustsRts marks) (MakesAtMost most_of_adjust) }
 {}
@@ -221,7 +223,7 @@ pub fn line_calls_are_ring_calls()
         Implies (RingNext (LowersLine limit rounds lowered) (RaisesLine lowered.enabled.0))
         (LeavesOff error) }
     ensures lower_is_bounded { (limit rounds : ℕ) (lowered : Lowered) →
-        Implies (LowersLine limit rounds lowered) (MakesAtMost (most_of_lower limit)) }
+        Implies (LowersLine limit rounds lowered) (MakesAtMostBySize (most_of_lower limit)) }
     ensures raise_is_bounded { (bits : ℕ) →
         Implies (RaisesLine bits) (MakesAtMost most_of_change) }
     ensures lower_leaves_no_choice { (limit rounds : ℕ) →
@@ -239,7 +241,7 @@ pub fn adjust_xoff_is_a_ring_call()
     ensures leaves_armed { (marks : ReceiveMarks) (told : Option ℕ) →
         Implies (AdjustsXoff marks told) LeavesArmed }
     ensures is_bounded { (marks : ReceiveMarks) (told : Option ℕ) →
-        Implies (AdjustsXoff marks told) (MakesAtMost most_of_pump) }
+        Implies (AdjustsXoff marks told) (MakesAtMostBySize most_of_pump) }
     ensures leaves_no_choice { (marks : ReceiveMarks) → LeavesNoRingChoice (AdjustsXoff marks) }
 {}
 
@@ -251,7 +253,7 @@ pub fn obey_xoff_is_a_ring_call()
         Implies (ObeysXoff told) (LosesNothing [] [] 0 0) }
     ensures leaves_armed { (told : Option ℕ) → Implies (ObeysXoff told) LeavesArmed }
     ensures is_bounded { (told : Option ℕ) →
-        Implies (ObeysXoff told) (MakesAtMost most_of_pump) }
+        Implies (ObeysXoff told) (MakesAtMostBySize most_of_pump) }
     ensures leaves_no_choice { LeavesNoRingChoice ObeysXoff }
     ensures holds { (told : Option ℕ) → Implies (ObeysXoff told) (HoldsAsTold told) }
 {}

@@ -1,10 +1,15 @@
 //! The queues of the rings: bytes in order, in cells whose number is fixed.
 ghost use Rattle.std.specs.Prelude.{◌≡◌, ◌<◌, ◌≤◌, ◌+◌, ◌-◌, ◌==◌, min, [], ◌++◌, length};
 ghost use Rattle.std.specs.Prelude.{take, drop, slice_index_or, IfOk};
+ghost use Rattle.uart_16550.specs.Driver.{Made};
+ghost use Rattle.uart_16550.specs.Receive.{Receives};
 ghost use Rattle.uart_ring.specs.Queue.{queue, with_latest, IsBehind};
+ghost use Rattle.uart_ring.specs.Receive.{ReceivesToEnd};
 
 use std::alloc::{AllocError, Global};
 use std::marker::Model;
+use uart_16550::Uart16550;
+use uart_16550::backend::Backend;
 
 /// Bytes in order, at most as many as there are cells.
 #[derive(Drop)]
@@ -76,15 +81,24 @@ impl ByteQueue {
         self.len() == self.capacity()
     }
 
+    /// Returns this number of bytes from the front, in order, as two slices.
+    #[inline]
+    pub(crate) fn front_slices(&self, count: usize) -> (&[u8], &[u8])
+        requires { count ≤ length self.now.items }
+        ensures { result.0.now ++ result.1.now ≡ take count self.now.items }
+    {
+        let cells = self.cells.as_slice();
+        let end = &cells[self.front..];
+        let first = count.min(end.len());
+        (&end[..first], &cells[..count - first])
+    }
+
     // Returns the bytes in order, as two slices.
     #[inline]
     fn as_slices(&self) -> (&[u8], &[u8])
         ensures { result.0.now ++ result.1.now ≡ self.now.items }
     {
-        let cells = self.cells.as_slice();
-        let end = &cells[self.front..];
-        let first = self.len.min(end.len());
-        (&end[..first], &cells[..self.len - first])
+        self.front_slices(self.len())
     }
 
     /// Appends bytes from the front of the slice, as many as there is room for, and returns how
@@ -101,6 +115,31 @@ impl ByteQueue {
         let cells = self.cells.as_mut_slice();
         let before = copy(bytes, cells, behind);
         let count = before + copy(&bytes[before..], cells, 0);
+        self.len += count;
+        count
+    }
+
+    /// Appends bytes that the driver receives, as its `receive_bytes` does with so many slots, and
+    /// returns how many.
+    #[inline]
+    pub(crate) fn receive_from<B: Backend>(
+        &mut self,
+        uart: &mut Uart16550<B>,
+        slots: usize,
+    ) -> usize
+        requires { length self.old.items + slots ≤ self.old.capacity }
+        ensures received { ReceivesToEnd B.step slots result self.old self.new uart.old uart.new }
+        ensures within { result ≤ slots }
+    {
+        // The driver writes the free cells themselves, however large the FIFO is: a copy would
+        // need as large a buffer on the stack.
+        let behind = cell_behind(self.front, self.len, self.capacity());
+        let cells = self.cells.as_mut_slice();
+        let to_end = slots.min(cells.len() - behind);
+        let before = receive(uart, cells, behind, to_end);
+        // The free cells go on at the first one, if all up to the last one were needed.
+        let rest = if before == to_end { slots - to_end } else { 0 };
+        let count = before + receive(uart, cells, 0, rest);
         self.len += count;
         count
     }
@@ -208,4 +247,23 @@ fn copy(bytes: &[u8], slots: &mut [u8], place: usize) -> usize
         slots[place..place + count].copy_from_slice(&bytes[..count]);
     }
     count
+}
+
+// Receives bytes into the cells from `place` on, as the driver's `receive_bytes` does with so many
+// slots, and returns how many. The other cells stay as they are.
+#[inline]
+fn receive<B: Backend>(
+    uart: &mut Uart16550<B>,
+    cells: &mut [u8],
+    place: usize,
+    slots: usize,
+) -> usize
+    requires { place + slots ≤ length cells.old }
+    ensures made { Made B.step (Receives slots (take result (drop place cells.new)))
+        uart.old uart.new }
+    ensures count { result ≤ slots }
+    ensures others { cells.new ≡ take place cells.old
+        ++ (take result (drop place cells.new) ++ drop (place + result) cells.old) }
+{
+    uart.receive_bytes(&mut cells[place..place + slots])
 }

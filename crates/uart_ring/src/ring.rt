@@ -46,6 +46,9 @@ pub enum RingError {
 /// bytes to send. Call `handle` or `try_handle` in the interrupt handler. Mask the interrupt during
 /// all other calls, since the handler must not run in the middle of one.
 ///
+/// For a chip whose FIFOs hold more than 16 characters set their size in the driver, by
+/// `set_fifo_size`, before or through `inner_mut`: an interrupt then sends or receives as many.
+///
 /// No call waits, so none returns a stall.
 ///
 /// # Examples

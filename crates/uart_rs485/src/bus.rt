@@ -37,8 +37,9 @@ use uart_spec::StalledError;
 /// overrun the receiver. If other bytes come, two ends sent at once. No call drops received bytes.
 ///
 /// Only calls of this type keep the direction, so it lends no driver that could write. For other
-/// calls, as `set_frame`, take the driver back by `into_inner`, and give it to `new` again. The
-/// direction is by software: leave flow control by the chip off, which would drive RTS itself.
+/// calls, as `set_frame`, take the driver back by `into_inner`, and give it to `new` again. So set
+/// the size of the FIFOs, by `set_fifo_size`, before `new`. The direction is by software: leave
+/// flow control by the chip off, which would drive RTS itself.
 ///
 /// # Examples
 ///

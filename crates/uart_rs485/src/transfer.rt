@@ -13,7 +13,7 @@ use uart_spec::registers::LSR;
 
 impl<B: Backend> HalfDuplex<B> {
     /// Sends bytes from the front of the slice if there is room, and returns how many, as
-    /// `send_bytes` of the driver does: up to 16 if the FIFO is on, else one.
+    /// `send_bytes` of the driver does: up to as many as the FIFO holds if it is on, else one.
     ///
     /// Does not wait. Call it again with the rest of the slice to send more.
     ///

@@ -13,7 +13,6 @@ ghost use Rattle.uart_16550.specs.Frame.{switched};
 use super::Uart16550Ring;
 use bitflags::Flags;
 use uart_16550::backend::Backend;
-use uart_spec::FIFO_SIZE;
 use uart_spec::registers::{IER, MCR};
 
 // What tells the other end to go on, and to stop.
@@ -57,15 +56,16 @@ impl<B: Backend> Uart16550Ring<B> {
         }
     }
 
-    // Receives bytes into the receive ring: as many as a FIFO holds, and as there is room for.
+    // Receives bytes into the receive ring: as many as a FIFO of the size that is set holds, and as
+    // there is room for.
     pub(super) fn fill_receive_ring(&mut self)
         ensures { RingDid B.step FillsReceiveRing self.old self.new }
     {
-        let mut slots = [0; FIFO_SIZE];
-        let room = FIFO_SIZE.min(self.receive.capacity() - self.receive.len());
-        let count = self.uart.receive_bytes(&mut slots[..room]);
-        self.unlooked = self.unlooked.min(self.receive.len()) + count;
-        self.receive.fill_from_slice(&slots[..count]);
+        let len = self.receive.len();
+        let most = self.uart.fifo_size().characters();
+        let slots = most.min(self.receive.capacity() - len);
+        let count = self.receive.receive_from(&mut self.uart, slots);
+        self.unlooked = self.unlooked.min(len) + count;
         self.pause_if_full();
     }
 

@@ -144,7 +144,8 @@ impl<B: Backend> Uart16550Ring<B> {
     /// A chip whose line stays high while ISR shows no interrupt is not found: its rounds end with
     /// `Idle`. DesignWare's busy detect is such a one.
     ///
-    /// Does not wait: makes at most 35 accesses for each interrupt of the limit, and 6 more.
+    /// Does not wait: makes at most 35 accesses for each interrupt of the limit, and 6 more. With a
+    /// larger `fifo_size` of the driver it is twice that size and 3 in place of the 35.
     ///
     /// # Errors
     ///

@@ -1,7 +1,9 @@
 //! From the transmit ring to the chip.
-ghost use Rattle.std.specs.Prelude.{◌≡◌, ◌≤◌, ◌<◌, ◌==◌, ◌||◌, ◌++◌, not, length, min, take, drop};
+ghost use Rattle.std.specs.Prelude.{◌≡◌, ◌≤◌, ◌==◌, ◌||◌, not, length, min, drop};
+ghost use Rattle.uart_16550.specs.Driver.{Made};
+ghost use Rattle.uart_16550.specs.Transmit.{Sends};
 ghost use Rattle.uart_ring.specs.Queue.{queue};
-ghost use Rattle.uart_ring.specs.Ring.{RingDid, falls, free, ring_fields, sendable, unless_held};
+ghost use Rattle.uart_ring.specs.Ring.{RingDid, driver_of, falls, free, ring_fields, sendable};
 ghost use Rattle.uart_ring.specs.Ring.{without_sent_bytes};
 ghost use Rattle.uart_ring.specs.Transmit.{Pumps, Queues, ResumesTransmit};
 ghost use Rattle.uart_ring.specs.Transmit.{Holds, Releases, QueuesUrgent, ClearsTransmit};
@@ -9,44 +11,24 @@ ghost use Rattle.uart_ring.specs.Transmit.{SetsLowMark, TakesLow};
 
 use super::Uart16550Ring;
 use uart_16550::backend::Backend;
-use uart_spec::FIFO_SIZE;
 use uart_spec::registers::IER;
 
 impl<B: Backend> Uart16550Ring<B> {
-    // Copies bytes of the transmit ring, as many as there are slots, and returns how many: none
-    // while it is held. Leaves the other slots unchanged.
-    fn copy_queued(&self, slots: &mut [u8]) -> usize
-        ensures count { result ≡ min (length slots.old)
-            (length (unless_held self.now.is_held self.now.transmit.items)) }
-        ensures copied { slots.new ≡
-            take result (unless_held self.now.is_held self.now.transmit.items)
-            ++ drop result slots.old }
-    {
-        if self.is_held {
-            return 0;
-        }
-        self.transmit.copy_front(slots)
-    }
-
-    // Copies bytes that may be sent, from the front, as many as there are slots, and returns how
-    // many. Leaves the other slots unchanged.
-    fn copy_sendable(&self, slots: &mut [u8]) -> usize
-        requires { 0 < length slots.old }
-        ensures count { result ≡ min (length slots.old)
-            (length (sendable (ring_fields self.now))) }
-        ensures copied { slots.new ≡
-            take result (sendable (ring_fields self.now)) ++ drop result slots.old }
+    // Sends one burst of the bytes that may be sent, if the chip has room, and returns how many.
+    fn send_sendable(&mut self) -> usize
+        ensures made { Made B.step (Sends (sendable (ring_fields self.old)) result)
+            (driver_of self.old) (driver_of self.new) }
+        ensures kept { self.new ≡ record self.old { uart = driver_of self.new } }
+        ensures count { result ≤ length (sendable (ring_fields self.old)) }
     {
         if self.stuck.is_some() {
             return 0;
         }
-        match self.urgent {
-            None => self.copy_queued(slots),
-            Some(byte) => {
-                slots[0] = byte;
-                1 + self.copy_queued(&mut slots[1..])
-            }
-        }
+        let count = if self.is_held { 0 } else { self.transmit.len() };
+        // In the ring the bytes may be in two parts, and the urgent byte is in none of them. They
+        // are one burst, after one look, all the same.
+        let (first, second) = self.transmit.front_slices(count);
+        self.uart.send_gathered(self.urgent, first, second)
     }
 
     // Returns whether a byte waits that may be sent.
@@ -105,11 +87,7 @@ impl<B: Backend> Uart16550Ring<B> {
     pub(super) fn pump(&mut self)
         ensures { RingDid B.step Pumps self.old self.new }
     {
-        // In the ring the bytes may be in two pieces, and the urgent byte is in none of them.
-        // `send_bytes` takes one slice.
-        let mut burst = [0; FIFO_SIZE];
-        let count = self.copy_sendable(&mut burst);
-        let sent = self.uart.send_bytes(&burst[..count]);
+        let sent = self.send_sendable();
         self.drop_sent(sent);
         if self.has_sendable() {
             self.uart.enable_interrupts(IER::THR_EMPTY);
@@ -121,10 +99,11 @@ impl<B: Backend> Uart16550Ring<B> {
     /// Queues bytes from the front of the slice, as many as the transmit ring has room for, and
     /// returns how many.
     ///
-    /// If it queues any, it sends bytes of the ring if the chip has room: up to 16 if its FIFO is
-    /// on, else one. Then it enables `THR_EMPTY` if bytes are left in the ring, else it disables
-    /// it. The rest is sent when that interrupt is served. While the ring is held or the chip is
-    /// stuck, it sends none, and disables `THR_EMPTY`.
+    /// If it queues any, it sends one burst of the ring if the chip has room, as `send_bytes` of
+    /// the driver: up to as many bytes as the FIFO holds if it is on, else one. Then it enables
+    /// `THR_EMPTY` if bytes are left in the ring, else it disables it. The rest is sent when that
+    /// interrupt is served. While the ring is held or the chip is stuck, it sends none, and
+    /// disables `THR_EMPTY`.
     ///
     /// Does not wait. If it did not queue all bytes, call it again with the rest of the slice after
     /// interrupts were served.
@@ -148,9 +127,9 @@ impl<B: Backend> Uart16550Ring<B> {
 
     /// Starts sending again if bytes wait in the transmit ring with no interrupt to come.
     ///
-    /// If bytes wait, it sends some of them if the chip has room: up to 16 if its FIFO is on, else
-    /// one. Then it enables `THR_EMPTY` if bytes are left in the ring, else it disables it. The
-    /// rest is sent when that interrupt is served. If none wait, it makes no access.
+    /// If bytes wait, it sends one burst of them if the chip has room, as `queue` does. Then it
+    /// enables `THR_EMPTY` if bytes are left in the ring, else it disables it. The rest is sent
+    /// when that interrupt is served. If none wait, it makes no access.
     ///
     /// Does not wait. Call it
     ///
@@ -178,8 +157,8 @@ impl<B: Backend> Uart16550Ring<B> {
 
     /// Holds the transmit ring: none of its bytes is handed to the chip until `release_transmit`.
     ///
-    /// What is in the chip goes out: a held ring stops with at most 16 characters of delay. `queue`
-    /// accepts bytes as before, and an urgent byte still goes out.
+    /// What is in the chip goes out: a held ring stops with at most as many characters of delay as
+    /// the FIFO holds. `queue` accepts bytes as before, and an urgent byte still goes out.
     ///
     /// Makes no access. If `THR_EMPTY` is enabled, it is disabled when its next interrupt is
     /// served.

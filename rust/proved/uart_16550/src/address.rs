@@ -32,7 +32,7 @@ impl<P: PortAccess> Uart16550<PioBackend<P>> {
     ///
     /// # Proved
     ///
-    /// - *fresh*: if it returns `Ok driver`: [`IsFresh`](crate::proved::driver#IsFresh) `driver (backend_of driver) Config.DEFAULT`: a driver over this backend that has made no access: FIFO treated as on, nothing saved, limit 1,000,000.
+    /// - *fresh*: if it returns `Ok driver`: [`IsFresh`](crate::proved::driver#IsFresh) `driver (backend_of driver) Config.DEFAULT`: a driver over this backend that has made no access: FIFO treated as on, and of 16 characters, nothing saved, limit 1,000,000.
     ///   - [`backend_of`](crate::proved::driver#backend_of): the backend of a driver, which makes its accesses.
     /// - *place*: if it returns `Ok driver`: [`IsAtPorts`](crate::proved::pio#IsAtPorts) `(backend_of driver) base_port access`: the registers are at the ports from this one on, and this object accesses them.
     /// - *refused*: if it returns `Err`, for its value [`IsPortRefusal`](crate::proved::pio#IsPortRefusal) `base_port`: why no registers can be at the ports from this one on: the last of them would be beyond the last port.
@@ -86,7 +86,7 @@ impl<M: ByteAccess> Uart16550<MmioBackend<M>> {
     ///
     /// # Proved
     ///
-    /// - *fresh*: if it returns `Ok driver`: [`IsFresh`](crate::proved::driver#IsFresh) `driver (backend_of driver) Config.DEFAULT`: a driver over this backend that has made no access: FIFO treated as on, nothing saved, limit 1,000,000.
+    /// - *fresh*: if it returns `Ok driver`: [`IsFresh`](crate::proved::driver#IsFresh) `driver (backend_of driver) Config.DEFAULT`: a driver over this backend that has made no access: FIFO treated as on, and of 16 characters, nothing saved, limit 1,000,000.
     ///   - [`backend_of`](crate::proved::driver#backend_of): the backend of a driver, which makes its accesses.
     /// - *place*: if it returns `Ok driver`: [`IsInMemory`](crate::proved::mmio#IsInMemory) `(backend_of driver) base_address stride access`: the registers are in memory from this address on, with this distance, and this object accesses them.
     /// - *refused*: if it returns `Err`, for its value [`IsMappingRefusal`](crate::proved::mmio#IsMappingRefusal) `(non_zero_usize_get base_address) stride`: why no registers can be in memory from this address on: the stride is checked first.
@@ -134,7 +134,7 @@ impl<M: ByteAccess> Uart16550<MmioBackend<M>> {
     ///
     /// # Proved
     ///
-    /// - *fresh*: if it returns `Ok driver`: [`IsFresh`](crate::proved::driver#IsFresh) `driver (backend_of driver) Config.DEFAULT`: a driver over this backend that has made no access: FIFO treated as on, nothing saved, limit 1,000,000.
+    /// - *fresh*: if it returns `Ok driver`: [`IsFresh`](crate::proved::driver#IsFresh) `driver (backend_of driver) Config.DEFAULT`: a driver over this backend that has made no access: FIFO treated as on, and of 16 characters, nothing saved, limit 1,000,000.
     ///   - [`backend_of`](crate::proved::driver#backend_of): the backend of a driver, which makes its accesses.
     /// - *place*: if it returns `Ok driver`: [`IsInMemory`](crate::proved::mmio#IsInMemory) `(backend_of driver) base_address stride access`: the registers are in memory from this address on, with this distance, and this object accesses them.
     /// - *refused*: if it returns `Err`, for its value [`IsMappingRefusal`](crate::proved::mmio#IsMappingRefusal) `(non_zero_usize_get base_address) stride`: why no registers can be in memory from this address on: the stride is checked first.

@@ -18,8 +18,8 @@ use crate::backend::Backend;
 use bitflags::Flags;
 pub use state::DriverState;
 use std::num::NonZeroU64;
-use uart_spec::Config;
 use uart_spec::registers::{LSR, MSR, offsets};
+use uart_spec::{Config, FifoSize};
 
 /// The spin limit of a new driver: how many unsuccessful polls in a row a wait makes before it
 /// returns an error.
@@ -60,6 +60,8 @@ pub struct Uart16550<B> {
     backend: B,
     config: Config,
     fifo_enabled: bool,
+    // What the program knows of the chip, as the spin limit is: no access changes it.
+    fifo_size: FifoSize,
     saved_lsr: LSR,
     saved_msr: MSR,
     spin_limit: NonZeroU64,
@@ -71,6 +73,7 @@ impl<B: Backend> Uart16550<B> {
     /// Makes no access: call `init` before any other call, or `attach`. Until then the
     /// configuration is `Config::DEFAULT`, no status bits are saved, and the FIFO is taken to be
     /// on. So a send before may write 16 bytes into a chip without a FIFO, which keeps one of them.
+    /// The size of the FIFOs is `FifoSize::Sixteen`, until `set_fifo_size` sets another.
     ///
     /// # Examples
     ///
@@ -93,7 +96,7 @@ impl<B: Backend> Uart16550<B> {
     ///
     /// # Proved
     ///
-    /// - [`IsFresh`](crate::proved::driver#IsFresh) `result backend Config.DEFAULT`: a driver over this backend that has made no access: FIFO treated as on, nothing saved, limit 1,000,000.
+    /// - [`IsFresh`](crate::proved::driver#IsFresh) `result backend Config.DEFAULT`: a driver over this backend that has made no access: FIFO treated as on, and of 16 characters, nothing saved, limit 1,000,000.
     ///
     /// <details><summary>The clauses</summary>
     ///
@@ -109,6 +112,7 @@ impl<B: Backend> Uart16550<B> {
             backend,
             config: Config::DEFAULT,
             fifo_enabled: true,
+            fifo_size: FifoSize::Sixteen,
             saved_lsr: LSR::from_bits_retain(0),
             saved_msr: MSR::from_bits_retain(0),
             spin_limit: NonZeroU64::new(DEFAULT_SPIN_LIMIT).unwrap(),
@@ -223,7 +227,7 @@ impl<B: Backend> Uart16550<B> {
     /// After a `quiesce` that disables the FIFOs it is off. Makes no access.
     ///
     /// A driver that was never initialised takes the FIFO to be on. If it is on, a send check is
-    /// followed by up to 16 bytes, else by one.
+    /// followed by up to as many bytes as `fifo_size` says, else by one.
     ///
     /// # Examples
     ///
@@ -251,6 +255,78 @@ impl<B: Backend> Uart16550<B> {
     /// </details>
     pub const fn fifo_enabled(&self) -> bool {
         self.fifo_enabled
+    }
+
+    /// Returns which size the FIFOs are taken to have: 16 characters, or what `set_fifo_size` set
+    /// last. Makes no access.
+    ///
+    /// # Examples
+    ///
+    /// ```
+    /// # include!(concat!(env!("CARGO_MANIFEST_DIR"), "/examples.rs"));
+    /// # fn main() {}
+    /// # fn example(uart: &mut Uart16550<Device>) -> Outcome<()> {
+    /// assert_eq!(uart.fifo_size(), FifoSize::Sixteen);
+    /// # Ok(()) }
+    /// ```
+    ///
+    /// # Proved
+    ///
+    /// - Returns `(fields self.now).size`.
+    ///   - [`fields`](crate::proved::driver#fields): what this driver holds beside its backend.
+    ///
+    /// <details><summary>The clauses</summary>
+    ///
+    /// [How to read them](uart_spec::proved):
+    ///
+    /// ```text
+    /// ensures { result ≡ (fields self.now).size }
+    /// ```
+    ///
+    /// </details>
+    pub const fn fifo_size(&self) -> FifoSize {
+        self.fifo_size
+    }
+
+    /// Sets which size the FIFOs are taken to have. Makes no access, and changes nothing else.
+    ///
+    /// From then on all that sends puts as many bytes into one burst as such a FIFO holds, if
+    /// `fifo_enabled`. So a larger size takes fewer looks and fewer interrupts for the same bytes.
+    /// No other call changes the size: `init` and `attach` keep it.
+    ///
+    /// The size is taken on trust. If it is larger than the chip's, the bytes that do not fit are
+    /// lost, and nothing tells. Some chips hold more than 16 characters only after a register of
+    /// their own was written. `find_fifo_size` finds the size of FIFOs as they are set up; a chip
+    /// of DesignWare may show it in CPR.
+    ///
+    /// # Examples
+    ///
+    /// ```
+    /// # include!(concat!(env!("CARGO_MANIFEST_DIR"), "/examples.rs"));
+    /// # fn main() {}
+    /// # fn example(uart: &mut Uart16550<Device>, bytes: &[u8]) -> Outcome<()> {
+    /// let size = uart.find_fifo_size()?;
+    /// uart.set_fifo_size(size);
+    /// uart.send_bytes_exact(bytes)?;
+    /// # Ok(()) }
+    /// ```
+    ///
+    /// # Proved
+    ///
+    /// - [Does as](crate::proved::driver#Did) [`Sets`](crate::proved::driver#Sets) `(with_fifo_size size)`: no access, and this change to the fields.
+    ///   - [`with_fifo_size`](crate::proved::driver#with_fifo_size): the fields of a driver that takes the FIFO to have this size.
+    ///
+    /// <details><summary>The clauses</summary>
+    ///
+    /// [How to read them](uart_spec::proved):
+    ///
+    /// ```text
+    /// ensures { Did B.step (Sets (with_fifo_size size)) self.old self.new }
+    /// ```
+    ///
+    /// </details>
+    pub const fn set_fifo_size(&mut self, size: FifoSize) {
+        self.fifo_size = size;
     }
 
     /// Returns how many unsuccessful polls in a row a wait makes before it returns an error. Makes
@@ -288,9 +364,10 @@ impl<B: Backend> Uart16550<B> {
     /// Sets how many unsuccessful polls in a row a wait makes before it returns an error. Makes no
     /// access, and changes nothing else.
     ///
-    /// Choose it by the time of one poll: at 9,600 baud a full FIFO and shift register hold 17
-    /// characters of 10 bits, which take about 17.7 ms to send. A limit near 2^64 is a wait without
-    /// end in practice: at a microsecond a poll it takes more than half a million years.
+    /// Choose it by the time of one poll: at 9,600 baud a full FIFO of 16 and the shift register
+    /// hold 17 characters of 10 bits, which take about 17.7 ms to send. A larger FIFO takes as much
+    /// longer as it is larger. A limit near 2^64 is a wait without end in practice: at a
+    /// microsecond a poll it takes more than half a million years.
     ///
     /// # Examples
     ///

@@ -173,7 +173,7 @@ impl<B: Backend> Read for Uart16550<B> {
 
 impl<B: Backend> Write for Uart16550<B> {
     /// Waits for room, at most `spin_limit` checks as `ready_to_send`, and then sends one burst: up
-    /// to 16 bytes if the FIFO is on, else one.
+    /// to as many bytes as `fifo_size` says if the FIFO is on, else one.
     ///
     /// # Errors
     ///

@@ -147,7 +147,7 @@ pub mod receive {}
 ///
 /// # `Sends`
 ///
-/// `send_bytes`: nothing if there are no bytes; else a send check and, if it succeeds, bytes from the front are written to DATA: as many as the FIFO holds, or one if it is off. The result is how many.
+/// `send_bytes`: nothing if there are no bytes; else a send check and, if it succeeds, bytes from the front are written to DATA: as many as a FIFO of the size that is set holds, or one if it is off. The result is how many.
 ///
 /// ```text
 /// abbrev pub Sends : List ℕ → ℕ → Language
@@ -208,10 +208,10 @@ pub mod transmit {}
 /// SendsBurst size bytes k s l =
 ///     ((length bytes ≡ 0) × (k ≡ 0) × (l ≡ []))
 ///     ⊎ ((0 < length bytes) × (k ≡ 0) × SendMiss s l)
-///     ⊎ ((0 < length bytes) × (k ≡ min (length bytes) (room s.fifo size)) × Burst (take k bytes) s l)
+///     ⊎ ((0 < length bytes) × (k ≡ min (length bytes) (burst_limit s.fifo size)) × Burst (take k bytes) s l)
 /// ```
 ///
-/// It uses `Language` of `crates/uart_16550/specs/Grammar.antt`; `SendMiss`, `Burst` of `crates/uart_16550/specs/Transmit.antt`; `room` of this file.
+/// It uses `Language` of `crates/uart_16550/specs/Grammar.antt`; `SendMiss`, `burst_limit`, `Burst` of `crates/uart_16550/specs/Transmit.antt`.
 #[doc(alias("SendsBurst"))]
 pub mod bursts {}
 
@@ -316,6 +316,7 @@ pub mod patience {}
 /// fields d = record {
 ///   config = d.config;
 ///   fifo = d.fifo_enabled;
+///   size = d.fifo_size;
 ///   lsr = d.saved_lsr.0;
 ///   msr = d.saved_msr.0;
 ///   limit = non_zero_u64_get d.spin_limit;
@@ -328,12 +329,19 @@ pub mod patience {}
 ///
 /// # `IsFresh`
 ///
-/// A driver over this backend that has made no access: FIFO treated as on, nothing saved, limit 1,000,000.
+/// A driver over this backend that has made no access: FIFO treated as on, and of 16 characters, nothing saved, limit 1,000,000.
 ///
 /// ```text
 /// pub record IsFresh {B : Type 0} (d : Uart16550 B) (given : B) (config : Config) : Type 0 where
 ///   pub backend : d.backend ≡ given
-///   pub begins : fields d ≡ record { config = config; fifo = true; lsr = 0; msr = 0; limit = DEFAULT_SPIN_LIMIT }
+///   pub begins : fields d ≡ record {
+///     config = config;
+///     fifo = true;
+///     size = Sixteen;
+///     lsr = 0;
+///     msr = 0;
+///     limit = DEFAULT_SPIN_LIMIT;
+///   }
 /// ```
 ///
 /// It uses [`fields`](crate::proved::driver#fields).
@@ -352,6 +360,7 @@ pub mod patience {}
 ///   pub msr : new.saved_msr.0 ≡ bit_or old.saved_msr.0 (saved_msr list)
 ///   pub config : new.config ≡ old.config
 ///   pub fifo : new.fifo_enabled ≡ old.fifo_enabled
+///   pub size : new.fifo_size ≡ old.fifo_size
 ///   pub limit : new.spin_limit ≡ old.spin_limit
 ///   pub fits : L (settings old) list
 /// ```
@@ -399,6 +408,19 @@ pub mod patience {}
 ///
 /// It uses `Fields`, `Doing` of this file.
 ///
+/// <span id="with_fifo_size"></span>
+///
+/// # `with_fifo_size`
+///
+/// The fields of a driver that takes the FIFO to have this size.
+///
+/// ```text
+/// abbrev pub with_fifo_size : FifoSize → Fields → Fields
+/// with_fifo_size size f = record f { size = size }
+/// ```
+///
+/// It uses `Fields` of this file.
+///
 /// <span id="with_limit"></span>
 ///
 /// # `with_limit`
@@ -411,7 +433,7 @@ pub mod patience {}
 /// ```
 ///
 /// It uses `Fields` of this file.
-#[doc(alias("backend_of", "fields", "IsFresh", "Made", "Did", "Saving", "Sets", "with_limit"))]
+#[doc(alias("backend_of", "fields", "IsFresh", "Made", "Did", "Saving", "Sets", "with_fifo_size", "with_limit"))]
 pub mod driver {}
 
 /// The state of a driver without its backend, as a value.
@@ -430,6 +452,7 @@ pub mod driver {}
 ///     record {
 ///       config = s.config;
 ///       fifo = s.fifo_enabled;
+///       size = s.fifo_size;
 ///       lsr = s.saved_lsr.0;
 ///       msr = s.saved_msr.0;
 ///       limit = non_zero_u64_get s.spin_limit;
@@ -446,7 +469,8 @@ pub mod driver {}
 ///
 /// ```text
 /// abbrev pub fresh_fields : Fields
-/// fresh_fields = record { config = DEFAULT; fifo = true; lsr = 0; msr = 0; limit = DEFAULT_SPIN_LIMIT }
+/// fresh_fields =
+///     record { config = DEFAULT; fifo = true; size = Sixteen; lsr = 0; msr = 0; limit = DEFAULT_SPIN_LIMIT }
 /// ```
 ///
 /// It uses `Fields` of `crates/uart_16550/specs/Driver.antt`.

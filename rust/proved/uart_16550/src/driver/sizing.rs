@@ -58,7 +58,7 @@ impl<B: Backend> Uart16550<B> {
     }
 
     /// Finds how many characters the FIFOs of the chip hold as they are set up now: the largest
-    /// `FifoSize` that is safe in `send_burst`.
+    /// `FifoSize` that is safe in `set_fifo_size` and `send_burst`. It does not set it.
     ///
     /// Sends 257 bytes in loopback without looking, and counts those that come back: they are as
     /// many as the smaller of the two FIFOs holds, or few more. A count between two sizes gives the
@@ -85,7 +85,8 @@ impl<B: Backend> Uart16550<B> {
     /// - `FifosOff` if the FIFOs are off (`fifo_enabled`). No access was made.
     /// - `Stalled` after `spin_limit` unsuccessful polls in a row. If the first wait failed,
     ///   nothing was written, and what the polls cleared is saved. Later the FIFOs are reset, so
-    ///   that of the bytes in the transmitter at most the rest of one character goes out.
+    ///   that of the bytes in the transmitter at most the rest of one character goes out. On a chip
+    ///   without FIFOs, which a reset of them does not empty, up to two bytes may go out.
     /// - `TooFew` if fewer than 16 bytes came back. Call `test_loopback` to see whether any does.
     ///
     /// Except for the first wait, MCR and IER are restored before the error is returned.
@@ -95,9 +96,9 @@ impl<B: Backend> Uart16550<B> {
     /// ```
     /// # include!(concat!(env!("CARGO_MANIFEST_DIR"), "/examples.rs"));
     /// # fn main() {}
-    /// # fn example(uart: &mut Uart16550<Device>, bytes: &[u8]) -> Outcome<()> {
+    /// # fn example(uart: &mut Uart16550<Device>) -> Outcome<()> {
     /// let size = uart.find_fifo_size()?;
-    /// let sent = uart.send_burst(bytes, size);
+    /// uart.set_fifo_size(size);
     /// # Ok(()) }
     /// ```
     ///

@@ -4,8 +4,8 @@ use super::{DEFAULT_SPIN_LIMIT, Uart16550};
 use crate::backend::Backend;
 use bitflags::Flags;
 use std::num::NonZeroU64;
-use uart_spec::Config;
 use uart_spec::registers::{LSR, MSR};
+use uart_spec::{Config, FifoSize};
 
 /// The state of a driver without its backend: everything that a driver over another backend needs
 /// to continue.
@@ -15,6 +15,8 @@ pub struct DriverState {
     pub config: Config,
     /// Whether the chip is taken to have a FIFO that is on.
     pub fifo_enabled: bool,
+    /// Which size the FIFOs are taken to have, as `Uart16550::fifo_size` returns it.
+    pub fifo_size: FifoSize,
     /// The line errors that reads of LSR cleared in the chip, and that no call of `lsr` has
     /// returned.
     pub saved_lsr: LSR,
@@ -47,6 +49,7 @@ impl DriverState {
         DriverState {
             config: Config::DEFAULT,
             fifo_enabled: true,
+            fifo_size: FifoSize::Sixteen,
             saved_lsr: LSR::from_bits_retain(0),
             saved_msr: MSR::from_bits_retain(0),
             spin_limit: NonZeroU64::new(DEFAULT_SPIN_LIMIT).unwrap(),
@@ -92,6 +95,7 @@ impl<B: Backend> Uart16550<B> {
             backend,
             config: Config { ..state.config },
             fifo_enabled: state.fifo_enabled,
+            fifo_size: state.fifo_size,
             saved_lsr: state.saved_lsr,
             saved_msr: state.saved_msr,
             spin_limit: state.spin_limit,
@@ -129,6 +133,7 @@ impl<B: Backend> Uart16550<B> {
         DriverState {
             config: Config { ..self.config },
             fifo_enabled: self.fifo_enabled,
+            fifo_size: self.fifo_size,
             saved_lsr: self.saved_lsr,
             saved_msr: self.saved_msr,
             spin_limit: self.spin_limit,

@@ -5,7 +5,7 @@ use crate::backend::Backend;
 use crate::patience::Patience;
 use bitflags::Flags;
 use uart_spec::registers::{LSR, MCR, MSR, offsets};
-use uart_spec::{ByteSendError, FIFO_SIZE, StalledError};
+use uart_spec::{ByteSendError, FIFO_SIZE, FifoSize, StalledError};
 
 impl<B: Backend> Uart16550<B> {
     // Returns whether the modem lines allow sending. In loopback they do not matter: CTS is then
@@ -82,26 +82,24 @@ impl<B: Backend> Uart16550<B> {
     // fit. LSR shows whether the FIFO is empty, and no register shows how full it is. One byte more
     // could be lost, and nothing would tell.
     //
-    // A whole burst is apart, since its length is known to the compiler: it then counts no bytes.
+    // A whole burst of 16, the size of most chips, is apart, since its length is known to the
+    // compiler: it then counts no bytes.
     pub(super) fn write_burst(&mut self, bytes: &[u8]) -> usize {
         if !self.fifo_enabled {
             self.write_byte(bytes[0]);
             return 1;
         }
-        match bytes.first_chunk::<FIFO_SIZE>() {
-            Some(burst) => {
+        match (self.fifo_size, bytes.first_chunk::<FIFO_SIZE>()) {
+            (FifoSize::Sixteen, Some(burst)) => {
                 self.write_data(burst);
                 FIFO_SIZE
             }
-            None => {
-                self.write_data(bytes);
-                bytes.len()
-            }
+            (size, _) => self.write_up_to(size.characters(), bytes),
         }
     }
 
-    /// Sends bytes from the front of the slice if there is room, and returns how many: up to 16 if
-    /// the FIFO is on, else one; 0 if `ready_to_send` fails.
+    /// Sends bytes from the front of the slice if there is room, and returns how many: up to as
+    /// many as the FIFO holds (`fifo_size`) if it is on, else one; 0 if `ready_to_send` fails.
     ///
     /// Does not wait: makes one check as `ready_to_send`, and one burst of writes to THR. The chip
     /// reports only an empty FIFO, not how full it is, so nothing is sent until the last burst has
@@ -121,7 +119,7 @@ impl<B: Backend> Uart16550<B> {
     ///
     /// # Proved
     ///
-    /// - *made*: [makes accesses as](crate::proved::driver#Made) [`Sends`](crate::proved::transmit#Sends) `buffer.now result`: nothing if there are no bytes; else a send check and, if it succeeds, bytes from the front are written to DATA: as many as the FIFO holds, or one if it is off. The result is how many.
+    /// - *made*: [makes accesses as](crate::proved::driver#Made) [`Sends`](crate::proved::transmit#Sends) `buffer.now result`: nothing if there are no bytes; else a send check and, if it succeeds, bytes from the front are written to DATA: as many as a FIFO of the size that is set holds, or one if it is off. The result is how many.
     /// - *count*: `result ≤ length buffer.now`.
     ///
     /// <details><summary>The clauses</summary>
@@ -231,8 +229,8 @@ impl<B: Backend> Uart16550<B> {
         Ok(())
     }
 
-    /// Sends all of the bytes, and waits for room before each burst: of up to 16 bytes if the FIFO
-    /// is on, else of one.
+    /// Sends all of the bytes, and waits for room before each burst: of up to as many bytes as the
+    /// FIFO holds (`fifo_size`) if it is on, else of one.
     ///
     /// Each wait makes at most `spin_limit` checks as `ready_to_send`. It returns when the last
     /// burst is in THR or the FIFO; `flush` of [`embedded_io`](crate::embedded_io) waits until all

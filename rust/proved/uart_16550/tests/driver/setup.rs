@@ -159,8 +159,8 @@ fn drivers_and_terminals_have_debug_texts() {
     let driver = "Uart16550 { backend: Constant(255), config: Config { interrupts: IER(0x0), \
         frequency: 1843200, prescaler_division_factor: None, fifo_trigger_level: Some(Fourteen), \
         baud_rate: Baud9600, data_bits: EightBits, extra_stop_bits: false, parity: Disabled, \
-        check_cts_before_sending: false }, fifo_enabled: true, fifo_size: Sixteen, \
-        saved_lsr: LSR(0x0), saved_msr: MSR(0x0), spin_limit: 1000000 }";
+        check_cts_before_sending: false }, fifo_enabled: true, fifo_size: Sixteen, saved_lsr: LSR(0x0), \
+        saved_msr: MSR(0x0), spin_limit: 1000000 }";
     assert_eq!(format!("{uart:?}"), driver);
     let terminal = Uart16550Tty::from_inner(uart);
     assert_eq!(

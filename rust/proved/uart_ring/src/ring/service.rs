@@ -78,11 +78,12 @@ impl<B: Backend> Uart16550Ring<B> {
     ///
     /// Does not wait. What it does depends on the interrupt:
     ///
-    /// - Received data, or a reception timeout: bytes are moved to the receive ring. If that is
-    ///   full then, receiving is paused: `DATA_READY` is disabled, and bytes stay in the chip until
-    ///   a `take` makes room.
-    /// - `THR_EMPTY`: bytes of the transmit ring are sent, up to 16 if the FIFO is on, else one. If
-    ///   bytes are left in the ring, `THR_EMPTY` stays enabled, else it is disabled.
+    /// - Received data, or a reception timeout: bytes are moved to the receive ring, up to as many
+    ///   as the FIFO holds (`fifo_size` of the driver). If that is full then, receiving is paused:
+    ///   `DATA_READY` is disabled, and bytes stay in the chip until a `take` makes room.
+    /// - `THR_EMPTY`: bytes of the transmit ring are sent, up to as many as the FIFO holds if it is
+    ///   on, else one. If bytes are left in the ring, `THR_EMPTY` stays enabled, else it is
+    ///   disabled.
     /// - Line status: the errors are noted for `take_line`.
     /// - Modem status: the changes are noted for `take_modem`.
     /// - End of DMA: nothing.
@@ -183,7 +184,8 @@ impl<B: Backend> Uart16550Ring<B> {
     /// ever. So count the calls in a row that do not end with `Idle`, and after a number of them
     /// disable the chip's interrupts.
     ///
-    /// Does not wait: makes at most 35 accesses for each interrupt of the limit, and 3 more.
+    /// Does not wait: makes at most 35 accesses for each interrupt of the limit, and 3 more. With a
+    /// larger `fifo_size` of the driver it is twice that size and 3 in place of the 35.
     ///
     /// # Examples
     ///

@@ -2,32 +2,19 @@
 
 use super::Uart16550Ring;
 use uart_16550::backend::Backend;
-use uart_spec::FIFO_SIZE;
 use uart_spec::registers::IER;
 
 impl<B: Backend> Uart16550Ring<B> {
-    // Copies bytes of the transmit ring, as many as there are slots, and returns how many: none
-    // while it is held. Leaves the other slots unchanged.
-    fn copy_queued(&self, slots: &mut [u8]) -> usize {
-        if self.is_held {
-            return 0;
-        }
-        self.transmit.copy_front(slots)
-    }
-
-    // Copies bytes that may be sent, from the front, as many as there are slots, and returns how
-    // many. Leaves the other slots unchanged.
-    fn copy_sendable(&self, slots: &mut [u8]) -> usize {
+    // Sends one burst of the bytes that may be sent, if the chip has room, and returns how many.
+    fn send_sendable(&mut self) -> usize {
         if self.stuck.is_some() {
             return 0;
         }
-        match self.urgent {
-            None => self.copy_queued(slots),
-            Some(byte) => {
-                slots[0] = byte;
-                1 + self.copy_queued(&mut slots[1..])
-            }
-        }
+        let count = if self.is_held { 0 } else { self.transmit.len() };
+        // In the ring the bytes may be in two parts, and the urgent byte is in none of them. They
+        // are one burst, after one look, all the same.
+        let (first, second) = self.transmit.front_slices(count);
+        self.uart.send_gathered(self.urgent, first, second)
     }
 
     // Returns whether a byte waits that may be sent.
@@ -72,11 +59,7 @@ impl<B: Backend> Uart16550Ring<B> {
     // IER is read and written each time, even if it need not change: only the chip knows what IER
     // holds, and a caller may have changed it.
     pub(super) fn pump(&mut self) {
-        // In the ring the bytes may be in two pieces, and the urgent byte is in none of them.
-        // `send_bytes` takes one slice.
-        let mut burst = [0; FIFO_SIZE];
-        let count = self.copy_sendable(&mut burst);
-        let sent = self.uart.send_bytes(&burst[..count]);
+        let sent = self.send_sendable();
         self.drop_sent(sent);
         if self.has_sendable() {
             self.uart.enable_interrupts(IER::THR_EMPTY);
@@ -88,10 +71,11 @@ impl<B: Backend> Uart16550Ring<B> {
     /// Queues bytes from the front of the slice, as many as the transmit ring has room for, and
     /// returns how many.
     ///
-    /// If it queues any, it sends bytes of the ring if the chip has room: up to 16 if its FIFO is
-    /// on, else one. Then it enables `THR_EMPTY` if bytes are left in the ring, else it disables
-    /// it. The rest is sent when that interrupt is served. While the ring is held or the chip is
-    /// stuck, it sends none, and disables `THR_EMPTY`.
+    /// If it queues any, it sends one burst of the ring if the chip has room, as `send_bytes` of
+    /// the driver: up to as many bytes as the FIFO holds if it is on, else one. Then it enables
+    /// `THR_EMPTY` if bytes are left in the ring, else it disables it. The rest is sent when that
+    /// interrupt is served. While the ring is held or the chip is stuck, it sends none, and
+    /// disables `THR_EMPTY`.
     ///
     /// Does not wait. If it did not queue all bytes, call it again with the rest of the slice after
     /// interrupts were served.
@@ -135,9 +119,9 @@ impl<B: Backend> Uart16550Ring<B> {
 
     /// Starts sending again if bytes wait in the transmit ring with no interrupt to come.
     ///
-    /// If bytes wait, it sends some of them if the chip has room: up to 16 if its FIFO is on, else
-    /// one. Then it enables `THR_EMPTY` if bytes are left in the ring, else it disables it. The
-    /// rest is sent when that interrupt is served. If none wait, it makes no access.
+    /// If bytes wait, it sends one burst of them if the chip has room, as `queue` does. Then it
+    /// enables `THR_EMPTY` if bytes are left in the ring, else it disables it. The rest is sent
+    /// when that interrupt is served. If none wait, it makes no access.
     ///
     /// Does not wait. Call it
     ///
@@ -184,8 +168,8 @@ impl<B: Backend> Uart16550Ring<B> {
 
     /// Holds the transmit ring: none of its bytes is handed to the chip until `release_transmit`.
     ///
-    /// What is in the chip goes out: a held ring stops with at most 16 characters of delay. `queue`
-    /// accepts bytes as before, and an urgent byte still goes out.
+    /// What is in the chip goes out: a held ring stops with at most as many characters of delay as
+    /// the FIFO holds. `queue` accepts bytes as before, and an urgent byte still goes out.
     ///
     /// Makes no access. If `THR_EMPTY` is enabled, it is disabled when its next interrupt is
     /// served.

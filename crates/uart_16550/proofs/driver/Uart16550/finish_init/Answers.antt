@@ -23,5 +23,12 @@ returns g c =
     did_then read
     (did_then
     (did_set _ (with_saved 0 0) _ _ refl
-    (λ i. record { config = d.config; fifo = d.fifo_enabled; size = d.fifo_size; lsr = lsr i; msr = msr i; limit = non_zero_u64_get d.spin_limit }))
+    (λ i. record {
+      config = d.config;
+      fifo = d.fifo_enabled;
+      size = d.fifo_size;
+      lsr = lsr i;
+      msr = msr i;
+      limit = non_zero_u64_get d.spin_limit;
+    }))
     (did_made enabled))

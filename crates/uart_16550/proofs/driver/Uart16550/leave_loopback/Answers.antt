@@ -22,4 +22,11 @@ returns g c =
     (did_then (did_made left) (did_then c.read_plain.ensures (did_then (did_made restored)
     (did_set _ (with_changes c.args.noted.0 (line_changes c.args.before.0 now)) d
     (record d { saved_lsr = c.args.noted; saved_msr = c.insert.new.self }) refl
-    (λ i. record { config = d.config; fifo = d.fifo_enabled; size = d.fifo_size; lsr = c.args.noted.0; msr = msr i; limit = non_zero_u64_get d.spin_limit })))))
+    (λ i. record {
+      config = d.config;
+      fifo = d.fifo_enabled;
+      size = d.fifo_size;
+      lsr = c.args.noted.0;
+      msr = msr i;
+      limit = non_zero_u64_get d.spin_limit;
+    })))))
