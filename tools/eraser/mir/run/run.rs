@@ -745,8 +745,8 @@ pub enum Of {
 }
 
 impl Of {
-    /// Returns what arguments are that no caller gives if the first is true, that break the contract if the second is true, and whose sum or
-    /// product is the third.
+    /// Returns what arguments are that no caller gives if the first is true, that break the contract if the second is true, and whose sum
+    /// or product is the third.
     pub fn new(is_outside: bool, is_broken: bool, most: u128) -> Self {
         match () {
             () if is_outside => Self::Outside,
