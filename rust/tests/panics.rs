@@ -136,6 +136,8 @@ calls! {
     uart_backend_mut(uart: &mut Uart) -> &mut Device { uart.backend_mut() }
     uart_config(uart: &Uart) -> &Config { uart.config() }
     uart_fifo_enabled(uart: &Uart) -> bool { uart.fifo_enabled() }
+    uart_fifo_size(uart: &Uart) -> FifoSize { uart.fifo_size() }
+    uart_set_fifo_size(uart: &mut Uart, size: FifoSize) { uart.set_fifo_size(size) }
     uart_spin_limit(uart: &Uart) -> NonZeroU64 { uart.spin_limit() }
     uart_set_spin_limit(uart: &mut Uart, limit: NonZeroU64) { uart.set_spin_limit(limit) }
     uart_check_present(uart: &mut Uart) -> bool { uart.check_present() }
@@ -172,6 +174,7 @@ calls! {
     uart_receive_with_errors(uart: &mut Uart, slots: &mut [Received]) -> usize { uart.receive_with_errors(slots) }
     uart_receive_bytes(uart: &mut Uart, buffer: &mut [u8]) -> usize { uart.receive_bytes(buffer) }
     uart_send_bytes(uart: &mut Uart, buffer: &[u8]) -> usize { uart.send_bytes(buffer) }
+    uart_send_gathered(uart: &mut Uart, urgent: Option<u8>, first: &[u8], second: &[u8]) -> usize { uart.send_gathered(urgent, first, second) }
     uart_send_burst(uart: &mut Uart, buffer: &[u8], size: FifoSize) -> usize { uart.send_burst(buffer, size) }
     uart_receive_bytes_exact(uart: &mut Uart, buffer: &mut [u8]) -> Result<(), StalledError> { uart.receive_bytes_exact(buffer) }
     uart_send_bytes_exact(uart: &mut Uart, bytes: &[u8]) -> Result<(), StalledError> { uart.send_bytes_exact(bytes) }

@@ -214,6 +214,7 @@ Which byte of a register of several bytes is the first in memory. The chip's eig
         Field("uint8_t fifo_enabled", "0 or 1"),
         Field("uint8_t saved_lsr", "errors that reads of LSR cleared in the chip, and that were not reported yet"),
         Field("uint8_t saved_msr", "the same for changes of the modem lines"),
+        Field("uint16_t fifo_size", "how many characters the FIFOs are taken to hold: 16, 32, 64, 128 or 256"),
     ]),
     Struct("dump", "All registers at one time.", [
         Field("uint8_t ier, isr, lcr, mcr, lsr, msr, spr, dll, dlm"),
@@ -342,8 +343,11 @@ VALUES = [
     Value("uint8_t on", "uart_check_flag(on)", "on == 1"),
     Value("uint8_t characters", "uart_decode_fifo_trigger_level(characters, &level)", "level", "enum u16550_core_fifo_trigger_level level"),
     Value("uint8_t fifos", "uart_decode_fifo_action(fifos, &action)", "action", "enum uart_fifo_action action"),
-    Value("uint16_t fifo_size", "uart_decode_fifo_size(fifo_size, &size)", "size", "enum uart_fifo_size size"),
+    Value("uint16_t fifo_size", "uart_decode_fifo_size(fifo_size, &size)", "size", "enum u16550_core_fifo_size size"),
     Value("uint64_t limit", "uart_if(limit == 0, U16550_ZERO_LIMIT)", "limit"),
+    Value("const uint8_t *urgent", "uart_decode_urgent(urgent, &urgent_byte)", "urgent_byte", "struct u16550_core_maybe_u8 urgent_byte"),
+    Value("const uint8_t *first", "uart_array(first, first_len, 1, 1)", "first"),
+    Value("const uint8_t *second", "uart_array(second, second_len, 1, 1)", "second"),
     Value("const uint8_t *buffer", "uart_array(buffer, len, 1, 1)", "buffer"),
     Value("uint8_t *buffer", "uart_array(buffer, len, 1, 1)", "buffer"),
     Value("uint8_t (*keep_waiting)(void *context), void *context", "uart_if(keep_waiting == NULL, U16550_NULL_POINTER)", "&patience",
@@ -363,8 +367,8 @@ SECTIONS = [
     ]),
     Section("making a driver", """
 These make a driver in the memory, in place of one that is there, whose rings end. They make no access. If a call over the
-driver that is there is not done, they return U16550_BUSY. The driver has the default configuration and a spin limit of
-1000000 polls.""", [
+driver that is there is not done, they return U16550_BUSY. The driver has the default configuration, a spin limit of
+1000000 polls, and takes the FIFOs to hold 16 characters.""", [
         Group("A driver whose functions get offsets.", [
             ByHand("new", "struct u16550 *uart, const struct u16550_io *io"),
         ]),
@@ -435,6 +439,15 @@ Returns an enum u16550_nearest_error if there is none. nearest may be config."""
             Call("spin_limit", "struct u16550 *uart, uint64_t *limit", gives="limit"),
             Call("set_spin_limit", "struct u16550 *uart, uint64_t limit"),
         ]),
+        Group("""
+How many characters the FIFOs are taken to hold: 16 at first, or what u16550_set_fifo_size set last: 16, 32, 64, 128 or 256. Another
+number is refused by U16550_BAD_CODE. All that sends, and the rings, put as many bytes into one burst if the FIFO is on, so that a larger
+size takes fewer interrupts for the same bytes. No other call changes it. It is taken on trust: with a size larger than the chip's the
+bytes that do not fit are lost, and nothing tells. Some chips hold more than 16 only after a register of their own was written.
+u16550_find_fifo_size finds the size of FIFOs as they are set up.""", [
+            Call("fifo_size", "struct u16550 *uart, uint16_t *fifo_size", gives="fifo_size", encode="fifo_size"),
+            Call("set_fifo_size", "struct u16550 *uart, uint16_t fifo_size"),
+        ]),
     ]),
     Section("setting up", "", [
         Group("Whether a chip is there: its scratch register keeps two patterns.", [
@@ -455,10 +468,10 @@ may be null.""", [
             ByHand("test_loopback", "struct u16550 *uart, struct u16550_loopback_failure *failure"),
         ]),
         Group("""
-Finds how many characters the FIFOs hold as they are set up now, for u16550_send_burst: 16, 32, 64, 128 or 256. Sends 257
-bytes in loopback without looking, and counts those that come back. Nothing goes out on the line. Bytes that were received
-before and not taken are lost, and so is what arrives meanwhile. It takes as long as the characters need on the line. Returns
-an enum u16550_fifos_error if no size was found.""", [
+Finds how many characters the FIFOs hold as they are set up now, for u16550_set_fifo_size, which it does not call: 16, 32, 64,
+128 or 256. Sends 257 bytes in loopback without looking, and counts those that come back. Nothing goes out on the line. Bytes
+that were received before and not taken are lost, and so is what arrives meanwhile. It takes as long as the characters need on
+the line. Returns an enum u16550_fifos_error if no size was found.""", [
             Call("find_fifo_size", "struct u16550 *uart, uint16_t *fifo_size", gives="fifo_size", error="FifoSizeError", encode="fifo_size",
                 outcome="struct uart_fifo_size_or_fifo_size_error"),
         ]),
@@ -542,14 +555,23 @@ device is, and U16550_ATTACH_LOOPBACK if the chip stays in loopback. Refused by 
                 outcome="struct u16550_core_maybe_u8"),
             Call("try_send_byte", "struct u16550 *uart, uint8_t byte", error="ByteSendError"),
         ]),
-        Group("Receive what is there, or send one burst, without waiting. *count is how many bytes it was, perhaps 0.", [
+        Group("""
+Receive what is there, or send one burst, without waiting. *count is how many bytes it was, perhaps 0. A burst has as many bytes
+as u16550_fifo_size says if the FIFO is on, else one.""", [
             Call("receive_bytes", "struct u16550 *uart, uint8_t *buffer, size_t len, size_t *count", gives="count"),
             Call("send_bytes", "struct u16550 *uart, const uint8_t *buffer, size_t len, size_t *count", gives="count"),
         ]),
         Group("""
-The same as u16550_send_bytes for a chip whose transmitter FIFO has 16, 32, 64, 128 or 256 characters: one burst of that size.
-On a chip with fewer the bytes that do not fit are lost.""", [
+The same as u16550_send_bytes for a chip whose transmitter FIFO has 16, 32, 64, 128 or 256 characters: one burst of that size,
+whatever u16550_fifo_size says. On a chip with fewer the bytes that do not fit are lost.""", [
             Call("send_burst", "struct u16550 *uart, const uint8_t *buffer, size_t len, uint16_t fifo_size, size_t *count", gives="count"),
+        ]),
+        Group("""
+The same as u16550_send_bytes for bytes in a circular buffer: an urgent byte, as XOFF is, and then the bytes of both parts, in one burst
+wherever the parts meet. urgent may be null, and there is no such byte then. *count is how many of these bytes were sent, from the front:
+the urgent one is the first of them.""", [
+            Call("send_gathered", "struct u16550 *uart, const uint8_t *urgent, const uint8_t *first, size_t first_len, "
+                "const uint8_t *second, size_t second_len, size_t *count", gives="count"),
         ]),
         Group("""
 The same as u16550_try_receive_byte and u16550_receive_bytes, with the line errors of each byte. A chip shows these once: if

@@ -65,6 +65,8 @@ static int uart_decode_state(const struct u16550_state *from, struct uart_driver
         status = uart_check_flag(from->fifo_enabled);
     if (status == U16550_OK && from->spin_limit == 0)
         status = U16550_ZERO_LIMIT;
+    if (status == U16550_OK)
+        status = uart_decode_fifo_size(from->fifo_size, &to->fifo_size);
     if (status != U16550_OK)
         return status;
     to->fifo_enabled = from->fifo_enabled == 1;
@@ -81,6 +83,7 @@ static void uart_encode_state(struct uart_driver_state from, struct u16550_state
     to->fifo_enabled = from.fifo_enabled;
     to->saved_lsr = from.saved_lsr;
     to->saved_msr = from.saved_msr;
+    to->fifo_size = uart_encode_fifo_size(from.fifo_size);
 }
 
 static int uart_decode_setup(const struct u16550_setup *from, struct uart_setup *to)
@@ -147,6 +150,13 @@ static struct u16550_urgent uart_encode_urgent(struct u16550_core_maybe_u8 urgen
 {
     struct u16550_urgent made = { urgent.is_some, (uint8_t)(urgent.is_some ? urgent.value : 0) };
     return made;
+}
+
+/* A byte that goes first, if there is one. */
+static int uart_decode_urgent(const uint8_t *from, struct u16550_core_maybe_u8 *to)
+{
+    *to = from == NULL ? uart_no_u8() : uart_some_u8(*from);
+    return U16550_OK;
 }
 
 /* --------------------------------------------------------------- making and ending a driver */

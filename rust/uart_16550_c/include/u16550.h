@@ -257,6 +257,7 @@ struct u16550_state {
     uint8_t fifo_enabled;               /* 0 or 1 */
     uint8_t saved_lsr;                  /* errors that reads of LSR cleared in the chip, and that were not reported yet */
     uint8_t saved_msr;                  /* the same for changes of the modem lines */
+    uint16_t fifo_size;                 /* how many characters the FIFOs are taken to hold: 16, 32, 64, 128 or 256 */
 };
 
 /* All registers at one time. */
@@ -431,9 +432,9 @@ U16550_ASSERT(sizeof(struct u16550_layout) == 3, "struct u16550_layout");
 U16550_ASSERT(sizeof(struct u16550_config) == 20, "struct u16550_config");
 U16550_ASSERT(offsetof(struct u16550_config, has_prescaler) == 12, "struct u16550_config");
 U16550_ASSERT(offsetof(struct u16550_config, check_cts_before_sending) == 18, "struct u16550_config");
-U16550_ASSERT(sizeof(struct u16550_state) == 32, "struct u16550_state");
 U16550_ASSERT(offsetof(struct u16550_state, config) == 8, "struct u16550_state");
 U16550_ASSERT(offsetof(struct u16550_state, saved_msr) == 30, "struct u16550_state");
+U16550_ASSERT(offsetof(struct u16550_state, fifo_size) == 32, "struct u16550_state");
 U16550_ASSERT(sizeof(struct u16550_dump) == 9, "struct u16550_dump");
 U16550_ASSERT(sizeof(struct u16550_setup) == 3, "struct u16550_setup");
 U16550_ASSERT(sizeof(struct u16550_loopback_failure) == 34, "struct u16550_loopback_failure");
@@ -458,8 +459,8 @@ const char *U16550_CALL u16550_version(void);
 /* --------------------------------------------------------------- making a driver
  *
  * These make a driver in the memory, in place of one that is there, whose rings end. They make no access. If a call over the
- * driver that is there is not done, they return U16550_BUSY. The driver has the default configuration and a spin limit of
- * 1000000 polls.
+ * driver that is there is not done, they return U16550_BUSY. The driver has the default configuration, a spin limit of
+ * 1000000 polls, and takes the FIFOs to hold 16 characters.
  */
 
 /* A driver whose functions get offsets. */
@@ -533,6 +534,16 @@ int U16550_CALL u16550_fifo_enabled(struct u16550 *uart, uint8_t *enabled);
 int U16550_CALL u16550_spin_limit(struct u16550 *uart, uint64_t *limit);
 int U16550_CALL u16550_set_spin_limit(struct u16550 *uart, uint64_t limit);
 
+/*
+ * How many characters the FIFOs are taken to hold: 16 at first, or what u16550_set_fifo_size set last: 16, 32, 64, 128 or 256. Another
+ * number is refused by U16550_BAD_CODE. All that sends, and the rings, put as many bytes into one burst if the FIFO is on, so that a larger
+ * size takes fewer interrupts for the same bytes. No other call changes it. It is taken on trust: with a size larger than the chip's the
+ * bytes that do not fit are lost, and nothing tells. Some chips hold more than 16 only after a register of their own was written.
+ * u16550_find_fifo_size finds the size of FIFOs as they are set up.
+ */
+int U16550_CALL u16550_fifo_size(struct u16550 *uart, uint16_t *fifo_size);
+int U16550_CALL u16550_set_fifo_size(struct u16550 *uart, uint16_t fifo_size);
+
 /* --------------------------------------------------------------- setting up */
 
 /* Whether a chip is there: its scratch register keeps two patterns. */
@@ -554,10 +565,10 @@ int U16550_CALL u16550_init_with(struct u16550 *uart, const struct u16550_config
 int U16550_CALL u16550_test_loopback(struct u16550 *uart, struct u16550_loopback_failure *failure);
 
 /*
- * Finds how many characters the FIFOs hold as they are set up now, for u16550_send_burst: 16, 32, 64, 128 or 256. Sends 257
- * bytes in loopback without looking, and counts those that come back. Nothing goes out on the line. Bytes that were received
- * before and not taken are lost, and so is what arrives meanwhile. It takes as long as the characters need on the line. Returns
- * an enum u16550_fifos_error if no size was found.
+ * Finds how many characters the FIFOs hold as they are set up now, for u16550_set_fifo_size, which it does not call: 16, 32, 64,
+ * 128 or 256. Sends 257 bytes in loopback without looking, and counts those that come back. Nothing goes out on the line. Bytes
+ * that were received before and not taken are lost, and so is what arrives meanwhile. It takes as long as the characters need on
+ * the line. Returns an enum u16550_fifos_error if no size was found.
  */
 int U16550_CALL u16550_find_fifo_size(struct u16550 *uart, uint16_t *fifo_size);
 
@@ -648,15 +659,26 @@ int U16550_CALL u16550_ready_to_send(struct u16550 *uart);
 int U16550_CALL u16550_try_receive_byte(struct u16550 *uart, uint8_t *byte);
 int U16550_CALL u16550_try_send_byte(struct u16550 *uart, uint8_t byte);
 
-/* Receive what is there, or send one burst, without waiting. *count is how many bytes it was, perhaps 0. */
+/*
+ * Receive what is there, or send one burst, without waiting. *count is how many bytes it was, perhaps 0. A burst has as many bytes
+ * as u16550_fifo_size says if the FIFO is on, else one.
+ */
 int U16550_CALL u16550_receive_bytes(struct u16550 *uart, uint8_t *buffer, size_t len, size_t *count);
 int U16550_CALL u16550_send_bytes(struct u16550 *uart, const uint8_t *buffer, size_t len, size_t *count);
 
 /*
- * The same as u16550_send_bytes for a chip whose transmitter FIFO has 16, 32, 64, 128 or 256 characters: one burst of that size.
- * On a chip with fewer the bytes that do not fit are lost.
+ * The same as u16550_send_bytes for a chip whose transmitter FIFO has 16, 32, 64, 128 or 256 characters: one burst of that size,
+ * whatever u16550_fifo_size says. On a chip with fewer the bytes that do not fit are lost.
  */
 int U16550_CALL u16550_send_burst(struct u16550 *uart, const uint8_t *buffer, size_t len, uint16_t fifo_size, size_t *count);
+
+/*
+ * The same as u16550_send_bytes for bytes in a circular buffer: an urgent byte, as XOFF is, and then the bytes of both parts, in one burst
+ * wherever the parts meet. urgent may be null, and there is no such byte then. *count is how many of these bytes were sent, from the front:
+ * the urgent one is the first of them.
+ */
+int U16550_CALL u16550_send_gathered(struct u16550 *uart, const uint8_t *urgent, const uint8_t *first, size_t first_len,
+                                     const uint8_t *second, size_t second_len, size_t *count);
 
 /*
  * The same as u16550_try_receive_byte and u16550_receive_bytes, with the line errors of each byte. A chip shows these once: if

@@ -81,6 +81,25 @@ pub unsafe extern "C" fn u16550_send_burst(
 }
 
 #[unsafe(no_mangle)]
+pub unsafe extern "C" fn u16550_send_gathered(
+    uart: *mut Memory,
+    urgent: *const u8,
+    first: *const u8,
+    first_len: usize,
+    second: *const u8,
+    second_len: usize,
+    count: *mut usize,
+) -> c_int {
+    // SAFETY: the caller promises that pointers are null or valid.
+    unsafe {
+        report(uart, count, |driver| {
+            let (first, second) = (bytes(first, first_len)?, bytes(second, second_len)?);
+            Ok(driver.send_gathered(urgent.as_ref().copied(), first, second))
+        })
+    }
+}
+
+#[unsafe(no_mangle)]
 pub unsafe extern "C" fn u16550_try_receive_with_errors(
     uart: *mut Memory,
     received: *mut CReceived,

@@ -164,10 +164,11 @@ pub struct CState {
     fifo_enabled: u8,
     saved_lsr: u8,
     saved_msr: u8,
+    fifo_size: u16,
 }
 
-const _: () = assert!(size_of::<CState>() == 32);
 const _: () = assert!(offset_of!(CState, config) == 8 && offset_of!(CState, saved_msr) == 30);
+const _: () = assert!(offset_of!(CState, fifo_size) == 32);
 
 /// Returns the spin limit, unless it is 0.
 pub fn spin_limit(limit: u64) -> Result<NonZeroU64, Failure> {
@@ -183,6 +184,7 @@ impl CState {
             saved_lsr: LSR::from_bits_retain(self.saved_lsr),
             saved_msr: MSR::from_bits_retain(self.saved_msr),
             spin_limit: spin_limit(self.spin_limit)?,
+            fifo_size: fifo_size(self.fifo_size)?,
         })
     }
 }
@@ -195,6 +197,7 @@ impl From<&DriverState> for CState {
             fifo_enabled: state.fifo_enabled.into(),
             saved_lsr: state.saved_lsr.bits(),
             saved_msr: state.saved_msr.bits(),
+            fifo_size: characters_of(state.fifo_size),
         }
     }
 }
@@ -358,6 +361,12 @@ pub fn fifo_size(characters: u16) -> Result<FifoSize, Failure> {
         256 => Ok(FifoSize::TwoHundredFiftySix),
         _ => Err(Failure::BadCode),
     }
+}
+
+/// Returns how many characters a FIFO of this size holds.
+pub fn characters_of(size: FifoSize) -> u16 {
+    // At most 256.
+    size.characters() as u16
 }
 
 /// The header's `struct u16550_received`.

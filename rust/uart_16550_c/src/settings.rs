@@ -1,7 +1,8 @@
 //! What the driver keeps, its initialisation, and its tests.
 
 use crate::data::{
-    CConfig, CDifference, CDump, CLoopbackFailure, CSetup, CState, fifo_action, flag, level, spin_limit,
+    CConfig, CDifference, CDump, CLoopbackFailure, CSetup, CState, characters_of, fifo_action,
+    flag, level, spin_limit,
 };
 use crate::device::Io;
 use crate::memory::{Driver, Memory, given, usable, with};
@@ -119,6 +120,26 @@ pub unsafe extern "C" fn u16550_spin_limit(uart: *mut Memory, limit: *mut u64) -
 pub unsafe extern "C" fn u16550_set_spin_limit(uart: *mut Memory, limit: u64) -> c_int {
     let set = |driver: &mut Driver| {
         driver.set_spin_limit(spin_limit(limit)?);
+        Ok(())
+    };
+    // SAFETY: the caller promises that the pointer is null or valid.
+    unsafe { perform(uart, set) }
+}
+
+#[unsafe(no_mangle)]
+pub unsafe extern "C" fn u16550_fifo_size(uart: *mut Memory, fifo_size: *mut u16) -> c_int {
+    // SAFETY: the caller promises that pointers are null or valid.
+    unsafe {
+        report(uart, fifo_size, |driver| {
+            Ok(characters_of(driver.fifo_size()))
+        })
+    }
+}
+
+#[unsafe(no_mangle)]
+pub unsafe extern "C" fn u16550_set_fifo_size(uart: *mut Memory, fifo_size: u16) -> c_int {
+    let set = |driver: &mut Driver| {
+        driver.set_fifo_size(crate::data::fifo_size(fifo_size)?);
         Ok(())
     };
     // SAFETY: the caller promises that the pointer is null or valid.
@@ -327,7 +348,11 @@ pub unsafe extern "C" fn u16550_test_loopback(
 #[unsafe(no_mangle)]
 pub unsafe extern "C" fn u16550_find_fifo_size(uart: *mut Memory, fifo_size: *mut u16) -> c_int {
     // SAFETY: the caller promises that pointers are null or valid.
-    unsafe { report(uart, fifo_size, |driver| Ok(driver.find_fifo_size()?.characters() as u16)) }
+    unsafe {
+        report(uart, fifo_size, |driver| {
+            Ok(characters_of(driver.find_fifo_size()?))
+        })
+    }
 }
 
 #[unsafe(no_mangle)]

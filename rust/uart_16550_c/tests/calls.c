@@ -85,7 +85,7 @@ static void sizes(void)
     IS(offsetof(struct u16550_config, extra_stop_bits), 16);
     IS(offsetof(struct u16550_config, parity), 17);
     IS(offsetof(struct u16550_config, check_cts_before_sending), 18);
-    IS(sizeof(struct u16550_state), 32);
+    IS(offsetof(struct u16550_state, fifo_size), 32);
     IS(offsetof(struct u16550_state, config), 8);
     IS(offsetof(struct u16550_state, fifo_enabled), 28);
     IS(offsetof(struct u16550_state, saved_lsr), 29);
@@ -137,6 +137,7 @@ static void making(void)
     IS(state.saved_msr, 0);
     IS(state.fifo_enabled, 1);
     IS(state.spin_limit, 3);
+    IS(state.fifo_size, 16);
     IS(memcmp(&state.config, &config, sizeof config - 1), 0);
     OK(u16550_end(&uart));
     OK(u16550_from_state(&uart, &io, &state));
@@ -153,6 +154,11 @@ static void making(void)
     state.fifo_enabled = 2;
     MISUSE(u16550_from_state(&uart, &io, &state), U16550_BAD_CODE);
     state.fifo_enabled = 0;
+    state.fifo_size = 17;
+    MISUSE(u16550_from_state(&uart, &io, &state), U16550_BAD_CODE);
+    state.fifo_size = 0;
+    MISUSE(u16550_from_state(&uart, &io, &state), U16550_BAD_CODE);
+    state.fifo_size = 64;
     state.config.parity = 5;
     MISUSE(u16550_from_state(&uart, &io, &state), U16550_BAD_CODE);
     none = io;
@@ -839,6 +845,133 @@ static void bursts(void)
     accesses = d.accesses;
     for (i = 0; i < sizeof wrong / sizeof *wrong; i++)
         MISUSE(u16550_send_burst(&uart, many, sizeof many, wrong[i], &count), U16550_BAD_CODE);
+}
+
+/* Makes room for as many bytes as the device keeps. */
+static void emptied(void)
+{
+    d.sent_len = 0;
+    d.room = ROOM;
+}
+
+/* The rings over a driver that was told this size: each burst is as large, and each second one lies around the end of the ring. */
+static void sized_rings(size_t size)
+{
+    static const uint8_t many[384] = { 0 };
+    static uint8_t cells[385];
+    size_t capacity = size + size / 2, count, i;
+    OK(u16550_ring_new(&uart, cells, sizeof cells, capacity, 1));
+    d.is_stuck = 1;
+    OK(u16550_ring_queue(&uart, many, sizeof many, &count));
+    IS(count, capacity);
+    d.is_stuck = 0;
+    for (i = 0; i < 5; i++) {
+        emptied();
+        OK(u16550_ring_resume_transmit(&uart));
+        IS(d.sent_len, size);
+        d.is_stuck = 1;
+        OK(u16550_ring_queue(&uart, many, sizeof many, &count));
+        IS(count, size);
+        d.is_stuck = 0;
+    }
+    OK(u16550_ring_end(&uart));
+}
+
+/* The size of the FIFOs as the driver was told it: each send is as large. */
+static void set_sizes(void)
+{
+    static const uint8_t many[300] = { 0 };
+    static const uint16_t sizes[] = { 16, 32, 64, 128, 256 }, looks[] = { 13, 7, 4, 2, 1 }, wrong[] = { 0, 1, 15, 17, 48, 512 };
+    struct u16550_io io;
+    struct u16550_state state;
+    size_t i, count;
+    uint16_t size;
+    for (i = 0; i < sizeof sizes / sizeof *sizes; i++) {
+        ready();
+        accesses = d.accesses;
+        OK(u16550_fifo_size(&uart, &size));
+        IS(size, 16);
+        OK(u16550_set_fifo_size(&uart, sizes[i]));
+        OK(u16550_fifo_size(&uart, &size));
+        IS(size, sizes[i]);
+        IS(d.accesses, accesses);
+        OK(u16550_send_bytes_exact(&uart, many, 200, NULL));
+        IS(d.accesses, accesses + 200 + looks[i]);
+        emptied();
+        OK(u16550_send_bytes(&uart, many, sizeof many, &count));
+        IS(count, sizes[i]);
+        IS(d.sent_len, sizes[i]);
+        emptied();
+        OK(u16550_write(&uart, many, sizeof many, &count));
+        IS(count, sizes[i]);
+        /* An init keeps it, and so does a driver that goes on from the state. */
+        emptied();
+        OK(u16550_init(&uart, &config));
+        OK(u16550_get_state(&uart, &state));
+        IS(state.fifo_size, sizes[i]);
+        io = device_io(&d);
+        OK(u16550_from_state(&uart, &io, &state));
+        OK(u16550_fifo_size(&uart, &size));
+        IS(size, sizes[i]);
+        sized_rings(size);
+        emptied();
+        config.fifo_trigger_level = 0;
+        OK(u16550_init(&uart, &config));
+        OK(u16550_send_bytes(&uart, many, sizeof many, &count));
+        IS(count, 1);
+    }
+    OK(u16550_set_fifo_size(&uart, 64));
+    accesses = d.accesses;
+    for (i = 0; i < sizeof wrong / sizeof *wrong; i++)
+        MISUSE(u16550_set_fifo_size(&uart, wrong[i]), U16550_BAD_CODE);
+    OK(u16550_fifo_size(&uart, &size));
+    IS(size, 64);
+    MISUSE(u16550_fifo_size(&uart, NULL), U16550_NULL_POINTER);
+}
+
+/* Bytes in two parts, and an urgent one before them, are one burst. */
+static void gathered(void)
+{
+    static const uint8_t urgent = 'u', first[] = "0123456789", second[] = "abcdefghijkl";
+    size_t count;
+    ready();
+    accesses = d.accesses;
+    OK(u16550_send_gathered(&uart, &urgent, first, 10, second, 12, &count));
+    IS(count, 16);
+    IS(d.accesses, accesses + 1 + 16);
+    BYTES(d.sent, "u0123456789abcde");
+    OK(u16550_send_gathered(&uart, NULL, first, 10, second, 12, &count));
+    IS(count, 16);
+    BYTES(d.sent + 16, "0123456789abcdef");
+    OK(u16550_set_fifo_size(&uart, 32));
+    OK(u16550_send_gathered(&uart, &urgent, first, 10, second, 12, &count));
+    IS(count, 23);
+    BYTES(d.sent + 32, "u0123456789abcdefghijkl");
+    OK(u16550_send_gathered(&uart, NULL, NULL, 0, second, 2, &count));
+    IS(count, 2);
+    OK(u16550_send_gathered(&uart, &urgent, NULL, 0, NULL, 0, &count));
+    IS(count, 1);
+    BYTES(d.sent + 55, "abu");
+    accesses = d.accesses;
+    OK(u16550_send_gathered(&uart, NULL, NULL, 0, NULL, 0, &count));
+    IS(count, 0);
+    IS(d.accesses, accesses);
+    MISUSE(u16550_send_gathered(&uart, &urgent, NULL, 1, second, 2, &count), U16550_NULL_POINTER);
+    MISUSE(u16550_send_gathered(&uart, &urgent, first, 1, NULL, 2, &count), U16550_NULL_POINTER);
+    MISUSE(u16550_send_gathered(&uart, &urgent, first, SIZE_MAX, second, 2, &count), U16550_BAD_LENGTH);
+    MISUSE(u16550_send_gathered(&uart, &urgent, first, 1, second, SIZE_MAX, &count), U16550_BAD_LENGTH);
+    MISUSE(u16550_send_gathered(&uart, &urgent, first, 1, second, 2, NULL), U16550_NULL_POINTER);
+    d.is_stuck = 1;
+    OK(u16550_send_gathered(&uart, &urgent, first, 10, second, 12, &count));
+    IS(count, 0);
+    d.is_stuck = 0;
+    config.fifo_trigger_level = 0;
+    OK(u16550_init(&uart, &config));
+    OK(u16550_send_gathered(&uart, &urgent, first, 10, second, 12, &count));
+    IS(count, 1);
+    OK(u16550_send_gathered(&uart, NULL, first, 10, second, 12, &count));
+    IS(count, 1);
+    BYTES(d.sent + 58, "u0");
 }
 
 /* The size of the FIFOs, found in loopback: nothing is sent, and MCR, IER and the errors are as before. */
@@ -1988,6 +2121,11 @@ static void bus_misuses(void)
 #define CHARACTERS 4
 #define FIFOS U16550_FIFOS_KEEP
 #define FIFO_SIZE 16
+#define URGENT &byte
+#define FIRST &byte
+#define FIRST_LEN 1
+#define SECOND NULL
+#define SECOND_LEN 0
 #define SPIN_LIMIT 1
 #define LIMIT 1
 #define ROUNDS 1
@@ -2089,6 +2227,7 @@ static void nulls(void)
     MISUSE(u16550_get_state(&uart, NULL), null);
     MISUSE(u16550_fifo_enabled(&uart, NULL), null);
     MISUSE(u16550_spin_limit(&uart, NULL), null);
+    MISUSE(u16550_fifo_size(&uart, NULL), null);
     MISUSE(u16550_check_present(&uart, NULL), null);
     MISUSE(u16550_init(&uart, NULL), null);
     MISUSE(u16550_try_receive_byte(&uart, NULL), null);
@@ -2392,6 +2531,8 @@ int main(void)
     outputs();
     bytes();
     bursts();
+    set_sizes();
+    gathered();
     found_sizes();
     with_errors();
     exact();

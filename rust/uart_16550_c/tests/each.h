@@ -12,6 +12,8 @@
     PLAIN(u16550_fifo_enabled, DRIVER, BYTE_AT)                                                                \
     PLAIN(u16550_spin_limit, DRIVER, NUMBER_AT)                                                                \
     PLAIN(u16550_set_spin_limit, DRIVER, SPIN_LIMIT)                                                           \
+    PLAIN(u16550_fifo_size, DRIVER, SHORT_AT)                                                                  \
+    PLAIN(u16550_set_fifo_size, DRIVER, FIFO_SIZE)                                                             \
     PLAIN(u16550_check_present, DRIVER, BYTE_AT)                                                               \
     PLAIN(u16550_init, DRIVER, CONFIG)                                                                         \
     PLAIN(u16550_init_with, DRIVER, CONFIG, SETUP)                                                             \
@@ -34,6 +36,7 @@
     PLAIN(u16550_receive_bytes, DRIVER, BUFFER, LEN, SIZE_AT)                                                  \
     PLAIN(u16550_send_bytes, DRIVER, BUFFER, LEN, SIZE_AT)                                                     \
     PLAIN(u16550_send_burst, DRIVER, BUFFER, LEN, FIFO_SIZE, SIZE_AT)                                          \
+    PLAIN(u16550_send_gathered, DRIVER, URGENT, FIRST, FIRST_LEN, SECOND, SECOND_LEN, SIZE_AT)                 \
     PLAIN(u16550_try_receive_with_errors, DRIVER, RECEIVED_AT)                                                 \
     PLAIN(u16550_receive_with_errors, DRIVER, RECEIVED_AT, LEN, SIZE_AT)                                       \
     PLAIN(u16550_receive_bytes_exact, DRIVER, BUFFER, LEN, SIZE_AT)                                            \

@@ -166,6 +166,11 @@ static uint8_t U16550_CALL keep_waiting(void *context)
 #define CHARACTERS (uint8_t)below(16)
 #define FIFOS (uint8_t)below(4)
 #define FIFO_SIZE (uint16_t)(16 << below(6))
+#define URGENT below(2) ? &r->value : NULL
+#define FIRST r->bytes
+#define FIRST_LEN len
+#define SECOND r->bytes
+#define SECOND_LEN below(ROOM + 1)
 #define SPIN_LIMIT 1 + below(20)
 #define LIMIT below(10)
 #define ROUNDS below(4)
@@ -203,6 +208,7 @@ static int make(struct u16550 *u, unsigned which, struct room *r)
     r->state.spin_limit = 1 + below(20);
     r->state.config = r->config;
     r->state.saved_lsr = (uint8_t)below(256);
+    r->state.fifo_size = FIFO_SIZE;
     switch (which) {
 #define CASE(name, ...) case NUMBER_OF_##name: return name(__VA_ARGS__);
     EACH_CALL(CASE, CASE)

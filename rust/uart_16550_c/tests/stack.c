@@ -198,6 +198,11 @@ static void call_nothing(void)
 #define CHARACTERS 8
 #define FIFOS U16550_FIFOS_RESET
 #define FIFO_SIZE 64
+#define URGENT &byte
+#define FIRST bytes
+#define FIRST_LEN 8
+#define SECOND bytes
+#define SECOND_LEN sizeof bytes
 #define SPIN_LIMIT 100
 #define LIMIT 8
 #define ROUNDS 1

@@ -197,6 +197,12 @@ static size_t some_len(void)
     return below(8) ? below(40) : below(ROOM);
 }
 
+/* A size of FIFOs: mostly one that there is. */
+static uint16_t some_fifo_size(void)
+{
+    return (uint16_t)(below(8) ? 16u << below(6) : below(600));
+}
+
 static struct u16550_config some_config(void)
 {
     static const uint32_t clocks[6] = { 1843200, 3686400, 24000000, 0, 115200, 16000000 };
@@ -243,6 +249,7 @@ static void note_state(const struct u16550_state *state)
     note(state->fifo_enabled);
     note(state->saved_lsr);
     note(state->saved_msr);
+    note(state->fifo_size);
 }
 
 static void note_dump(const struct u16550_dump *dump)
@@ -274,6 +281,7 @@ static void note_driver(struct u16550 *u)
     struct u16550_urgent urgent;
     struct u16550_stuck stuck;
     uint64_t limit;
+    uint16_t fifo_size;
     uint8_t flag;
     size_t count;
     if (told(u16550_get_state(u, &state)) == U16550_OK)
@@ -284,6 +292,8 @@ static void note_driver(struct u16550 *u)
         note(flag);
     if (told(u16550_spin_limit(u, &limit)) == U16550_OK)
         note(limit);
+    if (told(u16550_fifo_size(u, OUT(&fifo_size))) == U16550_OK)
+        note(fifo_size);
     if (told(u16550_ring_transmit_len(u, &count)) == U16550_OK)
         note(count);
     if (told(u16550_ring_transmit_room(u, &count)) == U16550_OK)
@@ -360,6 +370,7 @@ static void make_driver(struct u16550 *u, uint32_t which)
     state.fifo_enabled = (uint8_t)below(below(30) ? 2 : 256);
     state.saved_lsr = any_byte();
     state.saved_msr = any_byte();
+    state.fifo_size = some_fifo_size();
     if (below(30) == 0)
         io.read = NULL;
     base = below(8) ? 0x1000 : below(2) * 0x1001;
@@ -493,7 +504,10 @@ static void call_settings(struct u16550 *u, uint32_t which)
         }
         break;
     case 18:
-        told(u16550_set_spin_limit(u, below(30) ? 1 + below(20) : 0));
+        if (below(2))
+            told(u16550_set_spin_limit(u, below(30) ? 1 + below(20) : 0));
+        else
+            told(u16550_set_fifo_size(u, some_fifo_size()));
         break;
     case 19:
         /* In place of functions of the library those of this program would get addresses of its memory, which are others in each build. */
@@ -564,10 +578,18 @@ static void call_bytes(struct u16550 *u, uint32_t which)
         told(u16550_receive_bytes(u, bytes, len, OUT(&count)));
         break;
     case 5:
-        told(u16550_send_bytes(u, bytes, len, OUT(&count)));
+        if (below(2)) {
+            told(u16550_send_bytes(u, bytes, len, OUT(&count)));
+        } else {
+            /* The parts meet somewhere, or one of them is not there. */
+            size_t first_len = below(3) ? len / (1 + below(8)) : len;
+            const uint8_t *urgent = below(2) ? &value : NULL, *second = below(20) ? bytes + first_len : NULL;
+            value = any_byte();
+            told(u16550_send_gathered(u, urgent, below(20) ? bytes : NULL, first_len, second, len - first_len, OUT(&count)));
+        }
         break;
     case 6:
-        told(u16550_send_burst(u, bytes, len, (uint16_t)(below(8) ? 16u << below(6) : below(600)), OUT(&count)));
+        told(u16550_send_burst(u, bytes, len, some_fifo_size(), OUT(&count)));
         break;
     case 7:
         if (told(u16550_try_receive_with_errors(u, OUT(received))) == U16550_OK)

@@ -208,7 +208,7 @@ class Pairs:
         changed = " ".join(f"Value::show(&a{order}, &mut out);" for order, one in enumerate(listing) if one.is_changed)
         called = call([one.rust_passed for one in listing])
         most = next((text for pattern, (text, _) in listed.MOST.items() if re.search(pattern, name)), None)
-        of_case = f"|choices| {{ {mine} crate::run::Of::new({breaks or 'false'}, {most or '0'}) }}"
+        of_case = f"|choices| {{ {mine} crate::run::Of::new({listed.OUTSIDE.get(path, 'false')}, {breaks or 'false'}, {most or '0'}) }}"
         passed = ", ".join(one.mir_passed for one in listing)
         order = len(self.compared)
         self.put(

@@ -15,6 +15,7 @@ use proved_uart_ring::{
 use std::num::NonZeroU64;
 use uart_16550::Uart16550;
 use uart_calls::replay::Replay;
+use uart_spec::FifoSize;
 use uart_spec::registers;
 use uart_spec::registers::offsets::{IER, ISR, LSR, MCR, MSR};
 
@@ -47,6 +48,43 @@ fn bytes_are_queued_and_sent() {
         Read(ISR, NONE),
     ];
     play(32, &calls, &steps);
+}
+
+#[test]
+fn larger_fifos_are_filled_and_emptied_at_once() {
+    // The FIFO takes 32 bytes. The second burst lies around the end of the ring, and the third
+    // begins with an urgent byte.
+    let all = b"0123456789abcdefghijklmnopqrstuvwxyz";
+    let steps = [
+        Burst(b"0123456789abcdefghijklmnopqrstuv"),
+        Changed(IER, 0x01, 0x03),
+        Read(LSR, FULL), // the next bytes are queued
+        Changed(IER, 0x03, 0x03),
+        Read(ISR, THR_EMPTY),
+        Burst(b"wxyz0123456789abcdefghijklmnopqr"),
+        Changed(IER, 0x03, 0x03),
+        Read(ISR, DATA_READY),
+        Received(b"ABCDEFGHIJKLMNOPQRSTUVWXYZABCDEF"), // and no look at LSR behind them
+        Read(ISR, NONE),
+        Read(LSR, FULL), // the urgent byte waits
+        Changed(IER, 0x03, 0x03),
+        Read(ISR, THR_EMPTY),
+        Burst(b"!stuvwxyz"),
+        Changed(IER, 0x03, 0x01),
+        Read(ISR, NONE),
+    ];
+    let answers = answers_in(&steps);
+    let mut ring = rings(&answers, 40, 40);
+    ring.inner_mut().set_fifo_size(FifoSize::ThirtyTwo);
+    assert_eq!(ring.queue(all), 36);
+    assert_eq!(ring.transmit_len(), 4);
+    assert_eq!(ring.queue(all), 36);
+    assert_eq!(ring.service(), 2);
+    assert_eq!((ring.transmit_len(), ring.receive_len()), (8, 32));
+    assert_eq!(ring.queue_urgent(b'!'), None);
+    assert_eq!(ring.service(), 1);
+    assert_eq!((ring.transmit_len(), ring.urgent()), (0, None));
+    assert_made(ring.inner().backend(), &steps);
 }
 
 #[test]

@@ -674,7 +674,7 @@ impl Counts {
         choices.words.clear();
         let is_sequence = of_case.is_none();
         match of_case.map_or(Of::Contract, |of_case| prepared(choices, of_case)) {
-            Of::NoWord => self.outside += 1,
+            Of::NoWord | Of::Outside => self.outside += 1,
             Of::BrokenContract => self.broken(choices, rust),
             Of::Contract if is_sequence => {
                 let emitted = once(choices, rust);
@@ -740,12 +740,16 @@ pub enum Of {
     BrokenContract,
     /// They have a sum or a product that no `usize` of this target has, and the function says what it does then, or no caller has them.
     NoWord,
+    /// They break the contract of a function that only proved callers reach.
+    Outside,
 }
 
 impl Of {
-    /// Returns what arguments are that break the contract if the first is true, and whose sum or product is the second.
-    pub fn new(is_broken: bool, most: u128) -> Self {
+    /// Returns what arguments are that no caller gives if the first is true, that break the contract if the second is true, and whose sum
+    /// or product is the third.
+    pub fn new(is_outside: bool, is_broken: bool, most: u128) -> Self {
         match () {
+            () if is_outside => Self::Outside,
             () if usize::BITS < 64 && most > usize::MAX as u128 => Self::NoWord,
             () if is_broken => Self::BrokenContract,
             () => Self::Contract,

@@ -5,6 +5,7 @@
 
 mod address;
 mod always;
+mod bursts;
 mod bytes;
 mod calls;
 mod changes;

@@ -11,3 +11,4 @@ mod paths;
 mod rings;
 mod schedules;
 mod sized;
+mod sized_rings;
