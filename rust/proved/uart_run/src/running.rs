@@ -18,12 +18,13 @@ fn run_call(uart: &mut Uart16550Tty<Device16550>, call: &Call) -> Answer {
 /// Makes the calls in turn, and stores the answer of each in its slot. Never fails, and allocates
 /// no memory.
 ///
-/// A *session* begins in a ready state: DLAB and loopback are off, and the driver knows whether the
-/// FIFO is on. It goes on up to the next `Init`, `InitWith`, `Restore` or `TestLoopback`, a
-/// `Quiesce` that writes FCR, a `SetBreak` that begins a break, or a call that sets the frame. It
-/// goes on through a call that writes MCR if it began with a wired machine, whose modem lines are
-/// its inputs. A new machine is wired, and so is one after an `Init` or an `InitWith` that
-/// succeeds, and every call keeps that. In each session
+/// A *session* begins in a ready state: DLAB and loopback are off, the driver knows whether the
+/// FIFO is on, and takes it for no larger than it is, as a driver does that was told no size. It
+/// goes on up to the next `Init`, `InitWith`, `Restore` or `TestLoopback`, a `Quiesce` that writes
+/// FCR, a `SetBreak` that begins a break, or a call that sets the frame. It goes on through a call
+/// that writes MCR if it began with a wired machine, whose modem lines are its inputs. A new
+/// machine is wired, and so is one after an `Init` or an `InitWith` that succeeds, and every call
+/// keeps that. In each session
 ///
 /// - the wire and the transmitter grow by exactly the bytes that sends reported;
 /// - no data write meets a full transmitter;
@@ -42,20 +43,23 @@ fn run_call(uart: &mut Uart16550Tty<Device16550>, call: &Call) -> Answer {
 ///
 /// A `SetFrame` or a `SetFrameWhenIdle` that succeeds leaves LCR and the divisor latch as
 /// configured, and the other latches and the FIFO as they were. A `SetTriggerLevel` that succeeds
-/// in a ready state sets the level of the receiver. An `Attach` that succeeds leaves a ready state,
-/// whatever the machine was before, and changes no latch. A `Restore` leaves one too, with the
-/// registers as in the dump. After a `Quiesce` in a ready state the chip raises no interrupt. A
-/// `SetModemControl`, a `SetRts` and a `SetDtr` leave the outputs as they were asked for, without
-/// loopback, and change no other register. A `CheckConfigured` succeeds exactly if the registers
-/// are as the driver's configuration says, with the outputs that it names. An `IsIdle` that is true
-/// found the transmitter empty, and all that was in it on the wire, and so did a `SetFrameWhenIdle`
-/// that succeeds. With the FIFO on, each byte of a `ReceiveWithErrors` comes with exactly the
-/// errors that it arrived with, unless an earlier look has shown those of the first.
+/// in a ready state sets the level of the receiver. An `Attach` that succeeds leaves a ready
+/// state, whatever the machine was before, and changes no latch. A `Restore` leaves one too, with
+/// the registers as in the dump. For both the driver has to take the FIFO for no larger than it
+/// is, and no call changes for how large it takes it. After a `Quiesce` in a ready state the chip
+/// raises no interrupt. A `SetModemControl`, a `SetRts` and a `SetDtr` leave the outputs as they
+/// were asked for, without loopback, and change no other register. A `CheckConfigured` succeeds
+/// exactly if the registers are as the driver's configuration says, with the outputs that it
+/// names. An `IsIdle` that is true found the transmitter empty, and all that was in it on the
+/// wire, and so did a `SetFrameWhenIdle` that succeeds. With the FIFO on, each byte of a
+/// `ReceiveWithErrors` comes with exactly the errors that it arrived with, unless an earlier look
+/// has shown those of the first.
 ///
 /// An `Init` or an `InitWith` finds the device. If it succeeds, the state after it is ready,
-/// whatever the machine was before. A `TestLoopback` in a ready state succeeds or stalls, and if it
-/// succeeds, nothing of it went to the wire. With characters of 5 or 6 bits it reports an
-/// unexpected byte instead of success. Every call preserves a ready state, whatever its answer is.
+/// whatever the machine was before, if the driver takes the FIFO for no larger than it is. A
+/// `TestLoopback` in a ready state succeeds or stalls, and if it succeeds, nothing of it went to
+/// the wire. With characters of 5 or 6 bits it reports an unexpected byte instead of success.
+/// Every call preserves a ready state, whatever its answer is.
 ///
 /// If each access of the schedule has a tick before it, the spin limit is at least 17 (t + 1) for a
 /// character of t ticks, and the wire has room for all that is to be sent, then an `Init` and an
