@@ -46,7 +46,7 @@ stay call p a w =
       live = live-settle c live;
       port = record {
         told = told_holds (kind_of call p.chip) (stays_up call c) (settle c) p.told;
-        still = still_settle c live.whole.sound.chip live.size (paced-happen call p.chip w.port.still.paced);
+        still = still_settle c live.whole.sound.chip live.size live.flow (paced-happen call p.chip w.port.still.paced);
       };
     }
 
@@ -57,4 +57,5 @@ pub made : MadePortsAreSound
 made model =
     let c : ChipState = chip.fresh model 1 WIRE_ROOM 0 in
     let live : IsLive c = live-fresh model 1 WIRE_ROOM refl in
-    restored (settle c) (live-settle c live) (still_settle c live.whole.sound.chip live.size (record { takes = refl; room = refl }))
+    restored (settle c) (live-settle c live)
+    (still_settle c live.whole.sound.chip live.size live.flow (record { takes = refl; room = refl }))

@@ -4,7 +4,7 @@ use Rattle.std.proofs.Common.{Option, Some, None, is_some, refl, ap, sym, ◌∙
 use Rattle.std.proofs.lemmas.Grind.{common_steps}
 use Rattle.uart_c.specs.Port.{leaves_nothing, nothing_but, shown}
 use Rattle.uart_chip.proofs.Jumps.{StillFor, ticks-add, ticks_skip}
-use Rattle.uart_chip.specs.Chip.{ChipState, after_write, is_loopback, ticks}
+use Rattle.uart_chip.specs.Chip.{ChipState, after_write, is_loopback, is_held_off, ticks}
 use Rattle.uart_chip.specs.Jumps.{count_up, next_move, place_after, timeout_after}
 use Rattle.uart_chip.specs.Sending.{sends_at_once, send_at_once}
 use Rattle.uart_chip.specs.Transmitter.{held, shift_bytes}
@@ -28,7 +28,7 @@ nothing-held (Some s) queue e = absurd (omega (arith, e))
 pub idle_ticks : (n : ℕ) (c : ChipState) → length (held c.transmitter) ≡ 0 → ticks n c ≡ record c { receiver = count_up n c.receiver }
 idle_ticks n c e =
     let none = nothing-held c.transmitter.shift_register c.transmitter.queue e in
-    let unmoved : next_move (is_loopback c.latches) c.transmitter ≡ None = rw (none.0, none.1) refl in
+    let unmoved : next_move (is_loopback c.latches) (is_held_off c) c.transmitter ≡ None = rw (none.0, none.1) refl in
     let same : place_after n c.transmitter.shift_register ≡ c.transmitter.shift_register = rw none.0 refl in
     ticks_skip n c (subst (λ move. StillFor n move) (sym unmoved) tt) ∙
     ap (λ (place : Option Shifting). record c {

@@ -21,6 +21,7 @@ recut cuts c w =
       none_lost = w.none_lost;
       room = w.room;
       size = w.size;
+      flow = w.flow;
     }
 
 -- what is made here is made there too

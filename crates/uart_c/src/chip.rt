@@ -113,6 +113,11 @@ impl ChipParts for UartChip {
         is_on(self.cuts)
     }
 
+    // A 16550A and a 16450 have none.
+    fn has_auto_flow(&self) -> bool {
+        false
+    }
+
     fn transmitter(&self) -> &UartTransmitter {
         &self.transmitter
     }
@@ -151,6 +156,10 @@ impl ChipParts for UartChip {
 
     fn has_modem_changes(&self) -> bool {
         self.modem.has_changes()
+    }
+
+    fn is_clear_to_send(&self) -> bool {
+        self.modem.is_clear_to_send()
     }
 
     fn ier(&self) -> IER {

@@ -2,6 +2,8 @@
 ghost use Rattle.std.specs.Prelude.{◌≡◌, ◌==◌, not, bit_or};
 ghost use Rattle.uart_c.specs.State.{modem_data, modem_of};
 ghost use Rattle.uart_chip.specs.Modem.{renew};
+ghost use Rattle.uart_spec.specs.Bits.{has_any};
+ghost use Rattle.uart_spec.specs.declared.registers.modem_status.TheConstants.MSR;
 
 use bitflags::Flags;
 use uart_chip::{Modem, ModemData};
@@ -75,6 +77,13 @@ impl UartModem {
         let status = modem.read();
         *self = saved(&modem);
         status.bits()
+    }
+
+    /// Returns whether MSR shows CTS: the other end is ready to receive.
+    pub fn is_clear_to_send(&self) -> bool
+        ensures { result ≡ has_any (modem_of self.now).lines MSR.CTS.0 }
+    {
+        restored(*self).is_clear_to_send()
     }
 
     pub fn has_changes(&self) -> bool

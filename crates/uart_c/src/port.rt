@@ -486,7 +486,7 @@ fn is_settled(chip: &UartChip) -> bool
     chip.transmitter.char_ticks == CHAR_TICKS
         && chip.transmitter.wire.capacity() == WIRE_ROOM
         && chip.receiver.timeout_ticks == chip.receiver.timeout_limit
-        && next_move(&chip.transmitter, is_loopback(chip)).is_none()
+        && next_move(&chip.transmitter, is_loopback(chip), false).is_none()
 }
 
 /// Makes a port with a chip that was saved, unless the data are those of no port.

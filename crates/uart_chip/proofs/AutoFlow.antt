@@ -1,13 +1,10 @@
 -- A chip without automatic flow control, and one in which it is off, never holds its transmitter off. And only accesses change which
 -- chip has it: none does.
-use Rattle.std.proofs.Common.{◌≡◌, ℕ, zero, suc, Bool, true, false, not, ◌&&◌, ◌==◌, List, [], ◌∷◌, refl, ap, ◌∙◌, if◌then◌else◌}
-use Rattle.uart_events.specs.declared.event.Event.{Event}
-use Rattle.uart_spec.specs.Access.{Path}
-use Rattle.uart_spec.specs.declared.access.Access.{Access}
+use Rattle.std.proofs.Common.{◌≡◌, ℕ, zero, suc, Bool, true, false, not, ◌&&◌, refl, ap}
 use Rattle.uart_spec.specs.Bits.{has_any}
 use Rattle.uart_spec.specs.declared.registers.modem_control.TheConstants.MCR
 use Rattle.uart_spec.specs.declared.registers.modem_status.TheConstants.MSR
-use Rattle.uart_chip.specs.Chip.{ChipState, is_auto_flow, is_held_off, rts_output, ticks}
+use Rattle.uart_chip.specs.Chip.{ChipState, is_auto_flow, is_held_off, ticks}
 
 -- while it is off the transmitter goes on
 pub off_goes_on : (c : ChipState) → is_auto_flow c ≡ false → is_held_off c ≡ false

@@ -37,8 +37,9 @@ queue-refill None [] t e f = f
 queue-refill None (x ∷ []) t e f = absurd (cc)
 queue-refill None (x ∷ y ∷ xs) t e f = absurd (cc)
 
-queue-tick : (loopback : Bool) (t : TransmitterState) → t.queue ≡ [] → (transmitter.tick loopback t).queue ≡ []
-queue-tick loopback t e =
+queue-tick : (loopback held_off : Bool) (t : TransmitterState) → t.queue ≡ [] → (transmitter.tick loopback held_off t).queue ≡ []
+queue-tick loopback true t e = queue-shift loopback t.shift_register t ∙ e
+queue-tick loopback false t e =
     let u : TransmitterState = shift loopback t.shift_register t in
     let f : u.queue ≡ [] = queue-shift loopback t.shift_register t ∙ e in
     queue-refill u.shift_register u.queue u f f
@@ -52,8 +53,10 @@ still-refill None [] t e f = refl
 still-refill None (x ∷ xs) t e f = absurd (cc)
 still-refill (Some s) queue t e f = absurd (cc)
 
-still-tick : (loopback : Bool) (t : TransmitterState) → t.queue ≡ [] → t.shift_register ≡ None → transmitter.tick loopback t ≡ t
-still-tick loopback t e f =
+still-tick : (loopback held_off : Bool) (t : TransmitterState) → t.queue ≡ [] → t.shift_register ≡ None →
+    transmitter.tick loopback held_off t ≡ t
+still-tick loopback true t e f = still-shift loopback t.shift_register t f
+still-tick loopback false t e f =
     let u : TransmitterState = shift loopback t.shift_register t in
     let same : u ≡ t = still-shift loopback t.shift_register t f in
     let queue : u.queue ≡ [] = ap (λ (u : TransmitterState). u.queue) same ∙ e in
@@ -63,18 +66,18 @@ still-tick loopback t e f =
 pub sender_lasts : (sender : Sender) → Lasts (SenderHolds sender)
 sender_lasts Unknown = record {
   in_accesses = record { pending = λ t pending h. tt; cleared = λ t pending h. tt };
-  in_tick = λ loopback t h. tt;
+  in_tick = λ loopback held_off t h. tt;
 }
 sender_lasts ThrEmpty = record {
   in_accesses = record { pending = λ t pending h. h; cleared = λ t pending h. refl };
-  in_tick = λ loopback t h. queue-tick loopback t h;
+  in_tick = λ loopback held_off t h. queue-tick loopback held_off t h;
 }
 sender_lasts Idle = record {
   in_accesses = record { pending = λ t pending h. h; cleared = λ t pending h. (refl, h.1) };
   in_tick =
-      λ loopback t h. (
-        ap (λ (u : TransmitterState). u.queue) (still-tick loopback t h.0 h.1) ∙ h.0,
-        ap (λ (u : TransmitterState). u.shift_register) (still-tick loopback t h.0 h.1) ∙ h.1,
+      λ loopback held_off t h. (
+        ap (λ (u : TransmitterState). u.queue) (still-tick loopback held_off t h.0 h.1) ∙ h.0,
+        ap (λ (u : TransmitterState). u.shift_register) (still-tick loopback held_off t h.0 h.1) ∙ h.1,
       );
 }
 

@@ -33,11 +33,11 @@ same_read : (offset : ℕ) (c : ChipState) → Same c (chip.after_read offset c)
 same_read offset c =
     let same : Same c c = same_refl c in
     same_if c _ _ (offset == offsets.DATA)
-    (same_if c _ _ (is_dlab_set c.latches) same (record { model = refl; latches = refl; fifo = refl }))
+    (same_if c _ _ (is_dlab_set c.latches) same (record { model = refl; flow = refl; latches = refl; fifo = refl }))
     (same_if c _ _ (offset == offsets.ISR)
-    (same_if c _ _ (is_thr_empty (interrupt c)) (record { model = refl; latches = refl; fifo = refl }) same)
-    (same_if c _ _ (offset == offsets.LSR) (record { model = refl; latches = refl; fifo = refl })
-    (same_if c _ _ (offset == offsets.MSR) (record { model = refl; latches = refl; fifo = refl }) same)))
+    (same_if c _ _ (is_thr_empty (interrupt c)) (record { model = refl; flow = refl; latches = refl; fifo = refl }) same)
+    (same_if c _ _ (offset == offsets.LSR) (record { model = refl; flow = refl; latches = refl; fifo = refl })
+    (same_if c _ _ (offset == offsets.MSR) (record { model = refl; flow = refl; latches = refl; fifo = refl }) same)))
 
 -- a queue that is empty as LSR shows it
 no_queue : (queue : List ℕ) → (length queue == 0) ≡ true → queue ≡ []
@@ -107,6 +107,7 @@ module _ (offset : ℕ) (k : Known) (c : ChipState) (h : Holds k c) where
       let p : Same c (chip.after_read offset c) = same_read offset c in
       record {
         model = p.model ∙ h.model;
+        flow = p.flow ∙ h.flow;
         latches = latches_moved k.latches c.latches _ p.latches h.latches;
         fifo = fifo_moved k.fifo c.fifo _ p.fifo h.fifo;
         sender = sender_read;
@@ -146,6 +147,7 @@ module _ (offset : ℕ) (k : Known) (c : ChipState) (h : Holds k c) where
       let known : Sender = if offset == offsets.LSR then sender_shown (answer offset c) k.sender else k.sender in
       record {
         model = p.model ∙ h.model;
+        flow = p.flow ∙ h.flow;
         latches = latches_moved _ c.latches _ p.latches (learned k.latches c h.latches offset);
         fifo =
             fifo_moved (if offset == offsets.ISR then Some (has_any (answer offset c) ISR.FIFOS_ENABLED.0) else k.fifo)
@@ -165,6 +167,7 @@ module _ (offset : ℕ) (k : Known) (c : ChipState) (h : Holds k c) where
 -- the FIFO is on or off in d, and the rest is as in c
 record Switched (on : Bool) (c d : ChipState) : Type 0 where
   model : d.model ≡ c.model
+  flow : d.auto_flow ≡ c.auto_flow
   latches : d.latches ≡ c.latches
   fifo : d.fifo ≡ on
 
@@ -186,21 +189,22 @@ switched value c =
     let e : ChipState = reset_receiver value d in
     let q : Switched on c e =
     switched_if on c (record d { receiver = clear d.receiver }) d (has_any value FCR.RX_FIFO_RESET.0)
-    (record { model = p.model; latches = p.latches; fifo = p.fifo }) p in
+    (record { model = p.model; flow = p.flow; latches = p.latches; fifo = p.fifo }) p in
     let f : ChipState = reset_transmitter value e in
     let r : Switched on c f =
     switched_if on c (record e { transmitter = record e.transmitter { queue = []; is_thr_pending = true } }) e
-    (has_any value FCR.TX_FIFO_RESET.0) (record { model = q.model; latches = q.latches; fifo = q.fifo }) q in
+    (has_any value FCR.TX_FIFO_RESET.0) (record { model = q.model; flow = q.flow; latches = q.latches; fifo = q.fifo }) q in
     switched_if on c (set_trigger (trigger_level value) f) d on
-    (record { model = r.model; latches = r.latches; fifo = r.fifo }) p
+    (record { model = r.model; flow = r.flow; latches = r.latches; fifo = r.fifo }) p
   where
     first : (on b : Bool) → is_same c.fifo on ≡ b → Switched on c (if b then c else switch on c)
-    first on true e = record { model = refl; latches = refl; fifo = same_as c.fifo on e }
-    first on false e = record { model = refl; latches = refl; fifo = refl }
+    first on true e = record { model = refl; flow = refl; latches = refl; fifo = same_as c.fifo on e }
+    first on false e = record { model = refl; flow = refl; latches = refl; fifo = refl }
 
 -- after a write of FCR
 record Controlled (fifo : Option Bool) (c d : ChipState) : Type 0 where
   model : d.model ≡ c.model
+  flow : d.auto_flow ≡ c.auto_flow
   latches : d.latches ≡ c.latches
   fifo_holds : Agrees fifo d.fifo
 
@@ -209,16 +213,17 @@ same_control : (model other : Chip) (value : ℕ) (fifo : Option Bool) (c : Chip
 same_control model other value fifo c e a = rw e (go model)
   where
     go : (model : Chip) → Controlled (fifo_after model value fifo) c (control model value c)
-    go Uart16450 = record { model = refl; latches = refl; fifo_holds = a }
+    go Uart16450 = record { model = refl; flow = refl; latches = refl; fifo_holds = a }
     go Uart16550A =
         let s : Switched (has_any value FCR.FIFO_ENABLE.0) c (set_fifo value c) = switched value c in
-        record { model = s.model; latches = s.latches; fifo_holds = s.fifo }
+        record { model = s.model; flow = s.flow; latches = s.latches; fifo_holds = s.fifo }
 
 -- ---- a write of any register
 
 -- all but the latches and the transmitter
 record Alike (c d : ChipState) : Type 0 where
   model : d.model ≡ c.model
+  flow : d.auto_flow ≡ c.auto_flow
   fifo : d.fifo ≡ c.fifo
   receiver : d.receiver ≡ c.receiver
 
@@ -228,16 +233,16 @@ alike_if c d e false p q = q
 
 alike_write : (offset value : ℕ) (c : ChipState) → (offset == offsets.FCR) ≡ false → Alike c (chip.after_write offset value c)
 alike_write offset value c e =
-    let same : Alike c c = record { model = refl; fifo = refl; receiver = refl } in
+    let same : Alike c c = record { model = refl; flow = refl; fifo = refl; receiver = refl } in
     rw e (alike_if c _ _ (offset == offsets.DATA)
-    (alike_if c _ _ (is_dlab_set c.latches) (record { model = refl; fifo = refl; receiver = refl })
-    (record { model = refl; fifo = refl; receiver = refl }))
+    (alike_if c _ _ (is_dlab_set c.latches) (record { model = refl; flow = refl; fifo = refl; receiver = refl })
+    (record { model = refl; flow = refl; fifo = refl; receiver = refl }))
     (alike_if c _ _ (offset == offsets.IER)
-    (alike_if c _ _ (is_dlab_set c.latches) (record { model = refl; fifo = refl; receiver = refl })
-    (record { model = refl; fifo = refl; receiver = refl }))
-    (alike_if c _ _ (offset == offsets.LCR) (record { model = refl; fifo = refl; receiver = refl })
-    (alike_if c _ _ (offset == offsets.MCR) (record { model = refl; fifo = refl; receiver = refl })
-    (alike_if c _ _ (offset == offsets.SPR) (record { model = refl; fifo = refl; receiver = refl }) same)))))
+    (alike_if c _ _ (is_dlab_set c.latches) (record { model = refl; flow = refl; fifo = refl; receiver = refl })
+    (record { model = refl; flow = refl; fifo = refl; receiver = refl }))
+    (alike_if c _ _ (offset == offsets.LCR) (record { model = refl; flow = refl; fifo = refl; receiver = refl })
+    (alike_if c _ _ (offset == offsets.MCR) (record { model = refl; flow = refl; fifo = refl; receiver = refl })
+    (alike_if c _ _ (offset == offsets.SPR) (record { model = refl; flow = refl; fifo = refl; receiver = refl }) same)))))
 
 -- DATA is written, or under DLAB the divisor latch
 sender_sent : (on : Option Bool) (sender : Sender) (value : ℕ) (c : ChipState) → Agrees on (is_dlab_set c.latches) →
@@ -249,6 +254,7 @@ sender_sent (Some true) sender value c a h = lasts-latch (SenderHolds sender) (s
 -- what is known but the transmitter
 record Rest (k : Known) (c : ChipState) : Type 0 where
   model : c.model ≡ k.model
+  flow : c.auto_flow ≡ false
   latches : LatchesHold k.latches c.latches
   fifo : Agrees k.fifo c.fifo
   waits : k.waits ≡ true → HasCharacter c.receiver
@@ -269,6 +275,7 @@ module _ (offset value : ℕ) (k : Known) (c : ChipState) (h : Holds k c) where
       same_control k.model c.model value k.fifo c h.model h.fifo in
       record {
         model = s.model ∙ h.model;
+        flow = s.flow ∙ h.flow;
         latches = latches_moved k.latches c.latches _ s.latches h.latches;
         fifo = s.fifo_holds;
         waits = λ e. absurd (cc);
@@ -277,7 +284,8 @@ module _ (offset value : ℕ) (k : Known) (c : ChipState) (h : Holds k c) where
       let a : Alike c (chip.after_write offset value c) = alike_write offset value c e in
       record {
         model = a.model ∙ h.model;
-        latches = written k.latches c h.latches value offset e;
+        flow = a.flow ∙ h.flow;
+        latches = written k.latches c h.latches h.flow value offset e;
         fifo =
             fifo_moved (if offset == offsets.FCR then fifo_after k.model value k.fifo else k.fifo) c.fifo _ a.fifo (rw e h.fifo);
         waits =
@@ -288,4 +296,4 @@ module _ (offset value : ℕ) (k : Known) (c : ChipState) (h : Holds k c) where
   pub holds_write : Holds (after_write offset value k) (chip.after_write offset value c)
   holds_write =
       let r : Rest (after_write offset value k) (chip.after_write offset value c) = rest_wrote (offset == offsets.FCR) refl in
-      record { model = r.model; latches = r.latches; fifo = r.fifo; sender = sender_wrote; waits = r.waits }
+      record { model = r.model; flow = r.flow; latches = r.latches; fifo = r.fifo; sender = sender_wrote; waits = r.waits }

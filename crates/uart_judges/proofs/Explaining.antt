@@ -42,6 +42,7 @@ holds_path k m n (access ∷ seen) h p =
 holds_built : (model : Chip) (m : MachineState) → IsBuilt model m → Holds (first_known model Reset) m.chip
 holds_built model m b = rw b.built (record {
   model = refl;
+  flow = refl;
   latches = record { ier = refl; lcr = refl; mcr = refl; scr = refl; dll = refl; dlm = refl };
   fifo = off model;
   sender = (refl, refl);
@@ -64,24 +65,35 @@ only_model model =
       is_looked = false;
     }
 
-holds_model : (c : ChipState) → Holds (only_model c.model) c
-holds_model c = record {
+holds_model : (c : ChipState) → c.auto_flow ≡ false → Holds (only_model c.model) c
+holds_model c flow = record {
   model = refl;
+  flow = flow;
   latches = record { ier = tt; lcr = tt; mcr = tt; scr = tt; dll = tt; dlm = tt };
   fifo = tt;
   sender = tt;
   waits = λ e. absurd (cc);
 }
 
-same_model : (m n : MachineState) (accesses : List Access) → Path MachineStep m accesses n → n.chip.model ≡ m.chip.model
-same_model m n [] p = rw p refl
-same_model m n (access ∷ accesses) p = same_model p.0 n accesses p.2 ∙ once access p.0 p.1
+-- the model and that it has no automatic flow control
+record SameMake (m n : MachineState) : Type 0 where
+  model : n.chip.model ≡ m.chip.model
+  flow : n.chip.auto_flow ≡ false
+
+same_make : (m n : MachineState) (accesses : List Access) → m.chip.auto_flow ≡ false → Path MachineStep m accesses n → SameMake m n
+same_make m n [] flow p = rw p (record { model = refl; flow = flow })
+same_make m n (access ∷ accesses) flow p =
+    let first = once access p.0 p.1 in
+    let rest = same_make p.0 n accesses first.flow p.2 in
+    record { model = rest.model ∙ first.model; flow = rest.flow }
   where
-    once : (access : Access) (mid : MachineState) → MachineStep m access mid → mid.chip.model ≡ m.chip.model
+    once : (access : Access) (mid : MachineState) → MachineStep m access mid → SameMake m mid
     once (Read offset value) mid s =
-        (holds_step (only_model m.chip.model) m mid (Did (Read offset value)) (holds_model m.chip) s).model
+        let h = holds_step (only_model m.chip.model) m mid (Did (Read offset value)) (holds_model m.chip flow) s in
+        record { model = h.model; flow = h.flow }
     once (Write offset value) mid s =
-        (holds_step (only_model m.chip.model) m mid (Did (Write offset value)) (holds_model m.chip) s).model
+        let h = holds_step (only_model m.chip.model) m mid (Did (Write offset value)) (holds_model m.chip flow) s in
+        record { model = h.model; flow = h.flow }
 
 machine_used : (model : Chip) (m : MachineState) → IsUsed model m → IsMachine m
 machine_used model m u = machine_path u.first m u.accesses (machine_built model u.first u.built) u.path
@@ -89,9 +101,12 @@ machine_used model m u = machine_path u.first m u.accesses (machine_built model 
 holds_used : (model : Chip) (m : MachineState) → IsUsed model m → Holds (first_known model InUse) m.chip
 holds_used model m u =
     let w : IsMachine m = machine_used model m u in
-    let same : m.chip.model ≡ model = same_model u.first m u.accesses u.path ∙ (holds_built model u.first u.built).model in
+    let first = holds_built model u.first u.built in
+    let make = same_make u.first m u.accesses first.flow u.path in
+    let same : m.chip.model ≡ model = make.model ∙ first.model in
     record {
       model = same;
+      flow = make.flow;
       latches = record { ier = tt; lcr = tt; mcr = tt; scr = tt; dll = tt; dlm = tt };
       fifo = off model same w.sound.chip.implemented;
       sender = tt;

@@ -1,7 +1,7 @@
 -- That what is known holds of a chip, and that nothing between the accesses changes it.
 use Rattle.std.proofs.Common.{◌≡◌, Bool, true, false, List, Option, Some, None, refl, if◌then◌else◌}
 use Rattle.uart_events.specs.declared.event.Event.{Event}
-use Rattle.uart_chip.specs.Chip.{ChipState, LatchesState, is_loopback}
+use Rattle.uart_chip.specs.Chip.{ChipState, LatchesState, is_loopback, is_held_off}
 use Rattle.uart_chip.specs.Machine.{before_access}
 use Rattle.uart_chip.proofs.lasting.Lasting.{LastsInEvents, chip_lasts-before}
 use Rattle.uart_judges.specs.declared.replay.known.Known.{Known}
@@ -22,9 +22,10 @@ pub record LatchesHold (k : KnownLatches) (l : LatchesState) : Type 0 where
   pub dll : Agrees k.dll l.dll
   pub dlm : Agrees k.dlm l.dlm
 
--- the chip is as it is known
+-- the chip is as it is known; it has no automatic flow control, as no 16550A has
 pub record Holds (k : Known) (c : ChipState) : Type 0 where
   pub model : c.model ≡ k.model
+  pub flow : c.auto_flow ≡ false
   pub latches : LatchesHold k.latches c.latches
   pub fifo : Agrees k.fifo c.fifo
   pub sender : SenderHolds k.sender c.transmitter
@@ -41,11 +42,12 @@ fifo_moved o a b e h = rw e h
 
 pub record Same (c d : ChipState) : Type 0 where
   pub model : d.model ≡ c.model
+  pub flow : d.auto_flow ≡ c.auto_flow
   pub latches : d.latches ≡ c.latches
   pub fifo : d.fifo ≡ c.fifo
 
 pub same_refl : (c : ChipState) → Same c c
-same_refl c = record { model = refl; latches = refl; fifo = refl }
+same_refl c = record { model = refl; flow = refl; latches = refl; fifo = refl }
 
 pub same_if : (c d e : ChipState) (b : Bool) → Same c d → Same c e → Same c (if b then d else e)
 same_if c d e true p q = p
@@ -57,13 +59,15 @@ holds_lasts : (k : Known) → LastsInEvents (Holds k)
 holds_lasts k = record {
   in_tick = λ c h. record {
     model = h.model;
+    flow = h.flow;
     latches = h.latches;
     fifo = h.fifo;
-    sender = (sender_lasts k.sender).in_tick (is_loopback c.latches) c.transmitter h.sender;
+    sender = (sender_lasts k.sender).in_tick (is_loopback c.latches) (is_held_off c) c.transmitter h.sender;
     waits = λ e. has-tick c (h.waits e);
   };
   in_arrival = λ byte errors c h. record {
     model = h.model;
+    flow = h.flow;
     latches = h.latches;
     fifo = h.fifo;
     sender = h.sender;
@@ -71,6 +75,7 @@ holds_lasts k = record {
   };
   in_lines = λ inputs c h. record {
     model = h.model;
+    flow = h.flow;
     latches = h.latches;
     fifo = h.fifo;
     sender = h.sender;

@@ -1,5 +1,5 @@
 -- What is known of the latches holds after a read or a write, and a read returns it.
-use Rattle.std.proofs.Common.{◌≡◌, ℕ, Bool, true, false, ◌==◌, Option, Some, None, refl, arith, ap, if◌then◌else◌}
+use Rattle.std.proofs.Common.{◌≡◌, ℕ, Bool, true, false, ◌==◌, Option, Some, None, refl, arith, ap, ◌∙◌, if◌then◌else◌, bit_and}
 use Rattle.std.proofs.lemmas.Grind.{common_steps}
 use Rattle.uart_spec.specs.Bits.{has_any}
 use Rattle.uart_spec.specs.declared.registers.line_control.TheConstants.LCR
@@ -10,6 +10,8 @@ use Rattle.uart_judges.specs.declared.replay.latches.KnownLatches.{KnownLatches}
 use Rattle.uart_judges.specs.Latches.{dlab_in, dlab, under_dlab, shown, data_read, ier_read, after_read, data_written, ier_written}
 use Rattle.uart_judges.specs.Latches.{after_write}
 use Rattle.uart_judges.proofs.Holding.{Agrees, LatchesHold}
+use Rattle.uart_chip.specs.Masks.{mcr_bits, kept_mcr}
+use Rattle.uart_chip.proofs.McrBits.{kept_without}
 
 -- ---- by the register
 
@@ -137,7 +139,7 @@ either : (k : KnownLatches) (c d : ChipState) (b : Bool) → LatchesHold k c.lat
 either k c d true p q = p
 either k c d false p q = q
 
-module _ (k : KnownLatches) (c : ChipState) (h : LatchesHold k c.latches) (value : ℕ) where
+module _ (k : KnownLatches) (c : ChipState) (h : LatchesHold k c.latches) (flow : c.auto_flow ≡ false) (value : ℕ) where
   data_wrote : (b : Option Bool) → Agrees b (is_dlab_set c.latches) → LatchesHold (data_written b value k) (write_data value c).latches
   data_wrote None a =
       either (record k { dll = None }) _ _ (is_dlab_set c.latches) (with_dll k c.latches h None value tt)
@@ -155,12 +157,16 @@ module _ (k : KnownLatches) (c : ChipState) (h : LatchesHold k c.latches) (value
   ier_wrote (Some true) a = rw a (with_dlm k c.latches h (Some value) value refl)
   ier_wrote (Some false) a = rw a (with_ier k c.latches h (Some _) _ refl)
 
+  -- the bit of automatic flow control is not kept
+  kept : kept_mcr c.auto_flow value ≡ bit_and value mcr_bits
+  kept = ap (λ (f : Bool). kept_mcr f value) flow ∙ kept_without value
+
   -- what is known after a write of another register than FCR holds
   pub written : (offset : ℕ) → (offset == offsets.FCR) ≡ false →
       LatchesHold (after_write offset value k) (chip.after_write offset value c).latches
   written =
       by_register (λ n. (n == offsets.FCR) ≡ false → LatchesHold (after_write n value k) (chip.after_write n value c).latches)
       (λ e. data_wrote (dlab k) (knows_dlab k c.latches h)) (λ e. ier_wrote (dlab k) (knows_dlab k c.latches h))
-      (λ e. with_lcr k c.latches h (Some value) value refl) (λ e. with_mcr k c.latches h (Some _) _ refl)
+      (λ e. with_lcr k c.latches h (Some value) value refl) (λ e. with_mcr k c.latches h (Some _) _ kept)
       (λ e. with_scr k c.latches h (Some value) value refl)
       (λ n o e. rw (e, o.not_data, o.not_ier, o.not_lcr, o.not_mcr, o.not_spr) h)

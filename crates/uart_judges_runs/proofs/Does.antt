@@ -1,6 +1,6 @@
 -- What an action that the judge takes an access for does to the software chip.
 use Rattle.std.proofs.Common.{◌≡◌, ◌≤◌, ℕ, ◌+◌, Bool, true, false, not, ◌&&◌, ◌||◌, ◌==◌, List, [], ◌∷◌, refl, subst, if◌then◌else◌}
-use Rattle.std.proofs.Common.{Option, Some, None, bit_and, length, length-append, min, nat_lt, arith, inl, inr, ◌⊎◌}
+use Rattle.std.proofs.Common.{Option, Some, None, length, length-append, min, nat_lt, arith, inl, inr, ◌⊎◌}
 use Rattle.std.proofs.lemmas.Grind.{common_steps}
 use Rattle.uart_spec.specs.Bits.{has_any}
 use Rattle.uart_spec.specs.declared.access.Access.TheVariants.{Read}
@@ -12,7 +12,7 @@ use Rattle.uart_events.specs.declared.event.Chip.TheVariants.{Uart16550A, Uart16
 use Rattle.uart_chip.specs.Chip.{ChipState, after_read, after_write, answer, control, control_modem, cut_of, enable, interrupt, is_dlab_set}
 use Rattle.uart_chip.specs.Chip.{is_same, is_thr_empty, line_status, set_fifo, set_trigger, switch, trigger_level, with_latches}
 use Rattle.uart_chip.specs.Chip.{with_thr_pending}
-use Rattle.uart_chip.specs.Masks.{mcr_bits}
+use Rattle.uart_chip.specs.Masks.{kept_mcr}
 use Rattle.uart_chip.specs.declared.receiver.Character.{Character}
 use Rattle.uart_chip.specs.Receiver.{ReceiverState, clear, take_front}
 use Rattle.uart_spec.specs.declared.setup.FifoSize.TheVariants.{Sixteen}
@@ -123,7 +123,7 @@ Does (Sends byte) c d = d ≡ record c { transmitter = load c.fifo (cut_of c byt
 Does (Receives byte) c d = d ≡ record c { receiver = take_front c.receiver.queue c.receiver }
 Does (ControlsFifo fcr) c d = Controlled fcr.0 c d
 Does (SetsLine lcr) c d = d ≡ with_latches (record c.latches { lcr = lcr.0 }) c
-Does (SetsModem mcr) c d = d ≡ control_modem (bit_and mcr.0 mcr_bits) c
+Does (SetsModem mcr) c d = d ≡ control_modem (kept_mcr c.auto_flow mcr.0) c
 Does (SetsDivisorLow byte) c d = Alike c d × (d.transmitter ≡ c.transmitter)
 Does (IdentifiesInterrupt isr) c d = Alike c d × (isr.0 ≡ answer offsets.ISR c)
 Does (ReadsLine lcr) c d = Alike c d × (lcr.0 ≡ c.latches.lcr)

@@ -20,12 +20,12 @@ use Rattle.uart_spec.specs.declared.registers.modem_control.MCR.{MCR}
 use Rattle.uart_spec.specs.declared.registers.modem_control.TheConstants.MCR as mcr_bits
 use Rattle.uart_chip.specs.declared.receiver.Character.{Character}
 use Rattle.uart_chip.specs.Chip.{ChipState, identification, interrupt, is_dlab_set, is_loopback, is_same, line_status, trigger_level}
-use Rattle.uart_chip.specs.Masks as masks
+use Rattle.uart_chip.proofs.McrBits.{kept_bit}
 use Rattle.uart_chip.specs.Receiver.{ReceiverState, characters_of, is_data_pending, is_timed_out, take_front}
 use Rattle.uart_spec.specs.declared.setup.FifoSize.TheVariants.{Sixteen}
 use Rattle.uart_chip.specs.Transmitter.{room}
 use Rattle.uart_chip.proofs.Sizes.{level_least, some_characters}
-use Rattle.uart_chip.proofs.Bits.{has_and, has_one}
+use Rattle.uart_chip.proofs.Bits.{has_one}
 use Rattle.uart_chip.proofs.FifoBits.{all_shown}
 use Rattle.uart_chip.proofs.statuses.Status.{status_data}
 use Rattle.uart_run.proofs.CallKeeps.{one_fits}
@@ -90,7 +90,7 @@ after_loopback c d (Receives byte) o h k = looping_as c d o (ap (λ (c : ChipSta
 after_loopback c d (ControlsFifo fcr) o h k = looping_as c d o h.mcr k
 after_loopback c d (SetsLine lcr) o h k = looping_as c d o (ap (λ (c : ChipState). c.latches.mcr) h) k
 after_loopback c d (SetsModem mcr) o h k =
-    ap (λ (c : ChipState). is_loopback c.latches) h ∙ (has_and 4 mcr.0 masks.mcr_bits refl ∙ sym (has_one 4 mcr.0))
+    ap (λ (c : ChipState). is_loopback c.latches) h ∙ (kept_bit c.auto_flow 4 mcr.0 refl refl ∙ sym (has_one 4 mcr.0))
 after_loopback c d (ReadsModem mcr) o h k =
     ap (λ (mcr : ℕ). has_any mcr mcr_bits.LOOP_BACK.0) (h.0.mcr ∙ sym h.1) ∙ sym (has_one 4 mcr.0)
 after_loopback c d MayReceive o h k = looping_as c d o h.mcr k

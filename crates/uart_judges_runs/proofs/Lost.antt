@@ -14,7 +14,7 @@ use Rattle.uart_spec.specs.declared.registers.line_status.LSR.{LSR}
 use Rattle.uart_spec.specs.declared.registers.modem_control.MCR.{MCR}
 use Rattle.uart_spec.specs.declared.registers.interrupt_type.InterruptType.{InterruptType}
 use Rattle.uart_spec.specs.declared.registers.interrupt_type.InterruptType.TheVariants.{ReceptionTimeout}
-use Rattle.uart_chip.specs.Chip.{ChipState, cut_of, is_dlab_set, is_loopback}
+use Rattle.uart_chip.specs.Chip.{ChipState, cut_of, is_dlab_set, is_loopback, is_held_off}
 use Rattle.uart_chip.specs.Machine.{MachineState, MachineStep, at_access}
 use Rattle.uart_chip.specs.Sound.{IsSound}
 use Rattle.uart_spec.specs.declared.setup.FifoSize.TheVariants.{Sixteen}
@@ -449,7 +449,7 @@ Holds16 c = c.transmitter.size ≡ Sixteen
 
 holds_16 : LastsInEvents Holds16
 holds_16 = record {
-  in_tick = λ c e. size-tick (is_loopback c.latches) c.transmitter ∙ e;
+  in_tick = λ c e. size-tick (is_loopback c.latches) (is_held_off c) c.transmitter ∙ e;
   in_arrival = λ byte errors c e. e;
   in_lines = λ inputs c e. e;
 }

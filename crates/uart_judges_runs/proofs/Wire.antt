@@ -11,7 +11,7 @@ use Rattle.uart_spec.specs.declared.registers.offsets.TheConstants as offsets
 use Rattle.uart_events.specs.declared.event.Chip.{Chip}
 use Rattle.uart_events.specs.declared.event.Chip.TheVariants.{Uart16550A, Uart16450}
 use Rattle.uart_chip.specs.declared.transmitter.Shifting.{Shifting}
-use Rattle.uart_chip.specs.Chip.{ChipState, after_write, cut_of, is_dlab_set, is_loopback, with_latches, write_data}
+use Rattle.uart_chip.specs.Chip.{ChipState, after_write, cut_of, is_dlab_set, is_loopback, with_latches, write_data, is_held_off}
 use Rattle.uart_chip.specs.Machine.{MachineState, MachineStep, at_access}
 use Rattle.uart_chip.specs.Transmitter.{TransmitterState, load, refill, room, shift, tick}
 use Rattle.uart_chip.proofs.lasting.Lasting.{LastsInAccesses, LastsInEvents, chip_lasts-before, lasts-read, lasts-write}
@@ -34,8 +34,9 @@ wire_refill : (place : Option Shifting) (queue : List ℕ) (t : TransmitterState
 wire_refill None (x ∷ []) t = refl
 wire_refill _ _ t = refl
 
-wire_tick : (loopback : Bool) (t : TransmitterState) → loopback ≡ true → (tick loopback t).wire ≡ t.wire
-wire_tick loopback t e =
+wire_tick : (loopback held_off : Bool) (t : TransmitterState) → loopback ≡ true → (tick loopback held_off t).wire ≡ t.wire
+wire_tick loopback true t e = wire_shift loopback t.shift_register t e
+wire_tick loopback false t e =
     let u : TransmitterState = shift loopback t.shift_register t in
     wire_refill u.shift_register u.queue u ∙ wire_shift loopback t.shift_register t e
 
@@ -46,7 +47,7 @@ record IsInside (wire : List ℕ) (c : ChipState) : Type 0 where
 
 inside_lasts : (wire : List ℕ) → LastsInEvents (IsInside wire)
 inside_lasts wire = record {
-  in_tick = λ c i. record { loops = i.loops; same = wire_tick (is_loopback c.latches) c.transmitter i.loops ∙ i.same };
+  in_tick = λ c i. record { loops = i.loops; same = wire_tick (is_loopback c.latches) (is_held_off c) c.transmitter i.loops ∙ i.same };
   in_arrival = λ byte errors c i. record { loops = i.loops; same = i.same };
   in_lines = λ inputs c i. record { loops = i.loops; same = i.same };
 }

@@ -1,7 +1,6 @@
 -- Flow control by the chips loses nothing in its direction.
-use Rattle.std.proofs.Common.{◌≡◌, ◌≤◌, ◌<◌, ◌+◌, ◌-◌, ◌==◌, ◌&&◌, ◌⊎◌, inl, inr, ℕ, zero, suc, Bool, true, false, not, nat_lt, nat_le}
+use Rattle.std.proofs.Common.{◌≡◌, ◌≤◌, ◌<◌, ◌+◌, ◌-◌, ◌&&◌, ◌⊎◌, inl, inr, ℕ, zero, suc, Bool, true, false, not, nat_lt, nat_le}
 use Rattle.std.proofs.Common.{List, [], ◌∷◌, ◌++◌, length, length-append, Option, Some, None, refl, sym, ◌∙◌, ap, subst, arith}
-use Rattle.std.proofs.Common.{if◌then◌else◌}
 use Rattle.std.specs.List.{AllByRecursion}
 use Rattle.std.proofs.lemmas.Grind.{common_steps}
 use Rattle.uart_events.specs.declared.event.Event.{Event}
@@ -14,18 +13,16 @@ use Rattle.uart_spec.specs.declared.access.Access.TheVariants.{Read, Write}
 use Rattle.uart_spec.specs.declared.registers.fifo_trigger_level.FifoTriggerLevel.{FifoTriggerLevel}
 use Rattle.uart_spec.specs.declared.registers.modem_control.TheConstants.MCR
 use Rattle.uart_spec.specs.declared.registers.modem_status.TheConstants.MSR
-use Rattle.uart_spec.specs.declared.registers.offsets.TheConstants as offsets
 use Rattle.uart_spec.specs.declared.setup.FifoSize.{FifoSize}
 use Rattle.uart_chip.specs.declared.receiver.Character.{Character}
 use Rattle.uart_chip.specs.declared.transmitter.Shifting.{Shifting}
 use Rattle.uart_chip.specs.Chip.{ChipState, is_loopback, is_auto_flow, is_held_off, rts_output, cut_of, tick, ticks, arrive, change_lines}
-use Rattle.uart_chip.specs.Chip.{after_read, after_write}
-use Rattle.uart_chip.specs.Machine.{MachineState, MachineStep, arrivals, perform, before_access, before_mark, after_access, at_access}
+use Rattle.uart_chip.specs.Machine.{MachineState, MachineStep, arrivals, perform, before_access, before_mark, at_access}
 use Rattle.uart_chip.specs.Receiver.{ReceiverState, characters_of, is_data_pending, replace, enter, come_back, take_front}
 use Rattle.uart_chip.specs.Receiver as receiver
 use Rattle.uart_chip.specs.Transmitter as transmitter
 use Rattle.uart_chip.specs.Transmitter.{TransmitterState, looped_byte, shift, shift_bytes, load, room}
-use Rattle.uart_chip.proofs.AccessMoves.{both_if, ReadMove, takes, read_move, WriteMove, sends, switches, clears, empties, triggers, steers}
+use Rattle.uart_chip.proofs.AccessMoves.{both_if, ReadMove, takes, read_move, WriteMove, sends, switches, clears, triggers, steers}
 use Rattle.uart_chip.proofs.AccessMoves.{write_lasts}
 use Rattle.uart_chip.proofs.conservation.Receives.{Drop, drop_split}
 use Rattle.uart_chip.proofs.conservation.SessionLaws.{drop_receivers}
@@ -37,20 +34,19 @@ use Rattle.uart_ring_runs.specs.declared.call.RingCall.TheVariants as call
 use Rattle.uart_ring_runs.specs.declared.call.RingAnswer.{RingAnswer}
 use Rattle.uart_ring_runs.specs.RingRun.{RingState, ring_machine}
 use Rattle.uart_link.specs.declared.call.Moment.{Moment}
-use Rattle.uart_link.specs.declared.call.Moment.TheVariants as moment
 use Rattle.uart_link.specs.declared.call.Side.{Side}
 use Rattle.uart_link.specs.declared.call.Side.TheVariants.{Left, Right}
 use Rattle.uart_link.specs.declared.link.Link.{Link}
-use Rattle.uart_link.specs.AutoFlow.{begun, under_way, level_at, fifo_at, BeginsByChip, IsFlowStep, IsPacedByChip}
-use Rattle.uart_link.specs.Cable.{on_cable, lines_from, settled, unknown, to_come, arranged}
+use Rattle.uart_link.specs.AutoFlow.{begun, under_way, level_at, fifo_at, IsFlowStep, IsPacedByChip}
+use Rattle.uart_link.specs.Cable.{lines_from, settled, unknown, to_come, arranged}
 use Rattle.uart_link.specs.Carried.{receiver_at, IsJoined, OfEnd}
 use Rattle.uart_link.specs.Flow.{SeesLines, hold_of, DropsNothing}
 use Rattle.uart_link.specs.Link.{at_end, other, EndStep, Step, LinkChain}
 use Rattle.uart_link.proofs.Arranges.{arranged_events}
 use Rattle.uart_link.proofs.Calm.{LeavesMcr, AllLeaveMcr, blocks_leave, LeavesCts, AllLeaveCts, HasCts, cts_after}
-use Rattle.uart_link.proofs.EndFlows.{waits, IsHeldBack, KeepsMcr, EndKept, EndFlows, end_moves, call_did, CallDid, cts_arranged, cts_off}
+use Rattle.uart_link.proofs.EndFlows.{waits, IsHeldBack, EndKept, EndFlows, end_moves, call_did, CallDid, cts_arranged, cts_off}
 use Rattle.uart_link.proofs.EndPasses.{InEnd}
-use Rattle.uart_link.proofs.Flows.{behind_at, no_drop_still}
+use Rattle.uart_link.proofs.Flows.{no_drop_still}
 use Rattle.uart_link.proofs.Lefts.{settled_grows}
 use Rattle.uart_link.proofs.LinkSteps.{link_chain, joined_after}
 

@@ -1,13 +1,13 @@
 -- Time passes at an end, and characters arrive there: what ticks and arrivals bring, whatever calls are made meanwhile.
 use Rattle.std.proofs.Common.{◌≡◌, ℕ, zero, suc, ◌+◌, ◌-◌, ◌*◌, ◌≤◌, ◌==◌, Bool, true, false, nat_lt, List, [], ◌∷◌, ◌++◌, length, Option}
-use Rattle.std.proofs.Common.{Some, None, min, if◌then◌else◌, bit_and, length-append, zero-le, refl, sym, ◌∙◌, ap, subst, arith}
+use Rattle.std.proofs.Common.{Some, None, min, if◌then◌else◌, length-append, refl, sym, ◌∙◌, ap, subst, arith}
 use Rattle.std.proofs.lemmas.Grind.{common_steps}
 use Rattle.uart_events.specs.declared.event.Event.{Event}
 use Rattle.uart_events.specs.declared.event.Event.TheVariants.{Ticks, Arrive, Lines}
 use Rattle.uart_spec.specs.declared.access.Access.TheVariants.{Write}
 use Rattle.uart_spec.specs.declared.registers.offsets.TheConstants as offsets
 use Rattle.uart_chip.proofs.conservation.Sends.{sends-tick}
-use Rattle.uart_chip.proofs.soundness.Sounds.{steady_tick, steady_ticks, steady_arrive, steady_read, steady_write, latches-read, size-tick}
+use Rattle.uart_chip.proofs.soundness.Sounds.{steady_tick, steady_ticks, steady_arrive, steady_read, steady_write, latches-read}
 use Rattle.uart_spec.specs.declared.setup.FifoSize.{FifoSize}
 use Rattle.uart_chip.specs.Chip.{ChipState, is_loopback, is_held_off, is_dlab_set, is_thr_empty, interrupt, tick, ticks, after_read}
 use Rattle.uart_chip.specs.Chip.{after_write, cut_of}

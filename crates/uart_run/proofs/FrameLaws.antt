@@ -1,6 +1,6 @@
 -- What a call does in a session that may change its modes: a `set_frame` writes LCR, a `set_modem_control` MCR.
 use Rattle.std.proofs.Common.{◌≡◌, ◌≢◌, ℕ, Bool, true, false, List, [], ◌∷◌, ◌++◌, ◌%◌, ◌/◌, map, refl, sym, ◌∙◌, ap, subst, bit_or, arith}
-use Rattle.std.proofs.Common.{append-nil, Result, Ok, Err, ◌<◌, ◌+◌, ◌*◌, bit_and}
+use Rattle.std.proofs.Common.{append-nil, Result, Ok, Err, ◌<◌, ◌+◌, ◌*◌}
 use Rattle.std.proofs.lemmas.Bool.{false≢true}
 use Rattle.std.proofs.lemmas.Nat.{and_assoc}
 use Rattle.std.proofs.lemmas.List.{map-append}

@@ -20,7 +20,7 @@ use Rattle.uart_chip.specs.Receiver.{ReceiverState, is_data_pending, is_timed_ou
 use Rattle.uart_chip.specs.Chip.{ChipState, tick, ticks, is_loopback, is_held_off, line_status, is_transmitter_empty}
 use Rattle.uart_chip.specs.Chip.{after_read, arrive_live, change_lines, take_wire}
 use Rattle.uart_chip.specs.Jumps.{timeout_after, count_down}
-use Rattle.uart_chip.proofs.Jumps.{StillFor, ticks_skip}
+use Rattle.uart_chip.proofs.Jumps.{ticks_skip}
 use Rattle.uart_chip.proofs.Bits.{and_or}
 use Rattle.uart_chip.proofs.soundness.Sounds.{latches-ticks}
 use Rattle.uart_chip.proofs.AccessMoves.{both_if}
