@@ -25,7 +25,8 @@ KEPT = "uart_design_ware::kept::KeptCharacters"
 # When a call breaks a contract in a way that the MIR does not notice, as Rust code over its arguments.
 OUTSIDE = {"uart_kept_characters_keep": "a1.f1 >= 64", "uart_byte_queue_byte_at": "a2 >= a1.f2",
            "uart_copy_with_errors": "a2.f2 < a1.f2", "uart_byte_queue_front_slices": "a2 > a1.f2",
-           "uart_byte_queue_receive_from": "a3 > a1.f0.f2 - a1.f2"}
+           "uart_byte_queue_receive_from": "a3 > a1.f0.f2 - a1.f2",
+           "uart_receive": "a3 > a2.len() as u64 || a4 > a2.len() as u64 - a3"}
 HEAD_OF_C = """
 #include <string.h>
 

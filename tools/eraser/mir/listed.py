@@ -141,6 +141,7 @@ CONTRACTS = {
 OUTSIDE = {
     "uart_ring::queue::ByteQueue::front_slices": "a1 > a0.len()",
     "uart_ring::queue::ByteQueue::receive_from": "a2 > a0.capacity() - a0.len()",
+    "uart_ring::queue::receive": "a2 > a1.len() || a3 > a1.len() - a2",
 }
 
 # What a function adds or multiplies of type `usize`, as Rust code of type `u128` over its arguments: a pattern of the name, the code, and why
