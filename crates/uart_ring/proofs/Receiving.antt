@@ -1,6 +1,6 @@
 -- Bytes that are received into slots that lie in two parts.
-use Rattle.std.proofs.Common.{◌≡◌, ◌<◌, ◌≤◌, ◌-◌, ◌+◌, ◌⊎◌, ℕ, List, [], ◌∷◌, ◌++◌, length, sym, arith, inl, inr, length-append, append_assoc}
-use Rattle.std.proofs.Common.{append-nil, min}
+use Rattle.std.proofs.Common.{◌≡◌, ◌<◌, ◌≤◌, ◌-◌, ◌+◌, ◌⊎◌, ℕ, List, [], ◌∷◌, ◌++◌, length, sym, arith, inl, inr}
+use Rattle.std.proofs.Common.{length-append, append_assoc, append-nil, min}
 use Rattle.uart_spec.specs.declared.access.Access.{Access}
 use Rattle.uart_16550.specs.Grammar.{Settings}
 use Rattle.uart_16550.specs.Receive.{Receives, Hit}
