@@ -8,7 +8,7 @@ use Rattle.uart_events.specs.declared.call.Call.{Call}
 use Rattle.uart_events.specs.declared.call.Call.TheVariants as call
 use Rattle.uart_events.specs.declared.call.Answer.{Answer}
 use Rattle.uart_events.specs.declared.call.Answer.TheVariants.{Done}
-use Rattle.uart_run.specs.Ready.{Ready, ComesTo}
+use Rattle.uart_run.specs.Ready.{Ready, BurstsFit, ComesTo}
 use Rattle.uart_run.specs.Chains.{calls_of, answers_of}
 use Rattle.uart_run.specs.Run.{State, Link, Chain}
 use Rattle.uart_run.specs.Session.{IsWithinSession, AllWithinSession, Conserves, Ran, AllFollow}
@@ -28,16 +28,17 @@ conserves_all s t calls answers within ran ready =
 
 initialised_by : (s t : State) (config : Config) (answers : List Answer) (other : Answer) (links : List Link) →
     calls_of links ≡ call.Init config ∷ [] → answers_of links ≡ answers → AllFollow links → Chain s links t →
-    get_or answers 0 other ≡ Done → Ready t
-initialised_by s t config answers other [] calls same follows chain done = absurd (cc (calls))
-initialised_by s t config answers other (link ∷ []) calls same follows chain done =
+    BurstsFit s → get_or answers 0 other ≡ Done → Ready t
+initialised_by s t config answers other [] calls same follows chain fits done = absurd (cc (calls))
+initialised_by s t config answers other (link ∷ []) calls same follows chain fits done =
     let is_init : link.call ≡ call.Init config = cc (calls) in
     let answered : link.answer ≡ Done = subst (λ (all : List Answer). get_or all 0 other ≡ Done) (sym same) done in
     let comes = subst (λ (c : Call). ComesTo link.before c link.answer link.after) is_init follows.0.comes_to in
-    subst Ready (sym chain.2) (comes.leaves answered).ready
-initialised_by s t config answers other (link ∷ next ∷ links) calls same follows chain done = absurd (cc (calls))
+    let begins : BurstsFit link.before = subst BurstsFit (sym chain.0) fits in
+    subst Ready (sym chain.2) ((comes.leaves answered).ready (follows.0.fits begins))
+initialised_by s t config answers other (link ∷ next ∷ links) calls same follows chain fits done = absurd (cc (calls))
 
 pub initialises_one : (s t : State) (config : Config) (answers : List Answer) (other : Answer) →
-    Ran s (call.Init config ∷ []) answers t → get_or answers 0 other ≡ Done → Ready t
-initialises_one s t config answers other ran done =
-    initialised_by s t config answers other ran.run.links ran.run.calls_same ran.run.answers_same ran.follows ran.run.chain done
+    Ran s (call.Init config ∷ []) answers t → BurstsFit s → get_or answers 0 other ≡ Done → Ready t
+initialises_one s t config answers other ran fits done =
+    initialised_by s t config answers other ran.run.links ran.run.calls_same ran.run.answers_same ran.follows ran.run.chain fits done

@@ -4,7 +4,8 @@ ghost use Rattle.uart_ring_runs.specs.RingBytes.{AllTakeInTurn, to_send, to_take
 ghost use Rattle.uart_ring_runs.specs.RingRun.{IsOfRings, IsRingRunnable, RingLink, RingState, under};
 ghost use Rattle.uart_ring_runs.specs.RingSession.{AllWithinRingSession, RingConserves};
 ghost use Rattle.uart_run.specs.Chains.{answers_of, calls_of};
-ghost use Rattle.uart_run.specs.Ready.{Ready};
+ghost use Rattle.uart_run.specs.Ready.{BurstsFit, Ready};
+ghost use Rattle.uart_run.specs.ReceivedErrors.{under_terminal};
 ghost use Rattle.uart_run.specs.Wired.{IsWired};
 ghost use Rattle.uart_spec.specs.Config.{IsComputable};
 
@@ -28,13 +29,15 @@ pub enum StartError {
 }
 
 /// Initialises the driver, and puts it into rings. A session begins, with empty rings, and each
-/// call of the rings themselves goes on with it.
+/// call of the rings themselves goes on with it. The driver takes the FIFOs for no larger than they
+/// are, as one does that was told no size.
 pub fn start_rings(
     alloc: Global,
     mut uart: Uart16550<Device16550>,
     config: Config,
 ) -> Result<Uart16550Ring<Device16550>, StartError>
-    requires { IsComputable config }
+    requires computable { IsComputable config }
+    requires fits { BurstsFit (under_terminal uart) }
     ensures begins { IfOk result (λ ring. Ready (under ring)) }
     ensures wired { IfOk result (λ ring. IsWired (under ring)) }
     ensures empty { IfOk result (λ ring. (to_send ring ≡ []) × (to_take ring ≡ [])) }
@@ -62,6 +65,7 @@ pub fn run_from_init(
     answers: &mut [RingAnswer],
 ) -> Result<Uart16550Ring<Device16550>, StartError>
     requires computable { IsComputable config }
+    requires fits { BurstsFit (under_terminal uart) }
     requires runnable { All IsRingRunnable calls.now }
     requires slots { length calls.now ≡ length answers.old }
     ensures { IfOk result (λ ring. (begins : RingState) × (links : List RingLink)

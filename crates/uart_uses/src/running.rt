@@ -1,7 +1,7 @@
 //! A caller of `uart_run`.
 ghost use Rattle.std.specs.Prelude.{◌≡◌, true, All, length};
 ghost use Rattle.uart_events.specs.Calls.{IsRunnable};
-ghost use Rattle.uart_run.specs.Ready.{Ready};
+ghost use Rattle.uart_run.specs.Ready.{BurstsFit, Ready};
 ghost use Rattle.uart_run.specs.Session.{IsWithinSession, overflows};
 ghost use Rattle.uart_spec.specs.Config.{IsComputable};
 
@@ -10,9 +10,11 @@ use uart_calls::{Answer, Call};
 use uart_chip::Device16550;
 use uart_run::run;
 
-/// Initialises the chip, and returns whether a session begins.
+/// Initialises the chip, and returns whether a session begins. The driver takes the FIFOs for no
+/// larger than they are, as one does that was told no size.
 pub fn begin_session(uart: &mut Uart16550Tty<Device16550>, config: Config) -> bool
-    requires { IsComputable config }
+    requires computable { IsComputable config }
+    requires fits { BurstsFit uart.old }
     ensures { result ≡ true → Ready uart.new }
 {
     let mut answers = [Answer::Done];

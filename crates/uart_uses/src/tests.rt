@@ -24,7 +24,7 @@ use uart_play::Std;
 use uart_play::laws::{runs_have_one_outcome, scripts_have_one_output};
 use uart_ring::Uart16550Ring;
 use uart_ring_runs::{RingAnswer, RingCall};
-use uart_run::laws::idle_keeps_ready;
+use uart_run::laws::{idle_keeps_ready, smallest_size_fits};
 use uart_spec::access::Access;
 use uart_spec::registers::{LSR, offsets};
 use uart_spec::{BaudRate, Config, NUM_REGISTERS};
@@ -75,6 +75,7 @@ fn rings_from_an_init(rt: HostRuntime) -> Result<(), Fail> {
     let uart = Uart16550::new_with_backend(device::chip_that_receives(rt.alloc(), 0x41)?);
     let calls = [RingCall::Next, RingCall::ResumeTransmit];
     let mut answers = [RingAnswer::Count(1), RingAnswer::Count(1)];
+    smallest_size_fits();
     let ran = ring_starting::run_from_init(rt.alloc(), uart, Config::DEFAULT, &calls, &mut answers);
     assert!(rt; ran.is_ok());
     assert_equal(&rt, answers, [RingAnswer::Done, RingAnswer::Done]);
@@ -166,6 +167,7 @@ fn calls_in_a_session(rt: HostRuntime) -> Result<(), Fail> {
     let machine = device::chip_that_receives(rt.alloc(), 0x41)?;
     let mut terminal = Uart16550Tty::from_inner(Uart16550::new_with_backend(machine));
     let mut answers = [Answer::Done];
+    smallest_size_fits();
     if running::begin_session(&mut terminal, Config::DEFAULT) {
         running::make_calls(&mut terminal, &[Call::FifoEnabled], &mut answers);
     }
