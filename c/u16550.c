@@ -137,29 +137,14 @@ struct uart_fifo_size_error {
     uint64_t too_few;
 };
 
-/*
- * How many characters the transmitter FIFO of a chip holds, for Uart16550_send_burst.
- *
- * A 16550 has 16. No register that all chips have shows the size, so it is taken from the
- * datasheet, or Uart16550_find_fifo_size finds it. If a size is given that is larger than the
- * chip's, bytes are lost.
- */
-enum uart_fifo_size {
-    UART_FIFO_SIZE_SIXTEEN = 0,
-    UART_FIFO_SIZE_THIRTY_TWO = 1,
-    UART_FIFO_SIZE_SIXTY_FOUR = 2,
-    UART_FIFO_SIZE_ONE_HUNDRED_TWENTY_EIGHT = 3,
-    UART_FIFO_SIZE_TWO_HUNDRED_FIFTY_SIX = 4
-};
-
 struct uart_fifo_size_or_fifo_size_error {
     struct uart_fifo_size_error error;
-    enum uart_fifo_size value;
+    enum u16550_core_fifo_size value;
 };
 
 struct uart_maybe_fifo_size {
     bool is_some;
-    enum uart_fifo_size value;
+    enum u16550_core_fifo_size value;
 };
 
 struct uart_maybe_stalled_error {
@@ -174,6 +159,7 @@ struct uart_maybe_stalled_error {
 struct uart_driver_state {
     struct u16550_core_config config;
     bool fifo_enabled;
+    enum u16550_core_fifo_size fifo_size;
     uint8_t saved_lsr;
     uint8_t saved_msr;
     uint64_t spin_limit;
@@ -718,7 +704,7 @@ static inline struct uart_fifo_size_error uart_fifo_size_error_fifos_off(void)
 static inline struct uart_fifo_size_or_fifo_size_error
 uart_bad_fifo_size_or_fifo_size_error(struct uart_fifo_size_error error)
 {
-    struct uart_fifo_size_or_fifo_size_error made = { error, UART_FIFO_SIZE_SIXTEEN };
+    struct uart_fifo_size_or_fifo_size_error made = { error, U16550_CORE_FIFO_SIZE_SIXTEEN };
     return made;
 }
 
@@ -756,18 +742,18 @@ static inline struct u16550_core_maybe_u8 uart_some_u8(uint8_t value)
 
 static inline struct uart_maybe_fifo_size uart_no_fifo_size(void)
 {
-    struct uart_maybe_fifo_size made = { false, UART_FIFO_SIZE_SIXTEEN };
+    struct uart_maybe_fifo_size made = { false, U16550_CORE_FIFO_SIZE_SIXTEEN };
     return made;
 }
 
-static inline struct uart_maybe_fifo_size uart_some_fifo_size(enum uart_fifo_size value)
+static inline struct uart_maybe_fifo_size uart_some_fifo_size(enum u16550_core_fifo_size value)
 {
     struct uart_maybe_fifo_size made = { true, value };
     return made;
 }
 
 static inline struct uart_fifo_size_or_fifo_size_error
-uart_good_fifo_size_or_fifo_size_error(enum uart_fifo_size value)
+uart_good_fifo_size_or_fifo_size_error(enum u16550_core_fifo_size value)
 {
     struct uart_fifo_size_or_fifo_size_error made = { { UART_FIFO_SIZE_ERROR_NONE, 0 }, value };
     return made;
@@ -1975,11 +1961,20 @@ static inline void uart_enable_interrupts(struct u16550_core_driver *uart, uint8
  * After a quiesce that disables the FIFOs it is off. Makes no access.
  *
  * A driver that was never initialised takes the FIFO to be on. If it is on, a send check is
- * followed by up to 16 bytes, else by one.
+ * followed by up to as many bytes as fifo_size says, else by one.
  */
 static inline bool uart_fifo_enabled(const struct u16550_core_driver *uart)
 {
     return uart->fifo_enabled;
+}
+
+/*
+ * Returns which size the FIFOs are taken to have: 16 characters, or what set_fifo_size set
+ * last. Makes no access.
+ */
+static inline enum u16550_core_fifo_size uart_fifo_size(const struct u16550_core_driver *uart)
+{
+    return uart->fifo_size;
 }
 
 /*
@@ -2189,14 +2184,14 @@ static struct uart_maybe_fifo_size uart_fifo_size_largest_up_to(size_t character
     if (characters < 16)
         return uart_no_fifo_size();
     if (characters < 32)
-        return uart_some_fifo_size(UART_FIFO_SIZE_SIXTEEN);
+        return uart_some_fifo_size(U16550_CORE_FIFO_SIZE_SIXTEEN);
     if (characters < 64)
-        return uart_some_fifo_size(UART_FIFO_SIZE_THIRTY_TWO);
+        return uart_some_fifo_size(U16550_CORE_FIFO_SIZE_THIRTY_TWO);
     if (characters < 128)
-        return uart_some_fifo_size(UART_FIFO_SIZE_SIXTY_FOUR);
+        return uart_some_fifo_size(U16550_CORE_FIFO_SIZE_SIXTY_FOUR);
     if (characters < 256)
-        return uart_some_fifo_size(UART_FIFO_SIZE_ONE_HUNDRED_TWENTY_EIGHT);
-    return uart_some_fifo_size(UART_FIFO_SIZE_TWO_HUNDRED_FIFTY_SIX);
+        return uart_some_fifo_size(U16550_CORE_FIFO_SIZE_ONE_HUNDRED_TWENTY_EIGHT);
+    return uart_some_fifo_size(U16550_CORE_FIFO_SIZE_TWO_HUNDRED_FIFTY_SIX);
 }
 
 /*
@@ -2294,7 +2289,7 @@ uart_leave_loopback(struct u16550_core_driver *uart, uint8_t mcr, uint8_t ier, u
 
 /*
  * Finds how many characters the FIFOs of the chip hold as they are set up now: the largest
- * FifoSize that is safe in send_burst.
+ * FifoSize that is safe in set_fifo_size and send_burst. It does not set it.
  *
  * Sends 257 bytes in loopback without looking, and counts those that come back: they are as
  * many as the smaller of the two FIFOs holds, or few more. A count between two sizes gives the
@@ -2321,7 +2316,8 @@ uart_leave_loopback(struct u16550_core_driver *uart, uint8_t mcr, uint8_t ier, u
  * - FifosOff if the FIFOs are off (fifo_enabled). No access was made.
  * - Stalled after spin_limit unsuccessful polls in a row. If the first wait failed,
  *   nothing was written, and what the polls cleared is saved. Later the FIFOs are reset, so
- *   that of the bytes in the transmitter at most the rest of one character goes out.
+ *   that of the bytes in the transmitter at most the rest of one character goes out. On a chip
+ *   without FIFOs, which a reset of them does not empty, up to two bytes may go out.
  * - TooFew if fewer than 16 bytes came back. Call test_loopback to see whether any does.
  *
  * Except for the first wait, MCR and IER are restored before the error is returned.
@@ -2395,6 +2391,7 @@ uart_from_state(struct u16550_device backend, const struct uart_driver_state *st
     uart.backend = backend;
     uart.config = config;
     uart.fifo_enabled = state->fifo_enabled;
+    uart.fifo_size = state->fifo_size;
     uart.saved_lsr = state->saved_lsr;
     uart.saved_msr = state->saved_msr;
     uart.spin_limit = state->spin_limit;
@@ -2720,6 +2717,7 @@ static inline uint8_t uart_msr(struct u16550_core_driver *uart)
  * Makes no access: call init before any other call, or attach. Until then the
  * configuration is Config_DEFAULT, no status bits are saved, and the FIFO is taken to be
  * on. So a send before may write 16 bytes into a chip without a FIFO, which keeps one of them.
+ * The size of the FIFOs is FifoSize_Sixteen, until set_fifo_size sets another.
  */
 static struct u16550_core_driver uart_new_with_backend(struct u16550_device backend)
 {
@@ -2738,6 +2736,7 @@ static struct u16550_core_driver uart_new_with_backend(struct u16550_device back
     uart.backend = backend;
     uart.config = config;
     uart.fifo_enabled = true;
+    uart.fifo_size = U16550_CORE_FIFO_SIZE_SIXTEEN;
     uart.saved_lsr = 0;
     uart.saved_msr = 0;
     uart.spin_limit = UINT32_C(1000000);
@@ -3075,25 +3074,26 @@ static inline void uart_retrigger_interrupts(struct u16550_core_driver *uart)
 }
 
 /* Returns the number of characters. */
-static size_t uart_fifo_size_characters(enum uart_fifo_size fifo_size)
+static size_t uart_fifo_size_characters(enum u16550_core_fifo_size fifo_size)
 {
     switch (fifo_size) {
-    case UART_FIFO_SIZE_SIXTEEN:
+    case U16550_CORE_FIFO_SIZE_SIXTEEN:
         return 16;
-    case UART_FIFO_SIZE_THIRTY_TWO:
+    case U16550_CORE_FIFO_SIZE_THIRTY_TWO:
         return 32;
-    case UART_FIFO_SIZE_SIXTY_FOUR:
+    case U16550_CORE_FIFO_SIZE_SIXTY_FOUR:
         return 64;
-    case UART_FIFO_SIZE_ONE_HUNDRED_TWENTY_EIGHT:
+    case U16550_CORE_FIFO_SIZE_ONE_HUNDRED_TWENTY_EIGHT:
         return 128;
-    case UART_FIFO_SIZE_TWO_HUNDRED_FIFTY_SIX:
+    case U16550_CORE_FIFO_SIZE_TWO_HUNDRED_FIFTY_SIX:
     default:
         return 256;
     }
 }
 
 /* Returns how many bytes certainly fit once LSR has shown THR_EMPTY. */
-static inline size_t uart_room(const struct u16550_core_driver *uart, enum uart_fifo_size size)
+static inline size_t
+uart_burst_limit(const struct u16550_core_driver *uart, enum u16550_core_fifo_size size)
 {
     if (uart->fifo_enabled)
         return uart_fifo_size_characters(size);
@@ -3108,30 +3108,37 @@ uart_write_data(struct u16550_core_driver *uart, const uint8_t *bytes, size_t by
         uart_write_byte(uart, bytes[byte]);
 }
 
+/* Writes bytes from the front to DATA, at most so many, and returns how many. */
+static inline size_t
+uart_write_up_to(struct u16550_core_driver *uart, size_t limit, const uint8_t *bytes,
+    size_t bytes_len)
+{
+    size_t number = limit < bytes_len ? limit : bytes_len;
+    uart_write_data(uart, bytes, number);
+    return number;
+}
+
 /*
- * Does the same as send_bytes for a chip whose transmitter FIFO has this size: sends as many
- * bytes as it holds if the FIFO is on, else one.
+ * Does the same as send_bytes for a chip whose transmitter FIFO has this size, whatever
+ * fifo_size says: sends as many bytes as it holds if the FIFO is on, else one.
  *
- * So fewer looks and fewer interrupts are needed for the same bytes. The size is taken on
- * trust: on a chip with a smaller FIFO the bytes that do not fit are lost, and nothing tells.
- * Some chips hold more than 16 only after a register of their own was written.
+ * The size is taken on trust: on a chip with a smaller FIFO the bytes that do not fit are
+ * lost, and nothing tells. Some chips hold more than 16 only after a register of their own was
+ * written. set_fifo_size sets the size for all calls that send.
  *
  * Proved: nothing if there are no bytes; else a send check and, if it succeeds, bytes from
  * the front are written to DATA: as many as a FIFO of this size holds, or one if it is off.
  * The result is how many.
  */
-static size_t
+static inline size_t
 uart_send_burst(struct u16550_core_driver *uart, const uint8_t *buffer, size_t buffer_len,
-    enum uart_fifo_size size)
+    enum u16550_core_fifo_size size)
 {
     if (buffer_len == 0)
         return 0;
     if (uart_ready_to_send(uart) != UART_BYTE_SEND_ERROR_NONE)
         return 0;
-    size_t room = uart_room(uart, size);
-    size_t number = room < buffer_len ? room : buffer_len;
-    uart_write_data(uart, buffer, number);
-    return number;
+    return uart_write_up_to(uart, uart_burst_limit(uart, size), buffer, buffer_len);
 }
 
 /*
@@ -3139,7 +3146,8 @@ uart_send_burst(struct u16550_core_driver *uart, const uint8_t *buffer, size_t b
  * fit. LSR shows whether the FIFO is empty, and no register shows how full it is. One byte more
  * could be lost, and nothing would tell.
  *
- * A whole burst is apart, since its length is known to the compiler: it then counts no bytes.
+ * A whole burst of 16, the size of most chips, is apart, since its length is known to the
+ * compiler: it then counts no bytes.
  */
 static size_t
 uart_write_burst(struct u16550_core_driver *uart, const uint8_t *bytes, size_t bytes_len)
@@ -3148,18 +3156,18 @@ uart_write_burst(struct u16550_core_driver *uart, const uint8_t *bytes, size_t b
         uart_write_byte(uart, bytes[0]);
         return 1;
     }
+    enum u16550_core_fifo_size fifo_size = uart->fifo_size;
     const uint8_t *found = bytes_len >= 16 ? bytes : NULL;
-    if (found != NULL) {
+    if (fifo_size == U16550_CORE_FIFO_SIZE_SIXTEEN && found != NULL) {
         uart_write_data(uart, found, 16);
         return 16;
     }
-    uart_write_data(uart, bytes, bytes_len);
-    return bytes_len;
+    return uart_write_up_to(uart, uart_fifo_size_characters(fifo_size), bytes, bytes_len);
 }
 
 /*
- * Sends bytes from the front of the slice if there is room, and returns how many: up to 16 if
- * the FIFO is on, else one; 0 if ready_to_send fails.
+ * Sends bytes from the front of the slice if there is room, and returns how many: up to as
+ * many as the FIFO holds (fifo_size) if it is on, else one; 0 if ready_to_send fails.
  *
  * Does not wait: makes one check as ready_to_send, and one burst of writes to THR. The chip
  * reports only an empty FIFO, not how full it is, so nothing is sent until the last burst has
@@ -3167,8 +3175,8 @@ uart_write_burst(struct u16550_core_driver *uart, const uint8_t *bytes, size_t b
  * no access.
  *
  * Proved: nothing if there are no bytes; else a send check and, if it succeeds, bytes from
- * the front are written to DATA: as many as the FIFO holds, or one if it is off. The result
- * is how many.
+ * the front are written to DATA: as many as a FIFO of the size that is set holds, or one if
+ * it is off. The result is how many.
  */
 static inline size_t
 uart_send_bytes(struct u16550_core_driver *uart, const uint8_t *buffer, size_t buffer_len)
@@ -3251,8 +3259,8 @@ uart_send_singly(struct u16550_core_driver *uart, const uint8_t *bytes, size_t b
 }
 
 /*
- * Sends all of the bytes, and waits for room before each burst: of up to 16 bytes if the FIFO
- * is on, else of one.
+ * Sends all of the bytes, and waits for room before each burst: of up to as many bytes as the
+ * FIFO holds (fifo_size) if it is on, else of one.
  *
  * Each wait makes at most spin_limit checks as ready_to_send. It returns when the last
  * burst is in THR or the FIFO; flush of embedded_io waits until all
@@ -3325,6 +3333,57 @@ uart_send_bytes_while(struct u16550_core_driver *uart, const uint8_t *bytes, siz
     return uart_no_stalled_error();
 }
 
+/* Writes the urgent byte to DATA, if there is one, and returns how many bytes that were. */
+static inline size_t
+uart_write_urgent(struct u16550_core_driver *uart, struct u16550_core_maybe_u8 urgent)
+{
+    if (urgent.is_some) {
+        uart_write_byte(uart, urgent.value);
+        return 1;
+    }
+    return 0;
+}
+
+/*
+ * Writes one burst to DATA: the urgent byte, and then bytes from the front of both parts.
+ * Returns its length.
+ */
+static inline size_t
+uart_write_gathered(struct u16550_core_driver *uart, struct u16550_core_maybe_u8 urgent,
+    const uint8_t *first, size_t first_len, const uint8_t *second, size_t second_len)
+{
+    size_t limit = uart_burst_limit(uart, uart->fifo_size);
+    size_t urgents = uart_write_urgent(uart, urgent);
+    size_t firsts = uart_write_up_to(uart, limit - urgents, first, first_len);
+    return urgents + firsts + uart_write_up_to(uart, limit - urgents - firsts, second, second_len);
+}
+
+/*
+ * Does the same as send_bytes for bytes that a queue holds: an urgent byte, if there is one,
+ * and then the bytes of both parts, as VecDeque_as_slices gives them. Returns how many of
+ * these bytes were sent, from the front.
+ *
+ * They are one burst, after one check as ready_to_send, wherever the parts meet. So the
+ * queue need not copy bytes into one slice, however large the FIFO is. If there are no bytes,
+ * it makes no access.
+ *
+ * Proved: nothing if there are no bytes; else a send check and, if it succeeds, bytes from
+ * the front are written to DATA: as many as a FIFO of the size that is set holds, or one if
+ * it is off. The result is how many.
+ */
+static size_t
+uart_send_gathered(struct u16550_core_driver *uart, struct u16550_core_maybe_u8 urgent,
+    const uint8_t *first, size_t first_len, const uint8_t *second, size_t second_len)
+{
+    if (!urgent.is_some &&
+        ((second_len == 0) || (uart_fifo_size_characters(uart->fifo_size) <= first_len))) {
+        return uart_send_bytes(uart, first, first_len);
+    }
+    if (uart_ready_to_send(uart) != UART_BYTE_SEND_ERROR_NONE)
+        return 0;
+    return uart_write_gathered(uart, urgent, first, first_len, second, second_len);
+}
+
 /* Returns LCR with a break or without. */
 static inline uint8_t uart_break_of(uint8_t lcr, bool on)
 {
@@ -3377,6 +3436,26 @@ static inline void uart_set_output(struct u16550_core_driver *uart, uint8_t outp
 static inline void uart_set_dtr(struct u16550_core_driver *uart, bool on)
 {
     uart_set_output(uart, U16550_MCR_DTR, on);
+}
+
+/*
+ * Sets which size the FIFOs are taken to have. Makes no access, and changes nothing else.
+ *
+ * From then on all that sends puts as many bytes into one burst as such a FIFO holds, if
+ * fifo_enabled. So a larger size takes fewer looks and fewer interrupts for the same bytes.
+ * No other call changes the size: init and attach keep it.
+ *
+ * The size is taken on trust. If it is larger than the chip's, the bytes that do not fit are
+ * lost, and nothing tells. Some chips hold more than 16 characters only after a register of
+ * their own was written. find_fifo_size finds the size of FIFOs as they are set up; a chip
+ * of DesignWare may show it in CPR.
+ *
+ * Proved: no access, and this change to the fields.
+ */
+static inline void
+uart_set_fifo_size(struct u16550_core_driver *uart, enum u16550_core_fifo_size size)
+{
+    uart->fifo_size = size;
 }
 
 /*
@@ -3493,9 +3572,10 @@ static inline void uart_set_rts(struct u16550_core_driver *uart, bool on)
  * Sets how many unsuccessful polls in a row a wait makes before it returns an error. Makes no
  * access, and changes nothing else.
  *
- * Choose it by the time of one poll: at 9,600 baud a full FIFO and shift register hold 17
- * characters of 10 bits, which take about 17.7 ms to send. A limit near 2^64 is a wait without
- * end in practice: at a microsecond a poll it takes more than half a million years.
+ * Choose it by the time of one poll: at 9,600 baud a full FIFO of 16 and the shift register
+ * hold 17 characters of 10 bits, which take about 17.7 ms to send. A larger FIFO takes as much
+ * longer as it is larger. A limit near 2^64 is a wait without end in practice: at a
+ * microsecond a poll it takes more than half a million years.
  *
  * Proved: no access, and this change to the fields.
  */
@@ -3560,6 +3640,7 @@ static struct uart_driver_state uart_state(const struct u16550_core_driver *uart
     struct uart_driver_state driver_state;
     driver_state.config = config;
     driver_state.fifo_enabled = uart->fifo_enabled;
+    driver_state.fifo_size = uart->fifo_size;
     driver_state.saved_lsr = uart->saved_lsr;
     driver_state.saved_msr = uart->saved_msr;
     driver_state.spin_limit = uart->spin_limit;
@@ -4803,59 +4884,33 @@ uart_ring_adjust_rts(struct u16550_core_ring *ring, struct uart_receive_marks ma
         uart_ring_make_rts(ring, found.value);
 }
 
-/* Returns the bytes in order, as two slices. */
-static struct uart_pair_of_slice
-uart_byte_queue_as_slices(const struct u16550_core_byte_queue *byte_queue)
+/* Returns this number of bytes from the front, in order, as two slices. */
+static inline struct uart_pair_of_slice
+uart_byte_queue_front_slices(const struct u16550_core_byte_queue *byte_queue, size_t count)
 {
     const uint8_t *cells = byte_queue->cells.data;
     size_t number = byte_queue->front;
-    size_t number2 = byte_queue->len;
-    size_t number3 = byte_queue->cells.len - number;
-    size_t number4 = number3 < number2 ? number3 : number2;
-    return uart_make_pair_of_slice(uart_make_slice(&cells[number], number4),
-        uart_make_slice(cells, byte_queue->len - number4));
+    size_t number2 = byte_queue->cells.len - number;
+    size_t number3 = number2 < count ? number2 : count;
+    return uart_make_pair_of_slice(uart_make_slice(&cells[number], number3),
+        uart_make_slice(cells, count - number3));
 }
 
 /*
- * Copies bytes from the front, as many as there are slots, and returns how many. Leaves the
- * other slots unchanged.
+ * Sends one burst of the bytes that may be sent, if the chip has room, and returns how many.
+ *
+ * Proved: nothing if there are no bytes; else a send check and, if it succeeds, bytes from
+ * the front are written to DATA: as many as a FIFO of the size that is set holds, or one if
+ * it is off. The result is how many.
  */
-static inline size_t
-uart_byte_queue_copy_front(const struct u16550_core_byte_queue *byte_queue, uint8_t *slots,
-    size_t slots_len)
-{
-    struct uart_pair_of_slice pair = uart_byte_queue_as_slices(byte_queue);
-    size_t before = uart_copy(pair.first.data, pair.first.len, slots, slots_len, 0);
-    return before + uart_copy(pair.second.data, pair.second.len, &slots[before],
-        slots_len - before, 0);
-}
-
-/*
- * Copies bytes of the transmit ring, as many as there are slots, and returns how many: none
- * while it is held. Leaves the other slots unchanged.
- */
-static inline size_t
-uart_ring_copy_queued(const struct u16550_core_ring *ring, uint8_t *slots, size_t slots_len)
-{
-    if (ring->is_held)
-        return 0;
-    return uart_byte_queue_copy_front(&ring->transmit, slots, slots_len);
-}
-
-/*
- * Copies bytes that may be sent, from the front, as many as there are slots, and returns how
- * many. Leaves the other slots unchanged.
- */
-static size_t
-uart_ring_copy_sendable(const struct u16550_core_ring *ring, uint8_t *slots, size_t slots_len)
+static inline size_t uart_ring_send_sendable(struct u16550_core_ring *ring)
 {
     if (ring->stuck.is_some)
         return 0;
-    if (ring->urgent.is_some) {
-        slots[0] = ring->urgent.value;
-        return 1 + uart_ring_copy_queued(ring, &slots[1], slots_len - 1);
-    }
-    return uart_ring_copy_queued(ring, slots, slots_len);
+    struct uart_pair_of_slice pair =
+        uart_byte_queue_front_slices(&ring->transmit, ring->is_held ? 0 : ring->transmit.len);
+    return uart_send_gathered(&ring->uart, ring->urgent, pair.first.data, pair.first.len,
+        pair.second.data, pair.second.len);
 }
 
 /*
@@ -4911,16 +4966,13 @@ static inline bool uart_ring_has_sendable(const struct u16550_core_ring *ring)
  * IER is read and written each time, even if it need not change: only the chip knows what IER
  * holds, and a caller may have changed it.
  *
- * Proved: a pump: send_bytes of the first 16 bytes that may be sent, and those that were
- * sent no longer wait; then THR_EMPTY is enabled or disabled. Without an urgent byte, a hold
- * or a stuck chip these are the bytes of the transmit ring.
+ * Proved: a pump: send_bytes of the bytes that may be sent, which is one burst of them, and
+ * those that were sent no longer wait; then THR_EMPTY is enabled or disabled. Without an
+ * urgent byte, a hold or a stuck chip these are the bytes of the transmit ring.
  */
-static void uart_ring_pump(struct u16550_core_ring *ring)
+static inline void uart_ring_pump(struct u16550_core_ring *ring)
 {
-    struct uart_bytes16 burst;
-    uart_fill_bytes(burst.bytes, 0, 16);
-    size_t count = uart_ring_copy_sendable(ring, burst.bytes, 16);
-    uart_ring_drop_sent(ring, uart_send_bytes(&ring->uart, burst.bytes, count));
+    uart_ring_drop_sent(ring, uart_ring_send_sendable(ring));
     if (uart_ring_has_sendable(ring))
         uart_enable_interrupts(&ring->uart, U16550_IER_THR_EMPTY);
     else
@@ -5050,9 +5102,9 @@ static inline size_t uart_ring_clear_transmit(struct u16550_core_ring *ring)
 /*
  * Starts sending again if bytes wait in the transmit ring with no interrupt to come.
  *
- * If bytes wait, it sends some of them if the chip has room: up to 16 if its FIFO is on, else
- * one. Then it enables THR_EMPTY if bytes are left in the ring, else it disables it. The
- * rest is sent when that interrupt is served. If none wait, it makes no access.
+ * If bytes wait, it sends one burst of them if the chip has room, as queue does. Then it
+ * enables THR_EMPTY if bytes are left in the ring, else it disables it. The rest is sent
+ * when that interrupt is served. If none wait, it makes no access.
  *
  * Does not wait. Call it
  *
@@ -5092,6 +5144,13 @@ static inline struct u16550_dump uart_ring_config_register_dump(struct u16550_co
     struct u16550_dump dump = uart_config_register_dump(&ring->uart);
     uart_ring_resume_transmit(ring);
     return dump;
+}
+
+/* Returns the bytes in order, as two slices. */
+static inline struct uart_pair_of_slice
+uart_byte_queue_as_slices(const struct u16550_core_byte_queue *byte_queue)
+{
+    return uart_byte_queue_front_slices(byte_queue, byte_queue->len);
 }
 
 /* Returns the byte at this place, from the front on. */
@@ -5232,6 +5291,43 @@ static inline void uart_ring_note_line(struct u16550_core_ring *ring)
     ring->line |= lsr;
 }
 
+/*
+ * Receives bytes into the cells from place on, as the driver's receive_bytes does with so many
+ * slots, and returns how many. The other cells stay as they are.
+ *
+ * Proved: bytes are read from DATA, each after LSR shows it, until the slots are full, or
+ * LSR shows none.
+ */
+static inline size_t
+uart_receive(struct u16550_core_driver *uart, uint8_t *cells, size_t cells_len, size_t place,
+    size_t slots)
+{
+    (void)cells_len;
+    return uart_receive_bytes(uart, &cells[place], place + slots - place);
+}
+
+/*
+ * Appends bytes that the driver receives, as its receive_bytes does with so many slots, and
+ * returns how many.
+ */
+static size_t
+uart_byte_queue_receive_from(struct u16550_core_byte_queue *byte_queue,
+    struct u16550_core_driver *uart, size_t slots)
+{
+    size_t number = byte_queue->front;
+    size_t number2 = byte_queue->len;
+    size_t behind = uart_cell_behind(number, number2, uart_byte_queue_capacity(byte_queue));
+    uint8_t *cells = byte_queue->cells.data;
+    size_t cells_len = byte_queue->cells.len;
+    size_t number3 = cells_len - behind;
+    size_t number4 = number3 < slots ? number3 : slots;
+    size_t before = uart_receive(uart, cells, cells_len, behind, number4);
+    size_t count =
+        before + uart_receive(uart, cells, cells_len, 0, before == number4 ? slots - number4 : 0);
+    byte_queue->len += count;
+    return count;
+}
+
 /* Returns whether there is no room for another byte. */
 static inline bool uart_byte_queue_is_full(const struct u16550_core_byte_queue *byte_queue)
 {
@@ -5254,22 +5350,21 @@ static inline void uart_ring_pause_if_full(struct u16550_core_ring *ring)
 }
 
 /*
- * Receives bytes into the receive ring: as many as a FIFO holds, and as there is room for.
+ * Receives bytes into the receive ring: as many as a FIFO of the size that is set holds, and as
+ * there is room for.
  *
- * Proved: receive_bytes into as many slots as the receive ring has room for, at most 16; the
- * bytes are appended to it.
+ * Proved: receive_bytes into as many slots as the receive ring has room for, at most as many
+ * as a FIFO of the size that is set holds; the bytes are appended to it.
  */
 static void uart_ring_fill_receive_ring(struct u16550_core_ring *ring)
 {
-    struct uart_bytes16 slots;
-    uart_fill_bytes(slots.bytes, 0, 16);
-    size_t byte_queue_capacity = uart_byte_queue_capacity(&ring->receive);
-    size_t number = byte_queue_capacity - ring->receive.len;
-    size_t count = uart_receive_bytes(&ring->uart, slots.bytes, number < 16 ? number : 16);
-    size_t number2 = ring->unlooked;
-    size_t number3 = ring->receive.len;
-    ring->unlooked = (number3 < number2 ? number3 : number2) + count;
-    uart_byte_queue_fill_from_slice(&ring->receive, slots.bytes, count);
+    size_t number = ring->receive.len;
+    size_t most = uart_fifo_size_characters(ring->uart.fifo_size);
+    size_t number2 = uart_byte_queue_capacity(&ring->receive) - number;
+    size_t count =
+        uart_byte_queue_receive_from(&ring->receive, &ring->uart, number2 < most ? number2 : most);
+    size_t number3 = ring->unlooked;
+    ring->unlooked = (number < number3 ? number : number3) + count;
     uart_ring_pause_if_full(ring);
 }
 
@@ -5378,7 +5473,8 @@ static inline void uart_ring_retrigger(struct u16550_core_ring *ring)
  * ever. So count the calls in a row that do not end with Idle, and after a number of them
  * disable the chip's interrupts.
  *
- * Does not wait: makes at most 35 accesses for each interrupt of the limit, and 3 more.
+ * Does not wait: makes at most 35 accesses for each interrupt of the limit, and 3 more. With a
+ * larger fifo_size of the driver it is twice that size and 3 in place of the 35.
  *
  * Proved: as many interrupts as are pending are served, but no more than the limit. Then,
  * unless ISR has shown that none is pending, IER is read, and written with 0 and with what
@@ -5395,8 +5491,8 @@ static inline struct uart_handled uart_ring_handle(struct u16550_core_ring *ring
 /*
  * Holds the transmit ring: none of its bytes is handed to the chip until release_transmit.
  *
- * What is in the chip goes out: a held ring stops with at most 16 characters of delay. queue
- * accepts bytes as before, and an urgent byte still goes out.
+ * What is in the chip goes out: a held ring stops with at most as many characters of delay as
+ * the FIFO holds. queue accepts bytes as before, and an urgent byte still goes out.
  *
  * Makes no access. If THR_EMPTY is enabled, it is disabled when its next interrupt is
  * served.
@@ -5555,7 +5651,8 @@ uart_ring_handle_round(struct u16550_core_ring *ring, size_t limit, uint32_t rou
  * A chip whose line stays high while ISR shows no interrupt is not found: its rounds end with
  * Idle. DesignWare's busy detect is such a one.
  *
- * Does not wait: makes at most 35 accesses for each interrupt of the limit, and 6 more.
+ * Does not wait: makes at most 35 accesses for each interrupt of the limit, and 6 more. With a
+ * larger fifo_size of the driver it is twice that size and 3 in place of the 35.
  *
  * Errors
  *
@@ -5732,10 +5829,11 @@ static struct u16550_core_maybe_u8 uart_ring_obey_xoff(struct u16550_core_ring *
  * Queues bytes from the front of the slice, as many as the transmit ring has room for, and
  * returns how many.
  *
- * If it queues any, it sends bytes of the ring if the chip has room: up to 16 if its FIFO is
- * on, else one. Then it enables THR_EMPTY if bytes are left in the ring, else it disables
- * it. The rest is sent when that interrupt is served. While the ring is held or the chip is
- * stuck, it sends none, and disables THR_EMPTY.
+ * If it queues any, it sends one burst of the ring if the chip has room, as send_bytes of
+ * the driver: up to as many bytes as the FIFO holds if it is on, else one. Then it enables
+ * THR_EMPTY if bytes are left in the ring, else it disables it. The rest is sent when that
+ * interrupt is served. While the ring is held or the chip is stuck, it sends none, and
+ * disables THR_EMPTY.
  *
  * Does not wait. If it did not queue all bytes, call it again with the rest of the slice after
  * interrupts were served.
@@ -5816,11 +5914,12 @@ static inline void uart_ring_restart(struct u16550_core_ring *ring, uint8_t inte
  *
  * Does not wait. What it does depends on the interrupt:
  *
- * - Received data, or a reception timeout: bytes are moved to the receive ring. If that is
- *   full then, receiving is paused: DATA_READY is disabled, and bytes stay in the chip until
- *   a take makes room.
- * - THR_EMPTY: bytes of the transmit ring are sent, up to 16 if the FIFO is on, else one. If
- *   bytes are left in the ring, THR_EMPTY stays enabled, else it is disabled.
+ * - Received data, or a reception timeout: bytes are moved to the receive ring, up to as many
+ *   as the FIFO holds (fifo_size of the driver). If that is full then, receiving is paused:
+ *   DATA_READY is disabled, and bytes stay in the chip until a take makes room.
+ * - THR_EMPTY: bytes of the transmit ring are sent, up to as many as the FIFO holds if it is
+ *   on, else one. If bytes are left in the ring, THR_EMPTY stays enabled, else it is
+ *   disabled.
  * - Line status: the errors are noted for take_line.
  * - Modem status: the changes are noted for take_modem.
  * - End of DMA: nothing.
@@ -5854,6 +5953,20 @@ static inline struct u16550_core_maybe_stuck_error
 uart_ring_stuck(const struct u16550_core_ring *ring)
 {
     return ring->stuck;
+}
+
+/*
+ * Copies bytes from the front, as many as there are slots, and returns how many. Leaves the
+ * other slots unchanged.
+ */
+static inline size_t
+uart_byte_queue_copy_front(const struct u16550_core_byte_queue *byte_queue, uint8_t *slots,
+    size_t slots_len)
+{
+    struct uart_pair_of_slice pair = uart_byte_queue_as_slices(byte_queue);
+    size_t before = uart_copy(pair.first.data, pair.first.len, slots, slots_len, 0);
+    return before + uart_copy(pair.second.data, pair.second.len, &slots[before],
+        slots_len - before, 0);
 }
 
 /*
@@ -6128,7 +6241,7 @@ uart_half_duplex_receive_with_errors(struct u16550_core_half_duplex *half_duplex
 
 /*
  * Sends bytes from the front of the slice if there is room, and returns how many, as
- * send_bytes of the driver does: up to 16 if the FIFO is on, else one.
+ * send_bytes of the driver does: up to as many as the FIFO holds if it is on, else one.
  *
  * Does not wait. Call it again with the rest of the slice to send more.
  *
@@ -6686,41 +6799,41 @@ static int uart_decode_fifo_action(uint8_t from, enum uart_fifo_action *to)
     }
 }
 
-static int uart_decode_fifo_size(uint16_t from, enum uart_fifo_size *to)
+static int uart_decode_fifo_size(uint16_t from, enum u16550_core_fifo_size *to)
 {
     switch (from) {
     case 16:
-        *to = UART_FIFO_SIZE_SIXTEEN;
+        *to = U16550_CORE_FIFO_SIZE_SIXTEEN;
         return U16550_OK;
     case 32:
-        *to = UART_FIFO_SIZE_THIRTY_TWO;
+        *to = U16550_CORE_FIFO_SIZE_THIRTY_TWO;
         return U16550_OK;
     case 64:
-        *to = UART_FIFO_SIZE_SIXTY_FOUR;
+        *to = U16550_CORE_FIFO_SIZE_SIXTY_FOUR;
         return U16550_OK;
     case 128:
-        *to = UART_FIFO_SIZE_ONE_HUNDRED_TWENTY_EIGHT;
+        *to = U16550_CORE_FIFO_SIZE_ONE_HUNDRED_TWENTY_EIGHT;
         return U16550_OK;
     case 256:
-        *to = UART_FIFO_SIZE_TWO_HUNDRED_FIFTY_SIX;
+        *to = U16550_CORE_FIFO_SIZE_TWO_HUNDRED_FIFTY_SIX;
         return U16550_OK;
     default:
         return U16550_BAD_CODE;
     }
 }
 
-static uint16_t uart_encode_fifo_size(enum uart_fifo_size from)
+static uint16_t uart_encode_fifo_size(enum u16550_core_fifo_size from)
 {
     switch (from) {
-    case UART_FIFO_SIZE_SIXTEEN:
+    case U16550_CORE_FIFO_SIZE_SIXTEEN:
         return 16;
-    case UART_FIFO_SIZE_THIRTY_TWO:
+    case U16550_CORE_FIFO_SIZE_THIRTY_TWO:
         return 32;
-    case UART_FIFO_SIZE_SIXTY_FOUR:
+    case U16550_CORE_FIFO_SIZE_SIXTY_FOUR:
         return 64;
-    case UART_FIFO_SIZE_ONE_HUNDRED_TWENTY_EIGHT:
+    case U16550_CORE_FIFO_SIZE_ONE_HUNDRED_TWENTY_EIGHT:
         return 128;
-    case UART_FIFO_SIZE_TWO_HUNDRED_FIFTY_SIX:
+    case U16550_CORE_FIFO_SIZE_TWO_HUNDRED_FIFTY_SIX:
     default:
         return 256;
     }
@@ -7023,6 +7136,8 @@ static int uart_decode_state(const struct u16550_state *from, struct uart_driver
         status = uart_check_flag(from->fifo_enabled);
     if (status == U16550_OK && from->spin_limit == 0)
         status = U16550_ZERO_LIMIT;
+    if (status == U16550_OK)
+        status = uart_decode_fifo_size(from->fifo_size, &to->fifo_size);
     if (status != U16550_OK)
         return status;
     to->fifo_enabled = from->fifo_enabled == 1;
@@ -7039,6 +7154,7 @@ static void uart_encode_state(struct uart_driver_state from, struct u16550_state
     to->fifo_enabled = from.fifo_enabled;
     to->saved_lsr = from.saved_lsr;
     to->saved_msr = from.saved_msr;
+    to->fifo_size = uart_encode_fifo_size(from.fifo_size);
 }
 
 static int uart_decode_setup(const struct u16550_setup *from, struct uart_setup *to)
@@ -7105,6 +7221,13 @@ static struct u16550_urgent uart_encode_urgent(struct u16550_core_maybe_u8 urgen
 {
     struct u16550_urgent made = { urgent.is_some, (uint8_t)(urgent.is_some ? urgent.value : 0) };
     return made;
+}
+
+/* A byte that goes first, if there is one. */
+static int uart_decode_urgent(const uint8_t *from, struct u16550_core_maybe_u8 *to)
+{
+    *to = from == NULL ? uart_no_u8() : uart_some_u8(*from);
+    return U16550_OK;
 }
 
 /* --------------------------------------------------------------- making and ending a driver */
@@ -8135,6 +8258,33 @@ int u16550_set_spin_limit(struct u16550 *uart, uint64_t limit)
     return uart_leave(uart, U16550_OK);
 }
 
+int u16550_fifo_size(struct u16550 *uart, uint16_t *fifo_size)
+{
+    uint16_t found;
+    int status = uart_if(fifo_size == NULL, U16550_NULL_POINTER);
+    if (status == U16550_OK)
+        status = uart_enter(uart);
+    if (status != U16550_OK)
+        return status;
+    found = uart_encode_fifo_size(uart_fifo_size(&uart->ring.uart));
+    uart_leave(uart, U16550_OK);
+    *fifo_size = found;
+    return U16550_OK;
+}
+
+int u16550_set_fifo_size(struct u16550 *uart, uint16_t fifo_size)
+{
+    enum u16550_core_fifo_size size;
+    int status = uart_enter(uart);
+    if (status != U16550_OK)
+        return status;
+    status = uart_decode_fifo_size(fifo_size, &size);
+    if (status != U16550_OK)
+        return uart_leave(uart, status);
+    uart_set_fifo_size(&uart->ring.uart, size);
+    return uart_leave(uart, U16550_OK);
+}
+
 int u16550_check_present(struct u16550 *uart, uint8_t *present)
 {
     uint8_t found;
@@ -8413,7 +8563,7 @@ int u16550_send_bytes(struct u16550 *uart, const uint8_t *buffer, size_t len, si
 int u16550_send_burst(struct u16550 *uart, const uint8_t *buffer, size_t len, uint16_t fifo_size,
     size_t *count)
 {
-    enum uart_fifo_size size;
+    enum u16550_core_fifo_size size;
     size_t found;
     int status = UART_USABLE(count, size);
     if (status == U16550_OK)
@@ -8426,6 +8576,29 @@ int u16550_send_burst(struct u16550 *uart, const uint8_t *buffer, size_t len, ui
     if (status != U16550_OK)
         return uart_leave(uart, status);
     found = uart_send_burst(&uart->ring.uart, buffer, len, size);
+    uart_leave(uart, U16550_OK);
+    *count = found;
+    return U16550_OK;
+}
+
+int u16550_send_gathered(struct u16550 *uart, const uint8_t *urgent, const uint8_t *first,
+    size_t first_len, const uint8_t *second, size_t second_len, size_t *count)
+{
+    struct u16550_core_maybe_u8 urgent_byte;
+    size_t found;
+    int status = UART_USABLE(count, size);
+    if (status == U16550_OK)
+        status = uart_enter(uart);
+    if (status != U16550_OK)
+        return status;
+    status = uart_decode_urgent(urgent, &urgent_byte);
+    if (status == U16550_OK)
+        status = uart_array(first, first_len, 1, 1);
+    if (status == U16550_OK)
+        status = uart_array(second, second_len, 1, 1);
+    if (status != U16550_OK)
+        return uart_leave(uart, status);
+    found = uart_send_gathered(&uart->ring.uart, urgent_byte, first, first_len, second, second_len);
     uart_leave(uart, U16550_OK);
     *count = found;
     return U16550_OK;

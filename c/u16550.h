@@ -227,6 +227,7 @@ struct u16550_state {
     uint8_t fifo_enabled;               /* 0 or 1 */
     uint8_t saved_lsr;                  /* errors that reads of LSR cleared in the chip, and that were not reported yet */
     uint8_t saved_msr;                  /* the same for changes of the modem lines */
+    uint16_t fifo_size;                 /* how many characters the FIFOs are taken to hold: 16, 32, 64, 128 or 256 */
 };
 
 /* All registers at one time. */
@@ -457,6 +458,21 @@ struct u16550_core_config {
 };
 
 /*
+ * How many characters the transmitter FIFO of a chip holds, for Uart16550_send_burst.
+ *
+ * A 16550 has 16. No register that all chips have shows the size, so it is taken from the
+ * datasheet, or Uart16550_find_fifo_size finds it. If a size is given that is larger than the
+ * chip's, bytes are lost.
+ */
+enum u16550_core_fifo_size {
+    U16550_CORE_FIFO_SIZE_SIXTEEN = 0,
+    U16550_CORE_FIFO_SIZE_THIRTY_TWO = 1,
+    U16550_CORE_FIFO_SIZE_SIXTY_FOUR = 2,
+    U16550_CORE_FIFO_SIZE_ONE_HUNDRED_TWENTY_EIGHT = 3,
+    U16550_CORE_FIFO_SIZE_TWO_HUNDRED_FIFTY_SIX = 4
+};
+
+/*
  * A driver for one serial chip of the 16550 family, over any backend.
  *
  * Construct it with new_port, new_mmio or new_with_backend, and call init before any other
@@ -476,6 +492,7 @@ struct u16550_core_driver {
     struct u16550_device backend;
     struct u16550_core_config config;
     bool fifo_enabled;
+    enum u16550_core_fifo_size fifo_size;
     uint8_t saved_lsr;
     uint8_t saved_msr;
     uint64_t spin_limit;
@@ -618,6 +635,9 @@ struct u16550_core_maybe_stuck_error {
  * bytes to send. Call handle or try_handle in the interrupt handler. Mask the interrupt during
  * all other calls, since the handler must not run in the middle of one.
  *
+ * For a chip whose FIFOs hold more than 16 characters set their size in the driver, by
+ * set_fifo_size, before or through inner_mut: an interrupt then sends or receives as many.
+ *
  * No call waits, so none returns a stall.
  */
 struct u16550_core_ring {
@@ -680,8 +700,9 @@ struct u16550_core_direction {
  * overrun the receiver. If other bytes come, two ends sent at once. No call drops received bytes.
  *
  * Only calls of this type keep the direction, so it lends no driver that could write. For other
- * calls, as set_frame, take the driver back by into_inner, and give it to new again. The
- * direction is by software: leave flow control by the chip off, which would drive RTS itself.
+ * calls, as set_frame, take the driver back by into_inner, and give it to new again. So set
+ * the size of the FIFOs, by set_fifo_size, before new. The direction is by software: leave
+ * flow control by the chip off, which would drive RTS itself.
  */
 struct u16550_core_half_duplex {
     struct u16550_core_driver uart;
@@ -735,8 +756,8 @@ const char *u16550_version(void);
 /* --------------------------------------------------------------- making a driver
  *
  * These make a driver in the memory, in place of one that is there, whose rings end. They make no access. If a call over the
- * driver that is there is not done, they return U16550_BUSY. The driver has the default configuration and a spin limit of
- * 1000000 polls.
+ * driver that is there is not done, they return U16550_BUSY. The driver has the default configuration, a spin limit of
+ * 1000000 polls, and takes the FIFOs to hold 16 characters.
  */
 
 /* A driver whose functions get offsets. */
@@ -810,6 +831,17 @@ int u16550_spin_limit(struct u16550 *uart, uint64_t *limit);
 /* Proved: no access, and this change to the fields. */
 int u16550_set_spin_limit(struct u16550 *uart, uint64_t limit);
 
+/*
+ * How many characters the FIFOs are taken to hold: 16 at first, or what u16550_set_fifo_size set last: 16, 32, 64, 128 or 256. Another
+ * number is refused by U16550_BAD_CODE. All that sends, and the rings, put as many bytes into one burst if the FIFO is on, so that a larger
+ * size takes fewer interrupts for the same bytes. No other call changes it. It is taken on trust: with a size larger than the chip's the
+ * bytes that do not fit are lost, and nothing tells. Some chips hold more than 16 only after a register of their own was written.
+ * u16550_find_fifo_size finds the size of FIFOs as they are set up.
+ */
+int u16550_fifo_size(struct u16550 *uart, uint16_t *fifo_size);
+/* Proved: no access, and this change to the fields. */
+int u16550_set_fifo_size(struct u16550 *uart, uint16_t fifo_size);
+
 /* --------------------------------------------------------------- setting up */
 
 /* Whether a chip is there: its scratch register keeps two patterns. */
@@ -850,10 +882,10 @@ int u16550_init_with(struct u16550 *uart, const struct u16550_config *config, co
 int u16550_test_loopback(struct u16550 *uart, struct u16550_loopback_failure *failure);
 
 /*
- * Finds how many characters the FIFOs hold as they are set up now, for u16550_send_burst: 16, 32, 64, 128 or 256. Sends 257
- * bytes in loopback without looking, and counts those that come back. Nothing goes out on the line. Bytes that were received
- * before and not taken are lost, and so is what arrives meanwhile. It takes as long as the characters need on the line. Returns
- * an enum u16550_fifos_error if no size was found.
+ * Finds how many characters the FIFOs hold as they are set up now, for u16550_set_fifo_size, which it does not call: 16, 32, 64,
+ * 128 or 256. Sends 257 bytes in loopback without looking, and counts those that come back. Nothing goes out on the line. Bytes
+ * that were received before and not taken are lost, and so is what arrives meanwhile. It takes as long as the characters need on
+ * the line. Returns an enum u16550_fifos_error if no size was found.
  */
 /*
  * Proved: nothing is done if the FIFOs are off. Else MCR and IER are read, and there is a
@@ -1008,7 +1040,10 @@ int u16550_try_receive_byte(struct u16550 *uart, uint8_t *byte);
  */
 int u16550_try_send_byte(struct u16550 *uart, uint8_t byte);
 
-/* Receive what is there, or send one burst, without waiting. *count is how many bytes it was, perhaps 0. */
+/*
+ * Receive what is there, or send one burst, without waiting. *count is how many bytes it was, perhaps 0. A burst has as many bytes
+ * as u16550_fifo_size says if the FIFO is on, else one.
+ */
 /*
  * Proved: bytes are read from DATA, each after LSR shows it, until the slots are full, or
  * LSR shows none.
@@ -1016,14 +1051,14 @@ int u16550_try_send_byte(struct u16550 *uart, uint8_t byte);
 int u16550_receive_bytes(struct u16550 *uart, uint8_t *buffer, size_t len, size_t *count);
 /*
  * Proved: nothing if there are no bytes; else a send check and, if it succeeds, bytes from
- * the front are written to DATA: as many as the FIFO holds, or one if it is off. The result
- * is how many.
+ * the front are written to DATA: as many as a FIFO of the size that is set holds, or one if
+ * it is off. The result is how many.
  */
 int u16550_send_bytes(struct u16550 *uart, const uint8_t *buffer, size_t len, size_t *count);
 
 /*
- * The same as u16550_send_bytes for a chip whose transmitter FIFO has 16, 32, 64, 128 or 256 characters: one burst of that size.
- * On a chip with fewer the bytes that do not fit are lost.
+ * The same as u16550_send_bytes for a chip whose transmitter FIFO has 16, 32, 64, 128 or 256 characters: one burst of that size,
+ * whatever u16550_fifo_size says. On a chip with fewer the bytes that do not fit are lost.
  */
 /*
  * Proved: nothing if there are no bytes; else a send check and, if it succeeds, bytes from
@@ -1031,6 +1066,19 @@ int u16550_send_bytes(struct u16550 *uart, const uint8_t *buffer, size_t len, si
  * The result is how many.
  */
 int u16550_send_burst(struct u16550 *uart, const uint8_t *buffer, size_t len, uint16_t fifo_size, size_t *count);
+
+/*
+ * The same as u16550_send_bytes for bytes in a circular buffer: an urgent byte, as XOFF is, and then the bytes of both parts, in one burst
+ * wherever the parts meet. urgent may be null, and there is no such byte then. *count is how many of these bytes were sent, from the front:
+ * the urgent one is the first of them.
+ */
+/*
+ * Proved: nothing if there are no bytes; else a send check and, if it succeeds, bytes from
+ * the front are written to DATA: as many as a FIFO of the size that is set holds, or one if
+ * it is off. The result is how many.
+ */
+int u16550_send_gathered(struct u16550 *uart, const uint8_t *urgent, const uint8_t *first, size_t first_len,
+                         const uint8_t *second, size_t second_len, size_t *count);
 
 /*
  * The same as u16550_try_receive_byte and u16550_receive_bytes, with the line errors of each byte. A chip shows these once: if
