@@ -332,7 +332,6 @@ fn driver_of(state: &DriverState) -> Driver {
         fifo_enabled: state.fifo_enabled.into(),
         saved_lsr: state.saved_lsr.bits(),
         saved_msr: state.saved_msr.bits(),
-        // At most 256.
         fifo_size: state.fifo_size.characters() as u16,
     }
 }

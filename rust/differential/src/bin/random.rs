@@ -19,6 +19,14 @@ use uart_16550::{DriverState, FifoSize, Uart16550, Uart16550Tty};
 const MOST_CALLS: usize = 8;
 const MOST_POLLS: usize = 6;
 
+/// What a driver may take the FIFOs for. A call sends up to 64 bytes.
+const SIZES: [FifoSize; 4] = [
+    FifoSize::Sixteen,
+    FifoSize::ThirtyTwo,
+    FifoSize::SixtyFour,
+    FifoSize::TwoHundredFiftySix,
+];
+
 /// After so many cases that differ no more are made.
 const MOST_DIFFERENT: usize = 5;
 
@@ -27,17 +35,6 @@ const MOST_DIFFERENT: usize = 5;
 struct Totals {
     calls: usize,
     accesses: usize,
-}
-
-/// Returns a size of FIFOs.
-fn random_size(random: &mut Random) -> FifoSize {
-    match random.below(5) {
-        0 => FifoSize::Sixteen,
-        1 => FifoSize::ThirtyTwo,
-        2 => FifoSize::SixtyFour,
-        3 => FifoSize::OneHundredTwentyEight,
-        _ => FifoSize::TwoHundredFiftySix,
-    }
 }
 
 /// Returns the state of a driver: a new one, or any.
@@ -50,7 +47,7 @@ fn random_state(random: &mut Random) -> DriverState {
     DriverState {
         config: random_config(random),
         fifo_enabled: random.is_among(128),
-        fifo_size: random_size(random),
+        fifo_size: random.pick(&SIZES),
         saved_lsr: LSR::from_bits_retain(random.byte()),
         saved_msr: MSR::from_bits_retain(random.byte()),
         spin_limit,
