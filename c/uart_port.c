@@ -1810,40 +1810,6 @@ size_t uart_chip_take_wire(struct uart_chip *chip, uint8_t *bytes, size_t room)
     return uart_transmitter_take_wire(&chip->transmitter, bytes, room);
 }
 
-/* Returns whether automatic flow control is on. */
-static inline bool uart_is_auto_flow(const struct uart_chip *parts)
-{
-    return false && (uart_chip_mcr(parts) & 32) != 0;
-}
-
-/* Returns whether MSR shows CTS: the other end is ready to receive. */
-static inline bool uart_chip_modem_is_clear_to_send(const struct uart_chip_modem *modem)
-{
-    return (modem->lines & UART_MSR_CTS) != 0;
-}
-
-/* Returns whether MSR shows CTS: the other end is ready to receive. */
-static inline bool uart_modem_is_clear_to_send(const struct uart_modem *uart_modem)
-{
-    struct uart_chip_modem chip_modem = uart_restored(*uart_modem);
-    return uart_chip_modem_is_clear_to_send(&chip_modem);
-}
-
-/* Returns whether MSR shows CTS: the other end is ready to receive. */
-static inline bool uart_chip_is_clear_to_send(const struct uart_chip *uart_chip)
-{
-    return uart_modem_is_clear_to_send(&uart_chip->modem);
-}
-
-/*
- * Returns whether the transmitter takes no next character: automatic flow control is on, and the
- * other end is not ready to receive.
- */
-static inline bool uart_is_held_off(const struct uart_chip *parts)
-{
-    return uart_is_auto_flow(parts) && !uart_chip_is_clear_to_send(parts);
-}
-
 /* Returns whether the wire has room for a byte. */
 static inline bool uart_transmitter_has_room(const struct uart_transmitter *uart_transmitter)
 {
@@ -1854,9 +1820,11 @@ static inline bool uart_transmitter_has_room(const struct uart_transmitter *uart
 /*
  * Returns the ticks until a character enters or leaves the shift register: None if none can, as
  * with a full wire.
+ *
+ * The held_off is false in each call, and so it is left out.
  */
 static inline struct uart_maybe_u16
-uart_next_move(const struct uart_transmitter *parts, bool loopback, bool held_off)
+uart_next_move(const struct uart_transmitter *parts, bool loopback)
 {
     struct uart_maybe_shifting found = uart_transmitter_shifting(parts);
     if (found.is_some) {
@@ -1864,7 +1832,7 @@ uart_next_move(const struct uart_transmitter *parts, bool loopback, bool held_of
             return uart_some_u16(1 < found.value.ticks_left ? found.value.ticks_left : 1);
         return uart_no_u16();
     }
-    if (held_off || (uart_transmitter_queue_len(parts) == 0))
+    if (uart_transmitter_queue_len(parts) == 0)
         return uart_no_u16();
     return uart_some_u16(1);
 }
@@ -1987,13 +1955,14 @@ static inline void uart_refill(struct uart_transmitter *parts)
 /*
  * Lets one tick pass, and returns the byte that loopback returns in it. A transmitter that is held
  * off takes no next character from its queue; the one that it shifts out goes on.
+ *
+ * The held_off is false in each call, and so it is left out.
  */
 static inline struct uart_maybe_u8
-uart_transmitting_tick(struct uart_transmitter *parts, bool loopback, bool held_off)
+uart_transmitting_tick(struct uart_transmitter *parts, bool loopback)
 {
     struct uart_maybe_u8 looped = uart_shift(parts, loopback);
-    if (!held_off)
-        uart_refill(parts);
+    uart_refill(parts);
     return looped;
 }
 
@@ -2010,8 +1979,7 @@ uart_receiving_tick(struct uart_receiver *parts, bool fifo, struct uart_maybe_u8
 static inline void uart_controlling_tick(struct uart_chip *parts)
 {
     bool loopback = uart_is_loopback(parts);
-    bool held_off = uart_is_held_off(parts);
-    struct uart_maybe_u8 looped = uart_transmitting_tick(&parts->transmitter, loopback, held_off);
+    struct uart_maybe_u8 looped = uart_transmitting_tick(&parts->transmitter, loopback);
     bool fifo = uart_chip_fifo(parts);
     uart_receiving_tick(&parts->receiver, fifo, looped);
 }
@@ -2031,8 +1999,7 @@ static inline size_t uart_advance(struct uart_chip *parts, uint16_t n)
     size_t jumps = 0;
     while (0 < left) {
         bool loopback = uart_is_loopback(parts);
-        bool held_off = uart_is_held_off(parts);
-        struct uart_maybe_u16 found = uart_next_move(&parts->transmitter, loopback, held_off);
+        struct uart_maybe_u16 found = uart_next_move(&parts->transmitter, loopback);
         if (found.is_some && found.value <= left) {
             uart_skip(parts, (uint16_t)(found.value - 1));
             uart_controlling_tick(parts);
@@ -2255,7 +2222,7 @@ static inline bool uart_is_settled(const struct uart_chip *chip)
     bool is_so2 = is_so && chip->receiver.timeout_ticks == chip->receiver.timeout_limit;
     if (is_so2) {
         bool is_so3 = uart_is_loopback(chip);
-        is_so2 = !uart_next_move(&chip->transmitter, is_so3, false).is_some;
+        is_so2 = !uart_next_move(&chip->transmitter, is_so3).is_some;
     }
     return is_so2;
 }
@@ -2835,15 +2802,6 @@ static inline void uart_control(struct uart_chip *parts, uint8_t value)
         uart_set_fifo(parts, value);
 }
 
-/* Returns what MCR keeps of a write on a chip that has automatic flow control, or has not. */
-static inline uint8_t uart_kept_modem_control_of(bool auto_flow, uint8_t written)
-{
-    uint8_t outputs = UART_MCR_DTR | UART_MCR_RTS | UART_MCR_OUT_1 | UART_MCR_OUT_2_INT_ENABLE;
-    if (auto_flow)
-        return written & (outputs | UART_MCR_LOOP_BACK | 32);
-    return uart_kept_modem_control(written);
-}
-
 /* Renews the lines under this modem control register. */
 static inline void uart_modem_renew(struct uart_modem *uart_modem, uint8_t mcr)
 {
@@ -2861,7 +2819,7 @@ static UART_APART void uart_chip_renew_modem(struct uart_chip *uart_chip, uint8_
 /* Writes MCR. */
 static inline void uart_control_modem(struct uart_chip *parts, uint8_t value)
 {
-    uint8_t mcr = uart_kept_modem_control_of(false, value);
+    uint8_t mcr = uart_kept_modem_control(value);
     struct uart_chip_latches latches = uart_chip_latches_of(parts);
     latches.mcr = mcr;
     uart_chip_set_latches(parts, latches);
@@ -2970,8 +2928,7 @@ static inline bool uart_is_ready(const struct uart_transmitter *parts)
 static inline bool uart_sends_at_once(const struct uart_chip *parts)
 {
     return (uart_chip_lcr(parts) & UART_LCR_DLAB) == 0 &&
-        (!uart_is_loopback(parts) &&
-        (!uart_is_held_off(parts) && uart_is_ready(&parts->transmitter)));
+        (!uart_is_loopback(parts) && uart_is_ready(&parts->transmitter));
 }
 
 /*

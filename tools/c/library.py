@@ -123,8 +123,8 @@ class Written:
 
 
 def is_constant(value):
-    """Whether a value is a constant of an enum."""
-    return isinstance(value, c.Word) and value.of.text().startswith("enum ")
+    """Whether a value is a constant of an enum, or true or false."""
+    return isinstance(value, c.Word) and (value.of is c.BOOL or value.of.text().startswith("enum "))
 
 
 def without_destructors(key):
@@ -207,6 +207,9 @@ class Library:
                 written.publish(self.exports[key[0]][1])
             self.put_known(body.statements, written, known)
             written.statements = in_place.run(passes.run(body.statements, body.result, self.with_names), self.is_large)
+            # What is constant may be an argument that is known, of another call.
+            if self.leave_out_known(written.statements, self.is_constant_call):
+                written.statements = passes.refined(written.statements, self.with_names)
             if self.leave_out_known(written.statements):
                 written.statements = passes.refined(written.statements, self.with_names)
             if self.exports:
@@ -278,13 +281,19 @@ class Library:
             written.parameters = [one for one in written.parameters if one not in constants]
             self.known_of[written.name] = known
 
-    def leave_out_known(self, statements):
-        """Leaves out the arguments that are known, and puts what a call stands for in its place. Returns whether there was one."""
+    def is_constant_call(self, call):
+        """Whether a call stands for a constant, and has no argument that is known."""
+        value, _ = self.stands_for.get(call.name, (None, ()))
+        return isinstance(value, c.Word) and not self.known_of.get(call.name)
+
+    def leave_out_known(self, statements, which=lambda call: True):
+        """Leaves out the arguments that are known of these calls, and puts what a call stands for in its place. Returns whether there was
+        one."""
         found = False
 
         def change(one):
             nonlocal found
-            known = self.known_of.get(one.name) if isinstance(one, c.CallOf) else None
+            known = self.known_of.get(one.name) if isinstance(one, c.CallOf) and which(one) else None
             if known is None:
                 return one
             found = True

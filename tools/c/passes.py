@@ -265,6 +265,9 @@ def simpler_binary(one):
         return left
     if one.operator == "&&" and isinstance(right, c.Word) and right.name == "true":
         return left
+    # The right side is not computed if the left one decides.
+    if one.operator in ("&&", "||") and isinstance(left, c.Word) and left.of is c.BOOL:
+        return right if (left.name == "true") == (one.operator == "&&") else left
     if one.operator == "&" and isinstance(right, c.Literal) and right.value == (1 << right.of.bits) - 1:
         return left
     return one
