@@ -100,6 +100,7 @@ enum uart_status {
 #define UART_MCR_OUT_1 0x04
 #define UART_MCR_OUT_2_INT_ENABLE 0x08
 #define UART_MCR_LOOP_BACK 0x10
+#define UART_MCR_AUTO_FLOW 0x20 /* RTS and CTS by the chip: 16750, 16950, DesignWare; the chip of this library has no such bit */
 #define UART_MCR_READY 0x0b /* there, ready, interrupt connected: DTR, RTS, OUT2 */
 
 /* Line status. */

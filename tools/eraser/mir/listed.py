@@ -51,7 +51,9 @@ DIFFER = {
 # Emitted functions that no case compares or reaches: a pattern of the name and of the cause that the program gives, and why.
 SCHEDULED = "of a chip under a schedule: nothing that is compared calls it"
 SKIPPED = {
-    r"^uart_chip::chip::Uart::(fifo|tick|arrive|expire_timeout|perform): generic": SCHEDULED,
+    r"^uart_chip::chip::Uart::(fifo|tick|arrive|expire_timeout|perform|rts_output): generic": SCHEDULED,
+    r"^uart_chip::chip::UartChipParts::is_clear_to_send: generic": SCHEDULED,
+    r"^uart_chip::controlling::rts_output: generic": SCHEDULED,
     r"^uart_chip::receiver::Receiver::(arrive|waiting_at|arrivals): generic": SCHEDULED,
     r"^uart_chip::transmitter::Transmitter::held_at: generic": SCHEDULED,
     r"^uart_(16550|design_ware|ring)::.*Debug::fmt .*: printed and generic": "prints a backend, which the MIR's formatter does not know",
@@ -73,6 +75,7 @@ NOT_EMITTED = {
 # Places of the MIR that no input reaches: a pattern of the function, the number of the place and what it is, and why.
 OF_ORIGINS = "each character of a live chip has the same origin"
 IN_JUMPS = "time passes for a live chip in jumps, which end where something happens"
+BY_DRIVER = "automatic flow control, which no live chip has: scripts that are played by both sides compare it"
 NOT_REACHED = {
     r"(PartialEq::eq|PartialOrd::partial_cmp|Ord::cmp) \d+ case \d+(\|\d+)*$": "another variant: their numbers were compared before",
     r"Clone::clone \d+ case 1$": "no memory: what is cloned has none",
@@ -85,6 +88,10 @@ NOT_REACHED = {
     r"^uart_chip::receiving::replace 2 case 0$": "an empty receiver, of which nothing is replaced",
     r"^uart_chip::receiving::replace (4 else|5 if|6 else)$": OF_ORIGINS,
     r"^uart_chip::transmitting::(refill 1 if|shift 3 if|shift 8 else)$": IN_JUMPS,
+    r"^uart_chip::chip::UartChipParts::is_clear_to_send 0 entry$": BY_DRIVER,
+    r"^uart_chip::controlling::is_(auto_flow|held_off) 1 if$": BY_DRIVER,
+    r"^uart_chip::sending::sends_at_once 4 else$": BY_DRIVER,
+    r"^uart_chip::transmitting::(next_move 2 if|tick 2 else)$": BY_DRIVER,
 }
 
 # Functions that read outside of an empty slice, as their contract allows.
