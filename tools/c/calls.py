@@ -295,6 +295,7 @@ BITS = [
         Member("MCR_OUT_1", 0x04),
         Member("MCR_OUT_2_INT_ENABLE", 0x08, "on a PC the interrupt line is connected only with this"),
         Member("MCR_LOOP_BACK", 0x10),
+        Member("MCR_AUTO_FLOW", 0x20, "RTS and CTS by the chip, which a 16750, a 16950 and DesignWare UARTs can do"),
     ]),
     Enum("lsr_bits", "", [
         Member("LSR_DATA_READY", 0x01),

@@ -367,7 +367,8 @@ enum u16550_mcr_bits {
     U16550_MCR_RTS = 0x02,
     U16550_MCR_OUT_1 = 0x04,
     U16550_MCR_OUT_2_INT_ENABLE = 0x08, /* on a PC the interrupt line is connected only with this */
-    U16550_MCR_LOOP_BACK = 0x10
+    U16550_MCR_LOOP_BACK = 0x10,
+    U16550_MCR_AUTO_FLOW = 0x20   /* RTS and CTS by the chip, which a 16750, a 16950 and DesignWare UARTs can do */
 };
 
 enum u16550_lsr_bits {

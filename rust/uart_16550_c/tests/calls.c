@@ -704,6 +704,9 @@ static void outputs(void)
     IS(d.registers[MCR], 0x0b);
     OK(u16550_set_modem_control(&uart, U16550_MCR_OUT_1 | U16550_MCR_LOOP_BACK));
     IS(d.registers[MCR], U16550_MCR_OUT_1);
+    OK(u16550_set_modem_control(&uart, U16550_MCR_RTS | U16550_MCR_AUTO_FLOW));
+    IS(d.registers[MCR], U16550_MCR_RTS | U16550_MCR_AUTO_FLOW);
+    OK(u16550_set_modem_control(&uart, U16550_MCR_OUT_1));
     OK(u16550_set_break(&uart, 1));
     IS(d.registers[LCR], 0x43);
     OK(u16550_set_break(&uart, 0));
