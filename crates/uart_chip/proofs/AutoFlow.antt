@@ -12,14 +12,14 @@ off_goes_on c e = ap (λ (b : Bool). b && not (has_any c.modem.lines MSR.CTS.0))
 
 -- a chip that has it not has it off
 pub never_on : (c : ChipState) → c.auto_flow ≡ false → is_auto_flow c ≡ false
-never_on c e = ap (λ (b : Bool). b && has_any c.latches.mcr MCR._RESERVED0.0) e
+never_on c e = ap (λ (b : Bool). b && has_any c.latches.mcr MCR.AUTO_FLOW.0) e
 
 pub never_held_off : (c : ChipState) → c.auto_flow ≡ false → is_held_off c ≡ false
 never_held_off c e = off_goes_on c (never_on c e)
 
 -- its bit clear, it is off
-pub cleared_off : (c : ChipState) → has_any c.latches.mcr MCR._RESERVED0.0 ≡ false → is_auto_flow c ≡ false
-cleared_off c e = go c.auto_flow (has_any c.latches.mcr MCR._RESERVED0.0) e
+pub cleared_off : (c : ChipState) → has_any c.latches.mcr MCR.AUTO_FLOW.0 ≡ false → is_auto_flow c ≡ false
+cleared_off c e = go c.auto_flow (has_any c.latches.mcr MCR.AUTO_FLOW.0) e
   where
     go : (a b : Bool) → b ≡ false → (a && b) ≡ false
     go true b e = e

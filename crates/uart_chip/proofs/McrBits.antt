@@ -79,10 +79,10 @@ kept_bit true k value e f = ap (λ (v : ℕ). has_any v (2 ^ k)) (kept_all value
 
 -- the bit of automatic flow control is there only in a chip that has it
 pub flow_bit : (auto_flow : Bool) (value : ℕ) →
-    has_any (kept_mcr auto_flow value) MCR._RESERVED0.0 ≡ (has_any value MCR._RESERVED0.0 && auto_flow)
+    has_any (kept_mcr auto_flow value) MCR.AUTO_FLOW.0 ≡ (has_any value MCR.AUTO_FLOW.0 && auto_flow)
 flow_bit true value =
-    ap (λ (v : ℕ). has_any v MCR._RESERVED0.0) (kept_all value) ∙
-    (has_and 5 value (mcr_bits_of true) refl ∙ sym (yes_and (has_any value MCR._RESERVED0.0)))
+    ap (λ (v : ℕ). has_any v MCR.AUTO_FLOW.0) (kept_all value) ∙
+    (has_and 5 value (mcr_bits_of true) refl ∙ sym (yes_and (has_any value MCR.AUTO_FLOW.0)))
 flow_bit false value =
-    ap (λ (v : ℕ). has_any v MCR._RESERVED0.0) (kept_without value) ∙
-    (has_not 5 value mcr_bits refl ∙ sym (no_and (has_any value MCR._RESERVED0.0)))
+    ap (λ (v : ℕ). has_any v MCR.AUTO_FLOW.0) (kept_without value) ∙
+    (has_not 5 value mcr_bits refl ∙ sym (no_and (has_any value MCR.AUTO_FLOW.0)))

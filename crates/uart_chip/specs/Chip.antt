@@ -26,7 +26,7 @@ use Rattle.uart_spec.specs.declared.registers.line_status.TheConstants.LSR
 use Rattle.uart_spec.specs.declared.registers.modem_status.TheConstants.MSR
 use Rattle.uart_spec.specs.declared.registers.offsets.TheConstants as offsets
 use Rattle.uart_spec.specs.declared.setup.FifoSize.{FifoSize}
-use Rattle.uart_spec.specs.declared.setup.FifoSize.TheVariants.{Sixteen}
+use Rattle.uart_spec.specs.declared.setup.FifoSize.TheVariants.{Sixteen, SixtyFour}
 use Rattle.uart_chip.specs.Masks.{ier_bits, kept_mcr}
 use Rattle.uart_chip.specs.Transmitter as transmitter
 use Rattle.uart_chip.specs.Transmitter.{TransmitterState, looped_byte, load}
@@ -49,7 +49,8 @@ pub record LatchesState : Type 0 where
   pub dlm : ℕ
 
 -- the model, which says whether there is a FIFO at all, the latches, whether the FIFO is on, transmitter, receiver,
--- modem lines, whether characters are cut to the word length, and whether the chip has automatic flow control
+-- modem lines, whether characters are cut to the word length, whether the chip has automatic flow control, and whether
+-- it has the switch of a 16750 between FIFOs of 16 characters and of 64
 pub record ChipState : Type 0 where
   pub model : Chip
   pub latches : LatchesState
@@ -59,6 +60,7 @@ pub record ChipState : Type 0 where
   pub modem : ModemState
   pub cuts : Bool
   pub auto_flow : Bool
+  pub has_size_switch : Bool
 
 -- a chip after power-on, whose FIFOs hold 16 characters, for a schedule with this number of arrivals
 abbrev pub fresh : Chip → ℕ → ℕ → ℕ → ChipState
@@ -72,6 +74,7 @@ fresh model char_ticks capacity arrivals =
       modem = modem.fresh;
       cuts = false;
       auto_flow = false;
+      has_size_switch = false;
     }
 
 -- the same chip, with FIFOs of this size; a 16450 has none, and nothing that it does depends on their size
@@ -89,7 +92,7 @@ is_loopback l = has_any l.mcr MCR.LOOP_BACK.0
 
 -- whether automatic flow control is on: the chip has it, and its bit of MCR is set
 abbrev pub is_auto_flow : ChipState → Bool
-is_auto_flow c = c.auto_flow && has_any c.latches.mcr MCR._RESERVED0.0
+is_auto_flow c = c.auto_flow && has_any c.latches.mcr MCR.AUTO_FLOW.0
 
 -- whether the transmitter takes no next character: automatic flow control is on, and CTS is off as MSR shows it, which
 -- in loopback is RTS of MCR
@@ -207,6 +210,17 @@ is_thr_empty _ = false
 abbrev pub with_thr_pending : Bool → ChipState → ChipState
 with_thr_pending pending c = record c { transmitter = record c.transmitter { is_thr_pending = pending } }
 
+-- a FIFO of this size holds 64 characters
+abbrev pub is_64 : FifoSize → Bool
+is_64 SixtyFour = true
+is_64 _ = false
+
+-- what ISR shows of the FIFOs: that they are on, and, on a chip that has the switch of a 16750, that they hold 64
+abbrev pub fifo_flags : ChipState → ℕ
+fifo_flags c =
+    let holds_64 = c.has_size_switch && is_64 c.receiver.size in
+    bit_or (flag c.fifo ISR.FIFOS_ENABLED.0) (flag (c.fifo && holds_64) ISR.DMA_TX_END.0)
+
 -- ---- a read
 
 -- what a read of the register returns
@@ -215,7 +229,7 @@ answer offset c =
     if offset == offsets.DATA
     then (if is_dlab_set c.latches then c.latches.dll else (take_front c.receiver.queue c.receiver).last_byte)
     else if offset == offsets.IER then (if is_dlab_set c.latches then c.latches.dlm else c.latches.ier)
-    else if offset == offsets.ISR then bit_or (identification (interrupt c)) (flag c.fifo ISR.FIFOS_ENABLED.0)
+    else if offset == offsets.ISR then bit_or (identification (interrupt c)) (fifo_flags c)
     else if offset == offsets.LCR then c.latches.lcr
     else if offset == offsets.MCR then c.latches.mcr
     else if offset == offsets.LSR then line_status c
@@ -246,9 +260,18 @@ level_of code =
 abbrev pub trigger_level : (fcr : ℕ) → FifoTriggerLevel
 trigger_level fcr = level_of (field 6 2 fcr)
 
+-- the two are equal
+abbrev pub is_same : Bool → Bool → Bool
+is_same true b = b
+is_same false b = not b
+
+-- both queues are emptied
+abbrev pub empty_queues : ChipState → ChipState
+empty_queues c = record c { receiver = clear c.receiver; transmitter = record c.transmitter { queue = [] } }
+
 -- the FIFO is switched on or off, which empties both queues
 abbrev pub switch : Bool → ChipState → ChipState
-switch on c = record c { fifo = on; receiver = clear c.receiver; transmitter = record c.transmitter { queue = [] } }
+switch on c = record (empty_queues c) { fifo = on }
 
 -- the receiver is reset if the bit is set
 abbrev pub reset_receiver : ℕ → ChipState → ChipState
@@ -265,17 +288,32 @@ reset_transmitter value c =
 abbrev pub set_trigger : FifoTriggerLevel → ChipState → ChipState
 set_trigger trigger c = record c { receiver = record c.receiver { trigger = trigger } }
 
--- the two are equal
-abbrev pub is_same : Bool → Bool → Bool
-is_same true b = b
-is_same false b = not b
+-- A 16750 begins with FIFOs of 16. It switches them to 64, and back, by bit 5 of FCR, only while DLAB is set: so a
+-- program that knows nothing of the bit does not switch them.
 
--- a write of FCR to a chip with FIFOs: the switch and, if they are on, the resets and the trigger level
+-- the size that a write of FCR asks for, on a chip that has the switch
+abbrev pub switched_size : (fcr : ℕ) → FifoSize
+switched_size fcr = if has_any fcr FCR._RESERVED0.0 then SixtyFour else Sixteen
+
+-- whether a write of FCR that turns the FIFO on, or leaves it on, switches its size: the chip has the switch, DLAB is
+-- set, and another size is asked for than the FIFO has
+abbrev pub is_switching : (fcr : ℕ) → ChipState → Bool
+is_switching fcr c =
+    let is_kept = is_same (is_64 c.receiver.size) (has_any fcr FCR._RESERVED0.0) in
+    c.has_size_switch && (is_dlab_set c.latches && not is_kept)
+
+-- the FIFOs get the size that is asked for, which empties both; if they have it, nothing happens
+abbrev pub switch_size : (fcr : ℕ) → ChipState → ChipState
+switch_size fcr c = if is_switching fcr c then with_size (switched_size fcr) (empty_queues c) else c
+
+-- a write of FCR to a chip with FIFOs: the switch and, if they are on, their size, the resets and the trigger level
 abbrev pub set_fifo : ℕ → ChipState → ChipState
 set_fifo value c =
     let on = has_any value FCR.FIFO_ENABLE.0 in
     let d = if is_same c.fifo on then c else switch on c in
-    if on then set_trigger (trigger_level value) (reset_transmitter value (reset_receiver value d)) else d
+    if on
+    then set_trigger (trigger_level value) (reset_transmitter value (reset_receiver value (switch_size value d)))
+    else d
 
 -- a write of FCR; on a 16450 it does nothing
 abbrev pub control : Chip → ℕ → ChipState → ChipState

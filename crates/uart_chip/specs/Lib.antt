@@ -6,6 +6,7 @@ pub mod Wire
 pub mod Queue
 pub mod Modem
 pub mod Chip
+pub mod Switching
 pub mod Status
 pub mod Jumps
 pub mod Machine

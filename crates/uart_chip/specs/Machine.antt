@@ -35,6 +35,10 @@ cutting cuts m = record m { chip = record m.chip { cuts = cuts } }
 abbrev pub flowing : (auto_flow : Bool) → MachineState → MachineState
 flowing auto_flow m = record m { chip = record m.chip { auto_flow = auto_flow } }
 
+-- the same machine, which has the switch of a 16750 between FIFOs of 16 and of 64
+abbrev pub switchable : MachineState → MachineState
+switchable m = record m { chip = record m.chip { has_size_switch = true } }
+
 -- the same machine, with FIFOs of this size
 abbrev pub sized : FifoSize → MachineState → MachineState
 sized size m = record m { chip = with_size size m.chip }

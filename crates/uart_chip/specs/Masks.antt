@@ -15,9 +15,9 @@ mcr_bits = MCR.DTR.0 + MCR.RTS.0 + MCR.OUT_1.0 + MCR.OUT_2_INT_ENABLE.0 + MCR.LO
 -- what MCR can hold in a chip that has automatic flow control, or has not: its bit only if the chip has it
 abbrev pub mcr_bits_of : (auto_flow : Bool) → ℕ
 mcr_bits_of false = mcr_bits
-mcr_bits_of true = mcr_bits + MCR._RESERVED0.0
+mcr_bits_of true = mcr_bits + MCR.AUTO_FLOW.0
 
 -- what MCR keeps of a write in such a chip
 abbrev pub kept_mcr : (auto_flow : Bool) → ℕ → ℕ
 kept_mcr auto_flow value =
-    bit_or (bit_and value mcr_bits) (flag (has_any value MCR._RESERVED0.0 && auto_flow) MCR._RESERVED0.0)
+    bit_or (bit_and value mcr_bits) (flag (has_any value MCR.AUTO_FLOW.0 && auto_flow) MCR.AUTO_FLOW.0)

@@ -10,7 +10,7 @@ abbrev pub latches_of : Latches → LatchesState
 latches_of l = record { ier = l.ier.0; lcr = l.lcr.0; mcr = l.mcr.0; scr = l.scr; dll = l.dll; dlm = l.dlm }
 
 -- the chip that these data describe, with these bytes on its wire and without a schedule; such a chip has no automatic
--- flow control
+-- flow control, and no switch of the size
 abbrev pub chip_of : ChipData → List ℕ → ChipState
 chip_of c wire =
     record {
@@ -22,6 +22,7 @@ chip_of c wire =
       modem = modem_of c.modem;
       cuts = c.cuts;
       auto_flow = false;
+      has_size_switch = false;
     }
 
 -- a chip without its schedule

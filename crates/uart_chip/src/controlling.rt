@@ -238,7 +238,7 @@ pub fn is_loopback<P: ChipParts>(parts: &P) -> bool
 fn is_auto_flow<P: ChipParts>(parts: &P) -> bool
     ensures { result ≡ spec.is_auto_flow (P.state parts.now) }
 {
-    parts.has_auto_flow() && parts.mcr().intersects(MCR::_RESERVED0)
+    parts.has_auto_flow() && parts.mcr().intersects(MCR::AUTO_FLOW)
 }
 
 /// Returns whether the transmitter takes no next character: automatic flow control is on, and the

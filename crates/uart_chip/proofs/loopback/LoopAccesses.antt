@@ -25,7 +25,7 @@ use Rattle.uart_chip.proofs.loopback.Loops.{line-length, Fits, fits-after, loops
 pub record IsLooped (x : Modes) : Type 0 where
   pub dlab : dlab x ≡ false
   pub loopback : loopback x ≡ true
-  pub goes_on : has_any x.mcr MCR._RESERVED0.0 ≡ false
+  pub goes_on : has_any x.mcr MCR.AUTO_FLOW.0 ≡ false
 
 -- ---- effects on the chip
 
