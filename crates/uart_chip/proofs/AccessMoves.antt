@@ -14,7 +14,7 @@ use Rattle.uart_chip.specs.Receiver.{take_front, report, clear}
 use Rattle.uart_chip.specs.Transmitter.{load}
 use Rattle.uart_chip.specs.Chip.{ChipState, cut_of, is_dlab_set, interrupt, is_thr_empty, with_thr_pending, with_latches, enable}
 use Rattle.uart_chip.specs.Chip.{after_read, after_write, trigger_level, switch, reset_receiver, reset_transmitter, set_trigger}
-use Rattle.uart_chip.specs.Chip.{is_same, control, control_modem}
+use Rattle.uart_chip.specs.Chip.{is_same, control, control_modem, with_size, empty_queues, switched_size, is_switching, switch_size}
 use Rattle.std.proofs.lemmas.Grind.{common_steps}
 
 -- ---- either of two
@@ -61,6 +61,8 @@ pub data WriteMove (offset value : ℕ) (c : ChipState) : ChipState → Type 0 w
       WriteMove offset value c (with_latches (record c.latches { dlm = value }) c)
   enables : offset ≡ offsets.IER → is_dlab_set c.latches ≡ false → WriteMove offset value c (enable value c)
   switches : offset ≡ offsets.FCR → c.model ≡ Uart16550A → (on : Bool) → WriteMove offset value c (switch on c)
+  resizes : offset ≡ offsets.FCR → is_switching value c ≡ true →
+      WriteMove offset value c (with_size (switched_size value) (empty_queues c))
   clears : offset ≡ offsets.FCR → WriteMove offset value c (record c { receiver = clear c.receiver })
   empties : offset ≡ offsets.FCR →
       WriteMove offset value c (record c { transmitter = record c.transmitter { queue = []; is_thr_pending = true } })
@@ -70,7 +72,7 @@ pub data WriteMove (offset value : ℕ) (c : ChipState) : ChipState → Type 0 w
   notes : offset ≡ offsets.SPR → WriteMove offset value c (with_latches (record c.latches { scr = value }) c)
 
 -- a write is one move, or of FCR
-write_cases : (M : ChipState → Type 0) (offset value : ℕ) (c : ChipState) → ((d : ChipState) → WriteMove offset value c d → M d) →
+pub write_cases : (M : ChipState → Type 0) (offset value : ℕ) (c : ChipState) → ((d : ChipState) → WriteMove offset value c d → M d) →
     (offset ≡ offsets.FCR → M (control c.model value c)) → M (after_write offset value c)
 write_cases M offset value c move controls =
     if_at M _ _ offset offsets.DATA
@@ -85,15 +87,19 @@ write_cases M offset value c move controls =
 pub write_move : (offset value : ℕ) (c : ChipState) → offset ≢ offsets.FCR → WriteMove offset value c (after_write offset value c)
 write_move offset value c f = write_cases (WriteMove offset value c) offset value c (λ d m. m) (λ e. absurd (f e))
 
--- what the resets and the trigger level of FCR leave, once it is switched
-module _ (P : ChipState → Type 0) (value : ℕ) (clears : (c : ChipState) → P c → P (record c { receiver = clear c.receiver }))
+-- what the size, the resets and the trigger level of FCR leave, once it is switched
+module _ (P : ChipState → Type 0) (value : ℕ)
+    (resizes : (c : ChipState) → is_switching value c ≡ true → P c → P (with_size (switched_size value) (empty_queues c)))
+    (clears : (c : ChipState) → P c → P (record c { receiver = clear c.receiver }))
     (empties : (c : ChipState) → P c → P (record c { transmitter = record c.transmitter { queue = []; is_thr_pending = true } }))
     (triggers : (level : FifoTriggerLevel) (c : ChipState) → P c → P (set_trigger level c)) where
   pub resets_last : (on : Bool) (c : ChipState) → P c →
-      P (if on then set_trigger (trigger_level value) (reset_transmitter value (reset_receiver value c)) else c)
+      P (if on then set_trigger (trigger_level value) (reset_transmitter value (reset_receiver value (switch_size value c))) else c)
   resets_last on c p =
-      let d : ChipState = reset_receiver value c in
-      let received : P d = both_if P _ _ (has_any value FCR.RX_FIFO_RESET.0) (clears c p) p in
+      let b : ChipState = switch_size value c in
+      let sized : P b = if_given P _ _ (is_switching value c) (λ e. resizes c e p) (λ _. p) in
+      let d : ChipState = reset_receiver value b in
+      let received : P d = both_if P _ _ (has_any value FCR.RX_FIFO_RESET.0) (clears b sized) sized in
       let e : ChipState = reset_transmitter value d in
       let sent : P e = both_if P _ _ (has_any value FCR.TX_FIFO_RESET.0) (empties d received) received in
       both_if P _ _ on (triggers (trigger_level value) e sent) p
@@ -104,7 +110,7 @@ module _ (P : ChipState → Type 0) (offset value : ℕ) (moves : (c d : ChipSta
   control_lasts e c Uart16450 m p = p
   control_lasts e c Uart16550A m p =
       let on : Bool = has_any value FCR.FIFO_ENABLE.0 in
-      resets_last P value (λ d p. moves d _ (clears e) p) (λ d p. moves d _ (empties e) p) (λ level d p. moves d _ (triggers e level) p)
+      resets_last P value (λ d s p. moves d _ (resizes e s) p) (λ d p. moves d _ (clears e) p) (λ d p. moves d _ (empties e) p) (λ level d p. moves d _ (triggers e level) p)
       on (if is_same c.fifo on then c else switch on c) (both_if P _ _ (is_same c.fifo on) p (moves c _ (switches e m on) p))
 
   pub write_lasts : (c : ChipState) → P c → P (after_write offset value c)

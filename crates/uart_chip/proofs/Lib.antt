@@ -9,6 +9,7 @@ pub mod Status
 pub mod FifoBits
 pub mod Lists
 pub mod AccessMoves
+pub mod Switching
 pub mod lasting
 pub mod soundness
 pub mod conservation

@@ -1,3 +1,4 @@
--- What lasts of the transmitter, whatever else happens.
+-- What lasts of the transmitter and of the size of the FIFOs, whatever else happens.
 pub mod Lasting
 pub mod Constants
+pub mod FifoSizes

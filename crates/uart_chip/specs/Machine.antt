@@ -1,5 +1,5 @@
 -- The chip under a schedule: which events happen before an access, and the step that an access makes.
-use Rattle.std.specs.Prelude.{◌≡◌, ℕ, ◌+◌, Bool, List, [], ◌∷◌}
+use Rattle.std.specs.Prelude.{◌≡◌, ℕ, ◌+◌, Bool, true, List, [], ◌∷◌}
 use Rattle.uart_events.specs.declared.event.Chip.{Chip}
 use Rattle.uart_events.specs.declared.event.Event.{Event}
 use Rattle.uart_events.specs.declared.event.Event.TheVariants.{Ticks, Arrive, Lines, Access as Gate, Mark}

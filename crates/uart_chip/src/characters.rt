@@ -85,8 +85,14 @@ impl<Q: Fifo<Character> + Drop> Fifo<Character> for Characters<Q> {
 
     ghost size_of = { λ c. c.size };
 
+    ghost is_resizable = { Q.is_resizable };
+
     fn size(&self) -> FifoSize {
         self.queue.size()
+    }
+
+    fn can_resize() -> bool {
+        Q::can_resize()
     }
 
     fn len(&self) -> usize {
@@ -110,6 +116,11 @@ impl<Q: Fifo<Character> + Drop> Fifo<Character> for Characters<Q> {
 
     fn clear(&mut self) {
         self.queue.clear();
+        self.errors = 0;
+    }
+
+    fn resize(&mut self, size: FifoSize) {
+        self.queue.resize(size);
         self.errors = 0;
     }
 }

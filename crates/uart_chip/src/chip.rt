@@ -8,16 +8,17 @@ ghost use Rattle.uart_chip.specs.Machine.{arrivals, perform};
 ghost use Rattle.uart_chip.specs.Jumps.{moves, jumps_in};
 ghost use Rattle.uart_chip.specs.Receiver.{is_timed_out};
 ghost use Rattle.uart_events.specs.declared.event.ArrivalMark.TheVariants.{Pending};
+ghost use Rattle.uart_events.specs.declared.event.Chip.TheVariants.{Uart16550A};
 ghost use Rattle.uart_events.specs.declared.event.TheConstants.{MAX_CHAR_TICKS};
 ghost use Rattle.uart_spec.specs.declared.baud.TheConstants.{NUM_REGISTERS};
 ghost use Rattle.uart_spec.specs.declared.setup.FifoSize.TheVariants.{Sixteen};
 
+use crate::capabilities::{Capabilities, ChosenCapabilities};
 use crate::controlling::{
     ChipParts, advance, arrive_live, change_lines, cut, divisor, is_dlab_set, is_interrupting,
     is_loopback, read, receive_room, rts_output, tick, write,
 };
 use crate::fifo::{Fifo, HeapFifo};
-use crate::flow::{ChosenFlow, FlowControl};
 use crate::journal::{Journal, Marks};
 use crate::modem::{Modem, ModemData};
 use crate::receiver::{Character, Receiver, ReceiverData};
@@ -78,7 +79,7 @@ pub struct Uart<
     W: Wire + Drop = HeapWire,
     C: Fifo<Character> + Drop = HeapFifo<Character>,
     J: Journal + Drop = Marks,
-    F: FlowControl + Drop = ChosenFlow,
+    E: Capabilities + Drop = ChosenCapabilities,
 > {
     model: Chip,
     latches: Latches,
@@ -87,7 +88,7 @@ pub struct Uart<
     receiver: Receiver<C, J>,
     modem: Modem,
     cuts: bool,
-    flow: F,
+    capabilities: E,
 }
 
 impl<
@@ -95,18 +96,21 @@ impl<
     W: Wire + Drop,
     C: Fifo<Character> + Drop,
     J: Journal + Drop,
-    F: FlowControl + Drop,
-> Model for Uart<B, W, C, J, F> {
+    E: Capabilities + Drop,
+> Model for Uart<B, W, C, J, E> {
+    ghost use Rattle.std.specs.Prelude.{◌&&◌};
     ghost use Rattle.uart_chip.specs.Chip.{ChipState};
     ghost use Rattle.uart_chip.specs.Snapshot.{latches_of};
 
     ghost Value = { ChipState };
 
-    // A register is seen as the byte that it holds.
+    // A register is seen as the byte that it holds. A chip whose queues keep their size has no
+    // switch.
     ghost view = { λ c. record {
       model = c.model;
       cuts = c.cuts;
-      auto_flow = F.automatic c.flow;
+      auto_flow = E.auto_flow c.capabilities;
+      has_size_switch = E.size_switch c.capabilities && (B.is_resizable && C.is_resizable);
       latches = latches_of c.latches;
       fifo = c.fifo;
       transmitter = c.transmitter;
@@ -120,10 +124,10 @@ impl<
     W: Wire + Drop,
     C: Fifo<Character> + Drop,
     J: Journal + Drop,
-    F: FlowControl + Drop,
-> Uart<B, W, C, J, F> {
+    E: Capabilities + Drop,
+> Uart<B, W, C, J, E> {
     /// Returns a chip after power-on, over empty queues of one size and an empty wire, with this
-    /// journal, and without automatic flow control.
+    /// journal, and with nothing beyond a 16550A.
     ///
     /// A character takes `char_ticks` ticks to be sent, and characters are cut to the word length
     /// if `cuts` is set.
@@ -160,12 +164,12 @@ impl<
             receiver: Receiver::new(characters, journal, char_ticks),
             modem: Modem::new(),
             cuts,
-            flow: F::by_driver(),
+            capabilities: E::none(),
         }
     }
 
     /// Returns the chip with these data, over empty queues of 16 and a wire that holds its bytes,
-    /// without a schedule and without automatic flow control.
+    /// without a schedule, and with nothing beyond a 16550A.
     pub fn from_parts(bytes: B, wire: W, characters: C, journal: J, saved: &ChipData) -> Self
         requires char_ticks { saved.now.transmitter.char_ticks ≤ MAX_CHAR_TICKS }
         requires bytes { B.items bytes ≡ [] }
@@ -189,16 +193,17 @@ impl<
             receiver,
             modem: Modem::from_data(saved.modem),
             cuts: saved.cuts,
-            flow: F::by_driver(),
+            capabilities: E::none(),
         }
     }
 
     /// Returns the chip as plain data, without the bytes on its wire and without its schedule. The
-    /// data are those of a chip with FIFOs of 16 that has no automatic flow control.
+    /// data are those of a chip with FIFOs of 16 that has nothing beyond a 16550A.
     pub fn data(&self) -> ChipData
         requires transmitter { self.now.transmitter.size ≡ Sixteen }
         requires receiver { self.now.receiver.size ≡ Sixteen }
         requires flow { self.now.auto_flow ≡ false }
+        requires switch { self.now.has_size_switch ≡ false }
         ensures { chip_of result self.now.transmitter.wire ≡ unscheduled self.now }
     {
         ChipData {
@@ -399,8 +404,8 @@ impl<
     W: Wire + Drop,
     C: Fifo<Character> + Drop,
     J: Journal + Drop,
-    F: FlowControl + Drop,
-> ChipParts for Uart<B, W, C, J, F> {
+    E: Capabilities + Drop,
+> ChipParts for Uart<B, W, C, J, E> {
     type Transmitter = Transmitter<B, W>;
 
     type Receiver = Receiver<C, J>;
@@ -422,7 +427,11 @@ impl<
     }
 
     fn has_auto_flow(&self) -> bool {
-        self.flow.is_automatic()
+        self.capabilities.has_auto_flow()
+    }
+
+    fn has_size_switch(&self) -> bool {
+        self.capabilities.has_size_switch() && B::can_resize() && C::can_resize()
     }
 
     fn transmitter(&self) -> &Transmitter<B, W> {
@@ -447,6 +456,11 @@ impl<
 
     fn turn_fifo(&mut self, on: bool) {
         self.fifo = on;
+    }
+
+    fn resize(&mut self, size: FifoSize) {
+        self.transmitter.resize(size);
+        self.receiver.resize(size);
     }
 
     fn renew_modem(&mut self, mcr: MCR) {
@@ -490,7 +504,7 @@ impl<
     }
 }
 
-impl Uart<HeapFifo<u8>, HeapWire, HeapFifo<Character>, Marks, ChosenFlow> {
+impl Uart<HeapFifo<u8>, HeapWire, HeapFifo<Character>, Marks, ChosenCapabilities> {
     /// Returns a chip after power-on, for a schedule with this number of arrivals. Allocates all of
     /// its memory.
     ///
@@ -548,12 +562,59 @@ impl Uart<HeapFifo<u8>, HeapWire, HeapFifo<Character>, Marks, ChosenFlow> {
         Ok(Uart::with_parts(bytes, wire, characters, journal, model, char_ticks, cuts))
     }
 
+    /// Returns a 16750 after power-on: a 16550A with automatic flow control and FIFOs of 16, which
+    /// its size switch makes 64. All memory is as in [`Uart::new`], and a switch allocates none.
+    ///
+    /// # Errors
+    ///
+    /// `AllocError` if memory could not be allocated.
+    pub fn new_16750(
+        alloc: Global,
+        char_ticks: u16,
+        capacity: usize,
+        arrivals: usize,
+        cuts: bool,
+    ) -> Result<Self, AllocError>
+        requires { char_ticks ≤ MAX_CHAR_TICKS }
+        ensures { IfOk result (λ c. c ≡
+            record (spec.fresh Uart16550A char_ticks capacity arrivals)
+            { cuts = cuts; auto_flow = true; has_size_switch = true }) }
+    {
+        let uart = Self::new(
+            alloc,
+            Chip::Uart16550A,
+            char_ticks,
+            capacity,
+            arrivals,
+            cuts,
+        )?;
+        Ok(uart.into_16750())
+    }
+
+    // Returns the same chip with what a 16750 has beyond a 16550A.
+    pub(crate) fn into_16750(self) -> Self
+        ensures { result ≡ record self { auto_flow = true; has_size_switch = true } }
+    {
+        let capabilities = ChosenCapabilities {
+            auto_flow: true,
+            size_switch: true,
+        };
+        Self {
+            capabilities,
+            ..self
+        }
+    }
+
     /// Returns the same chip with automatic flow control: MCR then keeps bit 5.
     pub fn with_auto_flow(self) -> Self
         ensures { result ≡ record self { auto_flow = true } }
     {
+        let capabilities = ChosenCapabilities {
+            auto_flow: true,
+            ..self.capabilities
+        };
         Self {
-            flow: ChosenFlow::by_chip(),
+            capabilities,
             ..self
         }
     }

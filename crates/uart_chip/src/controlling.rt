@@ -1,6 +1,7 @@
 //! What happens in a chip, over its parts: what an access does, and what happens between accesses.
 ghost use Rattle.std.specs.Borrow.{Lends, sem};
-ghost use Rattle.std.specs.Prelude.{◌≡◌, ◌<◌, ◌≤◌, ◌==◌, ◌+◌, not, bit_and, bit_or, is_some};
+ghost use Rattle.std.specs.Prelude.{◌≡◌, ◌<◌, ◌≤◌, ◌==◌, ◌+◌, true, [], not, bit_and, bit_or};
+ghost use Rattle.std.specs.Prelude.{is_some};
 ghost use Rattle.uart_chip.specs.Chip as spec;
 ghost use Rattle.uart_chip.specs.Chip.{ChipState};
 ghost use Rattle.uart_chip.specs.Jumps as jumps;
@@ -16,6 +17,8 @@ ghost use Rattle.uart_spec.specs.declared.baud.TheConstants.{NUM_REGISTERS};
 ghost use Rattle.uart_spec.specs.Bits.{has_any};
 ghost use Rattle.uart_spec.specs.declared.registers.modem_status.TheConstants.MSR;
 ghost use Rattle.uart_spec.specs.declared.registers.offsets.TheConstants as offsets;
+ghost use Rattle.uart_spec.specs.declared.setup.FifoSize.TheVariants.{SixtyFour};
+ghost use Rattle.uart_spec.specs.FifoSize.{characters};
 
 use crate::chip::Latches;
 use crate::masks::{kept_interrupts, kept_modem_control_of};
@@ -26,6 +29,7 @@ use crate::transmitting::{TransmitterParts, count_down, load, next_move};
 use crate::{flag, receiving, transmitting};
 use bitflags::Flags;
 use uart_events::Chip;
+use uart_spec::FifoSize;
 use uart_spec::registers::{
     FCR, FifoTriggerLevel, IER, ISR, InterruptType, LCR, LSR, MCR, MSR, WordLength, offsets,
 };
@@ -65,6 +69,10 @@ pub trait ChipParts {
     /// Returns whether the chip has automatic flow control.
     fn has_auto_flow(&self) -> bool
         ensures { result ≡ (state self.now).auto_flow };
+
+    /// Returns whether the chip has the switch of a 16750 between FIFOs of 16 characters and of 64.
+    fn has_size_switch(&self) -> bool
+        ensures { result ≡ (state self.now).has_size_switch };
 
     /// Returns the transmitter.
     fn transmitter(&self) -> &Self::Transmitter
@@ -106,6 +114,17 @@ pub trait ChipParts {
     /// Sets whether the FIFOs are on.
     fn turn_fifo(&mut self, on: bool)
         ensures after { state self.new ≡ record (state self.old) { fifo = on } }
+        ensures canonical { canonical self.old → canonical self.new };
+
+    /// Empties both queues, and gives both FIFOs this size. The caller must show that the chip has
+    /// the switch, and that the size is at most 64.
+    fn resize(&mut self, size: FifoSize)
+        requires switch { (state self.old).has_size_switch ≡ true }
+        requires most { characters size ≤ characters SixtyFour }
+        ensures after { let c = state self.old in state self.new ≡ record c {
+          transmitter = record c.transmitter { size = size; queue = [] };
+          receiver = record c.receiver { size = size; queue = [] };
+        } }
         ensures canonical { canonical self.old → canonical self.new };
 
     /// Computes the modem lines anew under this value of MCR, and adds their changes.
@@ -473,6 +492,22 @@ fn read_data<P: ChipParts>(parts: &mut P) -> u8
     take_front(parts.receiver_mut())
 }
 
+// Returns whether FIFOs of this size hold 64 characters.
+fn is_64(size: FifoSize) -> bool
+    ensures { result ≡ spec.is_64 size }
+{
+    matches!(size, FifoSize::SixtyFour)
+}
+
+// Returns what ISR shows of the FIFOs.
+// Only a chip that has the size switch shows the size: bit 5 of a 16550A is 0.
+fn fifo_flags<P: ChipParts>(parts: &P) -> ISR
+    ensures { result.0 ≡ spec.fifo_flags (P.state parts.now) }
+{
+    let holds_64 = parts.has_size_switch() && is_64(parts.receiver().size());
+    flag(parts.fifo(), ISR::FIFOS_ENABLED).union(flag(parts.fifo() && holds_64, ISR::DMA_TX_END))
+}
+
 // Reads ISR. A read that shows `THR_EMPTY` acknowledges it.
 fn read_interrupt<P: ChipParts>(parts: &mut P) -> u8
     ensures answers { result ≡ spec.answer offsets.ISR (P.state parts.old) }
@@ -480,11 +515,11 @@ fn read_interrupt<P: ChipParts>(parts: &mut P) -> u8
     ensures canonical { P.canonical parts.old → P.canonical parts.new }
 {
     let interrupt = pending_interrupt(parts);
-    let fifo = flag(parts.fifo(), ISR::FIFOS_ENABLED);
+    let flags = fifo_flags(parts);
     if is_thr_empty(interrupt) {
         parts.transmitter_mut().set_thr_pending(false);
     }
-    identification(interrupt).union(fifo).bits()
+    identification(interrupt).union(flags).bits()
 }
 
 /// Writes a value to the register at this offset.
@@ -592,8 +627,8 @@ fn control<P: ChipParts>(parts: &mut P, value: FCR)
 }
 
 // Without the enable bit nothing but the switch is done: a chip whose FIFOs are off ignores the
-// resets. Neither the character in the shift register nor the overrun flag changes. The trigger
-// level survives when the FIFOs are switched off.
+// resets, and keeps their size. Neither the character in the shift register nor the overrun flag
+// changes. The trigger level survives when the FIFOs are switched off.
 fn set_fifo<P: ChipParts>(parts: &mut P, value: FCR)
     ensures after { P.state parts.new ≡ spec.set_fifo value.0 (P.state parts.old) }
     ensures canonical { P.canonical parts.old → P.canonical parts.new }
@@ -603,9 +638,42 @@ fn set_fifo<P: ChipParts>(parts: &mut P, value: FCR)
         switch(parts, on);
     }
     if on {
+        switch_size(parts, value);
         reset_receiver(parts, value);
         reset_transmitter(parts, value);
         parts.receiver_mut().set_trigger(trigger_level(value));
+    }
+}
+
+// Returns the size that a write of FCR asks for, on a chip that has the size switch.
+fn switched_size(fcr: FCR) -> FifoSize
+    ensures size { result ≡ spec.switched_size fcr.0 }
+    ensures most { characters result ≤ characters SixtyFour }
+{
+    if fcr.intersects(FCR::_RESERVED0) {
+        FifoSize::SixtyFour
+    } else {
+        FifoSize::Sixteen
+    }
+}
+
+// Returns whether a write of FCR that leaves the FIFOs on switches their size.
+fn is_switching<P: ChipParts>(parts: &P, fcr: FCR) -> bool
+    ensures { result ≡ spec.is_switching fcr.0 (P.state parts.now) }
+{
+    parts.has_size_switch()
+        && is_dlab_set(parts)
+        && is_64(parts.receiver().size()) != fcr.intersects(FCR::_RESERVED0)
+}
+
+// Switches the size of the FIFOs, if the write of FCR does. That empties both.
+fn switch_size<P: ChipParts>(parts: &mut P, value: FCR)
+    ensures after { P.state parts.new ≡ spec.switch_size value.0 (P.state parts.old) }
+    ensures canonical { P.canonical parts.old → P.canonical parts.new }
+{
+    if is_switching(parts, value) {
+        parts.receiver_mut().discard();
+        parts.resize(switched_size(value));
     }
 }
 

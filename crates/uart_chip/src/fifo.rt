@@ -1,11 +1,11 @@
 //! The queues of the chip. A clause sees a queue as the list of its items, from the front.
-ghost use Rattle.std.specs.Prelude.{◌≡◌, ◌==◌, ◌<◌, ◌≤◌, List, [], ◌∷◌, ◌++◌};
+ghost use Rattle.std.specs.Prelude.{◌≡◌, ◌==◌, ◌<◌, ◌≤◌, Bool, true, List, [], ◌∷◌, ◌++◌};
 ghost use Rattle.std.specs.Prelude.{length, drop, slice_get, IfOk};
 ghost use Rattle.uart_spec.specs.declared.baud.TheConstants.{FIFO_SIZE};
 ghost use Rattle.uart_chip.specs.Transmitter.{room};
 ghost use Rattle.uart_spec.specs.FifoSize.{characters};
 ghost use Rattle.uart_spec.specs.declared.setup.FifoSize.{FifoSize};
-ghost use Rattle.uart_spec.specs.declared.setup.FifoSize.TheVariants.{Sixteen};
+ghost use Rattle.uart_spec.specs.declared.setup.FifoSize.TheVariants.{Sixteen, SixtyFour};
 
 use arrayvec::ArrayVec;
 use circular_buffer::HeapCircularBuffer;
@@ -28,12 +28,19 @@ pub trait Fifo<T> {
     // The items, from the front.
     ghost items: { Self → List T };
 
-    // The size of the FIFO. It stays.
+    // The size of the FIFO. Only `resize` changes it.
     ghost size_of: { Self → FifoSize };
+
+    // Whether such a queue can become that of a FIFO of another size.
+    ghost is_resizable: { Bool };
 
     /// Returns the size of the FIFO: the queue has room for as many items.
     fn size(&self) -> FifoSize
         ensures { result ≡ size_of self.now };
+
+    /// Returns whether such a queue can become that of a FIFO of another size, of up to 64.
+    fn can_resize() -> bool
+        ensures { result ≡ is_resizable };
 
     /// Returns the number of items.
     fn len(&self) -> usize
@@ -67,6 +74,14 @@ pub trait Fifo<T> {
     fn clear(&mut self)
         ensures items { items self.new ≡ [] }
         ensures size { size_of self.new ≡ size_of self.old };
+
+    /// Removes all items, and becomes the queue of a FIFO of this size. The caller must show that
+    /// such a queue can, and that the size is at most 64.
+    fn resize(&mut self, size: FifoSize)
+        requires resizable { is_resizable ≡ true }
+        requires most { characters size ≤ characters SixtyFour }
+        ensures items { items self.new ≡ [] }
+        ensures size { size_of self.new ≡ size };
 }
 
 /// Appends items to an empty queue.
@@ -95,6 +110,7 @@ pub fn items_of<T: Copy + Default + Drop, Q: Fifo<T>>(queue: &Q) -> ArrayVec<T, 
 }
 
 /// A queue in memory that is allocated once.
+// There is room for 64 items in each, so that a chip that switches its FIFOs to 64 allocates none.
 #[derive(Drop)]
 pub struct HeapFifo<T> {
     ring: HeapCircularBuffer<T>,
@@ -102,15 +118,18 @@ pub struct HeapFifo<T> {
 }
 
 impl<T> Model for HeapFifo<T> {
-    ghost use Rattle.std.specs.Prelude.{◌≡◌};
+    ghost use Rattle.std.specs.Prelude.{◌≤◌, length};
     ghost use Rattle.uart_chip.specs.Queue.{QueueState};
     ghost use Rattle.uart_spec.specs.FifoSize.{characters};
+    ghost use Rattle.uart_spec.specs.declared.setup.FifoSize.TheVariants.{SixtyFour};
 
     ghost Value = { QueueState T };
 
     ghost view = { λ q. record { items = q.ring.items; size = q.size } };
 
-    ghost invariant = { λ q. q.ring.capacity ≡ characters q.size };
+    ghost invariant = { λ q.
+        (length q.ring.items ≤ characters q.size) × (characters q.size ≤ q.ring.capacity) ×
+        (characters SixtyFour ≤ q.ring.capacity) };
 }
 
 impl<T> HeapFifo<T> {
@@ -123,7 +142,8 @@ impl<T> HeapFifo<T> {
     pub fn new(alloc: Global, size: FifoSize) -> Result<Self, AllocError>
         ensures { IfOk result (λ q. (q.items ≡ []) × (q.size ≡ size)) }
     {
-        let ring = HeapCircularBuffer::with_capacity(alloc, size.characters())?;
+        let places = size.characters().max(FifoSize::SixtyFour.characters());
+        let ring = HeapCircularBuffer::with_capacity(alloc, places)?;
         Ok(HeapFifo { ring, size })
     }
 }
@@ -133,8 +153,14 @@ impl<T: Copy + Drop> Fifo<T> for HeapFifo<T> {
 
     ghost size_of = { λ q. q.size };
 
+    ghost is_resizable = { true };
+
     fn size(&self) -> FifoSize {
         self.size
+    }
+
+    fn can_resize() -> bool {
+        true
     }
 
     fn len(&self) -> usize {
@@ -155,5 +181,10 @@ impl<T: Copy + Drop> Fifo<T> for HeapFifo<T> {
 
     fn clear(&mut self) {
         self.ring.clear();
+    }
+
+    fn resize(&mut self, size: FifoSize) {
+        self.clear();
+        self.size = size;
     }
 }

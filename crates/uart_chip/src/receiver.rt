@@ -4,7 +4,8 @@ ghost use Rattle.uart_chip.specs.Data.{receiver_of, without_schedule};
 ghost use Rattle.uart_chip.specs.Receiver as spec;
 ghost use Rattle.uart_chip.specs.Receiver.{waiting};
 ghost use Rattle.uart_chip.specs.Status.{receiver_status};
-ghost use Rattle.uart_spec.specs.declared.setup.FifoSize.TheVariants.{Sixteen};
+ghost use Rattle.uart_spec.specs.FifoSize.{characters};
+ghost use Rattle.uart_spec.specs.declared.setup.FifoSize.TheVariants.{Sixteen, SixtyFour};
 ghost use Rattle.uart_events.specs.declared.event.TheConstants.{MAX_CHAR_TICKS};
 
 use crate::characters::Characters;
@@ -254,6 +255,18 @@ impl<Q: Fifo<Character> + Drop, J: Journal + Drop> Receiver<Q, J> {
                 },
             );
         }
+    }
+
+    /// Empties the queue, and makes it that of a FIFO of this size. The caller must show that it
+    /// can be, and that the size is at most 64.
+    #[tactic(auto, using(crate::proofs::Status::cleared))]
+    pub fn resize(&mut self, size: FifoSize)
+        requires resizable { Q.is_resizable ≡ true }
+        requires most { characters size ≤ characters SixtyFour }
+        ensures { self.new ≡ record self.old { size = size; queue = [] } }
+    {
+        self.queue.resize(size);
+        self.status = flag(self.is_overrun, LSR::OVERRUN_ERROR);
     }
 
     /// Returns the number of received bytes that have not been read.

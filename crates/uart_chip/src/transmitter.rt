@@ -1,10 +1,11 @@
 //! The transmitter: a queue, the shift register, and the wire.
-ghost use Rattle.std.specs.Prelude.{◌≡◌, ◌<◌, ◌≤◌, ◌-◌, [], length, slice_get};
+ghost use Rattle.std.specs.Prelude.{◌≡◌, ◌<◌, ◌≤◌, ◌-◌, true, [], length, slice_get};
 ghost use Rattle.uart_chip.specs.Data.{transmitter_of};
 ghost use Rattle.uart_chip.specs.Status.{transmitter_status};
 ghost use Rattle.uart_chip.specs.Transmitter as spec;
 ghost use Rattle.uart_chip.specs.Transmitter.{held};
-ghost use Rattle.uart_spec.specs.declared.setup.FifoSize.TheVariants.{Sixteen};
+ghost use Rattle.uart_spec.specs.FifoSize.{characters};
+ghost use Rattle.uart_spec.specs.declared.setup.FifoSize.TheVariants.{Sixteen, SixtyFour};
 
 use crate::fifo::{Fifo, fill, items_of};
 use crate::transmitting::{TransmitterParts, held_len};
@@ -143,6 +144,17 @@ impl<Q: Fifo<u8> + Drop, W: Wire + Drop> Transmitter<Q, W> {
             overflows: self.overflows,
             is_thr_pending: self.is_thr_pending,
         }
+    }
+
+    /// Empties the queue, and makes it that of a FIFO of this size. The caller must show that it
+    /// can be, and that the size is at most 64.
+    pub fn resize(&mut self, size: FifoSize)
+        requires resizable { Q.is_resizable ≡ true }
+        requires most { characters size ≤ characters SixtyFour }
+        ensures { self.new ≡ record self.old { size = size; queue = [] } }
+    {
+        self.queue.resize(size);
+        self.status = status_of(&self.queue, self.shift_register);
     }
 
     /// Returns the bytes on the wire, from the first that was sent.

@@ -145,7 +145,7 @@ pub passed_level : (x : Modes) (m n : MachineState) (value : ℕ) → IsOpen x �
     MachineStep m (Write offsets.FCR value) n → Passed x m n (Write offsets.FCR value ∷ []) [] []
 passed_level x m n value o on level w s =
     passed_write x x m n offsets.FCR value [] o.loopback refl w s
-    (λ p. went-write_level x (at_access m).chip value on level p.sound.chip p.went.modes)
+    (λ p. went-write_level x (at_access m).chip value o.dlab on level p.sound.chip p.went.modes)
 
 -- ---- some accesses of one kind
 

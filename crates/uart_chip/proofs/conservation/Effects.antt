@@ -18,9 +18,10 @@ use Rattle.uart_events.specs.declared.event.Chip.{Chip}
 use Rattle.uart_chip.specs.Receiver.{report, take_front, clear}
 use Rattle.uart_chip.specs.Chip.{ChipState, word_length, cut_to, cut_of, line_status, interrupt, is_thr_empty, answer, after_read}
 use Rattle.uart_chip.specs.Chip.{after_write, with_latches, is_same, switch, set_fifo, set_trigger, trigger_level, control}
-use Rattle.uart_chip.specs.Chip.{reset_receiver, reset_transmitter}
+use Rattle.uart_chip.specs.Chip.{reset_receiver, reset_transmitter, is_dlab_set, with_size, empty_queues, switched_size, switch_size}
 use Rattle.uart_chip.specs.Sound.{IsSoundChip}
 use Rattle.uart_chip.proofs.Bits.{has_and}
+use Rattle.uart_chip.proofs.Switching.{closed-keeps}
 use Rattle.uart_chip.proofs.statuses.Status.{status_overrun}
 use Rattle.uart_chip.proofs.conservation.Sends.{Sends, sends-refl, sends-pending, sends-load}
 use Rattle.uart_chip.proofs.conservation.Receives.{Shows, receives-refl, receives-same, receives-still}
@@ -253,16 +254,21 @@ pub record IsLevel (value : ℕ) : Type 0 where
   pub keeps_received : has_any value FCR.RX_FIFO_RESET.0 ≡ false
   pub keeps_queued : has_any value FCR.TX_FIFO_RESET.0 ≡ false
 
-pub levelled : (c : ChipState) (value : ℕ) → c.fifo ≡ true → IsLevel value → set_fifo value c ≡ set_trigger (trigger_level value) c
-levelled c value on level =
+-- while DLAB is off nothing is switched
+pub levelled : (c : ChipState) (value : ℕ) → c.fifo ≡ true → is_dlab_set c.latches ≡ false → IsLevel value →
+    set_fifo value c ≡ set_trigger (trigger_level value) c
+levelled c value on closed level =
     ap (λ (b : Bool). if b then levelling (still b) else still b) level.on
     ∙ (ap (λ (b : Bool). levelling (if b then c else switch true c)) same
     ∙ (ap (λ (b : Bool). set_trigger (trigger_level value)
+    (reset_transmitter value (reset_receiver value (if b then with_size (switched_size value) (empty_queues c) else c))))
+    (closed-keeps value c closed)
+    ∙ (ap (λ (b : Bool). set_trigger (trigger_level value)
     (reset_transmitter value (if b then record c { receiver = clear c.receiver } else c))) level.keeps_received
-    ∙ ap (λ (b : Bool). set_trigger (trigger_level value) (if b then emptied else c)) level.keeps_queued))
+    ∙ ap (λ (b : Bool). set_trigger (trigger_level value) (if b then emptied else c)) level.keeps_queued)))
   where
     levelling : ChipState → ChipState
-    levelling d = set_trigger (trigger_level value) (reset_transmitter value (reset_receiver value d))
+    levelling d = set_trigger (trigger_level value) (reset_transmitter value (reset_receiver value (switch_size value d)))
 
     still : Bool → ChipState
     still b = if is_same c.fifo b then c else switch b c
@@ -273,12 +279,13 @@ levelled c value on level =
     emptied : ChipState
     emptied = record c { transmitter = record c.transmitter { queue = []; is_thr_pending = true } }
 
-pub went-write_level : (x : Modes) (c : ChipState) (value : ℕ) → x.fifo ≡ true → IsLevel value → IsSoundChip c → IsIn x c →
+pub went-write_level : (x : Modes) (c : ChipState) (value : ℕ) → dlab x ≡ false → x.fifo ≡ true → IsLevel value → IsSoundChip c →
+    IsIn x c →
     Went x c (after_write offsets.FCR value c) [] (Write offsets.FCR value ∷ []) [] []
-went-write_level x c value on level s w =
+went-write_level x c value off on level s w =
     let fifo : c.fifo ≡ true = w.fifo ∙ on in
     let same : after_write offsets.FCR value c ≡ set_trigger (trigger_level value) c =
-    ap (λ (model : Chip). control model value c) (s.implemented fifo) ∙ levelled c value fifo level in
+    ap (λ (model : Chip). control model value c) (s.implemented fifo) ∙ levelled c value fifo (dlab-in x c w ∙ off) level in
     rw same (record {
       modes = record { lcr = w.lcr; mcr = w.mcr; fifo = w.fifo; cut = w.cut };
       sends = sends-refl c.transmitter;

@@ -1,4 +1,5 @@
--- No event and no access changes how long a character takes, how much the wire takes, or how large the FIFO is.
+-- No event and no access changes how long a character takes, or how much the wire takes. And none changes the size of the FIFOs, but a
+-- write of FCR that switches it.
 use Rattle.std.proofs.Common.{◌≡◌, ℕ, Bool, true, false, ◌==◌, nat_lt, List, [], ◌∷◌, length, Option, Some, None, refl, if◌then◌else◌}
 use Rattle.uart_spec.specs.Access.{Path}
 use Rattle.uart_spec.specs.declared.access.Access.{Access}
@@ -14,7 +15,6 @@ use Rattle.uart_chip.proofs.lasting.Lasting.{Lasts, lasts-read, lasts-write, las
 pub record SamePace (t u : TransmitterState) : Type 0 where
   pub capacity : u.capacity ≡ t.capacity
   pub char_ticks : u.char_ticks ≡ t.char_ticks
-  pub size : u.size ≡ t.size
 
 module _ (t : TransmitterState) where
   one_of : (u v : TransmitterState) (b : Bool) → SamePace t u → SamePace t v → SamePace t (if b then u else v)
@@ -25,22 +25,23 @@ module _ (t : TransmitterState) where
   shift-pace loopback None u p = p
   shift-pace loopback (Some s) u p =
       let placed : (place : Option Shifting) → SamePace t (record u { shift_register = place }) =
-      λ place. record { capacity = p.capacity; char_ticks = p.char_ticks; size = p.size } in
+      λ place. record { capacity = p.capacity; char_ticks = p.char_ticks } in
       one_of _ _ (nat_lt 1 s.ticks_left) (placed _)
       (one_of _ _ loopback (placed None)
-      (one_of _ _ (nat_lt (length u.wire) u.capacity) (record { capacity = p.capacity; char_ticks = p.char_ticks; size = p.size }) p))
+      (one_of _ _ (nat_lt (length u.wire) u.capacity) (record { capacity = p.capacity; char_ticks = p.char_ticks }) p))
 
   refill-pace : (place : Option Shifting) (queue : List ℕ) (u : TransmitterState) → SamePace t u → SamePace t (refill place queue u)
   refill-pace (Some s) queue u p = p
   refill-pace None [] u p = p
-  refill-pace None (x ∷ []) u p = record { capacity = p.capacity; char_ticks = p.char_ticks; size = p.size }
-  refill-pace None (x ∷ y ∷ xs) u p = record { capacity = p.capacity; char_ticks = p.char_ticks; size = p.size }
+  refill-pace None (x ∷ []) u p = record { capacity = p.capacity; char_ticks = p.char_ticks }
+  refill-pace None (x ∷ y ∷ xs) u p = record { capacity = p.capacity; char_ticks = p.char_ticks }
 
   pace_lasts : Lasts (SamePace t)
   pace_lasts = record {
     in_accesses = record {
-      pending = λ u pending p. record { capacity = p.capacity; char_ticks = p.char_ticks; size = p.size };
-      cleared = λ u pending p. record { capacity = p.capacity; char_ticks = p.char_ticks; size = p.size };
+      pending = λ u pending p. record { capacity = p.capacity; char_ticks = p.char_ticks };
+      cleared = λ u pending p. record { capacity = p.capacity; char_ticks = p.char_ticks };
+      resized = λ u size p. record { capacity = p.capacity; char_ticks = p.char_ticks };
     };
     in_tick =
         λ loopback held_off u p. let v : TransmitterState = shift loopback u.shift_register u in
@@ -50,8 +51,8 @@ module _ (t : TransmitterState) where
 
   load-pace : (fifo : Bool) (byte : ℕ) (u : TransmitterState) → SamePace t u → SamePace t (load fifo byte u)
   load-pace fifo byte u p =
-      one_of _ _ (nat_lt (length u.queue) (room fifo u.size)) (record { capacity = p.capacity; char_ticks = p.char_ticks; size = p.size })
-      (record { capacity = p.capacity; char_ticks = p.char_ticks; size = p.size })
+      one_of _ _ (nat_lt (length u.queue) (room fifo u.size)) (record { capacity = p.capacity; char_ticks = p.char_ticks })
+      (record { capacity = p.capacity; char_ticks = p.char_ticks })
 
   write-pace : (offset value : ℕ) (c : ChipState) → SamePace t c.transmitter → SamePace t (after_write offset value c).transmitter
   write-pace offset value c p = go (offset == offsets.DATA) refl
@@ -81,7 +82,7 @@ module _ (t : TransmitterState) where
 
 -- a make is its own
 same_make : (t : TransmitterState) → SamePace t t
-same_make t = record { capacity = refl; char_ticks = refl; size = refl }
+same_make t = record { capacity = refl; char_ticks = refl }
 
 pub same_pace-ticks : (n : ℕ) (c : ChipState) → SamePace c.transmitter (ticks n c).transmitter
 same_pace-ticks n c = lasts-ticks (SamePace c.transmitter) (pace_lasts c.transmitter).in_tick n c (same_make c.transmitter)

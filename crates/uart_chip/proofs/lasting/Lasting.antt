@@ -1,7 +1,8 @@
 -- What lasts of the transmitter while no byte is written, and of the chip in events: shown once for any property.
 --
--- An access that sends nothing can only clear the queue or change the interrupt flag. That an empty transmitter stays
--- empty, that its pace stays, and that the end of sending comes nearer, are three instances.
+-- An access that sends nothing can only clear the queue, with or without another size, or change the interrupt flag.
+-- That an empty transmitter stays empty, that its pace stays, and that the end of sending comes nearer, are three
+-- instances.
 use Rattle.std.proofs.Common.{◌≡◌, ℕ, zero, suc, Bool, true, false, ◌==◌, List, [], ◌∷◌, if◌then◌else◌}
 use Rattle.std.specs.List.{AllByRecursion}
 use Rattle.uart_spec.specs.Access.{Path}
@@ -13,14 +14,17 @@ use Rattle.uart_spec.specs.declared.registers.offsets.TheConstants as offsets
 use Rattle.uart_chip.specs.Transmitter as transmitter
 use Rattle.uart_chip.specs.Transmitter.{TransmitterState}
 use Rattle.uart_chip.specs.Chip.{ChipState, is_dlab_set, is_loopback, is_held_off, tick, ticks, arrive, change_lines, after_read}
-use Rattle.uart_chip.specs.Chip.{after_write}
-use Rattle.uart_chip.proofs.AccessMoves.{ReadMove, acknowledges, read_move, WriteMove, sends, enables, switches, empties, write_lasts}
+use Rattle.uart_chip.specs.Chip.{after_write, switched_size}
+use Rattle.uart_spec.specs.declared.setup.FifoSize.{FifoSize}
+use Rattle.uart_chip.proofs.AccessMoves.{ReadMove, acknowledges, read_move, WriteMove, sends, enables, switches, resizes, empties, write_lasts}
 use Rattle.uart_chip.specs.Machine.{MachineState, MachineStep, perform, before_access, before_mark, at_access}
 
--- a property lasts if the queue is emptied or the interrupt flag changes: an access that sends nothing does no more than that
+-- a property lasts if the queue is emptied, also with another size, or the interrupt flag changes: an access that sends nothing does no
+-- more than that
 pub record LastsInAccesses (P : TransmitterState → Type 0) : Type 0 where
   pub pending : (t : TransmitterState) (pending : Bool) → P t → P (record t { is_thr_pending = pending })
   pub cleared : (t : TransmitterState) (pending : Bool) → P t → P (record t { queue = []; is_thr_pending = pending })
+  pub resized : (t : TransmitterState) (size : FifoSize) → P t → P (record t { size = size; queue = [] })
 
 -- and it lasts in a tick
 pub record Lasts (P : TransmitterState → Type 0) : Type 0 where
@@ -57,6 +61,7 @@ module _ (P : TransmitterState → Type 0) (w : LastsInAccesses P) where
   lasts-writes offset value other c d (sends e q) p = let no : true ≡ false = rw e at other in absurd (cc)
   lasts-writes offset value other c d (enables e q) p = w.pending c.transmitter _ p
   lasts-writes offset value other c d (switches e m on) p = w.cleared c.transmitter _ p
+  lasts-writes offset value other c d (resizes e s) p = w.resized c.transmitter (switched_size value) p
   lasts-writes offset value other c d (empties e) p = w.cleared c.transmitter _ p
   lasts-writes offset value other c d _ p = p
 
@@ -79,7 +84,7 @@ pub record LastsInEvents (P : ChipState → Type 0) : Type 0 where
   pub in_lines : (inputs : ℕ) (c : ChipState) → P c → P (change_lines inputs c)
 
 module _ (P : ChipState → Type 0) (w : LastsInEvents P) where
-  chip_lasts-ticks : (n : ℕ) (c : ChipState) → P c → P (ticks n c)
+  pub chip_lasts-ticks : (n : ℕ) (c : ChipState) → P c → P (ticks n c)
   chip_lasts-ticks zero c p = p
   chip_lasts-ticks (suc n) c p = w.in_tick (ticks n c) (chip_lasts-ticks n c p)
 

@@ -18,7 +18,7 @@ use Rattle.uart_spec.specs.declared.registers.modem_status.TheConstants.MSR
 use Rattle.uart_chip.specs.Receiver.{mark_at}
 use Rattle.uart_chip.specs.Chip as chip
 use Rattle.uart_chip.specs.Chip.{ChipState}
-use Rattle.uart_chip.specs.Machine.{MachineState, arrivals, fresh, cutting, flowing, sized}
+use Rattle.uart_chip.specs.Machine.{MachineState, arrivals, fresh, cutting, flowing, switchable, sized}
 use Rattle.uart_spec.specs.declared.setup.FifoSize.{FifoSize}
 use Rattle.uart_events.specs.Build.{is_arrival, has_bad_errors, has_bad_lines, refusal}
 use Rattle.uart_chip.specs.Sound.{AllLegal, IsWhole}
@@ -148,6 +148,25 @@ whole_flowing m w = record {
         ier = w.sound.chip.latches.ier;
         mcr = within_flowing m.chip.auto_flow m.chip.latches.mcr w.sound.chip.latches.mcr;
       };
+      implemented = w.sound.chip.implemented;
+      sizes = w.sound.chip.sizes;
+      limit = w.sound.chip.limit;
+    };
+    foreseen = w.sound.foreseen;
+    legal = w.sound.legal;
+  };
+  bytes = w.bytes;
+}
+
+-- nothing that holds of every machine speaks of the switch
+pub whole_switchable : (m : MachineState) → IsWhole m → IsWhole (switchable m)
+whole_switchable m w = record {
+  sound = record {
+    chip = record {
+      receiver = w.sound.chip.receiver;
+      transmitter = w.sound.chip.transmitter;
+      modem = w.sound.chip.modem;
+      latches = w.sound.chip.latches;
       implemented = w.sound.chip.implemented;
       sizes = w.sound.chip.sizes;
       limit = w.sound.chip.limit;

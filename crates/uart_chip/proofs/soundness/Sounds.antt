@@ -1,6 +1,6 @@
 -- Every event and every access leaves a machine sound.
 use Rattle.std.proofs.Common.{◌≡◌, ℕ, zero, suc, ◌+◌, ◌*◌, ◌<◌, Bool, true, false, ◌==◌, nat_lt, List, [], ◌∷◌, length, Option, Some, None}
-use Rattle.std.proofs.Common.{refl, arith, sym, ◌∙◌, ap, bit_and, if◌then◌else◌}
+use Rattle.std.proofs.Common.{refl, arith, sym, ◌∙◌, ap, bit_and, zero-le, if◌then◌else◌}
 use Rattle.std.proofs.lemmas.Grind.{common_steps}
 use Rattle.uart_events.specs.declared.event.Chip.{Chip}
 use Rattle.uart_events.specs.declared.event.Chip.TheVariants.{Uart16550A, Uart16450}
@@ -23,7 +23,9 @@ use Rattle.uart_chip.specs.Receiver.{ReceiverState, take_front, report, clear}
 use Rattle.uart_chip.specs.Chip.{LatchesState, ChipState, cut_of, is_dlab_set, is_loopback, is_held_off, tick, ticks, arrive}
 use Rattle.uart_chip.specs.Chip.{change_lines, interrupt}
 use Rattle.uart_chip.specs.Chip.{is_thr_empty, after_read, after_write, trigger_level, switch, reset_receiver, reset_transmitter}
-use Rattle.uart_chip.specs.Chip.{set_trigger, is_same, set_fifo, control, with_latches, enable, control_modem}
+use Rattle.uart_chip.specs.Chip.{set_trigger, is_same, set_fifo, control, with_latches, enable, control_modem, with_size}
+use Rattle.uart_chip.specs.Chip.{empty_queues, switched_size, is_switching, switch_size}
+use Rattle.uart_spec.specs.declared.setup.FifoSize.{FifoSize}
 use Rattle.uart_chip.specs.Machine.{MachineState, MachineStep, arrivals, perform, at_access, at_mark}
 use Rattle.uart_chip.specs.Sound.{IsSoundTransmitter, IsSoundLatches, IsSoundChip, HoldBytes, AllLegal, IsSound, IsWhole}
 use Rattle.uart_chip.proofs.McrBits.{kept_within}
@@ -32,7 +34,7 @@ use Rattle.uart_chip.proofs.soundness.ReceiverSounds.{Safe, safe_tick, safe_arri
 use Rattle.uart_chip.proofs.soundness.ReceiverSounds.{sound_trigger}
 use Rattle.uart_chip.proofs.soundness.TransmitterSounds.{sound_tick as sound_shift_tick, sound_load, sound_clear, sound_pending}
 use Rattle.uart_chip.proofs.AccessMoves.{ReadMove, stays, takes, acknowledges, looks, sees, read_move, WriteMove, ignores, sends}
-use Rattle.uart_chip.proofs.AccessMoves.{enables, switches, clears, empties, triggers, steers, write_lasts}
+use Rattle.uart_chip.proofs.AccessMoves.{enables, switches, resizes, clears, empties, triggers, steers, write_lasts}
 use Rattle.uart_chip.proofs.soundness.TransmitterSounds.{sound_renew}
 
 -- the chip is sound after a move, with the same number of arrivals, and as many to come
@@ -247,6 +249,39 @@ steady_switch on c w has_fifo =
       known = a.known;
     }
 
+-- nothing waits then, so there is room for it whatever the size
+pub steady_resize : (size : FifoSize) (c : ChipState) → IsSoundChip c →
+    Steady c.receiver.arrived c (with_size size (empty_queues c))
+steady_resize size c w =
+    let a = safe_clear c.fifo c.fifo c.receiver w.receiver in
+    let m = a.sound.marked in
+    let t = w.transmitter in
+    record {
+      sound = record {
+        receiver = record {
+          marked = record { wait = tt; distinct = tt; to_come = m.to_come; in_room = zero-le; counted = m.counted };
+          settled = a.sound.settled;
+          no_other = a.sound.no_other;
+          legal = tt;
+          idle = a.sound.idle;
+        };
+        transmitter = record {
+          in_room = zero-le;
+          ticking = t.ticking;
+          at_least_one = t.at_least_one;
+          at_most = t.at_most;
+          on_wire = t.on_wire;
+        };
+        modem = w.modem;
+        latches = w.latches;
+        sizes = refl;
+        implemented = w.implemented;
+        limit = a.limit ∙ w.limit;
+      };
+      number = a.number;
+      known = a.known;
+    }
+
 -- ---- writes
 
 steady_enable : (value : ℕ) (c : ChipState) → IsSoundChip c → Steady c.receiver.arrived c (enable value c)
@@ -300,6 +335,7 @@ steady_writes offset value c d (sends e q) w =
     (size-load c.fifo (cut_of c value) c.transmitter)
 steady_writes offset value c d (enables e q) w = steady_enable value c w
 steady_writes offset value c d (switches e has_fifo on) w = steady_switch on c w has_fifo
+steady_writes offset value c d (resizes e s) w = steady_resize (switched_size value) c w
 steady_writes offset value c d (clears e) w = steady_receiver c.receiver.arrived c _ w (safe_clear c.fifo c.fifo c.receiver w.receiver)
 steady_writes offset value c d (empties e) w =
     steady_transmitter c _ w (sound_clear c.fifo c.fifo true c.transmitter w.transmitter) refl refl
@@ -400,16 +436,19 @@ latches-fifo value c =
     let on : Bool = has_any value FCR.FIFO_ENABLE.0 in
     let d : ChipState = if is_same c.fifo on then c else switch on c in
     let a : d.latches ≡ c.latches = latches_if c c (switch on c) (is_same c.fifo on) refl refl in
-    let e : ChipState = reset_receiver value d in
-    let b : e.latches ≡ d.latches =
-    latches_if d (record d { receiver = clear d.receiver }) d (has_any value FCR.RX_FIFO_RESET.0) refl refl in
+    let s : ChipState = switch_size value d in
+    let h : s.latches ≡ d.latches =
+    latches_if d (with_size (switched_size value) (empty_queues d)) d (is_switching value d) refl refl in
+    let e : ChipState = reset_receiver value s in
+    let b : e.latches ≡ s.latches =
+    latches_if s (record s { receiver = clear s.receiver }) s (has_any value FCR.RX_FIFO_RESET.0) refl refl in
     let f : ChipState = reset_transmitter value e in
     let g : f.latches ≡ e.latches =
     latches_if e (record e { transmitter = record e.transmitter { queue = []; is_thr_pending = true } }) e
     (has_any value FCR.TX_FIFO_RESET.0) refl refl in
-    latches_if c (set_trigger (trigger_level value) f) d on (g ∙ (b ∙ a)) a
+    latches_if c (set_trigger (trigger_level value) f) d on (g ∙ (b ∙ (h ∙ a))) a
 
-latches-control : (model : Chip) (value : ℕ) (c : ChipState) → (control model value c).latches ≡ c.latches
+pub latches-control : (model : Chip) (value : ℕ) (c : ChipState) → (control model value c).latches ≡ c.latches
 latches-control Uart16450 value c = refl
 latches-control Uart16550A value c = latches-fifo value c
 
