@@ -6,10 +6,10 @@ pub mod Wire
 pub mod Queue
 pub mod Modem
 pub mod Chip
-pub mod Switching
 pub mod Status
 pub mod Jumps
 pub mod Machine
+pub mod Switching
 pub mod Data
 pub mod Snapshot
 pub mod Sound

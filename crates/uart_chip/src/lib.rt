@@ -19,6 +19,7 @@ pub mod controlling;
 mod device;
 mod fifo;
 mod journal;
+pub mod laws;
 mod masks;
 mod modem;
 mod receiver;

@@ -4,7 +4,6 @@ use Rattle.std.proofs.Common.{◌≡◌, ℕ, ◌+◌, Bool, true, false, ◌==�
 use Rattle.std.proofs.Common.{◌∙◌, ap, subst, if◌then◌else◌}
 use Rattle.uart_events.specs.declared.event.Chip.{Chip}
 use Rattle.uart_events.specs.declared.event.Chip.TheVariants.{Uart16550A, Uart16450}
-use Rattle.uart_spec.specs.Access.{Path}
 use Rattle.uart_spec.specs.declared.access.Access.{Access}
 use Rattle.uart_spec.specs.declared.access.Access.TheVariants.{Read, Write}
 use Rattle.uart_spec.specs.Bits.{has_any}
@@ -19,16 +18,12 @@ use Rattle.uart_chip.specs.Chip.{ChipState, cut_of, is_dlab_set, is_loopback, is
 use Rattle.uart_chip.specs.Chip.{after_read, after_write, control, switch, switch_size, is_switching, reset_receiver}
 use Rattle.uart_chip.specs.Chip.{reset_transmitter, set_trigger, trigger_level, with_size, switched_size, empty_queues}
 use Rattle.uart_chip.specs.Machine.{MachineState, MachineStep, at_access, at_mark}
-use Rattle.uart_chip.specs.Switching.{may_switch, lcr_after, NeverSwitches}
+use Rattle.uart_chip.specs.Switching.{SameSizes, EventsKeepSizes, ReadsKeepSizes, OnlySwitchesResize, SizesStayWithoutSwitch}
+use Rattle.uart_chip.specs.Switching.{may_switch, lcr_after, SizesStayWithoutDlab}
 use Rattle.uart_chip.proofs.AccessMoves.{both_if, if_at, ReadMove, takes, read_move, WriteMove, sends, resizes, write_cases, write_lasts}
 use Rattle.uart_chip.proofs.Switching.{closed-keeps, lacking-keeps}
-use Rattle.uart_chip.proofs.lasting.Lasting.{LastsInEvents, chip_lasts-ticks, chip_lasts-before, chip_lasts-before_mark}
+use Rattle.uart_chip.proofs.lasting.Lasting.{LastsInEvents, chip_lasts-ticks, chip_lasts-perform, chip_lasts-before, chip_lasts-before_mark}
 use Rattle.uart_chip.proofs.soundness.Sounds.{size-tick, size-load, latches-control}
-
--- both FIFOs of the second chip have the size that they have in the first
-pub record SameSizes (c d : ChipState) : Type 0 where
-  pub transmitter : d.transmitter.size ≡ c.transmitter.size
-  pub receiver : d.receiver.size ≡ c.receiver.size
 
 pub same_sizes : (c : ChipState) → SameSizes c c
 same_sizes c = record { transmitter = refl; receiver = refl }
@@ -82,6 +77,9 @@ sizes_last c = record {
 pub same_size-ticks : (n : ℕ) (c : ChipState) → SameSizes c (ticks n c)
 same_size-ticks n c = chip_lasts-ticks (SameSizes c) (sizes_last c) n c (same_sizes c)
 
+pub same_size-event : EventsKeepSizes
+same_size-event event c = chip_lasts-perform (SameSizes c) (sizes_last c) event c (same_sizes c)
+
 pub same_size-mark : (m : MachineState) → SameSizes m.chip (at_mark m).chip
 same_size-mark m = chip_lasts-before_mark (SameSizes m.chip) (sizes_last m.chip) m.ahead m.chip (same_sizes m.chip)
 
@@ -94,7 +92,7 @@ in_read : (offset : ℕ) (c d : ChipState) → ReadMove offset c d → SameSizes
 in_read offset c d (takes e q) = record { transmitter = refl; receiver = size-take_front c.receiver.queue c.receiver }
 in_read offset c d _ = record { transmitter = refl; receiver = refl }
 
-pub same_size-read : (offset : ℕ) (c : ChipState) → SameSizes c (after_read offset c)
+pub same_size-read : ReadsKeepSizes
 same_size-read offset c = in_read offset c _ (read_move offset c)
 
 in_write : (offset value : ℕ) (c d : ChipState) → (offset ≡ offsets.FCR → is_switching value c ≡ false) → WriteMove offset value c d →
@@ -127,8 +125,7 @@ in_control Uart16550A value c keeps =
     both_if S (set_trigger (trigger_level value) g) d on (record { transmitter = q.transmitter; receiver = q.receiver }) a
 
 -- only a write of FCR that switches the size changes it
-pub same_size-write : (offset value : ℕ) (c : ChipState) → (offset ≡ offsets.FCR → is_switching value c ≡ false) →
-    SameSizes c (after_write offset value c)
+pub same_size-write : OnlySwitchesResize
 same_size-write offset value c keeps =
     write_cases (SameSizes c) offset value c (λ d m. in_write offset value c d keeps m) (λ e. in_control c.model value c (keeps e))
 
@@ -170,8 +167,7 @@ switch-step m n (Write offset value) step =
     let has : Bool = m.chip.has_size_switch in
     rw step (write_lasts (λ c. c.has_size_switch ≡ has) offset value (switch-write has offset value) r (switch-access m))
 
-pub same_size-lacking : (made : List Access) (m n : MachineState) → m.chip.has_size_switch ≡ false → Path MachineStep m made n →
-    SameSizes m.chip n.chip
+pub same_size-lacking : SizesStayWithoutSwitch
 same_size-lacking [] m n none path = rw path (same_sizes m.chip)
 same_size-lacking (access ∷ made) m n none (mid, step, rest) =
     same_sizes-trans m.chip mid.chip n.chip
@@ -215,8 +211,7 @@ closed_by m access never offset value e f =
     let closed : may_switch m.chip.latches.lcr (Write offsets.FCR value) ≡ false = rw (e, f) at never in
     closed-keeps value (at_access m).chip (ap (λ (lcr : ℕ). has_any lcr LCR.DLAB.0) (lcr-access m) ∙ closed)
 
-pub same_size : (made : List Access) (m n : MachineState) → NeverSwitches m.chip.latches.lcr made → Path MachineStep m made n →
-    SameSizes m.chip n.chip
+pub same_size : SizesStayWithoutDlab
 same_size [] m n never path = rw path (same_sizes m.chip)
 same_size (access ∷ made) m n never (mid, step, rest) =
     same_sizes-trans m.chip mid.chip n.chip (same_size-step m mid access step (closed_by m access never.0))

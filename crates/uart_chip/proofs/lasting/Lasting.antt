@@ -88,7 +88,7 @@ module _ (P : ChipState → Type 0) (w : LastsInEvents P) where
   chip_lasts-ticks zero c p = p
   chip_lasts-ticks (suc n) c p = w.in_tick (ticks n c) (chip_lasts-ticks n c p)
 
-  chip_lasts-perform : (event : Event) (c : ChipState) → P c → P (perform event c)
+  pub chip_lasts-perform : (event : Event) (c : ChipState) → P c → P (perform event c)
   chip_lasts-perform (Ticks n) c p = chip_lasts-ticks n c p
   chip_lasts-perform (Arrive byte errors) c p = w.in_arrival byte errors c p
   chip_lasts-perform (Lines inputs) c p = w.in_lines inputs c p
