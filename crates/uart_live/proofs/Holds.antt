@@ -16,6 +16,7 @@ use Rattle.uart_chip.specs.Chip.{ChipState, cut_of, is_dlab_set, is_loopback, is
 use Rattle.uart_chip.specs.Chip.{change_lines}
 use Rattle.uart_chip.specs.Chip.{line_status, interrupt, is_thr_empty, with_thr_pending, answer, after_read, after_write}
 use Rattle.uart_chip.specs.Chip.{set_fifo, control, switch, is_same, reset_receiver, reset_transmitter, set_trigger, trigger_level}
+use Rattle.uart_chip.specs.Chip.{switch_size, is_switching}
 use Rattle.uart_chip.proofs.soundness.Sounds.{latches-ticks}
 use Rattle.uart_spec.specs.Bits.{has_any}
 use Rattle.uart_spec.specs.declared.registers.fifo_control.TheConstants.FCR
@@ -26,7 +27,7 @@ use Rattle.uart_spec.specs.declared.registers.offsets.TheConstants as offsets
 use Rattle.uart_live.specs.Held.{is_due, expire}
 use Rattle.uart_live.specs.Laws.{Act, Read, Write, Ticks, Arrive, ArriveHolding, SetLines, TakeWire, after, in_turn}
 use Rattle.uart_live.specs.Laws.{is_data, withdrawing, seen, OnlyInterruptsShowHolding, IsHolding, HeldTimeoutsStay, DueTimeoutsInterrupt}
-use Rattle.uart_chip.proofs.AccessMoves.{both_if, ReadMove, takes, read_move, WriteMove, switches, clears, write_move}
+use Rattle.uart_chip.proofs.AccessMoves.{both_if, ReadMove, takes, read_move, WriteMove, switches, resizes, clears, write_move}
 
 both_ifs : {A : Type 0} (R : A → A → Type 0) (x y v w : A) (b : Bool) → R x v → R y w → R (if b then x else y) (if b then v else w)
 both_ifs R x y v w true p q = p
@@ -151,14 +152,18 @@ fifo-plain value c =
     let d : ChipState = if is_same c.fifo on then c else switch on c in
     let e : ChipState = if is_same c.fifo on then plain c else switch on (plain c) in
     let a : Alike d e = both_ifs Alike c (switch on c) (plain c) (switch on (plain c)) (is_same c.fifo on) refl refl in
-    let b : Alike (reset_receiver value d) (reset_receiver value e) =
-    carry (reset_receiver value) (λ (x : ChipState). both_ifs Alike _ _ _ _ (has_any value FCR.RX_FIFO_RESET.0) refl refl) d e a in
-    let g : Alike (reset_transmitter value (reset_receiver value d)) (reset_transmitter value (reset_receiver value e)) =
+    let f : ChipState = switch_size value d in
+    let g : ChipState = switch_size value e in
+    let s : Alike f g =
+    carry (switch_size value) (λ (x : ChipState). both_ifs Alike _ _ _ _ (is_switching value x) refl refl) d e a in
+    let b : Alike (reset_receiver value f) (reset_receiver value g) =
+    carry (reset_receiver value) (λ (x : ChipState). both_ifs Alike _ _ _ _ (has_any value FCR.RX_FIFO_RESET.0) refl refl) f g s in
+    let h : Alike (reset_transmitter value (reset_receiver value f)) (reset_transmitter value (reset_receiver value g)) =
     carry (reset_transmitter value) (λ (x : ChipState). both_ifs Alike _ _ _ _ (has_any value FCR.TX_FIFO_RESET.0) refl refl)
-    (reset_receiver value d) (reset_receiver value e) b in
+    (reset_receiver value f) (reset_receiver value g) b in
     both_ifs Alike _ _ _ _ on
-    (carry (set_trigger (trigger_level value)) (λ (x : ChipState). refl) (reset_transmitter value (reset_receiver value d))
-    (reset_transmitter value (reset_receiver value e)) g) a
+    (carry (set_trigger (trigger_level value)) (λ (x : ChipState). refl) (reset_transmitter value (reset_receiver value f))
+    (reset_transmitter value (reset_receiver value g)) h) a
 
 control-plain : (model : Chip) (value : ℕ) (c : ChipState) → Alike (control model value c) (control model value (plain c))
 control-plain Uart16450 value c = refl
@@ -252,6 +257,7 @@ due-reads offset c d _ n w = w
 
 due-writes : (offset value : ℕ) (c d : ChipState) → WriteMove offset value c d → offset ≢ offsets.FCR → Due c → Due d
 due-writes offset value c d (switches e m on) f w = absurd (f e)
+due-writes offset value c d (resizes e s) f w = absurd (f e)
 due-writes offset value c d (clears e) f w = absurd (f e)
 due-writes offset value c d _ f w = w
 

@@ -1,6 +1,6 @@
 -- Whatever is done with a live chip, it stays live.
 use Rattle.std.proofs.Common.{◌≡◌, ℕ, zero, suc, ◌≤◌, ◌<◌, Bool, true, false, not, ◌&&◌, nat_lt, nat_le, List, [], ◌∷◌, length}
-use Rattle.std.proofs.Common.{Option, Some, None, is_some, bit_or, drop, refl, arith, ◌∙◌, if◌then◌else◌}
+use Rattle.std.proofs.Common.{Option, Some, None, is_some, drop, refl, arith, sym, ◌∙◌, if◌then◌else◌}
 use Rattle.std.proofs.lemmas.Grind.{common_steps}
 use Rattle.std.proofs.lemmas.List.{length-drop}
 use Rattle.uart_events.specs.declared.event.BuildError.TheVariants.{BadTicks, BadWire}
@@ -11,13 +11,13 @@ use Rattle.uart_chip.specs.declared.receiver.Character.{Character}
 use Rattle.uart_chip.specs.declared.receiver.Origin.TheVariants.{Looped, Live}
 use Rattle.uart_chip.specs.declared.transmitter.Shifting.{Shifting}
 use Rattle.uart_events.specs.Build.{refusal}
-use Rattle.uart_spec.specs.Bits.{IsWithin, flag, has_any}
+use Rattle.uart_spec.specs.Bits.{IsWithin, has_any}
 use Rattle.uart_chip.specs.Transmitter as transmitter
 use Rattle.uart_chip.specs.Transmitter.{TransmitterState, room, looped_byte}
 use Rattle.uart_chip.specs.Receiver as receiver
 use Rattle.uart_chip.specs.Receiver.{ReceiverState, is_unscheduled, enter, replace, come_back, take_front}
 use Rattle.uart_chip.specs.Chip.{ChipState, fresh, cut_of, is_loopback, is_held_off, ticks, arrive_live, take_wire, change_lines}
-use Rattle.uart_chip.specs.Chip.{identification, after_read, after_write}
+use Rattle.uart_chip.specs.Chip.{after_read, after_write}
 use Rattle.uart_chip.specs.Sound.{IsWhole}
 use Rattle.uart_chip.proofs.soundness.Builds.{whole_fresh}
 use Rattle.uart_chip.proofs.soundness.Idle.{whole_ticks}
@@ -35,7 +35,9 @@ use Rattle.uart_live.specs.declared.errors.ChipError.TheVariants as ChipError
 use Rattle.uart_live.specs.Held.{is_due, expire, arrive_holding}
 use Rattle.uart_live.specs.Live.{IsLive}
 use Rattle.uart_live.specs.Refused as live
-use Rattle.uart_chip.proofs.AccessMoves.{both_if, ReadMove, takes, read_move, WriteMove, sends, write_lasts}
+use Rattle.uart_chip.proofs.AccessMoves.{both_if, ReadMove, takes, read_move, WriteMove, sends, resizes, write_lasts}
+use Rattle.uart_chip.proofs.FifoBits.{isr_of}
+use Rattle.uart_chip.proofs.Switching.{lacking-keeps}
 
 -- ---- none is lost unseen
 
@@ -92,7 +94,7 @@ room-tick loopback false t h =
 -- ---- both, of the chip
 
 abbrev pub Keeps : ChipState → Type 0
-Keeps c = NoneLost c.receiver × (HasRoom c.transmitter × (c.auto_flow ≡ false))
+Keeps c = NoneLost c.receiver × (HasRoom c.transmitter × ((c.auto_flow ≡ false) × (c.has_size_switch ≡ false)))
 
 keeps-ticks : (n : ℕ) (c : ChipState) → Keeps c → Keeps (ticks n c)
 keeps-ticks zero c k = k
@@ -114,6 +116,7 @@ keeps-writes : (offset value : ℕ) (c d : ChipState) → WriteMove offset value
 keeps-writes offset value c d (sends p q) k =
     let t : TransmitterState = c.transmitter in
     (k.0, (both_if HasRoom _ _ (nat_lt (length t.queue) (room c.fifo t.size)) k.1.0 k.1.0, k.1.1))
+keeps-writes offset value c d (resizes e s) k = let no : true ≡ false = sym s ∙ lacking-keeps value c k.1.1.1 in absurd (cc)
 keeps-writes offset value c d _ k = k
 
 keeps-write : (offset value : ℕ) (c : ChipState) → Keeps c → Keeps (after_write offset value c)
@@ -129,24 +132,25 @@ live-steady c d w s whole k =
       none_lost = k.0;
       room = k.1.0.0;
       size = k.1.0.1;
-      flow = k.1.1;
+      flow = k.1.1.0;
+      switch = k.1.1.1;
     }
 
 pub live-read : (offset : ℕ) (c : ChipState) → IsLive c → IsLive (after_read offset c)
 live-read offset c w =
     live-steady c _ w (steady_read offset c w.whole.sound.chip) (whole_read offset (record { chip = c; ahead = [] }) w.whole)
-    (keeps-read offset c (w.none_lost, ((w.room, w.size), w.flow)))
+    (keeps-read offset c (w.none_lost, ((w.room, w.size), (w.flow, w.switch))))
 
 pub live-write : (offset value : ℕ) (c : ChipState) → value < 256 → IsLive c → IsLive (after_write offset value c)
 live-write offset value c v w =
     live-steady c _ w (steady_write offset value c w.whole.sound.chip) (whole_write offset value
     (record { chip = c; ahead = [] }) v w.whole)
-    (keeps-write offset value c (w.none_lost, ((w.room, w.size), w.flow)))
+    (keeps-write offset value c (w.none_lost, ((w.room, w.size), (w.flow, w.switch))))
 
 pub live-ticks : (n : ℕ) (c : ChipState) → IsLive c → IsLive (ticks n c)
 live-ticks n c w =
     live-steady c _ w (steady_ticks n c w.whole.sound.chip) (whole_ticks n c (ticks n c) [] refl w.whole)
-    (keeps-ticks n c (w.none_lost, ((w.room, w.size), w.flow)))
+    (keeps-ticks n c (w.none_lost, ((w.room, w.size), (w.flow, w.switch))))
 
 pub live-lines : (inputs : ℕ) (c : ChipState) → IsWithin inputs MSR.LINES.0 → IsLive c → IsLive (change_lines inputs c)
 live-lines inputs c i w =
@@ -155,7 +159,7 @@ live-lines inputs c i w =
       sound = record { chip = w.whole.sound.chip; foreseen = w.whole.sound.foreseen; legal = (i, tt) };
       bytes = w.whole.bytes;
     }))
-    (w.none_lost, ((w.room, w.size), w.flow))
+    (w.none_lost, ((w.room, w.size), (w.flow, w.switch)))
 
 -- a move of one part that leaves the latches alone
 pub live-part : (c d : ChipState) → IsLive c → Steady c.receiver.arrived c d → d.latches ≡ c.latches → Keeps d → IsLive d
@@ -174,7 +178,7 @@ live-arrival byte errors c l w =
     live-part c (arrive_live byte errors c) w
     (steady_receiver c.receiver.arrived c (receiver.arrive_live loopback c.fifo (cut_of c byte) errors c.receiver) w.whole.sound.chip
     (safe_bring loopback c.fifo c.receiver (cut_of c byte) errors w.whole.sound.chip.receiver l)) refl
-    (none_lost-arrival loopback c.fifo (cut_of c byte) errors c.receiver w.none_lost, ((w.room, w.size), w.flow))
+    (none_lost-arrival loopback c.fifo (cut_of c byte) errors c.receiver w.none_lost, ((w.room, w.size), (w.flow, w.switch)))
 
 pub live-expire : (c : ChipState) → IsLive c → IsLive (expire c)
 live-expire c w =
@@ -199,7 +203,7 @@ live-expire c w =
       limit = refl;
       size = refl;
     })) refl
-    (w.none_lost, ((w.room, w.size), w.flow))
+    (w.none_lost, ((w.room, w.size), (w.flow, w.switch)))
 
 pub live-hold : (byte errors : ℕ) (c : ChipState) → IsWithin errors LSR.CHARACTER_ERRORS.0 → IsLive c →
     IsLive (arrive_holding byte errors c)
@@ -217,7 +221,7 @@ live-take count c w =
     (steady_transmitter c (transmitter.take_wire count c.transmitter) w.whole.sound.chip
     (record { in_room = t.in_room; ticking = t.ticking; at_least_one = t.at_least_one; at_most = t.at_most; on_wire = fewer })
     refl refl) refl
-    (w.none_lost, ((w.room, w.size), w.flow))
+    (w.none_lost, ((w.room, w.size), (w.flow, w.switch)))
 
 -- ---- a new chip
 
@@ -254,14 +258,17 @@ live-fresh chip char_ticks capacity e =
       room = within_room char_ticks capacity e;
       size = refl;
       flow = refl;
+      switch = refl;
     }
 
 -- ---- the interrupt line
 
 -- ISR shows by its lowest bit that no interrupt is pending
-pub shows-interrupt : (pending : Option InterruptType) (fifo : Bool) →
-    is_some pending ≡ not (has_any (bit_or (identification pending) (flag fifo ISR.FIFOS_ENABLED.0)) ISR.INTERRUPT_STATUS.0)
-shows-interrupt (Some ReceiverLineStatus) true = refl
-shows-interrupt (Some ReceiverLineStatus) false = refl
-shows-interrupt _ true = refl
-shows-interrupt _ false = refl
+pub shows-interrupt : (pending : Option InterruptType) (fifo holds_64 : Bool) →
+    is_some pending ≡ not (has_any (isr_of fifo holds_64 pending) ISR.INTERRUPT_STATUS.0)
+shows-interrupt (Some ReceiverLineStatus) true true = refl
+shows-interrupt (Some ReceiverLineStatus) true false = refl
+shows-interrupt (Some ReceiverLineStatus) false _ = refl
+shows-interrupt _ true true = refl
+shows-interrupt _ true false = refl
+shows-interrupt _ false _ = refl

@@ -21,7 +21,7 @@ use Rattle.uart_live.specs.Laws.{after_all, in_turn, AllInTurn, is_data, is_plai
 use Rattle.uart_live.specs.Laws.{sent, taken, IsCareful, BytesLeaveInOrder, came, read, IsUnreset, shows_overrun, some_overrun}
 use Rattle.uart_live.specs.Laws.{CharactersAreReadInOrder, PlainReadsChangeNothing}
 use Rattle.uart_chip.proofs.AccessMoves.{both_if, ReadMove, stays, takes, acknowledges, looks, sees, read_move}
-use Rattle.uart_chip.proofs.AccessMoves.{WriteMove, ignores, sets_low, sends, sets_high, enables, switches, clears}
+use Rattle.uart_chip.proofs.AccessMoves.{WriteMove, ignores, sets_low, sends, sets_high, enables, switches, resizes, clears}
 use Rattle.uart_chip.proofs.AccessMoves.{empties, triggers, frames, steers, notes}
 use Rattle.uart_chip.proofs.AccessMoves.{write_move}
 
@@ -57,6 +57,7 @@ goes-writes offset value c d (sets_low e q) f free = rw (e, q) (sym (append-nil 
 goes-writes offset value c d (empties e) f free = absurd (f e)
 goes-writes offset value c d (ignores none) f free = rw none (sym (append-nil (out c.transmitter)))
 goes-writes offset value c d (switches e m on) f free = absurd (f e)
+goes-writes offset value c d (resizes e s) f free = absurd (f e)
 goes-writes offset value c d (clears e) f free = absurd (f e)
 goes-writes offset value c d (triggers e level) f free = absurd (f e)
 goes-writes offset value c d (sets_high e q) f free = rw e (sym (append-nil (out c.transmitter)))
@@ -165,6 +166,7 @@ passes-reads offset c d (stays none) unseen calm = rw none (passes-same c.receiv
 
 passes-writes : (offset value : ℕ) (c d : ChipState) → WriteMove offset value c d → offset ≢ offsets.FCR → d.receiver ≡ c.receiver
 passes-writes offset value c d (switches e m on) f = absurd (f e)
+passes-writes offset value c d (resizes e s) f = absurd (f e)
 passes-writes offset value c d (clears e) f = absurd (f e)
 passes-writes offset value c d (triggers e level) f = absurd (f e)
 passes-writes offset value c d _ f = refl

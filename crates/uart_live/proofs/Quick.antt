@@ -31,7 +31,7 @@ live-pass c w =
       at_most = t.at_most;
       on_wire = t.on_wire;
     }) refl refl) refl
-    (w.none_lost, ((w.room, w.size), w.flow))
+    (w.none_lost, ((w.room, w.size), (w.flow, w.switch)))
 
 -- ---- reads of LSR
 

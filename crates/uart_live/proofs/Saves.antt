@@ -192,6 +192,7 @@ live_of c wire e bytes =
       room = fits.room;
       size = refl;
       flow = refl;
+      switch = refl;
     }
 
 pub of_live : (c : ChipData) (wire : List ℕ) → IsLive (chip_of c wire) → is_live c wire ≡ true

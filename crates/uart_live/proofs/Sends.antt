@@ -46,4 +46,4 @@ live-send value c e w =
     (steady_transmitter c (put_on_wire (cut_of c value) c.transmitter) w.whole.sound.chip
     (record { in_room = t.in_room; ticking = t.ticking; at_least_one = t.at_least_one; at_most = t.at_most; on_wire = more })
     refl refl) refl
-    (w.none_lost, ((w.room, w.size), w.flow))
+    (w.none_lost, ((w.room, w.size), (w.flow, w.switch)))

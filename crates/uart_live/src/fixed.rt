@@ -1,6 +1,6 @@
 //! What a live chip keeps in arrays, without other memory: its queues and its wire. It has no
 //! schedule, so its journal records nothing.
-ghost use Rattle.std.specs.Prelude.{◌≡◌, ◌<◌, ◌≤◌, [], length};
+ghost use Rattle.std.specs.Prelude.{◌≡◌, ◌<◌, ◌≤◌, false, [], length};
 ghost use Rattle.uart_spec.specs.declared.baud.TheConstants.{FIFO_SIZE};
 ghost use Rattle.uart_spec.specs.declared.setup.FifoSize.TheVariants.{Sixteen};
 ghost use Rattle.uart_live.specs.declared.fixed.TheConstants.{WIRE_ROOM};
@@ -56,8 +56,14 @@ impl<T: Copy + Drop> Fifo<T> for FixedFifo<T> {
 
     ghost size_of = { λ _. Sixteen };
 
+    ghost is_resizable = { false };
+
     fn size(&self) -> FifoSize {
         FifoSize::Sixteen
+    }
+
+    fn can_resize() -> bool {
+        false
     }
 
     fn len(&self) -> usize {
@@ -89,6 +95,10 @@ impl<T: Copy + Drop> Fifo<T> for FixedFifo<T> {
 
     fn clear(&mut self) {
         self.len = 0;
+    }
+
+    fn resize(&mut self, _size: FifoSize) {
+        unreachable!()
     }
 }
 

@@ -31,14 +31,14 @@ use std::marker::Model;
 use uart_chip::controlling::{ChipParts, cut};
 use uart_chip::receiving::{ReceiverParts, take_front};
 use uart_chip::transmitting::TransmitterParts;
-use uart_chip::{Character, DriverFlow, Origin, Uart, room_of};
+use uart_chip::{Character, NoCapabilities, Origin, Uart, room_of};
 use uart_events::{Chip, MAX_CHAR_TICKS};
 use uart_spec::registers::{IER, LCR, LSR, MSR, offsets};
 
 // A chip all of whose memory is in arrays, without a schedule. So no call can be refused memory.
 // The wire has room for 64 bytes, as in the library for C: its owner takes them after each `ticks`.
-// It is a 16550A or a 16450, which have no automatic flow control.
-type LiveUart = Uart<FixedFifo<u8>, FixedWire, FixedFifo<Character>, NoMarks, DriverFlow>;
+// It is a 16550A or a 16450, which have neither automatic flow control nor a switch of their size.
+type LiveUart = Uart<FixedFifo<u8>, FixedWire, FixedFifo<Character>, NoMarks, NoCapabilities>;
 
 /// A serial chip in software whose owner lets time pass, passes characters to it, and takes the
 /// bytes that it sends.

@@ -80,7 +80,11 @@ abbrev Leaves : TransmitterState → TransmitterState → Type 0
 Leaves old t = (t.shift_register ≡ old.shift_register) × ((t.queue ≡ []) ⊎ (t.queue ≡ old.queue))
 
 leaves_lasts : (old : TransmitterState) → LastsInAccesses (Leaves old)
-leaves_lasts old = record { pending = λ t pending h. h; cleared = λ t pending h. (h.0, inl refl) }
+leaves_lasts old = record {
+  pending = λ t pending h. h;
+  cleared = λ t pending h. (h.0, inl refl);
+  resized = λ t size h. (h.0, inl refl);
+}
 
 -- a queue that was emptied holds less
 emptied-less : (t u : TransmitterState) → u.shift_register ≡ t.shift_register → u.queue ≡ [] → t.queue ≢ [] →

@@ -223,6 +223,7 @@ keeps_lasts : (bytes : List ℕ) → LastsInAccesses (Keeps bytes)
 keeps_lasts bytes = record {
   pending = λ t pending h. h;
   cleared = λ t pending h. (refl, ap (λ (queue : List ℕ). t.wire ++ (shift_bytes t.shift_register ++ queue)) (sym h.0) ∙ h.1);
+  resized = λ t size h. (refl, ap (λ (queue : List ℕ). t.wire ++ (shift_bytes t.shift_register ++ queue)) (sym h.0) ∙ h.1);
 }
 
 pub fcr_keeps : FcrKeepsTheOutput

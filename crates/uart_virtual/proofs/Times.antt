@@ -31,7 +31,7 @@ abbrev Pace : TransmitterState → Type 0
 Pace t = (t.char_ticks ≡ 1) × (t.capacity ≡ WIRE_ROOM)
 
 pace_lasts : LastsInAccesses Pace
-pace_lasts = record { pending = λ t pending h. h; cleared = λ t pending h. h }
+pace_lasts = record { pending = λ t pending h. h; cleared = λ t pending h. h; resized = λ t size h. h }
 
 -- of a chip
 abbrev CharTakes : ℕ → ChipState → Type 0
