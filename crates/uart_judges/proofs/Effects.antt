@@ -201,7 +201,8 @@ switched value c =
     let f : ChipState = reset_transmitter value e in
     let r : Switched on c f =
     switched_if on c (record e { transmitter = record e.transmitter { queue = []; is_thr_pending = true } }) e
-    (has_any value FCR.TX_FIFO_RESET.0) (record { model = q.model; flow = q.flow; switch = q.switch; latches = q.latches; fifo = q.fifo }) q in
+    (has_any value FCR.TX_FIFO_RESET.0)
+    (record { model = q.model; flow = q.flow; switch = q.switch; latches = q.latches; fifo = q.fifo }) q in
     switched_if on c (set_trigger (trigger_level value) f) d on
     (record { model = r.model; flow = r.flow; switch = r.switch; latches = r.latches; fifo = r.fifo }) p
   where
@@ -309,4 +310,12 @@ module _ (offset value : ℕ) (k : Known) (c : ChipState) (h : Holds k c) where
   pub holds_write : Holds (after_write offset value k) (chip.after_write offset value c)
   holds_write =
       let r : Rest (after_write offset value k) (chip.after_write offset value c) = rest_wrote (offset == offsets.FCR) refl in
-      record { model = r.model; flow = r.flow; switch = r.switch; latches = r.latches; fifo = r.fifo; sender = sender_wrote; waits = r.waits }
+      record {
+        model = r.model;
+        flow = r.flow;
+        switch = r.switch;
+        latches = r.latches;
+        fifo = r.fifo;
+        sender = sender_wrote;
+        waits = r.waits;
+      }
