@@ -60,13 +60,13 @@ impl<B: Backend> Uart16550<B> {
         let opened = lcr.difference(LCR::MORE_STOP_BITS).union(LCR::DLAB);
         // While DLAB is set a handler could reach neither data nor IER.
         self.write_register(offsets::IER, 0);
-        // A 16750 looks at the bit only while DLAB is set.
+        // A 16750 looks at the bit only while DLAB is set, by its data sheet.
         self.write_register(offsets::LCR, opened.bits());
         self.write_register(offsets::FCR, control.union(FCR::_RESERVED0).bits());
         self.write_register(offsets::LCR, lcr.bits());
-        // Some chips look at it always. Such a chip would leave its FIFOs of 64 at the next write
-        // of FCR that the driver makes, and bytes that were written for them would be lost. So it
-        // is made to leave them at once, and the answer is what stays.
+        // So it keeps its FIFOs of 64 here. A chip that looks at the bit always leaves them, and
+        // would do so at the next call that writes FCR: bytes that were written for them would be
+        // lost. The answer is what stays.
         self.write_register(offsets::FCR, control.bits());
         // IER is still 0, so this read acknowledges no interrupt.
         let on = self.isr().contains(ISR::DMA_TX_END);
