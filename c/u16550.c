@@ -133,7 +133,7 @@ enum uart_fifo_size_error_kind {
     UART_FIFO_SIZE_ERROR_STALLED = 3
 };
 
-/* Why the size of the FIFOs was not found. */
+/* Why the size of the FIFOs was not found or not changed. */
 struct uart_fifo_size_error {
     enum uart_fifo_size_error_kind kind;
     uint64_t too_few;
