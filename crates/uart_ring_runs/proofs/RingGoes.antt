@@ -26,8 +26,8 @@ use Rattle.uart_chip.proofs.conservation.BlockLaws.{IsOpen, PassedBlocks, stands
 use Rattle.uart_run.specs.Ready.{BurstsFit}
 use Rattle.uart_run.specs.Run.{State, CallStep}
 use Rattle.uart_run.specs.Session.{GoesOn, IsWithinSession, reported_by, received_by}
-use Rattle.uart_run.proofs.SizeKept.{fits_by, fits_kept}
-use Rattle.uart_run.proofs.CallLaws.{InSession}
+use Rattle.uart_run.proofs.SizeKept.{keeps_size, fits_by, fits_kept}
+use Rattle.uart_run.proofs.CallLaws.{InSession, session_closed}
 use Rattle.uart_run.proofs.FrameLaws.{GoOn, go_within, passed_onwards, same_fifo}
 use Rattle.uart_ring.specs.Ring.{RingFields, ring_fields, waiting}
 use Rattle.uart_ring.specs.Lossless.{data_written, data_read}
@@ -192,7 +192,7 @@ driver_goes x s t c a w i h =
       read = received_by c h.outcome;
       passed = p.passed;
       fifo = p.fifo;
-      fits = fits_kept (under s) (under t) c h.outcome step;
+      fits = fits_kept (under s) (under t) c h.outcome step (keeps_size (under s) c (session_closed x (under s) w));
       checks = driver_checks _ (under s) (under t) c h.outcome i step;
       sent = ap (λ zs. reported_by c h.outcome ++ zs) sends;
       received = λ turn. ap (λ zs. received_by c h.outcome ++ zs) there ∙ received_in_turn c h.outcome (to_take s) turn;
