@@ -12,7 +12,6 @@ use Rattle.uart_spec.specs.declared.config.Config.{Config}
 use Rattle.uart_spec.specs.declared.dump.ConfigRegisterDump.{ConfigRegisterDump}
 use Rattle.uart_spec.specs.declared.errors.AttachError.{AttachError}
 use Rattle.uart_spec.specs.declared.errors.AttachError.TheVariants.{DivisorLatchOpen, Loopback, NoDivisor}
-use Rattle.uart_spec.specs.declared.errors.ConfigurationError.{ConfigurationError}
 use Rattle.uart_spec.specs.declared.errors.FifosOffError.{FifosOffError}
 use Rattle.uart_spec.specs.declared.errors.FrameError.{FrameError}
 use Rattle.uart_spec.specs.declared.errors.FrameError.TheVariants as frame_error
@@ -31,9 +30,9 @@ use Rattle.uart_spec.specs.declared.setup.FifoAction.{FifoAction}
 use Rattle.uart_spec.specs.declared.setup.FifoAction.TheVariants.{Keep, Reset, Disable}
 use Rattle.uart_spec.specs.declared.setup.Setup.{Setup}
 use Rattle.uart_16550.specs.Grammar.{Language, Settings, Only, Then, Asks, ReadsRegister}
-use Rattle.uart_16550.specs.Driver.{Doing, Fields, Saving, Plain, Sets, Next, settings_of, with_config, with_fifo, with_interrupts, with_saved}
+use Rattle.uart_16550.specs.Driver.{Fields, Saving, Plain, settings_of, with_config, with_fifo, with_interrupts, with_saved}
 use Rattle.uart_16550.specs.Transmit.{WaitsFor}
-use Rattle.uart_16550.specs.Init.{Keeps, KeepsPatterns, ChecksPresence, frame_bits, line_writes, fifo_bits, SetsFifo, DrainsReceiver}
+use Rattle.uart_16550.specs.Init.{Keeps, KeepsPatterns, ChecksPresence, frame_bits, line_writes, SetsFifo, DrainsReceiver}
 use Rattle.uart_16550.specs.Init.{raised_outputs, Begins, Ends, Inits}
 use Rattle.uart_16550.specs.Frame.{SetsFrame, frame_writes, with_frame, unlooped}
 use Rattle.uart_16550.specs.Setup.{SetsTrigger, level_bits, with_level, SetsFrameWhenIdle, ChecksIf, WaitsIf, is_first, is_last, Looks}
@@ -51,7 +50,7 @@ use Rattle.uart_chip.proofs.conservation.Blocks.{is_quiet, AllQuiet, Block, Look
 use Rattle.uart_run.proofs.ListsInTurn.{HoldsInTurn, HoldsOfAll, all_only, all_then, HoldsOfDoing, does_next, does_sets}
 use Rattle.uart_run.proofs.ListsInTurn.{does_saving, does_plain}
 use Rattle.uart_run.proofs.KeptLists.{KeepsAll, AllKeep, keeps_waits, keeps_drains}
-use Rattle.uart_run.proofs.CallBlocks.{InBlocks, Makes, most_in, makes_look, ready_to_receive_blocks, ready_to_send_blocks}
+use Rattle.uart_run.proofs.CallBlocks.{InBlocks, makes_look, ready_to_receive_blocks, ready_to_send_blocks}
 use Rattle.uart_run.proofs.CallBlocks.{try_receive_blocks, receives_blocks, receives_exact_blocks, receives_with_blocks}
 use Rattle.uart_run.proofs.CallBlocks.{sends_blocks, sends_exact_blocks, try_sends_blocks}
 use Rattle.uart_run.proofs.CallKeeps.{plain_blocks, connects_blocks, retriggers_blocks, reads_blocks, writes_blocks, flushes_blocks}

@@ -1,6 +1,6 @@
 -- No call changes for which size the driver takes the FIFOs. Nor does it change the size that they have: that switches only on a chip
 -- that has the switch of a 16750, and only if FCR is written while DLAB is set.
-use Rattle.std.proofs.Common.{◌≡◌, ◌⊎◌, ℕ, Bool, true, false, List, [], ◌∷◌, Option, Result, Ok, Err, inl, inr, refl, ◌∙◌, ap}
+use Rattle.std.proofs.Common.{◌≡◌, ◌⊎◌, ℕ, Bool, true, false, List, Option, Result, Ok, Err, inl, inr, refl, ◌∙◌, ap}
 use Rattle.uart_spec.specs.declared.access.Access.{Access}
 use Rattle.uart_spec.specs.declared.config.Config.{Config}
 use Rattle.uart_spec.specs.declared.dump.ConfigRegisterDump.{ConfigRegisterDump}
@@ -21,7 +21,7 @@ use Rattle.uart_spec.specs.declared.setup.Setup.{Setup}
 use Rattle.uart_spec.specs.declared.registers.offsets.TheConstants as offsets
 use Rattle.uart_spec.specs.Access.{Path}
 use Rattle.uart_16550.specs.Grammar.{Language, Settings}
-use Rattle.uart_16550.specs.Driver.{Doing, Fields, fields, Saving, Plain, Sets, Next, with_config, with_interrupts, with_fifo, with_saved}
+use Rattle.uart_16550.specs.Driver.{Doing, Fields, fields, Sets, Next, with_config, with_interrupts, with_fifo, with_saved}
 use Rattle.uart_16550.specs.Attach.{Attaches}
 use Rattle.uart_16550.specs.Frame.{SetsFrame, with_frame}
 use Rattle.uart_16550.specs.Init.{Begins, Ends, Inits}

@@ -1,6 +1,6 @@
 -- Where ticks come before each access, the spin limit is long enough and the wire has room, calls do not stall.
 use Rattle.std.proofs.Common.{◌≡◌, ◌*◌, ◌&&◌, ℕ, ◌+◌, ◌≤◌, ◌<◌, Bool, List, [], ◌++◌, length, map, length-append}
-use Rattle.std.proofs.Common.{take, Result, Ok, Err, inr, refl, arith, sym, ◌∙◌, ap, subst}
+use Rattle.std.proofs.Common.{take, Result, Ok, Err, inr, refl, arith, sym, ◌∙◌, ap}
 use Rattle.std.proofs.lemmas.List.{length-map, length-take}
 use Rattle.std.specs.List.{concat}
 use Rattle.uart_spec.specs.declared.errors.StalledError.{StalledError}

@@ -20,7 +20,7 @@ use Rattle.uart_16550.specs.Tty.{inner_of}
 use Rattle.uart_events.specs.declared.event.Chip.{Chip}
 use Rattle.uart_events.specs.declared.event.Chip.TheVariants.{Uart16550A}
 use Rattle.uart_chip.specs.Transmitter.{TransmitterState, out, room, shift_bytes}
-use Rattle.uart_chip.specs.Chip.{ChipState, cut_of, after_write}
+use Rattle.uart_chip.specs.Chip.{ChipState, cut_of}
 use Rattle.uart_chip.specs.Machine.{MachineState, MachineStep, at_access}
 use Rattle.uart_chip.specs.Sound.{IsSound}
 use Rattle.uart_chip.proofs.conservation.Went.{Modes}
@@ -46,7 +46,7 @@ use Rattle.uart_run.proofs.sizing.Counting.{Found, told}
 use Rattle.uart_run.proofs.sizing.Filling.{AllAre}
 use Rattle.uart_run.proofs.sizing.Flooding.{IsFlooded, flooded_access}
 use Rattle.uart_run.proofs.sizing.Walking.{level_in, StallsFirst, Measured, found_by}
-use Rattle.uart_run.proofs.sizing.Measuring.{keeps_measures, FoundIn, TellsAll, measured}
+use Rattle.uart_run.proofs.sizing.Measuring.{keeps_measures, FoundIn, TellsAll}
 use Rattle.uart_run.proofs.sizing.Remaining.{IsReset, AllCalm, reset_at, reset_path}
 use Rattle.uart_run.proofs.sizing.Staying.{SendsLast, last_path, last_out, emptied, reset_written}
 

@@ -19,7 +19,7 @@ use Rattle.uart_chip.specs.declared.transmitter.Shifting.{Shifting}
 use Rattle.uart_chip.specs.Transmitter.{looped_byte, room}
 use Rattle.uart_chip.specs.Receiver as receiver
 use Rattle.uart_chip.specs.Receiver.{ReceiverState, enter, come_back, take_front, replace}
-use Rattle.uart_chip.specs.Chip.{ChipState, is_loopback, is_held_off, tick, after_write, is_same, set_fifo, control}
+use Rattle.uart_chip.specs.Chip.{ChipState, is_loopback, is_held_off, tick, is_same, set_fifo, control}
 use Rattle.uart_chip.specs.Chip.{trigger_level, switch, is_switching, switch_size, reset_receiver, reset_transmitter, set_trigger}
 use Rattle.uart_chip.specs.Machine.{MachineState, MachineStep, at_access}
 use Rattle.uart_chip.proofs.AccessMoves.{ReadMove, takes, acknowledges, read_move, WriteMove, sends, enables, switches, resizes, clears}
