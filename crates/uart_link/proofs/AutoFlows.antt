@@ -30,7 +30,6 @@ use Rattle.uart_chip.proofs.conservation.Went.{Modes, loopback-in}
 use Rattle.uart_chip.proofs.lasting.Lasting.{LastsInEvents, chip_lasts-before, chip_lasts-before_mark}
 use Rattle.uart_ring.specs.Ring.{ring_fields}
 use Rattle.uart_ring_runs.specs.declared.call.RingCall.{RingCall}
-use Rattle.uart_ring_runs.specs.declared.call.RingCall.TheVariants as call
 use Rattle.uart_ring_runs.specs.declared.call.RingAnswer.{RingAnswer}
 use Rattle.uart_ring_runs.specs.RingRun.{RingState, ring_machine}
 use Rattle.uart_link.specs.declared.call.Moment.{Moment}
