@@ -35,14 +35,13 @@ use Rattle.uart_ring.proofs.RegisterBits.{more_saved, saved_lsr-append, saved_ls
 use Rattle.uart_ring_runs.specs.declared.call.RingCall.{RingCall}
 use Rattle.uart_ring_runs.specs.declared.call.RingCall.TheVariants as call
 use Rattle.uart_ring_runs.specs.declared.call.RingAnswer.{RingAnswer}
-use Rattle.uart_ring_runs.specs.declared.call.RingAnswer.TheVariants as answers
 use Rattle.uart_ring_runs.specs.RingRun.{RingState, under, ring_machine, DriverCalled, IsOfRings, RingCallStep, RingLink, RingChain}
-use Rattle.uart_ring_runs.specs.RingBytes.{to_send, to_take, queued_by, taken_by, queued, taken, gone_in, gone_by, gone, to_send_with}
-use Rattle.uart_ring_runs.specs.RingBytes.{KeepsOrder, AllKeepOrder, SendsNothing, ReceivesNothing, TakesInTurn, AllTakeInTurn}
+use Rattle.uart_ring_runs.specs.RingBytes.{to_send, to_take, queued_by, taken_by, queued, taken, gone_in, gone_by, gone}
+use Rattle.uart_ring_runs.specs.RingBytes.{KeepsOrder, AllKeepOrder, ReceivesNothing, TakesInTurn, AllTakeInTurn}
 use Rattle.uart_ring_runs.specs.RingSession.{IsWithinRingSession, AllWithinRingSession}
 use Rattle.uart_ring_runs.specs.RingStatuses.{NeitherIs}
 use Rattle.uart_run.specs.Chains.{NoneIs}
-use Rattle.uart_ring_runs.proofs.RingMeanings.{none_sent, in_order}
+use Rattle.uart_ring_runs.proofs.RingMeanings.{in_order}
 use Rattle.uart_ring_runs.proofs.RingLasts.{driver_step, first_within}
 use Rattle.uart_ring_runs.proofs.RingRts.{modes_at, begins_session}
 use Rattle.uart_ring_runs.proofs.RingPasses.{RingPasses, InLine, ring_passes_call, untold_line_of, untold_modem_of}
