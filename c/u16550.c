@@ -24,11 +24,13 @@ enum {
 
 /* Bits that are in no interface. */
 enum {
+    U16550_FCR_FIFO_64_ENABLE = 0x20,
     U16550_FCR_FIFO_ENABLE = 0x01,
     U16550_FCR_RX_FIFO_RESET = 0x02,
     U16550_FCR_TX_FIFO_RESET = 0x04,
     U16550_ISR_FIFOS_ENABLED0 = 0x40,
     U16550_ISR_FIFOS_ENABLED1 = 0x80,
+    U16550_ISR_FIFO_64_ENABLED = 0x20,
     U16550_ISR_INTERRUPT_STATUS = 0x01,
     U16550_LCR_DLAB = 0x80,
     U16550_LCR_MORE_STOP_BITS = 0x04,
@@ -135,6 +137,11 @@ enum uart_fifo_size_error_kind {
 struct uart_fifo_size_error {
     enum uart_fifo_size_error_kind kind;
     uint64_t too_few;
+};
+
+struct uart_bool_or_fifo_size_error {
+    struct uart_fifo_size_error error;
+    bool value;
 };
 
 struct uart_fifo_size_or_fifo_size_error {
@@ -701,16 +708,29 @@ static inline struct uart_fifo_size_error uart_fifo_size_error_fifos_off(void)
     return made;
 }
 
-static inline struct uart_fifo_size_or_fifo_size_error
-uart_bad_fifo_size_or_fifo_size_error(struct uart_fifo_size_error error)
+static inline struct uart_bool_or_fifo_size_error
+uart_bad_bool_or_fifo_size_error(struct uart_fifo_size_error error)
 {
-    struct uart_fifo_size_or_fifo_size_error made = { error, U16550_CORE_FIFO_SIZE_SIXTEEN };
+    struct uart_bool_or_fifo_size_error made = { error, false };
     return made;
 }
 
 static inline struct uart_fifo_size_error uart_fifo_size_error_stalled(void)
 {
     struct uart_fifo_size_error made = { UART_FIFO_SIZE_ERROR_STALLED, 0 };
+    return made;
+}
+
+static inline struct uart_bool_or_fifo_size_error uart_good_bool_or_fifo_size_error(bool value)
+{
+    struct uart_bool_or_fifo_size_error made = { { UART_FIFO_SIZE_ERROR_NONE, 0 }, value };
+    return made;
+}
+
+static inline struct uart_fifo_size_or_fifo_size_error
+uart_bad_fifo_size_or_fifo_size_error(struct uart_fifo_size_error error)
+{
+    struct uart_fifo_size_or_fifo_size_error made = { error, U16550_CORE_FIFO_SIZE_SIXTEEN };
     return made;
 }
 
@@ -1940,6 +1960,126 @@ static inline void uart_disable_interrupts(struct u16550_core_driver *uart, uint
 }
 
 /*
+ * Polls LSR until it shows these bits, or until the limit. Each wait has a loop of its own over
+ * the limit, so the polls that count are those in a row: progress begins a new count.
+ *
+ * Proved: a wait for these bits of LSR: fewer reads without them than the limit and then one
+ * with them; or as many without them.
+ */
+static inline bool uart_wait_for(struct u16550_core_driver *uart, uint8_t bits)
+{
+    uint64_t number = uart->spin_limit;
+    for (uint64_t turn = 0; turn < number; turn++) {
+        if ((uart_read_lsr(uart) & bits) == bits)
+            return true;
+    }
+    return false;
+}
+
+/*
+ * Returns the trigger level for FIFOs that are on: the configured one, or one byte if none is
+ * configured, as on a port that was taken by attach.
+ */
+static inline enum u16550_core_fifo_trigger_level
+uart_fifo_level(const struct u16550_core_driver *uart)
+{
+    struct u16550_core_maybe_fifo_trigger_level found = uart->config.fifo_trigger_level;
+    return found.is_some ? found.value : U16550_CORE_FIFO_TRIGGER_LEVEL_ONE;
+}
+
+/*
+ * Returns the code of this trigger level, in the low two bits.
+ *
+ * Proved: the two bits from the lowest on are the code of this trigger level.
+ */
+static uint8_t
+uart_fifo_trigger_level_to_raw_bits(enum u16550_core_fifo_trigger_level fifo_trigger_level)
+{
+    switch (fifo_trigger_level) {
+    case U16550_CORE_FIFO_TRIGGER_LEVEL_ONE:
+        return 0;
+    case U16550_CORE_FIFO_TRIGGER_LEVEL_FOUR:
+        return 1;
+    case U16550_CORE_FIFO_TRIGGER_LEVEL_EIGHT:
+        return 2;
+    case U16550_CORE_FIFO_TRIGGER_LEVEL_FOURTEEN:
+    default:
+        return 3;
+    }
+}
+
+/*
+ * Returns the register with this trigger level. No other bit changes.
+ *
+ * Proved: the two bits from the lowest on are the code of this trigger level.
+ * Proved: the eight bits are the same in both values, except those of a field.
+ */
+static inline uint8_t
+uart_fcr_set_fifo_trigger_level(uint8_t fcr, enum u16550_core_fifo_trigger_level level)
+{
+    return (fcr & 63) | (uint8_t)(uart_fifo_trigger_level_to_raw_bits(level) << 6);
+}
+
+/*
+ * Returns FCR for FIFOs that are on and stay on. Without the reset bits the bytes in them stay.
+ */
+static inline uint8_t uart_level_control_of(enum u16550_core_fifo_trigger_level level)
+{
+    return uart_fcr_set_fifo_trigger_level(U16550_FCR_FIFO_ENABLE, level);
+}
+
+/*
+ * Turns on the FIFOs of 64 characters of a 16750, which has FIFOs of 16 after power-on.
+ * Returns whether the FIFOs hold 64 then. It does not set the size of the driver:
+ * set_fifo_size does, as in the example.
+ *
+ * Call it after init, and again after a reset of the chip. On a chip that has no FIFOs of 64
+ * it returns false, and changes nothing. The answer is ISR's bit 5, which a 16750 shows. So it
+ * is of no use on a chip that shows something else there while its interrupts are disabled.
+ *
+ * Nothing goes out on the line, but for what is in the transmitter already: the call waits
+ * until it is empty, at most spin_limit polls. A chip that switches empties its FIFOs, so
+ * bytes that were received and not taken are lost: take them first. A chip that does not
+ * switch loses nothing.
+ *
+ * Reads LCR and IER. After the wait it disables all interrupts, writes FCR while DLAB is set,
+ * restores LCR, writes FCR once more, reads ISR, and restores IER. While DLAB is set, offsets
+ * 0 and 1 are the latch, as in dll_dlm, so nothing else may access the chip. The level of
+ * the receiver FIFO is that of the configuration, or one byte if none is configured. Error
+ * bits are saved for the next lsr. If THR_EMPTY is enabled, the chip raises that interrupt
+ * again.
+ *
+ * Errors
+ *
+ * - FifosOff if the FIFOs are off (fifo_enabled). No access was made.
+ * - Stalled if the transmitter was not empty after spin_limit polls. Nothing was written.
+ *
+ * Proved: nothing is done if the FIFOs are off. Else LCR and IER are read, and there is a
+ * wait for an empty transmitter. If it reaches the limit, nothing is written, and the result
+ * is a stall; else FIFOs of 64 are asked for, and the result is whether ISR shows them.
+ */
+static struct uart_bool_or_fifo_size_error
+uart_enable_64_byte_fifos(struct u16550_core_driver *uart)
+{
+    if (!uart->fifo_enabled)
+        return uart_bad_bool_or_fifo_size_error(uart_fifo_size_error_fifos_off());
+    uint8_t lcr = uart_lcr(uart);
+    uint8_t ier = uart_ier(uart);
+    if (!uart_wait_for(uart, U16550_LSR_TRANSMITTER_EMPTY))
+        return uart_bad_bool_or_fifo_size_error(uart_fifo_size_error_stalled());
+    uint8_t control = uart_level_control_of(uart_fifo_level(uart));
+    uart_write_register(uart, UART_IER, 0);
+    uart_write_register(uart, UART_LCR,
+        (lcr & (uint8_t)~U16550_LCR_MORE_STOP_BITS) | U16550_LCR_DLAB);
+    uart_write_register(uart, UART_FCR, control | U16550_FCR_FIFO_64_ENABLE);
+    uart_write_register(uart, UART_LCR, lcr);
+    uart_write_register(uart, UART_FCR, control);
+    bool on = (uart_isr(uart) & U16550_ISR_FIFO_64_ENABLED) != 0;
+    uart_write_register(uart, UART_IER, ier);
+    return uart_good_bool_or_fifo_size_error(on);
+}
+
+/*
  * Enables these interrupts in addition to those that are enabled: reads IER, adds them, stores
  * the result in the configuration, and writes it.
  *
@@ -1977,69 +2117,13 @@ static inline enum u16550_core_fifo_size uart_fifo_size(const struct u16550_core
     return uart->fifo_size;
 }
 
-/*
- * Polls LSR until it shows these bits, or until the limit. Each wait has a loop of its own over
- * the limit, so the polls that count are those in a row: progress begins a new count.
- *
- * Proved: a wait for these bits of LSR: fewer reads without them than the limit and then one
- * with them; or as many without them.
- */
-static inline bool uart_wait_for(struct u16550_core_driver *uart, uint8_t bits)
-{
-    uint64_t number = uart->spin_limit;
-    for (uint64_t turn = 0; turn < number; turn++) {
-        if ((uart_read_lsr(uart) & bits) == bits)
-            return true;
-    }
-    return false;
-}
-
-/*
- * Returns the trigger level for FIFOs that are on: the configured one, or one byte if none is
- * configured, as on a port that was taken by attach.
- */
+/* Returns the trigger level for FIFOs that are on, and none for FIFOs that are off. */
 static inline struct u16550_core_maybe_fifo_trigger_level
 uart_level_of(const struct u16550_core_driver *uart, bool on)
 {
-    if (on) {
-        struct u16550_core_maybe_fifo_trigger_level found = uart->config.fifo_trigger_level;
-        return uart_some_fifo_trigger_level(found.is_some ? found.value
-            : U16550_CORE_FIFO_TRIGGER_LEVEL_ONE);
-    }
+    if (on)
+        return uart_some_fifo_trigger_level(uart_fifo_level(uart));
     return uart_no_fifo_trigger_level();
-}
-
-/*
- * Returns the code of this trigger level, in the low two bits.
- *
- * Proved: the two bits from the lowest on are the code of this trigger level.
- */
-static uint8_t
-uart_fifo_trigger_level_to_raw_bits(enum u16550_core_fifo_trigger_level fifo_trigger_level)
-{
-    switch (fifo_trigger_level) {
-    case U16550_CORE_FIFO_TRIGGER_LEVEL_ONE:
-        return 0;
-    case U16550_CORE_FIFO_TRIGGER_LEVEL_FOUR:
-        return 1;
-    case U16550_CORE_FIFO_TRIGGER_LEVEL_EIGHT:
-        return 2;
-    case U16550_CORE_FIFO_TRIGGER_LEVEL_FOURTEEN:
-    default:
-        return 3;
-    }
-}
-
-/*
- * Returns the register with this trigger level. No other bit changes.
- *
- * Proved: the two bits from the lowest on are the code of this trigger level.
- * Proved: the eight bits are the same in both values, except those of a field.
- */
-static inline uint8_t
-uart_fcr_set_fifo_trigger_level(uint8_t fcr, enum u16550_core_fifo_trigger_level level)
-{
-    return (fcr & 63) | (uint8_t)(uart_fifo_trigger_level_to_raw_bits(level) << 6);
 }
 
 /* Returns FCR for a trigger level. */
@@ -3123,8 +3207,8 @@ uart_write_up_to(struct u16550_core_driver *uart, size_t limit, const uint8_t *b
  * fifo_size says: sends as many bytes as it holds if the FIFO is on, else one.
  *
  * The size is taken on trust: on a chip with a smaller FIFO the bytes that do not fit are
- * lost, and nothing tells. Some chips hold more than 16 only after a register of their own was
- * written. set_fifo_size sets the size for all calls that send.
+ * lost, and nothing tells. Some chips hold more than 16 only after they were told, as a 16750
+ * by enable_64_byte_fifos. set_fifo_size sets the size for all calls that send.
  *
  * Proved: nothing if there are no bytes; else a send check and, if it succeeds, bytes from
  * the front are written to DATA: as many as a FIFO of this size holds, or one if it is off.
@@ -3446,9 +3530,9 @@ static inline void uart_set_dtr(struct u16550_core_driver *uart, bool on)
  * No other call changes the size: init and attach keep it.
  *
  * The size is taken on trust. If it is larger than the chip's, the bytes that do not fit are
- * lost, and nothing tells. Some chips hold more than 16 characters only after a register of
- * their own was written. find_fifo_size finds the size of FIFOs as they are set up; a chip
- * of DesignWare may show it in CPR.
+ * lost, and nothing tells. Some chips hold more than 16 characters only after they were told:
+ * a 16750 by enable_64_byte_fifos, others by a register of their own. find_fifo_size finds
+ * the size of FIFOs as they are set up; a chip of DesignWare may show it in CPR.
  *
  * Proved: no access, and this change to the fields.
  */
@@ -3582,14 +3666,6 @@ static inline void uart_set_rts(struct u16550_core_driver *uart, bool on)
 static inline void uart_set_spin_limit(struct u16550_core_driver *uart, uint64_t limit)
 {
     uart->spin_limit = limit;
-}
-
-/*
- * Returns FCR for FIFOs that are on and stay on. Without the reset bits the bytes in them stay.
- */
-static inline uint8_t uart_level_control_of(enum u16550_core_fifo_trigger_level level)
-{
-    return uart_fcr_set_fifo_trigger_level(U16550_FCR_FIFO_ENABLE, level);
 }
 
 /*
@@ -8343,6 +8419,21 @@ int u16550_find_fifo_size(struct u16550 *uart, uint16_t *fifo_size)
     status = uart_leave(uart, uart_status_of_fifo_size_error(&found.error));
     if (status == U16550_OK)
         *fifo_size = uart_encode_fifo_size(found.value);
+    return status;
+}
+
+int u16550_enable_64_byte_fifos(struct u16550 *uart, uint8_t *enabled)
+{
+    struct uart_bool_or_fifo_size_error found;
+    int status = uart_if(enabled == NULL, U16550_NULL_POINTER);
+    if (status == U16550_OK)
+        status = uart_enter(uart);
+    if (status != U16550_OK)
+        return status;
+    found = uart_enable_64_byte_fifos(&uart->ring.uart);
+    status = uart_leave(uart, uart_status_of_fifo_size_error(&found.error));
+    if (status == U16550_OK)
+        *enabled = found.value;
     return status;
 }
 

@@ -144,7 +144,7 @@ enum u16550_attach_error {
     U16550_ATTACH_NO_DIVISOR = 122 /* the divisor latch reads as 0: no port is set up there, or there is none */
 };
 
-/* Why the FIFOs have no trigger level, or why their size was not found. */
+/* Why the FIFOs have no trigger level, or why their size was not found or not changed. */
 enum u16550_fifos_error {
     U16550_FIFOS_OFF = 130,       /* no access was made */
     U16550_FIFOS_TOO_FEW = 131,   /* fewer than 16 bytes came back in loopback */
@@ -459,11 +459,13 @@ struct u16550_core_config {
 };
 
 /*
- * How many characters the transmitter FIFO of a chip holds, for Uart16550_send_burst.
+ * How many characters each FIFO of a chip holds, for Uart16550_set_fifo_size, by which all
+ * calls that send and the rings go, and for one Uart16550_send_burst.
  *
  * A 16550 has 16. No register that all chips have shows the size, so it is taken from the
- * datasheet, or Uart16550_find_fifo_size finds it. If a size is given that is larger than the
- * chip's, bytes are lost.
+ * datasheet, or Uart16550_find_fifo_size finds it. A 16750 has 64 after
+ * Uart16550_enable_64_byte_fifos. If a size is given that is larger than the chip's, bytes are
+ * lost.
  */
 enum u16550_core_fifo_size {
     U16550_CORE_FIFO_SIZE_SIXTEEN = 0,
@@ -481,9 +483,10 @@ enum u16550_core_fifo_size {
  * works, and check_connected whether a remote is ready.
  *
  * No call blocks forever. init, init_with, test_loopback, find_fifo_size,
- * set_frame_when_idle, send_bytes_exact, receive_bytes_exact, and the calls read, write
- * and flush of the traits in embedded_io poll LSR, and return an error
- * after spin_limit unsuccessful polls in a row. The other calls do not wait.
+ * enable_64_byte_fifos, set_frame_when_idle, send_bytes_exact, receive_bytes_exact, and
+ * the calls read, write and flush of the traits in embedded_io poll
+ * LSR, and return an error after spin_limit unsuccessful polls in a row. The other calls do not
+ * wait.
  *
  * A read of LSR clears its error bits in the chip, and a read of MSR its change bits. The driver
  * saves those that its own reads clear, and the next lsr or msr returns them. So a poll loses
@@ -836,8 +839,8 @@ int u16550_set_spin_limit(struct u16550 *uart, uint64_t limit);
  * How many characters the FIFOs are taken to hold: 16 at first, or what u16550_set_fifo_size set last: 16, 32, 64, 128 or 256. Another
  * number is refused by U16550_BAD_CODE. All that sends, and the rings, put as many bytes into one burst if the FIFO is on, so that a larger
  * size takes fewer interrupts for the same bytes. No other call changes it. It is taken on trust: with a size larger than the chip's the
- * bytes that do not fit are lost, and nothing tells. Some chips hold more than 16 only after a register of their own was written.
- * u16550_find_fifo_size finds the size of FIFOs as they are set up.
+ * bytes that do not fit are lost, and nothing tells. Some chips hold more than 16 only after they were told, as a 16750 by
+ * u16550_enable_64_byte_fifos. u16550_find_fifo_size finds the size of FIFOs as they are set up.
  */
 int u16550_fifo_size(struct u16550 *uart, uint16_t *fifo_size);
 /* Proved: no access, and this change to the fields. */
@@ -896,6 +899,20 @@ int u16550_test_loopback(struct u16550 *uart, struct u16550_loopback_failure *fa
  * of no more characters than came back.
  */
 int u16550_find_fifo_size(struct u16550 *uart, uint16_t *fifo_size);
+
+/*
+ * Turns on the FIFOs of 64 characters of a 16750, once its transmitter is empty. *enabled is 1 if they hold 64 then: a
+ * u16550_set_fifo_size with 64, which it does not call, is right. A 16750 empties its FIFOs, so bytes that were received before and
+ * not taken are lost. Another chip loses nothing, and *enabled is 0. Call it again after a u16550_init that follows a reset of the
+ * chip. Interrupts are off meanwhile, and DLAB is set for a moment, so nothing else may access the chip. Returns an enum
+ * u16550_fifos_error if the FIFOs are off, or if the transmitter did not become empty.
+ */
+/*
+ * Proved: nothing is done if the FIFOs are off. Else LCR and IER are read, and there is a
+ * wait for an empty transmitter. If it reaches the limit, nothing is written, and the result
+ * is a stall; else FIFOs of 64 are asked for, and the result is whether ISR shows them.
+ */
+int u16550_enable_64_byte_fifos(struct u16550 *uart, uint8_t *enabled);
 
 /*
  * Whether the chip shows what was written to it: the frame, these outputs, which after u16550_init are 0x0b, the interrupts, the

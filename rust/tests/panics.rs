@@ -165,6 +165,7 @@ calls! {
     uart_set_dtr(uart: &mut Uart, on: bool) { uart.set_dtr(on) }
     uart_test_loopback(uart: &mut Uart) -> Result<(), LoopbackError> { uart.test_loopback() }
     uart_find_fifo_size(uart: &mut Uart) -> Result<FifoSize, FifoSizeError> { uart.find_fifo_size() }
+    uart_enable_64_byte_fifos(uart: &mut Uart) -> Result<bool, FifoSizeError> { uart.enable_64_byte_fifos() }
     uart_check_connected(uart: &mut Uart) -> Result<(), RemoteReadyToReceiveError> { uart.check_connected() }
     uart_ready_to_receive(uart: &mut Uart) -> Result<(), ByteReceiveError> { uart.ready_to_receive() }
     uart_ready_to_send(uart: &mut Uart) -> Result<(), ByteSendError> { uart.ready_to_send() }

@@ -136,7 +136,7 @@ NUMBERS = [
         Number("ATTACH_NO_DIVISOR", 122, "attach: the port has no divisor",
             note="the divisor latch reads as 0: no port is set up there, or there is none", of=("AttachError.NoDivisor",)),
     ]),
-    Numbers("fifos_error", "Why the FIFOs have no trigger level, or why their size was not found.", [
+    Numbers("fifos_error", "Why the FIFOs have no trigger level, or why their size was not found or not changed.", [
         Number("FIFOS_OFF", 130, "the FIFOs are off", note="no access was made", of=("FifoSizeError.FifosOff",)),
         Number("FIFOS_TOO_FEW", 131, "FIFO size: too few bytes came back",
             note="fewer than 16 bytes came back in loopback", of=("FifoSizeError.TooFew",)),
@@ -444,8 +444,8 @@ Returns an enum u16550_nearest_error if there is none. nearest may be config."""
 How many characters the FIFOs are taken to hold: 16 at first, or what u16550_set_fifo_size set last: 16, 32, 64, 128 or 256. Another
 number is refused by U16550_BAD_CODE. All that sends, and the rings, put as many bytes into one burst if the FIFO is on, so that a larger
 size takes fewer interrupts for the same bytes. No other call changes it. It is taken on trust: with a size larger than the chip's the
-bytes that do not fit are lost, and nothing tells. Some chips hold more than 16 only after a register of their own was written.
-u16550_find_fifo_size finds the size of FIFOs as they are set up.""", [
+bytes that do not fit are lost, and nothing tells. Some chips hold more than 16 only after they were told, as a 16750 by
+u16550_enable_64_byte_fifos. u16550_find_fifo_size finds the size of FIFOs as they are set up.""", [
             Call("fifo_size", "struct u16550 *uart, uint16_t *fifo_size", gives="fifo_size", encode="fifo_size"),
             Call("set_fifo_size", "struct u16550 *uart, uint16_t fifo_size"),
         ]),
@@ -475,6 +475,15 @@ that were received before and not taken are lost, and so is what arrives meanwhi
 the line. Returns an enum u16550_fifos_error if no size was found.""", [
             Call("find_fifo_size", "struct u16550 *uart, uint16_t *fifo_size", gives="fifo_size", error="FifoSizeError", encode="fifo_size",
                 outcome="struct uart_fifo_size_or_fifo_size_error"),
+        ]),
+        Group("""
+Turns on the FIFOs of 64 characters of a 16750, once its transmitter is empty. *enabled is 1 if they hold 64 then: a
+u16550_set_fifo_size with 64, which it does not call, is right. A 16750 empties its FIFOs, so bytes that were received before and
+not taken are lost. Another chip loses nothing, and *enabled is 0. Call it again after a u16550_init that follows a reset of the
+chip. Interrupts are off meanwhile, and DLAB is set for a moment, so nothing else may access the chip. Returns an enum
+u16550_fifos_error if the FIFOs are off, or if the transmitter did not become empty.""", [
+            Call("enable_64_byte_fifos", "struct u16550 *uart, uint8_t *enabled", gives="enabled", error="FifoSizeError",
+                outcome="struct uart_bool_or_fifo_size_error"),
         ]),
         Group("""
 Whether the chip shows what was written to it: the frame, these outputs, which after u16550_init are 0x0b, the interrupts, the

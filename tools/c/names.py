@@ -150,6 +150,10 @@ class Source:
             value = number(found[3])
             if value is not None:
                 self.bits.setdefault((crate, found[2]), {})[found[1]] = value
+        # A second name of a bit says what we use it for. The first is that of the original crate.
+        for found in re.finditer(r"const (\w+): (\w+) = \2\(\2::(\w+)\.0\);", text):
+            bits = self.bits[crate, found[2]]
+            bits[found[1]] = bits.pop(found[3])
 
     def read_type(self, crate, text, found):
         key, start = (crate, found[2]), found.end() - 1

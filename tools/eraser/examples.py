@@ -172,6 +172,7 @@ EXAMPLES = {
     "uart_16550::driver::init::Uart16550::init": compiles(UART),
     "uart_16550::driver::loopback::Uart16550::test_loopback": compiles(UART),
     "uart_16550::driver::sizing::Uart16550::find_fifo_size": compiles(UART),
+    "uart_16550::driver::enabling::Uart16550::enable_64_byte_fifos": compiles(UART),
     "uart_16550::driver::receive::Uart16550::ready_to_receive": compiles(UART),
     "uart_16550::driver::receive::Uart16550::try_receive_byte": compiles(UART, "Option<u8>", True),
     "uart_16550::driver::receive::Uart16550::receive_bytes": compiles(UART),

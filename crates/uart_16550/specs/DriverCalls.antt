@@ -35,7 +35,7 @@ use Rattle.uart_16550.specs.Frame.{SetsFrame, ShowsIdle, SetsBreak, SetsControl,
 use Rattle.uart_16550.specs.Attach.{Attaches}
 use Rattle.uart_16550.specs.Setup.{SetsTrigger, SetsFrameWhenIdle, InitsWith, Quiesces, Restores}
 use Rattle.uart_16550.specs.Loopback.{TestsLoopback}
-use Rattle.uart_16550.specs.Sizing.{FindsFifoSize}
+use Rattle.uart_16550.specs.Sizing.{FindsFifoSize, Enables64}
 use Rattle.uart_16550.specs.Io.{Writes, Flushes, AnswersRead, AnswersWrite}
 use Rattle.uart_16550.specs.Expansion.{SendsText, SendsStr}
 use Rattle.uart_16550.specs.Tty.{Starts}
@@ -157,7 +157,7 @@ pub data ChangingCall : Type 0 where
   set_trigger_level : (level : FifoTriggerLevel) → ChangingCall
   quiesce : (outputs : ℕ) (fifos : FifoAction) → ChangingCall
   restore : (dump : ConfigRegisterDump) → ChangingCall
-  test_loopback find_fifo_size attach : ChangingCall
+  test_loopback find_fifo_size enable_64_byte_fifos attach : ChangingCall
 
 -- the outcomes that a call which changes fields may have
 abbrev pub ChangingOutcome : ChangingCall → Type 0
@@ -179,6 +179,7 @@ ChangingOutcome (restore dump) = Unit {0}
 ChangingOutcome attach = Result (ℕ × ℕ) AttachError
 ChangingOutcome test_loopback = Result (Unit {0}) LoopbackError
 ChangingOutcome find_fifo_size = Result FifoSize FifoSizeError
+ChangingOutcome enable_64_byte_fifos = Result Bool FifoSizeError
 
 -- what it did for this outcome
 abbrev pub ChangingDoing : (call : ChangingCall) → ChangingOutcome call → Doing
@@ -200,3 +201,4 @@ ChangingDoing (restore dump) result = Restores dump
 ChangingDoing attach result = Attaches result
 ChangingDoing test_loopback result = TestsLoopback result
 ChangingDoing find_fifo_size result = FindsFifoSize result
+ChangingDoing enable_64_byte_fifos result = Enables64 result

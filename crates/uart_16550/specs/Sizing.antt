@@ -1,20 +1,28 @@
--- How the size of the FIFOs is found: in loopback, access by access.
-use Rattle.std.specs.Prelude.{◌≡◌, ◌<◌, ◌+◌, ◌⊎◌, ℕ, Bool, true, false, [], ◌∷◌, Result, Ok, Err, Option, None, Some}
+-- How the size of the FIFOs is found, and how FIFOs of 64 are turned on, access by access.
+use Rattle.std.specs.Prelude.{◌≡◌, ◌<◌, ◌+◌, ◌⊎◌, ℕ, Bool, true, false, List, [], ◌∷◌, Result, Ok, Err, Option, None}
+use Rattle.std.specs.Prelude.{Some, unwrap_or}
+use Rattle.std.specs.Int.RustNames.{bit_or}
+use Rattle.bitflags.specs.Sets.{without}
 use Rattle.uart_spec.specs.FifoSize.{characters, IsLargestUpTo}
 use Rattle.uart_spec.specs.declared.setup.FifoSize.{FifoSize}
 use Rattle.uart_spec.specs.declared.setup.FifoSize.TheVariants.{TwoHundredFiftySix}
 use Rattle.uart_spec.specs.declared.errors.FifoSizeError.{FifoSizeError}
 use Rattle.uart_spec.specs.declared.errors.FifoSizeError.TheVariants.{FifosOff, TooFew, Stalled}
+use Rattle.uart_spec.specs.declared.registers.fifo_control.TheConstants.FCR
 use Rattle.uart_spec.specs.declared.registers.fifo_trigger_level.FifoTriggerLevel.{FifoTriggerLevel}
+use Rattle.uart_spec.specs.declared.registers.fifo_trigger_level.FifoTriggerLevel.TheVariants.{One}
+use Rattle.uart_spec.specs.declared.registers.interrupt_status.TheConstants.ISR
+use Rattle.uart_spec.specs.declared.registers.line_control.TheConstants.LCR
 use Rattle.uart_spec.specs.declared.registers.offsets.TheConstants as offsets
 use Rattle.uart_spec.specs.declared.registers.line_status.TheConstants.LSR
-use Rattle.uart_spec.specs.declared.access.Access.TheVariants.{Write}
-use Rattle.uart_16550.specs.Grammar.{Language, Only, Then, Times}
+use Rattle.uart_spec.specs.declared.access.Access.{Access}
+use Rattle.uart_spec.specs.declared.access.Access.TheVariants.{Read, Write}
+use Rattle.uart_16550.specs.Grammar.{Language, Only, Then, Times, Asks}
 use Rattle.uart_16550.specs.Receive.{Miss}
 use Rattle.uart_16550.specs.Transmit.{WaitsFor}
 use Rattle.uart_16550.specs.Init.{SetsFifo}
 use Rattle.uart_16550.specs.Driver.{Doing, Saving, Sets, Next, with_fifo}
-use Rattle.uart_16550.specs.Setup.{level_of}
+use Rattle.uart_16550.specs.Setup.{level_of, level_bits}
 use Rattle.uart_16550.specs.Loopback.{test_byte, TakesOne, DrainsLoopback, EntersAt, Inside, FromEmpty}
 
 -- how many bytes are sent: one more than the largest FIFO holds, since the shift register takes the first of them
@@ -70,3 +78,39 @@ abbrev pub FindsFifoSize : Result FifoSize FifoSizeError → Doing
 FindsFifoSize result f l after =
     ((result ≡ Err FifosOff) × (f.fifo ≡ false) × (l ≡ []) × (after ≡ f))
     ⊎ ((f.fifo ≡ true) × FromEmpty (result ≡ Err Stalled) (SizesInLoopback result) f l after)
+
+-- ---- the FIFOs of 64 of a 16750
+
+-- LCR and IER are read, and then there is a wait for an empty transmitter
+abbrev pub BeginsEnabling : (lcr ier : ℕ) → Bool → Language
+BeginsEnabling lcr ier empty =
+    Then (Only (Read offsets.LCR lcr ∷ Read offsets.IER ier ∷ [])) (WaitsFor LSR.TRANSMITTER_EMPTY.0 empty)
+
+-- LCR while FIFOs of 64 are asked for: with DLAB, and with one stop bit
+abbrev pub opened : ℕ → ℕ
+opened lcr = bit_or (without 8 lcr LCR.MORE_STOP_BITS.0) LCR.DLAB.0
+
+-- interrupts off; FIFOs of 64 asked for by FCR under DLAB; LCR as before; and FCR once more, without the bit that asks
+abbrev pub enabling_writes : (lcr : ℕ) → FifoTriggerLevel → List Access
+enabling_writes lcr level =
+    Write offsets.IER 0 ∷ Write offsets.LCR (opened lcr) ∷
+    Write offsets.FCR (bit_or (level_bits level) FCR._RESERVED0.0) ∷
+    Write offsets.LCR lcr ∷ Write offsets.FCR (level_bits level) ∷ []
+
+-- these writes, a read of ISR that shows whether the FIFOs hold 64 then, and IER as before
+abbrev pub Enabling : (lcr ier : ℕ) → FifoTriggerLevel → Bool → Language
+Enabling lcr ier level on =
+    Then (Only (enabling_writes lcr level))
+    (Then (Asks offsets.ISR ISR.DMA_TX_END.0 on) (Only (Write offsets.IER ier ∷ [])))
+
+-- `enable_64_byte_fifos`: nothing is done if the FIFOs are off. Else LCR and IER are read, and there is a wait for an
+-- empty transmitter. If it reaches the limit, nothing is written, and the result is a stall; else FIFOs of 64 are asked
+-- for, and the result is whether ISR shows them
+abbrev pub Enables64 : Result Bool FifoSizeError → Doing
+Enables64 (Ok on) f l after = (f.fifo ≡ true) × (lcr : ℕ) × (ier : ℕ) ×
+    Saving (Then (BeginsEnabling lcr ier true) (Enabling lcr ier (unwrap_or f.config.fifo_trigger_level One) on))
+    f l after
+Enables64 (Err FifosOff) f l after = (f.fifo ≡ false) × (l ≡ []) × (after ≡ f)
+Enables64 (Err (TooFew returned)) f l after = ⊥
+Enables64 (Err Stalled) f l after =
+    (f.fifo ≡ true) × (lcr : ℕ) × (ier : ℕ) × Saving (BeginsEnabling lcr ier false) f l after

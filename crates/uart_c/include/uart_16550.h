@@ -69,6 +69,7 @@ enum uart_status {
 #define UART_ISR_IIC_2 0x08
 #define UART_ISR_DMA_RX_END 0x10
 #define UART_ISR_DMA_TX_END 0x20
+#define UART_ISR_FIFO_64_ENABLED 0x20  /* the FIFOs hold 64 characters: 16750; the chip of this library does not show it */
 #define UART_ISR_FIFOS_ENABLED0 0x40
 #define UART_ISR_FIFOS_ENABLED1 0x80
 #define UART_ISR_FIFOS_ENABLED 0xc0    /* both are set while the FIFOs are on */
@@ -79,6 +80,7 @@ enum uart_status {
 #define UART_FCR_TX_FIFO_RESET 0x04
 #define UART_FCR_DMA_MODE 0x08
 #define UART_FCR_ENABLE_DMA_END 0x10
+#define UART_FCR_FIFO_64_ENABLE 0x20        /* FIFOs of 64 characters: 16750, while DLAB is set; the chip of this library has no such bit */
 #define UART_FCR_RX_FIFO_TRIGGER_LEVEL0 0x40
 #define UART_FCR_RX_FIFO_TRIGGER_LEVEL1 0x80
 #define UART_FCR_RX_FIFO_TRIGGER_LEVEL 0xc0 /* 1, 4, 8 or 14 characters */

@@ -81,6 +81,8 @@ pub fn every_byte_is_a_value()
 /// The bits of each mask. This is a law that callers can cite. The function does nothing.
 pub fn masks_are_these()
     ensures fifos_enabled { ISR.FIFOS_ENABLED.0 ≡ ISR.FIFOS_ENABLED0.0 + ISR.FIFOS_ENABLED1.0 }
+    ensures fifo_64_enabled { ISR.FIFO_64_ENABLED.0 ≡ ISR.DMA_TX_END.0 }
+    ensures fifo_64_enable { FCR.FIFO_64_ENABLE.0 ≡ FCR._RESERVED0.0 }
     ensures trigger_level { FCR.RX_FIFO_TRIGGER_LEVEL.0 ≡
         FCR.RX_FIFO_TRIGGER_LEVEL0.0 + FCR.RX_FIFO_TRIGGER_LEVEL1.0 }
     ensures word_length { LCR.WORD_LENGTH.0 ≡ LCR.WORD_LENGTH0.0 + LCR.WORD_LENGTH1.0 }

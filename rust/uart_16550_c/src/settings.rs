@@ -356,6 +356,16 @@ pub unsafe extern "C" fn u16550_find_fifo_size(uart: *mut Memory, fifo_size: *mu
 }
 
 #[unsafe(no_mangle)]
+pub unsafe extern "C" fn u16550_enable_64_byte_fifos(uart: *mut Memory, enabled: *mut u8) -> c_int {
+    // SAFETY: the caller promises that pointers are null or valid.
+    unsafe {
+        report(uart, enabled, |driver| {
+            Ok(driver.enable_64_byte_fifos()?.into())
+        })
+    }
+}
+
+#[unsafe(no_mangle)]
 pub unsafe extern "C" fn u16550_check_configured(
     uart: *mut Memory,
     outputs: u8,

@@ -1013,6 +1013,43 @@ static void found_sizes(void)
     MISUSE(u16550_find_fifo_size(&uart, NULL), U16550_NULL_POINTER);
 }
 
+/* The FIFOs of a 16750 are made those of 64: nothing is sent, and LCR, IER and the size of the driver are as before. */
+static void enabled_64(void)
+{
+    uint16_t size;
+    uint8_t enabled = 77;
+    int is_16750;
+    for (is_16750 = 0; is_16750 < 2; is_16750++) {
+        ready();
+        OK(u16550_enable_interrupts(&uart, U16550_IER_DATA_READY));
+        d.holds = 16;
+        d.is_16750 = (uint8_t)is_16750;
+        device_arrive(&d, "x");
+        OK(u16550_enable_64_byte_fifos(&uart, &enabled));
+        IS(enabled, is_16750);
+        IS(d.holds, is_16750 ? 64 : 16);
+        IS(d.arrived_len, !is_16750);
+        IS(d.sent_len, 0);
+        IS(d.registers[LCR], 0x03);
+        IS(d.registers[IER], U16550_IER_DATA_READY);
+        OK(u16550_fifo_size(&uart, &size));
+        IS(size, 16);
+        OK(u16550_set_trigger_level(&uart, 8));
+        OK(u16550_find_fifo_size(&uart, &size));
+        IS(size, is_16750 ? 64 : 16);
+    }
+    enabled = 77;
+    d.is_stuck = 1;
+    IS(u16550_enable_64_byte_fifos(&uart, &enabled), U16550_FIFOS_STALLED);
+    IS(enabled, 77);
+    d.is_stuck = 0;
+    config.fifo_trigger_level = 0;
+    OK(u16550_init(&uart, &config));
+    accesses = d.accesses;
+    MISUSE(u16550_enable_64_byte_fifos(&uart, &enabled), U16550_FIFOS_OFF);
+    MISUSE(u16550_enable_64_byte_fifos(&uart, NULL), U16550_NULL_POINTER);
+}
+
 static void exact(void)
 {
     uint8_t slots[8];
@@ -2239,6 +2276,7 @@ static void nulls(void)
     MISUSE(u16550_send_bytes(&uart, NULL, 1, &count), null);
     MISUSE(u16550_send_bytes(&uart, &byte, 1, NULL), null);
     MISUSE(u16550_find_fifo_size(&uart, NULL), null);
+    MISUSE(u16550_enable_64_byte_fifos(&uart, NULL), null);
     MISUSE(u16550_send_burst(&uart, NULL, 1, 16, &count), null);
     MISUSE(u16550_send_burst(&uart, &byte, 1, 16, NULL), null);
     MISUSE(u16550_receive_bytes_exact(&uart, NULL, 1, &count), null);
@@ -2537,6 +2575,7 @@ int main(void)
     set_sizes();
     gathered();
     found_sizes();
+    enabled_64();
     with_errors();
     exact();
     waits_in_time();

@@ -9,7 +9,7 @@
 
 enum {
     DATA = 0, IER = 1, ISR = 2, FCR = 2, LCR = 3, MCR = 4, LSR = 5, MSR = 6, SPR = 7,
-    DLAB = 0x80, LOOP_BACK = 0x10, FIFOS_ENABLED = 0xc0, FIFO_ENABLE = 0x01,
+    DLAB = 0x80, LOOP_BACK = 0x10, FIFOS_ENABLED = 0xc0, FIFO_ENABLE = 0x01, FIFO_64 = 0x20,
     NO_INTERRUPT = 0x01, LINE_STATUS = 0x06, RECEIVED_DATA = 0x04, THR_IS_EMPTY = 0x02, MODEM = 0x00,
     CHANGES = 0x0f, ROOM = 256, SHOWS_WHAT_IS = 0x80
 };
@@ -31,6 +31,7 @@ struct device {
     uint8_t shows;               /* what ISR shows: SHOWS_WHAT_IS, or always this, whatever is pending */
     unsigned room;               /* how many more bytes it sends; it is then full */
     unsigned holds;              /* how many characters its receiver holds; 0 for ROOM. What comes then is lost */
+    uint8_t is_16750;            /* FCR switches its FIFOs between 16 and 64 characters while DLAB is set */
     uint8_t flips;               /* that a byte in loopback comes back with */
     unsigned flips_after;        /* so many bytes */
     /* what happens in the middle of a call: behind each access */
@@ -65,7 +66,7 @@ static inline uint8_t device_isr(struct device *d)
     uint8_t interrupt = device_interrupt(d);
     if (interrupt == THR_IS_EMPTY)
         d->thr_pending = 0;
-    return (d->fifo_on ? FIFOS_ENABLED : 0) | interrupt;
+    return (d->fifo_on ? FIFOS_ENABLED | (d->is_16750 && d->holds == 64 ? FIFO_64 : 0) : 0) | interrupt;
 }
 
 static inline uint8_t device_lsr(struct device *d)
@@ -146,6 +147,10 @@ static inline void device_set(struct device *d, unsigned offset, uint8_t value)
         return;
     case FCR:
         d->fifo_on = value & FIFO_ENABLE;
+        if (d->is_16750 && (d->registers[LCR] & DLAB) && d->fifo_on) {
+            d->holds = value & FIFO_64 ? 64 : 16;
+            d->arrived_len = 0;
+        }
         return;
     case LSR:
     case MSR:

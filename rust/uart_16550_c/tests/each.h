@@ -18,6 +18,7 @@
     PLAIN(u16550_init, DRIVER, CONFIG)                                                                         \
     PLAIN(u16550_init_with, DRIVER, CONFIG, SETUP)                                                             \
     PLAIN(u16550_find_fifo_size, DRIVER, SHORT_AT)                                                             \
+    PLAIN(u16550_enable_64_byte_fifos, DRIVER, BYTE_AT)                                                        \
     PLAIN(u16550_check_connected, DRIVER)                                                                      \
     PLAIN(u16550_set_frame, DRIVER, CONFIG)                                                                    \
     PLAIN(u16550_set_frame_when_idle, DRIVER, CONFIG)                                                          \

@@ -40,7 +40,7 @@ static uint8_t lines(uint8_t high)
 static uint8_t likely(unsigned offset)
 {
     static const uint8_t lsr[8] = { 0x60, 0x61, 0x00, 0x01, 0x20, 0x63, 0x9f, 0x40 };
-    static const uint8_t isr[9] = { 0x01, 0xc1, 0xc2, 0xc4, 0xc6, 0xcc, 0xc0, 0xce, 0xc7 };
+    static const uint8_t isr[10] = { 0x01, 0xc1, 0xc2, 0xc4, 0xc6, 0xcc, 0xc0, 0xce, 0xc7, 0xe1 };
     if (below(4) == 0)
         return any_byte();
     switch (offset) {
@@ -51,7 +51,7 @@ static uint8_t likely(unsigned offset)
     case MCR:
         return below(2) ? 0x0b : 0x1b;
     case ISR:
-        return isr[below(9)];
+        return isr[below(10)];
     case LCR:
         return below(4) ? 0x03 : 0x83;
     default:
@@ -461,8 +461,12 @@ static void call_settings(struct u16550 *u, uint32_t which)
             note(low * 256u + high);
         break;
     case 10:
-        if (told(u16550_find_fifo_size(u, OUT(&fifo_size))) == U16550_OK)
-            note(fifo_size);
+        if (below(2)) {
+            if (told(u16550_find_fifo_size(u, OUT(&fifo_size))) == U16550_OK)
+                note(fifo_size);
+        } else if (told(u16550_enable_64_byte_fifos(u, OUT(&flag))) == U16550_OK) {
+            note(flag);
+        }
         break;
     case 11:
         for (size_t i = 0; i < 16; i++)

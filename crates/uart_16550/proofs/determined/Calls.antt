@@ -27,7 +27,7 @@ use Rattle.uart_16550.proofs.determined.Status.{enables_determined, disables_det
 use Rattle.uart_16550.proofs.determined.Status.{retriggers_determined}
 use Rattle.uart_16550.proofs.determined.Init.{presence_determined, inits_determined}
 use Rattle.uart_16550.proofs.determined.Loopback.{tests_loopback_determined}
-use Rattle.uart_16550.proofs.determined.Sizing.{finds_fifo_size_determined}
+use Rattle.uart_16550.proofs.determined.Sizing.{finds_fifo_size_determined, enables_64_determined}
 use Rattle.uart_16550.proofs.determined.Setup.{sets_trigger_determined, sets_frame_when_idle_determined, inits_with_determined}
 use Rattle.uart_16550.proofs.determined.Setup.{quiesces_determined, restores_determined}
 use Rattle.uart_16550.proofs.determined.Tty.{starts_determined}
@@ -92,3 +92,4 @@ changing_leaves_no_choice (ChangingCall.restore dump) = no_choice (restores_dete
 changing_leaves_no_choice ChangingCall.attach = no_choice attaches_determined
 changing_leaves_no_choice ChangingCall.test_loopback = no_choice tests_loopback_determined
 changing_leaves_no_choice ChangingCall.find_fifo_size = no_choice finds_fifo_size_determined
+changing_leaves_no_choice ChangingCall.enable_64_byte_fifos = no_choice enables_64_determined

@@ -1,17 +1,19 @@
--- How the size of the FIFOs is found is determined.
+-- How the size of the FIFOs is found, and how FIFOs of 64 are turned on, is determined.
 use Rattle.std.proofs.Common.{◌≡◌, ◌⊎◌, ℕ, zero, suc, Bool, true, false, List, [], ◌∷◌, refl, sym, ◌∙◌, ap, subst, arith, inl, inr}
-use Rattle.std.proofs.Common.{◌==◌, Result, Ok, Err, Option, Some, None, if◌then◌else◌}
+use Rattle.std.proofs.Common.{◌==◌, Result, Ok, Err, Option, Some, None, if◌then◌else◌, unwrap_or}
 use Rattle.uart_spec.specs.FifoSize.{characters, IsLargestUpTo}
 use Rattle.uart_spec.specs.declared.setup.FifoSize.{FifoSize}
 use Rattle.uart_spec.specs.declared.setup.FifoSize.TheVariants.{Sixteen, ThirtyTwo, SixtyFour, OneHundredTwentyEight, TwoHundredFiftySix}
 use Rattle.uart_spec.specs.declared.errors.FifoSizeError.{FifoSizeError}
 use Rattle.uart_spec.specs.declared.errors.FifoSizeError.TheVariants.{FifosOff, TooFew, Stalled}
 use Rattle.uart_spec.specs.declared.registers.fifo_trigger_level.FifoTriggerLevel.{FifoTriggerLevel}
+use Rattle.uart_spec.specs.declared.registers.fifo_trigger_level.FifoTriggerLevel.TheVariants.{One}
+use Rattle.uart_spec.specs.declared.registers.interrupt_status.TheConstants.ISR
 use Rattle.uart_spec.specs.declared.registers.line_status.TheConstants.LSR
 use Rattle.uart_spec.specs.declared.registers.offsets.TheConstants as offsets
 use Rattle.uart_spec.specs.declared.access.Access.{Access}
-use Rattle.uart_spec.specs.declared.access.Access.TheVariants.{Write}
-use Rattle.uart_16550.specs.Grammar.{Language, Settings, Only, Then, Times}
+use Rattle.uart_spec.specs.declared.access.Access.TheVariants.{Read, Write}
+use Rattle.uart_16550.specs.Grammar.{Language, Settings, Only, Then, Times, Asks}
 use Rattle.uart_16550.specs.Receive.{Miss}
 use Rattle.uart_16550.specs.Transmit.{WaitsFor}
 use Rattle.uart_16550.specs.Init.{SetsFifo}
@@ -19,14 +21,16 @@ use Rattle.uart_16550.specs.Driver.{Fields, Saving, Next, settings_of}
 use Rattle.uart_16550.specs.Setup.{level_of}
 use Rattle.uart_16550.specs.Loopback.{test_byte, TakesOne, DrainsLoopback, EntersAt, Inside}
 use Rattle.uart_16550.specs.Sizing.{flood, Floods, TakesBack, Tells, Measures, SwitchesFifo, Sizes, SizesInLoopback, FindsFifoSize}
+use Rattle.uart_16550.specs.Sizing.{BeginsEnabling, enabling_writes, Enabling, Enables64}
 use Rattle.uart_16550.proofs.Languages.{then_later, at_least_sixteen}
 use Rattle.uart_16550.proofs.determined.Parting.{SameOrPart, Determined, so, determined_so, determined_sym, determined_among}
 use Rattle.uart_16550.proofs.determined.Parting.{determined_then, determined_front, determined_none, determined_only, not_both}
+use Rattle.uart_16550.proofs.determined.Parting.{so_is, so_read, so_reads, asks_determined}
 use Rattle.uart_16550.proofs.determined.Repeated.{Misses, times_same, times_all}
 use Rattle.uart_16550.proofs.determined.Receive.{miss_same}
 use Rattle.uart_16550.proofs.determined.Transmit.{waits_determined}
 use Rattle.uart_16550.proofs.determined.Init.{fifo_determined}
-use Rattle.uart_16550.proofs.determined.Doings.{Does, does_so, does_next, does_saving}
+use Rattle.uart_16550.proofs.determined.Doings.{Does, does_so, does_sym, does_next, does_saving}
 use Rattle.uart_16550.proofs.determined.Loopback.{takes, drains_false, undrained, after_drain, set_fifos, enters_at_determined}
 use Rattle.uart_16550.proofs.determined.Loopback.{inside_determined, from_empty_determined}
 
@@ -187,3 +191,72 @@ finds_fifo_size_determined f r t = record { at = at }
     at l m a b (inr p) (inr q) =
         (from_empty_determined (SizesInLoopback r) (SizesInLoopback t) f (λ x y. x ∙ sym y)
         (λ g mcr ier. in_loopback_determined r t g mcr ier)).at l m a b p.1 q.1
+
+-- ---- the FIFOs of 64
+
+abbrev Enabled : Type 0
+Enabled = Result Bool FifoSizeError
+
+opening : (s : Settings) (lcr ier lcr' ier' : ℕ) →
+    Determined ((lcr ≡ lcr') × (ier ≡ ier')) (Only (Read offsets.LCR lcr ∷ Read offsets.IER ier ∷ []) s)
+    (Only (Read offsets.LCR lcr' ∷ Read offsets.IER ier' ∷ []) s)
+opening s lcr ier lcr' ier' = record { at = λ l m p q. so_is p.is q.is (so_read (λ same. so_reads)) }
+
+begins_enabling_determined : (s : Settings) (lcr ier lcr' ier' : ℕ) (x y : Bool) →
+    Determined ((lcr ≡ lcr') × (ier ≡ ier') × (x ≡ y)) (BeginsEnabling lcr ier x s) (BeginsEnabling lcr' ier' y s)
+begins_enabling_determined s lcr ier lcr' ier' x y =
+    determined_then (opening s lcr ier lcr' ier')
+    (λ same. determined_so (λ t. (same.0, same.1, t)) (waits_determined s LSR.TRANSMITTER_EMPTY.0 x y))
+
+enabling_determined : (s : Settings) (lcr ier lcr' ier' : ℕ) (level : FifoTriggerLevel) (x y : Bool) → lcr ≡ lcr' → ier ≡ ier' →
+    Determined (x ≡ y) (Enabling lcr ier level x s) (Enabling lcr' ier' level y s)
+enabling_determined s lcr ier lcr' ier' level x y p q =
+    determined_then (determined_only (ap (λ (n : ℕ). enabling_writes n level) p))
+    (λ t. determined_then {P = Asks offsets.ISR ISR.DMA_TX_END.0 x} {P' = Asks offsets.ISR ISR.DMA_TX_END.0 y}
+    (asks_determined offsets.ISR ISR.DMA_TX_END.0 x y)
+    (λ same. determined_so (λ u. same) (determined_only (ap (λ (n : ℕ). Write offsets.IER n ∷ []) q))))
+
+-- after the wait, and with it
+abbrev Enables : (lcr ier : ℕ) → FifoTriggerLevel → Bool → Language
+Enables lcr ier level on = Then (BeginsEnabling lcr ier true) (Enabling lcr ier level on)
+
+enables_determined : (s : Settings) (lcr ier lcr' ier' : ℕ) (level : FifoTriggerLevel) (x y : Bool) →
+    Determined (x ≡ y) (Enables lcr ier level x s) (Enables lcr' ier' level y s)
+enables_determined s lcr ier lcr' ier' level x y =
+    determined_then (begins_enabling_determined s lcr ier lcr' ier' true true)
+    (λ same. enabling_determined s lcr ier lcr' ier' level x y same.0 same.1)
+
+enables_apart : (s : Settings) (lcr ier lcr' ier' : ℕ) (level : FifoTriggerLevel) (on : Bool) →
+    Determined ⊥ (Enables lcr ier level on s) (BeginsEnabling lcr' ier' false s)
+enables_apart s lcr ier lcr' ier' level on =
+    determined_front
+    (determined_so (λ t. not_both t.2) (begins_enabling_determined s lcr ier lcr' ier' true false))
+
+pub enables_64_determined : (f : Fields) (r t : Enabled) → Does (r ≡ t) f (Enables64 r) (Enables64 t)
+enables_64_determined f r t = record { at = at r t }
+  where
+    level : FifoTriggerLevel
+    level = unwrap_or f.config.fifo_trigger_level One
+
+    at : (r t : Enabled) (l m : List Access) (a b : Fields) → Enables64 r f l a → Enables64 t f m b →
+        SameOrPart ((r ≡ t) × (a ≡ b)) l m
+    at (Err (TooFew n)) y l m a b p q = absurd p
+    at x (Err (TooFew n)) l m a b p q = absurd q
+    at (Ok x) (Ok y) l m a b p q =
+        (does_so (λ same. ap (λ (z : Bool). let r : Enabled = Ok z in r) same)
+        (does_saving f (Enables p.1 p.2 level x) (Enables q.1 q.2 level y)
+        (enables_determined (settings_of f) p.1 p.2 q.1 q.2 level x y))).at l m a b p.3 q.3
+    at (Ok x) (Err FifosOff) l m a b p q = absurd (not_both (sym p.0 ∙ q.0))
+    at (Ok x) (Err Stalled) l m a b p q =
+        (does_so absurd (does_saving f (Enables p.1 p.2 level x) (BeginsEnabling q.1 q.2 false)
+        (enables_apart (settings_of f) p.1 p.2 q.1 q.2 level x))).at l m a b p.3 q.3
+    at (Err FifosOff) (Ok y) l m a b p q = absurd (not_both (sym q.0 ∙ p.0))
+    at (Err FifosOff) (Err FifosOff) l m a b p q = inl ((refl, p.2 ∙ sym q.2), p.1 ∙ sym q.1)
+    at (Err FifosOff) (Err Stalled) l m a b p q = absurd (not_both (sym q.0 ∙ p.0))
+    at (Err Stalled) (Ok y) l m a b p q =
+        (does_sym (does_saving f (Enables q.1 q.2 level y) (BeginsEnabling p.1 p.2 false)
+        (enables_apart (settings_of f) q.1 q.2 p.1 p.2 level y))).at l m a b p.3 q.3
+    at (Err Stalled) (Err FifosOff) l m a b p q = absurd (not_both (sym p.0 ∙ q.0))
+    at (Err Stalled) (Err Stalled) l m a b p q =
+        (does_so (λ t. refl) (does_saving f (BeginsEnabling p.1 p.2 false) (BeginsEnabling q.1 q.2 false)
+        (begins_enabling_determined (settings_of f) p.1 p.2 q.1 q.2 false false))).at l m a b p.3 q.3

@@ -1,6 +1,7 @@
 //! Initialisation otherwise than by `init`, and changes of the trigger level and of the frame that
 //! lose nothing.
-ghost use Rattle.std.specs.Prelude.{◌≡◌, Ok};
+ghost use Rattle.std.specs.Prelude.{◌≡◌, Ok, unwrap_or};
+ghost use Rattle.uart_spec.specs.declared.registers.fifo_trigger_level.FifoTriggerLevel.TheVariants.{One};
 ghost use Rattle.uart_spec.specs.Config.{IsComputable};
 ghost use Rattle.uart_16550.specs.Init.{DivisorOf};
 ghost use Rattle.uart_16550.specs.Setup.{ChecksIf, WaitsIf, is_first, is_last, level_bits};
@@ -20,7 +21,7 @@ use uart_spec::{
 };
 
 // Returns FCR for FIFOs that are on and stay on. Without the reset bits the bytes in them stay.
-fn level_control_of(level: FifoTriggerLevel) -> FCR
+pub(super) fn level_control_of(level: FifoTriggerLevel) -> FCR
     ensures { result.0 ≡ level_bits level }
 {
     FCR::FIFO_ENABLE.set_fifo_trigger_level(level)
@@ -191,18 +192,19 @@ impl<B: Backend> Uart16550<B> {
 
     // Returns the trigger level for FIFOs that are on: the configured one, or one byte if none is
     // configured, as on a port that was taken by `attach`.
+    pub(super) fn fifo_level(&self) -> FifoTriggerLevel
+        ensures { result ≡ unwrap_or self.now.config.fifo_trigger_level One }
+    {
+        self.config
+            .fifo_trigger_level
+            .unwrap_or(FifoTriggerLevel::One)
+    }
+
+    // Returns the trigger level for FIFOs that are on, and none for FIFOs that are off.
     pub(super) fn level_of(&self, on: bool) -> Option<FifoTriggerLevel>
         ensures { result ≡ level_of on self.now.config.fifo_trigger_level }
     {
-        if on {
-            Some(
-                self.config
-                    .fifo_trigger_level
-                    .unwrap_or(FifoTriggerLevel::One),
-            )
-        } else {
-            None
-        }
+        if on { Some(self.fifo_level()) } else { None }
     }
 
     // Writes FCR as is asked for, and returns whether the FIFOs are on then.

@@ -13,6 +13,7 @@ mod configured;
 mod counts;
 mod devices;
 mod driving;
+mod enabling;
 mod init;
 mod lists;
 mod looks;

@@ -12,3 +12,4 @@ mod rings;
 mod schedules;
 mod sized;
 mod sized_rings;
+mod switched;
