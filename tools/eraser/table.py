@@ -367,11 +367,13 @@ HIDDEN = "Uart Transmitter Receiver Characters Modem Fifo FixedFifo Wire FixedWi
 OFFSET = ["requires { offset < NUM_REGISTERS }"]
 STILL = "requires still { IsStill chip.old }"
 TICKS = "requires char_ticks { char_ticks ≤ MAX_CHAR_TICKS }"
+RESIZABLE = ["requires resizable { Q.is_resizable ≡ true }", "requires most { characters size ≤ characters SixtyFour }"]
 CLAUSES = {
     "characters::Characters::new": ["requires { Q.items queue ≡ [] }"],
     "characters::Characters::filled": ["requires { Q.items queue ≡ [] }"],
     "chip::Uart::new": ["requires { char_ticks ≤ MAX_CHAR_TICKS }"],
     "chip::Uart::new_sized": ["requires { char_ticks ≤ MAX_CHAR_TICKS }"],
+    "chip::Uart::new_16750": ["requires { char_ticks ≤ MAX_CHAR_TICKS }"],
     "chip::Uart::from_data": [
         "requires char_ticks { saved.now.transmitter.char_ticks ≤ MAX_CHAR_TICKS }",
         "requires room { length wire.now ≤ saved.now.transmitter.wire_capacity }",
@@ -395,6 +397,7 @@ CLAUSES = {
         "requires transmitter { self.now.transmitter.size ≡ Sixteen }",
         "requires receiver { self.now.receiver.size ≡ Sixteen }",
         "requires flow { self.now.auto_flow ≡ false }",
+        "requires switch { self.now.has_size_switch ≡ false }",
     ],
     "chip::Uart::arrive": ["requires { self.old.receiver.arrived < length self.old.receiver.marks }"],
     "chip::Uart::perform": [
@@ -410,6 +413,7 @@ CLAUSES = {
     ],
     "receiver::Receiver::data": ["requires { self.now.size ≡ Sixteen }"],
     "receiver::Receiver::arrive": ["requires { self.old.arrived < length self.old.marks }"],
+    "receiver::Receiver::resize": RESIZABLE,
     "transmitter::Transmitter::new": ["requires queue { Q.items queue ≡ [] }", "requires wire { W.sent wire ≡ [] }"],
     "transmitter::Transmitter::from_data": [
         "requires queue { Q.items queue ≡ [] }",
@@ -417,6 +421,7 @@ CLAUSES = {
         "requires wire { W.most wire ≡ saved.now.wire_capacity }",
     ],
     "transmitter::Transmitter::data": ["requires { self.now.size ≡ Sixteen }"],
+    "transmitter::Transmitter::resize": RESIZABLE,
     "receiving::enter": ["requires { (is_unscheduled new.origin || R.is_scheduled) ≡ true }"],
     "wire::send": [
         "requires empty { W.sent wire.old ≡ [] }",
@@ -430,7 +435,17 @@ GUARDS |= {
     "uart_chip::fifo::Fifo::push": Guard(
         ["requires { length (items self.old) < characters (size_of self.old) }"], reason=NO_BODY
     ),
+    "uart_chip::fifo::Fifo::resize": Guard(
+        ["requires resizable { is_resizable ≡ true }", "requires most { characters size ≤ characters SixtyFour }"], reason=NO_BODY
+    ),
     "uart_chip::wire::Wire::push": Guard(["requires { length (sent self.old) < most self.old }"], reason=NO_BODY),
+    "uart_chip::controlling::ChipParts::resize": Guard(
+        [
+            "requires switch { (state self.old).has_size_switch ≡ true }",
+            "requires most { characters size ≤ characters SixtyFour }",
+        ],
+        reason=NO_BODY,
+    ),
     "uart_chip::transmitting::TransmitterParts::put": Guard(
         ["requires { length (state self.old).queue < characters (state self.old).size }"], reason=NO_BODY
     ),
@@ -585,8 +600,10 @@ IMPLEMENTED = {
     # of types in no interface, so nothing tests what the trait requires
     **{f"uart_chip::device::Device16550::{name}": None for name in ("read", "write")},
     **{f"uart_chip::{name}::push": None for name in ("fifo::HeapFifo", "wire::HeapWire")},
-    "uart_chip::characters::Characters::push": None,
+    **{f"uart_chip::characters::Characters::{name}": None for name in ("push", "resize")},
+    **{f"uart_chip::{name}::resize": None for name in ("chip::Uart", "fifo::HeapFifo")},
     **{f"uart_live::fixed::{name}::push": None for name in ("FixedFifo", "FixedWire")},
+    "uart_live::fixed::FixedFifo::resize": None,
     **{f"uart_chip::transmitter::Transmitter::{name}": None for name in ("put", "send")},
     **{f"uart_chip::receiver::Receiver::{name}": None for name in ("put", "set_unscheduled_lost")},
 }

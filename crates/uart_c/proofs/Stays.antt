@@ -22,6 +22,7 @@ recut cuts c w =
       room = w.room;
       size = w.size;
       flow = w.flow;
+      switch = w.switch;
     }
 
 -- what is made here is made there too

@@ -14,6 +14,7 @@ use crate::transmitter::UartTransmitter;
 use bitflags::Flags;
 use uart_chip::controlling::ChipParts;
 use uart_chip::{Chip, Latches};
+use uart_spec::FifoSize;
 use uart_spec::registers::{IER, LCR, MCR};
 
 /// The registers that keep what is written.
@@ -118,6 +119,11 @@ impl ChipParts for UartChip {
         false
     }
 
+    // Nor do they have a switch of the size of their FIFOs.
+    fn has_size_switch(&self) -> bool {
+        false
+    }
+
     fn transmitter(&self) -> &UartTransmitter {
         &self.transmitter
     }
@@ -140,6 +146,10 @@ impl ChipParts for UartChip {
 
     fn turn_fifo(&mut self, on: bool) {
         self.fifo = on as u8;
+    }
+
+    fn resize(&mut self, _size: FifoSize) {
+        unreachable!()
     }
 
     fn renew_modem(&mut self, mcr: MCR) {

@@ -110,7 +110,8 @@ module _ (P : ChipState → Type 0) (offset value : ℕ) (moves : (c d : ChipSta
   control_lasts e c Uart16450 m p = p
   control_lasts e c Uart16550A m p =
       let on : Bool = has_any value FCR.FIFO_ENABLE.0 in
-      resets_last P value (λ d s p. moves d _ (resizes e s) p) (λ d p. moves d _ (clears e) p) (λ d p. moves d _ (empties e) p) (λ level d p. moves d _ (triggers e level) p)
+      resets_last P value (λ d s p. moves d _ (resizes e s) p)
+      (λ d p. moves d _ (clears e) p) (λ d p. moves d _ (empties e) p) (λ level d p. moves d _ (triggers e level) p)
       on (if is_same c.fifo on then c else switch on c) (both_if P _ _ (is_same c.fifo on) p (moves c _ (switches e m on) p))
 
   pub write_lasts : (c : ChipState) → P c → P (after_write offset value c)

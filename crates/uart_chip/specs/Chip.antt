@@ -82,6 +82,10 @@ abbrev pub with_size : FifoSize → ChipState → ChipState
 with_size size c =
     record c { transmitter = record c.transmitter { size = size }; receiver = record c.receiver { size = size } }
 
+-- the same chip, with what a 16750 has beyond a 16550A: automatic flow control, and the switch of its size
+abbrev pub as_16750 : ChipState → ChipState
+as_16750 c = record c { auto_flow = true; has_size_switch = true }
+
 -- whether offsets 0 and 1 are the divisor latch
 abbrev pub is_dlab_set : LatchesState → Bool
 is_dlab_set l = has_any l.lcr LCR.DLAB.0

@@ -26,7 +26,8 @@ ReadsKeepSizes = (offset : ℕ) (c : ChipState) → SameSizes c (after_read offs
 -- only a write of FCR that switches the size changes it
 abbrev pub OnlySwitchesResize : Type 0
 OnlySwitchesResize =
-    (offset value : ℕ) (c : ChipState) → (offset ≡ offsets.FCR → is_switching value c ≡ false) → SameSizes c (after_write offset value c)
+    (offset value : ℕ) (c : ChipState) → (offset ≡ offsets.FCR → is_switching value c ≡ false) →
+    SameSizes c (after_write offset value c)
 
 -- ---- accesses of a machine
 
@@ -50,10 +51,10 @@ may_switch lcr (Write offset value) = (offset == offsets.FCR) && has_any lcr LCR
 -- chip
 abbrev pub NeverSwitches : (lcr : ℕ) → List Access → Type 0
 NeverSwitches lcr [] = Unit {0}
-NeverSwitches lcr (access ∷ accesses) = (may_switch lcr access ≡ false) × NeverSwitches (lcr_after access lcr) accesses
+NeverSwitches lcr (access ∷ rest) = (may_switch lcr access ≡ false) × NeverSwitches (lcr_after access lcr) rest
 
 -- and each chip keeps it over such accesses
 abbrev pub SizesStayWithoutDlab : Type 0
 SizesStayWithoutDlab =
-    (accesses : List Access) (m n : MachineState) → NeverSwitches m.chip.latches.lcr accesses → Path MachineStep m accesses n →
-    SameSizes m.chip n.chip
+    (accesses : List Access) (m n : MachineState) → NeverSwitches m.chip.latches.lcr accesses →
+    Path MachineStep m accesses n → SameSizes m.chip n.chip

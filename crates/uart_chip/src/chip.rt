@@ -576,9 +576,8 @@ impl Uart<HeapFifo<u8>, HeapWire, HeapFifo<Character>, Marks, ChosenCapabilities
         cuts: bool,
     ) -> Result<Self, AllocError>
         requires { char_ticks ≤ MAX_CHAR_TICKS }
-        ensures { IfOk result (λ c. c ≡
-            record (spec.fresh Uart16550A char_ticks capacity arrivals)
-            { cuts = cuts; auto_flow = true; has_size_switch = true }) }
+        ensures { IfOk result (λ c. c ≡ spec.as_16750
+            (record (spec.fresh Uart16550A char_ticks capacity arrivals) { cuts = cuts })) }
     {
         let uart = Self::new(
             alloc,
@@ -593,7 +592,7 @@ impl Uart<HeapFifo<u8>, HeapWire, HeapFifo<Character>, Marks, ChosenCapabilities
 
     // Returns the same chip with what a 16750 has beyond a 16550A.
     pub(crate) fn into_16750(self) -> Self
-        ensures { result ≡ record self { auto_flow = true; has_size_switch = true } }
+        ensures { result ≡ spec.as_16750 self }
     {
         let capabilities = ChosenCapabilities {
             auto_flow: true,

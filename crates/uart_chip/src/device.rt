@@ -228,8 +228,9 @@ impl Device16550 {
     /// ```
     /// Ok(Device16550::new_16750(rt.alloc(), 4, 256, schedule, false)?)
     /// ```
-    // The data sheet of TI's TL16C750 protects bit 5 of FCR by DLAB. That a change of the size empties
-    // both FIFOs is assumed, as a change of bit 0 does: a program cannot count on what was in them.
+    // The data sheet of TI's TL16C750 protects bit 5 of FCR by DLAB. That a change of the size
+    // empties both FIFOs is assumed, as a change of bit 0 does: a program cannot count on what was
+    // in them.
     pub fn new_16750(
         alloc: Global,
         char_ticks: u16,

@@ -65,15 +65,15 @@ still-tick loopback false t e f =
 
 pub sender_lasts : (sender : Sender) → Lasts (SenderHolds sender)
 sender_lasts Unknown = record {
-  in_accesses = record { pending = λ t pending h. tt; cleared = λ t pending h. tt };
+  in_accesses = record { pending = λ t pending h. tt; cleared = λ t pending h. tt; resized = λ t size h. tt };
   in_tick = λ loopback held_off t h. tt;
 }
 sender_lasts ThrEmpty = record {
-  in_accesses = record { pending = λ t pending h. h; cleared = λ t pending h. refl };
+  in_accesses = record { pending = λ t pending h. h; cleared = λ t pending h. refl; resized = λ t size h. refl };
   in_tick = λ loopback held_off t h. queue-tick loopback held_off t h;
 }
 sender_lasts Idle = record {
-  in_accesses = record { pending = λ t pending h. h; cleared = λ t pending h. (refl, h.1) };
+  in_accesses = record { pending = λ t pending h. h; cleared = λ t pending h. (refl, h.1); resized = λ t size h. (refl, h.1) };
   in_tick =
       λ loopback held_off t h. (
         ap (λ (u : TransmitterState). u.queue) (still-tick loopback held_off t h.0 h.1) ∙ h.0,

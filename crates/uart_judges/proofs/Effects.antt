@@ -1,5 +1,5 @@
 -- What is known of a chip holds after a read or a write.
-use Rattle.std.proofs.Common.{◌≡◌, ℕ, suc, Bool, true, false, ◌==◌, List, [], ◌∷◌, length, Option, Some, None, refl}
+use Rattle.std.proofs.Common.{◌≡◌, ℕ, suc, Bool, true, false, ◌&&◌, ◌==◌, List, [], ◌∷◌, length, Option, Some, None, refl}
 use Rattle.std.proofs.Common.{arith, sym, ◌∙◌, if◌then◌else◌}
 use Rattle.std.proofs.lemmas.Grind.{common_steps}
 use Rattle.uart_spec.specs.Bits.{has_any}
@@ -14,7 +14,8 @@ use Rattle.uart_chip.specs.Transmitter.{TransmitterState}
 use Rattle.uart_chip.specs.Receiver.{ReceiverState, clear}
 use Rattle.uart_chip.specs.Chip as chip
 use Rattle.uart_chip.specs.Chip.{ChipState, answer, interrupt, is_dlab_set, is_thr_empty, is_transmitter_empty, line_status, trigger_level}
-use Rattle.uart_chip.specs.Chip.{switch, reset_receiver, reset_transmitter, set_trigger, is_same, set_fifo, control}
+use Rattle.uart_chip.specs.Chip.{switch, reset_receiver, reset_transmitter, set_trigger, is_same, set_fifo, control, is_64, with_size}
+use Rattle.uart_chip.specs.Chip.{empty_queues, switched_size, is_switching, switch_size}
 use Rattle.uart_chip.proofs.FifoBits.{any_shown}
 use Rattle.uart_chip.proofs.lasting.Lasting.{lasts-read, lasts-write, lasts-latch}
 use Rattle.uart_chip.proofs.statuses.Status.{status_data, status_room, status_empty}
@@ -33,11 +34,11 @@ same_read : (offset : ℕ) (c : ChipState) → Same c (chip.after_read offset c)
 same_read offset c =
     let same : Same c c = same_refl c in
     same_if c _ _ (offset == offsets.DATA)
-    (same_if c _ _ (is_dlab_set c.latches) same (record { model = refl; flow = refl; latches = refl; fifo = refl }))
+    (same_if c _ _ (is_dlab_set c.latches) same (record { model = refl; flow = refl; switch = refl; latches = refl; fifo = refl }))
     (same_if c _ _ (offset == offsets.ISR)
-    (same_if c _ _ (is_thr_empty (interrupt c)) (record { model = refl; flow = refl; latches = refl; fifo = refl }) same)
-    (same_if c _ _ (offset == offsets.LSR) (record { model = refl; flow = refl; latches = refl; fifo = refl })
-    (same_if c _ _ (offset == offsets.MSR) (record { model = refl; flow = refl; latches = refl; fifo = refl }) same)))
+    (same_if c _ _ (is_thr_empty (interrupt c)) (record { model = refl; flow = refl; switch = refl; latches = refl; fifo = refl }) same)
+    (same_if c _ _ (offset == offsets.LSR) (record { model = refl; flow = refl; switch = refl; latches = refl; fifo = refl })
+    (same_if c _ _ (offset == offsets.MSR) (record { model = refl; flow = refl; switch = refl; latches = refl; fifo = refl }) same)))
 
 -- a queue that is empty as LSR shows it
 no_queue : (queue : List ℕ) → (length queue == 0) ≡ true → queue ≡ []
@@ -108,6 +109,7 @@ module _ (offset : ℕ) (k : Known) (c : ChipState) (h : Holds k c) where
       record {
         model = p.model ∙ h.model;
         flow = p.flow ∙ h.flow;
+        switch = p.switch ∙ h.switch;
         latches = latches_moved k.latches c.latches _ p.latches h.latches;
         fifo = fifo_moved k.fifo c.fifo _ p.fifo h.fifo;
         sender = sender_read;
@@ -123,7 +125,7 @@ module _ (offset : ℕ) (k : Known) (c : ChipState) (h : Holds k c) where
           Agrees (if offset == offsets.ISR then Some (has_any (answer offset c) ISR.FIFOS_ENABLED.0) else k.fifo) c.fifo
       go true e =
           by_number (λ n. Agrees (if n == offsets.ISR then Some (has_any (answer n c) ISR.FIFOS_ENABLED.0) else k.fifo) c.fifo)
-          offset offsets.ISR e (sym (any_shown c.fifo (interrupt c)))
+          offset offsets.ISR e (sym (any_shown c.fifo (c.has_size_switch && is_64 c.receiver.size) (interrupt c)))
       go false e = rw e h.fifo
 
   -- the answer of LSR
@@ -148,6 +150,7 @@ module _ (offset : ℕ) (k : Known) (c : ChipState) (h : Holds k c) where
       record {
         model = p.model ∙ h.model;
         flow = p.flow ∙ h.flow;
+        switch = p.switch ∙ h.switch;
         latches = latches_moved _ c.latches _ p.latches (learned k.latches c h.latches offset);
         fifo =
             fifo_moved (if offset == offsets.ISR then Some (has_any (answer offset c) ISR.FIFOS_ENABLED.0) else k.fifo)
@@ -168,6 +171,7 @@ module _ (offset : ℕ) (k : Known) (c : ChipState) (h : Holds k c) where
 record Switched (on : Bool) (c d : ChipState) : Type 0 where
   model : d.model ≡ c.model
   flow : d.auto_flow ≡ c.auto_flow
+  switch : d.has_size_switch ≡ c.has_size_switch
   latches : d.latches ≡ c.latches
   fifo : d.fifo ≡ on
 
@@ -186,25 +190,31 @@ switched value c =
     let on : Bool = has_any value FCR.FIFO_ENABLE.0 in
     let d : ChipState = if is_same c.fifo on then c else switch on c in
     let p : Switched on c d = first on (is_same c.fifo on) refl in
-    let e : ChipState = reset_receiver value d in
+    let b : ChipState = switch_size value d in
+    let s : Switched on c b =
+    switched_if on c (with_size (switched_size value) (empty_queues d)) d (is_switching value d)
+    (record { model = p.model; flow = p.flow; switch = p.switch; latches = p.latches; fifo = p.fifo }) p in
+    let e : ChipState = reset_receiver value b in
     let q : Switched on c e =
-    switched_if on c (record d { receiver = clear d.receiver }) d (has_any value FCR.RX_FIFO_RESET.0)
-    (record { model = p.model; flow = p.flow; latches = p.latches; fifo = p.fifo }) p in
+    switched_if on c (record b { receiver = clear b.receiver }) b (has_any value FCR.RX_FIFO_RESET.0)
+    (record { model = s.model; flow = s.flow; switch = s.switch; latches = s.latches; fifo = s.fifo }) s in
     let f : ChipState = reset_transmitter value e in
     let r : Switched on c f =
     switched_if on c (record e { transmitter = record e.transmitter { queue = []; is_thr_pending = true } }) e
-    (has_any value FCR.TX_FIFO_RESET.0) (record { model = q.model; flow = q.flow; latches = q.latches; fifo = q.fifo }) q in
+    (has_any value FCR.TX_FIFO_RESET.0)
+    (record { model = q.model; flow = q.flow; switch = q.switch; latches = q.latches; fifo = q.fifo }) q in
     switched_if on c (set_trigger (trigger_level value) f) d on
-    (record { model = r.model; flow = r.flow; latches = r.latches; fifo = r.fifo }) p
+    (record { model = r.model; flow = r.flow; switch = r.switch; latches = r.latches; fifo = r.fifo }) p
   where
     first : (on b : Bool) → is_same c.fifo on ≡ b → Switched on c (if b then c else switch on c)
-    first on true e = record { model = refl; flow = refl; latches = refl; fifo = same_as c.fifo on e }
-    first on false e = record { model = refl; flow = refl; latches = refl; fifo = refl }
+    first on true e = record { model = refl; flow = refl; switch = refl; latches = refl; fifo = same_as c.fifo on e }
+    first on false e = record { model = refl; flow = refl; switch = refl; latches = refl; fifo = refl }
 
 -- after a write of FCR
 record Controlled (fifo : Option Bool) (c d : ChipState) : Type 0 where
   model : d.model ≡ c.model
   flow : d.auto_flow ≡ c.auto_flow
+  switch : d.has_size_switch ≡ c.has_size_switch
   latches : d.latches ≡ c.latches
   fifo_holds : Agrees fifo d.fifo
 
@@ -213,10 +223,10 @@ same_control : (model other : Chip) (value : ℕ) (fifo : Option Bool) (c : Chip
 same_control model other value fifo c e a = rw e (go model)
   where
     go : (model : Chip) → Controlled (fifo_after model value fifo) c (control model value c)
-    go Uart16450 = record { model = refl; flow = refl; latches = refl; fifo_holds = a }
+    go Uart16450 = record { model = refl; flow = refl; switch = refl; latches = refl; fifo_holds = a }
     go Uart16550A =
         let s : Switched (has_any value FCR.FIFO_ENABLE.0) c (set_fifo value c) = switched value c in
-        record { model = s.model; flow = s.flow; latches = s.latches; fifo_holds = s.fifo }
+        record { model = s.model; flow = s.flow; switch = s.switch; latches = s.latches; fifo_holds = s.fifo }
 
 -- ---- a write of any register
 
@@ -224,6 +234,7 @@ same_control model other value fifo c e a = rw e (go model)
 record Alike (c d : ChipState) : Type 0 where
   model : d.model ≡ c.model
   flow : d.auto_flow ≡ c.auto_flow
+  switch : d.has_size_switch ≡ c.has_size_switch
   fifo : d.fifo ≡ c.fifo
   receiver : d.receiver ≡ c.receiver
 
@@ -233,16 +244,16 @@ alike_if c d e false p q = q
 
 alike_write : (offset value : ℕ) (c : ChipState) → (offset == offsets.FCR) ≡ false → Alike c (chip.after_write offset value c)
 alike_write offset value c e =
-    let same : Alike c c = record { model = refl; flow = refl; fifo = refl; receiver = refl } in
+    let same : Alike c c = record { model = refl; flow = refl; switch = refl; fifo = refl; receiver = refl } in
     rw e (alike_if c _ _ (offset == offsets.DATA)
-    (alike_if c _ _ (is_dlab_set c.latches) (record { model = refl; flow = refl; fifo = refl; receiver = refl })
-    (record { model = refl; flow = refl; fifo = refl; receiver = refl }))
+    (alike_if c _ _ (is_dlab_set c.latches) (record { model = refl; flow = refl; switch = refl; fifo = refl; receiver = refl })
+    (record { model = refl; flow = refl; switch = refl; fifo = refl; receiver = refl }))
     (alike_if c _ _ (offset == offsets.IER)
-    (alike_if c _ _ (is_dlab_set c.latches) (record { model = refl; flow = refl; fifo = refl; receiver = refl })
-    (record { model = refl; flow = refl; fifo = refl; receiver = refl }))
-    (alike_if c _ _ (offset == offsets.LCR) (record { model = refl; flow = refl; fifo = refl; receiver = refl })
-    (alike_if c _ _ (offset == offsets.MCR) (record { model = refl; flow = refl; fifo = refl; receiver = refl })
-    (alike_if c _ _ (offset == offsets.SPR) (record { model = refl; flow = refl; fifo = refl; receiver = refl }) same)))))
+    (alike_if c _ _ (is_dlab_set c.latches) (record { model = refl; flow = refl; switch = refl; fifo = refl; receiver = refl })
+    (record { model = refl; flow = refl; switch = refl; fifo = refl; receiver = refl }))
+    (alike_if c _ _ (offset == offsets.LCR) (record { model = refl; flow = refl; switch = refl; fifo = refl; receiver = refl })
+    (alike_if c _ _ (offset == offsets.MCR) (record { model = refl; flow = refl; switch = refl; fifo = refl; receiver = refl })
+    (alike_if c _ _ (offset == offsets.SPR) (record { model = refl; flow = refl; switch = refl; fifo = refl; receiver = refl }) same)))))
 
 -- DATA is written, or under DLAB the divisor latch
 sender_sent : (on : Option Bool) (sender : Sender) (value : ℕ) (c : ChipState) → Agrees on (is_dlab_set c.latches) →
@@ -255,6 +266,7 @@ sender_sent (Some true) sender value c a h = lasts-latch (SenderHolds sender) (s
 record Rest (k : Known) (c : ChipState) : Type 0 where
   model : c.model ≡ k.model
   flow : c.auto_flow ≡ false
+  switch : c.has_size_switch ≡ false
   latches : LatchesHold k.latches c.latches
   fifo : Agrees k.fifo c.fifo
   waits : k.waits ≡ true → HasCharacter c.receiver
@@ -276,6 +288,7 @@ module _ (offset value : ℕ) (k : Known) (c : ChipState) (h : Holds k c) where
       record {
         model = s.model ∙ h.model;
         flow = s.flow ∙ h.flow;
+        switch = s.switch ∙ h.switch;
         latches = latches_moved k.latches c.latches _ s.latches h.latches;
         fifo = s.fifo_holds;
         waits = λ e. absurd (cc);
@@ -285,6 +298,7 @@ module _ (offset value : ℕ) (k : Known) (c : ChipState) (h : Holds k c) where
       record {
         model = a.model ∙ h.model;
         flow = a.flow ∙ h.flow;
+        switch = a.switch ∙ h.switch;
         latches = written k.latches c h.latches h.flow value offset e;
         fifo =
             fifo_moved (if offset == offsets.FCR then fifo_after k.model value k.fifo else k.fifo) c.fifo _ a.fifo (rw e h.fifo);
@@ -296,4 +310,12 @@ module _ (offset value : ℕ) (k : Known) (c : ChipState) (h : Holds k c) where
   pub holds_write : Holds (after_write offset value k) (chip.after_write offset value c)
   holds_write =
       let r : Rest (after_write offset value k) (chip.after_write offset value c) = rest_wrote (offset == offsets.FCR) refl in
-      record { model = r.model; flow = r.flow; latches = r.latches; fifo = r.fifo; sender = sender_wrote; waits = r.waits }
+      record {
+        model = r.model;
+        flow = r.flow;
+        switch = r.switch;
+        latches = r.latches;
+        fifo = r.fifo;
+        sender = sender_wrote;
+        waits = r.waits;
+      }

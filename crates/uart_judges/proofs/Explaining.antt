@@ -43,6 +43,7 @@ holds_built : (model : Chip) (m : MachineState) → IsBuilt model m → Holds (f
 holds_built model m b = rw b.built (record {
   model = refl;
   flow = refl;
+  switch = refl;
   latches = record { ier = refl; lcr = refl; mcr = refl; scr = refl; dll = refl; dlm = refl };
   fifo = off model;
   sender = (refl, refl);
@@ -65,35 +66,38 @@ only_model model =
       is_looked = false;
     }
 
-holds_model : (c : ChipState) → c.auto_flow ≡ false → Holds (only_model c.model) c
-holds_model c flow = record {
+holds_model : (c : ChipState) → c.auto_flow ≡ false → c.has_size_switch ≡ false → Holds (only_model c.model) c
+holds_model c flow switch = record {
   model = refl;
   flow = flow;
+  switch = switch;
   latches = record { ier = tt; lcr = tt; mcr = tt; scr = tt; dll = tt; dlm = tt };
   fifo = tt;
   sender = tt;
   waits = λ e. absurd (cc);
 }
 
--- the model and that it has no automatic flow control
+-- the model, and that it has no automatic flow control and no switch of its size
 record SameMake (m n : MachineState) : Type 0 where
   model : n.chip.model ≡ m.chip.model
   flow : n.chip.auto_flow ≡ false
+  switch : n.chip.has_size_switch ≡ false
 
-same_make : (m n : MachineState) (accesses : List Access) → m.chip.auto_flow ≡ false → Path MachineStep m accesses n → SameMake m n
-same_make m n [] flow p = rw p (record { model = refl; flow = flow })
-same_make m n (access ∷ accesses) flow p =
+same_make : (m n : MachineState) (accesses : List Access) → m.chip.auto_flow ≡ false → m.chip.has_size_switch ≡ false →
+    Path MachineStep m accesses n → SameMake m n
+same_make m n [] flow switch p = rw p (record { model = refl; flow = flow; switch = switch })
+same_make m n (access ∷ accesses) flow switch p =
     let first = once access p.0 p.1 in
-    let rest = same_make p.0 n accesses first.flow p.2 in
-    record { model = rest.model ∙ first.model; flow = rest.flow }
+    let rest = same_make p.0 n accesses first.flow first.switch p.2 in
+    record { model = rest.model ∙ first.model; flow = rest.flow; switch = rest.switch }
   where
     once : (access : Access) (mid : MachineState) → MachineStep m access mid → SameMake m mid
     once (Read offset value) mid s =
-        let h = holds_step (only_model m.chip.model) m mid (Did (Read offset value)) (holds_model m.chip flow) s in
-        record { model = h.model; flow = h.flow }
+        let h = holds_step (only_model m.chip.model) m mid (Did (Read offset value)) (holds_model m.chip flow switch) s in
+        record { model = h.model; flow = h.flow; switch = h.switch }
     once (Write offset value) mid s =
-        let h = holds_step (only_model m.chip.model) m mid (Did (Write offset value)) (holds_model m.chip flow) s in
-        record { model = h.model; flow = h.flow }
+        let h = holds_step (only_model m.chip.model) m mid (Did (Write offset value)) (holds_model m.chip flow switch) s in
+        record { model = h.model; flow = h.flow; switch = h.switch }
 
 machine_used : (model : Chip) (m : MachineState) → IsUsed model m → IsMachine m
 machine_used model m u = machine_path u.first m u.accesses (machine_built model u.first u.built) u.path
@@ -102,11 +106,12 @@ holds_used : (model : Chip) (m : MachineState) → IsUsed model m → Holds (fir
 holds_used model m u =
     let w : IsMachine m = machine_used model m u in
     let first = holds_built model u.first u.built in
-    let make = same_make u.first m u.accesses first.flow u.path in
+    let make = same_make u.first m u.accesses first.flow first.switch u.path in
     let same : m.chip.model ≡ model = make.model ∙ first.model in
     record {
       model = same;
       flow = make.flow;
+      switch = make.switch;
       latches = record { ier = tt; lcr = tt; mcr = tt; scr = tt; dll = tt; dlm = tt };
       fifo = off model same w.sound.chip.implemented;
       sender = tt;

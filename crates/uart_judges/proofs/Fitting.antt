@@ -27,6 +27,7 @@ use Rattle.uart_chip.specs.Chip.{ChipState, answer, interrupt, identification, l
 use Rattle.uart_chip.specs.Modem.{ModemState, looped_lines, lines_under}
 use Rattle.uart_chip.proofs.Bits.{and_or}
 use Rattle.uart_chip.proofs.FifoBits.{any_shown, fifo_bits}
+use Rattle.uart_chip.proofs.Switching.{flags-lacking}
 use Rattle.uart_chip.specs.Sound.{IsSoundModem}
 use Rattle.uart_chip.proofs.statuses.Status.{status_data, status_room, status_empty, status_fifo}
 use Rattle.uart_judges.specs.declared.replay.known.Known.{Known}
@@ -58,13 +59,19 @@ latch_kept (Some kept) value a = let same : (value == kept) ≡ true = grind (ar
 
 fifo_on : (o : Option Bool) (on : Bool) (pending : Option InterruptType) → Agrees o on →
     known_or o (has_any (bit_or (identification pending) (flag on ISR.FIFOS_ENABLED.0)) ISR.FIFOS_ENABLED.0) ≡ on
-fifo_on None on pending a = any_shown on pending
+fifo_on None true pending a = any_shown true false pending
+fifo_on None false pending a = any_shown false false pending
 fifo_on (Some b) on pending a = sym a
 
 fifo_kept : (o : Option Bool) (on : Bool) (pending : Option InterruptType) → Agrees o on →
     breaks_fifo_bits o (bit_or (identification pending) (flag on ISR.FIFOS_ENABLED.0)) ≡ false
-fifo_kept o on pending a = rw (fifo_on o on pending a, fifo_bits on pending) (itself on)
+fifo_kept o on pending a = rw (fifo_on o on pending a, bits on) (itself on)
   where
+    bits : (on : Bool) →
+        bit_and (bit_or (identification pending) (flag on ISR.FIFOS_ENABLED.0)) ISR.FIFOS_ENABLED.0 ≡ flag on ISR.FIFOS_ENABLED.0
+    bits true = fifo_bits true false pending
+    bits false = fifo_bits false false pending
+
     itself : (on : Bool) → not (flag on ISR.FIFOS_ENABLED.0 == flag on ISR.FIFOS_ENABLED.0) ≡ false
     itself true = refl
     itself false = refl
@@ -109,7 +116,7 @@ module _ (k : Known) (c : ChipState) (h : Holds k c) where
   shows pending e =
       let same : (bit_or (identification pending) (flag c.fifo ISR.FIFOS_ENABLED.0) ==
       bit_or (identification pending) (flag c.fifo ISR.FIFOS_ENABLED.0)) ≡ true = grind (arith, common_steps) in
-      rw (any_shown c.fifo pending) (and_from _ _ same e)
+      rw (fifo_on None c.fifo pending tt) (and_from _ _ same e)
 
 -- one of the interrupts explains the value
 one_explains : (value : ℕ) (k : Known) (pending : Option InterruptType) → may_show value pending k ≡ true →
@@ -122,10 +129,10 @@ one_explains value k _ e p = rw (e, or-true) refl
 isr_kept : (k : Known) (c : ChipState) → Holds k c → broken_isr (answer offsets.ISR c) k ≡ None
 isr_kept k c h =
     let may : may_be_pending (interrupt c) k ≡ true = pends k c h in
-    let explained : is_explained (answer offsets.ISR c) k ≡ true =
-    one_explains (answer offsets.ISR c) k (interrupt c) (shows k c h (interrupt c) may) may in
-    quiet (breaks_fifo_bits k.fifo (answer offsets.ISR c)) (is_explained (answer offsets.ISR c) k)
-    (fifo_kept k.fifo c.fifo (interrupt c) h.fifo) explained
+    let isr : ℕ = bit_or (identification (interrupt c)) (flag c.fifo ISR.FIFOS_ENABLED.0) in
+    let shown : answer offsets.ISR c ≡ isr = ap (bit_or (identification (interrupt c))) (flags-lacking c h.switch) in
+    let explained : is_explained isr k ≡ true = one_explains isr k (interrupt c) (shows k c h (interrupt c) may) may in
+    rw shown (quiet (breaks_fifo_bits k.fifo isr) (is_explained isr k) (fifo_kept k.fifo c.fifo (interrupt c) h.fifo) explained)
   where
     quiet : (a b : Bool) → a ≡ false → b ≡ true →
         (if a then Some FifoBits else if not b then Some Interrupt else None) ≡ None

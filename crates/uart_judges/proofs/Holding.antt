@@ -22,10 +22,11 @@ pub record LatchesHold (k : KnownLatches) (l : LatchesState) : Type 0 where
   pub dll : Agrees k.dll l.dll
   pub dlm : Agrees k.dlm l.dlm
 
--- the chip is as it is known; it has no automatic flow control, as no 16550A has
+-- the chip is as it is known; it has no automatic flow control and no switch of its size, as no 16550A has
 pub record Holds (k : Known) (c : ChipState) : Type 0 where
   pub model : c.model ≡ k.model
   pub flow : c.auto_flow ≡ false
+  pub switch : c.has_size_switch ≡ false
   pub latches : LatchesHold k.latches c.latches
   pub fifo : Agrees k.fifo c.fifo
   pub sender : SenderHolds k.sender c.transmitter
@@ -43,11 +44,12 @@ fifo_moved o a b e h = rw e h
 pub record Same (c d : ChipState) : Type 0 where
   pub model : d.model ≡ c.model
   pub flow : d.auto_flow ≡ c.auto_flow
+  pub switch : d.has_size_switch ≡ c.has_size_switch
   pub latches : d.latches ≡ c.latches
   pub fifo : d.fifo ≡ c.fifo
 
 pub same_refl : (c : ChipState) → Same c c
-same_refl c = record { model = refl; flow = refl; latches = refl; fifo = refl }
+same_refl c = record { model = refl; flow = refl; switch = refl; latches = refl; fifo = refl }
 
 pub same_if : (c d e : ChipState) (b : Bool) → Same c d → Same c e → Same c (if b then d else e)
 same_if c d e true p q = p
@@ -60,6 +62,7 @@ holds_lasts k = record {
   in_tick = λ c h. record {
     model = h.model;
     flow = h.flow;
+    switch = h.switch;
     latches = h.latches;
     fifo = h.fifo;
     sender = (sender_lasts k.sender).in_tick (is_loopback c.latches) (is_held_off c) c.transmitter h.sender;
@@ -68,6 +71,7 @@ holds_lasts k = record {
   in_arrival = λ byte errors c h. record {
     model = h.model;
     flow = h.flow;
+    switch = h.switch;
     latches = h.latches;
     fifo = h.fifo;
     sender = h.sender;
@@ -76,6 +80,7 @@ holds_lasts k = record {
   in_lines = λ inputs c h. record {
     model = h.model;
     flow = h.flow;
+    switch = h.switch;
     latches = h.latches;
     fifo = h.fifo;
     sender = h.sender;

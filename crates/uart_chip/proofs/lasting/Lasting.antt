@@ -16,11 +16,11 @@ use Rattle.uart_chip.specs.Transmitter.{TransmitterState}
 use Rattle.uart_chip.specs.Chip.{ChipState, is_dlab_set, is_loopback, is_held_off, tick, ticks, arrive, change_lines, after_read}
 use Rattle.uart_chip.specs.Chip.{after_write, switched_size}
 use Rattle.uart_spec.specs.declared.setup.FifoSize.{FifoSize}
-use Rattle.uart_chip.proofs.AccessMoves.{ReadMove, acknowledges, read_move, WriteMove, sends, enables, switches, resizes, empties, write_lasts}
+use Rattle.uart_chip.proofs.AccessMoves.{ReadMove, acknowledges, read_move, WriteMove, sends, enables, switches, resizes, empties}
+use Rattle.uart_chip.proofs.AccessMoves.{write_lasts}
 use Rattle.uart_chip.specs.Machine.{MachineState, MachineStep, perform, before_access, before_mark, at_access}
 
--- a property lasts if the queue is emptied, also with another size, or the interrupt flag changes: an access that sends nothing does no
--- more than that
+-- a property lasts if the queue is emptied, with any size, or the interrupt flag changes: an access that sends nothing does no more
 pub record LastsInAccesses (P : TransmitterState → Type 0) : Type 0 where
   pub pending : (t : TransmitterState) (pending : Bool) → P t → P (record t { is_thr_pending = pending })
   pub cleared : (t : TransmitterState) (pending : Bool) → P t → P (record t { queue = []; is_thr_pending = pending })
