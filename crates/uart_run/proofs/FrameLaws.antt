@@ -533,7 +533,8 @@ attaches_ready s t (Err NoDivisor) l d path fits ready =
     refused_ready s t l (looked (settings_of (fields (inner_of s))) 0 0 l (machine_of s) (machine_of t) d.0 path).still d.1 fits ready
 
 pub attach_ready : (s t : State) (a : Answer) → CallStep s call.Attach a t → Ready s → Ready t
-attach_ready s t a h ready = attaches_ready s t h.outcome h.did.list h.did.does h.did.path (fits_kept s t call.Attach a h tt ready.fits) ready
+attach_ready s t a h ready =
+    attaches_ready s t h.outcome h.did.list h.did.does h.did.path (fits_kept s t call.Attach a h tt ready.fits) ready
 
 -- one that succeeds leaves a ready state, whatever the machine was before
 taken_ready : (s t : State) (a : Answer) (result : Result (ℕ × ℕ) AttachError) (l : List Access) → a ≡ attach_answer result →

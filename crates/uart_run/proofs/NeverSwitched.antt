@@ -46,7 +46,8 @@ use Rattle.uart_events.specs.declared.call.Call.TheVariants as call
 use Rattle.uart_calls.specs.Meaning.{meaning, outcome_of, doing_of}
 use Rattle.uart_chip.specs.Switching.{lcr_after, NeverSwitches}
 use Rattle.uart_chip.proofs.Bits.{has_not}
-use Rattle.uart_chip.proofs.conservation.Blocks.{is_quiet, AllQuiet, Block, Look, Hit, Burst, Other, Divisor, accesses_of, IsFit, AllFit, flat}
+use Rattle.uart_chip.proofs.conservation.Blocks.{is_quiet, AllQuiet, Block, Look, Hit, Burst, Other, Divisor, accesses_of, IsFit}
+use Rattle.uart_chip.proofs.conservation.Blocks.{AllFit, flat}
 use Rattle.uart_run.proofs.ListsInTurn.{HoldsInTurn, HoldsOfAll, all_only, all_then, HoldsOfDoing, does_next, does_sets}
 use Rattle.uart_run.proofs.ListsInTurn.{does_saving, does_plain}
 use Rattle.uart_run.proofs.KeptLists.{KeepsAll, AllKeep, keeps_waits, keeps_drains}
@@ -88,7 +89,8 @@ pub all_never : (register : ℕ) → (offsets.DATA == register) ≡ false → (s
     HoldsOfAll (NeverWrites register) s L
 all_never register other s L keeps l t = plain_never register other l (keeps l t)
 
-asks_never : (register : ℕ) (s : Settings) (offset bits : ℕ) (outcome : Bool) → HoldsOfAll (NeverWrites register) s (Asks offset bits outcome)
+asks_never : (register : ℕ) (s : Settings) (offset bits : ℕ) (outcome : Bool) →
+    HoldsOfAll (NeverWrites register) s (Asks offset bits outcome)
 asks_never register s offset bits outcome l t = rw t.is (tt, tt)
 
 reads_never : (register : ℕ) (s : Settings) (offset : ℕ) → HoldsOfAll (NeverWrites register) s (ReadsRegister offset)
@@ -166,9 +168,10 @@ unwritten (Write offset value ∷ l) never lcr =
 pub unlatched : (lcr : ℕ) (l : List Access) → has_any lcr LCR.DLAB.0 ≡ false → NeverWrites offsets.LCR l → NeverSwitches lcr l
 unlatched lcr [] clear never = tt
 unlatched lcr (Read offset answer ∷ l) clear never = (refl, unlatched lcr l clear never.1)
-unlatched lcr (Write offset value ∷ l) clear never =
-    (shut (offset == offsets.FCR),
-    subst (λ (b : Bool). NeverSwitches (if b then value else lcr) l) (sym never.0) (unlatched lcr l clear never.1))
+unlatched lcr (Write offset value ∷ l) clear never = (
+  shut (offset == offsets.FCR),
+  subst (λ (b : Bool). NeverSwitches (if b then value else lcr) l) (sym never.0) (unlatched lcr l clear never.1),
+)
   where
     shut : (b : Bool) → (b && has_any lcr LCR.DLAB.0) ≡ false
     shut true = clear
@@ -199,7 +202,8 @@ keeps_never : (s : Settings) (pattern : ℕ) (outcome : Bool) → HoldsOfAll (Ne
 keeps_never s pattern outcome l t = rw t.2 (refl, (tt, tt))
 
 patterns_never : (s : Settings) (present : Bool) → HoldsOfAll (NeverWrites offsets.FCR) s (KeepsPatterns present)
-patterns_never s true l t = all_then (never_writes offsets.FCR) s (Keeps 66 true) (Keeps 115 true) (keeps_never s 66 true) (keeps_never s 115 true) l t
+patterns_never s true l t =
+    all_then (never_writes offsets.FCR) s (Keeps 66 true) (Keeps 115 true) (keeps_never s 66 true) (keeps_never s 115 true) l t
 patterns_never s false l (inl t) = keeps_never s 66 false l t
 patterns_never s false l (inr t) =
     all_then (never_writes offsets.FCR) s (Keeps 66 true) (Keeps 115 false) (keeps_never s 66 true) (keeps_never s 115 false) l t
@@ -288,7 +292,8 @@ waits_last_stay : (setup : Setup) (empty : Bool) → HoldsOfDoing NeverEver (Sav
 waits_last_stay setup empty =
     saving_unwritten (WaitsIf (is_last setup.wait) empty) (λ s. waits_if_never s (is_last setup.wait) empty)
 
-pub sets_up_stays : (setup : Setup) (config : Config) (divisor : ℕ) (fifo : Bool) → HoldsOfDoing NeverEver (SetsUp setup config divisor fifo)
+pub sets_up_stays : (setup : Setup) (config : Config) (divisor : ℕ) (fifo : Bool) →
+    HoldsOfDoing NeverEver (SetsUp setup config divisor fifo)
 sets_up_stays setup config divisor fifo =
     does_next never_ever _ _
     (does_saving (Then (Only (line_writes divisor (frame_bits config))) (SetsFifo config.fifo_trigger_level fifo))
@@ -388,7 +393,8 @@ trigger_never level (Ok x) f l after (on, does) =
     (λ s. all_only (never_writes offsets.LCR) s (Write offsets.FCR (level_bits level) ∷ []) (refl, tt))) f l after does
 trigger_never level (Err e) f l after (off, none, same) = rw none tt
 
-fifo_writes_never : (action : FifoAction) (on : Bool) (level : Option FifoTriggerLevel) → NeverWrites offsets.LCR (fifo_writes action on level)
+fifo_writes_never : (action : FifoAction) (on : Bool) (level : Option FifoTriggerLevel) →
+    NeverWrites offsets.LCR (fifo_writes action on level)
 fifo_writes_never Keep on level = tt
 fifo_writes_never Reset on level = (refl, tt)
 fifo_writes_never Disable on level = (refl, tt)
@@ -446,8 +452,8 @@ tests_loopback_never result f l after (mcr, ier, inr does) =
 by_blocks : {most : ℕ} {written read : List ℕ} (l : List Access) → InBlocks most l written read → NeverEver l
 by_blocks {most} {written} {read} l blocks = unwritten l (blocks_never most l written read blocks)
 
-text_stays : (text : List ℕ) (result : Result (Unit {0}) StalledError) (f : Fields) (l : List Access) → SendsText text result (settings_of f) l →
-    NeverEver l
+text_stays : (text : List ℕ) (result : Result (Unit {0}) StalledError) (f : Fields) (l : List Access) →
+    SendsText text result (settings_of f) l → NeverEver l
 text_stays text (Ok x) f l t = by_blocks l (sends_each_blocks (settings_of f) (expansion text) l t)
 text_stays text (Err e) f l (sent, is, t) = by_blocks l (sends_beginning_blocks (settings_of f) (expansion text) sent l t)
 

@@ -37,7 +37,8 @@ follows_ready s t (call.SetDtr on) a w h ready =
 follows_ready s t (call.SetFrame config) a w h ready = set_frame_ready s t config a h ready
 follows_ready s t (call.SetFrameWhenIdle config) a w h ready = frame_when_idle_ready s t config a h ready
 follows_ready s t (call.Quiesce outputs fifos) a w h ready =
-    quiesce_ready s t outputs.0 fifos h.did.list w h.did.does h.did.path (fits_kept s t (call.Quiesce outputs fifos) a h (inr ready.dlab) ready.fits) ready
+    quiesce_ready s t outputs.0 fifos h.did.list w h.did.does h.did.path
+    (fits_kept s t (call.Quiesce outputs fifos) a h (inr ready.dlab) ready.fits) ready
 follows_ready s t (call.Restore dump) a w h ready =
     (restores s t dump h.did.list w h.did.does h.did.path).ready (fits_kept s t (call.Restore dump) a h tt ready.fits)
 follows_ready s t call.TestLoopback a w h ready = tested_ready s t a w h ready

@@ -85,7 +85,8 @@ no_stall-after s t L l written w ready timely unheld off room makes fits path =
       off = unheld_in s q.0 (modes_of s) unheld fits.front q.1 p.passed.went.modes (modes_mcr s);
     } in
     let leaves = left_blocks m (most_in (settings_at s)) fits.front written [] (makes fits.front fits.first) in
-    no_stall-room (settings_at s) off (settings_at s).limit fits.back q.0 t r (few_left s fits.front q.0 w timely leaves q.1) fits.second q.2
+    no_stall-room (settings_at s) off (settings_at s).limit fits.back q.0 t r (few_left s fits.front q.0 w timely leaves q.1)
+    fits.second q.2
   where
     session : InSession (modes_of s) s
     session = in_session s ready w

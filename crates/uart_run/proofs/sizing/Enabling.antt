@@ -1,6 +1,7 @@
 -- An `enable_64_byte_fifos` in a ready state: a chip that has the switch of a 16750 has FIFOs of 64 after it, and any other chip is as it
 -- was.
-use Rattle.std.proofs.Common.{◌≡◌, ◌≢◌, ◌&&◌, ◌+◌, ℕ, Bool, true, false, not, inr, List, [], ◌∷◌, ◌++◌, append-nil, Result, Ok, Err, unwrap_or}
+use Rattle.std.proofs.Common.{◌≡◌, ◌≢◌, ◌&&◌, ◌+◌, ℕ, Bool, true, false, not, inr, List, [], ◌∷◌, ◌++◌, append-nil, Result, Ok, Err}
+use Rattle.std.proofs.Common.{unwrap_or}
 use Rattle.std.proofs.Common.{arith, refl, sym, ◌∙◌, ap, subst, bit_and, bit_or, if◌then◌else◌}
 use Rattle.std.proofs.lemmas.Bool.{false≢true}
 use Rattle.std.proofs.lemmas.Grind.{common_steps}
@@ -32,7 +33,7 @@ use Rattle.uart_events.specs.declared.event.Chip.{Chip}
 use Rattle.uart_events.specs.declared.event.Chip.TheVariants.{Uart16550A}
 use Rattle.uart_chip.specs.Masks.{ier_bits}
 use Rattle.uart_chip.specs.Transmitter as transmitter
-use Rattle.uart_chip.specs.Chip.{ChipState, word_length, cut_of, is_dlab_set, interrupt, is_64, is_same, after_write, trigger_level, switch_size}
+use Rattle.uart_chip.specs.Chip.{ChipState, word_length, is_dlab_set, interrupt, is_64, is_same, after_write, trigger_level, switch_size}
 use Rattle.uart_chip.specs.Chip.{is_switching, switch, set_fifo, set_trigger, control, with_size, empty_queues, switched_size}
 use Rattle.uart_chip.specs.Chip.{reset_receiver, reset_transmitter}
 use Rattle.uart_chip.specs.Receiver.{clear}
@@ -415,7 +416,8 @@ module _ (lcr ier isr : ℕ) (level : FifoTriggerLevel) (m n : MachineState) (w 
       ∙ (ap (λ (z : FifoSize). switches && is_64 z) size ∙ told switches m.chip.transmitter.size))))
 
   -- where the size stays, nothing is lost
-  module _ (x : Modes) (o : IsOpen x) (on : x.fifo ≡ true) (st : Stands x m) (stays : n.chip.transmitter.size ≡ m.chip.transmitter.size) where
+  module _ (x : Modes) (o : IsOpen x) (on : x.fifo ≡ true) (st : Stands x m)
+      (stays : n.chip.transmitter.size ≡ m.chip.transmitter.size) where
     abbrev y : Modes
     y = record x { lcr = opened lcr }
 
@@ -519,7 +521,8 @@ module _ (s t : State) (sound : IsSound (machine_of s)) (ready : Ready s) (is_on
       let a = then_parts (BeginsEnabling lcr ier true) (Enabling lcr ier level on) v l m n does path in
       let reads = then_parts (Only (Read offsets.LCR lcr ∷ Read offsets.IER ier ∷ [])) (WaitsFor LSR.TRANSMITTER_EMPTY.0 true) v a.front m
       a.between a.first a.before in
-      let still = kept_still v (BeginsEnabling lcr ier true) a.front m a.between (keeps_begins v lcr ier true) ready.dlab a.first a.before in
+      let still = kept_still v (BeginsEnabling lcr ier true) a.front m a.between (keeps_begins v lcr ier true) ready.dlab a.first
+      a.before in
       let held = size_left a.front m a.between
       (left_plain m v (BeginsEnabling lcr ier true) a.front (keeps_begins v lcr ier true) a.first) a.before in
       let both = lcr_read v lcr ier true a.front m a.between ready.dlab a.first a.before in
@@ -545,11 +548,14 @@ module _ (s t : State) (sound : IsSound (machine_of s)) (ready : Ready s) (is_on
       let at = stands-after x m a.between a.front [] began.takes began.passed in
       record {
         answers = sym e.1 ∙ (has_one 5 e.0 ∙ (is_shown lcr ier e.0 level a.between n w p ∙ switch));
-        size = size ∙ (ap (λ (b : Bool). asked_size b a.between.chip.transmitter.size) switch ∙ ap (asked_size m.chip.has_size_switch) held);
+        size =
+            size ∙ (ap (λ (b : Bool). asked_size b a.between.chip.transmitter.size) switch
+            ∙ ap (asked_size m.chip.has_size_switch) held);
         flushed = record { is_empty = shown_sent gone (transmitter_of t) sent; wire = sent.wire ∙ grown };
         received = λ same.
             let all = passes lcr ier e.0 level a.between n w p x session.open_modes (sym session.fifo ∙ is_on) at (same ∙ sym held) in
-            received_all (a.front ++ list) (passed_blocks-trans x m a.between n a.front list [] [] [] [] began (nothing_taken x a.between n list [] all));
+            received_all (a.front ++ list)
+            (passed_blocks-trans x m a.between n a.front list [] [] [] [] began (nothing_taken x a.between n list [] all));
         latches = ap (λ (k : Kept). k.latches) kept_all;
         fifo = ap (λ (k : Kept). k.fifo) kept_all ∙ (ready.fifo ∙ is_on);
         ready =
