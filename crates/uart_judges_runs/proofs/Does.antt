@@ -11,7 +11,7 @@ use Rattle.uart_events.specs.declared.event.Chip.{Chip}
 use Rattle.uart_events.specs.declared.event.Chip.TheVariants.{Uart16550A, Uart16450}
 use Rattle.uart_chip.specs.Chip.{ChipState, after_read, after_write, answer, control, control_modem, cut_of, enable, interrupt, is_dlab_set}
 use Rattle.uart_chip.specs.Chip.{is_same, is_thr_empty, line_status, set_fifo, set_trigger, switch, trigger_level, with_latches}
-use Rattle.uart_chip.specs.Chip.{with_thr_pending}
+use Rattle.uart_chip.specs.Chip.{with_thr_pending, with_size, empty_queues, switched_size, is_switching}
 use Rattle.uart_chip.specs.Masks.{kept_mcr}
 use Rattle.uart_chip.specs.declared.receiver.Character.{Character}
 use Rattle.uart_chip.specs.Receiver.{ReceiverState, clear, take_front}
@@ -80,40 +80,47 @@ same_true false true e = absurd (cc)
 same_true false false e = refl
 
 -- `set_fifo`, whatever these tests say
-abbrev done : (value : ℕ) → ChipState → (on same receiver transmitter : Bool) → ChipState
-done value c on same receiver transmitter =
-    let d : ChipState = if same then c else switch on c in
+abbrev done : (value : ℕ) → ChipState → (on same resizes receiver transmitter : Bool) → ChipState
+done value c on same resizes receiver transmitter =
+    let b : ChipState = if same then c else switch on c in
+    let d : ChipState = if resizes then with_size (switched_size value) (empty_queues b) else b in
     let e : ChipState = if receiver then record d { receiver = clear d.receiver } else d in
     let f : ChipState = if transmitter then record e { transmitter = record e.transmitter { queue = []; is_thr_pending = true } } else e in
-    if on then set_trigger (trigger_level value) f else d
+    if on then set_trigger (trigger_level value) f else b
 
-pub controlled : (value : ℕ) (c : ChipState) → Controlled value c (set_fifo value c)
-controlled value c =
-    go (has_any value fcr_bits.FIFO_ENABLE.0) (is_same c.fifo (has_any value fcr_bits.FIFO_ENABLE.0))
-    (has_any value fcr_bits.RX_FIFO_RESET.0) (has_any value fcr_bits.TX_FIFO_RESET.0)
-    (λ e. same_true c.fifo (has_any value fcr_bits.FIFO_ENABLE.0) e)
+-- if the write switches no size
+pub controlled : (value : ℕ) (c : ChipState) → is_switching value c ≡ false → Controlled value c (set_fifo value c)
+controlled value c keeps =
+    let on = has_any value fcr_bits.FIFO_ENABLE.0 in
+    go on (is_same c.fifo on) (is_switching value (if is_same c.fifo on then c else switch on c)) (has_any value fcr_bits.RX_FIFO_RESET.0)
+    (has_any value fcr_bits.TX_FIFO_RESET.0) (λ e. same_true c.fifo on e) (still (is_same c.fifo on) on ∙ keeps)
   where
-    go : (on same receiver transmitter : Bool) → (same ≡ true → c.fifo ≡ on) →
-        IsControlled on same receiver transmitter (trigger_level value) c (done value c on same receiver transmitter)
-    go true true true true e =
+    still : (same on : Bool) → is_switching value (if same then c else switch on c) ≡ is_switching value c
+    still true on = refl
+    still false on = refl
+
+    go : (on same resizes receiver transmitter : Bool) → (same ≡ true → c.fifo ≡ on) → resizes ≡ false →
+        IsControlled on same receiver transmitter (trigger_level value) c (done value c on same resizes receiver transmitter)
+    go on same true receiver transmitter e f = absurd (cc)
+    go true true false true true e f =
         record { model = refl; lcr = refl; mcr = refl; fifo = e refl; queued = refl; waiting = refl; trigger = refl }
-    go true true true false e =
+    go true true false true false e f =
         record { model = refl; lcr = refl; mcr = refl; fifo = e refl; queued = refl; waiting = refl; trigger = refl }
-    go true true false true e =
+    go true true false false true e f =
         record { model = refl; lcr = refl; mcr = refl; fifo = e refl; queued = refl; waiting = refl; trigger = refl }
-    go true true false false e =
+    go true true false false false e f =
         record { model = refl; lcr = refl; mcr = refl; fifo = e refl; queued = refl; waiting = refl; trigger = refl }
-    go true false true true e =
+    go true false false true true e f =
         record { model = refl; lcr = refl; mcr = refl; fifo = refl; queued = refl; waiting = refl; trigger = refl }
-    go true false true false e =
+    go true false false true false e f =
         record { model = refl; lcr = refl; mcr = refl; fifo = refl; queued = refl; waiting = refl; trigger = refl }
-    go true false false true e =
+    go true false false false true e f =
         record { model = refl; lcr = refl; mcr = refl; fifo = refl; queued = refl; waiting = refl; trigger = refl }
-    go true false false false e =
+    go true false false false false e f =
         record { model = refl; lcr = refl; mcr = refl; fifo = refl; queued = refl; waiting = refl; trigger = refl }
-    go false true receiver transmitter e =
+    go false true false receiver transmitter e f =
         record { model = refl; lcr = refl; mcr = refl; fifo = e refl; queued = refl; waiting = refl; trigger = refl }
-    go false false receiver transmitter e =
+    go false false false receiver transmitter e f =
         record { model = refl; lcr = refl; mcr = refl; fifo = refl; queued = refl; waiting = refl; trigger = refl }
 
 -- ---- an action
@@ -308,17 +315,19 @@ writes_ier : (c : ChipState) (value : ℕ) (o : Option Bool) (b : Bool) → Does
 writes_ier c value (Some true) b = (alike_ier c value b, tt)
 writes_ier c value _ b = (alike_ier c value b, tt)
 
-controls : (model : Chip) (value : ℕ) (c : ChipState) → model ≡ Uart16550A → Controlled value c (control model value c)
-controls Uart16450 value c e = absurd (cc)
-controls Uart16550A value c e = controlled value c
+controls : (model : Chip) (value : ℕ) (c : ChipState) → model ≡ Uart16550A → is_switching value c ≡ false →
+    Controlled value c (control model value c)
+controls Uart16450 value c e keeps = absurd (cc)
+controls Uart16550A value c e keeps = controlled value c keeps
 
+-- if no size is switched, where it is one of FCR
 pub does_write : (c : ChipState) (n value : ℕ) (o : Option Bool) → IsSo o (λ on. is_dlab_set c.latches ≡ on) → c.model ≡ Uart16550A →
-    Does (write_action o n value) c (after_write n value c)
+    (n ≡ offsets.FCR → is_switching value c ≡ false) → Does (write_action o n value) c (after_write n value c)
 does_write c n value o so model =
-    by_offset (λ n. Does (write_action o n value) c (after_write n value c))
-    (writes_data c value o (is_dlab_set c.latches) so) (writes_ier c value o (is_dlab_set c.latches))
-    (controls c.model value c model) refl refl (alike_refl c, tt) (alike_refl c, tt)
-    (λ n b.
+    by_offset (λ n. (n ≡ offsets.FCR → is_switching value c ≡ false) → Does (write_action o n value) c (after_write n value c))
+    (λ k. writes_data c value o (is_dlab_set c.latches) so) (λ k. writes_ier c value o (is_dlab_set c.latches))
+    (λ k. controls c.model value c model (k refl)) (λ k. refl) (λ k. refl) (λ k. (alike_refl c, tt)) (λ k. (alike_refl c, tt))
+    (λ n b k.
     rw (b.not_data, b.not_ier, b.not_isr, b.not_lcr, b.not_mcr)
     (alike_if c (with_latches (record c.latches { scr = value }) c) c (n == offsets.SPR) (alike_scr c) (alike_refl c), tt))
     n

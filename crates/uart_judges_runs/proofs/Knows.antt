@@ -1,10 +1,10 @@
 -- What the judge knows of the software chip stays so.
 use Rattle.std.proofs.Common.{◌≡◌, ◌≤◌, ◌<◌, ℕ, ◌+◌, ◌-◌, ◌^◌, Bool, true, false, not, ◌&&◌, ◌||◌, ◌==◌, List, [], ◌∷◌, length, max, min}
-use Rattle.std.proofs.Common.{nat_lt, refl, sym, ◌∙◌, ap, subst, arith, if◌then◌else◌, inl, inr, ◌⊎◌, Option, Some, None, bit_or}
+use Rattle.std.proofs.Common.{nat_lt, refl, sym, ◌∙◌, ap, subst, arith, if◌then◌else◌, inl, inr, ◌⊎◌, Option, Some, None}
 use Rattle.std.specs.Prelude.{is_some}
 use Rattle.std.specs.Option.{option_or}
 use Rattle.std.proofs.lemmas.Bool.{and_parts, or_right, leb-true, ltb-true}
-use Rattle.uart_spec.specs.Bits.{flag, has, has_any}
+use Rattle.uart_spec.specs.Bits.{has, has_any}
 use Rattle.uart_spec.specs.declared.registers.fifo_control.FCR.{FCR}
 use Rattle.uart_spec.specs.declared.registers.fifo_control.TheConstants.FCR as fcr_bits
 use Rattle.uart_spec.specs.declared.registers.fifo_trigger_level.FifoTriggerLevel.{FifoTriggerLevel}
@@ -19,16 +19,17 @@ use Rattle.uart_spec.specs.declared.registers.line_status.TheConstants.LSR as ls
 use Rattle.uart_spec.specs.declared.registers.modem_control.MCR.{MCR}
 use Rattle.uart_spec.specs.declared.registers.modem_control.TheConstants.MCR as mcr_bits
 use Rattle.uart_chip.specs.declared.receiver.Character.{Character}
-use Rattle.uart_chip.specs.Chip.{ChipState, identification, interrupt, is_dlab_set, is_loopback, is_same, line_status, trigger_level}
+use Rattle.uart_chip.specs.Chip.{ChipState, interrupt, is_dlab_set, is_loopback, is_same, line_status, trigger_level}
 use Rattle.uart_chip.proofs.McrBits.{kept_bit}
 use Rattle.uart_chip.specs.Receiver.{ReceiverState, characters_of, is_data_pending, is_timed_out, take_front}
 use Rattle.uart_spec.specs.declared.setup.FifoSize.TheVariants.{Sixteen}
 use Rattle.uart_chip.specs.Transmitter.{room}
 use Rattle.uart_chip.proofs.Sizes.{level_least, some_characters}
 use Rattle.uart_chip.proofs.Bits.{has_one}
-use Rattle.uart_chip.proofs.FifoBits.{all_shown}
+use Rattle.uart_chip.proofs.FifoBits.{isr_of, all_shown}
 use Rattle.uart_chip.proofs.statuses.Status.{status_data}
 use Rattle.uart_run.proofs.CallKeeps.{one_fits}
+use Rattle.uart_run.proofs.initialising.FifoShown.{shows_64}
 use Rattle.uart_judges.specs.History.{level, next, next_count, shown_by, waiting_after}
 use Rattle.uart_judges.specs.Setups.{next_is_open, or_closed}
 use Rattle.uart_judges.specs.Shows.{fifo_of, identified, level_of, looks_at_line, modem_of, sends, shows_thr_empty, trigger_of}
@@ -112,7 +113,7 @@ after_fifos c d (ControlsFifo fcr) o h k = h.fifo ∙ sym (has_one 0 fcr.0)
 after_fifos c d (SetsLine lcr) o h k = fifos_as c d o (ap (λ (c : ChipState). c.fifo) h) k
 after_fifos c d (SetsModem mcr) o h k = fifos_as c d o (ap (λ (c : ChipState). c.fifo) h) k
 after_fifos c d (IdentifiesInterrupt isr) o h k =
-    h.0.fifo ∙ sym (ap (λ (v : ℕ). has v isr_bits.FIFOS_ENABLED.0) h.1 ∙ all_shown c.fifo (interrupt c))
+    h.0.fifo ∙ sym (ap (λ (v : ℕ). has v isr_bits.FIFOS_ENABLED.0) h.1 ∙ all_shown c.fifo (shows_64 c) (interrupt c))
 after_fifos c d MayReceive o h k = fifos_as c d o h.fifo k
 after_fifos c d MaySend o h k = fifos_as c d o h.fifo k
 after_fifos c d (Arrives byte errors) o h k = absurd h
@@ -204,11 +205,11 @@ is_cleared k None fcr c so e =
 
 -- ---- the bytes that wait
 
-identify : (on : Bool) (o : Option InterruptType) →
-    identified (record { 0 = bit_or (identification o) (flag on isr_bits.FIFOS_ENABLED.0) }) ≡ o
-identify true (Some ReceiverLineStatus) = refl
-identify false (Some ReceiverLineStatus) = refl
-identify _ _ = refl
+identify : (on holds_64 : Bool) (o : Option InterruptType) → identified (record { 0 = isr_of on holds_64 o }) ≡ o
+identify true true (Some ReceiverLineStatus) = refl
+identify true false (Some ReceiverLineStatus) = refl
+identify false _ (Some ReceiverLineStatus) = refl
+identify _ _ _ = refl
 
 -- the first of these five
 abbrev first : (line ready late empty modem : Bool) → Option InterruptType
@@ -333,7 +334,7 @@ after_waiting n c d s (SetsLine lcr) is h f k w = as_long n _ _ (ap (λ (c : Chi
 after_waiting n c d s (SetsModem mcr) is h f k w = as_long n _ _ (ap (λ (c : ChipState). c.receiver.queue) h) w
 after_waiting n c d s (IdentifiesInterrupt isr) is h f k w =
     let who : identified isr ≡ interrupt c =
-    ap (λ (v : ℕ). identified (record { 0 = v })) h.1 ∙ identify c.fifo (interrupt c) in
+    ap (λ (v : ℕ). identified (record { 0 = v })) h.1 ∙ identify c.fifo (shows_64 c) (interrupt c) in
     as_long _ _ _ h.0.waiting
     (more n (length c.receiver.queue) _ w (shown_enough (identified isr) c s.setup.has_fifo s.setup.trigger (sym who) f k))
 after_waiting n c d s (LooksAtLine lsr) is h f k w =

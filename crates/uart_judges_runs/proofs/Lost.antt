@@ -19,7 +19,8 @@ use Rattle.uart_chip.specs.Machine.{MachineState, MachineStep, at_access}
 use Rattle.uart_chip.specs.Sound.{IsSound}
 use Rattle.uart_spec.specs.declared.setup.FifoSize.TheVariants.{Sixteen}
 use Rattle.uart_chip.specs.Transmitter.{TransmitterState, load, room as room_of}
-use Rattle.uart_chip.proofs.lasting.Constants.{same_pace}
+use Rattle.uart_chip.proofs.Switching.{lacking-keeps}
+use Rattle.uart_chip.proofs.lasting.FifoSizes.{same_size-lacking, switch-step}
 use Rattle.uart_chip.proofs.lasting.Lasting.{LastsInEvents, chip_lasts-before}
 use Rattle.uart_chip.proofs.soundness.Sounds.{size-tick, sound_access, sound_step}
 use Rattle.uart_run.proofs.Latches.{Kept, kept_access}
@@ -443,7 +444,7 @@ quiet_lost a left c n s x is quiet =
 
 -- ---- a recording
 
--- the FIFO of the transmitter has room for 16, and keeps it
+-- the FIFO of the transmitter has room for 16
 abbrev pub Holds16 : ChipState → Type 0
 Holds16 c = c.transmitter.size ≡ Sixteen
 
@@ -454,28 +455,40 @@ holds_16 = record {
   in_lines = λ inputs c e. e;
 }
 
-step_16 : (m n : MachineState) (access : RegisterAccess) → Holds16 m.chip → MachineStep m access n → Holds16 n.chip
-step_16 m n access e step = (same_pace (access ∷ []) m n (n, step, refl)).size ∙ e
+-- and keeps it, since the chip has no switch of it
+abbrev pub Keeps16 : ChipState → Type 0
+Keeps16 c = Holds16 c × (c.has_size_switch ≡ false)
 
-arrival_16 : (byte errors : ℕ) (m n : MachineState) → IsNextArrival byte errors m n → Holds16 m.chip → Holds16 n.chip
+keeps_16 : LastsInEvents Keeps16
+keeps_16 = record {
+  in_tick = λ c e. (holds_16.in_tick c e.0, e.1);
+  in_arrival = λ byte errors c e. e;
+  in_lines = λ inputs c e. e;
+}
+
+step_16 : (m n : MachineState) (access : RegisterAccess) → Keeps16 m.chip → MachineStep m access n → Keeps16 n.chip
+step_16 m n access e step =
+    ((same_size-lacking (access ∷ []) m n e.1 (n, step, refl)).transmitter ∙ e.0, switch-step m n access step ∙ e.1)
+
+arrival_16 : (byte errors : ℕ) (m n : MachineState) → IsNextArrival byte errors m n → Keeps16 m.chip → Keeps16 n.chip
 arrival_16 byte errors m n a e =
-    subst Holds16 (sym a.chip) (lasts_events Holds16 holds_16 a.before m.chip e)
+    subst Keeps16 (sym a.chip) (lasts_events Keeps16 keeps_16 a.before m.chip e)
 
 -- what an entry shows: what it says is lost is, and what the judge knows after it is so
 record Shown (past : List Entry) (left : ℕ) (m : MachineState) (e : Entry) (n : MachineState) : Type 0 where
   pub lost : AllLose (findings_at e past) (known past) (left_at e.happening left m n) (at_access m).chip n
   pub sound : IsSound n
-  pub of_16 : Holds16 n.chip
+  pub of_16 : Keeps16 n.chip
   pub knows : KnowsWhatIs (known (e ∷ past)) (left_after past e left m n) n.chip
 
-fits_in : (m : MachineState) → IsSound m → Holds16 m.chip → Fits (at_access m).chip
+fits_in : (m : MachineState) → IsSound m → Keeps16 m.chip → Fits (at_access m).chip
 fits_in m sound of_16 =
     let w = (sound_access m sound).chip in
-    let same : Holds16 (at_access m).chip = chip_lasts-before Holds16 holds_16 m.ahead m.chip of_16 in
+    let same : Holds16 (at_access m).chip = chip_lasts-before Holds16 holds_16 m.ahead m.chip of_16.0 in
     (same, rw same at w.transmitter.in_room)
 
 made : (past : List Entry) (left : ℕ) (m : MachineState) (e : Entry) (n : MachineState) (access : RegisterAccess) (x : Action) →
-    e.happening ≡ Access access → IsSound m → Holds16 m.chip → KnowsWhatIs (known past) left m.chip → MachineStep m access n →
+    e.happening ≡ Access access → IsSound m → Keeps16 m.chip → KnowsWhatIs (known past) left m.chip → MachineStep m access n →
     (step_from (known past) e).action ≡ x → Does x (at_access m).chip n.chip →
     IsOffAtLook (known past).setup.is_open x (at_access m).chip → Shown past left m e n
 made past left m e n access x is sound of_16 k step does h off =
@@ -505,7 +518,7 @@ not_looking (Arrives byte errors) q e = absurd (cc)
 not_looking _ q e = absurd q
 
 passed : (past : List Entry) (left : ℕ) (m : MachineState) (e : Entry) (n : MachineState) (x : Action) (h : Happening) → e.happening ≡ h →
-    IsSound m → Holds16 m.chip → KnowsWhatIs (known past) left m.chip → n ≡ m → (step_from (known past) e).action ≡ x → IsNoAccess x →
+    IsSound m → Keeps16 m.chip → KnowsWhatIs (known past) left m.chip → n ≡ m → (step_from (known past) e).action ≡ x → IsNoAccess x →
     left_at h left m m ≡ left →
     Does x m.chip m.chip → Shown past left m e n
 passed past left m e n x h is sound of_16 k step does quiet still none =
@@ -515,7 +528,7 @@ passed past left m e n x h is sound of_16 k step does quiet still none =
     record {
       lost = quiet_lost a (left_at e.happening left m n) (at_access m).chip n s x does quiet;
       sound = subst IsSound (sym step) sound;
-      of_16 = subst (λ (n : MachineState). Holds16 n.chip) (sym step) of_16;
+      of_16 = subst (λ (n : MachineState). Keeps16 n.chip) (sym step) of_16;
       knows =
           subst (λ (n : MachineState). KnowsWhatIs (known (e ∷ past)) (left_after past e left m n) n.chip) (sym step)
           (subst (λ (now : ℕ). KnowsWhatIs (known (e ∷ past)) (if shows_room s then 0 else now) m.chip) (sym same)
@@ -523,7 +536,7 @@ passed past left m e n x h is sound of_16 k step does quiet still none =
     }
 
 arrived : (past : List Entry) (left : ℕ) (m : MachineState) (e : Entry) (n : MachineState) (byte : ℕ) (errors : LSR) →
-    e.happening ≡ Arrive byte errors → IsSound m → Holds16 m.chip → KnowsWhatIs (known past) left m.chip →
+    e.happening ≡ Arrive byte errors → IsSound m → Keeps16 m.chip → KnowsWhatIs (known past) left m.chip →
     IsNextArrival byte errors.0 m n →
     Shown past left m e n
 arrived past left m e n byte errors is sound of_16 k next_one =
@@ -542,7 +555,7 @@ arrived past left m e n byte errors is sound of_16 k next_one =
     }
 
 entry : (past : List Entry) (left : ℕ) (m : MachineState) (e : Entry) (n : MachineState) (h : Happening) → e.happening ≡ h → IsSound m →
-    Holds16 m.chip → KnowsWhatIs (known past) left m.chip → Follows (known past) h m n → Shown past left m e n
+    Keeps16 m.chip → KnowsWhatIs (known past) left m.chip → Follows (known past) h m n → Shown past left m e n
 entry past left m e n (Access (Read offset value)) is sound of_16 k made_so =
     let o = (known past).setup.is_open in
     made past left m e n (Read offset value) (read_action o offset value) is sound of_16 k made_so.step (ap (action o) is)
@@ -552,11 +565,12 @@ entry past left m e n (Access (Read offset value)) is sound of_16 k made_so =
     (λ none looks. same_dlab m ∙ off_at_look o offset value m.chip made_so.off none looks)
 entry past left m e n (Access (Write offset value)) is sound of_16 k made_so =
     let o = (known past).setup.is_open in
+    let lacks = (chip_lasts-before Keeps16 keeps_16 m.ahead m.chip of_16).1 in
     made past left m e n (Write offset value) (write_action o offset value) is sound of_16 k made_so.step (ap (action o) is)
     (subst (λ (d : ChipState). Does (write_action o offset value) (at_access m).chip d)
     (ap (λ (m : MachineState). m.chip) (sym made_so.step))
     (does_write (at_access m).chip offset value o (at_the_access (known past) left m sound k).dlab
-    (at_the_access (known past) left m sound k).model))
+    (at_the_access (known past) left m sound k).model (λ _. lacking-keeps value (at_access m).chip lacks)))
     (λ none looks. absurd (let e : false ≡ true = sym (no_write_looks o offset value) ∙ looks in cc))
 entry past left m e n (Arrive byte errors) is sound of_16 k step = arrived past left m e n byte errors is sound of_16 k step
 entry past left m e n (Interrupt is_raised) is sound of_16 k step =
@@ -566,7 +580,7 @@ entry past left m e n (Lines inputs) is sound of_16 k step =
     passed past left m e n (ChangesLines inputs) (Lines inputs) is sound of_16 k step (ap (action (known past).setup.is_open) is) tt refl
     (alike_refl m.chip, tt)
 
-pub right : (past entries : List Entry) (left : ℕ) (m : MachineState) → IsSound m → Holds16 m.chip →
+pub right : (past entries : List Entry) (left : ℕ) (m : MachineState) → IsSound m → Keeps16 m.chip →
     KnowsWhatIs (known past) left m.chip → IsRight past left m entries
 right past [] left m sound of_16 k = tt
 right past (e ∷ entries) left m sound of_16 k = λ n follows.
@@ -634,7 +648,7 @@ begins_written m n e value model is step =
     let c = (at_access m).chip in
     let x : Action = SetsLine (record { 0 = value }) in
     let h : Does x c n.chip = subst (λ (n : MachineState). Does x c n.chip) (sym step)
-    (does_write c offsets.LCR value None tt (ap (λ (k : Kept). k.model) (kept_access m) ∙ model)) in
+    (does_write c offsets.LCR value None tt (ap (λ (k : Kept). k.model) (kept_access m) ∙ model) (λ e. absurd (cc))) in
     let off : IsOffAtLook None x c = λ o looks. absurd (cc) in
     begun m e n.chip x model (ap (action None) is) h off (ap Some (sym (after_dlab c n.chip x None h off tt)))
 

@@ -1,11 +1,11 @@
 -- Over the software chip, good accesses show the latches as they are, and leave them so.
 use Rattle.std.proofs.Common.{◌≡◌, ℕ, zero, suc, Bool, true, false, not, ◌&&◌, ◌==◌, List, [], ◌∷◌, ◌++◌, Option, Some, None, refl, sym}
-use Rattle.std.proofs.Common.{◌∙◌, ap, subst, arith, if◌then◌else◌, bit_and, bit_or}
+use Rattle.std.proofs.Common.{◌∙◌, ap, subst, arith, if◌then◌else◌, bit_and}
 use Rattle.std.specs.Prelude.{nat_lt}
 use Rattle.std.proofs.lemmas.Grind.{common_steps}
 use Rattle.std.proofs.lemmas.Nat.{and_assoc}
 use Rattle.uart_spec.specs.Access.{Path}
-use Rattle.uart_spec.specs.Bits.{flag, has, has_any}
+use Rattle.uart_spec.specs.Bits.{has, has_any}
 use Rattle.uart_spec.specs.declared.access.Access.{Access as RegisterAccess}
 use Rattle.uart_spec.specs.declared.access.Access.TheVariants.{Read, Write}
 use Rattle.uart_spec.specs.declared.registers.interrupt_status.TheConstants.ISR as isr_bits
@@ -14,9 +14,11 @@ use Rattle.uart_spec.specs.declared.registers.line_control.TheConstants.LCR as l
 use Rattle.uart_spec.specs.declared.registers.offsets.TheConstants as offsets
 use Rattle.uart_events.specs.declared.event.Chip.{Chip}
 use Rattle.uart_events.specs.declared.event.Chip.TheVariants.{Uart16550A, Uart16450}
-use Rattle.uart_chip.specs.Chip.{ChipState, LatchesState, identification, interrupt, is_dlab_set}
+use Rattle.uart_chip.specs.Chip.{ChipState, LatchesState, interrupt, is_dlab_set}
+use Rattle.uart_chip.proofs.FifoBits.{isr_of}
 use Rattle.uart_chip.specs.Machine.{MachineState, MachineStep, at_access}
 use Rattle.uart_chip.proofs.Bits.{has_one}
+use Rattle.uart_run.proofs.initialising.FifoShown.{shows_64}
 use Rattle.uart_judges.specs.Findings.{enables_some, is_cut_off}
 use Rattle.uart_run.proofs.Latches.{Kept, kept_in, keep, keep_control, keep_write, kept_access, kept_step}
 use Rattle.uart_judges_runs.specs.Calls.{AreTakenFrom, opened_by}
@@ -57,9 +59,10 @@ pub record Holds (c : Causes) (line : ℕ) (opened : Bool) (k : Kept) : Type 0 w
 abbrev pub HoldsIn : Causes → (line : ℕ) → (opened : Bool) → MachineState → Type 0
 HoldsIn c line opened m = Holds c line opened (kept_in m.chip)
 
-idle_shown : (on : Bool) → has (bit_or (identification None) (flag on isr_bits.FIFOS_ENABLED.0)) isr_bits.INTERRUPT_STATUS.0 ≡ true
-idle_shown true = refl
-idle_shown false = refl
+idle_shown : (on holds_64 : Bool) → has (isr_of on holds_64 None) isr_bits.INTERRUPT_STATUS.0 ≡ true
+idle_shown true true = refl
+idle_shown true false = refl
+idle_shown false holds_64 = refl
 
 if_not : (b : Bool) (x y : ℕ) → b ≡ false → (if b then x else y) ≡ y
 if_not b x y e = rw e refl
@@ -85,7 +88,7 @@ module _ (c : Causes) (line : ℕ) (off : has line lcr_bits.DLAB.0 ≡ false) wh
         pending = λ e none.
             let idle : interrupt d ≡ None = none_pending d (zero_of (bit_and d.latches.ier 15) (k.latched.interrupts none)) in
             ap (λ (v : ℕ). has v isr_bits.INTERRUPT_STATUS.0) ((at offsets.ISR e).1
-            ∙ ap (λ (o : Option InterruptType). bit_or (identification o) (flag d.fifo isr_bits.FIFOS_ENABLED.0)) idle) ∙ idle_shown d.fifo;
+            ∙ ap (λ (o : Option InterruptType). isr_of d.fifo (shows_64 d) o) idle) ∙ idle_shown d.fifo (shows_64 d);
         out2 = λ e on. ap (λ (v : ℕ). is_cut_off (Some (record { 0 = v }))) (at offsets.MCR e).1 ∙ k.latched.out2 on;
       }
 

@@ -55,7 +55,7 @@ inside_lasts wire = record {
 -- ---- an access
 
 wire_accesses : (wire : List ℕ) → LastsInAccesses (λ t. t.wire ≡ wire)
-wire_accesses wire = record { pending = λ t pending h. h; cleared = λ t pending h. h }
+wire_accesses wire = record { pending = λ t pending h. h; cleared = λ t pending h. h; resized = λ t size h. h }
 
 wire_load : (fifo : Bool) (byte : ℕ) (t : TransmitterState) → (load fifo byte t).wire ≡ t.wire
 wire_load fifo byte t = wire_if t _ _ (nat_lt (length t.queue) (room fifo t.size)) refl refl

@@ -106,11 +106,12 @@ pub fn nothing_is_known_at_first()
 
 /// Of a recording of the software chip, a 16550A with FIFOs of 16 under any schedule, made by any
 /// driver: each finding that says that a byte is lost names an access that loses it on the chip.
-/// What the judge knows at the beginning is to be so.
+/// What the judge knows at the beginning is to be so. The chip has no switch of a 16750: the judge
+/// takes FIFOs for 16, and knows of none that a driver makes larger.
 pub fn lost_bytes_are_lost()
     ensures { (past entries : List Entry) (left : ℕ) (machine : MachineState) → IsSound machine →
-        machine.chip.transmitter.size ≡ Sixteen → KnowsWhatIs (known past) left machine.chip →
-        IsRight past left machine entries }
+        machine.chip.transmitter.size ≡ Sixteen → machine.chip.has_size_switch ≡ false →
+        KnowsWhatIs (known past) left machine.chip → IsRight past left machine entries }
 {}
 
 /// A judge that was given nothing knows nothing that is not so: a recording may begin anywhere.

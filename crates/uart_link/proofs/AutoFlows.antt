@@ -22,7 +22,7 @@ use Rattle.uart_chip.specs.Receiver.{ReceiverState, characters_of, is_data_pendi
 use Rattle.uart_chip.specs.Receiver as receiver
 use Rattle.uart_chip.specs.Transmitter as transmitter
 use Rattle.uart_chip.specs.Transmitter.{TransmitterState, looped_byte, shift, shift_bytes, load, room}
-use Rattle.uart_chip.proofs.AccessMoves.{both_if, ReadMove, takes, read_move, WriteMove, sends, switches, clears, triggers, steers}
+use Rattle.uart_chip.proofs.AccessMoves.{both_if, ReadMove, takes, read_move, WriteMove, sends, switches, resizes, clears, triggers, steers}
 use Rattle.uart_chip.proofs.AccessMoves.{write_lasts}
 use Rattle.uart_chip.proofs.conservation.Receives.{Drop, drop_split}
 use Rattle.uart_chip.proofs.conservation.SessionLaws.{drop_receivers}
@@ -30,7 +30,6 @@ use Rattle.uart_chip.proofs.conservation.Went.{Modes, loopback-in}
 use Rattle.uart_chip.proofs.lasting.Lasting.{LastsInEvents, chip_lasts-before, chip_lasts-before_mark}
 use Rattle.uart_ring.specs.Ring.{ring_fields}
 use Rattle.uart_ring_runs.specs.declared.call.RingCall.{RingCall}
-use Rattle.uart_ring_runs.specs.declared.call.RingCall.TheVariants as call
 use Rattle.uart_ring_runs.specs.declared.call.RingAnswer.{RingAnswer}
 use Rattle.uart_ring_runs.specs.RingRun.{RingState, ring_machine}
 use Rattle.uart_link.specs.declared.call.Moment.{Moment}
@@ -131,6 +130,7 @@ module _ (level : FifoTriggerLevel) (size : FifoSize) (has_flow : Bool) (control
 
   make_writes : (offset value : ℕ) → LeavesMcr (Write offset value) → (c d : ChipState) → WriteMove offset value c d → Make c → Make d
   make_writes offset value l c d (switches e m on) h = let no : true ≡ false = rw e at l.0 in absurd (cc)
+  make_writes offset value l c d (resizes e s) h = let no : true ≡ false = rw e at l.0 in absurd (cc)
   make_writes offset value l c d (clears e) h = let no : true ≡ false = rw e at l.0 in absurd (cc)
   make_writes offset value l c d (triggers e level) h = let no : true ≡ false = rw e at l.0 in absurd (cc)
   make_writes offset value l c d (steers e) h = let no : true ≡ false = rw e at l.1 in absurd (cc)
@@ -339,8 +339,8 @@ call_begins_none moments there s t c a none loop on lines off h =
 
     still_on : is_auto_flow here ≡ true
     still_on =
-        ap (λ (b : Bool). b && has_any here.latches.mcr MCR._RESERVED0.0) make.flow
-        ∙ (ap (λ (v : ℕ). old.auto_flow && has_any v MCR._RESERVED0.0) make.mcr ∙ on)
+        ap (λ (b : Bool). b && has_any here.latches.mcr MCR.AUTO_FLOW.0) make.flow
+        ∙ (ap (λ (v : ℕ). old.auto_flow && has_any v MCR.AUTO_FLOW.0) make.mcr ∙ on)
 
     still_out : is_loopback here.latches ≡ false
     still_out = ap (λ (v : ℕ). has_any v MCR.LOOP_BACK.0) make.mcr ∙ loop
@@ -394,8 +394,8 @@ stays_on : (s t : RingState) →
     (let m = (ring_machine s).chip in IsMake m.receiver.trigger m.receiver.size m.auto_flow m.latches.mcr (ring_machine t).chip) →
     is_auto_flow (ring_machine s).chip ≡ true → is_auto_flow (ring_machine t).chip ≡ true
 stays_on s t make on =
-    ap (λ (b : Bool). b && has_any (ring_machine t).chip.latches.mcr MCR._RESERVED0.0) make.flow
-    ∙ (ap (λ (v : ℕ). (ring_machine s).chip.auto_flow && has_any v MCR._RESERVED0.0) make.mcr ∙ on)
+    ap (λ (b : Bool). b && has_any (ring_machine t).chip.latches.mcr MCR.AUTO_FLOW.0) make.flow
+    ∙ (ap (λ (v : ℕ). (ring_machine s).chip.auto_flow && has_any v MCR.AUTO_FLOW.0) make.mcr ∙ on)
 
 -- RTS is off while as many wait as the trigger level
 rts_falls : (s : RingState) → is_auto_flow (ring_machine s).chip ≡ true → (ring_machine s).chip.fifo ≡ true →

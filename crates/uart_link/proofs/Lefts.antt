@@ -80,7 +80,7 @@ module _ (bytes : List ℕ) where
 
   grown_lasts : Lasts (Grown bytes)
   grown_lasts = record {
-    in_accesses = record { pending = λ u pending p. p; cleared = λ u pending p. p };
+    in_accesses = record { pending = λ u pending p. p; cleared = λ u pending p. p; resized = λ u size p. p };
     in_tick =
         λ loopback held_off u p. let v : TransmitterState = shift loopback u.shift_register u in
         let q : Grown bytes v = shift_grown loopback u.shift_register u p in

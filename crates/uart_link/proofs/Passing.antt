@@ -17,6 +17,7 @@ use Rattle.uart_chip.specs.Masks.{kept_mcr}
 use Rattle.uart_chip.proofs.McrBits.{kept_bit}
 use Rattle.uart_chip.proofs.AutoFlow.{never_held_off}
 use Rattle.uart_chip.proofs.lasting.Constants.{pace_tick}
+use Rattle.uart_chip.proofs.lasting.FifoSizes.{same_size-ticks}
 use Rattle.uart_chip.specs.Sound.{IsSound, IsSoundChip, IsSoundTransmitter, IsTicking}
 use Rattle.uart_chip.specs.Transmitter.{TransmitterState, shift, refill, out, load, room, shift_bytes}
 use Rattle.uart_chip.specs.Transmitter as transmitter
@@ -449,7 +450,7 @@ module _ (bytes arrivals ticks_each : ℕ) (size : FifoSize) (flow : Bool) where
         capacity = pace.capacity ∙ h.capacity;
         marks = (steady_tick c w).known ∙ h.marks;
         char_ticks = pace.char_ticks ∙ h.char_ticks;
-        same_size = pace.size ∙ h.same_size;
+        same_size = (same_size-ticks 1 c).transmitter ∙ h.same_size;
         same_flow = h.same_flow;
       }
 

@@ -34,7 +34,7 @@ IsThrEmpty t = t.queue ≡ []
 
 pub thr_empty_lasts : Lasts IsThrEmpty
 thr_empty_lasts = record {
-  in_accesses = record { pending = λ t pending e. e; cleared = λ t pending e. refl };
+  in_accesses = record { pending = λ t pending e. e; cleared = λ t pending e. refl; resized = λ t size e. refl };
   in_tick = ticked;
 }
   where

@@ -102,9 +102,10 @@ retriggers_arm s l m n (ier, is) off path h =
 
 -- ---- the trigger level
 
-level_chip : (model : Chip) (value : ℕ) (c : ChipState) → c.fifo ≡ true → IsLevel value → IsToCome c → IsToCome (control model value c)
-level_chip Uart16450 value c on level h = h
-level_chip Uart16550A value c on level h = rw (levelled c value on level) h
+level_chip : (model : Chip) (value : ℕ) (c : ChipState) → c.fifo ≡ true → is_dlab_set c.latches ≡ false → IsLevel value → IsToCome c →
+    IsToCome (control model value c)
+level_chip Uart16450 value c on clear level h = h
+level_chip Uart16550A value c on clear level h = rw (levelled c value on clear level) h
 
 levels_arm : (level : FifoTriggerLevel) (result : Result (Unit {0}) FifosOffError) (s t : State) (l : List Access) → Ready s →
     SetsTrigger level result (fields (inner_of s)) l (fields (inner_of t)) → Path MachineStep (machine_of s) l (machine_of t) →
@@ -115,8 +116,9 @@ levels_arm level (Ok u) s t l ready (on, d) path h =
     let p = path_as m (machine_of t) l (Write offsets.FCR (level_bits level) ∷ []) is path in
     let c = (at_access m).chip in
     let fifo : c.fifo ≡ true = ap (λ (k : Kept). k.fifo) (kept_access m) ∙ (ready.fifo ∙ on) in
+    let clear : is_dlab_set c.latches ≡ false = ap (λ (k : Kept). is_dlab_set k.latches) (kept_access m) ∙ ready.dlab in
     let after : IsToCome p.0.chip =
-    rw p.1 (level_chip c.model (level_bits level) c fifo (level_bits_keep level) (at_once m (to_come m h))) in
+    rw p.1 (level_chip c.model (level_bits level) c fifo clear (level_bits_keep level) (at_once m (to_come m h))) in
     comes (machine_of t) (rw p.2 after)
 levels_arm level (Err e) s t l ready (off, is, same) path h = spared_list l (machine_of s) (machine_of t) (rw is tt) path h
 

@@ -1,15 +1,14 @@
 -- The THR-empty interrupt of the chip: what accesses tell of it holds.
 use Rattle.std.proofs.Common.{◌≡◌, ℕ, ◌-◌, ◌<◌, ◌==◌, ◌⊎◌, ◌||◌, ◌&&◌, Bool, true, false, not, nat_lt, inl, inr, List, [], ◌∷◌}
-use Rattle.std.proofs.Common.{◌++◌, length, length-append, Option, Some, None, refl, sym, ◌∙◌, ap, arith, bit_and, bit_or, if◌then◌else◌}
+use Rattle.std.proofs.Common.{◌++◌, length, length-append, Option, Some, None, refl, sym, ◌∙◌, ap, arith, bit_and, if◌then◌else◌}
 use Rattle.std.proofs.lemmas.Bool.{and_parts, or_cases, not-true, false≢true}
 use Rattle.std.proofs.lemmas.Bool.Decides.{nat_tests}
 use Rattle.std.proofs.Math.Bool.{or-true}
 use Rattle.uart_spec.specs.Access.{Path}
 use Rattle.uart_spec.specs.declared.access.Access.{Access}
 use Rattle.uart_spec.specs.declared.access.Access.TheVariants.{Read, Write}
-use Rattle.uart_spec.specs.Bits.{has, has_any, flag}
+use Rattle.uart_spec.specs.Bits.{has, has_any}
 use Rattle.uart_spec.specs.declared.registers.interrupt_enable.TheConstants.IER
-use Rattle.uart_spec.specs.declared.registers.interrupt_status.TheConstants.ISR
 use Rattle.uart_spec.specs.declared.registers.interrupt_type.InterruptType.{InterruptType}
 use Rattle.uart_spec.specs.declared.registers.interrupt_type.InterruptType.TheVariants as interrupts
 use Rattle.uart_spec.specs.declared.registers.line_control.TheConstants.LCR
@@ -22,13 +21,15 @@ use Rattle.uart_chip.specs.Masks.{ier_bits}
 use Rattle.uart_chip.specs.Receiver.{report}
 use Rattle.uart_chip.specs.Transmitter as transmitter
 use Rattle.uart_chip.specs.Transmitter.{TransmitterState, shift, refill, load, room}
-use Rattle.uart_chip.specs.Chip.{ChipState, cut_of, is_dlab_set, interrupt, identification, is_thr_empty}
+use Rattle.uart_chip.specs.Chip.{ChipState, cut_of, is_dlab_set, interrupt, is_thr_empty}
 use Rattle.uart_chip.specs.Chip.{after_read, enable, with_thr_pending}
+use Rattle.uart_chip.proofs.FifoBits.{isr_of}
 use Rattle.uart_chip.specs.Machine.{MachineState, MachineStep, at_access, at_mark}
 use Rattle.uart_chip.proofs.Sizes.{at_least_16}
 use Rattle.uart_chip.proofs.Bits.{has_one, has_and}
 use Rattle.uart_chip.proofs.conservation.BlockLaws.{look_room}
 use Rattle.uart_chip.proofs.lasting.Lasting.{either, lasts-before, lasts-before_mark}
+use Rattle.uart_run.proofs.initialising.FifoShown.{shows_64}
 use Rattle.uart_run.proofs.Latches.{Kept, keep_control, keep_write, kept_in, kept_access, kept_step, kept-before_mark}
 use Rattle.uart_ring.specs.Armed.{ThrEmpty, shows_thr_empty, due_after_read, known_after, known_after_all, IsTrueOfIer, KeepsIer}
 use Rattle.uart_ring_runs.specs.RingArmed.{is_due, thr_empty_of}
@@ -118,11 +119,11 @@ due-enable value c (inr pending) =
     go false = pending
 
 -- ISR shows it if it is the interrupt of the chip
-silent : (i : Option InterruptType) (fifo : Bool) →
-    shows_thr_empty (bit_or (identification i) (flag fifo ISR.FIFOS_ENABLED.0)) ≡ false → is_thr_empty i ≡ false
-silent (Some interrupts.TransmitterHoldingRegisterEmpty) true h = h
-silent (Some interrupts.TransmitterHoldingRegisterEmpty) false h = h
-silent _ fifo h = refl
+silent : (i : Option InterruptType) (fifo holds_64 : Bool) → shows_thr_empty (isr_of fifo holds_64 i) ≡ false → is_thr_empty i ≡ false
+silent (Some interrupts.TransmitterHoldingRegisterEmpty) true true h = h
+silent (Some interrupts.TransmitterHoldingRegisterEmpty) true false h = h
+silent (Some interrupts.TransmitterHoldingRegisterEmpty) false holds_64 h = h
+silent _ fifo holds_64 h = refl
 
 -- ---- what is known
 
@@ -168,7 +169,7 @@ read_due offset value due m n was s h = go (offset == offsets.LSR) (offset == of
         let step : MachineStep m (Read offsets.ISR value) n = rw at at s in
         let c = (at_access m).chip in
         let hidden : shows_thr_empty value ≡ false = not-true (shows_thr_empty value) (and_parts (not (shows_thr_empty value)) due h).0 in
-        lasts (λ isr. silent (interrupt c) c.fifo (rw step.1 at hidden)) (and_parts (not (shows_thr_empty value)) due h).1
+        lasts (λ isr. silent (interrupt c) c.fifo (shows_64 c) (rw step.1 at hidden)) (and_parts (not (shows_thr_empty value)) due h).1
     go false false e f h = lasts (λ isr. absurd (false≢true (sym f ∙ isr))) h
 
 -- what is kept of IER by a read, and by writes with DLAB off

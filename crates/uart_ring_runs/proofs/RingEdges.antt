@@ -1,5 +1,5 @@
 -- That `handle` and `retrigger` lose no edge of the interrupt line.
-use Rattle.std.proofs.Common.{◌≡◌, ◌⊎◌, ◌<◌, arith, ℕ, Bool, true, false, List, [], ◌∷◌, ◌++◌, inl, inr, refl, sym, ◌∙◌, ap, subst, bit_or}
+use Rattle.std.proofs.Common.{◌≡◌, ◌⊎◌, ◌<◌, arith, ℕ, Bool, true, false, List, [], ◌∷◌, ◌++◌, inl, inr, refl, sym, ◌∙◌, ap, subst}
 use Rattle.std.proofs.Common.{Option, Some, None, Result, Ok, Err, MatchBool, suc, nat_lt}
 use Rattle.std.specs.Prelude.{is_some, MatchOption}
 use lib.Bits.{and_zero_r}
@@ -7,7 +7,7 @@ use Rattle.std.proofs.lemmas.Bool.{false≢true}
 use Rattle.uart_spec.specs.Access.{Path}
 use Rattle.uart_spec.specs.declared.access.Access.{Access}
 use Rattle.uart_spec.specs.declared.access.Access.TheVariants.{Read, Write}
-use Rattle.uart_spec.specs.Bits.{has, flag, IsOnlyIfAny}
+use Rattle.uart_spec.specs.Bits.{has, IsOnlyIfAny}
 use Rattle.uart_spec.specs.Fields.{Identifies}
 use Rattle.uart_spec.specs.declared.registers.interrupt_status.TheConstants.ISR
 use Rattle.uart_spec.specs.declared.registers.interrupt_type.InterruptType.{InterruptType}
@@ -15,7 +15,8 @@ use Rattle.uart_spec.specs.declared.registers.interrupt_type.InterruptType.TheVa
 use Rattle.uart_spec.specs.declared.registers.offsets.TheConstants as offsets
 use Rattle.uart_16550.specs.Status as status
 use Rattle.uart_16550.specs.Driver.{Fields}
-use Rattle.uart_chip.specs.Chip.{ChipState, interrupt, identification, enable}
+use Rattle.uart_chip.specs.Chip.{ChipState, interrupt, enable}
+use Rattle.uart_chip.proofs.FifoBits.{isr_of}
 use Rattle.uart_chip.specs.Machine.{MachineState, MachineStep, at_access}
 use Rattle.uart_ring.specs.Ring.{RingDoing, RingDid, RingFields, RingNext, RingTimes, RingSets, with_rounds}
 use Rattle.uart_ring.specs.Storm.{every_bit, TurnsOff, LooksOnceMore, CountsUnfinished, CountsRound, HandlesRound, StaysStuck}
@@ -30,6 +31,7 @@ use Rattle.uart_ring.specs.declared.ring.service.HandleEnd.TheVariants.{Idle, Un
 use Rattle.uart_ring.specs.declared.ring.service.Handled.{Handled}
 use Rattle.uart_ring_runs.specs.RingRun.{RingState, ring_machine, RingLink, RingChain}
 use Rattle.uart_chip.proofs.conservation.BlockLaws.{path_as}
+use Rattle.uart_run.proofs.initialising.FifoShown.{shows_64}
 use Rattle.uart_ring_runs.proofs.RingWalk as walk
 use Rattle.uart_ring_runs.proofs.RingBlocks.{AllLeaveLcr, MakesBlocks, in_blocks}
 use Rattle.uart_ring.proofs.Pausing.{rid_of}
@@ -83,19 +85,20 @@ retriggers_down ier m n p off =
     inr (inr (inl down))
 
 -- ISR showed that no interrupt is pending
-idle_none : (i : Option InterruptType) (fifo : Bool) →
-    has (bit_or (identification i) (flag fifo ISR.FIFOS_ENABLED.0)) ISR.INTERRUPT_STATUS.0 ≡ true → i ≡ None
-idle_none None fifo h = refl
-idle_none (Some interrupts.ReceiverLineStatus) true h = absurd (false≢true h)
-idle_none _ true h = absurd (false≢true h)
-idle_none (Some interrupts.ReceiverLineStatus) false h = absurd (false≢true h)
-idle_none _ false h = absurd (false≢true h)
+idle_none : (i : Option InterruptType) (fifo holds_64 : Bool) → has (isr_of fifo holds_64 i) ISR.INTERRUPT_STATUS.0 ≡ true → i ≡ None
+idle_none None fifo holds_64 h = refl
+idle_none (Some interrupts.ReceiverLineStatus) true true h = absurd (false≢true h)
+idle_none _ true true h = absurd (false≢true h)
+idle_none (Some interrupts.ReceiverLineStatus) true false h = absurd (false≢true h)
+idle_none _ true false h = absurd (false≢true h)
+idle_none (Some interrupts.ReceiverLineStatus) false holds_64 h = absurd (false≢true h)
+idle_none _ false holds_64 h = absurd (false≢true h)
 
 idle_read : (isr : ℕ) (m n : MachineState) → has isr ISR.INTERRUPT_STATUS.0 ≡ true → MachineStep m (Read offsets.ISR isr) n →
     is_line_up n ≡ false
 idle_read isr m n idle s =
     let c = (at_access m).chip in
-    let none : interrupt c ≡ None = idle_none (interrupt c) c.fifo (rw s.1 at idle) in
+    let none : interrupt c ≡ None = idle_none (interrupt c) c.fifo (shows_64 c) (rw s.1 at idle) in
     rw (s.0, none) (ap is_some none)
 
 idle_down : (isr : ℕ) → has isr ISR.INTERRUPT_STATUS.0 ≡ true → AlwaysDown (Read offsets.ISR isr ∷ [])
@@ -132,26 +135,28 @@ idle_list f l after t =
     (shown.0, shown.2, rw (shown.3.0.is, t.second.0) at t.whole)
 
 -- ISR of the chip names each interrupt that is pending
-pub named : (i : InterruptType) (fifo : Bool) → Identifies (bit_or (identification (Some i)) (flag fifo ISR.FIFOS_ENABLED.0)) i
-named interrupts.ReceiverLineStatus true = (refl, refl)
-named _ true = (refl, refl)
-named interrupts.ReceiverLineStatus false = (refl, refl)
-named _ false = (refl, refl)
+pub named : (i : InterruptType) (fifo holds_64 : Bool) → Identifies (isr_of fifo holds_64 (Some i)) i
+named interrupts.ReceiverLineStatus true true = (refl, refl)
+named _ true true = (refl, refl)
+named interrupts.ReceiverLineStatus true false = (refl, refl)
+named _ true false = (refl, refl)
+named interrupts.ReceiverLineStatus false holds_64 = (refl, refl)
+named _ false holds_64 = (refl, refl)
 
 -- so it never shows one without a name
 pub none_unknown : (isr : ℕ) (m n : MachineState) → IsOnlyIfAny (Identifies isr) None → has isr ISR.INTERRUPT_STATUS.0 ≡ false →
     MachineStep m (Read offsets.ISR isr) n → ⊥
-none_unknown isr m n none bit s = by (interrupt c) c.fifo (rw s.1 at none) (rw s.1 at bit)
+none_unknown isr m n none bit s = by (interrupt c) c.fifo (shows_64 c) (rw s.1 at none) (rw s.1 at bit)
   where
     c : ChipState
     c = (at_access m).chip
 
-    by : (i : Option InterruptType) (fifo : Bool) →
-        IsOnlyIfAny (Identifies (bit_or (identification i) (flag fifo ISR.FIFOS_ENABLED.0))) None →
-        has (bit_or (identification i) (flag fifo ISR.FIFOS_ENABLED.0)) ISR.INTERRUPT_STATUS.0 ≡ false → ⊥
-    by None true none bit = cc (bit)
-    by None false none bit = cc (bit)
-    by (Some i) fifo none bit = let e = (none i).1 (named i fifo) in cc (e)
+    by : (i : Option InterruptType) (fifo holds_64 : Bool) → IsOnlyIfAny (Identifies (isr_of fifo holds_64 i)) None →
+        has (isr_of fifo holds_64 i) ISR.INTERRUPT_STATUS.0 ≡ false → ⊥
+    by None true true none bit = cc (bit)
+    by None true false none bit = cc (bit)
+    by None false holds_64 none bit = cc (bit)
+    by (Some i) fifo holds_64 none bit = let e = (none i).1 (named i fifo holds_64) in cc (e)
 
 -- after a `service` of fewer interrupts than it serves at most the line is low
 pub serviced_down : (count : ℕ) (f : RingFields) (l : List Access) (after : RingFields) → Services count f l after →

@@ -26,8 +26,8 @@ use Rattle.uart_chip.proofs.conservation.BlockLaws.{IsOpen, PassedBlocks, stands
 use Rattle.uart_run.specs.Ready.{BurstsFit}
 use Rattle.uart_run.specs.Run.{State, CallStep}
 use Rattle.uart_run.specs.Session.{GoesOn, IsWithinSession, reported_by, received_by}
-use Rattle.uart_run.proofs.SizeKept.{fits_by, fits_kept}
-use Rattle.uart_run.proofs.CallLaws.{InSession}
+use Rattle.uart_run.proofs.SizeKept.{keeps_size, fits_by, fits_kept}
+use Rattle.uart_run.proofs.CallLaws.{InSession, session_closed}
 use Rattle.uart_run.proofs.FrameLaws.{GoOn, go_within, passed_onwards, same_fifo}
 use Rattle.uart_ring.specs.Ring.{RingFields, ring_fields, waiting}
 use Rattle.uart_ring.specs.Lossless.{data_written, data_read}
@@ -35,14 +35,13 @@ use Rattle.uart_ring.proofs.RegisterBits.{more_saved, saved_lsr-append, saved_ls
 use Rattle.uart_ring_runs.specs.declared.call.RingCall.{RingCall}
 use Rattle.uart_ring_runs.specs.declared.call.RingCall.TheVariants as call
 use Rattle.uart_ring_runs.specs.declared.call.RingAnswer.{RingAnswer}
-use Rattle.uart_ring_runs.specs.declared.call.RingAnswer.TheVariants as answers
 use Rattle.uart_ring_runs.specs.RingRun.{RingState, under, ring_machine, DriverCalled, IsOfRings, RingCallStep, RingLink, RingChain}
-use Rattle.uart_ring_runs.specs.RingBytes.{to_send, to_take, queued_by, taken_by, queued, taken, gone_in, gone_by, gone, to_send_with}
-use Rattle.uart_ring_runs.specs.RingBytes.{KeepsOrder, AllKeepOrder, SendsNothing, ReceivesNothing, TakesInTurn, AllTakeInTurn}
+use Rattle.uart_ring_runs.specs.RingBytes.{to_send, to_take, queued_by, taken_by, queued, taken, gone_in, gone_by, gone}
+use Rattle.uart_ring_runs.specs.RingBytes.{KeepsOrder, AllKeepOrder, ReceivesNothing, TakesInTurn, AllTakeInTurn}
 use Rattle.uart_ring_runs.specs.RingSession.{IsWithinRingSession, AllWithinRingSession}
 use Rattle.uart_ring_runs.specs.RingStatuses.{NeitherIs}
 use Rattle.uart_run.specs.Chains.{NoneIs}
-use Rattle.uart_ring_runs.proofs.RingMeanings.{none_sent, in_order}
+use Rattle.uart_ring_runs.proofs.RingMeanings.{in_order}
 use Rattle.uart_ring_runs.proofs.RingLasts.{driver_step, first_within}
 use Rattle.uart_ring_runs.proofs.RingRts.{modes_at, begins_session}
 use Rattle.uart_ring_runs.proofs.RingPasses.{RingPasses, InLine, ring_passes_call, untold_line_of, untold_modem_of}
@@ -192,7 +191,7 @@ driver_goes x s t c a w i h =
       read = received_by c h.outcome;
       passed = p.passed;
       fifo = p.fifo;
-      fits = fits_kept (under s) (under t) c h.outcome step;
+      fits = fits_kept (under s) (under t) c h.outcome step (keeps_size (under s) c (session_closed x (under s) w));
       checks = driver_checks _ (under s) (under t) c h.outcome i step;
       sent = ap (λ zs. reported_by c h.outcome ++ zs) sends;
       received = λ turn. ap (λ zs. received_by c h.outcome ++ zs) there ∙ received_in_turn c h.outcome (to_take s) turn;

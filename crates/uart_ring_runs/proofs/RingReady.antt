@@ -34,4 +34,4 @@ init_fits before after config ring did same fits =
     let t : State = record { inner = after } in
     let step : CallStep s (call.Init config) Done t = record { outcome = Ok tt; answered = refl; did = did } in
     let R : Uart16550 MachineState → Type 0 = λ d. BurstsFit (record { inner = d }) in
-    subst R (sym same) (fits_kept s t (call.Init config) Done step fits)
+    subst R (sym same) (fits_kept s t (call.Init config) Done step tt fits)

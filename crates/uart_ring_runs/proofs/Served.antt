@@ -1,5 +1,5 @@
 -- What serving one interrupt does to what is left to be shown, if no byte moves.
-use Rattle.std.proofs.Common.{◌≡◌, ◌⊎◌, ℕ, ◌+◌, ◌≤◌, ◌<◌, ◌==◌, ◌||◌, ◌&&◌, Bool, true, false, not, nat_lt, nat_le, MatchBool, List, []}
+use Rattle.std.proofs.Common.{◌≡◌, ◌⊎◌, ℕ, ◌+◌, ◌≤◌, ◌<◌, ◌==◌, ◌||◌, ◌&&◌, Bool, true, false, not, nat_lt, MatchBool, List, []}
 use Rattle.std.proofs.Common.{◌∷◌, ◌++◌, length, append_assoc, Option, Some, None, inl, inr, refl, sym, ◌∙◌, ap, subst, arith, bit_and}
 use Rattle.std.proofs.Common.{bit_or, if◌then◌else◌}
 use Rattle.std.proofs.lemmas.Bool.{and_parts, false≢true}
@@ -13,7 +13,6 @@ use Rattle.uart_spec.specs.declared.access.Access.{Access}
 use Rattle.uart_spec.specs.declared.access.Access.TheVariants.{Read, Write}
 use Rattle.uart_spec.specs.declared.errors.ByteSendError.TheVariants.{NoCapacity, RemoteNotClearToSend}
 use Rattle.uart_spec.specs.declared.registers.interrupt_enable.TheConstants.IER
-use Rattle.uart_spec.specs.declared.registers.interrupt_status.TheConstants.ISR
 use Rattle.uart_spec.specs.declared.registers.interrupt_type.InterruptType.{InterruptType}
 use Rattle.uart_spec.specs.declared.registers.interrupt_type.InterruptType.TheVariants as interrupts
 use Rattle.uart_spec.specs.declared.registers.line_status.TheConstants.LSR
@@ -25,14 +24,16 @@ use Rattle.uart_16550.proofs.Languages.{some_limit}
 use Rattle.uart_chip.specs.declared.receiver.Character.{Character}
 use Rattle.uart_chip.specs.Masks.{ier_bits}
 use Rattle.uart_chip.specs.Receiver.{ReceiverState, report, front_errors, has_errors, unreported, is_data_pending, is_timed_out}
-use Rattle.uart_chip.specs.Chip.{ChipState, LatchesState, interrupt, identification, is_thr_empty, after_read, enable, is_dlab_set}
+use Rattle.uart_chip.specs.Chip.{ChipState, LatchesState, interrupt, is_thr_empty, after_read, enable, is_dlab_set}
 use Rattle.uart_chip.specs.Chip.{is_loopback, line_status, is_transmitter_empty}
+use Rattle.uart_chip.proofs.FifoBits.{isr_of}
 use Rattle.uart_chip.specs.Machine.{MachineState, MachineStep, at_access}
 use Rattle.uart_chip.proofs.Sizes.{some_characters}
 use Rattle.uart_chip.proofs.AccessMoves.{ReadMove, read_move}
 use Rattle.uart_chip.proofs.AccessMoves as move
 use Rattle.uart_chip.proofs.Bits.{has_and, has_not, has_one, has_or}
 use Rattle.uart_chip.proofs.conservation.BlockLaws.{path_as, look_data}
+use Rattle.uart_run.proofs.initialising.FifoShown.{shows_64}
 use Rattle.uart_ring_runs.specs.Healthy.{news}
 use Rattle.uart_ring_runs.proofs.Pending.{Drifts, one_if, line_left, sent_left, data_left, modem_left, left, waited, news-append}
 use Rattle.uart_ring_runs.proofs.RingEdges.{named}
@@ -222,16 +223,16 @@ changed_left change ier l m n o thr readable is path =
 -- ISR shows the interrupt of the chip
 pub shown : (isr : ℕ) (i : InterruptType) (m n : MachineState) → IsOnlyIfAny (Identifies isr) (Some i) →
     MachineStep m (Read offsets.ISR isr) n → interrupt (at_access m).chip ≡ Some i
-shown isr i m n only s = by (interrupt c) c.fifo (rw s.1 at only)
+shown isr i m n only s = by (interrupt c) c.fifo (shows_64 c) (rw s.1 at only)
   where
     c : ChipState
     c = (at_access m).chip
 
-    by : (o : Option InterruptType) (fifo : Bool) →
-        IsOnlyIfAny (Identifies (bit_or (identification o) (flag fifo ISR.FIFOS_ENABLED.0))) (Some i) → o ≡ Some i
-    by None true only = let e = ((only i).0 refl).0 in absurd (cc (e))
-    by None false only = let e = ((only i).0 refl).0 in absurd (cc (e))
-    by (Some j) fifo only = sym ((only j).1 (named j fifo))
+    by : (o : Option InterruptType) (fifo holds_64 : Bool) → IsOnlyIfAny (Identifies (isr_of fifo holds_64 o)) (Some i) → o ≡ Some i
+    by None true true only = let e = ((only i).0 refl).0 in absurd (cc (e))
+    by None true false only = let e = ((only i).0 refl).0 in absurd (cc (e))
+    by None false holds_64 only = let e = ((only i).0 refl).0 in absurd (cc (e))
+    by (Some j) fifo holds_64 only = sym ((only j).1 (named j fifo holds_64))
 
 -- what an interrupt tells of the chip
 abbrev pub Tells : (line readable timeout thr modem : Bool) → InterruptType → Type 0

@@ -84,6 +84,7 @@ pub spared_write : (offset value : ℕ) → (offset == offsets.IER) ≡ false �
 spared_write offset value p q c d (move.sends e off) h = (h.0, due-load c.fifo (cut_of c value) c.transmitter)
 spared_write offset value p q c d (move.enables e off) h = not_at offset offsets.IER e p
 spared_write offset value p q c d (move.switches e m on) h = not_at offset offsets.FCR e q
+spared_write offset value p q c d (move.resizes e s) h = not_at offset offsets.FCR e q
 spared_write offset value p q c d (move.empties e) h = not_at offset offsets.FCR e q
 spared_write offset value p q c d _ h = h
 

@@ -1,5 +1,5 @@
 -- What each call of a session does to the machine.
-use Rattle.std.proofs.Common.{◌≡◌, ◌≢◌, ℕ, ◌≤◌, ◌*◌, Bool, List, [], ◌∷◌, ◌++◌, Result, Ok, Err, refl}
+use Rattle.std.proofs.Common.{◌≡◌, ◌≢◌, ℕ, ◌≤◌, ◌*◌, Bool, false, List, [], ◌∷◌, ◌++◌, Result, Ok, Err, refl}
 use Rattle.std.proofs.Common.{sym, ◌∙◌, ap, subst, take, length, arith, length-append, bit_or}
 use Rattle.std.proofs.lemmas.Grind.{common_steps}
 use Rattle.std.proofs.lemmas.List.{nil_from_length}
@@ -29,6 +29,7 @@ use Rattle.uart_events.specs.declared.call.Call.{Call}
 use Rattle.uart_events.specs.declared.call.Call.TheVariants as call
 use Rattle.uart_events.specs.declared.call.Answer.{Answer}
 use Rattle.uart_events.specs.declared.call.Answer.TheVariants.{Done, Flag, Count, Register}
+use Rattle.uart_chip.specs.Chip.{is_dlab_set}
 use Rattle.uart_chip.specs.Machine.{MachineStep}
 use Rattle.uart_calls.specs.Meaning.{ShowsFifo, ChecksStored, SendsShortText, CalledAs, connected_answer, receive_ready_answer}
 use Rattle.uart_calls.specs.Meaning.{received_answer, sent_answer, exact_answer, count_answer}
@@ -40,7 +41,7 @@ use Rattle.uart_chip.specs.Transmitter.{room}
 use Rattle.uart_chip.proofs.Bits.{or_assoc}
 use Rattle.uart_chip.proofs.Sizes.{room_grows}
 use Rattle.uart_chip.proofs.conservation.Effects.{IsLevel}
-use Rattle.uart_chip.proofs.conservation.Went.{Modes, saved-append}
+use Rattle.uart_chip.proofs.conservation.Went.{Modes, dlab-in, saved-append}
 use Rattle.uart_chip.proofs.conservation.Passed.{passed-refl, passed-mark}
 use Rattle.uart_chip.proofs.conservation.BlockLaws.{IsOpen, Stands, PassedBlocks, nothing_taken, path_as, passed_level}
 use Rattle.uart_run.proofs.CallBlocks.{InBlocks, Makes, most_in, makes_look, passed_in_blocks, ready_to_send_blocks}
@@ -73,6 +74,10 @@ pub record InSession (x : Modes) (s : State) : Type 0 where
   pub stands : Stands x (machine_of s)
   pub fifo : (fields (inner_of s)).fifo ≡ x.fifo
   pub fits : BurstsFit s
+
+-- DLAB is off
+pub session_closed : (x : Modes) (s : State) → InSession x s → is_dlab_set (machine_of s).chip.latches ≡ false
+session_closed x s w = dlab-in x (machine_of s).chip w.stands.modes ∙ w.open_modes.dlab
 
 -- the transmitter has room for all that the driver writes at once
 pub session_room : (x : Modes) (s : State) → InSession x s →

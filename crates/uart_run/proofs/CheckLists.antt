@@ -43,7 +43,7 @@ passed_line : (y : Modes) (m n : MachineState) (value : ℕ) → loopback y ≡ 
 passed_line y m n value l w s = passed_read y m n offsets.LCR value l w s (λ c sound is. went-read_3 y c value sound is)
 
 -- LCR is written with the same word length
-passed_lcr : (y : Modes) (m n : MachineState) (value : ℕ) → loopback y ≡ false → Stands y m → word_length value ≡ word_length y.lcr →
+pub passed_lcr : (y : Modes) (m n : MachineState) (value : ℕ) → loopback y ≡ false → Stands y m → word_length value ≡ word_length y.lcr →
     MachineStep m (Write offsets.LCR value) n → Passed (record y { lcr = value }) m n (Write offsets.LCR value ∷ []) [] []
 passed_lcr y m n value l w word s =
     passed-effect y (record y { lcr = value }) m n (after_write offsets.LCR value (at_access m).chip) (Write offsets.LCR value) [] [] l refl

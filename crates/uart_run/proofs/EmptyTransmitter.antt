@@ -72,6 +72,7 @@ sent_lasts gone = record {
   in_accesses = record {
     pending = λ t pending s. record { queue = s.queue; place = s.place; wire = s.wire };
     cleared = λ t pending s. record { queue = refl; place = s.place; wire = s.wire };
+    resized = λ t size s. record { queue = refl; place = s.place; wire = s.wire };
   };
   in_tick = λ loopback held_off t s. sent_tick gone loopback held_off t s;
 }

@@ -58,10 +58,11 @@ use Rattle.uart_run.proofs.Wired.{wired_step, passed_mcr}
 use Rattle.uart_run.proofs.Latches.{Kept, kept_in, keep, kept_after, kept_step, kept_path, kept_list, kept_access}
 use Rattle.uart_run.proofs.Pieces.{then_parts, next_stages}
 use Rattle.uart_run.proofs.initialising.FifoShown.{fifo_shown}
-use Rattle.uart_run.proofs.SizeKept.{fits_after, fits_kept}
+use Rattle.uart_run.proofs.NeverSwitched.{attaches_stay}
+use Rattle.uart_run.proofs.SizeKept.{left_ever, keeps_size, fits_after, fits_kept}
 use Rattle.uart_run.proofs.CallBlocks.{Makes, most_in, makes_quiet, makes_then, passed_silently, waits_blocks}
 use Rattle.uart_run.proofs.CallKeeps.{reads_divisor_blocks, saving_keeps}
-use Rattle.uart_run.proofs.CallLaws.{Passes, InSession, passes_call, passes_did, passes_quietly, saved_both}
+use Rattle.uart_run.proofs.CallLaws.{Passes, InSession, session_closed, passes_call, passes_did, passes_quietly, saved_both}
 use Rattle.uart_run.proofs.initialising.Inits.{frame-dlab, frame-unbroken}
 use Rattle.uart_run.proofs.initialising.Initialised.{ready_by}
 
@@ -87,6 +88,10 @@ same_fifo x y same = ap (λ (p : Bool × (ℕ → ℕ)). p.0) same
 
 pub same_cut : (x y : Modes) → fixed y ≡ fixed x → y.cut ≡ x.cut
 same_cut x y same = ap (λ (p : Bool × (ℕ → ℕ)). p.1) same
+
+-- the driver writes at once no more than there is room for
+pub session_fits : (x : Modes) (s t : State) (c : Call) (a : Answer) → InSession x s → CallStep s c a t → BurstsFit t
+session_fits x s t c a w h = fits_kept s t c a h (keeps_size s c (session_closed x s w)) w.fits
 
 -- the state after it is one of the session
 pub in_session-gone : (x : Modes) (N M : Type 0) (s t : State) (ws rs : List ℕ) → InSession x s → (g : Goes x N M s t ws rs) →
@@ -333,7 +338,7 @@ ready_framed s t config (Err e) l d path fits ready =
 
 pub set_frame_ready : (s t : State) (config : Config) (a : Answer) → CallStep s (call.SetFrame config) a t → Ready s → Ready t
 set_frame_ready s t config a h ready =
-    ready_framed s t config h.outcome h.did.list h.did.does h.did.path (fits_kept s t (call.SetFrame config) a h ready.fits) ready
+    ready_framed s t config h.outcome h.did.list h.did.does h.did.path (fits_kept s t (call.SetFrame config) a h tt ready.fits) ready
 
 frames_by : (s t : State) (config : Config) (a : Answer) (result : Result (Unit {0}) InvalidDivisorError) (l : List Access) →
     a ≡ frame_answer result → SetsFrame config result (fields (inner_of s)) l (fields (inner_of t)) →
@@ -528,7 +533,8 @@ attaches_ready s t (Err NoDivisor) l d path fits ready =
     refused_ready s t l (looked (settings_of (fields (inner_of s))) 0 0 l (machine_of s) (machine_of t) d.0 path).still d.1 fits ready
 
 pub attach_ready : (s t : State) (a : Answer) → CallStep s call.Attach a t → Ready s → Ready t
-attach_ready s t a h ready = attaches_ready s t h.outcome h.did.list h.did.does h.did.path (fits_kept s t call.Attach a h ready.fits) ready
+attach_ready s t a h ready =
+    attaches_ready s t h.outcome h.did.list h.did.does h.did.path (fits_kept s t call.Attach a h tt ready.fits) ready
 
 -- one that succeeds leaves a ready state, whatever the machine was before
 taken_ready : (s t : State) (a : Answer) (result : Result (ℕ × ℕ) AttachError) (l : List Access) → a ≡ attach_answer result →
@@ -643,7 +649,9 @@ takes_port x N M s t on low high l w some d path =
     let passed = passed_silently x (most_in (settings_of f)) (machine_of s) (machine_of t) d.front [] w.open_modes w.stands
     (finds_port_blocks (settings_of f) on low high d.front d.first.0) (path_as (machine_of s) (machine_of t) l d.front is path) in
     let size = ap (λ (g : Fields). g.size) d.second.1 ∙ ap (λ (g : Fields). g.size) d.first.1 in
-    let ready = (attached s t on low high l some d path).ready (fits_after s t l size path w.fits) in
+    let stays = attaches_stay (Ok (low, high)) f l (fields (inner_of t)) (some, on, d) in
+    let fits = fits_after s t l size (left_ever (machine_of s) l stays) path w.fits in
+    let ready = (attached s t on low high l some d path).ready fits in
     record {
       made = d.front;
       passed = passed;

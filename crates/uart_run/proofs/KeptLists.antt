@@ -1,6 +1,7 @@
 -- Lists that change nothing of what the registers keep while DLAB is off: they read, and of writes have only those of the data register.
 use Rattle.std.proofs.Common.{◌≡◌, ℕ, Bool, true, false, inl, inr, List, [], ◌∷◌}
 use Rattle.std.proofs.Common.{◌++◌, Result, Ok, Err, refl, ◌∙◌, ap, MatchBool, if◌then◌else◌}
+use Rattle.std.specs.List.{AllByRecursion}
 use Rattle.uart_spec.specs.declared.errors.ByteSendError.{ByteSendError}
 use Rattle.uart_spec.specs.declared.errors.ByteSendError.TheVariants.{NoCapacity, RemoteNotClearToSend}
 use Rattle.uart_spec.specs.declared.errors.StalledError.{StalledError}
@@ -19,27 +20,42 @@ use Rattle.uart_16550.specs.Init.{Discards, DrainsReceiver}
 use Rattle.uart_chip.specs.Chip.{is_dlab_set}
 use Rattle.uart_chip.specs.Machine.{MachineState, MachineStep}
 use Rattle.uart_run.proofs.ListsInTurn.{HoldsInTurn, HoldsOfAll, all_only, all_then, all_times, all_few, all_misses, all_in_order}
-use Rattle.uart_run.proofs.Latches.{Kept, kept_in, kept_after, kept_after-append, kept_path}
+use Rattle.uart_run.proofs.Latches.{Kept, kept_in, keep, kept_after, kept_path}
 
--- these accesses change nothing of it
+-- a read, or a write of the data register
+abbrev pub IsPlainAccess : Access → Type 0
+IsPlainAccess (Read offset answer) = Unit {0}
+IsPlainAccess (Write offset value) = offset ≡ offsets.DATA
+
+-- each of these accesses is one
 abbrev pub KeepsAll : List Access → Type 0
-KeepsAll l = (k : Kept) → is_dlab_set k.latches ≡ false → kept_after l k ≡ k
+KeepsAll l = AllByRecursion IsPlainAccess l
 
 keeps_append : (xs ys : List Access) → KeepsAll xs → KeepsAll ys → KeepsAll (xs ++ ys)
-keeps_append xs ys p q k d = kept_after-append xs ys k ∙ (ap (kept_after ys) (p k d) ∙ q k d)
+keeps_append [] ys p q = q
+keeps_append (x ∷ xs) ys p q = (p.0, keeps_append xs ys p.1 q)
 
 pub keeps_data : (byte : ℕ) → KeepsAll (Write offsets.DATA byte ∷ [])
-keeps_data byte k d = ap (λ (b : Bool). if b then record k { latches = record k.latches { dll = byte } } else k) d
+keeps_data byte = (refl, tt)
 
 keeps_writes : (bytes : List ℕ) → KeepsAll (data_writes bytes)
-keeps_writes [] k d = refl
-keeps_writes (byte ∷ bytes) k d = keeps_append (Write offsets.DATA byte ∷ []) (data_writes bytes) (keeps_data byte) (keeps_writes bytes) k d
+keeps_writes [] = tt
+keeps_writes (byte ∷ bytes) = (refl, keeps_writes bytes)
+
+-- so they change nothing of it
+kept_by : (l : List Access) → KeepsAll l → (k : Kept) → is_dlab_set k.latches ≡ false → kept_after l k ≡ k
+kept_by [] plain k d = refl
+kept_by (Read offset answer ∷ l) plain k d = kept_by l plain.1 k d
+kept_by (Write offset value ∷ l) plain k d = ap (kept_after l) same ∙ kept_by l plain.1 k d
+  where
+    same : keep (Write offset value) k ≡ k
+    same = rw plain.0 (ap (λ (b : Bool). if b then record k { latches = record k.latches { dll = value } } else k) d)
 
 -- ---- languages
 
--- nor does any list of the language
+-- every list of the language is of such accesses
 pub keeping : HoldsInTurn KeepsAll
-keeping = record { none = λ k d. refl; append = keeps_append }
+keeping = record { none = tt; append = keeps_append }
 
 abbrev pub AllKeep : Settings → Language → Type 0
 AllKeep s P = HoldsOfAll KeepsAll s P
@@ -52,10 +68,10 @@ keeps_if s false P Q p q l t = q l t
 -- ---- reads
 
 pub keeps_asks : (s : Settings) (register bits : ℕ) (outcome : Bool) → AllKeep s (Asks register bits outcome)
-keeps_asks s register bits outcome l t = rw t.is (λ k d. refl)
+keeps_asks s register bits outcome l t = rw t.is (tt, tt)
 
 pub keeps_reads : (s : Settings) (register : ℕ) → AllKeep s (ReadsRegister register)
-keeps_reads s register l t = rw t.1 (λ k d. refl)
+keeps_reads s register l t = rw t.1 (tt, tt)
 
 pub keeps_waits : (s : Settings) (bits : ℕ) (outcome : Bool) → AllKeep s (WaitsFor bits outcome)
 keeps_waits s bits true =
@@ -69,7 +85,7 @@ keeps_miss s = keeps_asks s offsets.LSR LSR.DATA_READY.0 false
 
 pub keeps_hit : (s : Settings) (byte : ℕ) → AllKeep s (Hit byte)
 keeps_hit s byte =
-    all_then keeping s _ _ (keeps_asks s offsets.LSR LSR.DATA_READY.0 true) (all_only keeping s (Read offsets.DATA byte ∷ []) (λ k d. refl))
+    all_then keeping s _ _ (keeps_asks s offsets.LSR LSR.DATA_READY.0 true) (all_only keeping s (Read offsets.DATA byte ∷ []) (tt, tt))
 
 pub keeps_awaited : (s : Settings) (byte : ℕ) → AllKeep s (Awaited byte)
 keeps_awaited s byte = all_then keeping s _ _ (all_few keeping s Miss (keeps_miss s)) (keeps_hit s byte)
@@ -117,7 +133,7 @@ pub keeps_round : (s : Settings) (bytes : List ℕ) → AllKeep s (Round bytes)
 keeps_round s bytes = all_then keeping s _ _ (all_few keeping s SendMiss (keeps_send_miss s)) (keeps_burst s bytes)
 
 keeps_sends : (s : Settings) (bytes : List ℕ) (n : ℕ) → AllKeep s (Sends bytes n)
-keeps_sends s bytes n l (inl t) = rw t.2 (λ k d. refl)
+keeps_sends s bytes n l (inl t) = rw t.2 tt
 keeps_sends s bytes n l (inr (inl t)) = keeps_send_miss s l t.2
 keeps_sends s bytes n l (inr (inr t)) = keeps_burst s _ l t.2
 
@@ -138,4 +154,4 @@ keeps_sends_exact s bytes (Err e) l (pieces, rest, cut, some, count, made) =
 
 pub kept_still : (s : Settings) (P : Language) (l : List Access) (m n : MachineState) → AllKeep s P → is_dlab_set m.chip.latches ≡ false →
     P s l → Path MachineStep m l n → kept_in n.chip ≡ kept_in m.chip
-kept_still s P l m n keeps d t p = kept_path l m n p ∙ keeps l t (kept_in m.chip) d
+kept_still s P l m n keeps d t p = kept_path l m n p ∙ kept_by l (keeps l t) (kept_in m.chip) d

@@ -112,7 +112,7 @@ kept-fifo : (value : ℕ) (c : ChipState) → kept_in (set_fifo value c) ≡ rec
 kept-fifo value c =
     let on : Bool = has_any value FCR.FIFO_ENABLE.0 in
     let k : Kept = record (kept_in c) { fifo = on } in
-    resets_last (λ (d : ChipState). kept_in d ≡ k) value (λ d p. p) (λ d p. p) (λ level d p. p) on
+    resets_last (λ (d : ChipState). kept_in d ≡ k) value (λ d s p. p) (λ d p. p) (λ d p. p) (λ level d p. p) on
     (if is_same c.fifo on then c else switch on c) (kept-switched on c)
 
 kept-control : (model : Chip) (value : ℕ) (c : ChipState) → kept_in (control model value c) ≡ keep_control model value (kept_in c)

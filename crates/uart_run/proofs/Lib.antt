@@ -1,6 +1,7 @@
 pub mod Chains
 pub mod EmptyTransmitter
 pub mod Latches
+pub mod NeverSwitched
 pub mod SizeKept
 pub mod Wired
 pub mod Pieces

@@ -1,7 +1,8 @@
--- What holds of all lists of a language, since it holds of those of its parts.
+-- What holds of all lists of a language, or of all that a call does, since it holds of those of its parts.
 use Rattle.std.proofs.Common.{ℕ, zero, suc, List, [], ◌∷◌, ◌++◌}
 use Rattle.uart_spec.specs.declared.access.Access.{Access}
 use Rattle.uart_16550.specs.Grammar.{Language, Settings, Only, Then, InOrder, Times, FewMisses, AllMisses}
+use Rattle.uart_16550.specs.Driver.{Doing, Fields, Saving, Plain, Sets, Next, settings_of}
 
 -- it holds of no accesses, and of two lists in turn if it holds of both
 pub record HoldsInTurn (P : List Access → Type 0) : Type 0 where
@@ -33,3 +34,22 @@ module _ {P : List Access → Type 0} (turn : HoldsInTurn P) (s : Settings) wher
       HoldsOfAll P s (InOrder L items)
   all_in_order L [] p l t = all_only [] turn.none l t
   all_in_order L (item ∷ items) p l t = all_then (L item) (InOrder L items) (p item) (λ k u. all_in_order L items p k u) l t
+
+-- ---- what a call does
+
+-- it holds of each list that is made so
+abbrev pub HoldsOfDoing : (List Access → Type 0) → Doing → Type 0
+HoldsOfDoing P G = (f : Fields) (l : List Access) (after : Fields) → G f l after → P l
+
+module _ {P : List Access → Type 0} (turn : HoldsInTurn P) where
+  pub does_next : (G H : Doing) → HoldsOfDoing P G → HoldsOfDoing P H → HoldsOfDoing P (Next G H)
+  does_next G H p q f l after t = rw t.whole (turn.append t.front t.back (p f t.front t.mid t.first) (q t.mid t.back after t.second))
+
+  pub does_sets : (change : Fields → Fields) → HoldsOfDoing P (Sets change)
+  does_sets change f l after t = rw t.0 turn.none
+
+pub does_saving : {P : List Access → Type 0} (L : Language) → ((s : Settings) → HoldsOfAll P s L) → HoldsOfDoing P (Saving L)
+does_saving L p f l after t = p (settings_of f) l t.0
+
+pub does_plain : {P : List Access → Type 0} (L : Language) → ((s : Settings) → HoldsOfAll P s L) → HoldsOfDoing P (Plain L)
+does_plain L p f l after t = p (settings_of f) l t.0

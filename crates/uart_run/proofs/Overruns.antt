@@ -1,5 +1,5 @@
 -- Where a character was lost that the overrun flag tells of, with the FIFO on.
-use Rattle.std.proofs.Common.{◌≡◌, ◌≢◌, ◌⊎◌, ℕ, suc, ◌-◌, ◌≤◌, ◌<◌, Bool, true, false, inl, inr, nat_lt, List, [], ◌∷◌, ◌++◌, length, drop}
+use Rattle.std.proofs.Common.{◌≡◌, ◌≢◌, ℕ, suc, ◌-◌, ◌≤◌, ◌<◌, Bool, true, false, inl, inr, nat_lt, List, [], ◌∷◌, ◌++◌, length, drop}
 use Rattle.std.proofs.Common.{length-append, append_assoc, refl, sym, ◌∙◌, ap, subst, arith, slice_set, get_or-set_same, get_or-set_other}
 use Rattle.std.specs.List.{AllByRecursion}
 use Rattle.std.proofs.lemmas.Grind.{common_steps}
@@ -23,7 +23,7 @@ use Rattle.uart_chip.specs.Receiver as receiver
 use Rattle.uart_chip.specs.Receiver.{ReceiverState, mark_at, set_mark, take_front}
 use Rattle.uart_chip.specs.Sound.{IsInQueue, AllInQueue, IsMarked}
 use Rattle.uart_chip.proofs.Sizes.{at_least_16}
-use Rattle.uart_chip.proofs.AccessMoves.{ReadMove, takes, looks, read_move, WriteMove, switches, clears, triggers, write_move}
+use Rattle.uart_chip.proofs.AccessMoves.{ReadMove, takes, looks, read_move, WriteMove, switches, resizes, clears, triggers, write_move}
 use Rattle.uart_chip.proofs.Lists.{each-append, each-weaker}
 use Rattle.uart_chip.proofs.statuses.Status.{status_overrun}
 use Rattle.uart_chip.proofs.conservation.Went.{Modes, loopback-in}
@@ -302,6 +302,7 @@ flag_read offset c d other _ p = p
 flag_write : (offset value : ℕ) (c d : ChipState) → offset ≢ offsets.FCR → WriteMove offset value c d → FlagTells c.receiver →
     FlagTells d.receiver
 flag_write offset value c d other (switches e m on) p = absurd (other e)
+flag_write offset value c d other (resizes e s) p = absurd (other e)
 flag_write offset value c d other (clears e) p = absurd (other e)
 flag_write offset value c d other (triggers e level) p = absurd (other e)
 flag_write offset value c d other _ p = p

@@ -7,7 +7,7 @@ use Rattle.uart_chip.specs.Machine.{MachineState}
 use Rattle.uart_run.specs.Run.{machine_of}
 use Rattle.uart_run.specs.Ready.{KeepsReady}
 use Rattle.uart_chip.proofs.soundness.Sounds.{latches-ticks}
-use Rattle.uart_chip.proofs.lasting.Constants.{same_pace-ticks}
+use Rattle.uart_chip.proofs.lasting.FifoSizes.{same_size-ticks}
 use Rattle.uart_run.proofs.SizeKept.{fits_by}
 
 fifo-ticks : (n : ℕ) (c : ChipState) → (ticks n c).fifo ≡ c.fifo
@@ -21,7 +21,7 @@ ready_ticks n m o e s t f g h r =
     let b : (machine_of t).chip.fifo ≡ (machine_of s).chip.fifo =
     ap (λ (x : MachineState). x.chip.fifo) (g ∙ e) ∙ (fifo-ticks n m.chip ∙ sym (ap (λ (x : MachineState). x.chip.fifo) f)) in
     let held : MachineState → FifoSize = λ x. x.chip.transmitter.size in
-    let size = ap held (g ∙ e) ∙ ((same_pace-ticks n m.chip).size ∙ sym (ap held f)) in
+    let size = ap held (g ∙ e) ∙ ((same_size-ticks n m.chip).transmitter ∙ sym (ap held f)) in
     record {
       dlab = ap is_dlab_set l ∙ r.dlab;
       loopback = ap is_loopback l ∙ r.loopback;

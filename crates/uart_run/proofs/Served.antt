@@ -51,9 +51,8 @@ use Rattle.uart_chip.proofs.conservation.BlockLaws.{PassedBlocks, path_as, path_
 use Rattle.uart_run.proofs.CallBlocks.{Makes, most_in, makes_look, passed_in_blocks}
 use Rattle.uart_run.proofs.CallBlocks.{try_receive_blocks, receives_blocks, receives_exact_blocks, receives_with_blocks}
 use Rattle.uart_run.proofs.CallKeeps.{reads_blocks, flushes_blocks}
-use Rattle.uart_run.proofs.SizeKept.{fits_kept}
 use Rattle.uart_run.proofs.CallLaws.{InSession, session_room}
-use Rattle.uart_run.proofs.FrameLaws.{GoOn, AllAt, in_session-gone, same_cut, waited, framed_by}
+use Rattle.uart_run.proofs.FrameLaws.{GoOn, AllAt, session_fits, in_session-gone, same_cut, waited, framed_by}
 use Rattle.uart_run.proofs.ExactErrors.{exactly_received}
 
 -- ---- lists that end with a miss
@@ -333,5 +332,5 @@ serves_chain k x s t (link ∷ links) same w i h =
       serves_call x link.before link.after link.call link.answer begins h.1,
       serves_chain k first.modes link.after t links (same_cut x first.modes first.same ∙ same)
           (in_session-gone x _ _ link.before link.after _ _ begins first
-          (fits_kept link.before link.after link.call link.answer h.1 begins.fits)) i.1 h.2,
+          (session_fits x link.before link.after link.call link.answer begins h.1)) i.1 h.2,
     )

@@ -14,9 +14,8 @@ use Rattle.uart_events.specs.declared.call.Call.{Call}
 use Rattle.uart_run.specs.Session.{reported, received, reported_by, received_by}
 use Rattle.uart_run.specs.Statuses.{AllNoLsr, AllNoMsr}
 use Rattle.uart_chip.proofs.conservation.Went.{Modes, fixed}
-use Rattle.uart_run.proofs.SizeKept.{fits_kept}
 use Rattle.uart_run.proofs.CallLaws.{Passes, InSession, passes_none, saved_both}
-use Rattle.uart_run.proofs.FrameLaws.{Goes, GoOn, AllAt, goes_still, in_session-gone, passed_onwards, same_cut}
+use Rattle.uart_run.proofs.FrameLaws.{Goes, GoOn, AllAt, goes_still, session_fits, in_session-gone, passed_onwards, same_cut}
 
 -- the modes in which a session runs are those in which it begins
 pub modes_of : State → Modes
@@ -80,7 +79,7 @@ goes_chain {Within} {cut} k x s t (link ∷ links) same w i h =
     let begins = subst W (sym h.0) w in
     let first = k.go x link.before link.after link.call link.answer same begins i.0 h.1 in
     let rest = goes_chain k first.modes link.after t links (same_cut x first.modes first.same ∙ same)
-    (in_session-gone x _ _ link.before link.after _ _ begins first (fits_kept link.before link.after link.call link.answer h.1 begins.fits))
+    (in_session-gone x _ _ link.before link.after _ _ begins first (session_fits x link.before link.after link.call link.answer begins h.1))
     i.1 h.2 in
     let P : State → Type 0 = λ v. Goes x (AllNoLsr (link ∷ links)) (AllNoMsr (link ∷ links)) v t (reported (link ∷ links))
     (received (link ∷ links)) in

@@ -8,11 +8,12 @@ use Rattle.uart_spec.specs.declared.access.Access.{Access}
 use Rattle.uart_events.specs.declared.call.Call.{Call}
 use Rattle.uart_events.specs.declared.call.Call.TheVariants as call
 use Rattle.uart_events.specs.declared.call.Answer.{Answer}
+use Rattle.uart_16550.specs.Driver.{fields}
+use Rattle.uart_16550.specs.Tty.{inner_of}
 use Rattle.uart_chip.specs.Machine.{MachineState, MachineStep, at_mark}
 use Rattle.uart_chip.specs.Sound.{IsSound}
 use Rattle.uart_chip.specs.Conserved.{out}
 use Rattle.uart_run.specs.Run.{State, machine_of, Link, Chain, CallStep}
-use Rattle.uart_run.specs.Ready.{BurstsFit}
 use Rattle.uart_run.specs.Session.{GoesOn, IsWithinSession, AllCalls, IsSession, reported, received, Conserves}
 use Rattle.uart_run.specs.Uncut.{GoesOnUncut, IsWithinUncut, IsUncutSession}
 use Rattle.uart_run.specs.Wired.{IsWiredChip, IsWired}
@@ -20,7 +21,7 @@ use Rattle.uart_chip.proofs.soundness.Sounds.{sound_path, sound_mark}
 use Rattle.uart_chip.proofs.conservation.Went.{Modes, dlab-in, loopback-in}
 use Rattle.uart_chip.proofs.conservation.SessionLaws.{received_kept}
 use Rattle.uart_run.proofs.Chains.{chain_keeps}
-use Rattle.uart_run.proofs.SizeKept.{fits_kept}
+use Rattle.uart_run.proofs.SizeKept.{size_kept, fits_by}
 use Rattle.uart_run.proofs.CallLaws.{InSession}
 use Rattle.uart_run.proofs.Wired.{wired_path, wired_mark}
 use Rattle.uart_run.proofs.FrameLaws.{GoOn, AllAt, go_within, go_within_uncut, same_cut, same_fifo}
@@ -85,6 +86,12 @@ at_each W May Within each s t (link ∷ links) f i h =
 
 -- ---- what was conserved
 
+-- for how large the driver takes the FIFOs
+size_kept-chain : (s t : State) (links : List Link) → Chain s links t → (fields (inner_of t)).size ≡ (fields (inner_of s)).size
+size_kept-chain s t links chain =
+    chain_keeps CallStep (λ u. (fields (inner_of u)).size ≡ (fields (inner_of s)).size)
+    (λ u v call a same h. size_kept u v call a h ∙ same) s t links refl chain
+
 pub conserves : {Within : State → Call → Type 0} {cut : ℕ → ℕ} (k : GoOn Within cut) (x : Modes) (s t : State) (links : List Link) →
     x.cut ≡ cut → InSession x s → AllAt Within links → Chain s links t → Conserves s links t
 conserves k x s t links same w within chain =
@@ -98,7 +105,7 @@ conserves k x s t links same w within chain =
         dlab = dlab-in y (machine_of t).chip went.modes ∙ g.open_modes.dlab;
         loopback = loopback-in y (machine_of t).chip went.modes ∙ g.open_modes.loopback;
         fifo = went.modes.fifo ∙ (same_fifo x y g.same ∙ (sym w.fifo ∙ sym p.fifo));
-        fits = chain_keeps CallStep BurstsFit (λ s t call a fits h. fits_kept s t call a h fits) s t links w.fits chain;
+        fits = fits_by s t (size_kept-chain s t links chain) went.sends.size w.fits;
       };
       unbroken = λ u. ap (λ (v : ℕ). has_any v LCR.SET_BREAK.0) went.modes.lcr
           ∙ g.unbroken (sym (ap (λ (v : ℕ). has_any v LCR.SET_BREAK.0) w.stands.modes.lcr) ∙ u);

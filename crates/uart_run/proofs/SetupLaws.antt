@@ -126,7 +126,7 @@ ready_when_idle s t config (Err Stalled) l (d, of, (waits, saved)) path fits rea
 pub frame_when_idle_ready : (s t : State) (config : Config) (a : Answer) → CallStep s (call.SetFrameWhenIdle config) a t → Ready s → Ready t
 frame_when_idle_ready s t config a h ready =
     ready_when_idle s t config h.outcome h.did.list h.did.does h.did.path
-    (fits_kept s t (call.SetFrameWhenIdle config) a h ready.fits) ready
+    (fits_kept s t (call.SetFrameWhenIdle config) a h tt ready.fits) ready
 
 -- ---- `set_trigger_level`
 
@@ -134,19 +134,21 @@ written_level : (level : FifoTriggerLevel) → trigger_level (level_bits level) 
 written_level One = refl
 written_level _ = refl
 
-level_set : (c : ChipState) (level : FifoTriggerLevel) → c.model ≡ Uart16550A → c.fifo ≡ true →
+level_set : (c : ChipState) (level : FifoTriggerLevel) → c.model ≡ Uart16550A → c.fifo ≡ true → is_dlab_set c.latches ≡ false →
     (control c.model (level_bits level) c).receiver.trigger ≡ level
-level_set c level model on =
+level_set c level model on clear =
     ap (λ (d : ChipState). d.receiver.trigger)
-    (ap (λ (chip : Chip). control chip (level_bits level) c) model ∙ levelled c (level_bits level) on (level_bits_keep level))
+    (ap (λ (chip : Chip). control chip (level_bits level) c) model ∙ levelled c (level_bits level) on clear (level_bits_keep level))
     ∙ written_level level
 
-level_written : (m n : MachineState) (level : FifoTriggerLevel) → IsSound m → m.chip.fifo ≡ true →
+level_written : (m n : MachineState) (level : FifoTriggerLevel) → IsSound m → m.chip.fifo ≡ true → is_dlab_set m.chip.latches ≡ false →
     Path MachineStep m (Write offsets.FCR (level_bits level) ∷ []) n → n.chip.receiver.trigger ≡ level
-level_written m n level w on (mid, step, same) =
+level_written m n level w on clear (mid, step, same) =
     let c = (at_access m).chip in
     let fifo : c.fifo ≡ true = ap (λ (k : Kept). k.fifo) (kept_access m) ∙ on in
-    ap (λ (o : MachineState). o.chip.receiver.trigger) (same ∙ step) ∙ level_set c level ((sound_access m w).chip.implemented fifo) fifo
+    let shut : is_dlab_set c.latches ≡ false = ap (λ (k : Kept). is_dlab_set k.latches) (kept_access m) ∙ clear in
+    ap (λ (o : MachineState). o.chip.receiver.trigger) (same ∙ step) ∙
+    level_set c level ((sound_access m w).chip.implemented fifo) fifo shut
 
 levels_by : (s t : State) (level : FifoTriggerLevel) (a : Answer) (result : Result (Unit {0}) FifosOffError) (l : List Access) →
     IsSound (machine_of s) → a ≡ trigger_answer result → SetsTrigger level result (fields (inner_of s)) l (fields (inner_of t)) →
@@ -154,7 +156,7 @@ levels_by : (s t : State) (level : FifoTriggerLevel) (a : Answer) (result : Resu
 levels_by s t level a (Ok u) l w e (on, d) path =
     let is : l ≡ Write offsets.FCR (level_bits level) ∷ [] = d.whole ∙ (ap (λ zs. zs ++ d.back) d.first.0 ∙ d.second.0.is) in
     record {
-      leaves = λ ready done. level_written (machine_of s) (machine_of t) level w (ready.fifo ∙ on)
+      leaves = λ ready done. level_written (machine_of s) (machine_of t) level w (ready.fifo ∙ on) ready.dlab
           (path_as (machine_of s) (machine_of t) l (Write offsets.FCR (level_bits level) ∷ []) is path);
       refused = λ refused. absurd (cc);
     }

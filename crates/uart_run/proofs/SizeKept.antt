@@ -1,5 +1,6 @@
--- No call changes for which size the driver takes the FIFOs, and nothing changes the size that they have.
-use Rattle.std.proofs.Common.{◌≡◌, ℕ, Bool, true, List, Option, Result, Ok, Err, inl, inr, refl, ◌∙◌, ap}
+-- No call changes for which size the driver takes the FIFOs. Nor does it change the size that they have: that switches only on a chip
+-- that has the switch of a 16750, and only if FCR is written while DLAB is set.
+use Rattle.std.proofs.Common.{◌≡◌, ◌⊎◌, ℕ, Bool, true, false, List, Option, Result, Ok, Err, inl, inr, refl, ◌∙◌, ap}
 use Rattle.uart_spec.specs.declared.access.Access.{Access}
 use Rattle.uart_spec.specs.declared.config.Config.{Config}
 use Rattle.uart_spec.specs.declared.dump.ConfigRegisterDump.{ConfigRegisterDump}
@@ -17,9 +18,10 @@ use Rattle.uart_spec.specs.declared.registers.fifo_trigger_level.FifoTriggerLeve
 use Rattle.uart_spec.specs.declared.setup.FifoAction.{FifoAction}
 use Rattle.uart_spec.specs.declared.setup.FifoSize.{FifoSize}
 use Rattle.uart_spec.specs.declared.setup.Setup.{Setup}
+use Rattle.uart_spec.specs.declared.registers.offsets.TheConstants as offsets
 use Rattle.uart_spec.specs.Access.{Path}
-use Rattle.uart_16550.specs.Grammar.{Language}
-use Rattle.uart_16550.specs.Driver.{Doing, Fields, fields, Saving, Plain, Sets, Next, with_config, with_interrupts, with_fifo, with_saved}
+use Rattle.uart_16550.specs.Grammar.{Language, Settings}
+use Rattle.uart_16550.specs.Driver.{Doing, Fields, fields, Sets, Next, with_config, with_interrupts, with_fifo, with_saved}
 use Rattle.uart_16550.specs.Attach.{Attaches}
 use Rattle.uart_16550.specs.Frame.{SetsFrame, with_frame}
 use Rattle.uart_16550.specs.Init.{Begins, Ends, Inits}
@@ -32,10 +34,15 @@ use Rattle.uart_events.specs.declared.call.Call.TheVariants as call
 use Rattle.uart_events.specs.declared.call.Answer.{Answer}
 use Rattle.uart_calls.specs.Meaning.{meaning, outcome_of, doing_of}
 use Rattle.uart_chip.specs.Machine.{MachineState, MachineStep}
-use Rattle.uart_chip.proofs.lasting.Constants.{same_pace, same_pace-mark}
+use Rattle.uart_chip.specs.Chip.{is_dlab_set}
+use Rattle.uart_chip.specs.Switching.{NeverSwitches}
+use Rattle.uart_chip.proofs.lasting.FifoSizes.{same_size, same_size-lacking, same_size-mark}
 use Rattle.uart_run.specs.Run.{State, machine_of, CallStep}
 use Rattle.uart_run.specs.Served.{transmitter_of}
-use Rattle.uart_run.specs.Ready.{BurstsFit}
+use Rattle.uart_run.specs.Ready.{BurstsFit, IsSizeFixed, KeepsSize}
+use Rattle.uart_run.proofs.KeptLists.{AllKeep}
+use Rattle.uart_run.proofs.CallBlocks.{InBlocks}
+use Rattle.uart_run.proofs.NeverSwitched.{NeverWrites, plain_never, blocks_never, NeverEver, unwritten, unlatched, Stays, call_stays}
 
 -- ---- what the driver takes the size to be
 
@@ -203,7 +210,7 @@ call_leaves (call.Enable bits) outcome f l after does = ap size_of does.2
 call_leaves (call.Disable bits) outcome f l after does = ap size_of does.2
 call_leaves other outcome f l after does = ap size_of does.1
 
-size_kept : (s t : State) (c : Call) (a : Answer) → CallStep s c a t → (fields (inner_of t)).size ≡ (fields (inner_of s)).size
+pub size_kept : (s t : State) (c : Call) (a : Answer) → CallStep s c a t → (fields (inner_of t)).size ≡ (fields (inner_of s)).size
 size_kept s t call.Next a h = ap size_of h.driver
 size_kept s t c a h = call_leaves c h.outcome (fields (inner_of s)) h.did.list (fields (inner_of t)) h.did.does
 
@@ -213,13 +220,51 @@ pub fits_by : (s t : State) → (fields (inner_of t)).size ≡ (fields (inner_of
     BurstsFit s → BurstsFit t
 fits_by s t driver chip fits = rw (driver, chip) fits
 
+-- these accesses do not switch the size
+abbrev pub LeavesSwitch : MachineState → List Access → Type 0
+LeavesSwitch m l = (m.chip.has_size_switch ≡ false) ⊎ NeverSwitches m.chip.latches.lcr l
+
+pub size_left : (l : List Access) (m n : MachineState) → LeavesSwitch m l → Path MachineStep m l n →
+    n.chip.transmitter.size ≡ m.chip.transmitter.size
+size_left l m n (inl lacks) path = (same_size-lacking l m n lacks path).transmitter
+size_left l m n (inr never) path = (same_size l m n never path).transmitter
+
+-- accesses that never do; reads and writes of data; those of blocks; and those that write no LCR
+pub left_ever : (m : MachineState) (l : List Access) → NeverEver l → LeavesSwitch m l
+left_ever m l never = inr (never m.chip.latches.lcr)
+
+pub left_plain : (m : MachineState) (s : Settings) (L : Language) (l : List Access) → AllKeep s L → L s l → LeavesSwitch m l
+left_plain m s L l keeps made = left_ever m l (unwritten l (plain_never offsets.FCR refl l (keeps l made)))
+
+pub left_blocks : (m : MachineState) (most : ℕ) (l : List Access) (written read : List ℕ) → InBlocks most l written read → LeavesSwitch m l
+left_blocks m most l written read blocks = left_ever m l (unwritten l (blocks_never most l written read blocks))
+
+pub left_fixed : (m : MachineState) (l : List Access) → NeverWrites offsets.LCR l → IsSizeFixed m → LeavesSwitch m l
+left_fixed m l never (inl lacks) = inl lacks
+left_fixed m l never (inr clear) = inr (unlatched m.chip.latches.lcr l clear never)
+
 -- after accesses
 pub fits_after : (s t : State) (l : List Access) → (fields (inner_of t)).size ≡ (fields (inner_of s)).size →
-    Path MachineStep (machine_of s) l (machine_of t) → BurstsFit s → BurstsFit t
-fits_after s t l driver path fits = fits_by s t driver (same_pace l (machine_of s) (machine_of t) path).size fits
+    LeavesSwitch (machine_of s) l → Path MachineStep (machine_of s) l (machine_of t) → BurstsFit s → BurstsFit t
+fits_after s t l driver leaves path fits = fits_by s t driver (size_left l (machine_of s) (machine_of t) leaves path) fits
 
-pub fits_kept : (s t : State) (c : Call) (a : Answer) → CallStep s c a t → BurstsFit s → BurstsFit t
-fits_kept s t call.Next a h fits =
+call_leaves_switch : (s : State) (c : Call) (l : List Access) → Stays c l → KeepsSize s c → LeavesSwitch (machine_of s) l
+call_leaves_switch s (call.SetTriggerLevel level) l stays keeps = left_fixed (machine_of s) l stays keeps
+call_leaves_switch s (call.Quiesce outputs fifos) l stays keeps = left_fixed (machine_of s) l stays keeps
+call_leaves_switch s call.TestLoopback l stays keeps = left_fixed (machine_of s) l stays keeps
+call_leaves_switch s other l stays keeps = left_ever (machine_of s) l stays
+
+-- whatever is called, the size stays while DLAB is clear
+pub keeps_size : (s : State) (c : Call) → is_dlab_set (machine_of s).chip.latches ≡ false → KeepsSize s c
+keeps_size s (call.SetTriggerLevel level) clear = inr clear
+keeps_size s (call.Quiesce outputs fifos) clear = inr clear
+keeps_size s call.TestLoopback clear = inr clear
+keeps_size s other clear = tt
+
+pub fits_kept : (s t : State) (c : Call) (a : Answer) → CallStep s c a t → KeepsSize s c → BurstsFit s → BurstsFit t
+fits_kept s t call.Next a h keeps fits =
     fits_by s t (size_kept s t call.Next a h)
-    (ap (λ (m : MachineState). m.chip.transmitter.size) h.machine ∙ (same_pace-mark (machine_of s)).size) fits
-fits_kept s t other a h fits = fits_after s t h.did.list (size_kept s t other a h) h.did.path fits
+    (ap (λ (m : MachineState). m.chip.transmitter.size) h.machine ∙ (same_size-mark (machine_of s)).transmitter) fits
+fits_kept s t c a h keeps fits =
+    let stays = call_stays c h.outcome (fields (inner_of s)) h.did.list (fields (inner_of t)) h.did.does in
+    fits_after s t h.did.list (size_kept s t c a h) (call_leaves_switch s c h.did.list stays keeps) h.did.path fits

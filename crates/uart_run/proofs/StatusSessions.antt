@@ -24,9 +24,8 @@ use Rattle.uart_chip.proofs.conservation.BlockLaws.{IsOpen}
 use Rattle.uart_chip.proofs.conservation.SessionLaws.{taken_entered, look_clears, status_clears}
 use Rattle.uart_chip.proofs.statuses.StatusLaws.{LsrTells, lsr_tells, MsrTells, msr_tells}
 use Rattle.uart_run.proofs.Chains.{step_is, ended}
-use Rattle.uart_run.proofs.SizeKept.{fits_kept}
 use Rattle.uart_run.proofs.CallLaws.{Passes, InSession}
-use Rattle.uart_run.proofs.FrameLaws.{GoOn, AllAt, in_session-gone, same_cut}
+use Rattle.uart_run.proofs.FrameLaws.{GoOn, AllAt, session_fits, in_session-gone, same_cut}
 use Rattle.uart_run.proofs.SessionCalls.{goes_chain}
 
 -- ---- lists of calls
@@ -167,7 +166,7 @@ module _ {Within : State → Call → Type 0} {cut : ℕ → ℕ} (k : GoOn With
       let here = subst W (sym chain.0) w in
       let step = step_is CallStep first.before first.after first.call c first.answer first.answer begins refl chain.1 in
       let g = k.go x first.before first.after first.call first.answer same here within.0 chain.1 in
-      let fits = fits_kept first.before first.after first.call first.answer chain.1 here.fits in
+      let fits = session_fits x first.before first.after first.call first.answer here chain.1 in
       let after = in_session-gone x _ _ first.before first.after _ _ here g fits in (
         (i x).took first.before first.after first.answer step,
         g.modes,

@@ -1,5 +1,5 @@
 -- That lines and a break may be switched in a session.
-use Rattle.std.proofs.Common.{ℕ, Bool}
+use Rattle.std.proofs.Common.{ℕ, Bool, refl}
 use Rattle.uart_spec.specs.declared.registers.modem_control.TheConstants.MCR
 use Rattle.uart_16550.specs.Grammar.{Language}
 use Rattle.uart_16550.specs.Driver.{Made}
@@ -9,21 +9,24 @@ use Rattle.uart_16550.proofs.Doings.{did_made}
 use Rattle.uart_chip.specs.Machine.{MachineState, MachineStep}
 use Rattle.uart_run.specs.Ready.{Ready, BurstsFit}
 use Rattle.uart_run.specs.ReceivedErrors.{under_terminal}
-use Rattle.uart_run.proofs.SizeKept.{fits_after}
+use Rattle.uart_run.specs.Run.{machine_of}
+use Rattle.uart_run.proofs.NeverSwitched.{NeverEver, unwritten}
+use Rattle.uart_run.proofs.SizeKept.{left_ever, fits_after}
 use Rattle.uart_run.proofs.FrameLaws.{set_output_ready, set_break_ready}
 
 -- a call that saves what it reads changes no size
-switched_fits : (before after : Uart16550 MachineState) (L : Language) → Made MachineStep L before after →
-    Ready (under_terminal before) → BurstsFit (under_terminal after)
-switched_fits before after L made ready =
-    fits_after (under_terminal before) (under_terminal after) made.list made.size made.path ready.fits
+switched_fits : (before after : Uart16550 MachineState) (L : Language) → (made : Made MachineStep L before after) →
+    NeverEver made.list → Ready (under_terminal before) → BurstsFit (under_terminal after)
+switched_fits before after L made stays ready =
+    let leaves = left_ever (machine_of (under_terminal before)) made.list stays in
+    fits_after (under_terminal before) (under_terminal after) made.list made.size leaves made.path ready.fits
 
 switch_output : (output : ℕ) (on : Bool) (before after : Uart16550 MachineState) → Ready (under_terminal before) →
     Made MachineStep (SetsOutput output on) before after → Ready (under_terminal after)
 switch_output output on before after ready made =
     let d = did_made made in
     set_output_ready (under_terminal before) (under_terminal after) output on d.list d.does d.path
-    (switched_fits before after _ made ready) ready
+    (switched_fits before after _ made (unwritten made.list (rw made.fits.1 (tt, (refl, tt)))) ready) ready
 
 pub switch_rts : (on : Bool) (before after : Uart16550 MachineState) → Ready (under_terminal before) →
     Made MachineStep (SetsOutput MCR.RTS.0 on) before after → Ready (under_terminal after)
@@ -37,4 +40,5 @@ pub switch_break : (on : Bool) (before after : Uart16550 MachineState) → Ready
     Made MachineStep (SetsBreak on) before after → Ready (under_terminal after)
 switch_break on before after ready made =
     let d = did_made made in
-    set_break_ready (under_terminal before) (under_terminal after) on d.list d.does d.path (switched_fits before after _ made ready) ready
+    set_break_ready (under_terminal before) (under_terminal after) on d.list d.does d.path
+    (switched_fits before after _ made (unwritten made.list (rw made.fits.1 (tt, (refl, tt)))) ready) ready

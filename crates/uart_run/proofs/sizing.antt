@@ -1,4 +1,4 @@
--- What `find_fifo_size` finds, and when it must succeed.
+-- What `find_fifo_size` finds, and when it must succeed; and what `enable_64_byte_fifos` enables.
 pub mod Filling
 pub mod Flooding
 pub mod Counting
@@ -9,3 +9,4 @@ pub mod Walking
 pub mod Finding
 pub mod Lacking
 pub mod Succeeding
+pub mod Enabling

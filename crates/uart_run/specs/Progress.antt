@@ -67,7 +67,7 @@ IsUnheld m = is_auto_flow m.chip ≡ false
 
 -- it is off, and this setup does not turn it on
 abbrev pub StaysUnheld : Setup → MachineState → Type 0
-StaysUnheld setup m = IsUnheld m × ((m.chip.auto_flow && has_any setup.outputs.0 MCR._RESERVED0.0) ≡ false)
+StaysUnheld setup m = IsUnheld m × ((m.chip.auto_flow && has_any setup.outputs.0 MCR.AUTO_FLOW.0) ≡ false)
 
 -- A transmitter holds at most n characters of t ticks, n being `most_held`, and with a tick before each look every look
 -- finds less left. The premises can be checked against a schedule. CTS checking is left out, because a remote may never

@@ -53,6 +53,20 @@ latches_of s = (machine_of s).chip.latches
 abbrev pub BurstsFit : State → Type 0
 BurstsFit s = characters (fields (inner_of s)).size ≤ characters (transmitter_of s).size
 
+-- A 16750 switches the size of its FIFOs when FCR is written while DLAB is set. No call does that in a ready state,
+-- where DLAB is clear. An `init`, an `init_with` and a `restore` clear it before they write FCR.
+
+-- no write of FCR switches the size of the FIFOs: the chip has no switch of it, or DLAB is clear
+abbrev pub IsSizeFixed : MachineState → Type 0
+IsSizeFixed m = (m.chip.has_size_switch ≡ false) ⊎ (is_dlab_set m.chip.latches ≡ false)
+
+-- the FIFOs have the same size after the call: these three may write FCR, and leave DLAB as it is
+abbrev pub KeepsSize : State → Call → Type 0
+KeepsSize s (call.SetTriggerLevel level) = IsSizeFixed (machine_of s)
+KeepsSize s (call.Quiesce outputs fifos) = IsSizeFixed (machine_of s)
+KeepsSize s call.TestLoopback = IsSizeFixed (machine_of s)
+KeepsSize s other = Unit {0}
+
 -- A session is a property of states. So it may begin after an `init` that stalled or was refused, in the middle of a
 -- list of calls, or in a later `run`.
 

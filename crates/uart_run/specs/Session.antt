@@ -14,7 +14,7 @@ use Rattle.uart_run.specs.Run.{State, machine_of, Link, Chain, IsRun}
 use Rattle.uart_run.specs.Wired.{IsWired}
 use Rattle.uart_run.specs.Statuses.{Tells}
 use Rattle.uart_run.specs.Served.{AllServe}
-use Rattle.uart_run.specs.Ready.{Ready, BurstsFit, IsUnbroken, ComesTo}
+use Rattle.uart_run.specs.Ready.{Ready, BurstsFit, KeepsSize, IsUnbroken, ComesTo}
 use Rattle.uart_run.specs.Progress.{IsTimely, Succeeds}
 
 -- the call is no `init`, `init_with`, `restore` and no loopback test, which end a session, and no `quiesce` that writes
@@ -134,11 +134,11 @@ pub record Conserves (s : State) (links : List Link) (t : State) : Type 0 where
 -- left in any state is covered. A loopback test ends one session, and the next begins after it: nothing is lost between
 -- the two except what the test discards.
 
--- whatever its answer is, it preserves a ready state, a driver that takes the FIFOs for no larger than they are, and a
--- wired machine; it has an outcome that it should have; and if ticks pass, it succeeds
+-- whatever its answer is, it preserves a ready state, a driver that takes the FIFOs for no larger than they are, if it
+-- keeps their size, and a wired machine; it has an outcome that it should have; and if ticks pass, it succeeds
 pub record Follows (s : State) (call : Call) (a : Answer) (t : State) : Type 0 where
   pub ready : Ready s → Ready t
-  pub fits : BurstsFit s → BurstsFit t
+  pub fits : KeepsSize s call → BurstsFit s → BurstsFit t
   pub wired : IsWired s → IsWired t
   pub comes_to : ComesTo s call a t
   pub succeeds : IsTimely s → Succeeds s call a

@@ -1,7 +1,9 @@
--- What `find_fifo_size` finds over the machine, and what it leaves.
-use Rattle.std.specs.Prelude.{◌≡◌, ◌⊎◌, ◌≤◌, ℕ, false, List, [], ◌∷◌, ◌++◌, Result, Ok, Err, unwrap_or}
+-- What `find_fifo_size` and `enable_64_byte_fifos` find over the machine, and what they leave.
+use Rattle.std.specs.Prelude.{◌≡◌, ◌⊎◌, ◌≤◌, ℕ, Bool, true, false, List, [], ◌∷◌, ◌++◌, Result, Ok, Err, unwrap_or}
+use Rattle.std.specs.Prelude.{if◌then◌else◌}
 use Rattle.std.specs.List.{AllByRecursion}
 use Rattle.uart_spec.specs.declared.setup.FifoSize.{FifoSize}
+use Rattle.uart_spec.specs.declared.setup.FifoSize.TheVariants.{SixtyFour}
 use Rattle.uart_spec.specs.declared.errors.FifoSizeError.{FifoSizeError}
 use Rattle.uart_spec.specs.declared.errors.FifoSizeError.TheVariants.{FifosOff, TooFew, Stalled}
 use Rattle.uart_spec.specs.declared.registers.fifo_trigger_level.FifoTriggerLevel.TheVariants.{One}
@@ -14,7 +16,7 @@ use Rattle.uart_chip.specs.declared.receiver.Origin.{Origin}
 use Rattle.uart_chip.specs.declared.receiver.Origin.TheVariants.{Arrived}
 use Rattle.uart_chip.specs.Chip.{cut_of, is_dlab_set, is_loopback}
 use Rattle.uart_chip.specs.Receiver.{ReceiverState}
-use Rattle.uart_chip.specs.Conserved.{out}
+use Rattle.uart_chip.specs.Conserved.{out, waiting, kept}
 use Rattle.uart_run.specs.Run.{State, machine_of}
 use Rattle.uart_run.specs.Ready.{Ready, BurstsFit, latches_of}
 use Rattle.uart_run.specs.Served.{transmitter_of, IsFlushed}
@@ -96,3 +98,48 @@ pub record FindsNone (s : State) (found : Result FifoSize FifoSizeError) (t : St
   pub flushed : found ≡ Err (TooFew 1) → IsFlushed s t
   pub ready : found ≡ Err (TooFew 1) → BurstsFit t → Ready t
   pub latches : latches_of t ≡ latches_of s
+
+-- ---- `enable_64_byte_fifos`
+
+-- the size of FIFOs that were asked to hold 64: 64 on a chip that has the switch of a 16750, and on any other the size
+-- that they had
+abbrev pub enabled_size : State → FifoSize
+enabled_size s = if (machine_of s).chip.has_size_switch then SixtyFour else size_in s
+
+-- nothing that was received is lost: what waits is what waited and what has arrived since, but for what was dropped
+abbrev pub LosesNone : State → State → Type 0
+LosesNone s t = waiting (machine_of t) ≡ kept (machine_of s) (machine_of t)
+
+-- after one that asked: it returned whether the chip has the switch, and the FIFOs have the size that follows; the
+-- transmitter is empty, and the wire has what was to be sent before, and nothing else; received bytes that were not
+-- taken are lost only where the size has changed; the latches are as before, and the FIFOs are on; and the state is
+-- ready, if the driver takes them for no larger than they are
+pub record IsEnabled (s : State) (on : Bool) (t : State) : Type 0 where
+  pub answers : on ≡ (machine_of s).chip.has_size_switch
+  pub size : size_in t ≡ enabled_size s
+  pub flushed : IsFlushed s t
+  pub received : size_in t ≡ size_in s → LosesNone s t
+  pub latches : latches_of t ≡ latches_of s
+  pub fifo : (machine_of t).chip.fifo ≡ true
+  pub ready : BurstsFit t → Ready t
+
+-- after one that stalled, which has written nothing: the size and the latches are as before, nothing is lost, and the
+-- state is ready
+pub record IsStillAsBefore (s t : State) : Type 0 where
+  pub sent : out (machine_of t) ≡ out (machine_of s)
+  pub received : LosesNone s t
+  pub size : size_in t ≡ size_in s
+  pub latches : latches_of t ≡ latches_of s
+  pub ready : Ready t
+
+-- one of a driver that takes the FIFOs to be on asks or stalls
+abbrev pub Enables : State → Result Bool FifoSizeError → State → Type 0
+Enables s (Ok on) t = IsEnabled s on t
+Enables s (Err Stalled) t = IsStillAsBefore s t
+Enables s (Err other) t = ⊥
+
+-- one of a driver that takes them to be off does nothing
+pub record EnablesOff (s : State) (enabled : Result Bool FifoSizeError) (t : State) : Type 0 where
+  pub answers : enabled ≡ Err FifosOff
+  pub machine : machine_of t ≡ machine_of s
+  pub driver : fields (inner_of t) ≡ fields (inner_of s)

@@ -7,7 +7,7 @@ ghost use Rattle.uart_16550.specs.Driver.{Did, Made, backend_of, fields};
 ghost use Rattle.uart_16550.specs.Frame.{SetsBreak, SetsOutput};
 ghost use Rattle.uart_16550.specs.Init.{Inits};
 ghost use Rattle.uart_16550.specs.Setup.{InitsWith};
-ghost use Rattle.uart_16550.specs.Sizing.{FindsFifoSize};
+ghost use Rattle.uart_16550.specs.Sizing.{Enables64, FindsFifoSize};
 ghost use Rattle.uart_chip.specs.Masks.{ier_bits, mcr_bits};
 ghost use Rattle.uart_spec.specs.Bits.{IsWithin};
 ghost use Rattle.uart_spec.specs.Config.{IsComputable};
@@ -34,8 +34,8 @@ ghost use Rattle.uart_run.specs.Ready.{BurstsFit, KeepsReady, Ready};
 ghost use Rattle.uart_run.specs.Overruns.{FlagTells, LeavesReceiver, OverrunsStand};
 ghost use Rattle.uart_run.specs.ReceivedErrors.{ReceivedExactly, under_terminal};
 ghost use Rattle.uart_run.specs.Progress.{HasRoom, IsTimely, IsUnheld};
-ghost use Rattle.uart_run.specs.Sizes.{FindsNone, FindsOff, FindsSize, IsPlain, MayFind};
-ghost use Rattle.uart_run.specs.Sizes.{size_in};
+ghost use Rattle.uart_run.specs.Sizes.{Enables, EnablesOff, FindsNone, FindsOff, FindsSize};
+ghost use Rattle.uart_run.specs.Sizes.{IsPlain, MayFind, size_in};
 
 use uart_16550::Uart16550;
 use uart_chip::Device16550;
@@ -186,6 +186,44 @@ pub fn fifo_sizes_are_found(uart: &Uart16550<Device16550>)
         HasRoom 0 (backend_of uart.now) →
         Did MachineStep (FindsFifoSize found) uart.now after →
         found ≡ Ok (size_in (under_terminal uart.now)) }
+{
+    // The contract of this call states what holds of every machine.
+    let _fifo = uart.backend().fifo_enabled();
+}
+
+/// In a ready state `enable_64_byte_fifos` returns whether the chip has the switch of a 16750, or
+/// it stalls, whatever the schedule is. A chip that has it has FIFOs of 64 then, and any other the
+/// size that it had.
+///
+/// If it does not stall, the transmitter is empty: what waited went to the wire, and nothing of the
+/// call did. Received bytes that were not taken are lost only on a chip whose size has changed. The
+/// latches are as before, the FIFOs are on, and a session may begin, if the driver takes them for
+/// no larger than they are. After a stall nothing is lost, the size and the latches are as before,
+/// and a session may begin. A driver that takes the FIFOs to be off does nothing.
+///
+/// The call does not stall if each access of the schedule has a tick before it, the spin limit is
+/// at least n (t + 1) for characters of t ticks, of which the transmitter holds n, the wire has
+/// room for what waits, and automatic flow control is off.
+///
+/// # Examples
+///
+/// ```
+/// fifos_of_64_are_enabled(&uart);
+/// ```
+pub fn fifos_of_64_are_enabled(uart: &Uart16550<Device16550>)
+    ensures off { (after : Uart16550 MachineState) (enabled : Result Bool FifoSizeError) →
+        (fields uart.now).fifo ≡ false →
+        Did MachineStep (Enables64 enabled) uart.now after →
+        EnablesOff (under_terminal uart.now) enabled (under_terminal after) }
+    ensures on { (after : Uart16550 MachineState) (enabled : Result Bool FifoSizeError) →
+        Ready (under_terminal uart.now) → (fields uart.now).fifo ≡ true →
+        Did MachineStep (Enables64 enabled) uart.now after →
+        Enables (under_terminal uart.now) enabled (under_terminal after) }
+    ensures ends { (after : Uart16550 MachineState) (enabled : Result Bool FifoSizeError) →
+        IsTimely (under_terminal uart.now) → IsUnheld (backend_of uart.now) →
+        HasRoom 0 (backend_of uart.now) →
+        Did MachineStep (Enables64 enabled) uart.now after →
+        enabled ≢ Err Stalled }
 {
     // The contract of this call states what holds of every machine.
     let _fifo = uart.backend().fifo_enabled();

@@ -1,16 +1,20 @@
--- The interrupt identification shows whether the FIFO is on.
-use Rattle.std.proofs.Common.{◌≡◌, ℕ, ◌∙◌, ap}
+-- The interrupt identification shows whether the FIFO is on, and whether a chip with a size switch has FIFOs of 64.
+use Rattle.std.proofs.Common.{◌≡◌, ℕ, Bool, ◌&&◌, ◌∙◌, ap}
 use Rattle.uart_spec.specs.Bits.{has}
 use Rattle.uart_spec.specs.declared.access.Access.TheVariants.{Read}
 use Rattle.uart_spec.specs.declared.registers.interrupt_status.TheConstants.ISR
 use Rattle.uart_spec.specs.declared.registers.offsets.TheConstants as offsets
-use Rattle.uart_chip.specs.Chip.{ChipState, interrupt, answer}
+use Rattle.uart_chip.specs.Chip.{ChipState, interrupt, is_64, answer}
 use Rattle.uart_chip.specs.Machine.{MachineState, MachineStep, at_access}
 use Rattle.uart_chip.proofs.FifoBits.{all_shown}
 use Rattle.uart_run.proofs.Latches.{Kept, kept_access}
 
+-- what it shows of the size while the FIFO is on: the chip has the switch, and its FIFOs hold 64
+abbrev pub shows_64 : ChipState → Bool
+shows_64 c = c.has_size_switch && is_64 c.receiver.size
+
 chip_shows : (c : ChipState) → has (answer offsets.ISR c) ISR.FIFOS_ENABLED.0 ≡ c.fifo
-chip_shows c = all_shown c.fifo (interrupt c)
+chip_shows c = all_shown c.fifo (shows_64 c) (interrupt c)
 
 -- what a read shows of the machine before it
 pub fifo_shown : (m n : MachineState) (value : ℕ) → MachineStep m (Read offsets.ISR value) n → has value ISR.FIFOS_ENABLED.0 ≡ m.chip.fifo

@@ -38,6 +38,8 @@ use Rattle.uart_run.proofs.Pieces.{then_parts, next_stages}
 use Rattle.uart_run.proofs.progress.Nearing.{RunsFree, free_runs, free-path, free-latch}
 use Rattle.uart_run.proofs.SilentLists.{IsSilent, silent_presence, silent_sets_fifo, silent_drains}
 use Rattle.uart_run.proofs.progress.WaitEnds.{no_stall-empty}
+use Rattle.uart_run.proofs.NeverSwitched.{begins_stay}
+use Rattle.uart_run.proofs.SizeKept.{left_ever}
 use Rattle.uart_run.proofs.progress.Succeeds.{few_left}
 use Rattle.uart_spec.specs.declared.registers.modem_control.TheConstants.MCR
 use Rattle.uart_chip.proofs.AutoFlow.{cleared_off}
@@ -151,9 +153,10 @@ no_stall-init s t config divisor fifo l w timely room does path =
     let b = free-begins config divisor fifo f a.mid a.parts.front (machine_of s) n
     (record { sound = w; ticked = timely.ticked; room = room }) a.parts.first a.parts.before in
     let few : left n.chip.transmitter < a.mid.limit = rw (limit-begins config divisor fifo f a.mid a.parts.front a.parts.first)
-    (few_left s a.parts.front n w timely a.parts.before) in
+    (few_left s a.parts.front n w timely
+    (left_ever (machine_of s) a.parts.front (begins_stay config divisor fifo f a.parts.front a.mid a.parts.first)) a.parts.before) in
     let set = begun config divisor fifo f a.mid a.parts.front (machine_of s) n w a.parts.first a.parts.before in
-    let unheld : IsUnheld n = cleared_off n.chip (ap (λ (k : Kept). has_any k.latches.mcr MCR._RESERVED0.0) set.kept) in
+    let unheld : IsUnheld n = cleared_off n.chip (ap (λ (k : Kept). has_any k.latches.mcr MCR.AUTO_FLOW.0) set.kept) in
     no_stall-empty (settings_of a.mid) a.mid.limit a.parts.back n (machine_of t) (free_runs n unheld b) few a.parts.second.0 a.parts.after
 
 pub init_succeeds : (s t : State) (config : Config) (a : Answer) → IsSound (machine_of s) → IsTimely s → HasRoom 0 (machine_of s) →

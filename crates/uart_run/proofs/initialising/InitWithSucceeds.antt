@@ -34,6 +34,8 @@ use Rattle.uart_run.proofs.Pieces.{then_parts, next_stages}
 use Rattle.uart_run.proofs.progress.Nearing.{Runs, RunsFree, free_runs}
 use Rattle.uart_run.proofs.SilentLists.{IsSilent, silence, silent_asks, silent_presence, silent_sets_fifo}
 use Rattle.uart_run.proofs.progress.WaitEnds.{no_stall-empty}
+use Rattle.uart_run.proofs.NeverSwitched.{never_ever, unwritten, checks_never, looks_stay, sets_up_stays}
+use Rattle.uart_run.proofs.SizeKept.{left_ever}
 use Rattle.uart_run.proofs.progress.Succeeds.{few_left, runs, settings_at}
 use Rattle.uart_run.proofs.initialising.InitSucceeds.{free-line, free-list, free-drained, free-sets, no_refusal}
 use Rattle.uart_spec.specs.declared.registers.modem_control.TheConstants.MCR
@@ -86,11 +88,11 @@ limit-set setup config divisor fifo f mid l t =
     ap at d.second.1 ∙ (ap at d.first.1 ∙ (ap at c.first.1 ∙ ap at t.first.1))
 
 -- the bit of automatic flow control is not kept
-outputs_off : (f : Bool) (outputs : ℕ) → (f && has_any outputs MCR._RESERVED0.0) ≡ false →
-    has_any (kept_mcr f (unlooped outputs)) MCR._RESERVED0.0 ≡ false
+outputs_off : (f : Bool) (outputs : ℕ) → (f && has_any outputs MCR.AUTO_FLOW.0) ≡ false →
+    has_any (kept_mcr f (unlooped outputs)) MCR.AUTO_FLOW.0 ≡ false
 outputs_off f outputs e =
     flow_bit f (unlooped outputs) ∙ (ap (λ (b : Bool). b && f) (has_and 5 outputs 239 refl)
-    ∙ swapped f (has_any outputs MCR._RESERVED0.0) e)
+    ∙ swapped f (has_any outputs MCR.AUTO_FLOW.0) e)
   where
     swapped : (a b : Bool) → (a && b) ≡ false → (b && a) ≡ false
     swapped true true e = e
@@ -131,10 +133,11 @@ no_stall-first setup config s t l w timely unheld room does path =
         (record { sound = w; ticked = timely.ticked; room = room }) p.first p.before in
         let few : left p.between.chip.transmitter < mid.limit =
         subst (λ (n : ℕ). left p.between.chip.transmitter < n) (sym (ap (λ (g : Fields). g.limit) same))
-        (few_left s p.front p.between w timely p.before) in
+        (few_left s p.front p.between w timely
+        (left_ever (machine_of s) p.front (unwritten p.front (checks_never v asked true p.front p.first))) p.before) in
         let scratched = checks_if v asked p.front (machine_of s) p.between p.first p.before in
         let still : IsUnheld p.between =
-        ap (λ (k : Kept). k.auto_flow && has_any k.latches.mcr MCR._RESERVED0.0) scratched.kept ∙ unheld in
+        ap (λ (k : Kept). k.auto_flow && has_any k.latches.mcr MCR.AUTO_FLOW.0) scratched.kept ∙ unheld in
         vain (is_first setup.wait) v p.back p.between (machine_of t) (free_runs p.between still r) few p.second p.after
 
 no_stall-last : (setup : Setup) (config : Config) (divisor : ℕ) (fifo : Bool) (s t : State) (l : List Access) → IsSound (machine_of s) →
@@ -167,15 +170,18 @@ no_stall-last setup config divisor fifo s t l w timely unheld room does path =
         let few : left c.parts.between.chip.transmitter < c.mid.limit =
         subst (λ (n : ℕ). left c.parts.between.chip.transmitter < n) (sym limit)
         (few_left s (b.parts.front ++ c.parts.front) c.parts.between w timely
+        (left_ever m (b.parts.front ++ c.parts.front) (never_ever.append b.parts.front c.parts.front
+        (looks_stay setup true mid b.parts.front b.mid b.parts.first)
+        (sets_up_stays setup config divisor fifo b.mid c.parts.front c.mid c.parts.first)))
         (path_then MachineStep m b.parts.between c.parts.between b.parts.front c.parts.front b.parts.before c.parts.before)) in
         let begun = sound_path b.parts.front m b.parts.between w b.parts.before in
         let put = placed setup config divisor fifo b.mid c.mid c.parts.front b.parts.between c.parts.between begun c.parts.first
         c.parts.before in
         let same = flow_path b.parts.front m b.parts.between b.parts.before in
         let written = outputs_off b.parts.between.chip.auto_flow setup.outputs.0
-        (ap (λ (f : Bool). f && has_any setup.outputs.0 MCR._RESERVED0.0) same ∙ unheld.1) in
+        (ap (λ (f : Bool). f && has_any setup.outputs.0 MCR.AUTO_FLOW.0) same ∙ unheld.1) in
         let off : IsUnheld c.parts.between = cleared_off c.parts.between.chip
-        (ap (λ (k : Kept). has_any k.latches.mcr MCR._RESERVED0.0) put.kept ∙ written) in
+        (ap (λ (k : Kept). has_any k.latches.mcr MCR.AUTO_FLOW.0) put.kept ∙ written) in
         vain (is_last setup.wait) (settings_of c.mid) c.parts.back c.parts.between n (free_runs c.parts.between off set) few
         c.parts.second.0 c.parts.after
 
@@ -207,4 +213,4 @@ frame_when_idle_succeeds s t config a l (Err (frame_error.InvalidBaudRate cause)
     absurd (no_refusal config cause divisor does.0)
 frame_when_idle_succeeds s t config a l (Err frame_error.Stalled) w timely unheld room divisor e (other, of, (waits, saved)) path =
     absurd (no_stall-empty (settings_at s) (settings_at s).limit l (machine_of s) (machine_of t) (runs s w timely unheld room)
-    (few_left s [] (machine_of s) w timely refl) waits path)
+    (few_left s [] (machine_of s) w timely (inr tt) refl) waits path)

@@ -164,7 +164,7 @@ pub init_ready : (s t : State) (config : Config) (a : Answer) → IsSound (machi
 init_ready s t config a w h ready = go h.outcome h.did.does
   where
     fits : BurstsFit t
-    fits = fits_kept s t (call.Init config) a h ready.fits
+    fits = fits_kept s t (call.Init config) a h tt ready.fits
 
     go : (result : Result (Unit {0}) InitError) → Inits config result (fields (inner_of s)) h.did.list (fields (inner_of t)) → Ready t
     go (Ok x) (d, on, of, does) = (done config d on (fields (inner_of s)) h.did.list (machine_of s) t w of does h.did.path).ready fits

@@ -326,7 +326,7 @@ pub init_with_ready : (s t : State) (config : Config) (setup : Setup) (a : Answe
 init_with_ready s t config setup a w h ready = go h.outcome h.did.does
   where
     fits : BurstsFit t
-    fits = fits_kept s t (call.InitWith config setup) a h ready.fits
+    fits = fits_kept s t (call.InitWith config setup) a h tt ready.fits
 
     go : (result : Result (Unit {0}) InitError) →
         InitsWith setup config result (fields (inner_of s)) h.did.list (fields (inner_of t)) → Ready t

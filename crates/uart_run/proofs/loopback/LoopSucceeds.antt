@@ -40,6 +40,9 @@ use Rattle.uart_run.proofs.loopback.LoopWaits.{Lives, lives-path, never_dry, nev
 use Rattle.uart_run.proofs.loopback.LoopTests.{tested, IsBegun, begun, looped_modes, in_loopback}
 use Rattle.uart_run.proofs.progress.Nearing.{RunsFree, free_runs, free-path}
 use Rattle.uart_run.proofs.progress.WaitEnds.{no_stall-empty}
+use Rattle.uart_run.proofs.NeverSwitched.{unwritten, enters_never}
+use Rattle.uart_run.proofs.SizeKept.{left_ever, left_plain, left_fixed}
+use Rattle.uart_run.proofs.loopback.KeptExchanges.{keeps_begins, keeps_drained, keeps_byte, keeps_echoes}
 use Rattle.uart_run.proofs.progress.Succeeds.{few_left}
 use Rattle.uart_spec.specs.declared.registers.modem_control.TheConstants.MCR
 use Rattle.uart_spec.specs.Bits.{has_any}
@@ -111,7 +114,8 @@ no_stall-each : (x : Modes) (gone : List ℕ) (s : Settings) (l : List Access) (
 no_stall-each x gone s l m n v r (pairs, byte, rest, sent, t) path =
     let p = then_parts (InOrder Echo pairs) (EchoFails byte) s l m n t path in
     let a = each_exchanged x gone s pairs p.front m p.between r p.first p.before in
-    no_stall-echo x gone s byte p.back p.between n (lives-path s.limit p.front m p.between v p.before) a.ready p.second p.after
+    let leaves = left_plain m s (InOrder Echo pairs) p.front (keeps_echoes s pairs) p.first in
+    no_stall-echo x gone s byte p.back p.between n (lives-path s.limit p.front m p.between v leaves p.before) a.ready p.second p.after
 
 no_stall-message : (x : Modes) (gone : List ℕ) (s : Settings) (l : List Access) (m n : MachineState) → Lives s.limit m →
     IsReadyToTest x gone s m → HasEchoedAll test_message None s l → Path MachineStep m l n → ⊥
@@ -129,7 +133,8 @@ no_stall-exchange x gone s l m n v e (inl t) path = never_flooded x gone s l m n
 no_stall-exchange x gone s l m n v e (inr (inl t)) path =
     let p = then_parts (DrainsLoopback true) (ExchangesByte {T = Unit {0}} (Err Stalled)) s l m n t path in
     let r = drained x gone s p.front m p.between e p.first p.before in
-    no_stall-byte x gone s p.back p.between n (lives-path s.limit p.front m p.between v p.before) r p.second p.after
+    let leaves = left_plain m s (DrainsLoopback true) p.front (keeps_drained s true) p.first in
+    no_stall-byte x gone s p.back p.between n (lives-path s.limit p.front m p.between v leaves p.before) r p.second p.after
 no_stall-exchange x gone s l m n v e (inr (inr t)) path =
     let p = then_parts (DrainsLoopback true) (Then (ExchangesByte {T = Unit {0}} (Ok tt)) (ExchangesMessage {T = Unit {0}} (Err Stalled)))
     s l m n t path in
@@ -137,7 +142,10 @@ no_stall-exchange x gone s l m n v e (inr (inr t)) path =
     let q = then_parts (ExchangesByte {T = Unit {0}} (Ok tt)) (ExchangesMessage {T = Unit {0}} (Err Stalled)) s p.back
     p.between n p.second p.after in
     let a = byte_exchanged x gone s test_byte q.front p.between q.between r q.first q.before in
-    let w = lives-path s.limit q.front p.between q.between (lives-path s.limit p.front m p.between v p.before) q.before in
+    let u = lives-path s.limit p.front m p.between v (left_plain m s (DrainsLoopback true) p.front (keeps_drained s true) p.first)
+    p.before in
+    let leaves = left_plain p.between s (ExchangesByte {T = Unit {0}} (Ok tt)) q.front (keeps_byte s {T = Unit {0}} (Ok tt)) q.first in
+    let w = lives-path s.limit q.front p.between q.between u leaves q.before in
     no_stall-message x gone s q.back q.between n w a.ready q.second q.after
 
 -- ---- the whole test
@@ -155,7 +163,8 @@ no_stall-test cut gone mcr ier f after l m n v b (before, fifo, t) path =
     a.parts.before in
     let c = next_stages (Saving (Exchanges {T = Unit {0}} (Err Stalled))) (Leaves mcr ier before f.lsr) a.mid after a.parts.back
     a.parts.between n a.parts.second a.parts.after in
-    let w = lives-path f.limit a.parts.front m a.parts.between v a.parts.before in
+    let entered = enters_never f.config.fifo_trigger_level before fifo f a.parts.front a.mid a.parts.first in
+    let w = lives-path f.limit a.parts.front m a.parts.between v (left_fixed m a.parts.front entered (inr b.dlab)) a.parts.before in
     let same : f.limit ≡ a.mid.limit = sym (limit-enters before fifo f a.parts.front a.mid a.parts.first) in
     no_stall-exchange (looped_modes m.chip.latches.lcr fifo cut) gone (settings_of a.mid) c.parts.front a.parts.between c.parts.between
     (subst (λ limit. Lives limit a.parts.between) same w) e c.parts.first.0 c.parts.before
@@ -170,10 +179,11 @@ no_stall-begin s n mcr ier l w timely unheld room t path =
     let r : RunsFree (machine_of s) = record { sound = w; ticked = timely.ticked; room = room } in
     let a = free-path p.front (machine_of s) p.between r (rw p.first.is (tt, (tt, tt))) p.before in
     let only = Read offsets.MCR mcr ∷ Read offsets.IER ier ∷ [] in
-    let still : IsUnheld p.between = ap (λ (k : Kept). k.auto_flow && has_any k.latches.mcr MCR._RESERVED0.0)
+    let still : IsUnheld p.between = ap (λ (k : Kept). k.auto_flow && has_any k.latches.mcr MCR.AUTO_FLOW.0)
     (kept_list p.front only (machine_of s) p.between p.first.is p.before) ∙ unheld in
     no_stall-empty v v.limit p.back p.between n (free_runs p.between still a)
-    (few_left s p.front p.between w timely p.before) p.second p.after
+    (few_left s p.front p.between w timely
+    (left_ever (machine_of s) p.front (unwritten p.front (rw p.first.is (tt, (tt, tt))))) p.before) p.second p.after
 
 pub test_succeeds : (s t : State) (a : Answer) → IsSound (machine_of s) → Ready s → IsTimely s → IsUnheld (machine_of s) →
     HasRoom 0 (machine_of s) → CallStep s call.TestLoopback a t → a ≡ test_answer (is_narrow (machine_of s).chip)
@@ -194,7 +204,9 @@ test_succeeds s t a w ready timely unheld room h = go (tested s t a w ready h).a
             let plain : IsPlain s = record { dlab = ready.dlab; loopback = ready.loopback } in
             let b = begun s c.parts.between mcr ier c.parts.front w plain c.parts.first.0 c.parts.before in
             let v : Lives f.limit (machine_of s) = record { sound = w; ticked = timely.ticked; enough = timely.limit } in
-            let u = lives-path f.limit c.parts.front (machine_of s) c.parts.between v c.parts.before in
+            let leaves = left_plain (machine_of s) (settings_of f) (BeginsTest mcr ier true) c.parts.front
+            (keeps_begins (settings_of f) mcr ier true) c.parts.first.0 in
+            let u = lives-path f.limit c.parts.front (machine_of s) c.parts.between v leaves c.parts.before in
             let same : f.limit ≡ c.mid.limit = sym (ap (λ (g : Fields). g.limit) c.parts.first.1) in
             no_stall-test (cut_of (machine_of s).chip) (out (machine_of s).chip.transmitter) mcr ier c.mid (fields (inner_of t))
             c.parts.back c.parts.between (machine_of t) (subst (λ limit. Lives limit c.parts.between) same u) b c.parts.second c.parts.after

@@ -1,7 +1,6 @@
 -- In loopback no wait of a test is in vain, where ticks come before each access and the spin limit is long enough.
-use Rattle.std.proofs.Common.{sym, ◌≡◌, ℕ, zero, suc, ◌+◌, ◌*◌, ◌≤◌, ◌<◌, Bool, true, false, List, [], ◌∷◌}
-use Rattle.std.proofs.Common.{◌++◌, length, append-nil, map, Option, None, refl, arith, ◌∙◌, ap, subst}
-use Rattle.std.proofs.lemmas.Grind.{common_steps}
+use Rattle.std.proofs.Common.{◌≡◌, ℕ, zero, suc, ◌+◌, ◌*◌, ◌≤◌, ◌<◌, true, false, List, [], ◌∷◌}
+use Rattle.std.proofs.Common.{◌++◌, length, append-nil, map, Option, None, refl, arith, ◌∙◌, ap}
 use Rattle.std.proofs.lemmas.Bool.{lt-ltb}
 use Rattle.std.proofs.lemmas.List.{length-map}
 use Rattle.uart_spec.specs.Bits.{has, has_any}
@@ -33,6 +32,7 @@ use Rattle.uart_chip.proofs.conservation.Went.{Modes, loopback-in, IsIn}
 use Rattle.uart_chip.proofs.conservation.BlockLaws.{look_data}
 use Rattle.uart_run.proofs.EmptyTransmitter.{IsSent, sent_shown}
 use Rattle.uart_run.proofs.CallBlocks.{InBlocks, Makes, most_in, blocks_none, blocks_then, hit_blocks}
+use Rattle.uart_run.proofs.SizeKept.{LeavesSwitch, size_left, left_blocks}
 use Rattle.uart_run.proofs.Pieces.{then_parts}
 use Rattle.uart_chip.proofs.loopback.Loops.{line_in, Fits, fits-after, line-length}
 use Rattle.uart_chip.proofs.loopback.LoopAccesses.{IsLooped, loops_read}
@@ -48,11 +48,12 @@ pub record Lives (limit : ℕ) (m : MachineState) : Type 0 where
   pub ticked : IsTicked m
   pub enough : most_held m.chip.transmitter * (m.chip.transmitter.char_ticks + 1) ≤ limit
 
-pub lives-path : (limit : ℕ) (made : List Access) (m n : MachineState) → Lives limit m → Path MachineStep m made n → Lives limit n
-lives-path limit made m n v p = record {
+pub lives-path : (limit : ℕ) (made : List Access) (m n : MachineState) → Lives limit m → LeavesSwitch m made → Path MachineStep m made n →
+    Lives limit n
+lives-path limit made m n v leaves p = record {
   sound = sound_path made m n v.sound p;
   ticked = ticked-path made m n v.ticked p;
-  enough = let same = same_pace made m n p in rw (same.size, same.char_ticks) v.enough;
+  enough = rw (size_left made m n leaves p, (same_pace made m n p).char_ticks) v.enough;
 }
 
 -- what is left, and a tick for each character
@@ -65,7 +66,7 @@ few_left limit m v = let less = left_and_more limit m v in omega (arith, less)
 
 -- the modes of a loopback test have no automatic flow control
 pub looped_off : (x : Modes) (c : ChipState) → IsLooped x → IsIn x c → is_auto_flow c ≡ false
-looped_off x c i w = cleared_off c (ap (λ (v : ℕ). has_any v MCR._RESERVED0.0) w.mcr ∙ i.goes_on)
+looped_off x c i w = cleared_off c (ap (λ (v : ℕ). has_any v MCR.AUTO_FLOW.0) w.mcr ∙ i.goes_on)
 
 -- ---- what is on its way comes back
 
@@ -117,7 +118,7 @@ never_dry x gone s L l m n ws rs v r few more makes t path =
     (omega (arith, few, same)) (makes p.front p.first) p.before in
     let size : length (map x.cut ws) ≡ length ws = length-map ws x.cut in
     let long = line-length x m.chip p.between.chip (map x.cut ws) rs a in
-    let w = lives-path s.limit p.front m p.between v p.before in
+    let w = lives-path s.limit p.front m p.between v (left_blocks m (most_in s) p.front ws rs (makes p.front p.first)) p.before in
     let on : OnItsWay x p.between = record {
       fits = record { modes = a.modes; few = omega (arith, none, few, same, size, long, there) };
       some = omega (arith, none, more, size, long);

@@ -31,18 +31,12 @@ use Rattle.uart_chip.proofs.conservation.BlockLaws.{path_as}
 use Rattle.uart_run.proofs.SizeKept.{fits_kept}
 use Rattle.uart_run.proofs.Latches.{Kept, kept_in, keep_write, kept_after, kept_list, kept_access, LeftBy}
 use Rattle.uart_run.proofs.Pieces.{then_parts, next_stages}
-use Rattle.uart_run.proofs.ListsInTurn.{all_only, all_then}
-use Rattle.uart_run.proofs.KeptLists.{AllKeep, keeping, keeps_waits, kept_still}
-use Rattle.uart_run.proofs.loopback.KeptExchanges.{keeps_exchanges}
+use Rattle.uart_run.proofs.KeptLists.{kept_still}
+use Rattle.uart_run.proofs.loopback.KeptExchanges.{keeps_begins, keeps_exchanges}
 use Rattle.uart_run.proofs.initialising.FifoSteps.{sets_fifo}
 use Rattle.uart_run.proofs.initialising.Initialised.{ready_by}
 
 -- ---- the first wait
-
-pub keeps_begins : (s : Settings) (mcr ier : ℕ) (empty : Bool) → AllKeep s (BeginsTest mcr ier empty)
-keeps_begins s mcr ier empty =
-    all_then keeping s _ _ (all_only keeping s (Read offsets.MCR mcr ∷ Read offsets.IER ier ∷ []) (λ k d. refl))
-    (keeps_waits s LSR.TRANSMITTER_EMPTY.0 empty)
 
 -- MCR is read as it is
 pub mcr_read : (s : Settings) (mcr ier : ℕ) (empty : Bool) (l : List Access) (m n : MachineState) → BeginsTest mcr ier empty s l →
@@ -163,7 +157,7 @@ pub tested_ready : (s t : State) (a : Answer) → IsSound (machine_of s) → Cal
 tested_ready s t a w h ready = go h.did.does
   where
     fits : BurstsFit t
-    fits = fits_kept s t call.TestLoopback a h ready.fits
+    fits = fits_kept s t call.TestLoopback a h (inr ready.dlab) ready.fits
 
     go : TestsLoopback h.outcome (fields (inner_of s)) h.did.list (fields (inner_of t)) → Ready t
     go (mcr, ier, inl (stalls, (begins, same))) =

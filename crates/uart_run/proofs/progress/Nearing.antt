@@ -12,6 +12,7 @@ use Rattle.uart_chip.specs.Transmitter.{TransmitterState, out, shift_bytes}
 use Rattle.uart_spec.specs.Bits.{has_any}
 use Rattle.uart_spec.specs.declared.registers.modem_control.TheConstants.MCR
 use Rattle.uart_chip.specs.Transmitter as transmitter
+use Rattle.uart_spec.specs.declared.setup.FifoSize.{FifoSize}
 use Rattle.uart_chip.specs.Chip.{ChipState, is_dlab_set, is_loopback, is_auto_flow, tick, ticks, after_read, after_write}
 use Rattle.uart_chip.specs.Machine.{MachineState, MachineStep, perform, before_access, after_access, at_access}
 use Rattle.uart_chip.specs.Sound.{IsSoundChip, IsSound}
@@ -99,12 +100,8 @@ ticked-path (access ∷ made) m n t p = ticked-path made p.0 n (ticked-step m p.
 near_lasts : (t : TransmitterState) → LastsInAccesses (Nearer 0 t)
 near_lasts t = record {
   pending = λ u pending a. record { fewer = a.fewer; no_longer = a.no_longer; capacity = a.capacity; char_ticks = a.char_ticks };
-  cleared = λ u pending a. record {
-    fewer = let h = fewer_left u.char_ticks u.shift_register u.queue in omega (arith, a.fewer, h);
-    no_longer = let h = shorter u.wire u.shift_register u.queue in omega (arith, a.no_longer, h);
-    capacity = a.capacity;
-    char_ticks = a.char_ticks;
-  };
+  cleared = λ u pending a. emptied u u.size pending a;
+  resized = λ u size a. emptied u size u.is_thr_pending a;
 }
   where
     fewer_left : (n : ℕ) (place : Option Shifting) (queue : List ℕ) → left_of n place [] ≤ left_of n place queue
@@ -115,6 +112,15 @@ near_lasts t = record {
     shorter : (wire : List ℕ) (place : Option Shifting) (queue : List ℕ) →
         length (wire ++ (shift_bytes place ++ [])) ≤ length (wire ++ (shift_bytes place ++ queue))
     shorter wire place queue = simp length-append (omega arith)
+
+    emptied : (u : TransmitterState) (size : FifoSize) (pending : Bool) → Nearer 0 t u →
+        Nearer 0 t (record u { size = size; queue = []; is_thr_pending = pending })
+    emptied u size pending a = record {
+      fewer = let h = fewer_left u.char_ticks u.shift_register u.queue in omega (arith, a.fewer, h);
+      no_longer = let h = shorter u.wire u.shift_register u.queue in omega (arith, a.no_longer, h);
+      capacity = a.capacity;
+      char_ticks = a.char_ticks;
+    }
 
 -- ---- accesses
 
@@ -155,7 +161,7 @@ runs-look m n line r s a = record {
   sound = sound_step m n (Read offsets.LSR line) r.sound s;
   ticked = ticked-step m n (Read offsets.LSR line) r.ticked s;
   flows = flows-nearer 1 m.chip n.chip (ap (λ (k : Kept). k.latches) (kept_step (Read offsets.LSR line) m n s)) a r.flows;
-  off = ap (λ (k : Kept). k.auto_flow && has_any k.latches.mcr MCR._RESERVED0.0) (kept_step (Read offsets.LSR line) m n s) ∙ r.off;
+  off = ap (λ (k : Kept). k.auto_flow && has_any k.latches.mcr MCR.AUTO_FLOW.0) (kept_step (Read offsets.LSR line) m n s) ∙ r.off;
 }
 
 -- ---- with room on the wire, in whatever mode
@@ -175,6 +181,10 @@ no_longer_lasts t = record {
   in_accesses = record {
     pending = λ u pending a. record { no_longer = a.no_longer; capacity = a.capacity };
     cleared = λ u pending a. record {
+      no_longer = let h = shorter u.wire u.shift_register u.queue in omega (arith, a.no_longer, h);
+      capacity = a.capacity;
+    };
+    resized = λ u size a. record {
       no_longer = let h = shorter u.wire u.shift_register u.queue in omega (arith, a.no_longer, h);
       capacity = a.capacity;
     };

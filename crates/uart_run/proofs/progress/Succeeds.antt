@@ -1,6 +1,6 @@
 -- Where ticks come before each access, the spin limit is long enough and the wire has room, calls do not stall.
 use Rattle.std.proofs.Common.{◌≡◌, ◌*◌, ◌&&◌, ℕ, ◌+◌, ◌≤◌, ◌<◌, Bool, List, [], ◌++◌, length, map, length-append}
-use Rattle.std.proofs.Common.{take, Result, Ok, Err, refl, arith, sym, ◌∙◌, ap, subst}
+use Rattle.std.proofs.Common.{take, Result, Ok, Err, inr, refl, arith, sym, ◌∙◌, ap}
 use Rattle.std.proofs.lemmas.List.{length-map, length-take}
 use Rattle.std.specs.List.{concat}
 use Rattle.uart_spec.specs.declared.errors.StalledError.{StalledError}
@@ -29,6 +29,7 @@ use Rattle.uart_chip.proofs.soundness.Sounds.{sound_path}
 use Rattle.uart_run.proofs.progress.Left.{exceeds, left-most}
 use Rattle.uart_run.proofs.progress.Nearing.{Runs, ticked-path}
 use Rattle.uart_chip.proofs.lasting.Constants.{same_pace}
+use Rattle.uart_run.proofs.SizeKept.{LeavesSwitch, size_left, left_blocks}
 use Rattle.uart_chip.proofs.conservation.BlockLaws.{PassedBlocks, path_split, path_as}
 use Rattle.uart_run.proofs.CallBlocks.{Makes, most_in, passed_in_blocks, pieces_blocks, cut_whole}
 use Rattle.uart_run.proofs.CallKeeps.{sends_each_blocks}
@@ -44,8 +45,8 @@ settings_at s = settings_of (fields (inner_of s))
 unheld_in : (s : State) (n : MachineState) (x : Modes) → IsUnheld (machine_of s) → (made : List Access) →
     Path MachineStep (machine_of s) made n → IsIn x n.chip → x.mcr ≡ (machine_of s).chip.latches.mcr → IsUnheld n
 unheld_in s n x unheld made path modes same =
-    ap (λ (b : Bool). b && has_any n.chip.latches.mcr MCR._RESERVED0.0) (flow_path made (machine_of s) n path)
-    ∙ (ap (λ (v : ℕ). (machine_of s).chip.auto_flow && has_any v MCR._RESERVED0.0) (modes.mcr ∙ same) ∙ unheld)
+    ap (λ (b : Bool). b && has_any n.chip.latches.mcr MCR.AUTO_FLOW.0) (flow_path made (machine_of s) n path)
+    ∙ (ap (λ (v : ℕ). (machine_of s).chip.auto_flow && has_any v MCR.AUTO_FLOW.0) (modes.mcr ∙ same) ∙ unheld)
 
 -- room for more is room
 less_room : (n k : ℕ) (m : MachineState) → n ≤ k → HasRoom k m → HasRoom n m
@@ -56,12 +57,12 @@ runs s w timely unheld room = record { sound = w; ticked = timely.ticked; flows 
 
 -- the limit exceeds what is left, there and after some accesses
 pub few_left : (s : State) (made : List Access) (m : MachineState) → IsSound (machine_of s) → IsTimely s →
-    Path MachineStep (machine_of s) made m → left m.chip.transmitter < (settings_at s).limit
-few_left s made m w timely p =
+    LeavesSwitch (machine_of s) made → Path MachineStep (machine_of s) made m → left m.chip.transmitter < (settings_at s).limit
+few_left s made m w timely leaves p =
     let most = left-most m.chip (sound_path made (machine_of s) m w p).chip in
     let same = same_pace made (machine_of s) m p in
     let enough : most_held m.chip.transmitter * (m.chip.transmitter.char_ticks + 1) ≤ (settings_at s).limit =
-    rw (same.size, same.char_ticks) timely.limit in
+    rw (size_left made (machine_of s) m leaves p, same.char_ticks) timely.limit in
     let less = exceeds m.chip.transmitter (settings_at s).limit most enough in omega (arith, less)
 
 -- ---- bytes are sent, and then a wait for room is in vain: there was none
@@ -83,7 +84,9 @@ no_stall-after s t L l written w ready timely unheld off room makes fits path =
       flows = λ e. omega (arith, long, same, room);
       off = unheld_in s q.0 (modes_of s) unheld fits.front q.1 p.passed.went.modes (modes_mcr s);
     } in
-    no_stall-room (settings_at s) off (settings_at s).limit fits.back q.0 t r (few_left s fits.front q.0 w timely q.1) fits.second q.2
+    let leaves = left_blocks m (most_in (settings_at s)) fits.front written [] (makes fits.front fits.first) in
+    no_stall-room (settings_at s) off (settings_at s).limit fits.back q.0 t r (few_left s fits.front q.0 w timely leaves q.1)
+    fits.second q.2
   where
     session : InSession (modes_of s) s
     session = in_session s ready w
@@ -102,7 +105,7 @@ pub flush_succeeds : (s t : State) (a : Answer) (l : List Access) (result : Resu
 flush_succeeds s t a l (Ok x) w timely unheld room e h path = e
 flush_succeeds s t a l (Err stall) w timely unheld room e h path =
     absurd (no_stall-empty (settings_at s) (settings_at s).limit l (machine_of s) (machine_of t) (runs s w timely unheld room)
-    (few_left s [] (machine_of s) w timely refl) h.1 path)
+    (few_left s [] (machine_of s) w timely (inr tt) refl) h.1 path)
 
 pub write_succeeds : (s t : State) (a : Answer) (l : List Access) (bytes : List ℕ) (result : Result ℕ StalledError) →
     IsSound (machine_of s) → IsTimely s → IsUnheld (machine_of s) → IsUnchecked s → HasRoom (length bytes) (machine_of s) →
@@ -112,7 +115,7 @@ write_succeeds s t a l bytes (Ok count) w timely unheld off room e h path = (cou
 write_succeeds s t a l bytes (Err stall) w timely unheld off room e h path =
     let r = runs s w timely unheld (less_room 0 (length bytes) (machine_of s) (omega arith) room) in
     absurd (no_stall-room (settings_at s) off (settings_at s).limit l (machine_of s) (machine_of t) r
-    (few_left s [] (machine_of s) w timely refl) h.2 path)
+    (few_left s [] (machine_of s) w timely (inr tt) refl) h.2 path)
 
 pub send_exact_succeeds : (s t : State) (a : Answer) (l : List Access) (bytes : List ℕ) (result : Result (Unit {0}) StalledError) →
     IsSound (machine_of s) → Ready s → IsTimely s → IsUnheld (machine_of s) → IsUnchecked s → HasRoom (length bytes) (machine_of s) →

@@ -14,12 +14,13 @@ use Rattle.uart_16550.specs.Grammar.{Settings, Only, Asks}
 use Rattle.uart_16550.specs.Driver.{Fields, Saving, Sets, fields, settings_of, with_fifo}
 use Rattle.uart_16550.specs.Init.{fifo_bits, SetsFifo}
 use Rattle.uart_16550.specs.Loopback.{test_byte, Leaves}
-use Rattle.uart_16550.specs.Sizing.{SwitchesFifo, FindsFifoSize}
+use Rattle.uart_16550.specs.Setup.{level_of}
+use Rattle.uart_16550.specs.Sizing.{Measures, SwitchesFifo, Sizes, SizesInLoopback, FindsFifoSize}
 use Rattle.uart_16550.specs.Tty.{inner_of}
 use Rattle.uart_events.specs.declared.event.Chip.{Chip}
 use Rattle.uart_events.specs.declared.event.Chip.TheVariants.{Uart16550A}
 use Rattle.uart_chip.specs.Transmitter.{TransmitterState, out, room, shift_bytes}
-use Rattle.uart_chip.specs.Chip.{ChipState, cut_of, after_write}
+use Rattle.uart_chip.specs.Chip.{ChipState, cut_of}
 use Rattle.uart_chip.specs.Machine.{MachineState, MachineStep, at_access}
 use Rattle.uart_chip.specs.Sound.{IsSound}
 use Rattle.uart_chip.proofs.conservation.Went.{Modes}
@@ -31,7 +32,9 @@ use Rattle.uart_run.specs.Served.{transmitter_of}
 use Rattle.uart_run.specs.Sizes.{size_in, MayFind, receiver_of, IsMeasured, SendsAtMostOne, FindsSize, FindsOff}
 use Rattle.uart_run.proofs.EmptyTransmitter.{IsSent, sent_path, shown_sent}
 use Rattle.uart_run.proofs.Latches.{Kept, kept_in, kept_access}
-use Rattle.uart_run.proofs.SizeKept.{leaves_finds, fits_after}
+use Rattle.uart_run.proofs.NeverSwitched.{NeverWrites, never_writes, all_never, fifo_never, enters_never, leaves_never, begins_never}
+use Rattle.uart_run.proofs.ListsInTurn.{HoldsOfDoing, does_next, does_sets, does_saving}
+use Rattle.uart_run.proofs.SizeKept.{leaves_finds, left_fixed, fits_after}
 use Rattle.uart_run.proofs.Pieces.{then_parts, next_stages}
 use Rattle.uart_run.proofs.SilentLists.{DoesSilently, silent_next, silent_saving, silent_sets, silent_sets_fifo, silent_asks}
 use Rattle.uart_chip.proofs.lasting.Lasting.{AllSendNothing}
@@ -43,7 +46,7 @@ use Rattle.uart_run.proofs.sizing.Counting.{Found, told}
 use Rattle.uart_run.proofs.sizing.Filling.{AllAre}
 use Rattle.uart_run.proofs.sizing.Flooding.{IsFlooded, flooded_access}
 use Rattle.uart_run.proofs.sizing.Walking.{level_in, StallsFirst, Measured, found_by}
-use Rattle.uart_run.proofs.sizing.Measuring.{FoundIn, TellsAll, measured}
+use Rattle.uart_run.proofs.sizing.Measuring.{keeps_measures, FoundIn, TellsAll}
 use Rattle.uart_run.proofs.sizing.Remaining.{IsReset, AllCalm, reset_at, reset_path}
 use Rattle.uart_run.proofs.sizing.Staying.{SendsLast, last_path, last_out, emptied, reset_written}
 
@@ -62,12 +65,12 @@ reset_step level x gone i m n w model step =
     let c = (at_access m).chip in
     let v = flooded_access x gone i 0 m w in
     let same : c.model ≡ Uart16550A = ap (λ (k : Kept). k.model) (kept_access m) ∙ model in
-    let e : (after_write offsets.FCR (fifo_bits (Some level)) c).transmitter ≡ emptied c.transmitter = reset_written level c.model c same in
+    let e = reset_written level c.model c same in
     let byte : cut_of c test_byte ≡ x.cut test_byte = ap (λ (cut : ℕ → ℕ). cut test_byte) v.modes.cut in
     let place = subst (λ (b : ℕ). AllAre b (shift_bytes c.transmitter.shift_register)) byte v.fills.place in
-    let last : SendsLast gone (x.cut test_byte) (emptied c.transmitter) = record { queue = refl; rest = inl (v.fills.wire, place) } in
+    let last : SendsLast gone (x.cut test_byte) (emptied e.0 c.transmitter) = record { queue = refl; rest = inl (v.fills.wire, place) } in
     let P : TransmitterState → Type 0 = SendsLast gone (x.cut test_byte) in
-    subst P (sym (ap (λ (o : MachineState). o.chip.transmitter) step ∙ e)) last
+    subst P (sym (ap (λ (o : MachineState). o.chip.transmitter) step ∙ e.1)) last
 
 reset_sends : (level : FifoTriggerLevel) (on : Bool) (s : Settings) (x : Modes) (gone : List ℕ) (i : IsLooped x) (l : List Access)
     (m n : MachineState) → IsFlooded x gone 0 m.chip → m.chip.model ≡ Uart16550A → SetsFifo (Some level) on s l → Path MachineStep m l n →
@@ -81,6 +84,27 @@ reset_sends level on s x gone i l m n w model t path =
     reset : (o : MachineState) → Path MachineStep m (Write offsets.FCR (fifo_bits (Some level)) ∷ []) o →
         SendsLast gone (x.cut test_byte) o.chip.transmitter
     reset o (mid, step, same) = rw same (reset_step level x gone i m mid w model step)
+
+-- ---- no LCR is written, so the size stays while DLAB is off
+
+sizes_never : (level : Option FifoTriggerLevel) (found : Found) → HoldsOfDoing (NeverWrites offsets.LCR) (Sizes level found)
+sizes_never level found f l after (on, does) =
+    does_next (never_writes offsets.LCR) _ _
+    (does_saving (Measures found) (λ s. all_never offsets.LCR refl s (Measures found) (keeps_measures s found)))
+    (does_next (never_writes offsets.LCR) _ _ (does_saving (SetsFifo level on) (λ s. fifo_never s level on))
+    (does_sets (never_writes offsets.LCR) (with_fifo on))) f l after does
+
+in_loopback_never : (found : Found) (mcr ier : ℕ) → HoldsOfDoing (NeverWrites offsets.LCR) (SizesInLoopback found mcr ier)
+in_loopback_never found mcr ier f l after (before, on, does) =
+    let level = level_of true f.config.fifo_trigger_level in
+    does_next (never_writes offsets.LCR) _ _ (enters_never level before on)
+    (does_next (never_writes offsets.LCR) _ _ (sizes_never level found) (leaves_never mcr ier before f.lsr)) f l after does
+
+finds_never : (found : Found) → HoldsOfDoing (NeverWrites offsets.LCR) (FindsFifoSize found)
+finds_never found f l after (inl (off, is_off, none, same)) = rw none tt
+finds_never found f l after (inr (on, (mcr, ier, inl (stalls, does)))) = begins_never mcr ier false f l after does
+finds_never found f l after (inr (on, (mcr, ier, inr does))) =
+    does_next (never_writes offsets.LCR) _ _ (begins_never mcr ier true) (in_loopback_never found mcr ier) f l after does
 
 -- ---- what is sent in the end
 
@@ -221,7 +245,8 @@ module _ (s t : State) (sound : IsSound (machine_of s)) (may : MayFind s) (is_on
   pub finds_size : (found : Found) (l : List Access) → FindsFifoSize found (fields (inner_of s)) l (fields (inner_of t)) →
       Path MachineStep (machine_of s) l (machine_of t) → FindsSize s found t
   finds_size found l does path =
-      finds found (fits_after s t l (leaves_finds found _ l _ does) path) (found_by s t sound may.plain found l is_on does path)
+      let leaves = left_fixed (machine_of s) l (finds_never found _ l _ does) (inr may.plain.dlab) in
+      finds found (fits_after s t l (leaves_finds found _ l _ does) leaves path) (found_by s t sound may.plain found l is_on does path)
 
 -- with the FIFOs off nothing is done
 pub finds_off : (s t : State) (found : Found) (l : List Access) → (fields (inner_of s)).fifo ≡ false →

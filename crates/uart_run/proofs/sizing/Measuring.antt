@@ -17,12 +17,13 @@ use Rattle.uart_chip.specs.Chip.{ChipState}
 use Rattle.uart_chip.specs.Machine.{MachineState, MachineStep}
 use Rattle.uart_chip.specs.Sound.{IsSoundChip, IsSound}
 use Rattle.uart_chip.proofs.Sizes.{at_most_256, room_within}
-use Rattle.uart_chip.proofs.lasting.Constants.{same_pace}
 use Rattle.uart_chip.proofs.soundness.Sounds.{sound_path}
 use Rattle.uart_chip.proofs.conservation.Went.{Modes}
 use Rattle.uart_run.proofs.EmptyTransmitter.{IsSent, sent_path, wait_empties}
 use Rattle.uart_run.proofs.KeptLists.{AllKeep, keeping, keeps_data, keeps_miss, keeps_waits}
-use Rattle.uart_run.proofs.ListsInTurn.{all_only, all_then, all_times, all_few, all_misses}
+use Rattle.uart_run.proofs.ListsInTurn.{all_only, all_then, all_times, all_misses}
+use Rattle.uart_run.proofs.SizeKept.{size_left, left_plain}
+use Rattle.uart_run.proofs.loopback.KeptExchanges.{keeps_drained}
 use Rattle.uart_run.proofs.Pieces.{then_parts}
 use Rattle.uart_run.proofs.SilentLists.{silence}
 use Rattle.uart_run.proofs.loopback.LoopPhases.{IsEntered, IsReadyToTest, drained, idle_sent, silent_takes_one, keeps_takes_one}
@@ -35,7 +36,7 @@ one_size c w = w.sizes
 
 -- ---- what the registers keep
 
-keeps_floods : (s : Settings) → AllKeep s Floods
+pub keeps_floods : (s : Settings) → AllKeep s Floods
 keeps_floods s =
     all_times keeping s flood (Only (Write offsets.DATA test_byte ∷ []))
     (all_only keeping s (Write offsets.DATA test_byte ∷ []) (keeps_data test_byte))
@@ -45,16 +46,13 @@ keeps_takes_back s count l (inl t) = all_times keeping s flood TakesOne (keeps_t
 keeps_takes_back s count l (inr t) =
     all_then keeping s (Times count TakesOne) Miss (all_times keeping s count TakesOne (keeps_takes_one s)) (keeps_miss s) l t.1
 
-keeps_drained : (s : Settings) → AllKeep s (DrainsLoopback true)
-keeps_drained s = all_then keeping s _ Miss (all_few keeping s TakesOne (keeps_takes_one s)) (keeps_miss s)
-
 pub keeps_measures : (s : Settings) (found : Found) → AllKeep s (Measures found)
 keeps_measures s found l (inl t) = all_misses keeping s TakesOne (keeps_takes_one s) l t.1
 keeps_measures s found l (inr (inl t)) =
-    all_then keeping s (DrainsLoopback true) _ (keeps_drained s)
+    all_then keeping s (DrainsLoopback true) _ (keeps_drained s true)
     (all_then keeping s Floods _ (keeps_floods s) (keeps_waits s LSR.TRANSMITTER_EMPTY.0 false)) l t.1
 keeps_measures s found l (inr (inr (count, tells, t))) =
-    all_then keeping s (DrainsLoopback true) _ (keeps_drained s)
+    all_then keeping s (DrainsLoopback true) _ (keeps_drained s true)
     (all_then keeping s Floods _ (keeps_floods s)
     (all_then keeping s _ (TakesBack count) (keeps_waits s LSR.TRANSMITTER_EMPTY.0 true) (keeps_takes_back s count))) l t
 
@@ -121,11 +119,13 @@ module _ (x : Modes) (gone : List ℕ) (s : Settings) where
       let sound_c = sound_path c.front b.between c.between sound_b c.before in
       let full = filled x gone c.between sound_c v (wait_empties s c.front b.between c.between c.first c.before) in
       let all = counted x gone s r.looped count c.back c.between n full c.second c.after in
-      let size_a = same_pace a.front m a.between a.before in
-      let size_b = same_pace b.front a.between b.between b.before in
-      let size_c = same_pace c.front b.between c.between c.before in
+      let size_a = size_left a.front m a.between (left_plain m s (DrainsLoopback true) a.front (keeps_drained s true) a.first) a.before in
+      let size_b = size_left b.front a.between b.between (left_plain a.between s Floods b.front (keeps_floods s) b.first) b.before in
+      let empties = left_plain b.between s (WaitsFor LSR.TRANSMITTER_EMPTY.0 true) c.front (keeps_waits s LSR.TRANSMITTER_EMPTY.0 true)
+      c.first in
+      let size_c = size_left c.front b.between c.between empties c.before in
       let size : c.between.chip.receiver.size ≡ m.chip.transmitter.size =
-      one_size c.between.chip sound_c.chip ∙ (size_c.size ∙ (size_b.size ∙ size_a.size)) in
+      one_size c.between.chip sound_c.chip ∙ (size_c ∙ (size_b ∙ size_a)) in
       inl (
         told count (all ∙ ap (room x.fifo) size) tells,
         sent_path gone c.back c.between n (silent_takes_back s count c.back c.second) full.sent c.after,

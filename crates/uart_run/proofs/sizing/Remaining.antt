@@ -19,11 +19,11 @@ use Rattle.uart_chip.specs.declared.transmitter.Shifting.{Shifting}
 use Rattle.uart_chip.specs.Transmitter.{looped_byte, room}
 use Rattle.uart_chip.specs.Receiver as receiver
 use Rattle.uart_chip.specs.Receiver.{ReceiverState, enter, come_back, take_front, replace}
-use Rattle.uart_chip.specs.Chip.{ChipState, is_loopback, is_held_off, tick, after_write, is_same, set_fifo, control}
-use Rattle.uart_chip.specs.Chip.{trigger_level}
+use Rattle.uart_chip.specs.Chip.{ChipState, is_loopback, is_held_off, tick, is_same, set_fifo, control}
+use Rattle.uart_chip.specs.Chip.{trigger_level, switch, is_switching, switch_size, reset_receiver, reset_transmitter, set_trigger}
 use Rattle.uart_chip.specs.Machine.{MachineState, MachineStep, at_access}
-use Rattle.uart_chip.proofs.AccessMoves.{ReadMove, takes, acknowledges, read_move, WriteMove, sends, enables, switches, clears, empties}
-use Rattle.uart_chip.proofs.AccessMoves.{triggers, write_move, write_lasts}
+use Rattle.uart_chip.proofs.AccessMoves.{ReadMove, takes, acknowledges, read_move, WriteMove, sends, enables, switches, resizes, clears}
+use Rattle.uart_chip.proofs.AccessMoves.{empties, triggers, write_move, write_lasts}
 use Rattle.uart_chip.proofs.Lists.{each-append}
 use Rattle.uart_chip.proofs.lasting.Lasting.{LastsInEvents, chip_lasts-before}
 use Rattle.uart_run.specs.Sizes.{IsSince, ArrivedSince}
@@ -82,6 +82,7 @@ module _ (start : ℕ) where
   come_reads offset c d _ h = h
 
   come_writes : (offset value : ℕ) (c d : ChipState) → WriteMove offset value c d → HasCome c → HasCome d
+  come_writes offset value c d (resizes e s) h = h
   come_writes offset value c d (clears e) h = h
   come_writes offset value c d _ h = h
 
@@ -179,6 +180,7 @@ module _ (level : FifoTriggerLevel) (start : ℕ) (gone : List ℕ) where
   reset_writes offset value sent set c d (sends e q) w = absurd (sent e)
   reset_writes offset value sent set c d (enables e q) w = (record { queue = w.0.queue; place = w.0.place; wire = w.0.wire }, w.1)
   reset_writes offset value sent set c d (switches e m on) w = absurd (set e)
+  reset_writes offset value sent set c d (resizes e s) w = absurd (set e)
   reset_writes offset value sent set c d (clears e) w = absurd (set e)
   reset_writes offset value sent set c d (empties e) w = absurd (set e)
   reset_writes offset value sent set c d (triggers e l) w = absurd (set e)
@@ -221,9 +223,16 @@ set_remains : (level : FifoTriggerLevel) (start value : ℕ) (c : ChipState) →
     start ≤ c.receiver.arrived → Remains level start (set_fifo value c).receiver
 set_remains level start value c on sending receiving is_level come = go (is_same c.fifo true) refl
   where
+    -- whether the size is switched or not
+    sized : (d : ChipState) → start ≤ d.receiver.arrived → (b : Bool) → is_switching value d ≡ b →
+        Remains level start
+        (set_trigger (trigger_level value) (reset_transmitter value (reset_receiver value (switch_size value d)))).receiver
+    sized d since true f = rw (f, receiving, sending) (record { trigger = is_level; waits = tt; number = since })
+    sized d since false f = rw (f, receiving, sending) (record { trigger = is_level; waits = tt; number = since })
+
     go : (b : Bool) → is_same c.fifo true ≡ b → Remains level start (set_fifo value c).receiver
-    go true f = rw (on, f, receiving, sending) (record { trigger = is_level; waits = tt; number = come })
-    go false f = rw (on, f, receiving, sending) (record { trigger = is_level; waits = tt; number = come })
+    go true f = rw (on, f) (sized c come (is_switching value c) refl)
+    go false f = rw (on, f) (sized (switch true c) come (is_switching value (switch true c)) refl)
 
 -- an empty transmitter, and so many that have arrived
 abbrev IsSentAt : (start : ℕ) (gone : List ℕ) → ChipState → Type 0
@@ -243,9 +252,9 @@ reset_at level start gone m n model sent come step =
     let c = (at_access m).chip in
     let w = chip_lasts-before (IsSentAt start gone) (sent_events start gone) m.ahead m.chip (sent, come) in
     let same : c.model ≡ Uart16550A = ap (λ (k : Kept). k.model) (kept_access m) ∙ model in
-    let e : (after_write offsets.FCR (fifo_bits (Some level)) c).transmitter ≡ emptied c.transmitter = reset_written level c.model c same in
-    let gone_out : IsSent gone (emptied c.transmitter) = record { queue = refl; place = w.0.place; wire = w.0.wire } in
+    let e = reset_written level c.model c same in
+    let gone_out : IsSent gone (emptied e.0 c.transmitter) = record { queue = refl; place = w.0.place; wire = w.0.wire } in
     let R : Chip → Type 0 = λ chip. Remains level start (control chip (fifo_bits (Some level)) c).receiver in
     let remains = set_remains level start (fifo_bits (Some level)) c (sets_on level) (resets level) (resets_receiver level)
     (sets_level level) w.1 in
-    rw step (subst (IsSent gone) (sym e) gone_out, subst R (sym same) remains)
+    rw step (subst (IsSent gone) (sym e.1) gone_out, subst R (sym same) remains)

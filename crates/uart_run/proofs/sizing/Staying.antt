@@ -1,6 +1,6 @@
 -- What a flood leaves in the transmitter: once the FIFOs are reset, at most the character in the shift register goes out.
 use Rattle.std.proofs.Common.{◌≡◌, ◌⊎◌, ℕ, Bool, true, false, inl, inr, nat_lt, List, [], ◌∷◌, ◌++◌, length, append-nil}
-use Rattle.std.proofs.Common.{Option, Some, None, refl}
+use Rattle.std.proofs.Common.{Option, Some, None, refl, ◌∙◌}
 use Rattle.uart_spec.specs.Access.{Path}
 use Rattle.uart_spec.specs.declared.access.Access.{Access}
 use Rattle.uart_spec.specs.declared.registers.fifo_control.TheConstants.FCR
@@ -12,7 +12,9 @@ use Rattle.uart_events.specs.declared.event.Chip.{Chip}
 use Rattle.uart_events.specs.declared.event.Chip.TheVariants.{Uart16550A}
 use Rattle.uart_chip.specs.declared.transmitter.Shifting.{Shifting}
 use Rattle.uart_chip.specs.Transmitter.{TransmitterState, shift, refill, tick, shift_bytes, out}
-use Rattle.uart_chip.specs.Chip.{ChipState, switch, is_same, set_fifo, control, reset_receiver, reset_transmitter}
+use Rattle.uart_spec.specs.declared.setup.FifoSize.{FifoSize}
+use Rattle.uart_chip.specs.Chip.{ChipState, switch, is_same, switched_size, is_switching, switch_size, set_fifo, control, reset_receiver}
+use Rattle.uart_chip.specs.Chip.{reset_transmitter}
 use Rattle.uart_chip.specs.Machine.{MachineState, MachineStep}
 use Rattle.uart_chip.proofs.lasting.Lasting.{Lasts, AllSendNothing, lasts-path}
 use Rattle.uart_run.proofs.sizing.Filling.{AllAre}
@@ -65,6 +67,7 @@ module _ (gone : List ℕ) (byte : ℕ) where
     in_accesses = record {
       pending = λ t pending w. record { queue = w.queue; rest = w.rest };
       cleared = λ t pending w. record { queue = refl; rest = w.rest };
+      resized = λ t size w. record { queue = refl; rest = w.rest };
     };
     in_tick = λ loopback held_off t w. last_tick loopback held_off t w;
   }
@@ -96,27 +99,43 @@ pub resets : (level : FifoTriggerLevel) → has_any (fifo_bits (Some level)) FCR
 resets One = refl
 resets _ = refl
 
--- what is left of a transmitter when its FIFO is reset
-abbrev pub emptied : TransmitterState → TransmitterState
-emptied t = record t { queue = []; is_thr_pending = true }
+-- what is left of a transmitter when its FIFO is reset, and has this size
+abbrev pub emptied : FifoSize → TransmitterState → TransmitterState
+emptied size t = record t { size = size; queue = []; is_thr_pending = true }
 
 reset_leaves : (value : ℕ) (c : ChipState) → has_any value FCR.TX_FIFO_RESET.0 ≡ true →
-    (reset_transmitter value (reset_receiver value c)).transmitter ≡ emptied c.transmitter
+    (reset_transmitter value (reset_receiver value c)).transmitter ≡ emptied c.transmitter.size c.transmitter
 reset_leaves value c e = go (has_any value FCR.RX_FIFO_RESET.0) refl
   where
     go : (b : Bool) → has_any value FCR.RX_FIFO_RESET.0 ≡ b →
-        (reset_transmitter value (reset_receiver value c)).transmitter ≡ emptied c.transmitter
+        (reset_transmitter value (reset_receiver value c)).transmitter ≡ emptied c.transmitter.size c.transmitter
     go true f = rw (e, f) refl
     go false f = rw (e, f) refl
 
+-- whether its size is switched or not
+abbrev IsEmptied : TransmitterState → TransmitterState → Type 0
+IsEmptied t u = (size : FifoSize) × (u ≡ emptied size t)
+
+sized_leaves : (value : ℕ) (c : ChipState) → has_any value FCR.TX_FIFO_RESET.0 ≡ true →
+    IsEmptied c.transmitter (reset_transmitter value (reset_receiver value (switch_size value c))).transmitter
+sized_leaves value c e =
+    let d : ChipState = switch_size value c in
+    let left = sized (is_switching value c) refl in
+    (left.0, reset_leaves value d e ∙ left.1)
+  where
+    sized : (b : Bool) → is_switching value c ≡ b →
+        IsEmptied c.transmitter (emptied (switch_size value c).transmitter.size (switch_size value c).transmitter)
+    sized true f = (switched_size value, rw f refl)
+    sized false f = (c.transmitter.size, rw f refl)
+
 set_leaves : (value : ℕ) (c : ChipState) → has_any value FCR.FIFO_ENABLE.0 ≡ true → has_any value FCR.TX_FIFO_RESET.0 ≡ true →
-    (set_fifo value c).transmitter ≡ emptied c.transmitter
+    IsEmptied c.transmitter (set_fifo value c).transmitter
 set_leaves value c on e = go (is_same c.fifo true) refl
   where
-    go : (b : Bool) → is_same c.fifo true ≡ b → (set_fifo value c).transmitter ≡ emptied c.transmitter
-    go true f = rw (on, f) (reset_leaves value c e)
-    go false f = rw (on, f) (reset_leaves value (switch true c) e)
+    go : (b : Bool) → is_same c.fifo true ≡ b → IsEmptied c.transmitter (set_fifo value c).transmitter
+    go true f = let left = sized_leaves value c e in (left.0, rw (on, f) left.1)
+    go false f = let left = sized_leaves value (switch true c) e in (left.0, rw (on, f) left.1)
 
 pub reset_written : (level : FifoTriggerLevel) (model : Chip) (c : ChipState) → model ≡ Uart16550A →
-    (control model (fifo_bits (Some level)) c).transmitter ≡ emptied c.transmitter
+    (size : FifoSize) × ((control model (fifo_bits (Some level)) c).transmitter ≡ emptied size c.transmitter)
 reset_written level model c e = rw e (set_leaves (fifo_bits (Some level)) c (sets_on level) (resets level))

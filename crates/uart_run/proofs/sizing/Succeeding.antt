@@ -26,7 +26,10 @@ use Rattle.uart_run.proofs.loopback.LoopSucceeds.{no_stall-begin}
 use Rattle.uart_run.proofs.progress.Nearing.{Runs}
 use Rattle.uart_run.proofs.progress.WaitEnds.{no_stall-empty}
 use Rattle.uart_run.proofs.sizing.Counting.{Found}
-use Rattle.uart_run.proofs.sizing.Measuring.{was_flooded}
+use Rattle.uart_run.proofs.NeverSwitched.{enters_never}
+use Rattle.uart_run.proofs.SizeKept.{left_plain, left_fixed}
+use Rattle.uart_run.proofs.loopback.KeptExchanges.{keeps_begins, keeps_drained}
+use Rattle.uart_run.proofs.sizing.Measuring.{keeps_floods, was_flooded}
 use Rattle.uart_run.proofs.sizing.Walking.{level_on}
 use Rattle.uart_run.proofs.sizing.Finding.{finds_size}
 
@@ -45,10 +48,11 @@ no_stall-measure x gone s found l m n v e stalled (inr (inl t)) path =
     let waits = WaitsFor LSR.TRANSMITTER_EMPTY.0 false in
     let a = then_parts (DrainsLoopback true) (Then Floods waits) s l m n t.1 path in
     let r = drained x gone s a.front m a.between e a.first a.before in
-    let u = lives-path s.limit a.front m a.between v a.before in
+    let u = lives-path s.limit a.front m a.between v (left_plain m s (DrainsLoopback true) a.front (keeps_drained s true) a.first)
+    a.before in
     let b = then_parts Floods waits s a.back a.between n a.second a.after in
     let w = was_flooded x gone s b.front a.between b.between u.sound r b.first b.before in
-    let y = lives-path s.limit b.front a.between b.between u b.before in
+    let y = lives-path s.limit b.front a.between b.between u (left_plain a.between s Floods b.front (keeps_floods s) b.first) b.before in
     let runs : Runs b.between = record {
       sound = y.sound;
       ticked = y.ticked;
@@ -75,7 +79,8 @@ no_stall-in_loop cut gone found mcr ier f after l m n v b stalled (before, on, d
     let d = next_stages (Saving (Measures found)) (SwitchesFifo level c.parts.first.0) a.mid c.mid c.parts.front a.parts.between
     c.parts.between c.parts.first.1 c.parts.before in
     let i = in_loopback cut gone level before on f a.mid a.parts.front m a.parts.between b a.parts.first a.parts.before in
-    let w = lives-path f.limit a.parts.front m a.parts.between v a.parts.before in
+    let entered = enters_never level before on f a.parts.front a.mid a.parts.first in
+    let w = lives-path f.limit a.parts.front m a.parts.between v (left_fixed m a.parts.front entered (inr b.dlab)) a.parts.before in
     let same : f.limit ≡ a.mid.limit = sym (limit-enters before on f a.parts.front a.mid a.parts.first) in
     no_stall-measure (looped_modes m.chip.latches.lcr on cut) gone (settings_of a.mid) found d.parts.front a.parts.between d.parts.between
     (subst (λ limit. Lives limit a.parts.between) same w) i stalled d.parts.first.0 d.parts.before
@@ -93,7 +98,9 @@ module _ (s t : State) (sound : IsSound (machine_of s)) (plain : IsPlain s) (is_
       (machine_of t) does path in
       let b = begun s a.parts.between mcr ier a.parts.front sound plain a.parts.first.0 a.parts.before in
       let v : Lives f.limit (machine_of s) = record { sound = sound; ticked = timely.ticked; enough = timely.limit } in
-      let u = lives-path f.limit a.parts.front (machine_of s) a.parts.between v a.parts.before in
+      let leaves = left_plain (machine_of s) (settings_of f) (BeginsTest mcr ier true) a.parts.front
+      (keeps_begins (settings_of f) mcr ier true) a.parts.first.0 in
+      let u = lives-path f.limit a.parts.front (machine_of s) a.parts.between v leaves a.parts.before in
       let same : f.limit ≡ a.mid.limit = sym (ap (λ (g : Fields). g.limit) a.parts.first.1) in
       no_stall-in_loop (cut_of (machine_of s).chip) (out (machine_of s).chip.transmitter) found mcr ier a.mid (fields (inner_of t))
       a.parts.back a.parts.between (machine_of t) (subst (λ limit. Lives limit a.parts.between) same u) b stalled a.parts.second

@@ -27,7 +27,8 @@ use Rattle.uart_chip.specs.Chip.{cut_of, is_dlab_set}
 use Rattle.uart_chip.specs.Machine.{MachineState, MachineStep}
 use Rattle.uart_chip.specs.Sound.{IsSound}
 use Rattle.uart_chip.proofs.soundness.Sounds.{sound_path}
-use Rattle.uart_chip.proofs.lasting.Constants.{same_pace}
+use Rattle.uart_run.proofs.NeverSwitched.{enters_never}
+use Rattle.uart_run.proofs.SizeKept.{size_left, left_plain, left_fixed}
 use Rattle.uart_chip.proofs.conservation.Went.{Modes, IsIn}
 use Rattle.uart_chip.proofs.conservation.BlockLaws.{IsOpen, Stands, path_as}
 use Rattle.uart_chip.proofs.loopback.LoopAccesses.{IsLooped}
@@ -42,7 +43,8 @@ use Rattle.uart_run.proofs.Latches.{Kept, kept_in, kept_after, kept_list, kept_s
 use Rattle.uart_run.proofs.Pieces.{then_parts, next_stages}
 use Rattle.uart_run.proofs.initialising.FifoSteps.{sets_fifo}
 use Rattle.uart_run.proofs.loopback.LoopTests.{IsBegun, begun, looped_modes, in_loopback}
-use Rattle.uart_run.proofs.loopback.TestedReady.{entered, keeps_begins, mcr_read, looped, restored, leaving, written_back}
+use Rattle.uart_run.proofs.loopback.KeptExchanges.{keeps_begins}
+use Rattle.uart_run.proofs.loopback.TestedReady.{entered, mcr_read, looped, restored, leaving, written_back}
 use Rattle.uart_run.proofs.loopback.TestedReady.{left}
 use Rattle.uart_run.proofs.sizing.Counting.{Found}
 use Rattle.uart_run.proofs.sizing.Measuring.{FoundIn, TellsAll, measured, keeps_measures}
@@ -169,7 +171,8 @@ module _ (s t : State) (sound : IsSound (machine_of s)) (plain : IsPlain s) wher
       c.parts.between d.parts.second d.parts.after in
       let e = entered (level_on f) before on f a.mid a.parts.front m a.parts.between b.sound b.dlab a.parts.first a.parts.before in
       let i = in_loopback cut gone (level_on f) before on f a.mid a.parts.front m a.parts.between b a.parts.first a.parts.before in
-      let pace = same_pace a.parts.front m a.parts.between a.parts.before in
+      let held = size_left a.parts.front m a.parts.between
+      (left_fixed m a.parts.front (enters_never (level_on f) before on f a.parts.front a.mid a.parts.first) (inr b.dlab)) a.parts.before in
       let sound_a = sound_path a.parts.front m a.parts.between b.sound a.parts.before in
       let sound_d = sound_path d.parts.front a.parts.between d.parts.between sound_a d.parts.before in
       let dlab_a : is_dlab_set a.parts.between.chip.latches ≡ false = ap (λ (k : Kept). is_dlab_set k.latches) e.kept ∙ b.dlab in
@@ -211,7 +214,7 @@ module _ (s t : State) (sound : IsSound (machine_of s)) (plain : IsPlain s) wher
         found_in = λ answer tells.
             let T : FifoSize → Type 0 = λ one. TellsAll on one answer found in
             measured x gone (settings_of a.mid) answer found d.parts.front a.parts.between d.parts.between
-            (subst T (sym (pace.size ∙ size)) tells) sound_a i d.parts.first.0 d.parts.before;
+            (subst T (sym (held ∙ size)) tells) sound_a i d.parts.first.0 d.parts.before;
         model = model;
         come = come_path start d.parts.front a.parts.between d.parts.between come_a d.parts.before;
         switches = subst S config d.parts.second;
@@ -245,10 +248,11 @@ module _ (s t : State) (sound : IsSound (machine_of s)) (plain : IsPlain s) wher
       let b = begun s a.parts.between mcr ier a.parts.front sound plain a.parts.first.0 a.parts.before in
       let kept = kept_still v (BeginsTest mcr ier true) a.parts.front m a.parts.between (keeps_begins v mcr ier true) plain.dlab
       a.parts.first.0 a.parts.before in
-      let pace = same_pace a.parts.front m a.parts.between a.parts.before in
+      let begins = left_plain m v (BeginsTest mcr ier true) a.parts.front (keeps_begins v mcr ier true) a.parts.first.0 in
+      let held = size_left a.parts.front m a.parts.between begins a.parts.before in
       let is_mcr = mcr_read v mcr ier true a.parts.front m a.parts.between a.parts.first.0 a.parts.before in
       let is_ier = ier_read v mcr ier true a.parts.front m a.parts.between plain.dlab a.parts.first.0 a.parts.before in
       let come = come_path (machine_of s).chip.receiver.arrived a.parts.front m a.parts.between (omega arith) a.parts.before in
-      inr (in_loop found mcr ier a.mid a.parts.back a.parts.between b kept pace.size come (ap (λ (g : Fields). g.config) a.parts.first.1)
+      inr (in_loop found mcr ier a.mid a.parts.back a.parts.between b kept held come (ap (λ (g : Fields). g.config) a.parts.first.1)
       (is_mcr ∙ sym (ap (λ (k : Kept). k.latches.mcr) kept)) (is_ier ∙ sym (ap (λ (k : Kept). k.latches.ier) kept)) a.parts.second
       a.parts.after)
