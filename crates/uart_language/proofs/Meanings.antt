@@ -198,8 +198,8 @@ config place _ s c e = absurd cc
 
 -- init-with F BAUD C HH BITS P W HH, from the eight fields
 init_with_meant : (place : Place) (F BAUD C HH BITS P W OUT : List ℕ) (f : Result (Option FifoTriggerLevel) Cause)
-    (b : Result BaudRate Cause) (t : Result Bool Cause) (h : Result IER Cause) (l : Result WordLength Cause) (p : Result Bool Cause) (w : Result TransmitterWait Cause)
-    (o : Result MCR Cause) (s : Saying)
+    (b : Result BaudRate Cause) (t : Result Bool Cause) (h : Result IER Cause) (l : Result WordLength Cause) (p : Result Bool Cause)
+    (w : Result TransmitterWait Cause) (o : Result MCR Cause) (s : Saying)
     → level_in F ≡ f → rate_in BAUD ≡ b → cts_in C ≡ t → interrupts_in HH ≡ h → word_length_in BITS ≡ l → check_in P ≡ p → wait_in W ≡ w
     → outputs_in OUT ≡ o
     → ((f >>= (λ level. b >>= (λ rate. t >>= (λ cts. h >>= (λ i. l >>= (λ v. read (configured level rate cts i v)))))))

@@ -173,7 +173,8 @@ pub data IsFaulty (bytes : List ℕ) (number : ℕ) (cause : Cause) : Type 0 whe
   long : MOST_BYTES < length bytes → number ≡ 0 → cause ≡ TooLong → IsFaulty bytes number cause
   empty : bytes ≡ [] → number ≡ 1 → cause ≡ Misplaced → IsFaulty bytes number cause
   faulty : length bytes ≤ MOST_BYTES
-      → IsFirstFault (is_limited (drop 1 (lines_of bytes))) 1 (lines_of bytes) number cause → IsFaulty bytes number cause
+      → IsFirstFault (is_limited (drop 1 (lines_of bytes))) 1 (lines_of bytes) number cause
+      → IsFaulty bytes number cause
 
 -- ---- what parsing returns
 

@@ -44,8 +44,8 @@ pub fn machine_for(alloc: Global, script: &Script) -> Result<Device16550, AllocE
     }
 }
 
-// Returns the machine of the script under a new driver with the limit of the script, which takes the
-// FIFOs for the size of the script.
+// Returns the machine of the script under a new driver, with the limit and the size of FIFOs that
+// the script sets.
 fn terminal_for(alloc: Global, script: &Script) -> Result<Uart16550Tty<Device16550>, AllocError>
     requires { IsPlayable (plan_of script.now) }
     ensures { IfOk result (λ terminal. IsFirst (plan_of script.now) terminal) }

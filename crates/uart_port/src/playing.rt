@@ -24,8 +24,8 @@ use uart_spec::FifoSize;
 /// A driver under its terminal, at the ports of a file.
 pub type Terminal<F> = Uart16550Tty<PioBackend<GuardedPorts<F>>>;
 
-/// Returns a new driver at the ports of a file, from this one on, with this spin limit. It takes the
-/// FIFOs for this size, which may not be larger than that of the chip: bytes are lost then.
+/// Returns a new driver at the ports of a file, from this one on, with this spin limit and this
+/// size of FIFOs. If the chip's are smaller, bytes are lost.
 pub fn terminal_at<F: PortFile + Drop>(
     port: u16,
     limit: NonZeroU64,

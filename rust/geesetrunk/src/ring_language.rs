@@ -1,8 +1,8 @@
 //! Scripts with rings: the words of the rings beside those of the script language.
 //!
-//! A script has rings if its second or third line starts with `rings`, or its fourth behind `fifo-size`. Without the lines of the rings it is
-//! a script of the language, whose parser is proved, and whose chip, limit, size of FIFOs and events are its own. What a line of the rings
-//! means is plain Rust.
+//! A script has rings if its second or third line starts with `rings`, or its fourth behind `fifo-size`. Without the lines of the rings it
+//! is a script of the language, whose parser is proved, and whose chip, limit, size of FIFOs and events are its own. What a line of the
+//! rings means is plain Rust.
 
 use crate::heap;
 use crate::text::{line_at, lines, words};

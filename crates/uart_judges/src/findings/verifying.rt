@@ -48,9 +48,9 @@ fn stray_line(
     }
 }
 
-/// Returns what is printed for the trace of a driver with this spin limit, which takes the FIFOs for
-/// this size: nothing if each list is one that its call makes, or else the line that says where the
-/// trace strays.
+/// Returns what is printed for the trace of a driver with this spin limit, which takes the FIFOs to
+/// be of this size: nothing if each list is one that its call makes, or else the line that says
+/// where the trace strays.
 ///
 /// # Errors
 ///

@@ -99,8 +99,8 @@ fn stray_at<'a>(exchange: &'a Exchange, state: &DriverState) -> Stray<'a>
 /// if so. Else returns the first call for which it is not, with its first access that no list of
 /// the call has, and what the driver does there.
 ///
-/// The first call is of a new driver with this limit, which takes the FIFOs for this size, and so is
-/// each call after a `fresh`.
+/// The first call is of a new driver with this limit, which takes the FIFOs to be of this size, and
+/// so is each call after a `fresh`.
 ///
 /// # Errors
 ///
