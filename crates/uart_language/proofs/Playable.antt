@@ -29,7 +29,7 @@ use Rattle.uart_language.specs.declared.words.Place.{Place}
 use Rattle.uart_language.specs.declared.words.Word.{Word}
 use Rattle.uart_language.specs.declared.words.Word.TheVariants as word
 use Rattle.uart_language.specs.Words.{is_first, is_limited}
-use Rattle.uart_language.specs.Sayings.{Saying, Nothing, Limit, Size, Happens, Calls, Marks, bare_call, Means}
+use Rattle.uart_language.specs.Sayings.{Saying, Limit, Happens, Calls, Marks, bare_call, Means}
 use Rattle.uart_language.specs.Sayings.{events_said, calls_said, plain}
 use Rattle.uart_language.specs.Sayings as row
 use Rattle.uart_language.specs.Items.{item_at}
@@ -118,12 +118,10 @@ rate_read word rate e = rate_by (number_in 1 MOST_RATE word) refl e where
 
 -- what a line says is in its range, legal and runnable
 abbrev IsGood : Saying → Type 0
-IsGood Nothing = Unit {0}
 IsGood (Limit n) = (1 ≤ n) × (n ≤ MOST_LIMIT)
-IsGood (Size size) = Unit {0}
 IsGood (Happens e) = IsLegal e
 IsGood (Calls c) = IsRunnable c
-IsGood Marks = Unit {0}
+IsGood said = Unit {0}
 
 -- a call that a word asks for by itself can be run
 bare_good : (w : Word) → IfSome (bare_call w) IsRunnable

@@ -264,11 +264,7 @@ pub fn judged(file: &str, judging: &Judging<'_>) -> Result<(), End> {
 }
 
 // Returns the line that `verify` prints for a trace that strays, or an empty one.
-fn stray_line(
-    trace: &[u8],
-    limit: NonZeroU64,
-    fifo_size: FifoSize,
-) -> Result<String, VerifyError> {
+fn stray_line(trace: &[u8], limit: NonZeroU64, fifo_size: FifoSize) -> Result<String, VerifyError> {
     let line = findings::verify(heap(), trace, limit, fifo_size)?;
     Ok(String::from_utf8_lossy(&line).trim_end_matches('\n').into())
 }

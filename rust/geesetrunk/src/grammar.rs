@@ -6,7 +6,8 @@
 use uart_language::fields::{
     byte_in, bytes_in, char_ticks_in, check_in, chip_in, count_in, cts_in, cut_in, dump_in,
     errors_in, fifos_in, interrupts_in, level_in, limit_in, lines_in, number_in, outputs_in,
-    rate_in, size_in, switch_in, text_in, ticks_in, trigger_in, wait_in, wire_capacity_in, word_length_in,
+    rate_in, size_in, switch_in, text_in, ticks_in, trigger_in, wait_in, wire_capacity_in,
+    word_length_in,
 };
 use uart_language::limits::MOST_LIMIT;
 use uart_ring::MAX_CAPACITY;

@@ -30,15 +30,8 @@ pub struct History {
 
 /// Returns whether a line of a script is a call.
 pub fn is_call(line: &[u8]) -> bool {
-    let is_of_driver = matches!(
-        item_at(Place::Later, line),
-        Ok(Item::Call(_) | Item::Next)
-    );
-    is_of_driver
-        || matches!(
-            call_at(OF_RINGS, false, AFTER_THE_HEAD, line),
-            Ok(Some(_))
-        )
+    let is_of_driver = matches!(item_at(Place::Later, line), Ok(Item::Call(_) | Item::Next));
+    is_of_driver || matches!(call_at(OF_RINGS, false, AFTER_THE_HEAD, line), Ok(Some(_)))
 }
 
 impl History {

@@ -327,10 +327,7 @@ mod tests {
                 "limit 9\nrings 4 4\nfifo-size 64\n",
                 Some((4, Cause::Misplaced)),
             ),
-            (
-                "\nfifo-size 64\nrings 4 4\n",
-                Some((3, Cause::Misplaced)),
-            ),
+            ("\nfifo-size 64\nrings 4 4\n", Some((3, Cause::Misplaced))),
             (
                 "fifo-size 64\nlsr\nrings 4 4\n",
                 Some((4, Cause::UnknownWord)),

@@ -219,10 +219,7 @@ fn every_word_means_its_event_or_call() {
     assert_eq!(script.ticks(), 3);
     assert_eq!(script.wire_capacity(), 7);
     assert_eq!(script.limit().get(), 5);
-    assert_eq!(
-        script.driver_fifo_size(),
-        FifoSize::OneHundredTwentyEight
-    );
+    assert_eq!(script.driver_fifo_size(), FifoSize::OneHundredTwentyEight);
     assert_eq!(
         script.events(),
         [
