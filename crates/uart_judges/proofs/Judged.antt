@@ -45,24 +45,24 @@ one_return call ok f after other l a b p q =
     go (inr part) = absurd (never_from_itself l part)
 
 -- the calls from one on are as recorded if those after it are
-pub one_call : (limit : ℕ) (f before after : Fields) (x : Exchange) (xs : List Exchange) → IsRunnable x.call →
-    before ≡ fields_before limit x f →
-    IsExchange x before after → AreAlike (AreCalls limit f (x ∷ xs)) (AreCalls limit after xs)
-one_call limit f before after x xs ok is made =
+pub one_call : (new : Fields) (f before after : Fields) (x : Exchange) (xs : List Exchange) → IsRunnable x.call →
+    before ≡ fields_before new x f →
+    IsExchange x before after → AreAlike (AreCalls new f (x ∷ xs)) (AreCalls new after xs)
+one_call new f before after x xs ok is made =
     let E : Fields → Type 0 = λ g. IsExchange x g after in
     let here = subst E is made in
     record {
       to = λ all.
-          let same = one_return x.call ok (fields_before limit x f) all.0 after _ _ _ all.1.makes here.makes in
-          let C : Fields → Type 0 = λ g. AreCalls limit g xs in
+          let same = one_return x.call ok (fields_before new x f) all.0 after _ _ _ all.1.makes here.makes in
+          let C : Fields → Type 0 = λ g. AreCalls new g xs in
           subst C same.1 all.2;
       from = λ rest. (after, here, rest);
     }
 
 -- and none are if this one is not
-pub no_call : (limit : ℕ) (f before : Fields) (x : Exchange) (xs : List Exchange) → before ≡ fields_before limit x f →
-    ((fields : Fields) → IsExchange x before fields → ⊥) → AreCalls limit f (x ∷ xs) → ⊥
-no_call limit f before x xs is none all =
+pub no_call : (new : Fields) (f before : Fields) (x : Exchange) (xs : List Exchange) → before ≡ fields_before new x f →
+    ((fields : Fields) → IsExchange x before fields → ⊥) → AreCalls new f (x ∷ xs) → ⊥
+no_call new f before x xs is none all =
     let E : Fields → Type 0 = λ g. IsExchange x g all.0 in none all.0 (subst E (sym is) all.1)
 
 -- two answers for one list are printed the same
@@ -78,44 +78,44 @@ pub not_true : {A : Type 0} {b : Bool} → b ≡ false → b ≡ true → A
 not_true p q = absurd (cc)
 
 -- a trace that begins with this call
-pub first_call : (limit : ℕ) (f before after : Fields) (x : Exchange) (xs all : List Exchange) → all ≡ x ∷ xs →
-    before ≡ fields_before limit x f → IsExchange x before after → AreAlike (AreCalls limit f all) (AreCalls limit after xs)
-first_call limit f before after x xs all whole is made =
-    let A : List Exchange → Type 0 = λ l. AreAlike (AreCalls limit f l) (AreCalls limit after xs) in
-    subst A (sym whole) (one_call limit f before after x xs x.runnable is made)
+pub first_call : (new : Fields) (f before after : Fields) (x : Exchange) (xs all : List Exchange) → all ≡ x ∷ xs →
+    before ≡ fields_before new x f → IsExchange x before after → AreAlike (AreCalls new f all) (AreCalls new after xs)
+first_call new f before after x xs all whole is made =
+    let A : List Exchange → Type 0 = λ l. AreAlike (AreCalls new f l) (AreCalls new after xs) in
+    subst A (sym whole) (one_call new f before after x xs x.runnable is made)
 
-pub no_first_call : (limit : ℕ) (f before : Fields) (x : Exchange) (xs all : List Exchange) → all ≡ x ∷ xs →
-    before ≡ fields_before limit x f → ((fields : Fields) → IsExchange x before fields → ⊥) → AreCalls limit f all → ⊥
-no_first_call limit f before x xs all whole is none calls =
-    let C : List Exchange → Type 0 = λ l. AreCalls limit f l in
-    no_call limit f before x xs is none (subst C whole calls)
+pub no_first_call : (new : Fields) (f before : Fields) (x : Exchange) (xs all : List Exchange) → all ≡ x ∷ xs →
+    before ≡ fields_before new x f → ((fields : Fields) → IsExchange x before fields → ⊥) → AreCalls new f all → ⊥
+no_first_call new f before x xs all whole is none calls =
+    let C : List Exchange → Type 0 = λ l. AreCalls new f l in
+    no_call new f before x xs is none (subst C whole calls)
 
 -- what is left of a trace decides whether all of it is as recorded, and where it strays
-pub record LeavesOpen (limit : ℕ) (f : Fields) (all : List Exchange) (g : Fields) (left : List Exchange) : Type 0 where
-  pub calls : AreAlike (AreCalls limit f all) (AreCalls limit g left)
-  pub strays : (stray : Stray) → IsStray limit g left stray → IsStray limit f all stray
+pub record LeavesOpen (new : Fields) (f : Fields) (all : List Exchange) (g : Fields) (left : List Exchange) : Type 0 where
+  pub calls : AreAlike (AreCalls new f all) (AreCalls new g left)
+  pub strays : (stray : Stray) → IsStray new g left stray → IsStray new f all stray
 
-pub all_left : (limit : ℕ) (f : Fields) (all : List Exchange) → LeavesOpen limit f all f all
-all_left limit f all = record { calls = record { to = λ x. x; from = λ x. x }; strays = λ stray p. p }
+pub all_left : (new : Fields) (f : Fields) (all : List Exchange) → LeavesOpen new f all f all
+all_left new f all = record { calls = record { to = λ x. x; from = λ x. x }; strays = λ stray p. p }
 
-pub one_less : (limit : ℕ) (f g before after : Fields) (x : Exchange) (xs left all : List Exchange) → LeavesOpen limit f all g left →
-    left ≡ x ∷ xs → before ≡ fields_before limit x g → IsExchange x before after → LeavesOpen limit f all after xs
-one_less limit f g before after x xs left all so_far whole is made =
+pub one_less : (new : Fields) (f g before after : Fields) (x : Exchange) (xs left all : List Exchange) → LeavesOpen new f all g left →
+    left ≡ x ∷ xs → before ≡ fields_before new x g → IsExchange x before after → LeavesOpen new f all after xs
+one_less new f g before after x xs left all so_far whole is made =
     let E : Fields → Type 0 = λ b. IsExchange x b after in
     record {
-      calls = alike_then so_far.calls (first_call limit g before after x xs left whole is made);
+      calls = alike_then so_far.calls (first_call new g before after x xs left whole is made);
       strays = λ stray p.
-          let S : List Exchange → Type 0 = λ l. IsStray limit g l stray in
+          let S : List Exchange → Type 0 = λ l. IsStray new g l stray in
           so_far.strays stray (subst S (sym whole) (inr (after, subst E is made, p)));
     }
 
-pub stray_here : (limit : ℕ) (f g before : Fields) (x : Exchange) (xs left all : List Exchange) (stray : Stray) →
-    LeavesOpen limit f all g left → left ≡ x ∷ xs → before ≡ fields_before limit x g → stray.exchange.now ≡ x →
+pub stray_here : (new : Fields) (f g before : Fields) (x : Exchange) (xs left all : List Exchange) (stray : Stray) →
+    LeavesOpen new f all g left → left ≡ x ∷ xs → before ≡ fields_before new x g → stray.exchange.now ≡ x →
     ((fields : Fields) → IsExchange x before fields → ⊥) →
     IsFollowed x.call before x.accesses.items (record { kept = stray.kept; turn = stray.turn }) →
-    IsStray limit f all stray
-stray_here limit f g before x xs left all stray so_far whole is same none first =
+    IsStray new f all stray
+stray_here new f g before x xs left all stray so_far whole is same none first =
     let H : Fields → Type 0 = λ b. StraysHere b x stray in
-    let S : List Exchange → Type 0 = λ l. IsStray limit g l stray in
+    let S : List Exchange → Type 0 = λ l. IsStray new g l stray in
     let here : StraysHere before x stray = record { call = same; none = none; first = first } in
     so_far.strays stray (subst S (sym whole) (inl (subst H is here)))

@@ -8,6 +8,7 @@ use Rattle.uart_spec.specs.declared.access.Access.TheVariants as access
 use Rattle.uart_events.specs.Calls.{IsRunnable}
 use Rattle.uart_events.specs.declared.call.Call.{Call}
 use Rattle.uart_language.specs.Fields.{◌>>=◌, byte_in}
+use Rattle.uart_language.specs.declared.words.Place.TheVariants.{Later}
 use Rattle.uart_language.specs.Items.{item_at}
 use Rattle.uart_language.specs.Sayings as script
 use Rattle.uart_language.specs.Text.{words_of, word_at, has_bad_byte}
@@ -17,7 +18,6 @@ use Rattle.uart_judges.specs.declared.traces.cause.TraceFault.{TraceFault}
 use Rattle.uart_judges.specs.declared.traces.cause.TraceFault.TheVariants as fault
 use Rattle.uart_judges.specs.declared.traces.lines.TraceLine.{TraceLine}
 use Rattle.uart_judges.specs.declared.traces.lines.TraceLine.TheVariants as line
-use Rattle.uart_judges.specs.declared.traces.lines.TheConstants.{AFTER_THE_HEAD}
 
 -- what a line adds to a trace: nothing, a new driver, a call, an access, an answer
 pub data Saying : Type 0 where
@@ -96,7 +96,7 @@ said_by word text =
     else if bytes_eq word (codes "=") then answer_in text
     else if bytes_eq word (codes "r") then made_as access.Read (access_in (words_of text))
     else if bytes_eq word (codes "w") then made_as access.Write (access_in (words_of text))
-    else called_as (item_at AFTER_THE_HEAD text)
+    else called_as (item_at Later text)
 
 -- what a line without its remark means, or what is wrong with it: a bad byte first
 unfoldable pub said_in : List ℕ → Result Saying TraceFault

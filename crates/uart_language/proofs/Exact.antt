@@ -1,6 +1,6 @@
 -- The parser reads exactly the scripts, and reports exactly the first fault of other bytes.
-use Rattle.std.proofs.Common.{◌≡◌, ℕ, ◌+◌, ◌≤◌, Bool, true, false, cond, ltb, List, [], ◌∷◌, ◌++◌, length, Option, Some, None, Result, Ok}
-use Rattle.std.proofs.Common.{Err, refl, sym, ap, subst, ◌∙◌, arith, inl, inr, ◌⊎◌}
+use Rattle.std.proofs.Common.{◌≡◌, ℕ, ◌+◌, ◌≤◌, Bool, true, false, cond, ltb, List, [], ◌∷◌, ◌++◌, length, drop, Option, Some}
+use Rattle.std.proofs.Common.{None, Result, Ok, Err, refl, sym, ap, subst, ◌∙◌, arith, inl, inr, ◌⊎◌}
 use Rattle.std.specs.List.{position_or_len}
 use Rattle.std.proofs.lemmas.Bool.{cases_lt, ltb-true, ltb-false, lt-ltb, le-ltb}
 use Rattle.uart_language.specs.declared.cause.Cause.{Cause}
@@ -9,14 +9,15 @@ use Rattle.uart_language.specs.declared.items.Header.{Header}
 use Rattle.uart_language.specs.declared.limits.TheConstants.{MOST_BYTES, MOST_LINES}
 use Rattle.uart_language.specs.Text.{lines_of}
 use Rattle.uart_language.specs.Fields.{◌>>=◌}
-use Rattle.uart_language.specs.Words.{fault_of}
+use Rattle.uart_language.specs.Words.{fault_of, is_limited, place_of}
 use Rattle.uart_language.specs.Sayings.{Saying}
 use Rattle.uart_language.specs.Script.{Plan, SayInOrder, IsScript, fault_at, AreFaultless, IsFirstFault, IsFaulty, long, empty, faulty}
 use Rattle.uart_language.specs.Items.{item_at, header_at}
-use Rattle.uart_language.specs.Reading.{Fault, on_line, numbered, before, sayings_from, plan_by, planned, from_lines, script_of}
+use Rattle.uart_language.specs.Reading.{Fault, on_line, numbered, before, sayings_from, sayings_after_first, plan_by, planned}
+use Rattle.uart_language.specs.Reading.{from_lines, script_of}
 use Rattle.uart_language.proofs.Lines.{lines_first, is_end}
 use Rattle.uart_language.proofs.Results.{bind_ok}
-use Rattle.uart_language.proofs.Meanings.{says_what_is_read, reads_what_is_said}
+use Rattle.uart_language.proofs.Meanings.{not_first, says_what_is_read, reads_what_is_said}
 use Rattle.uart_language.proofs.Faults.{line_fault, header_fault, says_header, reads_header}
 
 -- ---- values and faults
@@ -41,11 +42,14 @@ numbered_ok number line true r s e = absurd cc
 numbered_ok number line false (Ok x) s e = (refl, cc)
 numbered_ok number line false (Err c) s e = absurd cc
 
-is_line : (number : ℕ) (line : List ℕ) (s : Saying) → numbered number line ≡ Ok s → (number ≤ MOST_LINES) × (item_at number line ≡ Ok s)
-is_line number line s e = let r = numbered_ok number line _ (item_at number line) s e in (ltb-false MOST_LINES number r.0, r.1)
+is_line : (limited : Bool) (number : ℕ) (line : List ℕ) (s : Saying) → numbered limited number line ≡ Ok s
+    → (number ≤ MOST_LINES) × (item_at (place_of limited number) line ≡ Ok s)
+is_line limited number line s e =
+    let r = numbered_ok number line _ (item_at (place_of limited number) line) s e in (ltb-false MOST_LINES number r.0, r.1)
 
-numbered_is : (number : ℕ) (line : List ℕ) → number ≤ MOST_LINES → numbered number line ≡ on_line number (item_at number line)
-numbered_is number line most = rw (le-ltb MOST_LINES number most) refl
+numbered_is : (limited : Bool) (number : ℕ) (line : List ℕ) → number ≤ MOST_LINES
+    → numbered limited number line ≡ on_line number (item_at (place_of limited number) line)
+numbered_is limited number line most = rw (le-ltb MOST_LINES number most) refl
 
 abbrev at_line : ℕ → Option Cause → Option Fault
 at_line number None = None
@@ -55,22 +59,25 @@ on_line_fault : {A : Type 0} (number : ℕ) (r : Result A Cause) → fault_of (o
 on_line_fault number (Ok x) = refl
 on_line_fault number (Err c) = refl
 
-numbered_fault : (number : ℕ) (line : List ℕ) → 2 ≤ number → fault_of (numbered number line) ≡ at_line number (fault_at number line)
-numbered_fault number line le = elim (cases_lt MOST_LINES number) [
+numbered_fault : (limited : Bool) (number : ℕ) (line : List ℕ) → 2 ≤ number
+    → fault_of (numbered limited number line) ≡ at_line number (fault_at limited number line)
+numbered_fault limited number line le = elim (cases_lt MOST_LINES number) [
   | inl lt ↦ rw (lt-ltb MOST_LINES number lt) refl
-  | inr most ↦ ap fault_of (numbered_is number line most) ∙ on_line_fault number (item_at number line)
-      ∙ ap (at_line number) (line_fault number line le most)
+  | inr most ↦ ap fault_of (numbered_is limited number line most) ∙ on_line_fault number (item_at (place_of limited number) line)
+      ∙ ap (at_line number) (line_fault limited number line le most)
 ]
 
 -- a numbered line that the definition finds no fault with is read
-is_numbered : (number : ℕ) (line : List ℕ) → 2 ≤ number → fault_at number line ≡ None → (s : Saying) × (numbered number line ≡ Ok s)
-is_numbered number line le e = value_where (numbered number line) (numbered_fault number line le ∙ ap (at_line number) e)
+is_numbered : (limited : Bool) (number : ℕ) (line : List ℕ) → 2 ≤ number → fault_at limited number line ≡ None
+    → (s : Saying) × (numbered limited number line ≡ Ok s)
+is_numbered limited number line le e =
+    value_where (numbered limited number line) (numbered_fault limited number line le ∙ ap (at_line number) e)
 
 -- and one that it finds a fault with is refused by it
-is_refused : (number : ℕ) (line : List ℕ) (c : Cause) → 2 ≤ number → fault_at number line ≡ Some c
-    → numbered number line ≡ Err (fault number c)
-is_refused number line c le e =
-    fault_where_told (numbered number line) (fault number c) (numbered_fault number line le ∙ ap (at_line number) e)
+is_refused : (limited : Bool) (number : ℕ) (line : List ℕ) (c : Cause) → 2 ≤ number → fault_at limited number line ≡ Some c
+    → numbered limited number line ≡ Err (fault number c)
+is_refused limited number line c le e =
+    fault_where_told (numbered limited number line) (fault number c) (numbered_fault limited number line le ∙ ap (at_line number) e)
 
 no_fault_at : (number : ℕ) (o : Option Cause) → None ≡ at_line number o → o ≡ None
 no_fault_at number None e = refl
@@ -96,34 +103,38 @@ before_err (Ok s) (Err g) f e = inr (s, refl, cc)
 before_err (Err g) rest f e = inl cc
 
 -- what is read of lines is what they say, and they are not too many
-all_said : (number : ℕ) (lines : List (List ℕ)) (sayings : List Saying) → 2 ≤ number → number ≤ MOST_LINES + 1
-    → sayings_from number lines ≡ Ok sayings → SayInOrder number lines sayings × (number + length lines ≤ MOST_LINES + 1)
+all_said : (limited : Bool) (number : ℕ) (lines : List (List ℕ)) (sayings : List Saying) → 2 ≤ number → number ≤ MOST_LINES + 1
+    → sayings_from limited number lines ≡ Ok sayings
+    → SayInOrder limited number lines sayings × (number + length lines ≤ MOST_LINES + 1)
 unfolding sayings_from
-all_said number [] sayings le most e =
-    let none : [] ≡ sayings = cc in (subst (λ (x : List Saying). SayInOrder number [] x) none tt, omega arith)
-all_said number (line ∷ lines) sayings le most e =
-    let r = before_ok (numbered number line) (sayings_from (number + 1) lines) sayings e in
-    let first = is_line number line r.0 r.2 in
-    let rest = all_said (number + 1) lines r.1 (omega arith) (omega (arith, first.0)) r.3 in (
-      subst (λ (x : List Saying). SayInOrder number (line ∷ lines) x) r.4 (says_what_is_read number line r.0 le first.1, rest.0),
+all_said limited number [] sayings le most e =
+    let none : [] ≡ sayings = cc in (subst (λ (x : List Saying). SayInOrder limited number [] x) none tt, omega arith)
+all_said limited number (line ∷ lines) sayings le most e =
+    let r = before_ok (numbered limited number line) (sayings_from limited (number + 1) lines) sayings e in
+    let first = is_line limited number line r.0 r.2 in
+    let said = says_what_is_read (place_of limited number) line r.0 (not_first limited number le) first.1 in
+    let rest = all_said limited (number + 1) lines r.1 (omega arith) (omega (arith, first.0)) r.3 in (
+      subst (λ (x : List Saying). SayInOrder limited number (line ∷ lines) x) r.4 (said, rest.0),
       omega (arith, rest.1),
     )
 
-all_read : (number : ℕ) (lines : List (List ℕ)) (sayings : List Saying) → 2 ≤ number → number + length lines ≤ MOST_LINES + 1
-    → SayInOrder number lines sayings → sayings_from number lines ≡ Ok sayings
+all_read : (limited : Bool) (number : ℕ) (lines : List (List ℕ)) (sayings : List Saying) → 2 ≤ number
+    → number + length lines ≤ MOST_LINES + 1 → SayInOrder limited number lines sayings
+    → sayings_from limited number lines ≡ Ok sayings
 unfolding sayings_from
-all_read number [] [] le most h = refl
-all_read number [] (s ∷ sayings) le most h = absurd h
-all_read number (line ∷ lines) [] le most h = absurd h
-all_read number (line ∷ lines) (s ∷ sayings) le most h =
-    let first = numbered_is number line (omega arith) ∙ ap (on_line number) (reads_what_is_said number line s le h.0) in
-    let rest = all_read (number + 1) lines sayings (omega arith) (omega arith) h.1 in
+all_read limited number [] [] le most h = refl
+all_read limited number [] (s ∷ sayings) le most h = absurd h
+all_read limited number (line ∷ lines) [] le most h = absurd h
+all_read limited number (line ∷ lines) (s ∷ sayings) le most h =
+    let said = reads_what_is_said (place_of limited number) line s (not_first limited number le) h.0 in
+    let first = numbered_is limited number line (omega arith) ∙ ap (on_line number) said in
+    let rest = all_read limited (number + 1) lines sayings (omega arith) (omega arith) h.1 in
     rw (first, rest) refl
 
-first_is_told : (number : ℕ) (line : List ℕ) (lines : List (List ℕ)) (f : Fault) → 2 ≤ number → numbered number line ≡ Err f
-    → IsFirstFault number (line ∷ lines) f.line f.cause
-first_is_told number line lines f le e =
-    let told = fault_is_at number (fault_at number line) f (sym (ap fault_of e) ∙ numbered_fault number line le) in
+first_is_told : (limited : Bool) (number : ℕ) (line : List ℕ) (lines : List (List ℕ)) (f : Fault) → 2 ≤ number
+    → numbered limited number line ≡ Err f → IsFirstFault limited number (line ∷ lines) f.line f.cause
+first_is_told limited number line lines f le e =
+    let told = fault_is_at number (fault_at limited number line) f (sym (ap fault_of e) ∙ numbered_fault limited number line le) in
     record {
       before = [];
       line = line;
@@ -134,9 +145,10 @@ first_is_told number line lines f le e =
       faulty = rw told.0 told.1;
     }
 
-later_is_told : (number : ℕ) (line : List ℕ) (lines : List (List ℕ)) (at : ℕ) (c : Cause) → fault_at number line ≡ None
-    → IsFirstFault (number + 1) lines at c → IsFirstFault number (line ∷ lines) at c
-later_is_told number line lines at c none later = record {
+later_is_told : (limited : Bool) (number : ℕ) (line : List ℕ) (lines : List (List ℕ)) (at : ℕ) (c : Cause)
+    → fault_at limited number line ≡ None → IsFirstFault limited (number + 1) lines at c
+    → IsFirstFault limited number (line ∷ lines) at c
+later_is_told limited number line lines at c none later = record {
   before = line ∷ later.before;
   line = later.line;
   after = later.after;
@@ -147,27 +159,30 @@ later_is_told number line lines at c none later = record {
 }
 
 -- the fault that is reported for lines is their first
-told_is_first : (number : ℕ) (lines : List (List ℕ)) (f : Fault) → 2 ≤ number → sayings_from number lines ≡ Err f
-    → IsFirstFault number lines f.line f.cause
+told_is_first : (limited : Bool) (number : ℕ) (lines : List (List ℕ)) (f : Fault) → 2 ≤ number
+    → sayings_from limited number lines ≡ Err f → IsFirstFault limited number lines f.line f.cause
 unfolding sayings_from
-told_is_first number [] f le e = absurd cc
-told_is_first number (line ∷ lines) f le e = elim (before_err (numbered number line) (sayings_from (number + 1) lines) f e) [
-  | inl here ↦ first_is_told number line lines f le here
-  | inr later ↦
-      let none = no_fault_at number (fault_at number line) (sym (ap fault_of later.1) ∙ numbered_fault number line le) in
-      later_is_told number line lines f.line f.cause none (told_is_first (number + 1) lines f (omega arith) later.2)
-]
+told_is_first limited number [] f le e = absurd cc
+told_is_first limited number (line ∷ lines) f le e =
+    elim (before_err (numbered limited number line) (sayings_from limited (number + 1) lines) f e) [
+      | inl here ↦ first_is_told limited number line lines f le here
+      | inr later ↦
+          let same = sym (ap fault_of later.1) ∙ numbered_fault limited number line le in
+          let none = no_fault_at number (fault_at limited number line) same in
+          let rest = told_is_first limited (number + 1) lines f (omega arith) later.2 in
+          later_is_told limited number line lines f.line f.cause none rest
+    ]
 
-first_is : (start : ℕ) (front : List (List ℕ)) (line : List ℕ) (after : List (List ℕ)) (number : ℕ) (c : Cause) → 2 ≤ start
-    → AreFaultless start front → number ≡ start + length front → fault_at number line ≡ Some c
-    → sayings_from start (front ++ line ∷ after) ≡ Err (fault number c)
+first_is : (limited : Bool) (start : ℕ) (front : List (List ℕ)) (line : List ℕ) (after : List (List ℕ)) (number : ℕ) (c : Cause)
+    → 2 ≤ start → AreFaultless limited start front → number ≡ start + length front → fault_at limited number line ≡ Some c
+    → sayings_from limited start (front ++ line ∷ after) ≡ Err (fault number c)
 unfolding sayings_from
-first_is start [] line after number c le none e told =
+first_is limited start [] line after number c le none e told =
     let here : number ≡ start = omega (arith, e) in
-    rw here (rw (is_refused start line c le (rw here at told)) refl)
-first_is start (l ∷ front) line after number c le none e told =
-    let said = is_numbered start l le none.0 in
-    rw (said.1, first_is (start + 1) front line after number c (omega arith) none.1 (omega (arith, e)) told) refl
+    rw here (rw (is_refused limited start line c le (rw here at told)) refl)
+first_is limited start (l ∷ front) line after number c le none e told =
+    let said = is_numbered limited start l le none.0 in
+    rw (said.1, first_is limited (start + 1) front line after number c (omega arith) none.1 (omega (arith, e)) told) refl
 
 -- ---- a whole script
 
@@ -190,9 +205,9 @@ is_script_by : (bytes first : List ℕ) (others : List (List ℕ)) (plan : Plan)
     → from_lines (first ∷ others) ≡ Ok plan → IsScript bytes plan
 unfolding from_lines
 is_script_by bytes first others plan fits l e =
-    let h = bind_ok (on_line 1 (header_at first)) (λ header. planned header (sayings_from 2 others)) plan e in
-    let p = planned_ok h.0 (sayings_from 2 others) plan h.2 in
-    let said = all_said 2 others p.0 (omega arith) (omega arith) p.1 in
+    let h = bind_ok (on_line 1 (header_at first)) (λ header. planned header (sayings_after_first others)) plan e in
+    let p = planned_ok h.0 (sayings_after_first others) plan h.2 in
+    let said = all_said (is_limited others) 2 others p.0 (omega arith) (omega arith) p.1 in
     subst (λ (x : Plan). IsScript bytes x) p.2 (record {
       first = first;
       others = others;
@@ -203,6 +218,7 @@ is_script_by bytes first others plan fits l e =
       header = says_header first h.0 (on_line_ok 1 (header_at first) h.0 h.1);
       body = said.0;
       limit = refl;
+      driver_fifo_size = refl;
       events = refl;
       calls = refl;
     })
@@ -227,13 +243,14 @@ is_script bytes plan e =
 pub script_is_read : (bytes : List ℕ) (plan : Plan) → IsScript bytes plan → script_of bytes ≡ Ok plan
 unfolding script_of from_lines planned
 script_is_read bytes plan s =
-    let read = all_read 2 s.others s.sayings (omega arith) (omega (arith, s.few)) s.body in
+    let read = all_read (is_limited s.others) 2 s.others s.sayings (omega arith) (omega (arith, s.few)) s.body in
     rw (
       le-ltb MOST_BYTES (length bytes) s.fits,
       s.lines,
       reads_header s.first plan.chip plan.fifo_size plan.auto_flow plan.ticks plan.wire_capacity plan.cuts s.header,
       read,
       ← s.limit,
+      ← s.driver_fifo_size,
       ← s.events,
       ← s.calls,
     ) refl
@@ -242,7 +259,8 @@ no_lines : (bytes : List ℕ) → lines_of bytes ≡ [] → bytes ≡ []
 no_lines [] e = refl
 no_lines (b ∷ bytes) e = let cons = lines_first (b ∷ bytes) (position_or_len is_end (b ∷ bytes)) (omega arith) refl in absurd cc
 
-header_told : (first : List ℕ) (others : List (List ℕ)) (c : Cause) → header_at first ≡ Err c → IsFirstFault 1 (first ∷ others) 1 c
+header_told : (first : List ℕ) (others : List (List ℕ)) (c : Cause) → header_at first ≡ Err c
+    → IsFirstFault (is_limited others) 1 (first ∷ others) 1 c
 header_told first others c e = record {
   before = [];
   line = first;
@@ -250,17 +268,18 @@ header_told first others c e = record {
   cut = refl;
   faultless = tt;
   number_is = refl;
-  faulty = sym (header_fault first) ∙ ap fault_of e;
+  faulty = sym (header_fault (is_limited others) first) ∙ ap fault_of e;
 }
 
 lines_told : (first : List ℕ) (others : List (List ℕ)) (r : Result Header Cause) (f : Fault) → header_at first ≡ r
-    → (on_line 1 r >>= (λ header. planned header (sayings_from 2 others))) ≡ Err f → IsFirstFault 1 (first ∷ others) f.line f.cause
+    → (on_line 1 r >>= (λ header. planned header (sayings_after_first others))) ≡ Err f
+    → IsFirstFault (is_limited others) 1 (first ∷ others) f.line f.cause
 lines_told first others (Err c) f h e =
     let told : fault 1 c ≡ f = cc in
-    subst (λ (x : Fault). IsFirstFault 1 (first ∷ others) x.line x.cause) told (header_told first others c h)
+    subst (λ (x : Fault). IsFirstFault (is_limited others) 1 (first ∷ others) x.line x.cause) told (header_told first others c h)
 lines_told first others (Ok header) f h e =
-    later_is_told 1 first others f.line f.cause (sym (header_fault first) ∙ ap fault_of h)
-    (told_is_first 2 others f (omega arith) (planned_err header (sayings_from 2 others) f e))
+    later_is_told (is_limited others) 1 first others f.line f.cause (sym (header_fault (is_limited others) first) ∙ ap fault_of h)
+    (told_is_first (is_limited others) 2 others f (omega arith) (planned_err header (sayings_after_first others) f e))
 
 faulty_by_lines : (bytes : List ℕ) (lines : List (List ℕ)) (f : Fault) → length bytes ≤ MOST_BYTES → lines_of bytes ≡ lines
     → from_lines lines ≡ Err f → IsFaulty bytes f.line f.cause
@@ -282,15 +301,18 @@ pub is_faulty : (bytes : List ℕ) (f : Fault) → script_of bytes ≡ Err f →
 unfolding script_of
 is_faulty bytes f e = faulty_by bytes f _ refl e
 
-first_told : (front : List (List ℕ)) (line : List ℕ) (after : List (List ℕ)) (number : ℕ) (c : Cause) → AreFaultless 1 front
-    → number ≡ 1 + length front → fault_at number line ≡ Some c → from_lines (front ++ line ∷ after) ≡ Err (fault number c)
+first_told : (front : List (List ℕ)) (line : List ℕ) (after : List (List ℕ)) (number : ℕ) (c : Cause)
+    → AreFaultless (is_limited (drop 1 (front ++ line ∷ after))) 1 front → number ≡ 1 + length front
+    → fault_at (is_limited (drop 1 (front ++ line ∷ after))) number line ≡ Some c
+    → from_lines (front ++ line ∷ after) ≡ Err (fault number c)
 unfolding from_lines planned
 first_told [] line after number c none e told =
     let here : number ≡ 1 = omega (arith, e) in
-    rw here (rw (fault_where_told (header_at line) c (header_fault line ∙ rw here at told)) refl)
+    rw here (rw (fault_where_told (header_at line) c (header_fault (is_limited after) line ∙ rw here at told)) refl)
 first_told (first ∷ front) line after number c none e told =
-    let header = value_where (header_at first) (header_fault first ∙ none.0) in
-    rw (header.1, first_is 2 front line after number c (omega arith) none.1 (omega (arith, e)) told) refl
+    let limited = is_limited (front ++ line ∷ after) in
+    let header = value_where (header_at first) (header_fault limited first ∙ none.0) in
+    rw (header.1, first_is limited 2 front line after number c (omega arith) none.1 (omega (arith, e)) told) refl
 
 -- the first fault of bytes that are not a script is reported
 pub fault_is_told : (bytes : List ℕ) (number : ℕ) (c : Cause) → IsFaulty bytes number c → script_of bytes ≡ Err (fault number c)
@@ -298,4 +320,6 @@ unfolding script_of from_lines lines_of
 fault_is_told bytes number c (long lt n e) = rw (lt-ltb MOST_BYTES (length bytes) lt, n, e) refl
 fault_is_told bytes number c (empty b n e) = rw (b, n, e) refl
 fault_is_told bytes number c (faulty fits f) =
-    rw (le-ltb MOST_BYTES (length bytes) fits, f.cut) (first_told f.before f.line f.after number c f.faultless f.number_is f.faulty)
+    let faultless = subst (λ (lines : List (List ℕ)). AreFaultless (is_limited (drop 1 lines)) 1 f.before) f.cut f.faultless in
+    let told = subst (λ (lines : List (List ℕ)). fault_at (is_limited (drop 1 lines)) number f.line ≡ Some c) f.cut f.faulty in
+    rw (le-ltb MOST_BYTES (length bytes) fits, f.cut) (first_told f.before f.line f.after number c faultless f.number_is told)

@@ -14,18 +14,20 @@ use Rattle.uart_language.specs.declared.cause.Cause.TheVariants.{BadByte, Mispla
 use Rattle.uart_language.specs.declared.fields.ChipKind.{ChipKind}
 use Rattle.uart_language.specs.declared.items.Header.{Header}
 use Rattle.uart_language.specs.declared.limits.TheConstants.{MOST_LINES}
+use Rattle.uart_language.specs.declared.words.Place.{Place}
+use Rattle.uart_language.specs.declared.words.Place.TheVariants as place
 use Rattle.uart_language.specs.declared.words.Word.{Word}
 use Rattle.uart_language.specs.declared.words.Word.TheVariants as word
 use Rattle.uart_language.specs.Text.{words_of, word_at, has_bad_byte}
 use Rattle.uart_language.specs.Fields.{◌>>=◌, count_in, limit_in, ticks_in, char_ticks_in, wire_capacity_in, byte_in, lines_in, bytes_in}
 use Rattle.uart_language.specs.Fields.{text_in, errors_in, kind, chip_in, cut_in, level_in, rate_in, cts_in, interrupts_in, word_length_in}
-use Rattle.uart_language.specs.Fields.{check_in, wait_in, outputs_in, trigger_in, switch_in, fifos_in, dump_in}
-use Rattle.uart_language.specs.Words.{name_of, word_of, fault_of, fields_of, has_count, is_placed}
-use Rattle.uart_language.specs.Sayings.{Nothing, Limit, Calls, Happens, configured, framed, arranged, array_of, text_of}
+use Rattle.uart_language.specs.Fields.{check_in, wait_in, outputs_in, trigger_in, switch_in, fifos_in, dump_in, size_in}
+use Rattle.uart_language.specs.Words.{name_of, word_of, fault_of, fields_of, has_count, place_of, is_first, is_placed}
+use Rattle.uart_language.specs.Sayings.{Nothing, Limit, Size, Calls, Happens, configured, framed, arranged, array_of, text_of}
 use Rattle.uart_language.specs.Script.{IsHeader, option_words, fault_where, first_of, field_faults, word_faults, fault_at}
 use Rattle.uart_language.specs.Items.{config_in, setup_in, arrival_in, call_of, item_of, placed_word, starts_with}
 use Rattle.uart_language.specs.Items.{item_at, header_in, header_at}
-use Rattle.uart_language.proofs.Meanings.{not_first, neither, name_is}
+use Rattle.uart_language.proofs.Meanings.{not_one, not_first, neither, name_is}
 
 -- ---- the fields of a line
 
@@ -151,6 +153,7 @@ item_fault word.Chip name rest c other = absurd (other refl)
 item_fault word.Init name rest c other = config_fault name rest c
 item_fault word.Arrive name rest c other = arrival_fault name rest c
 item_fault word.Limit name rest c other = field_fault limit_in (λ k. Limit k) name rest c
+item_fault word.FifoSize name rest c other = field_fault size_in (λ k. Size k) name rest c
 item_fault word.Tick name rest c other = field_fault ticks_in (λ k. Happens (event.Ticks k)) name rest c
 item_fault word.Lines name rest c other = field_fault (lines_in) (λ v. Happens (event.Lines v)) name rest c
 item_fault word.InitWith name rest c other = set_up_fault name rest c
@@ -186,43 +189,45 @@ no_count : (w : Word) → has_count w 0 ≡ true → ⊥
 no_count word.Chip c = absurd cc
 no_count w c = absurd cc
 
-placed_fault : {A : Type 0} (number : ℕ) (w : Word) (ws : List (List ℕ)) (p c : Bool) (read : Word → Result A Cause)
+placed_fault : {A : Type 0} (place : Place) (w : Word) (ws : List (List ℕ)) (p c : Bool) (read : Word → Result A Cause)
     → (p ≡ true → c ≡ true → fault_of (read w) ≡ first_of (field_faults (fields_of w) (drop 1 ws)))
     → fault_of (cond p (cond c (Ok w) (Err WrongCount)) (Err Misplaced) >>= read)
     ≡ first_of (fault_where (not p) Misplaced ∷ fault_where (not c) WrongCount ∷ field_faults (fields_of w) (drop 1 ws))
-placed_fault number w ws true true read f = f refl refl
-placed_fault number w ws true false read f = refl
-placed_fault number w ws false c read f = refl
+placed_fault place w ws true true read f = f refl refl
+placed_fault place w ws true false read f = refl
+placed_fault place w ws false c read f = refl
 
 unplaced_fault : {A : Type 0} (p : Bool) (read : Word → Result A Cause)
     → fault_of (cond p (Err UnknownWord) (Err Misplaced) >>= read) ≡ first_of (fault_where (not p) Misplaced ∷ Some UnknownWord ∷ [])
 unplaced_fault true read = refl
 unplaced_fault false read = refl
 
-not_chip : (number : ℕ) (w : Word) → 2 ≤ number → is_placed number (Some w) ≡ true → w ≡ word.Chip → ⊥
-not_chip number w le p e =
-    let one : eqb number 1 ≡ true = subst (λ x. is_placed number (Some x) ≡ true) e p in omega (arith, eqb-true number 1 one)
+not_chip : (place : Place) (w : Word) → is_first place ≡ false → is_placed place (Some w) ≡ true → w ≡ word.Chip → ⊥
+not_chip place w le p e =
+    let first : is_first place ≡ true = subst (λ x. is_placed place (Some x) ≡ true) e p in absurd cc
 
-word_fault : (number : ℕ) (first : Option Word) (ws : List (List ℕ)) → 2 ≤ number
-    → fault_of (placed_word number ws first >>= (λ w. item_of w ws)) ≡ first_of (word_faults number first ws)
-word_fault number None ws le = unplaced_fault (is_placed number None) _
-word_fault number (Some w) [] le = placed_fault number w [] _ _ (λ v. item_of v []) (λ p c. absurd (no_count w c))
-word_fault number (Some w) (text ∷ rest) le =
-    placed_fault number w (text ∷ rest) _ _ (λ v. item_of v (text ∷ rest)) (λ p c. item_fault w text rest c (not_chip number w le p))
+word_fault : (place : Place) (first : Option Word) (ws : List (List ℕ)) → is_first place ≡ false
+    → fault_of (placed_word place ws first >>= (λ w. item_of w ws)) ≡ first_of (word_faults place first ws)
+word_fault place None ws le = unplaced_fault (is_placed place None) _
+word_fault place (Some w) [] le = placed_fault place w [] _ _ (λ v. item_of v []) (λ p c. absurd (no_count w c))
+word_fault place (Some w) (text ∷ rest) le =
+    placed_fault place w (text ∷ rest) _ _ (λ v. item_of v (text ∷ rest)) (λ p c. item_fault w text rest c (not_chip place w le p))
 
-line_fault_by : (number : ℕ) (line : List ℕ) (none bad : Bool) → 2 ≤ number
-    → fault_of (cond none (Ok Nothing) (cond bad (Err BadByte) (placed_word number (words_of line) (word_of (word_at 0 (words_of line))))
+line_fault_by : (limited : Bool) (number : ℕ) (line : List ℕ) (none bad : Bool) → 2 ≤ number
+    → fault_of (cond none (Ok Nothing)
+    (cond bad (Err BadByte) (placed_word (place_of limited number) (words_of line) (word_of (word_at 0 (words_of line))))
     >>= (λ w. item_of w (words_of line))))
     ≡ cond (none && not (eqb number 1)) None
-    (first_of (fault_where bad BadByte ∷ word_faults number (word_of (word_at 0 (words_of line))) (words_of line)))
-line_fault_by number line true bad le = rw (not_first number le) refl
-line_fault_by number line false true le = refl
-line_fault_by number line false false le = word_fault number _ (words_of line) le
+    (first_of (fault_where bad BadByte ∷ word_faults (place_of limited number) (word_of (word_at 0 (words_of line))) (words_of line)))
+line_fault_by limited number line true bad le = rw (not_one number le) refl
+line_fault_by limited number line false true le = refl
+line_fault_by limited number line false false le = word_fault (place_of limited number) _ (words_of line) (not_first limited number le)
 
 -- the fault of a line after the first
-pub line_fault : (number : ℕ) (line : List ℕ) → 2 ≤ number → number ≤ MOST_LINES → fault_of (item_at number line) ≡ fault_at number line
+pub line_fault : (limited : Bool) (number : ℕ) (line : List ℕ) → 2 ≤ number → number ≤ MOST_LINES
+    → fault_of (item_at (place_of limited number) line) ≡ fault_at limited number line
 unfolding item_at starts_with
-line_fault number line le most = rw (le-ltb MOST_LINES number most) (line_fault_by number line _ _ le)
+line_fault limited number line le most = rw (le-ltb MOST_LINES number most) (line_fault_by limited number line _ _ le)
 
 -- ---- the first line
 
@@ -244,24 +249,25 @@ header_words_fault (name ∷ NAME ∷ T ∷ W ∷ C ∷ X ∷ rest) c = absurd (
 header_words_fault _ c = absurd cc
 
 first_word_fault : (first : Option Word) (ws : List (List ℕ))
-    → fault_of (placed_word 1 ws first >>= (λ w. header_in ws)) ≡ first_of (word_faults 1 first ws)
+    → fault_of (placed_word place.First ws first >>= (λ w. header_in ws)) ≡ first_of (word_faults place.First first ws)
 first_word_fault None ws = refl
-first_word_fault (Some word.Chip) ws = placed_fault 1 word.Chip ws true _ (λ w. header_in ws) (λ p c. header_words_fault ws c)
+first_word_fault (Some word.Chip) ws = placed_fault place.First word.Chip ws true _ (λ w. header_in ws) (λ p c. header_words_fault ws c)
 first_word_fault (Some w) ws = refl
 
 header_fault_by : (line : List ℕ) (none bad : Bool)
-    → fault_of (cond bad (Err BadByte) (placed_word 1 (words_of line) (word_of (word_at 0 (words_of line))))
+    → fault_of (cond bad (Err BadByte) (placed_word place.First (words_of line) (word_of (word_at 0 (words_of line))))
     >>= (λ w. header_in (words_of line)))
-    ≡ cond (none && false) None (first_of (fault_where bad BadByte ∷ word_faults 1 (word_of (word_at 0 (words_of line))) (words_of line)))
+    ≡ cond (none && false) None
+    (first_of (fault_where bad BadByte ∷ word_faults place.First (word_of (word_at 0 (words_of line))) (words_of line)))
 header_fault_by line true true = refl
 header_fault_by line false true = refl
 header_fault_by line true false = first_word_fault _ (words_of line)
 header_fault_by line false false = first_word_fault _ (words_of line)
 
 -- the fault of the first line
-pub header_fault : (line : List ℕ) → fault_of (header_at line) ≡ fault_at 1 line
+pub header_fault : (limited : Bool) (line : List ℕ) → fault_of (header_at line) ≡ fault_at limited 1 line
 unfolding header_at starts_with
-header_fault line = header_fault_by line _ _
+header_fault limited line = header_fault_by line _ _
 
 -- ---- what the first line says
 
@@ -335,7 +341,7 @@ counted false r x e = absurd cc
 
 header_by : (line : List ℕ) (h : Header) (bad : Bool) (first : Option Word) → has_bad_byte line ≡ bad
     → word_of (word_at 0 (words_of line)) ≡ first
-    → (cond bad (Err BadByte) (placed_word 1 (words_of line) first) >>= (λ w. header_in (words_of line))) ≡ Ok h
+    → (cond bad (Err BadByte) (placed_word place.First (words_of line) first) >>= (λ w. header_in (words_of line))) ≡ Ok h
     → IsHeader line h.chip.model h.chip.size h.chip.auto_flow h.ticks h.wire_capacity h.cuts
 header_by line h true first b f e = absurd cc
 header_by line h false None b f e = absurd cc

@@ -25,9 +25,12 @@ use Rattle.uart_spec.specs.declared.registers.modem_status.TheConstants.MSR
 use Rattle.uart_events.specs.declared.event.TheConstants.{MAX_CHAR_TICKS, MAX_WIRE_CAPACITY}
 use Rattle.uart_events.specs.Build.{IsLegal}
 use Rattle.uart_spec.specs.Bits.{IsWithin}
+use Rattle.uart_language.specs.declared.words.Place.{Place}
 use Rattle.uart_language.specs.declared.words.Word.{Word}
 use Rattle.uart_language.specs.declared.words.Word.TheVariants as word
-use Rattle.uart_language.specs.Sayings.{Saying, Nothing, Limit, Happens, Calls, Marks, bare_call, Means, events_said, calls_said, plain}
+use Rattle.uart_language.specs.Words.{is_first, is_limited}
+use Rattle.uart_language.specs.Sayings.{Saying, Limit, Happens, Calls, Marks, bare_call, Means}
+use Rattle.uart_language.specs.Sayings.{events_said, calls_said, plain}
 use Rattle.uart_language.specs.Sayings as row
 use Rattle.uart_language.specs.Items.{item_at}
 use Rattle.uart_language.proofs.Meanings.{says_what_is_read}
@@ -115,18 +118,17 @@ rate_read word rate e = rate_by (number_in 1 MOST_RATE word) refl e where
 
 -- what a line says is in its range, legal and runnable
 abbrev IsGood : Saying → Type 0
-IsGood Nothing = Unit {0}
 IsGood (Limit n) = (1 ≤ n) × (n ≤ MOST_LIMIT)
 IsGood (Happens e) = IsLegal e
 IsGood (Calls c) = IsRunnable c
-IsGood Marks = Unit {0}
+IsGood said = Unit {0}
 
 -- a call that a word asks for by itself can be run
 bare_good : (w : Word) → IfSome (bare_call w) IsRunnable
 bare_good word.Loopback = tt
 bare_good w = tt
 
-means_good : {number : ℕ} {ws : List (List ℕ)} {said : Saying} → Means number ws said → IsGood said
+means_good : {place : Place} {ws : List (List ℕ)} {said : Saying} → Means place ws said → IsGood said
 means_good (row.limit {N = N} {n = n} e h) = number_range 1 MOST_LIMIT N n h
 means_good (row.arrive h) = refl
 means_good (row.arrive_faulty {E = E} h e) = (errors_legal E).bits _ e
@@ -158,19 +160,19 @@ means_good (row.read {N = N} h) = (number_range 0 CALL_BYTES N _ h).1
 means_good (row.bare w e) = subst (λ (o : Option Call). IfSome o IsRunnable) e (bare_good w)
 means_good m = tt
 
-says_good : {number : ℕ} {line : List ℕ} {said : Saying} → Says number line said → IsGood said
+says_good : {place : Place} {line : List ℕ} {said : Saying} → Says place line said → IsGood said
 says_good {said = said} (blank l e) = subst IsGood (sym e) tt
 says_good (printable b m) = means_good m
 
 -- ---- all lines
 
-limit_good : (number : ℕ) (lines : List (List ℕ)) (sayings : List Saying) (limit : ℕ) → (1 ≤ limit) × (limit ≤ MOST_LIMIT)
-    → SayInOrder number lines sayings → (1 ≤ limit_from limit sayings) × (limit_from limit sayings ≤ MOST_LIMIT)
-limit_good number [] [] limit r h = r
-limit_good number [] (s ∷ sayings) limit r h = absurd h
-limit_good number (line ∷ lines) [] limit r h = absurd h
-limit_good number (line ∷ lines) (Limit n ∷ sayings) limit r h = limit_good (number + 1) lines sayings n (says_good h.0) h.1
-limit_good number (line ∷ lines) (s ∷ sayings) limit r h = limit_good (number + 1) lines sayings limit r h.1
+limit_good : (limited : Bool) (number : ℕ) (lines : List (List ℕ)) (sayings : List Saying) (limit : ℕ) → (1 ≤ limit) × (limit ≤ MOST_LIMIT)
+    → SayInOrder limited number lines sayings → (1 ≤ limit_from limit sayings) × (limit_from limit sayings ≤ MOST_LIMIT)
+limit_good limited number [] [] limit r h = r
+limit_good limited number [] (s ∷ sayings) limit r h = absurd h
+limit_good limited number (line ∷ lines) [] limit r h = absurd h
+limit_good limited number (line ∷ lines) (Limit n ∷ sayings) limit r h = limit_good limited (number + 1) lines sayings n (says_good h.0) h.1
+limit_good limited number (line ∷ lines) (s ∷ sayings) limit r h = limit_good limited (number + 1) lines sayings limit r h.1
 
 All-one : {X : Type 0} (P : X → Type 0) (x : X) → P x → All P (x ∷ [])
 All-one P x p = All-cons P x [] p (All-nil P)
@@ -187,21 +189,22 @@ calls_good s g = All-nil IsRunnable
 
 -- what holds of each line's part holds of all parts
 all_parts : {X : Type 0} (P : X → Type 0) (part : Saying → List X) → ((s : Saying) → IsGood s → All P (part s))
-    → (number : ℕ) (lines : List (List ℕ)) (sayings : List Saying) → SayInOrder number lines sayings → All P (flat_map part sayings)
-all_parts P part good number [] [] h = All-nil P
-all_parts P part good number [] (s ∷ sayings) h = absurd h
-all_parts P part good number (line ∷ lines) [] h = absurd h
-all_parts P part good number (line ∷ lines) (s ∷ sayings) h =
+    → (limited : Bool) (number : ℕ) (lines : List (List ℕ)) (sayings : List Saying) → SayInOrder limited number lines sayings
+    → All P (flat_map part sayings)
+all_parts P part good limited number [] [] h = All-nil P
+all_parts P part good limited number [] (s ∷ sayings) h = absurd h
+all_parts P part good limited number (line ∷ lines) [] h = absurd h
+all_parts P part good limited number (line ∷ lines) (s ∷ sayings) h =
     rw (flat_map-cons part s sayings)
-    (All-append P (part s) (flat_map part sayings) (good s (says_good h.0)) (all_parts P part good (number + 1) lines sayings h.1))
+    (All-append P (part s) (flat_map part sayings) (good s (says_good h.0)) (all_parts P part good limited (number + 1) lines sayings h.1))
 
 pub playable : (bytes : List ℕ) (plan : Plan) → IsScript bytes plan → IsPlayable plan
 playable bytes plan s = record {
   ticks = number_range 1 MAX_CHAR_TICKS s.header.T plan.ticks s.header.ticks_is;
   wire_capacity = (number_range 0 MAX_WIRE_CAPACITY s.header.W plan.wire_capacity s.header.wire_capacity_is).1;
-  limit = rw s.limit (limit_good 2 s.others s.sayings MOST_LIMIT (omega arith, omega arith) s.body);
-  events = rw s.events (all_parts IsLegal events_said events_good 2 s.others s.sayings s.body);
-  calls = rw s.calls (all_parts IsRunnable calls_said calls_good 2 s.others s.sayings s.body);
+  limit = rw s.limit (limit_good (is_limited s.others) 2 s.others s.sayings MOST_LIMIT (omega arith, omega arith) s.body);
+  events = rw s.events (all_parts IsLegal events_said events_good (is_limited s.others) 2 s.others s.sayings s.body);
+  calls = rw s.calls (all_parts IsRunnable calls_said calls_good (is_limited s.others) 2 s.others s.sayings s.body);
 }
 
 -- the unused room of a text makes no difference to whether a call can run, nor to what it does
@@ -210,8 +213,9 @@ runnable_plain (call.Text text) h = tt
 runnable_plain c h = h
 
 -- the call of a line can be run
-pub line_runnable : (number : ℕ) (line : List ℕ) (c : Call) → 2 ≤ number → item_at number line ≡ Ok (Calls (plain c)) → IsRunnable c
-line_runnable number line c le is = runnable_plain c (says_good (says_what_is_read number line (Calls (plain c)) le is))
+pub line_runnable : (place : Place) (line : List ℕ) (c : Call) → is_first place ≡ false → item_at place line ≡ Ok (Calls (plain c))
+    → IsRunnable c
+line_runnable place line c later is = runnable_plain c (says_good (says_what_is_read place line (Calls (plain c)) later is))
 
 pub all_runnable : (calls plans : List Call) → map plain calls ≡ plans → All IsRunnable plans → All IsRunnable calls
 all_runnable calls plans same all k d within =

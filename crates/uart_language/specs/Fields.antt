@@ -132,6 +132,12 @@ chip_in word = among (
     ∷ (codes "16950", kind Uart16550A OneHundredTwentyEight true)
     ∷ (codes "16550a-256", kind Uart16550A TwoHundredFiftySix false) ∷ []) word
 
+-- SIZE of `fifo-size`: the size that the driver takes the FIFOs for
+unfoldable pub size_in : List ℕ → Result FifoSize Cause
+size_in word = among (
+    (codes "16", Sixteen) ∷ (codes "32", ThirtyTwo) ∷ (codes "64", SixtyFour) ∷ (codes "128", OneHundredTwentyEight)
+    ∷ (codes "256", TwoHundredFiftySix) ∷ []) word
+
 -- the option that may end the first line
 unfoldable pub cut_in : List ℕ → Result Bool Cause
 cut_in word = among ((codes "cut", true) ∷ []) word

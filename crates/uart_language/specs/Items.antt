@@ -13,16 +13,18 @@ use Rattle.uart_language.specs.declared.cause.Cause.TheVariants.{BadByte, Mispla
 use Rattle.uart_language.specs.declared.items.Item.{Item}
 use Rattle.uart_language.specs.declared.items.Item.TheVariants as item
 use Rattle.uart_language.specs.declared.items.Header.{Header}
+use Rattle.uart_language.specs.declared.words.Place.{Place}
+use Rattle.uart_language.specs.declared.words.Place.TheVariants.{First}
 use Rattle.uart_language.specs.declared.words.Word.{Word}
 use Rattle.uart_language.specs.declared.words.Word.TheVariants as word
 use Rattle.uart_language.specs.Text.{words_of, word_at, has_bad_byte}
 use Rattle.uart_language.specs.Fields.{◌>>=◌, count_in, limit_in, ticks_in, char_ticks_in, wire_capacity_in, byte_in}
 use Rattle.uart_language.specs.Fields.{lines_in, bytes_in, text_in, errors_in, chip_in, cut_in, level_in, rate_in}
 use Rattle.uart_language.specs.Fields.{cts_in, interrupts_in, word_length_in, check_in, wait_in, outputs_in, trigger_in}
-use Rattle.uart_language.specs.Fields.{switch_in, fifos_in, dump_in}
+use Rattle.uart_language.specs.Fields.{switch_in, fifos_in, dump_in, size_in}
 use Rattle.uart_language.specs.Words.{word_of, has_count, is_placed}
-use Rattle.uart_language.specs.Sayings.{Saying, Nothing, Limit, Happens, Calls, Marks, configured, array_of, text_of}
-use Rattle.uart_language.specs.Sayings.{framed, arranged, plain, bare_call}
+use Rattle.uart_language.specs.Sayings.{Saying, Nothing, Limit, Size, Happens, Calls, Marks, configured, array_of}
+use Rattle.uart_language.specs.Sayings.{text_of, framed, arranged, plain, bare_call}
 
 -- a value made of what was read
 abbrev pub read_as : {A B : Type 0} → Result A Cause → (A → B) → Result B Cause
@@ -91,6 +93,7 @@ call_of other ws = ok_or (bare_call other) UnknownWord
 -- the meaning of the words of a line after the first
 unfoldable pub item_of : Word → List (List ℕ) → Result Saying Cause
 item_of word.Limit ws = read_as (limit_in (word_at 1 ws)) Limit
+item_of word.FifoSize ws = read_as (size_in (word_at 1 ws)) Size
 item_of word.Tick ws = read_as (ticks_in (word_at 1 ws)) (λ n. Happens (event.Ticks n))
 item_of word.Arrive ws = read_as (arrival_in ws) Happens
 item_of word.Lines ws = read_as (lines_in (word_at 1 ws)) (λ lines. Happens (event.Lines lines))
@@ -100,22 +103,22 @@ item_of word ws = read_as (call_of word ws) Calls
 
 -- the first word, if it is in its place and as many words follow as it takes; the same for a line, whose bytes are
 -- checked first
-abbrev pub placed_word : ℕ → List (List ℕ) → Option Word → Result Word Cause
-placed_word number ws None = if is_placed number None then Err UnknownWord else Err Misplaced
-placed_word number ws (Some word) =
-    if is_placed number (Some word) then (if has_count word (length ws) then Ok word else Err WrongCount)
+abbrev pub placed_word : Place → List (List ℕ) → Option Word → Result Word Cause
+placed_word place ws None = if is_placed place None then Err UnknownWord else Err Misplaced
+placed_word place ws (Some word) =
+    if is_placed place (Some word) then (if has_count word (length ws) then Ok word else Err WrongCount)
     else Err Misplaced
 
-unfoldable pub starts_with : ℕ → List ℕ → Result Word Cause
-starts_with number line =
+unfoldable pub starts_with : Place → List ℕ → Result Word Cause
+starts_with place line =
     if has_bad_byte line then Err BadByte
-    else placed_word number (words_of line) (word_of (word_at 0 (words_of line)))
+    else placed_word place (words_of line) (word_of (word_at 0 (words_of line)))
 
 -- a line after the first
-unfoldable pub item_at : ℕ → List ℕ → Result Saying Cause
-item_at number line =
+unfoldable pub item_at : Place → List ℕ → Result Saying Cause
+item_at place line =
     if length line == 0 then Ok Nothing
-    else starts_with number line >>= (λ word. item_of word (words_of line))
+    else starts_with place line >>= (λ word. item_of word (words_of line))
 
 -- chip NAME T W, or chip NAME T W cut
 unfoldable pub header_in : List (List ℕ) → Result Header Cause
@@ -128,12 +131,13 @@ header_in ws = do
 
 -- the first line
 unfoldable pub header_at : List ℕ → Result Header Cause
-header_at line = starts_with 1 line >>= (λ word. header_in (words_of line))
+header_at line = starts_with First line >>= (λ word. header_in (words_of line))
 
 -- the meaning of an item of the parser
 abbrev pub saying_of : Item → Saying
 saying_of item.Blank = Nothing
 saying_of (item.Limit n) = Limit (non_zero_u64_get n)
+saying_of (item.FifoSize size) = Size size
 saying_of (item.Event e) = Happens e
 saying_of (item.Call c) = Calls (plain c)
 saying_of item.Next = Marks

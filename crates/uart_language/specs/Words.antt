@@ -1,13 +1,16 @@
 -- The words that a line may start with, and the fields after each.
-use Rattle.std.specs.Prelude.{ℕ, ◌+◌, Bool, not, List, [], ◌∷◌, length, Option, Some, None, Result, Ok, Err, ◌==◌, ◌||◌}
-use Rattle.std.specs.Prelude.{bytes_eq, codes, find}
+use Rattle.std.specs.Prelude.{ℕ, ◌+◌, Bool, true, false, not, List, [], ◌∷◌, length, Option, Some, None}
+use Rattle.std.specs.Prelude.{Result, Ok, Err, ◌==◌, ◌&&◌, ◌||◌, if◌then◌else◌, bytes_eq, codes, find}
 use Rattle.uart_language.specs.declared.cause.Cause.{Cause}
+use Rattle.uart_language.specs.declared.words.Place.{Place}
+use Rattle.uart_language.specs.declared.words.Place.TheVariants as place
 use Rattle.uart_language.specs.declared.words.Word.{Word}
 use Rattle.uart_language.specs.declared.words.Word.TheVariants as word
+use Rattle.uart_language.specs.Text.{words_of, word_at}
 use Rattle.uart_language.specs.Fields.{count_in, limit_in, ticks_in, char_ticks_in, wire_capacity_in, byte_in, lines_in}
 use Rattle.uart_language.specs.Fields.{bytes_in, text_in, errors_in, chip_in, cut_in, level_in, rate_in, cts_in}
 use Rattle.uart_language.specs.Fields.{interrupts_in, word_length_in, check_in, wait_in, outputs_in, trigger_in}
-use Rattle.uart_language.specs.Fields.{switch_in, fifos_in, dump_in}
+use Rattle.uart_language.specs.Fields.{switch_in, fifos_in, dump_in, size_in}
 
 -- a word as it is written in a script
 abbrev pub name_of : Word → List ℕ
@@ -64,6 +67,7 @@ name_of word.PeekModem = codes "peek-modem"
 name_of word.IsIdle = codes "is-idle"
 name_of word.RetriggerInterrupts = codes "retrigger-interrupts"
 name_of word.ReceiveWithErrors = codes "receive-with-errors"
+name_of word.FifoSize = codes "fifo-size"
 
 -- all words of the language
 abbrev pub words : List Word
@@ -75,7 +79,7 @@ words =
     ∷ word.Send ∷ word.SendExact ∷ word.Write ∷ word.Text ∷ word.InitWith ∷ word.SetFrame ∷ word.SetFrameWhenIdle
     ∷ word.SetTriggerLevel ∷ word.Attach ∷ word.SetBreak ∷ word.SetModemControl ∷ word.SetRts ∷ word.SetDtr
     ∷ word.Quiesce ∷ word.Restore ∷ word.CheckConfigured ∷ word.PeekModem ∷ word.IsIdle ∷ word.RetriggerInterrupts
-    ∷ word.ReceiveWithErrors ∷ []
+    ∷ word.ReceiveWithErrors ∷ word.FifoSize ∷ []
 
 -- the word that is written like this
 unfoldable pub word_of : List ℕ → Option Word
@@ -94,6 +98,7 @@ faulty reader text = fault_of (reader text)
 abbrev pub fields_of : Word → List (List ℕ → Option Cause)
 fields_of word.Chip = faulty chip_in ∷ faulty char_ticks_in ∷ faulty wire_capacity_in ∷ faulty cut_in ∷ []
 fields_of word.Limit = faulty limit_in ∷ []
+fields_of word.FifoSize = faulty size_in ∷ []
 fields_of word.Tick = faulty ticks_in ∷ []
 fields_of word.Arrive = faulty byte_in ∷ faulty errors_in ∷ []
 fields_of word.Lines = faulty lines_in ∷ []
@@ -132,8 +137,36 @@ has_count word.Chip count = count == 4 || count == 5
 has_count word.Arrive count = count == 2 || count == 3
 has_count word count = count == length (fields_of word) + 1
 
--- Line 1 is a chip line and no other line is, and only line 2 may set the limit.
-abbrev pub is_placed : ℕ → Option Word → Bool
-is_placed number (Some word.Chip) = number == 1
-is_placed number (Some word.Limit) = number == 2
-is_placed number other = not (number == 1)
+-- whether the first of these lines, which is line 2 of a script, starts with `limit`
+abbrev pub is_limited : List (List ℕ) → Bool
+is_limited [] = false
+is_limited (line ∷ lines) = bytes_eq (name_of word.Limit) (word_at 0 (words_of line))
+
+-- the place of the line with this number, in a script whose line 2 starts with `limit`, or does not
+abbrev pub place_of : (limited : Bool) → ℕ → Place
+place_of limited number =
+    if number == 1 then place.First
+    else if number == 2 then place.Second
+    else if number == 3 && limited then place.BehindLimit
+    else place.Later
+
+-- whether it is this place
+abbrev pub is_first : Place → Bool
+is_first place.First = true
+is_first other = false
+
+abbrev pub is_second : Place → Bool
+is_second place.Second = true
+is_second other = false
+
+abbrev pub is_behind_limit : Place → Bool
+is_behind_limit place.BehindLimit = true
+is_behind_limit other = false
+
+-- Line 1 is a chip line and no other line is, only line 2 may set the limit, and only line 2, or line 3 behind `limit`,
+-- the size of the FIFOs.
+abbrev pub is_placed : Place → Option Word → Bool
+is_placed place (Some word.Chip) = is_first place
+is_placed place (Some word.Limit) = is_second place
+is_placed place (Some word.FifoSize) = is_second place || is_behind_limit place
+is_placed place other = not (is_first place)

@@ -16,7 +16,8 @@ pub enum Cause {
     /// The line has a byte outside of 20 to 7E.
     BadByte,
     /// The first line is not a `chip` line, or another line starts with `chip`, or a line other
-    /// than the second with `limit`.
+    /// than the second with `limit`, or one with `fifo-size` that is neither the second nor the
+    /// third behind `limit`.
     Misplaced,
     /// The first word of the line is not in the language.
     UnknownWord,

@@ -8,7 +8,7 @@ ghost use Rattle.std.specs.Int.NonZero.{non_zero_u64_get};
 ghost use Rattle.uart_language.specs.Fields.{number_in, count_in, limit_in, ticks_in};
 ghost use Rattle.uart_language.specs.Fields.{char_ticks_in, wire_capacity_in, byte_in};
 ghost use Rattle.uart_language.specs.Fields.{lines_in, bytes_in, text_in, errors_in};
-ghost use Rattle.uart_language.specs.Fields.{chip_in, cut_in, level_in, rate_in, cts_in};
+ghost use Rattle.uart_language.specs.Fields.{chip_in, size_in, cut_in, level_in, rate_in, cts_in};
 ghost use Rattle.uart_language.specs.Fields.{interrupts_in, word_length_in};
 ghost use Rattle.uart_language.specs.Fields.{outputs_in, trigger_in, switch_in, check_in};
 ghost use Rattle.uart_language.specs.Fields.{wait_in, fifos_in, registers_of, dump_in};
@@ -225,6 +225,21 @@ pub fn chip_in(word: &[u8]) -> Result<ChipKind, Cause>
         size,
         auto_flow,
     })
+}
+
+/// Reads the size that the driver takes the FIFOs for.
+#[tactic(auto, unfolding(crate::specs::Fields::size_in))]
+pub fn size_in(word: &[u8]) -> Result<FifoSize, Cause>
+    ensures { result ≡ size_in word.now }
+{
+    match word {
+        b"16" => Ok(FifoSize::Sixteen),
+        b"32" => Ok(FifoSize::ThirtyTwo),
+        b"64" => Ok(FifoSize::SixtyFour),
+        b"128" => Ok(FifoSize::OneHundredTwentyEight),
+        b"256" => Ok(FifoSize::TwoHundredFiftySix),
+        _ => Err(Cause::BadWord),
+    }
 }
 
 /// Reads the option that may end the first line.

@@ -12,14 +12,14 @@ use super::cause::Cause;
 use super::fields::{
     ChipKind, byte_in, bytes_in, char_ticks_in, check_in, chip_in, count_in, cts_in, cut_in,
     dump_in, errors_in, fifos_in, interrupts_in, level_in, limit_in, lines_in, outputs_in, rate_in,
-    switch_in, text_in, ticks_in, trigger_in, wait_in, wire_capacity_in, word_length_in,
+    size_in, switch_in, text_in, ticks_in, trigger_in, wait_in, wire_capacity_in, word_length_in,
 };
 use super::text::{has_bad_byte, word_at, word_count};
-use super::words::{Word, has_count, is_placed, word_of};
+use super::words::{Place, Word, has_count, is_placed, word_of};
 use std::num::NonZeroU64;
 use uart_events::{Call, Event};
 use uart_spec::registers::WordLength;
-use uart_spec::{BaudRate, Config, Setup};
+use uart_spec::{BaudRate, Config, FifoSize, Setup};
 
 /// The meaning of a line after the first.
 #[derive(Drop)]
@@ -28,6 +28,8 @@ pub enum Item {
     Blank,
     /// The spin limit of the driver.
     Limit(NonZeroU64),
+    /// The size that the driver takes the FIFOs for.
+    FifoSize(FifoSize),
     /// An event of the schedule.
     Event(Event),
     /// A call.
@@ -169,6 +171,7 @@ fn item_of(word: Word, line: &[u8]) -> Result<Item, Cause>
 {
     match word {
         Word::Limit => Ok(Item::Limit(limit_in(word_at(line, 1))?)),
+        Word::FifoSize => Ok(Item::FifoSize(size_in(word_at(line, 1))?)),
         Word::Tick => Ok(Item::Event(Event::Ticks(ticks_in(word_at(line, 1))?))),
         Word::Arrive => Ok(Item::Event(arrival_in(line)?)),
         Word::Lines => Ok(Item::Event(Event::Lines(lines_in(word_at(line, 1))?))),
@@ -181,14 +184,14 @@ fn item_of(word: Word, line: &[u8]) -> Result<Item, Cause>
 /// Returns the first word of a line, if it is at a place where it may be, and the line has a number
 /// of words that it may have.
 #[tactic(auto, unfolding(crate::specs::Items::starts_with))]
-fn first_word(number: u32, line: &[u8]) -> Result<Word, Cause>
-    ensures { result ≡ starts_with number line.now }
+fn first_word(place: Place, line: &[u8]) -> Result<Word, Cause>
+    ensures { result ≡ starts_with place line.now }
 {
     if has_bad_byte(line) {
         return Err(Cause::BadByte);
     }
     let word = word_of(word_at(line, 0));
-    if !is_placed(number, word) {
+    if !is_placed(place, word) {
         return Err(Cause::Misplaced);
     }
     let Some(word) = word else {
@@ -200,15 +203,15 @@ fn first_word(number: u32, line: &[u8]) -> Result<Word, Cause>
     Ok(word)
 }
 
-/// Returns the meaning of a line after the first.
+/// Returns the meaning of a line after the first, at its place.
 #[tactic(auto, unfolding(crate::specs::Items::item_at))]
-pub fn item_at(number: u32, line: &[u8]) -> Result<Item, Cause>
-    ensures { seen saying_of result ≡ item_at number line.now }
+pub fn item_at(place: Place, line: &[u8]) -> Result<Item, Cause>
+    ensures { seen saying_of result ≡ item_at place line.now }
 {
     if line.is_empty() {
         return Ok(Item::Blank);
     }
-    let word = first_word(number, line)?;
+    let word = first_word(place, line)?;
     item_of(word, line)
 }
 
@@ -237,6 +240,6 @@ fn header_in(line: &[u8]) -> Result<Header, Cause>
 pub fn header_at(line: &[u8]) -> Result<Header, Cause>
     ensures { result ≡ header_at line.now }
 {
-    first_word(1, line)?;
+    first_word(Place::First, line)?;
     header_in(line)
 }

@@ -28,3 +28,4 @@ pub use play_error::PlayError;
 pub use rendering::{hex_digit, push_answer, render};
 pub use streams::{Input, Output, Std, StreamFault, read_all, write_all};
 pub use text::{first_line, has_bad_byte, word_at, word_count};
+pub use words::Place;

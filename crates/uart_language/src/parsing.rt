@@ -5,14 +5,17 @@ ghost use Rattle.std.specs.Int.NonZero.{non_zero_u64_get};
 ghost use Rattle.uart_language.specs.Text.{lines_of};
 ghost use Rattle.uart_language.specs.Items.{saying_of};
 ghost use Rattle.uart_language.specs.Sayings.{plain};
+ghost use Rattle.uart_language.specs.Words.{is_limited};
 ghost use Rattle.uart_language.specs.Script.{plan_of, IsParsed};
-ghost use Rattle.uart_language.specs.Reading.{sayings_from, with_saying, added, planned};
+ghost use Rattle.uart_language.specs.Reading.{sayings_after_first, sayings_from, with_saying};
+ghost use Rattle.uart_language.specs.Reading.{added, planned};
 ghost use Rattle.uart_language.specs.Reading.{script_of, Refuses, Checks, BuildsPlan};
 
 use super::cause::{Cause, ScriptError};
 use super::items::{Header, Item, header_at, item_at};
 use super::limits::{DEFAULT_LIMIT, MOST_BYTES, MOST_LINES};
-use super::text::first_line;
+use super::text::{first_line, word_at};
+use super::words::{Place, Word, is_named};
 use std::alloc::{AllocError, Global};
 use std::num::NonZeroU64;
 use uart_events::{Call, Chip, Event};
@@ -23,6 +26,7 @@ use uart_spec::FifoSize;
 pub struct Script {
     header: Header,
     limit: NonZeroU64,
+    driver_fifo_size: FifoSize,
     events: Vec<Event>,
     calls: Vec<Call>,
 }
@@ -35,7 +39,8 @@ impl Script {
         self.header.chip.model
     }
 
-    /// Returns the size of the chip's FIFOs. Of a 16450 it is of no account.
+    /// Returns the size of the chip's FIFOs. Of a 16450 it is of no account. The driver takes them
+    /// for those of [`driver_fifo_size`](Script::driver_fifo_size).
     pub fn fifo_size(&self) -> FifoSize
         ensures { result ≡ (plan_of self.now).fifo_size }
     {
@@ -70,6 +75,14 @@ impl Script {
         self.limit
     }
 
+    /// Returns the size that the driver takes the FIFOs for: 16, or what a line sets. The chip's
+    /// may be another one.
+    pub fn driver_fifo_size(&self) -> FifoSize
+        ensures { result ≡ (plan_of self.now).driver_fifo_size }
+    {
+        self.driver_fifo_size
+    }
+
     /// Returns whether the chip cuts characters to the word length.
     pub fn cut(&self) -> bool
         ensures { result ≡ (plan_of self.now).cuts }
@@ -97,6 +110,7 @@ impl Script {
         match item {
             Item::Blank => {}
             Item::Limit(limit) => self.limit = limit,
+            Item::FifoSize(size) => self.driver_fifo_size = size,
             Item::Event(event) => self.events.push(event)?,
             Item::Call(call) => self.calls.push(call)?,
             Item::Next => {
@@ -108,13 +122,24 @@ impl Script {
     }
 }
 
+/// Returns whether the first of the lines after the first, which is line 2, starts with `limit`.
+fn is_limited(bytes: &[u8]) -> bool
+    ensures { result ≡ is_limited (lines_of bytes.now) }
+{
+    if bytes.is_empty() {
+        return false;
+    }
+    let (line, _) = first_line(bytes);
+    is_named(Word::Limit, word_at(line, 0))
+}
+
 /// Returns the meaning of the first of some lines, and the lines after it.
-fn next_item(number: u32, bytes: &[u8]) -> Result<(Item, &[u8]), ScriptError>
+fn next_item(is_limited: bool, number: u32, bytes: &[u8]) -> Result<(Item, &[u8]), ScriptError>
     requires { 0 < length bytes.now }
     ensures read { MatchResult result
-        (λ x. sayings_from number (lines_of bytes.now) ≡
-        with_saying (saying_of x.0) (sayings_from (number + 1) (lines_of x.1.now)))
-        (λ e. Refuses e (sayings_from number (lines_of bytes.now))) }
+        (λ x. sayings_from is_limited number (lines_of bytes.now) ≡
+        with_saying (saying_of x.0) (sayings_from is_limited (number + 1) (lines_of x.1.now)))
+        (λ e. Refuses e (sayings_from is_limited number (lines_of bytes.now))) }
     ensures shorter { IfOk result (λ x. (length x.1.now < length bytes.now)
         × (number ≤ MOST_LINES)) }
 {
@@ -125,7 +150,7 @@ fn next_item(number: u32, bytes: &[u8]) -> Result<(Item, &[u8]), ScriptError>
         });
     }
     let (line, rest) = first_line(bytes);
-    match item_at(number, line) {
+    match item_at(Place::of(is_limited, number), line) {
         Ok(item) => Ok((item, rest)),
         Err(cause) => Err(ScriptError::Refused {
             line: number,
@@ -136,12 +161,13 @@ fn next_item(number: u32, bytes: &[u8]) -> Result<(Item, &[u8]), ScriptError>
 
 /// Checks the lines after the first for a fault.
 fn check(bytes: &[u8]) -> Result<(), ScriptError>
-    ensures { Checks result (sayings_from 2 (lines_of bytes.now)) }
+    ensures { Checks result (sayings_after_first (lines_of bytes.now)) }
 {
+    let limited = is_limited(bytes);
     let mut number = 2;
     let mut rest = bytes;
     while !rest.is_empty() {
-        let (_, after) = next_item(number, rest)?;
+        let (_, after) = next_item(limited, number, rest)?;
         rest = after;
         number += 1;
     }
@@ -150,18 +176,20 @@ fn check(bytes: &[u8]) -> Result<(), ScriptError>
 
 /// Returns the script of a header and the lines after it.
 fn build(alloc: Global, header: Header, bytes: &[u8]) -> Result<Script, ScriptError>
-    ensures { BuildsPlan result (planned header (sayings_from 2 (lines_of bytes.now))) }
+    ensures { BuildsPlan result (planned header (sayings_after_first (lines_of bytes.now))) }
 {
     let mut script = Script {
         header,
         limit: NonZeroU64::new(DEFAULT_LIMIT).unwrap(),
+        driver_fifo_size: FifoSize::Sixteen,
         events: Vec::new(alloc),
         calls: Vec::new(alloc),
     };
+    let limited = is_limited(bytes);
     let mut number = 2;
     let mut rest = bytes;
     while !rest.is_empty() {
-        let (item, after) = next_item(number, rest)?;
+        let (item, after) = next_item(limited, number, rest)?;
         script.add(item)?;
         rest = after;
         number += 1;
@@ -172,7 +200,7 @@ fn build(alloc: Global, header: Header, bytes: &[u8]) -> Result<Script, ScriptEr
 /// Returns the meaning of the first line, and the lines after it.
 fn first_item(bytes: &[u8]) -> Result<(Header, &[u8]), ScriptError>
     ensures { MatchResult result
-        (λ x. script_of bytes.now ≡ planned x.0 (sayings_from 2 (lines_of x.1.now)))
+        (λ x. script_of bytes.now ≡ planned x.0 (sayings_after_first (lines_of x.1.now)))
         (λ e. Refuses e (script_of bytes.now)) }
 {
     if bytes.len() > MOST_BYTES {

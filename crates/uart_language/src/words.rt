@@ -1,7 +1,8 @@
 //! The first words of lines.
 
-ghost use Rattle.std.specs.Prelude.{◌≡◌, bytes_eq, find};
-ghost use Rattle.uart_language.specs.Words.{name_of, word_of, has_count, is_placed};
+ghost use Rattle.std.specs.Prelude.{◌≡◌, ◌||◌, bytes_eq, find};
+ghost use Rattle.uart_language.specs.Words.{name_of, word_of, has_count, is_behind_limit};
+ghost use Rattle.uart_language.specs.Words.{is_first, is_placed, is_second, place_of};
 
 /// A word that a line may start with.
 #[derive(Clone, Copy, Debug, PartialEq, Eq)]
@@ -112,9 +113,24 @@ pub enum Word {
     RetriggerInterrupts,
     /// `receive-with-errors`: the driver's `receive_with_errors`.
     ReceiveWithErrors,
+    /// `fifo-size`: the size that the driver takes the FIFOs for.
+    FifoSize,
 }
 
-const WORDS: [Word; 53] = [
+/// Where a line is in a script, as far as it matters for the words that it may start with.
+#[derive(Clone, Copy, Debug, PartialEq, Eq)]
+pub enum Place {
+    /// Line 1.
+    First,
+    /// Line 2.
+    Second,
+    /// Line 3, if line 2 starts with `limit`.
+    BehindLimit,
+    /// Any other line.
+    Later,
+}
+
+const WORDS: [Word; 54] = [
     Word::Chip,
     Word::Limit,
     Word::Tick,
@@ -168,6 +184,7 @@ const WORDS: [Word; 53] = [
     Word::IsIdle,
     Word::RetriggerInterrupts,
     Word::ReceiveWithErrors,
+    Word::FifoSize,
 ];
 
 impl Word {
@@ -229,11 +246,13 @@ impl Word {
             Word::IsIdle => b"is-idle",
             Word::RetriggerInterrupts => b"retrigger-interrupts",
             Word::ReceiveWithErrors => b"receive-with-errors",
+            Word::FifoSize => b"fifo-size",
         }
     }
 }
 
-fn is_named(word: Word, text: &[u8]) -> bool
+/// Returns whether a word is written like this.
+pub fn is_named(word: Word, text: &[u8]) -> bool
     ensures { result ≡ bytes_eq (name_of word) text.now }
 {
     word.name() == text
@@ -264,6 +283,7 @@ pub fn has_count(word: Word, count: usize) -> bool
         Word::SetFrame | Word::SetFrameWhenIdle | Word::Quiesce => count == 3,
         Word::Arrive => count == 2 || count == 3,
         Word::Limit
+        | Word::FifoSize
         | Word::Tick
         | Word::Lines
         | Word::TrySend
@@ -288,13 +308,47 @@ pub fn has_count(word: Word, count: usize) -> bool
     }
 }
 
-/// Returns whether the line with this number may start with this word.
-pub fn is_placed(number: u32, word: Option<Word>) -> bool
-    ensures { result ≡ is_placed number word }
+impl Place {
+    /// Returns the place of the line with this number, in a script whose line 2 starts with
+    /// `limit`, or does not.
+    pub fn of(is_limited: bool, number: u32) -> Place
+        ensures { result ≡ place_of is_limited number }
+    {
+        match number {
+            1 => Place::First,
+            2 => Place::Second,
+            3 if is_limited => Place::BehindLimit,
+            _ => Place::Later,
+        }
+    }
+
+    fn is_first(self) -> bool
+        ensures { result ≡ is_first self }
+    {
+        matches!(self, Place::First)
+    }
+
+    fn is_second(self) -> bool
+        ensures { result ≡ is_second self }
+    {
+        matches!(self, Place::Second)
+    }
+
+    fn may_set_fifo_size(self) -> bool
+        ensures { result ≡ (is_second self || is_behind_limit self) }
+    {
+        matches!(self, Place::Second | Place::BehindLimit)
+    }
+}
+
+/// Returns whether the line at this place may start with this word.
+pub fn is_placed(place: Place, word: Option<Word>) -> bool
+    ensures { result ≡ is_placed place word }
 {
     match word {
-        Some(Word::Chip) => number == 1,
-        Some(Word::Limit) => number == 2,
-        _ => number != 1,
+        Some(Word::Chip) => place.is_first(),
+        Some(Word::Limit) => place.is_second(),
+        Some(Word::FifoSize) => place.may_set_fifo_size(),
+        _ => !place.is_first(),
     }
 }

@@ -1,7 +1,6 @@
 -- What is printed for a script.
 use Rattle.std.specs.Prelude.{◌≡◌, ℕ, true, List}
 use Rattle.uart_spec.specs.declared.config.TheConstants.Config.{DEFAULT}
-use Rattle.uart_spec.specs.declared.setup.FifoSize.TheVariants.{Sixteen}
 use Rattle.uart_16550.specs.Driver.{fields}
 use Rattle.uart_16550.specs.Tty.{inner_of}
 use Rattle.uart_events.specs.declared.call.Answer.{Answer}
@@ -19,11 +18,11 @@ first_machine plan =
     flowing plan.auto_flow
     (sized plan.fifo_size (cutting plan.cuts (fresh plan.chip plan.ticks plan.wire_capacity plan.events)))
 
--- this machine, and a new driver with the limit of the script
+-- this machine, and a new driver with the limit of the script, which takes the FIFOs for the size that the script sets
 pub record IsFirst (plan : Plan) (s : State) : Type 0 where
   pub machine : machine_of s ≡ first_machine plan
   pub driver : fields (inner_of s) ≡
-      record { config = DEFAULT; fifo = true; size = Sixteen; lsr = 0; msr = 0; limit = plan.limit }
+      record { config = DEFAULT; fifo = true; size = plan.driver_fifo_size; lsr = 0; msr = 0; limit = plan.limit }
 
 -- the lines for the answers of a run, and for the last state of the machine
 abbrev pub output_of : List Answer → MachineState → List ℕ

@@ -1,7 +1,8 @@
 -- The outcome of playing calls on a real chip.
 use Rattle.std.specs.Prelude.{◌≡◌, ◌⊎◌, ℕ, List, [], ◌∷◌, ◌++◌, Option, None, IsSome}
 use Rattle.std.specs.Io.KnownBytes.{Appends}
-use Rattle.uart_16550.specs.Driver.{backend_of, fields, with_limit}
+use Rattle.uart_spec.specs.declared.setup.FifoSize.{FifoSize}
+use Rattle.uart_16550.specs.Driver.{backend_of, fields, with_fifo_size, with_limit}
 use Rattle.uart_16550.specs.Pio.{Ports, PortStep, IsAtPorts}
 use Rattle.uart_16550.specs.State.{fresh_fields}
 use Rattle.uart_16550.specs.Tty.{inner_of}
@@ -65,9 +66,11 @@ writer_of report = report.writer
 abbrev pub traced_by : {W T : Type 0} → (T → Option (List ℕ)) → Report W T → Option (List ℕ)
 traced_by contents report = traced contents report.trace
 
--- a driver that has made no access, with this limit, at eight ports of this file, none of which has failed
-pub record IsTerminalAt {F : Type 0} (port limit : ℕ) (given : F) (terminal : Terminal F) : Type 0 where
-  pub begins : fields (inner_of terminal) ≡ with_limit limit fresh_fields
+-- a driver that has made no access, with this limit, which takes the FIFOs for this size, at eight ports of this file,
+-- none of which has failed
+pub record IsTerminalAt {F : Type 0} (port limit : ℕ) (size : FifoSize) (given : F)
+    (terminal : Terminal F) : Type 0 where
+  pub begins : fields (inner_of terminal) ≡ with_fifo_size size (with_limit limit fresh_fields)
   pub place : IsAtPorts (backend_of (inner_of terminal)) port (backend_of (inner_of terminal)).access
   pub file : file_of (backend_of (inner_of terminal)).access ≡ given
   pub fault : fault_in terminal ≡ None

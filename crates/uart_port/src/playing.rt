@@ -19,19 +19,27 @@ use uart_16550::backend::PioBackend;
 use uart_16550::{Uart16550, Uart16550Tty};
 use uart_calls::{Answer, Call, perform};
 use uart_language::push_answer;
+use uart_spec::FifoSize;
 
 /// A driver under its terminal, at the ports of a file.
 pub type Terminal<F> = Uart16550Tty<PioBackend<GuardedPorts<F>>>;
 
-/// Returns a new driver at the ports of a file, from this one on, with this spin limit.
-pub fn terminal_at<F: PortFile + Drop>(port: u16, limit: NonZeroU64, file: F) -> Terminal<F>
+/// Returns a new driver at the ports of a file, from this one on, with this spin limit and this
+/// size of FIFOs. If the chip's are smaller, bytes are lost.
+pub fn terminal_at<F: PortFile + Drop>(
+    port: u16,
+    limit: NonZeroU64,
+    fifo_size: FifoSize,
+    file: F,
+) -> Terminal<F>
     requires { IsPortBase port }
-    ensures { IsTerminalAt port (non_zero_u64_get limit) file result }
+    ensures { IsTerminalAt port (non_zero_u64_get limit) fifo_size file result }
 {
     let Ok(mut uart) = Uart16550::new_port(port, GuardedPorts::new(file)) else {
         unreachable!()
     };
     uart.set_spin_limit(limit);
+    uart.set_fifo_size(fifo_size);
     Uart16550Tty::from_inner(uart)
 }
 

@@ -10,6 +10,7 @@ use std::io;
 use std::io::Write;
 use std::num::NonZeroU64;
 use uart_language::hex_digit;
+use uart_spec::FifoSize;
 
 /// The length of the line of an access, with its end.
 const ACCESS_LINE: usize = 7;
@@ -32,10 +33,15 @@ impl<W: Write> Trace<W> {
         Trace { output }
     }
 
-    /// Writes that the driver is new, with its spin limit in a remark.
-    pub fn begin(&mut self, limit: NonZeroU64) -> io::Result<()> {
+    /// Writes that the driver is new, with its spin limit in a remark. If it takes the FIFOs for
+    /// another size than 16, another remark has that size.
+    pub fn begin(&mut self, limit: NonZeroU64, fifo_size: FifoSize) -> io::Result<()> {
         writeln!(self.output, "fresh")?;
-        writeln!(self.output, "# limit {}", limit.get())
+        writeln!(self.output, "# limit {}", limit.get())?;
+        match fifo_size {
+            FifoSize::Sixteen => Ok(()),
+            _ => writeln!(self.output, "# fifo-size {}", fifo_size.characters()),
+        }
     }
 
     /// Writes that a call is made, as its line of the script.

@@ -5,7 +5,6 @@ use Rattle.uart_spec.specs.declared.access.Access.{Access}
 use Rattle.uart_events.specs.declared.call.Call.{Call}
 use Rattle.uart_events.specs.declared.call.Call.TheVariants as call
 use Rattle.uart_spec.specs.declared.config.TheConstants.Config.{DEFAULT}
-use Rattle.uart_spec.specs.declared.setup.FifoSize.TheVariants.{Sixteen}
 use Rattle.uart_16550.specs.Driver.{Doing, Fields}
 use Rattle.uart_calls.specs.Meaning.{Meaning, means, meaning}
 use Rattle.uart_chip.specs.Machine.{MachineState, MachineStep, at_mark}
@@ -39,11 +38,12 @@ abbrev pub CallStep : State → Call → List Access → State → Type 0
 CallStep s call.Next accesses t = GoesOn accesses s t
 CallStep s other accesses t = IsMadeBy (meaning other) accesses s t
 
--- the machine of the script after power-on, under a new driver with the limit of the script
+-- the machine of the script after power-on, under a new driver with the limit of the script, which takes the FIFOs for
+-- the size that the script sets
 abbrev pub first_state : Plan → State
 first_state plan = record {
   machine = first_machine plan;
-  driver = record { config = DEFAULT; fifo = true; size = Sixteen; lsr = 0; msr = 0; limit = plan.limit };
+  driver = record { config = DEFAULT; fifo = true; size = plan.driver_fifo_size; lsr = 0; msr = 0; limit = plan.limit };
 }
 
 -- the script ran, and these are the accesses of each of its calls in turn

@@ -4,6 +4,7 @@ use Rattle.std.specs.Prelude.{drop, Result, Ok, Option, codes, bytes_eq, if◌th
 use Rattle.std.specs.List.{filter, flat_map, slice_split}
 use Rattle.std.specs.Io.KnownBytes.{Appends}
 use Rattle.uart_spec.specs.declared.access.Access.{Access}
+use Rattle.uart_language.specs.declared.words.Place.TheVariants.{Later}
 use Rattle.uart_language.specs.Items.{item_at}
 use Rattle.uart_language.specs.Sayings.{Saying, Calls, Marks}
 use Rattle.uart_language.specs.Script.{Plan}
@@ -11,7 +12,6 @@ use Rattle.uart_language.specs.declared.cause.Cause.{Cause}
 use Rattle.uart_judges.specs.TraceLines.{before_remark}
 use Rattle.uart_judges.specs.Telling.{access_text}
 use Rattle.uart_trace.specs.Run.{IsRecorded}
-use Rattle.uart_trace.specs.declared.tracing.TheConstants.{AFTER_THE_HEAD}
 
 -- ---- a text
 
@@ -55,7 +55,7 @@ adds_call (Ok Marks) = true
 adds_call other = false
 
 abbrev pub is_call_line : List ℕ → Bool
-is_call_line text = adds_call (item_at AFTER_THE_HEAD text)
+is_call_line text = adds_call (item_at Later text)
 
 -- the lines of a script that are calls
 abbrev pub call_lines : List ℕ → List (List ℕ)

@@ -18,7 +18,8 @@ use uart_play::machine_for;
 // A driver under its terminal, over the machine of a script and a recorder.
 type Terminal<L> = Uart16550Tty<Recorder<Device16550, L>>;
 
-// Returns a new driver with the limit of the script, over its machine and a recorder.
+// Returns a new driver with the limit of the script, which takes the FIFOs for the size of the
+// script, over its machine and a recorder.
 fn terminal_for<L: Listener + Drop>(
     alloc: Global,
     script: &Script,
@@ -30,6 +31,7 @@ fn terminal_for<L: Listener + Drop>(
     let machine = machine_for(alloc, script)?;
     let mut uart = Uart16550::new_with_backend(Recorder::new(machine, listener));
     uart.set_spin_limit(script.limit());
+    uart.set_fifo_size(script.driver_fifo_size());
     Ok(Uart16550Tty::from_inner(uart))
 }
 
@@ -88,9 +90,9 @@ fn tell_script<L: Listener + Drop>(
 /// Runs a script, tells the listener of each call and of each access that it makes, and returns the
 /// listener.
 ///
-/// The calls are those of the script, in order, made by a new driver with the limit of the script
-/// over its machine. The listener is told of each access once, in order, before the next one is
-/// made.
+/// The calls are those of the script, in order, made by a new driver with the limit of the script,
+/// which takes the FIFOs for the size of the script, over its machine. The listener is told of each
+/// access once, in order, before the next one is made.
 ///
 /// # Errors
 ///

@@ -27,7 +27,7 @@ use uart_ring_runs::{RingAnswer, RingCall};
 use uart_run::laws::{idle_keeps_ready, smallest_size_fits};
 use uart_spec::access::Access;
 use uart_spec::registers::{LSR, offsets};
-use uart_spec::{BaudRate, Config, NUM_REGISTERS};
+use uart_spec::{BaudRate, Config, FifoSize, NUM_REGISTERS};
 
 // Returns a driver that has initialised a chip at which a byte arrives.
 fn ready_driver(rt: &HostRuntime) -> Result<Uart16550<Device16550>, Fail> {
@@ -137,13 +137,27 @@ fn accesses_of_a_flush(rt: HostRuntime) {
 #[test]
 fn traces_that_a_driver_makes(rt: HostRuntime) -> Result<(), Fail> {
     let limit = NonZeroU64::new(DEFAULT_SPIN_LIMIT).unwrap();
-    for (text, is_made) in [
-        (b"fresh\nlsr\nr 5 60\n= ok 60\n".as_slice(), true),
-        (b"fresh\nlsr\nr 6 60\n= ok 60\n", false),
+    // After one look the driver writes as many bytes as it takes the FIFO to hold.
+    let seventeen = b"fresh
+send 4141414141414141414141414141414141
+r 5 60
+w 0 41\nw 0 41\nw 0 41\nw 0 41\nw 0 41\nw 0 41\nw 0 41\nw 0 41
+w 0 41\nw 0 41\nw 0 41\nw 0 41\nw 0 41\nw 0 41\nw 0 41\nw 0 41
+w 0 41
+= ok 17\n";
+    for (text, fifo_size, is_made) in [
+        (
+            b"fresh\nlsr\nr 5 60\n= ok 60\n".as_slice(),
+            FifoSize::Sixteen,
+            true,
+        ),
+        (b"fresh\nlsr\nr 6 60\n= ok 60\n", FifoSize::Sixteen, false),
+        (seventeen, FifoSize::ThirtyTwo, true),
+        (seventeen, FifoSize::Sixteen, false),
     ] {
         let trace = uart_judges::traces::parse(rt.alloc(), text)?;
         assert_eq!(rt;
-            judging::is_made(rt.alloc(), &trace, limit)?,
+            judging::is_made(rt.alloc(), &trace, limit, fifo_size)?,
             is_made,
             "{text:?}"
         );

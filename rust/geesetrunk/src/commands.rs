@@ -309,6 +309,11 @@ recording may have any length.",
                     value: Some("N"),
                     help: "How many unsuccessful polls in a row end a wait [default: 1000000]",
                 },
+                Flag {
+                    name: "fifo-size",
+                    value: Some("SIZE"),
+                    help: "The size that the driver takes the FIFOs for, as a script sets it [default: 16]",
+                },
                 JSON,
                 SARIF,
             ],
@@ -446,8 +451,9 @@ Plays a script's calls on the 16550 at an I/O port, and prints each answer.
 A script is written as for uart_script, but without events: tick, arrive, lines and
 access are refused, and next does nothing. The chip line is checked and has no effect,
 since the chip is the one at the port. The line limit N sets how many unsuccessful
-polls in a row end a wait. The lines wire, held, waiting and marks are not printed,
-since a port does not show what they report.",
+polls in a row end a wait. The line fifo-size SIZE sets how many bytes are written after
+one look: if the chip's FIFOs are smaller, bytes are lost. The lines wire, held, waiting
+and marks are not printed, since a port does not show what they report.",
     operands: &[
         Operand {
             name: "PORT",

@@ -68,8 +68,10 @@ fn bad_byte(line: &[u8]) -> (usize, String) {
     )
 }
 
-fn misplaced(number: u32, line: &[u8]) -> &'static str {
-    if number > 1 && first_word(line) == b"rings" {
+fn misplaced(number: u32, line: &[u8], rings: Option<u32>) -> &'static str {
+    if number > 1 && first_word(line) == b"rings" && rings == Some(4) {
+        "rings is on line 4, behind fifo-size, and on no other line"
+    } else if number > 1 && first_word(line) == b"rings" {
         "rings is on line 2, or on line 3 and not on line 2"
     } else if number > 1 && is_ring_line(line) {
         "the words of the rings come after the line of rings"
@@ -77,6 +79,8 @@ fn misplaced(number: u32, line: &[u8]) -> &'static str {
         "the first line names the chip: chip NAME T W [cut]"
     } else if first_word(line) == b"limit" {
         "only line 2 may set the limit"
+    } else if first_word(line) == b"fifo-size" {
+        "only line 2, or line 3 behind limit, may set the size of the FIFOs"
     } else {
         "only line 1 names the chip"
     }
@@ -122,12 +126,12 @@ fn bad_field(line: &[u8]) -> (usize, String) {
     (column_of(line, index + 1), wants.into())
 }
 
-// Returns the column of a fault, and what is accepted there.
-fn place_of(number: u32, line: &[u8], cause: Cause, has_rings: bool) -> (usize, String) {
+// Returns the column of a fault, and what is accepted there. The line with the number `rings` starts with `rings`.
+fn place_of(number: u32, line: &[u8], cause: Cause, rings: Option<u32>) -> (usize, String) {
     match cause {
         Cause::BadByte => bad_byte(line),
-        Cause::Misplaced => (1, misplaced(number, line).into()),
-        Cause::UnknownWord => (1, unknown_word(line, has_rings)),
+        Cause::Misplaced => (1, misplaced(number, line, rings).into()),
+        Cause::UnknownWord => (1, unknown_word(line, rings.is_some())),
         Cause::WrongCount => wrong_count(line),
         Cause::TooLong => (1, "a script has at most 4096 lines".into()),
         _ => bad_field(line),
@@ -140,7 +144,7 @@ impl<'a> Explanation<'a> {
     pub fn new(file: &'a str, script: &[u8], number: u32, cause: Cause) -> Self {
         let line = number.checked_sub(1).map(|index| {
             let line = line_at(script, index as usize);
-            let (column, wants) = place_of(number, line, cause, rings_at(script).is_some());
+            let (column, wants) = place_of(number, line, cause, rings_at(script));
             FaultyLine {
                 number,
                 shown: printable(line),

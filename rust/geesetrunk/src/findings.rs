@@ -19,6 +19,7 @@ use std::io::{self, Write};
 use std::num::NonZeroU64;
 use uart_judges::findings::{self, MOST_TRACE_BYTES, VerifyError};
 use uart_judges::traces::TraceError;
+use uart_spec::FifoSize;
 
 /// How findings are printed.
 #[derive(Clone, Copy, Debug)]
@@ -263,8 +264,8 @@ pub fn judged(file: &str, judging: &Judging<'_>) -> Result<(), End> {
 }
 
 // Returns the line that `verify` prints for a trace that strays, or an empty one.
-fn stray_line(trace: &[u8], limit: NonZeroU64) -> Result<String, VerifyError> {
-    let line = findings::verify(heap(), trace, limit)?;
+fn stray_line(trace: &[u8], limit: NonZeroU64, fifo_size: FifoSize) -> Result<String, VerifyError> {
+    let line = findings::verify(heap(), trace, limit, fifo_size)?;
     Ok(String::from_utf8_lossy(&line).trim_end_matches('\n').into())
 }
 
@@ -290,7 +291,8 @@ fn print_stray(file: &str, name: &str, line: &str, format: Format<'_>) -> Result
     Err(End::told(Status::Refused))
 }
 
-/// Verifies the trace of this name, and prints where it strays. Messages have the name of the file
+/// Verifies the trace of this name, as one of a driver with this limit that takes the FIFOs for this size, and prints where it strays.
+/// Messages have the name of the file
 /// in front if there are several.
 ///
 /// # Errors
@@ -300,6 +302,7 @@ fn print_stray(file: &str, name: &str, line: &str, format: Format<'_>) -> Result
 pub fn verified(
     file: &str,
     limit: NonZeroU64,
+    fifo_size: FifoSize,
     format: Format<'_>,
     is_one_of_several: bool,
 ) -> Result<(), End> {
@@ -310,7 +313,7 @@ pub fn verified(
     };
     // One byte more than the longest trace has: so input without end is refused.
     let trace = bytes_of(file, MOST_TRACE_BYTES as u64 + 1)?;
-    match stray_line(&trace, limit) {
+    match stray_line(&trace, limit, fifo_size) {
         Ok(line) if line.is_empty() => Ok(()),
         Ok(line) => print_stray(file, &name, &line, format),
         Err(VerifyError::NoTrace(TraceError::OutOfMemory)) => Err(End::out_of_memory()),

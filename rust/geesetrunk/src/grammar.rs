@@ -6,7 +6,8 @@
 use uart_language::fields::{
     byte_in, bytes_in, char_ticks_in, check_in, chip_in, count_in, cts_in, cut_in, dump_in,
     errors_in, fifos_in, interrupts_in, level_in, limit_in, lines_in, number_in, outputs_in,
-    rate_in, switch_in, text_in, ticks_in, trigger_in, wait_in, wire_capacity_in, word_length_in,
+    rate_in, size_in, switch_in, text_in, ticks_in, trigger_in, wait_in, wire_capacity_in,
+    word_length_in,
 };
 use uart_language::limits::MOST_LIMIT;
 use uart_ring::MAX_CAPACITY;
@@ -24,6 +25,8 @@ pub enum Field {
     Cut,
     /// The spin limit.
     Limit,
+    /// The size that the driver takes the FIFOs for.
+    FifoSize,
     /// The ticks of an event.
     Ticks,
     /// A byte.
@@ -79,6 +82,7 @@ impl Field {
             Field::WireRoom => "how many bytes the wire has room for: a number from 0 to 65536",
             Field::Cut => "cut, or nothing",
             Field::Limit => "the polls that end a wait: a number from 1 to 1000000",
+            Field::FifoSize => "how many bytes each FIFO holds: 16, 32, 64, 128 or 256",
             Field::Ticks => "how many ticks pass: a number from 0 to 65535",
             Field::Byte => "a byte: two hexadecimal digits",
             Field::Errors => "what is wrong with the byte: p, f, b, pf, pb, fb or pfb",
@@ -116,6 +120,7 @@ impl Field {
             Field::WireRoom => wire_capacity_in(word).is_ok(),
             Field::Cut => cut_in(word).is_ok(),
             Field::Limit => limit_in(word).is_ok(),
+            Field::FifoSize => size_in(word).is_ok(),
             Field::Ticks => ticks_in(word).is_ok(),
             Field::Byte => byte_in(word).is_ok(),
             Field::Errors => errors_in(word).is_ok(),
@@ -152,7 +157,7 @@ pub struct Form {
 }
 
 // The first word of a usage is that of the line.
-const FORMS: [Form; 28] = [
+const FORMS: [Form; 29] = [
     Form {
         usage: "chip NAME T W [cut]",
         fields: &[Field::Chip, Field::CharTicks, Field::WireRoom, Field::Cut],
@@ -160,6 +165,10 @@ const FORMS: [Form; 28] = [
     Form {
         usage: "limit N",
         fields: &[Field::Limit],
+    },
+    Form {
+        usage: "fifo-size SIZE",
+        fields: &[Field::FifoSize],
     },
     Form {
         usage: "tick N",
@@ -398,12 +407,12 @@ pub fn fields_after(word: &[u8]) -> &'static [Field] {
 mod tests {
     use super::*;
     use crate::ring_language::{call_at, is_ring_line};
-    use uart_language::item_at;
+    use uart_language::{Place, item_at};
 
     #[test]
     fn a_word_without_fields_is_a_line() {
         for word in ALONE {
-            assert!(item_at(3, word.as_bytes()).is_ok(), "{word}");
+            assert!(item_at(Place::Later, word.as_bytes()).is_ok(), "{word}");
         }
         assert!(words_of_lines(true).all(|word| !word.is_empty()));
     }
@@ -412,7 +421,7 @@ mod tests {
     fn the_words_of_rings_are_those_of_the_language() {
         for word in ALONE_OF_RINGS {
             assert!(
-                matches!(call_at(2, 3, word.as_bytes()), Ok(Some(_))),
+                matches!(call_at(2, false, 3, word.as_bytes()), Ok(Some(_))),
                 "{word}"
             );
         }

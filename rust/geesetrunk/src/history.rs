@@ -2,10 +2,10 @@
 
 use crate::ring_language::call_at;
 use crate::text::{lines, printable};
-use uart_language::{Item, item_at};
+use uart_language::{Item, Place, item_at};
 
-// The number of a line at which neither the first line of a script nor its limit may be, and that of a
-// line before it at which its rings may be.
+// The number of a line at which neither the first line of a script nor a setting of its driver may be, unless
+// its second line sets the limit, and that of a line before it at which its rings may be.
 const AFTER_THE_HEAD: u32 = 3;
 const OF_RINGS: u32 = 2;
 
@@ -30,11 +30,8 @@ pub struct History {
 
 /// Returns whether a line of a script is a call.
 pub fn is_call(line: &[u8]) -> bool {
-    let is_of_driver = matches!(
-        item_at(AFTER_THE_HEAD, line),
-        Ok(Item::Call(_) | Item::Next)
-    );
-    is_of_driver || matches!(call_at(OF_RINGS, AFTER_THE_HEAD, line), Ok(Some(_)))
+    let is_of_driver = matches!(item_at(Place::Later, line), Ok(Item::Call(_) | Item::Next));
+    is_of_driver || matches!(call_at(OF_RINGS, false, AFTER_THE_HEAD, line), Ok(Some(_)))
 }
 
 impl History {

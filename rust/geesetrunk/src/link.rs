@@ -173,6 +173,7 @@ struct Printed {
 fn play_plain(cabled: Cabled<'_>, script: &Script) -> Result<Printed, AllocError> {
     let mut uart = Uart16550::new_with_backend(cabled);
     uart.set_spin_limit(script.limit());
+    uart.set_fifo_size(script.driver_fifo_size());
     let mut terminal = Uart16550Tty::from_inner(uart);
     let mut answers = List::new(heap());
     for call in script.calls() {

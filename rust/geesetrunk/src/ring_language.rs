@@ -1,13 +1,14 @@
 //! Scripts with rings: the words of the rings beside those of the script language.
 //!
-//! A script has rings if its second or third line starts with `rings`. Without the lines of the rings it is a script of the language,
-//! whose parser is proved, and whose chip, limit and events are its own. What a line of the rings means is plain Rust.
+//! A script has rings if its second or third line starts with `rings`, or its fourth behind `fifo-size`. Without the lines of the rings it
+//! is a script of the language, whose parser is proved, and whose chip, limit, size of FIFOs and events are its own. What a line of the
+//! rings means is plain Rust.
 
 use crate::heap;
 use crate::text::{line_at, lines, words};
 use uart_language::fields::{byte_in, bytes_in, count_in, interrupts_in, number_in};
 use uart_language::limits::{MOST_BYTES, MOST_LIMIT, MOST_LINES};
-use uart_language::{Cause, Item, Script, ScriptError, has_bad_byte, item_at};
+use uart_language::{Cause, Item, Place, Script, ScriptError, has_bad_byte, item_at};
 use uart_ring::{MAX_CAPACITY, ReceiveMarks};
 use uart_ring_runs::RingCall;
 
@@ -38,7 +39,8 @@ pub struct RingScript {
 }
 
 impl RingScript {
-    /// Returns the script without the lines of the rings. Its chip, its limit and its events are those of the script with rings.
+    /// Returns the script without the lines of the rings. Its chip, its limit, its size of FIFOs and its events are those of the script
+    /// with rings.
     pub fn plain(&self) -> &Script {
         &self.plain
     }
@@ -63,7 +65,7 @@ pub enum AnyScript {
 }
 
 impl AnyScript {
-    /// Returns the script without the lines of the rings. Its chip, its limit and its events are those of the script.
+    /// Returns the script without the lines of the rings. Its chip, its limit, its size of FIFOs and its events are those of the script.
     pub fn plain(&self) -> &Script {
         match self {
             AnyScript::Plain(script) => script,
@@ -113,10 +115,19 @@ pub fn is_ring_line(line: &[u8]) -> bool {
     ring_word(line).is_some()
 }
 
-/// Returns the number of the line that starts with `rings`, if it is the second or the third: then the script has rings.
+// Returns the first word of the line with this number.
+fn first_word_of(text: &[u8], number: u32) -> &[u8] {
+    word(line_at(text, number as usize - 1), 0)
+}
+
+/// Returns the number of the line that starts with `rings`, if it is the second or the third, or the fourth behind `fifo-size`: then the
+/// script has rings.
 pub fn rings_at(text: &[u8]) -> Option<u32> {
-    let is_rings = |number: &u32| word(line_at(text, *number as usize - 1), 0) == b"rings";
-    [2, 3].into_iter().find(is_rings)
+    let last = match first_word_of(text, 3) {
+        b"fifo-size" => 4,
+        _ => 3,
+    };
+    (2..=last).find(|&number| first_word_of(text, number) == b"rings")
 }
 
 fn capacities_in(line: &[u8]) -> Result<Capacities, Cause> {
@@ -175,25 +186,31 @@ fn is_of_terminal(line: &[u8]) -> bool {
 }
 
 // Returns the call of a line that starts with no word of the rings, if it makes one.
-fn driver_call_at(number: u32, line: &[u8]) -> Result<Option<ScriptCall>, Cause> {
+fn driver_call_at(place: Place, line: &[u8]) -> Result<Option<ScriptCall>, Cause> {
     if is_of_terminal(line) && !has_bad_byte(line) {
         return Err(Cause::UnknownWord);
     }
-    match item_at(number, line)? {
+    match item_at(place, line)? {
         Item::Next => Ok(Some(ScriptCall::OfRun(RingCall::Next))),
         Item::Call(call) => Ok(Some(ScriptCall::OfRun(RingCall::Driver(call)))),
-        Item::Blank | Item::Limit(_) | Item::Event(_) => Ok(None),
+        Item::Blank | Item::Limit(_) | Item::FifoSize(_) | Item::Event(_) => Ok(None),
     }
 }
 
-/// Returns the call of a line after the first, if it makes one. The line with the number `at` starts with `rings`.
+/// Returns the call of a line after the first, if it makes one. The line with the number `at` starts with `rings`, and line 2 starts with
+/// `limit` or not.
 ///
 /// # Errors
 ///
 /// What is wrong with the line.
-pub fn call_at(at: u32, number: u32, line: &[u8]) -> Result<Option<ScriptCall>, Cause> {
+pub fn call_at(
+    at: u32,
+    is_limited: bool,
+    number: u32,
+    line: &[u8],
+) -> Result<Option<ScriptCall>, Cause> {
     let Some((name, count)) = ring_word(line) else {
-        return driver_call_at(number, line);
+        return driver_call_at(Place::of(is_limited, number), line);
     };
     let is_placed = if name == "rings" {
         number == at
@@ -222,13 +239,14 @@ fn without_rings(text: &[u8]) -> Vec<u8> {
 
 // Returns the calls of the lines after the first.
 fn calls_of(at: u32, text: &[u8]) -> Result<Vec<ScriptCall>, ScriptError> {
+    let is_limited = first_word_of(text, 2) == b"limit";
     let mut calls = Vec::new();
     for (number, line) in (1..).zip(lines(text)).skip(1) {
         // A line of the rings at the end may be one too many, and without it the script has none too many.
         let call = if number > MOST_LINES && !line.is_empty() {
             Err(Cause::TooLong)
         } else {
-            call_at(at, number, line)
+            call_at(at, is_limited, number, line)
         };
         match call {
             Ok(call) => calls.extend(call),
@@ -302,6 +320,18 @@ mod tests {
             ("queue 41\nrings 4 4\n", Some((2, Cause::Misplaced))),
             ("rings 4 4\nrings 4 4\n", Some((3, Cause::Misplaced))),
             ("rings 4 4\nlimit 9\n", Some((3, Cause::Misplaced))),
+            ("fifo-size 64\nrings 4 4\nqueue 41\n", None),
+            ("limit 9\nfifo-size 64\nrings 4 4\nqueue 41\n", None),
+            ("rings 4 4\nfifo-size 64\n", Some((3, Cause::Misplaced))),
+            (
+                "limit 9\nrings 4 4\nfifo-size 64\n",
+                Some((4, Cause::Misplaced)),
+            ),
+            ("\nfifo-size 64\nrings 4 4\n", Some((3, Cause::Misplaced))),
+            (
+                "fifo-size 64\nlsr\nrings 4 4\n",
+                Some((4, Cause::UnknownWord)),
+            ),
             ("lsr\nlsr\nrings 4 4\n", Some((4, Cause::UnknownWord))),
             ("rings 0 4\nsing\n", Some((2, Cause::BadNumber))),
             ("rings 4 4097\n", Some((2, Cause::BadNumber))),

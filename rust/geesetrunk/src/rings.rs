@@ -40,7 +40,8 @@ impl Scheduled for Device16550 {
 /// The rings of a script over a device. Below the driver the errors of the received bytes are noted, which makes no access.
 pub type NotedRings<B> = Uart16550Ring<ErrorNotes<B>>;
 
-/// Returns the rings of a script over a device: empty, over a new driver with the limit of the script.
+/// Returns the rings of a script over a device: empty, over a new driver with the limit of the script, which takes the FIFOs for the size
+/// of the script.
 ///
 /// # Errors
 ///
@@ -50,6 +51,7 @@ pub fn rings_over<B: Backend>(script: &RingScript, device: B) -> Result<NotedRin
     let notes = ErrorNotes::new(Global::heap(), device, room.receive).map_err(|_| AllocError)?;
     let mut uart = Uart16550::new_with_backend(notes);
     uart.set_spin_limit(script.plain().limit());
+    uart.set_fifo_size(script.plain().driver_fifo_size());
     Uart16550Ring::new(Global::heap(), uart, room.transmit, room.receive).map_err(|_| AllocError)
 }
 

@@ -56,6 +56,10 @@ fn wrong_command_lines_of_geesetrunk() {
             "the limit must be a number from 1 to 18446744073709551615\n",
         ),
         (
+            "verify --fifo-size 48 a",
+            "the size of the FIFOs must be 16, 32, 64, 128 or 256\n",
+        ),
+        (
             "timeline --line +1 a",
             "the line must be a number from 1 to 18446744073709551615\n",
         ),

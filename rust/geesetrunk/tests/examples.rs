@@ -61,7 +61,8 @@ fn the_driver_makes_the_traces_of_scripts() {
         };
         let output = run(GEESETRUNK, &["trace", path.to_str().unwrap()], b"");
         let trace = parse(heap(), &output.stdout).unwrap();
-        let stray = judge(heap(), &trace, script.limit()).unwrap();
+        let fifo_size = script.driver_fifo_size();
+        let stray = judge(heap(), &trace, script.limit(), fifo_size).unwrap();
         assert!(stray.is_none(), "{}", path.display());
     }
 }

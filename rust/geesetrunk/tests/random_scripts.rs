@@ -41,7 +41,7 @@ const CALLS: [&str; 25] = [
     "retrigger-interrupts",
 ];
 
-const FAULTS: [&str; 31] = [
+const FAULTS: [&str; 33] = [
     "sing",
     "lsr ",
     " lsr",
@@ -62,6 +62,8 @@ const FAULTS: [&str; 31] = [
     "send",
     "text ff",
     "limit 5",
+    "fifo-size 64",
+    "fifo-size 48",
     "chip 16450 4 64",
     "lsr\t",
     "receive +1",
@@ -193,6 +195,10 @@ fn script(random: &mut Random) -> String {
         "chip {chip} {ticks} {room}{cut}\nlimit {}\n",
         1 + random.below(300)
     );
+    if random.is_one_in(3) {
+        let size = random.pick(&[16, 32, 64, 128, 256]);
+        let _ = writeln!(script, "fifo-size {size}");
+    }
     if !random.is_one_in(5) {
         let _ = writeln!(script, "{}", init(random));
     }

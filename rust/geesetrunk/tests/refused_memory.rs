@@ -14,6 +14,7 @@ use std::ptr;
 use uart_judges::findings;
 use uart_language::ScriptError;
 use uart_play::{PlayError, Std, play};
+use uart_spec::FifoSize;
 use uart_spec::access::Access;
 use uart_trace::{Listener, Remarks, plain, tell, trace};
 
@@ -148,7 +149,7 @@ fn each_request_for_memory() {
         Some(plain(heap(), b"chip 16450 4 64\n# lsr\n").ok()?.len())
     });
     each("verify", None, || {
-        let line = findings::verify(heap(), TRACE, NonZeroU64::MIN).ok()?;
+        let line = findings::verify(heap(), TRACE, NonZeroU64::MIN, FifoSize::Sixteen).ok()?;
         Some(line.len())
     });
     for judge in [Judge::Audit, Judge::Replay] {

@@ -2,12 +2,14 @@
 ghost use Rattle.std.specs.Prelude.{◌≡◌, ◌<◌, ◌≤◌, Err, MatchResult, length};
 ghost use Rattle.std.specs.Int.NonZero.{non_zero_u64_get};
 ghost use Rattle.uart_judges.specs.Reading.{Refuses, fault_of};
+ghost use Rattle.uart_judges.specs.Traces.{new_driver};
 ghost use Rattle.uart_judges.specs.Verifying.{IsVerified, IsNoTrace};
 
 use crate::traces::{TraceError, judge, parse, push_stray};
 use std::alloc::Global;
 use std::num::NonZeroU64;
 use thiserror::Error;
+use uart_spec::FifoSize;
 
 /// The most bytes of a trace. So input without end is refused, and does not fill the memory.
 pub const MOST_TRACE_BYTES: usize = 64 * 1024 * 1024;
@@ -24,12 +26,18 @@ pub enum VerifyError {
 }
 
 // Returns the line that is printed for a trace, or nothing.
-fn stray_line(alloc: Global, bytes: &[u8], limit: NonZeroU64) -> Result<Vec<u8>, TraceError>
-    ensures { MatchResult result (λ line. IsVerified (non_zero_u64_get limit) bytes.now line.items)
+fn stray_line(
+    alloc: Global,
+    bytes: &[u8],
+    limit: NonZeroU64,
+    fifo_size: FifoSize,
+) -> Result<Vec<u8>, TraceError>
+    ensures { MatchResult result
+        (λ line. IsVerified (new_driver (non_zero_u64_get limit) fifo_size) bytes.now line.items)
         (Refuses (fault_of bytes.now)) }
 {
     let trace = parse(alloc, bytes)?;
-    match judge(alloc, &trace, limit)? {
+    match judge(alloc, &trace, limit, fifo_size)? {
         None => Ok(Vec::new(alloc)),
         Some(stray) => {
             let mut line = Vec::new(alloc);
@@ -40,20 +48,27 @@ fn stray_line(alloc: Global, bytes: &[u8], limit: NonZeroU64) -> Result<Vec<u8>,
     }
 }
 
-/// Returns what is printed for the trace of a driver with this spin limit: nothing if each list is
-/// one that its call makes, or else the line that says where the trace strays.
+/// Returns what is printed for the trace of a driver with this spin limit, which takes the FIFOs to
+/// be of this size: nothing if each list is one that its call makes, or else the line that says
+/// where the trace strays.
 ///
 /// # Errors
 ///
 /// - `TooLong` if there are more than [`MOST_TRACE_BYTES`].
 /// - `NoTrace` with the first fault if the bytes are no trace, or if out of memory.
-pub fn verify(alloc: Global, bytes: &[u8], limit: NonZeroU64) -> Result<Vec<u8>, VerifyError>
+pub fn verify(
+    alloc: Global,
+    bytes: &[u8],
+    limit: NonZeroU64,
+    fifo_size: FifoSize,
+) -> Result<Vec<u8>, VerifyError>
     ensures long { MOST_TRACE_BYTES < length bytes.now → result ≡ Err VerifyError.TooLong }
     ensures read { length bytes.now ≤ MOST_TRACE_BYTES → MatchResult result
-        (λ line. IsVerified (non_zero_u64_get limit) bytes.now line.items) (IsNoTrace bytes.now) }
+        (λ line. IsVerified (new_driver (non_zero_u64_get limit) fifo_size) bytes.now line.items)
+        (IsNoTrace bytes.now) }
 {
     if bytes.len() > MOST_TRACE_BYTES {
         return Err(VerifyError::TooLong);
     }
-    stray_line(alloc, bytes, limit).map_err(VerifyError::NoTrace)
+    stray_line(alloc, bytes, limit, fifo_size).map_err(VerifyError::NoTrace)
 }

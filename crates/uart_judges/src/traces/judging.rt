@@ -6,6 +6,7 @@ ghost use Rattle.uart_16550.specs.State.{fields_of, fresh_fields};
 ghost use Rattle.uart_language.specs.Output.{answer_text};
 ghost use Rattle.uart_calls.specs.Lists.{IsFollowed};
 ghost use Rattle.uart_judges.specs.Traces.{AreCalls, IsExchange, IsStray, fields_before};
+ghost use Rattle.uart_judges.specs.Traces.{new_driver};
 
 use crate::traces::exchange::Exchange;
 use std::alloc::{AllocError, Global};
@@ -13,6 +14,7 @@ use std::num::NonZeroU64;
 use uart_16550::DriverState;
 use uart_calls::{Answer, Turn, check, follow};
 use uart_language::push_answer;
+use uart_spec::FifoSize;
 
 /// The place at which a trace differs from what the driver does.
 #[derive(Debug, Drop)]
@@ -35,14 +37,20 @@ fn is_printed(alloc: Global, answer: &Answer, text: &[u8]) -> Result<bool, Alloc
 }
 
 // Returns the state of the driver before a call: the one after the call before it, or that of a new
-// driver with this limit.
-fn state_before(exchange: &Exchange, state: DriverState, limit: NonZeroU64) -> DriverState
-    ensures { fields_of result ≡ fields_before (non_zero_u64_get limit) exchange.now
-        (fields_of state) }
+// driver with this limit, which takes the FIFOs for this size.
+fn state_before(
+    exchange: &Exchange,
+    state: DriverState,
+    limit: NonZeroU64,
+    fifo_size: FifoSize,
+) -> DriverState
+    ensures { fields_of result ≡ fields_before (new_driver (non_zero_u64_get limit) fifo_size)
+        exchange.now (fields_of state) }
 {
     if exchange.is_first {
         DriverState {
             spin_limit: limit,
+            fifo_size,
             ..DriverState::new()
         }
     } else {
@@ -91,7 +99,8 @@ fn stray_at<'a>(exchange: &'a Exchange, state: &DriverState) -> Stray<'a>
 /// if so. Else returns the first call for which it is not, with its first access that no list of
 /// the call has, and what the driver does there.
 ///
-/// The first call is of a new driver with this limit, and so is each call after a `fresh`.
+/// The first call is of a new driver with this limit, which takes the FIFOs to be of this size, and
+/// so is each call after a `fresh`.
 ///
 /// # Errors
 ///
@@ -100,16 +109,17 @@ pub fn judge<'a>(
     alloc: Global,
     trace: &'a [Exchange],
     limit: NonZeroU64,
+    fifo_size: FifoSize,
 ) -> Result<Option<Stray<'a>>, AllocError>
     ensures calls { IfOk result (λ stray. IsNone stray ↔
-        AreCalls (non_zero_u64_get limit) fresh_fields trace.now) }
-    ensures first { IfOk result (λ stray.
-        IfSome stray (IsStray (non_zero_u64_get limit) fresh_fields trace.now)) }
+        AreCalls (new_driver (non_zero_u64_get limit) fifo_size) fresh_fields trace.now) }
+    ensures first { IfOk result (λ stray. IfSome stray
+        (IsStray (new_driver (non_zero_u64_get limit) fifo_size) fresh_fields trace.now)) }
 {
     let mut state = DriverState::new();
     let mut left = trace;
     while let Some((exchange, rest)) = left.split_first() {
-        let before = state_before(exchange, state, limit);
+        let before = state_before(exchange, state, limit, fifo_size);
         match after(alloc, exchange, &before)? {
             Some(next) => state = next,
             None => return Ok(Some(stray_at(exchange, &before))),

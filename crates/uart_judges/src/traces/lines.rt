@@ -3,6 +3,7 @@ ghost use Rattle.std.specs.Prelude.{◌≡◌, ◌<◌, IfOk};
 ghost use Rattle.std.specs.List.{position_or_len};
 ghost use Rattle.uart_language.specs.Fields.{seen};
 ghost use Rattle.uart_language.specs.Items.{item_at};
+ghost use Rattle.uart_language.specs.declared.words.Place.TheVariants.{Later};
 ghost use Rattle.uart_language.specs.Text.{words_of};
 ghost use Rattle.uart_spec.specs.declared.baud.TheConstants.{NUM_REGISTERS};
 ghost use Rattle.uart_judges.specs.TraceLines.{CanRun, access_in, answer_in, before_remark};
@@ -12,11 +13,8 @@ ghost use Rattle.uart_judges.specs.TraceLines.{saying_of, says, without_end};
 
 use crate::traces::cause::TraceFault;
 use uart_calls::Call;
-use uart_language::{Cause, Item, byte_in, has_bad_byte, item_at, word_at, word_count};
+use uart_language::{Cause, Item, Place, byte_in, has_bad_byte, item_at, word_at, word_count};
 use uart_spec::access::Access;
-
-// The number of a line at which neither the first line of a script nor its limit may be.
-const AFTER_THE_HEAD: u32 = 3;
 
 /// The meaning of a line of a trace.
 #[derive(Drop)]
@@ -90,12 +88,15 @@ fn access_in(line: &[u8]) -> Result<(usize, u8), Cause>
 
 // Returns the driver's call of a line, as in a script.
 fn call_in(line: &[u8]) -> Result<TraceLine<'_>, TraceFault>
-    ensures read { seen saying_of result ≡ called_as (item_at AFTER_THE_HEAD line.now) }
+    ensures read { seen saying_of result ≡ called_as (item_at Later line.now) }
     ensures runs { IfOk result CanRun }
 {
-    match item_at(AFTER_THE_HEAD, line)? {
+    // Neither the first line of a script nor a setting of its driver is a call.
+    match item_at(Place::Later, line)? {
         Item::Call(call) => Ok(TraceLine::Call(call)),
-        Item::Blank | Item::Limit(_) | Item::Event(_) | Item::Next => Err(TraceFault::NoDriverCall),
+        Item::Blank | Item::Limit(_) | Item::FifoSize(_) | Item::Event(_) | Item::Next => {
+            Err(TraceFault::NoDriverCall)
+        }
     }
 }
 

@@ -29,6 +29,8 @@ use std::io::{self, Write};
 use std::num::NonZeroU64;
 use std::process::ExitCode;
 use uart_16550::DEFAULT_SPIN_LIMIT;
+use uart_language::fields::size_in;
+use uart_spec::FifoSize;
 
 // Returns the files of a command line.
 fn files(given: &Given) -> Vec<&str> {
@@ -234,10 +236,19 @@ fn verify(given: &Given) -> Result<(), End> {
             "the limit must be a number from 1 to {most}"
         )));
     };
+    let fifo_size = match given.value("fifo-size") {
+        Some(word) => size_in(word.as_bytes()),
+        None => Ok(FifoSize::Sixteen),
+    };
+    let Ok(fifo_size) = fifo_size else {
+        return Err(End::failed(
+            "the size of the FIFOs must be 16, 32, 64, 128 or 256",
+        ));
+    };
     let is_one_of_several = files(given).len() > 1;
     find(given, |format| {
         each(given, |file| {
-            verified(file, limit, format, is_one_of_several)
+            verified(file, limit, fifo_size, format, is_one_of_several)
         })
     })
 }

@@ -16,11 +16,16 @@ pub fn event_line(text: &[u8]) -> Option<usize> {
     lines(text).position(is_event).map(|before| before + 1)
 }
 
+// Returns whether a line is a setting of the driver.
+fn is_setting(line: &[u8]) -> bool {
+    matches!(first_word(line), b"limit" | b"fifo-size")
+}
+
 /// Returns the lines of a script that are calls, if it has no events.
 pub fn call_lines(text: &[u8]) -> impl Iterator<Item = &[u8]> {
     lines(text)
         .skip(1)
-        .filter(|line| !line.is_empty() && first_word(line) != b"limit")
+        .filter(|line| !line.is_empty() && !is_setting(line))
 }
 
 #[cfg(test)]
@@ -44,8 +49,8 @@ mod tests {
     }
 
     #[test]
-    fn calls_are_neither_blank_nor_the_limit() {
-        let text = b"chip 16550a 4 64\nlimit 3\n\nlsr\nnext\n";
+    fn calls_are_neither_blank_nor_settings() {
+        let text = b"chip 16550a 4 64\nlimit 3\nfifo-size 32\n\nlsr\nnext\n";
         assert_eq!(call_lines(text).collect::<Vec<_>>(), [&b"lsr"[..], b"next"]);
     }
 }

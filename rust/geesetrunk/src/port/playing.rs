@@ -73,15 +73,15 @@ fn script_in(text: &[u8]) -> Result<Script, End> {
 /// written. No call is made after that.
 pub fn play(run: &Run<'_>, out: &mut impl Write) -> Result<(), End> {
     let script = script_in(run.text)?;
-    let limit = script.limit();
+    let (limit, fifo_size) = (script.limit(), script.driver_fifo_size());
     let device = DeviceFile::open(run.device).map_err(unopened)?;
     let file = run.trace.map(File::create).transpose().map_err(untraced)?;
     let trace = file.as_ref().map(Trace::new);
     if let Some(mut trace) = trace {
-        trace.begin(limit).map_err(untraced)?;
+        trace.begin(limit, fifo_size).map_err(untraced)?;
     }
     let ports = NotedPorts::new(device, run.base, trace);
-    let mut terminal = terminal_at(run.base, limit, ports);
+    let mut terminal = terminal_at(run.base, limit, fifo_size, ports);
     let lines: Vec<&[u8]> = call_lines(run.text).collect();
     let mut report = Report::new(heap(), out, trace);
     uart_port::play(&mut terminal, script.calls(), &lines, &mut report).map_err(unplayed)?;

@@ -170,6 +170,18 @@ pub fn chip_in(word: &[u8]) -> Result<ChipKind, Cause> {
     })
 }
 
+/// Reads the size that the driver takes the FIFOs for.
+pub fn size_in(word: &[u8]) -> Result<FifoSize, Cause> {
+    match word {
+        b"16" => Ok(FifoSize::Sixteen),
+        b"32" => Ok(FifoSize::ThirtyTwo),
+        b"64" => Ok(FifoSize::SixtyFour),
+        b"128" => Ok(FifoSize::OneHundredTwentyEight),
+        b"256" => Ok(FifoSize::TwoHundredFiftySix),
+        _ => Err(Cause::BadWord),
+    }
+}
+
 /// Reads the option that may end the first line.
 pub fn cut_in(word: &[u8]) -> Result<bool, Cause> {
     if word == b"cut".as_slice() {

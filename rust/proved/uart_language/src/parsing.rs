@@ -5,7 +5,8 @@ use std::{Vec};
 use super::cause::{Cause, ScriptError};
 use super::items::{Header, Item, header_at, item_at};
 use super::limits::{DEFAULT_LIMIT, MOST_BYTES, MOST_LINES};
-use super::text::first_line;
+use super::text::{first_line, word_at};
+use super::words::{Place, Word, is_named};
 use std::alloc::{AllocError, Global};
 use std::num::NonZeroU64;
 use uart_events::{Call, Chip, Event};
@@ -15,6 +16,7 @@ use uart_spec::FifoSize;
 pub struct Script {
     header: Header,
     limit: NonZeroU64,
+    driver_fifo_size: FifoSize,
     events: Vec<Event>,
     calls: Vec<Call>,
 }
@@ -25,7 +27,8 @@ impl Script {
         self.header.chip.model
     }
 
-    /// Returns the size of the chip's FIFOs. Of a 16450 it is of no account.
+    /// Returns the size of the chip's FIFOs. Of a 16450 it is of no account. The driver takes them
+    /// for those of [`driver_fifo_size`](Script::driver_fifo_size).
     pub fn fifo_size(&self) -> FifoSize {
         self.header.chip.size
     }
@@ -50,6 +53,12 @@ impl Script {
         self.limit
     }
 
+    /// Returns the size that the driver takes the FIFOs for: 16, or what a line sets. The chip's
+    /// may be another one.
+    pub fn driver_fifo_size(&self) -> FifoSize {
+        self.driver_fifo_size
+    }
+
     /// Returns whether the chip cuts characters to the word length.
     pub fn cut(&self) -> bool {
         self.header.cuts
@@ -69,6 +78,7 @@ impl Script {
         match item {
             Item::Blank => {}
             Item::Limit(limit) => self.limit = limit,
+            Item::FifoSize(size) => self.driver_fifo_size = size,
             Item::Event(event) => self.events.push(event)?,
             Item::Call(call) => self.calls.push(call)?,
             Item::Next => {
@@ -80,8 +90,17 @@ impl Script {
     }
 }
 
+/// Returns whether the first of the lines after the first, which is line 2, starts with `limit`.
+fn is_limited(bytes: &[u8]) -> bool {
+    if bytes.is_empty() {
+        return false;
+    }
+    let (line, _) = first_line(bytes);
+    is_named(Word::Limit, word_at(line, 0))
+}
+
 /// Returns the meaning of the first of some lines, and the lines after it.
-fn next_item(number: u32, bytes: &[u8]) -> Result<(Item, &[u8]), ScriptError> {
+fn next_item(is_limited: bool, number: u32, bytes: &[u8]) -> Result<(Item, &[u8]), ScriptError> {
     if number > MOST_LINES {
         return Err(ScriptError::Refused {
             line: number,
@@ -89,7 +108,7 @@ fn next_item(number: u32, bytes: &[u8]) -> Result<(Item, &[u8]), ScriptError> {
         });
     }
     let (line, rest) = first_line(bytes);
-    match item_at(number, line) {
+    match item_at(Place::of(is_limited, number), line) {
         Ok(item) => Ok((item, rest)),
         Err(cause) => Err(ScriptError::Refused {
             line: number,
@@ -100,10 +119,11 @@ fn next_item(number: u32, bytes: &[u8]) -> Result<(Item, &[u8]), ScriptError> {
 
 /// Checks the lines after the first for a fault.
 fn check(bytes: &[u8]) -> Result<(), ScriptError> {
+    let limited = is_limited(bytes);
     let mut number = 2;
     let mut rest = bytes;
     while !rest.is_empty() {
-        let (_, after) = next_item(number, rest)?;
+        let (_, after) = next_item(limited, number, rest)?;
         rest = after;
         number += 1;
     }
@@ -115,13 +135,15 @@ fn build(alloc: Global, header: Header, bytes: &[u8]) -> Result<Script, ScriptEr
     let mut script = Script {
         header,
         limit: NonZeroU64::new(DEFAULT_LIMIT).unwrap(),
+        driver_fifo_size: FifoSize::Sixteen,
         events: Vec::new(alloc),
         calls: Vec::new(alloc),
     };
+    let limited = is_limited(bytes);
     let mut number = 2;
     let mut rest = bytes;
     while !rest.is_empty() {
-        let (item, after) = next_item(number, rest)?;
+        let (item, after) = next_item(limited, number, rest)?;
         script.add(item)?;
         rest = after;
         number += 1;

@@ -34,10 +34,12 @@ pub fn machine_for(alloc: Global, script: &Script) -> Result<Device16550, AllocE
     }
 }
 
-// Returns the machine of the script under a new driver with the limit of the script.
+// Returns the machine of the script under a new driver, with the limit and the size of FIFOs that
+// the script sets.
 fn terminal_for(alloc: Global, script: &Script) -> Result<Uart16550Tty<Device16550>, AllocError> {
     let mut uart = Uart16550::new_with_backend(machine_for(alloc, script)?);
     uart.set_spin_limit(script.limit());
+    uart.set_fifo_size(script.driver_fifo_size());
     Ok(Uart16550Tty::from_inner(uart))
 }
 

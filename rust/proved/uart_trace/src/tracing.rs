@@ -8,11 +8,8 @@ use crate::remarks::Remarks;
 use crate::run::tell;
 use crate::text::printable;
 use std::alloc::{AllocError, Global};
-use uart_language::{Item, Output, PlayError, item_at, write_all};
+use uart_language::{Item, Output, Place, PlayError, item_at, write_all};
 use uart_spec::access::Access;
-
-// The number of a line at which neither the first line of a script nor its limit may be.
-const AFTER_THE_HEAD: u32 = 3;
 
 // The lines that are printed for a script after its answers: wire, held, waiting and marks.
 const LAST_LINES: usize = 4;
@@ -53,7 +50,8 @@ pub struct Lines<'a, R, W> {
 
 // Returns whether a line of a script is a call.
 fn is_call(line: &[u8]) -> bool {
-    match item_at(AFTER_THE_HEAD, line) {
+    // Neither the first line of a script nor a setting of its driver is a call.
+    match item_at(Place::Later, line) {
         Ok(Item::Call(_) | Item::Next) => true,
         _ => false,
     }

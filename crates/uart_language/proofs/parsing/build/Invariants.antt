@@ -1,14 +1,15 @@
 use Rattle.std.proofs.Common.{◌≡◌, ◌+◌, ◌≤◌, length}
 use Rattle.uart_language.specs.declared.limits.TheConstants.{MOST_LINES}
 use Rattle.uart_language.specs.Text.{lines_of}
-use Rattle.uart_language.specs.Reading.{sayings_from, planned}
+use Rattle.uart_language.specs.Reading.{sayings_from, sayings_after_first, planned}
 use Rattle.uart_language.specs.Script.{plan_of}
 use Rattle.uart_language.proofs.Readings.{ends_in}
 use Rattle.uart_language.proofs.parsing.build.Given as goal
 
 abbrev pub invariant-loop-rest : goal.invariant-loop-rest
 invariant-loop-rest l =
-    (ends_in (plan_of l.script) (sayings_from l.number (lines_of l.rest)) ≡ planned l.fn.header (sayings_from 2 (lines_of l.bytes)))
+    (ends_in (plan_of l.script) (sayings_from l.limited l.number (lines_of l.rest))
+    ≡ planned l.fn.header (sayings_after_first (lines_of l.bytes)))
     × (l.number ≤ MOST_LINES + 1)
 
 abbrev pub decreases-loop-rest : goal.decreases-loop-rest

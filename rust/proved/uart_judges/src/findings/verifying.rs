@@ -5,6 +5,7 @@ use std::{Vec};
 use crate::traces::{TraceError, judge, parse, push_stray};
 use std::alloc::Global;
 use std::num::NonZeroU64;
+use uart_spec::FifoSize;
 
 /// The most bytes of a trace. So input without end is refused, and does not fill the memory.
 pub const MOST_TRACE_BYTES: usize = 64 * 1024 * 1024;
@@ -46,9 +47,14 @@ impl std::convert::From<TraceError> for VerifyError {
 }
 
 // Returns the line that is printed for a trace, or nothing.
-fn stray_line(alloc: Global, bytes: &[u8], limit: NonZeroU64) -> Result<Vec<u8>, TraceError> {
+fn stray_line(
+    alloc: Global,
+    bytes: &[u8],
+    limit: NonZeroU64,
+    fifo_size: FifoSize,
+) -> Result<Vec<u8>, TraceError> {
     let trace = parse(alloc, bytes)?;
-    match judge(alloc, &trace, limit)? {
+    match judge(alloc, &trace, limit, fifo_size)? {
         None => Ok(Vec::new(alloc)),
         Some(stray) => {
             let mut line = Vec::new(alloc);
@@ -59,16 +65,22 @@ fn stray_line(alloc: Global, bytes: &[u8], limit: NonZeroU64) -> Result<Vec<u8>,
     }
 }
 
-/// Returns what is printed for the trace of a driver with this spin limit: nothing if each list is
-/// one that its call makes, or else the line that says where the trace strays.
+/// Returns what is printed for the trace of a driver with this spin limit, which takes the FIFOs to
+/// be of this size: nothing if each list is one that its call makes, or else the line that says
+/// where the trace strays.
 ///
 /// # Errors
 ///
 /// - `TooLong` if there are more than [`MOST_TRACE_BYTES`].
 /// - `NoTrace` with the first fault if the bytes are no trace, or if out of memory.
-pub fn verify(alloc: Global, bytes: &[u8], limit: NonZeroU64) -> Result<Vec<u8>, VerifyError> {
+pub fn verify(
+    alloc: Global,
+    bytes: &[u8],
+    limit: NonZeroU64,
+    fifo_size: FifoSize,
+) -> Result<Vec<u8>, VerifyError> {
     if bytes.len() > MOST_TRACE_BYTES {
         return Err(VerifyError::TooLong);
     }
-    stray_line(alloc, bytes, limit).map_err(VerifyError::NoTrace)
+    stray_line(alloc, bytes, limit, fifo_size).map_err(VerifyError::NoTrace)
 }

@@ -8,6 +8,7 @@ use std::num::NonZeroU64;
 use uart_16550::DriverState;
 use uart_calls::{Answer, Turn, check, follow};
 use uart_language::push_answer;
+use uart_spec::FifoSize;
 
 /// The place at which a trace differs from what the driver does.
 #[derive(Debug)]
@@ -28,11 +29,17 @@ fn is_printed(alloc: Global, answer: &Answer, text: &[u8]) -> Result<bool, Alloc
 }
 
 // Returns the state of the driver before a call: the one after the call before it, or that of a new
-// driver with this limit.
-fn state_before(exchange: &Exchange, state: DriverState, limit: NonZeroU64) -> DriverState {
+// driver with this limit, which takes the FIFOs for this size.
+fn state_before(
+    exchange: &Exchange,
+    state: DriverState,
+    limit: NonZeroU64,
+    fifo_size: FifoSize,
+) -> DriverState {
     if exchange.is_first {
         DriverState {
             spin_limit: limit,
+            fifo_size,
             ..DriverState::new()
         }
     } else {
@@ -70,7 +77,8 @@ fn stray_at<'a>(exchange: &'a Exchange, state: &DriverState) -> Stray<'a> {
 /// if so. Else returns the first call for which it is not, with its first access that no list of
 /// the call has, and what the driver does there.
 ///
-/// The first call is of a new driver with this limit, and so is each call after a `fresh`.
+/// The first call is of a new driver with this limit, which takes the FIFOs to be of this size, and
+/// so is each call after a `fresh`.
 ///
 /// # Errors
 ///
@@ -79,11 +87,12 @@ pub fn judge<'a>(
     alloc: Global,
     trace: &'a [Exchange],
     limit: NonZeroU64,
+    fifo_size: FifoSize,
 ) -> Result<Option<Stray<'a>>, AllocError> {
     let mut state = DriverState::new();
     let mut left = trace;
     while let Some((exchange, rest)) = left.split_first() {
-        let before = state_before(exchange, state, limit);
+        let before = state_before(exchange, state, limit, fifo_size);
         match after(alloc, exchange, &before)? {
             Some(next) => state = next,
             None => return Ok(Some(stray_at(exchange, &before))),

@@ -2,11 +2,8 @@
 
 use crate::traces::cause::TraceFault;
 use uart_calls::Call;
-use uart_language::{Cause, Item, byte_in, has_bad_byte, item_at, word_at, word_count};
+use uart_language::{Cause, Item, Place, byte_in, has_bad_byte, item_at, word_at, word_count};
 use uart_spec::access::Access;
-
-// The number of a line at which neither the first line of a script nor its limit may be.
-const AFTER_THE_HEAD: u32 = 3;
 
 /// The meaning of a line of a trace.
 pub enum TraceLine<'a> {
@@ -66,9 +63,12 @@ fn access_in(line: &[u8]) -> Result<(usize, u8), Cause> {
 
 // Returns the driver's call of a line, as in a script.
 fn call_in(line: &[u8]) -> Result<TraceLine<'_>, TraceFault> {
-    match item_at(AFTER_THE_HEAD, line)? {
+    // Neither the first line of a script nor a setting of its driver is a call.
+    match item_at(Place::Later, line)? {
         Item::Call(call) => Ok(TraceLine::Call(call)),
-        Item::Blank | Item::Limit(_) | Item::Event(_) | Item::Next => Err(TraceFault::NoDriverCall),
+        Item::Blank | Item::Limit(_) | Item::FifoSize(_) | Item::Event(_) | Item::Next => {
+            Err(TraceFault::NoDriverCall)
+        }
     }
 }
 

@@ -38,6 +38,19 @@ const FAULTS: &[(&str, &str)] = &[
     ("restore 0001020304050607", "line 2: bad hex"),
     ("restore -", "line 2: bad hex"),
     ("check-configured", "line 2: wrong count"),
+    ("fifo-size 48", "line 2: bad word"),
+    ("fifo-size 016", "line 2: bad word"),
+    ("fifo-size 16 32", "line 2: wrong count"),
+    ("fifo-size", "line 2: wrong count"),
+    ("fifo-size 64\nfifo-size 64", "line 3: misplaced"),
+    ("fifo-size 64\nlimit 5", "line 3: misplaced"),
+    ("lsr\nfifo-size 64", "line 3: misplaced"),
+    ("\nfifo-size 64", "line 3: misplaced"),
+    ("limit 5\n\nfifo-size 64", "line 4: misplaced"),
+    ("limit 5\nfifo-size 64\nfifo-size 64", "line 4: misplaced"),
+    ("limit 5\nfifo-size 1", "line 3: bad word"),
+    ("limits 5\nfifo-size 64", "line 2: unknown word"),
+    ("limit 0\nfifo-size 1", "line 2: bad number"),
 ];
 
 const FAULTS_OF_THE_FIRST_LINE: &[(&str, &str)] = &[
@@ -45,6 +58,7 @@ const FAULTS_OF_THE_FIRST_LINE: &[(&str, &str)] = &[
     ("lsr", "line 1: misplaced"),
     (" ", "line 1: misplaced"),
     ("limit 5", "line 1: misplaced"),
+    ("fifo-size 16", "line 1: misplaced"),
     ("lsr\t", "line 1: bad byte"),
     ("chip 8250 0 64", "line 1: bad word"),
     ("chip 16550 4 64", "line 1: bad word"),
@@ -114,8 +128,51 @@ fn each_chip_has_room_for_what_its_fifos_hold() {
     }
 }
 
+// On line 2 without a limit, and behind it.
+#[test]
+fn the_driver_takes_the_fifos_for_the_size_of_the_script() {
+    for (word, size) in [
+        ("16", FifoSize::Sixteen),
+        ("32", FifoSize::ThirtyTwo),
+        ("64", FifoSize::SixtyFour),
+        ("128", FifoSize::OneHundredTwentyEight),
+        ("256", FifoSize::TwoHundredFiftySix),
+    ] {
+        for head in ["", "limit 5\n"] {
+            let text = format!("chip 16750 4 64\n{head}fifo-size {word}");
+            let script = parsed(text.as_bytes());
+            assert_eq!(script.driver_fifo_size(), size, "{text}");
+            assert_eq!(script.fifo_size(), FifoSize::SixtyFour);
+        }
+    }
+    // What the chip is says nothing of the driver.
+    let script = parsed(b"chip 16750 4 64");
+    assert_eq!(script.driver_fifo_size(), FifoSize::Sixteen);
+}
+
+// A slow chip: nothing goes out while the bytes are written. If its FIFO holds fewer, the rest is lost.
+#[test]
+fn a_send_fills_a_fifo_of_the_size_of_the_script() {
+    for (name, room) in [("16550a", 16), ("16650", 32), ("16750", 64)] {
+        for size in [16, 32, 64] {
+            let head = format!("chip {name} 1000 64\nfifo-size {size}\ninit 14 9600 nocts 00 8\n");
+            let mut output = Vec::new();
+            played(
+                format!("{head}send {}\n", "41".repeat(64)).as_bytes(),
+                &mut output,
+            )
+            .unwrap();
+            // One is in the shift register.
+            let held = "41".repeat(size.min(room + 1));
+            let wanted = format!("ok\nok {size}\nwire -\nheld {held}\nwaiting -\nmarks -\n");
+            assert_eq!(String::from_utf8_lossy(&output), wanted, "{name} {size}");
+        }
+    }
+}
+
 const EVERY_WORD: &[u8] = b"chip 16550a 3 7
 limit 0000000005
+fifo-size 128
 tick 65535
 arrive 4a
 arrive Ff pfb
@@ -162,6 +219,7 @@ fn every_word_means_its_event_or_call() {
     assert_eq!(script.ticks(), 3);
     assert_eq!(script.wire_capacity(), 7);
     assert_eq!(script.limit().get(), 5);
+    assert_eq!(script.driver_fifo_size(), FifoSize::OneHundredTwentyEight);
     assert_eq!(
         script.events(),
         [
