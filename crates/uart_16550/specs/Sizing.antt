@@ -94,14 +94,14 @@ opened lcr = bit_or (without 8 lcr LCR.MORE_STOP_BITS.0) LCR.DLAB.0
 abbrev pub enabling_writes : (lcr : ℕ) → FifoTriggerLevel → List Access
 enabling_writes lcr level =
     Write offsets.IER 0 ∷ Write offsets.LCR (opened lcr) ∷
-    Write offsets.FCR (bit_or (level_bits level) FCR._RESERVED0.0) ∷
+    Write offsets.FCR (bit_or (level_bits level) FCR.FIFO_64_ENABLE.0) ∷
     Write offsets.LCR lcr ∷ Write offsets.FCR (level_bits level) ∷ []
 
 -- these writes, a read of ISR that shows whether the FIFOs hold 64 then, and IER as before
 abbrev pub Enabling : (lcr ier : ℕ) → FifoTriggerLevel → Bool → Language
 Enabling lcr ier level on =
     Then (Only (enabling_writes lcr level))
-    (Then (Asks offsets.ISR ISR.DMA_TX_END.0 on) (Only (Write offsets.IER ier ∷ [])))
+    (Then (Asks offsets.ISR ISR.FIFO_64_ENABLED.0 on) (Only (Write offsets.IER ier ∷ [])))
 
 -- `enable_64_byte_fifos`: nothing is done if the FIFOs are off. Else LCR and IER are read, and there is a wait for an
 -- empty transmitter. If it reaches the limit, nothing is written, and the result is a stall; else FIFOs of 64 are asked

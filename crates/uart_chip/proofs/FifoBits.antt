@@ -9,7 +9,7 @@ use Rattle.uart_chip.specs.Chip.{identification}
 -- ISR, of FIFOs that are on or off, and that a chip with the switch has made 64 or not
 abbrev pub isr_of : (on holds_64 : Bool) → Option InterruptType → ℕ
 isr_of on holds_64 pending =
-    bit_or (identification pending) (bit_or (flag on ISR.FIFOS_ENABLED.0) (flag (on && holds_64) ISR.DMA_TX_END.0))
+    bit_or (identification pending) (bit_or (flag on ISR.FIFOS_ENABLED.0) (flag (on && holds_64) ISR.FIFO_64_ENABLED.0))
 
 -- no code of an interrupt has one of these bits
 pub fifo_bits : (on holds_64 : Bool) (pending : Option InterruptType) →
@@ -37,7 +37,7 @@ any_shown on holds_64 pending = ap (λ (bits : ℕ). not (bits == 0)) (fifo_bits
 
 -- nor the bit that shows 64
 pub size_shown : (on holds_64 : Bool) (pending : Option InterruptType) →
-    has_any (isr_of on holds_64 pending) ISR.DMA_TX_END.0 ≡ (on && holds_64)
+    has_any (isr_of on holds_64 pending) ISR.FIFO_64_ENABLED.0 ≡ (on && holds_64)
 size_shown true true (Some ReceiverLineStatus) = refl
 size_shown true false (Some ReceiverLineStatus) = refl
 size_shown false _ (Some ReceiverLineStatus) = refl

@@ -223,7 +223,7 @@ is_64 _ = false
 abbrev pub fifo_flags : ChipState → ℕ
 fifo_flags c =
     let holds_64 = c.has_size_switch && is_64 c.receiver.size in
-    bit_or (flag c.fifo ISR.FIFOS_ENABLED.0) (flag (c.fifo && holds_64) ISR.DMA_TX_END.0)
+    bit_or (flag c.fifo ISR.FIFOS_ENABLED.0) (flag (c.fifo && holds_64) ISR.FIFO_64_ENABLED.0)
 
 -- ---- a read
 
@@ -297,13 +297,13 @@ set_trigger trigger c = record c { receiver = record c.receiver { trigger = trig
 
 -- the size that a write of FCR asks for, on a chip that has the switch
 abbrev pub switched_size : (fcr : ℕ) → FifoSize
-switched_size fcr = if has_any fcr FCR._RESERVED0.0 then SixtyFour else Sixteen
+switched_size fcr = if has_any fcr FCR.FIFO_64_ENABLE.0 then SixtyFour else Sixteen
 
 -- whether a write of FCR that turns the FIFO on, or leaves it on, switches its size: the chip has the switch, DLAB is
 -- set, and another size is asked for than the FIFO has
 abbrev pub is_switching : (fcr : ℕ) → ChipState → Bool
 is_switching fcr c =
-    let is_kept = is_same (is_64 c.receiver.size) (has_any fcr FCR._RESERVED0.0) in
+    let is_kept = is_same (is_64 c.receiver.size) (has_any fcr FCR.FIFO_64_ENABLE.0) in
     c.has_size_switch && (is_dlab_set c.latches && not is_kept)
 
 -- the FIFOs get the size that is asked for, which empties both; if they have it, nothing happens

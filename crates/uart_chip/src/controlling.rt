@@ -506,7 +506,7 @@ fn fifo_flags<P: ChipParts>(parts: &P) -> ISR
     let on = flag(parts.fifo(), ISR::FIFOS_ENABLED);
     if parts.has_size_switch() {
         let holds_64 = is_64(parts.receiver().size());
-        on.union(flag(parts.fifo() && holds_64, ISR::DMA_TX_END))
+        on.union(flag(parts.fifo() && holds_64, ISR::FIFO_64_ENABLED))
     } else {
         on
     }
@@ -654,7 +654,7 @@ fn switched_size(fcr: FCR) -> FifoSize
     ensures size { result ≡ spec.switched_size fcr.0 }
     ensures most { characters result ≤ characters SixtyFour }
 {
-    if fcr.intersects(FCR::_RESERVED0) {
+    if fcr.intersects(FCR::FIFO_64_ENABLE) {
         FifoSize::SixtyFour
     } else {
         FifoSize::Sixteen
@@ -667,7 +667,7 @@ fn is_switching<P: ChipParts>(parts: &P, fcr: FCR) -> bool
 {
     parts.has_size_switch()
         && is_dlab_set(parts)
-        && is_64(parts.receiver().size()) != fcr.intersects(FCR::_RESERVED0)
+        && is_64(parts.receiver().size()) != fcr.intersects(FCR::FIFO_64_ENABLE)
 }
 
 // Switches the size of the FIFOs, if the write of FCR does. That empties both.

@@ -212,8 +212,8 @@ enabling_determined : (s : Settings) (lcr ier lcr' ier' : ℕ) (level : FifoTrig
     Determined (x ≡ y) (Enabling lcr ier level x s) (Enabling lcr' ier' level y s)
 enabling_determined s lcr ier lcr' ier' level x y p q =
     determined_then (determined_only (ap (λ (n : ℕ). enabling_writes n level) p))
-    (λ t. determined_then {P = Asks offsets.ISR ISR.DMA_TX_END.0 x} {P' = Asks offsets.ISR ISR.DMA_TX_END.0 y}
-    (asks_determined offsets.ISR ISR.DMA_TX_END.0 x y)
+    (λ t. determined_then {P = Asks offsets.ISR ISR.FIFO_64_ENABLED.0 x} {P' = Asks offsets.ISR ISR.FIFO_64_ENABLED.0 y}
+    (asks_determined offsets.ISR ISR.FIFO_64_ENABLED.0 x y)
     (λ same. determined_so (λ u. same) (determined_only (ap (λ (n : ℕ). Write offsets.IER n ∷ []) q))))
 
 -- after the wait, and with it

@@ -62,14 +62,14 @@ impl<B: Backend> Uart16550<B> {
         self.write_register(offsets::IER, 0);
         // A 16750 looks at the bit only while DLAB is set, by its data sheet.
         self.write_register(offsets::LCR, opened.bits());
-        self.write_register(offsets::FCR, control.union(FCR::_RESERVED0).bits());
+        self.write_register(offsets::FCR, control.union(FCR::FIFO_64_ENABLE).bits());
         self.write_register(offsets::LCR, lcr.bits());
         // So it keeps its FIFOs of 64 here. A chip that looks at the bit always leaves them, and
         // would do so at the next call that writes FCR: bytes that were written for them would be
         // lost. The answer is what stays.
         self.write_register(offsets::FCR, control.bits());
         // IER is still 0, so this read acknowledges no interrupt.
-        let on = self.isr().contains(ISR::DMA_TX_END);
+        let on = self.isr().contains(ISR::FIFO_64_ENABLED);
         self.write_register(offsets::IER, ier.bits());
         Ok(on)
     }

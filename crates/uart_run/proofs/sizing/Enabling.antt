@@ -83,13 +83,13 @@ use Rattle.uart_run.proofs.initialising.Initialised.{ready_by}
 
 -- FCR that asks for them
 abbrev asking : FifoTriggerLevel → ℕ
-asking level = bit_or (level_bits level) FCR._RESERVED0.0
+asking level = bit_or (level_bits level) FCR.FIFO_64_ENABLE.0
 
 asking_level : (level : FifoTriggerLevel) → IsLevel (asking level)
 asking_level One = record { on = refl; keeps_received = refl; keeps_queued = refl }
 asking_level _ = record { on = refl; keeps_received = refl; keeps_queued = refl }
 
-asks : (level : FifoTriggerLevel) → has_any (asking level) FCR._RESERVED0.0 ≡ true
+asks : (level : FifoTriggerLevel) → has_any (asking level) FCR.FIFO_64_ENABLE.0 ≡ true
 asks One = refl
 asks _ = refl
 
@@ -141,13 +141,13 @@ of_64 : (size : FifoSize) → is_64 size ≡ true → size ≡ SixtyFour
 of_64 SixtyFour e = refl
 of_64 _ e = absurd (false≢true e)
 
-module _ (value : ℕ) (c : ChipState) (asks : has_any value FCR._RESERVED0.0 ≡ true) (dlab : is_dlab_set c.latches ≡ true)
+module _ (value : ℕ) (c : ChipState) (asks : has_any value FCR.FIFO_64_ENABLE.0 ≡ true) (dlab : is_dlab_set c.latches ≡ true)
     (one : c.receiver.size ≡ c.transmitter.size) where
   -- it has them already
   keeps_64 : is_64 c.receiver.size ≡ true → is_switching value c ≡ false
   keeps_64 holds = go c.has_size_switch
     where
-      go : (has : Bool) → (has && (is_dlab_set c.latches && not (is_same (is_64 c.receiver.size) (has_any value FCR._RESERVED0.0)))) ≡ false
+      go : (has : Bool) → (has && (is_dlab_set c.latches && not (is_same (is_64 c.receiver.size) (has_any value FCR.FIFO_64_ENABLE.0)))) ≡ false
       go true = rw (dlab, holds, asks) refl
       go false = refl
 
@@ -189,7 +189,7 @@ abbrev enabling_list : (lcr ier : ℕ) → FifoTriggerLevel → (isr : ℕ) → 
 enabling_list lcr ier level isr = enabling_writes lcr level ++ (Read offsets.ISR isr ∷ Write offsets.IER ier ∷ [])
 
 enabled_by : (lcr ier : ℕ) (level : FifoTriggerLevel) (on : Bool) (s : Settings) (l : List Access) → Enabling lcr ier level on s l →
-    (isr : ℕ) × (has isr ISR.DMA_TX_END.0 ≡ on) × (l ≡ enabling_list lcr ier level isr)
+    (isr : ℕ) × (has isr ISR.FIFO_64_ENABLED.0 ≡ on) × (l ≡ enabling_list lcr ier level isr)
 enabled_by lcr ier level on s l t =
     (t.second.first.answer, t.second.first.shows, rw (t.whole, t.first.is, t.second.whole, t.second.first.is, t.second.second.is) refl)
 
@@ -397,7 +397,7 @@ module _ (lcr ier isr : ℕ) (level : FifoTriggerLevel) (m n : MachineState) (w 
       Write offsets.LCR lcr ∷ Write offsets.FCR (level_bits level) ∷ []) m₅
   to_look = (m₁, path.1, (m₂, path.2.1, (m₃, path.2.2.1, (m₄, path.2.2.2.1, (m₅, path.2.2.2.2.1, refl)))))
 
-  pub is_shown : has_any isr ISR.DMA_TX_END.0 ≡ switches
+  pub is_shown : has_any isr ISR.FIFO_64_ENABLED.0 ≡ switches
   is_shown =
       let l : List Access = Write offsets.IER 0 ∷ Write offsets.LCR (opened lcr) ∷ Write offsets.FCR (asking level) ∷
       Write offsets.LCR lcr ∷ Write offsets.FCR (level_bits level) ∷ [] in
@@ -409,7 +409,7 @@ module _ (lcr ier isr : ℕ) (level : FifoTriggerLevel) (m n : MachineState) (w 
       let size : c.receiver.size ≡ asked_size switches m.chip.transmitter.size = sound.sizes ∙ ((same_size-access m₅).transmitter
       ∙ (size_left later m₃ m₅ (inr (refl, (shut, tt))) (m₄, path.2.2.2.1, (m₅, path.2.2.2.2.1, refl)) ∙ size_asked)) in
       let switch : c.has_size_switch ≡ switches = switch_access m₅ ∙ switch_path l m m₅ to_look in
-      ap (λ (v : ℕ). has_any v ISR.DMA_TX_END.0) path.2.2.2.2.2.1.1
+      ap (λ (v : ℕ). has_any v ISR.FIFO_64_ENABLED.0) path.2.2.2.2.2.1.1
       ∙ (size_shown c.fifo (shows_64 c) (interrupt c)
       ∙ (ap (λ (b : Bool). b && shows_64 c) fifo
       ∙ (ap (λ (b : Bool). b && is_64 c.receiver.size) switch

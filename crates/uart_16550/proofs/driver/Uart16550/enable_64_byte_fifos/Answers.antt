@@ -26,13 +26,13 @@ returns g c =
     let level = c.level_control_of-control.ensures ∙ ap level_bits c.fifo_level.ensures ∙ configured in
     let opened =
     c.bits.ensures tt ∙ c.union-opened.ensures tt ∙ ap (λ (n : ℕ). bit_or n LCR.DLAB.0) (c.difference.ensures tt) in
-    let asking = c.bits-2.ensures tt ∙ c.union.ensures tt ∙ ap (λ (n : ℕ). bit_or n FCR._RESERVED0.0) level in
+    let asking = c.bits-2.ensures tt ∙ c.union.ensures tt ∙ ap (λ (n : ℕ). bit_or n FCR.FIFO_64_ENABLE.0) level in
     let writes =
     made_only _ _ (made_only _ _ (made_only _ _ (made_only _ _ c.write_register.ensures
     (made_value offsets.LCR _ _ opened c.write_register-2.ensures)) (made_value offsets.FCR _ _ asking c.write_register-3.ensures))
     (made_value offsets.LCR _ _ (c.bits-3.ensures tt) c.write_register-4.ensures))
     (made_value offsets.FCR _ _ (c.bits-4.ensures tt ∙ level) c.write_register-5.ensures) in
-    let asked = made_asks offsets.ISR _ ISR.DMA_TX_END.0 _ c.isr.ensures (sym (c.contains-on.ensures tt)) in
+    let asked = made_asks offsets.ISR _ ISR.FIFO_64_ENABLED.0 _ c.isr.ensures (sym (c.contains-on.ensures tt)) in
     let restored = made_value offsets.IER _ _ (c.bits-5.ensures tt) c.write_register-6.ensures in
     let all = did_made (made_then begun (made_then writes (made_then asked restored))) in
     record { list = all.list; path = all.path; does = (c.if-not-self.false, _, _, all.does) }
