@@ -631,8 +631,8 @@ fn control<P: ChipParts>(parts: &mut P, value: FCR)
 }
 
 // Without the enable bit nothing but the switch is done: a chip whose FIFOs are off ignores the
-// resets, and keeps their size. Neither the character in the shift register nor the overrun flag
-// changes. The trigger level survives when the FIFOs are switched off.
+// resets. Neither the character in the shift register nor the overrun flag changes. The trigger
+// level survives when the FIFOs are switched off, and so does their size.
 fn set_fifo<P: ChipParts>(parts: &mut P, value: FCR)
     ensures after { P.state parts.new ≡ spec.set_fifo value.0 (P.state parts.old) }
     ensures canonical { P.canonical parts.old → P.canonical parts.new }
