@@ -35,7 +35,8 @@ pub data Says (place : Place) (line : List ℕ) (said : Saying) : Type 0 where
   blank : line ≡ [] → said ≡ Nothing → Says place line said
   printable : has_bad_byte line ≡ false → Means place (words_of line) said → Says place line said
 
--- the meanings of the lines, in order; the first line has this number, and line 2 of the script is limited or not
+-- the meanings of the lines, in order; the first line has this number, and `limited` says whether line 2 of the script
+-- starts with `limit`
 abbrev pub SayInOrder : (limited : Bool) → ℕ → List (List ℕ) → List Saying → Type 0
 SayInOrder limited number [] [] = Unit {0}
 SayInOrder limited number [] (said ∷ sayings) = ⊥

@@ -291,9 +291,8 @@ fn print_stray(file: &str, name: &str, line: &str, format: Format<'_>) -> Result
     Err(End::told(Status::Refused))
 }
 
-/// Verifies the trace of this name, as one of a driver with this limit that takes the FIFOs for this size, and prints where it strays.
-/// Messages have the name of the file
-/// in front if there are several.
+/// Verifies the trace of this name, and prints where it strays. It is of a driver with this limit, which takes the FIFOs to be of this
+/// size. Messages have the name of the file in front if there are several.
 ///
 /// # Errors
 ///
