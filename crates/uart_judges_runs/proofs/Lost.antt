@@ -1,6 +1,6 @@
 -- Each finding that says that a byte is lost names an access that loses it.
 use Rattle.std.proofs.Common.{◌≡◌, ◌≤◌, ◌<◌, ℕ, ◌+◌, ◌-◌, ◌^◌, Bool, true, false, not, ◌&&◌, ◌||◌, ◌==◌, List, [], ◌∷◌, length, min, nat_lt}
-use Rattle.std.proofs.Common.{Option, Some, None, refl, sym, ◌∙◌, ap, subst, arith, if◌then◌else◌}
+use Rattle.std.proofs.Common.{◌++◌, inl, inr, Option, Some, None, refl, sym, ◌∙◌, ap, subst, arith, if◌then◌else◌}
 use Rattle.std.specs.Prelude.{nat_le}
 use Rattle.std.proofs.lemmas.Grind.{common_steps}
 use Rattle.std.proofs.lemmas.Bool.{and_parts, leb-true}
@@ -9,21 +9,23 @@ use Rattle.uart_spec.specs.declared.access.Access.TheVariants.{Read, Write}
 use Rattle.uart_spec.specs.declared.registers.fifo_control.FCR.{FCR}
 use Rattle.uart_spec.specs.declared.registers.fifo_control.TheConstants.FCR as fcr_bits
 use Rattle.uart_spec.specs.declared.registers.offsets.TheConstants as offsets
-use Rattle.uart_events.specs.declared.event.Chip.TheVariants.{Uart16550A}
+use Rattle.uart_events.specs.declared.event.Chip.{Chip}
+use Rattle.uart_events.specs.declared.event.Chip.TheVariants.{Uart16550A, Uart16450}
 use Rattle.uart_spec.specs.declared.registers.line_status.LSR.{LSR}
 use Rattle.uart_spec.specs.declared.registers.modem_control.MCR.{MCR}
 use Rattle.uart_spec.specs.declared.registers.interrupt_type.InterruptType.{InterruptType}
 use Rattle.uart_spec.specs.declared.registers.interrupt_type.InterruptType.TheVariants.{ReceptionTimeout}
-use Rattle.uart_chip.specs.Chip.{ChipState, cut_of, is_dlab_set, is_loopback, is_held_off}
+use Rattle.uart_chip.specs.Chip.{ChipState, cut_of, is_dlab_set, is_loopback, is_held_off, is_switching}
 use Rattle.uart_chip.specs.Machine.{MachineState, MachineStep, at_access}
+use Rattle.uart_chip.specs.Switching.{lcr_after, may_switch, NeverSwitches}
 use Rattle.uart_chip.specs.Sound.{IsSound}
 use Rattle.uart_spec.specs.declared.setup.FifoSize.TheVariants.{Sixteen}
 use Rattle.uart_chip.specs.Transmitter.{TransmitterState, load, room as room_of}
-use Rattle.uart_chip.proofs.Switching.{lacking-keeps}
-use Rattle.uart_chip.proofs.lasting.FifoSizes.{same_size-lacking, switch-step}
+use Rattle.uart_chip.proofs.Switching.{closed-keeps, lacking-keeps}
+use Rattle.uart_chip.proofs.lasting.FifoSizes.{same_size, same_size-lacking, switch-step}
 use Rattle.uart_chip.proofs.lasting.Lasting.{LastsInEvents, chip_lasts-before}
 use Rattle.uart_chip.proofs.soundness.Sounds.{size-tick, sound_access, sound_step}
-use Rattle.uart_run.proofs.Latches.{Kept, kept_access}
+use Rattle.uart_run.proofs.Latches.{Kept, kept_in, keep, keep_control, kept_access, kept_step}
 use Rattle.uart_judges.specs.Setups.{next_is_open}
 use Rattle.uart_judges.specs.Actions.{action, read_action, write_action}
 use Rattle.uart_judges.specs.Findings.{all_found, change, changed, closed, closes, cuts, discard, findings_at, from_nothing}
@@ -47,10 +49,10 @@ use Rattle.uart_judges.specs.declared.recording.entry.Entry.{Entry}
 use Rattle.uart_judges.specs.declared.recording.entry.Happening.{Happening}
 use Rattle.uart_judges.specs.declared.recording.entry.Happening.TheVariants.{Access, Arrive, Interrupt, Lines}
 use Rattle.uart_judges_runs.specs.Lost.{AllLose, Follows, IsDropped, IsNextArrival, IsRight, IsSo, KnowsDlab, KnowsWhatIs, Loses, LosesIf}
-use Rattle.uart_judges_runs.specs.Lost.{left_after, left_at}
-use Rattle.uart_judges_runs.specs.Recorded.{is_of_calls}
+use Rattle.uart_judges_runs.specs.Lost.{LeaveSize, left_after, left_at}
+use Rattle.uart_judges_runs.specs.Recorded.{access_in, accesses_in, is_of_calls}
 use Rattle.uart_judges_runs.proofs.Arrived.{after_arrival, lasts_events, sound_arrival}
-use Rattle.uart_judges_runs.proofs.Does.{Does, alike_refl, does_read, does_write, no_write_looks, off_at_look}
+use Rattle.uart_judges_runs.proofs.Does.{Does, alike_refl, by_offset, does_read, does_write, no_write_looks, off_at_look}
 use Rattle.uart_judges_runs.proofs.Knows.{IsLooping, IsOffAtLook, IsSent, after_all, after_dlab, is_cleared}
 use Rattle.uart_judges_runs.proofs.Spared.{Spared, all_others}
 use Rattle.uart_judges_runs.proofs.Waits.{at_the_access}
@@ -455,43 +457,94 @@ holds_16 = record {
   in_lines = λ inputs c e. e;
 }
 
--- and keeps it, since the chip has no switch of it
-abbrev pub Keeps16 : ChipState → Type 0
-Keeps16 c = Holds16 c × (c.has_size_switch ≡ false)
+step_16 : (m n : MachineState) (access : RegisterAccess) (rest : List RegisterAccess) → LeaveSize m (access ∷ rest) → Holds16 m.chip →
+    MachineStep m access n → Holds16 n.chip
+step_16 m n access rest (inl lacks) e step = (same_size-lacking (access ∷ []) m n lacks (n, step, refl)).transmitter ∙ e
+step_16 m n access rest (inr never) e step = (same_size (access ∷ []) m n (never.0, tt) (n, step, refl)).transmitter ∙ e
 
-keeps_16 : LastsInEvents Keeps16
-keeps_16 = record {
-  in_tick = λ c e. (holds_16.in_tick c e.0, e.1);
-  in_arrival = λ byte errors c e. e;
-  in_lines = λ inputs c e. e;
-}
-
-step_16 : (m n : MachineState) (access : RegisterAccess) → Keeps16 m.chip → MachineStep m access n → Keeps16 n.chip
-step_16 m n access e step =
-    ((same_size-lacking (access ∷ []) m n e.1 (n, step, refl)).transmitter ∙ e.0, switch-step m n access step ∙ e.1)
-
-arrival_16 : (byte errors : ℕ) (m n : MachineState) → IsNextArrival byte errors m n → Keeps16 m.chip → Keeps16 n.chip
+arrival_16 : (byte errors : ℕ) (m n : MachineState) → IsNextArrival byte errors m n → Holds16 m.chip → Holds16 n.chip
 arrival_16 byte errors m n a e =
-    subst Keeps16 (sym a.chip) (lasts_events Keeps16 keeps_16 a.before m.chip e)
+    subst Holds16 (sym a.chip) (lasts_events Holds16 holds_16 a.before m.chip e)
+
+-- ---- the size stays at the entries to come
+
+-- LCR after an access
+lcr_kept : (access : RegisterAccess) (k : Kept) → (keep access k).latches.lcr ≡ lcr_after access k.latches.lcr
+lcr_kept (Read offset answer) k = refl
+lcr_kept (Write offset value) k =
+    by_offset (λ n. (keep (Write n value) k).latches.lcr ≡ lcr_after (Write n value) k.latches.lcr)
+    (either (is_dlab_set k.latches) _ _ refl refl)
+    (either (is_dlab_set k.latches) _ _ refl refl) (controlled_lcr k.model) refl refl refl refl
+    (λ n b. rw (b.not_data, b.not_ier, b.not_isr, b.not_lcr, b.not_mcr) (either (n == offsets.SPR) _ _ refl refl)) offset
+  where
+    either : (b : Bool) (x y : Kept) → x.latches.lcr ≡ k.latches.lcr → y.latches.lcr ≡ k.latches.lcr →
+        (if b then x else y).latches.lcr ≡ k.latches.lcr
+    either true x y p q = p
+    either false x y p q = q
+
+    controlled_lcr : (model : Chip) → (keep_control model value k).latches.lcr ≡ k.latches.lcr
+    controlled_lcr Uart16450 = refl
+    controlled_lcr Uart16550A = refl
+
+leave_step : (m n : MachineState) (access : RegisterAccess) (rest : List RegisterAccess) → LeaveSize m (access ∷ rest) →
+    MachineStep m access n → LeaveSize n rest
+leave_step m n access rest (inl lacks) step = inl (switch-step m n access step ∙ lacks)
+leave_step m n access rest (inr never) step =
+    let same = ap (λ (k : Kept). k.latches.lcr) (kept_step access m n step) ∙ lcr_kept access (kept_in m.chip) in
+    inr (subst (λ (lcr : ℕ). NeverSwitches lcr rest) (sym same) never.1)
+
+-- what no event changes
+abbrev LcrAnd : (lcr : ℕ) → (has_switch : Bool) → ChipState → Type 0
+LcrAnd lcr has_switch c = (c.latches.lcr ≡ lcr) × (c.has_size_switch ≡ has_switch)
+
+lcr_lasts : (lcr : ℕ) (has_switch : Bool) → LastsInEvents (LcrAnd lcr has_switch)
+lcr_lasts lcr has_switch = record { in_tick = λ c e. e; in_arrival = λ byte errors c e. e; in_lines = λ inputs c e. e }
+
+leave_arrival : (byte errors : ℕ) (m n : MachineState) (rest : List RegisterAccess) → IsNextArrival byte errors m n → LeaveSize m rest →
+    LeaveSize n rest
+leave_arrival byte errors m n rest a leave = go leave
+  where
+    same : LcrAnd m.chip.latches.lcr m.chip.has_size_switch n.chip
+    same =
+        let S : ChipState → Type 0 = LcrAnd m.chip.latches.lcr m.chip.has_size_switch in
+        subst S (sym a.chip) (lasts_events S (lcr_lasts m.chip.latches.lcr m.chip.has_size_switch) a.before m.chip (refl, refl))
+
+    go : LeaveSize m rest → LeaveSize n rest
+    go (inl lacks) = inl (same.1 ∙ lacks)
+    go (inr never) = inr (subst (λ (lcr : ℕ). NeverSwitches lcr rest) (sym same.0) never)
+
+-- a write of FCR switches nothing
+none_switched : (m : MachineState) (offset value : ℕ) (rest : List RegisterAccess) → LeaveSize m (Write offset value ∷ rest) →
+    offset ≡ offsets.FCR → is_switching value (at_access m).chip ≡ false
+none_switched m offset value rest (inl lacks) e =
+    let same = (chip_lasts-before (LcrAnd m.chip.latches.lcr m.chip.has_size_switch)
+    (lcr_lasts m.chip.latches.lcr m.chip.has_size_switch) m.ahead m.chip (refl, refl)).1 in
+    lacking-keeps value (at_access m).chip (same ∙ lacks)
+none_switched m offset value rest (inr never) e =
+    let closed : may_switch m.chip.latches.lcr (Write offsets.FCR value) ≡ false = rw e at never.0 in
+    closed-keeps value (at_access m).chip (ap (λ (k : Kept). is_dlab_set k.latches) (kept_access m) ∙ closed)
 
 -- what an entry shows: what it says is lost is, and what the judge knows after it is so
-record Shown (past : List Entry) (left : ℕ) (m : MachineState) (e : Entry) (n : MachineState) : Type 0 where
+record Shown (past : List Entry) (left : ℕ) (m : MachineState) (e : Entry) (n : MachineState) (rest : List RegisterAccess) :
+    Type 0 where
   pub lost : AllLose (findings_at e past) (known past) (left_at e.happening left m n) (at_access m).chip n
   pub sound : IsSound n
-  pub of_16 : Keeps16 n.chip
+  pub of_16 : Holds16 n.chip
+  pub leave : LeaveSize n rest
   pub knows : KnowsWhatIs (known (e ∷ past)) (left_after past e left m n) n.chip
 
-fits_in : (m : MachineState) → IsSound m → Keeps16 m.chip → Fits (at_access m).chip
+fits_in : (m : MachineState) → IsSound m → Holds16 m.chip → Fits (at_access m).chip
 fits_in m sound of_16 =
     let w = (sound_access m sound).chip in
-    let same : Holds16 (at_access m).chip = chip_lasts-before Holds16 holds_16 m.ahead m.chip of_16.0 in
+    let same : Holds16 (at_access m).chip = chip_lasts-before Holds16 holds_16 m.ahead m.chip of_16 in
     (same, rw same at w.transmitter.in_room)
 
-made : (past : List Entry) (left : ℕ) (m : MachineState) (e : Entry) (n : MachineState) (access : RegisterAccess) (x : Action) →
-    e.happening ≡ Access access → IsSound m → Keeps16 m.chip → KnowsWhatIs (known past) left m.chip → MachineStep m access n →
+made : (past : List Entry) (left : ℕ) (m : MachineState) (e : Entry) (n : MachineState) (rest : List RegisterAccess)
+    (access : RegisterAccess) (x : Action) → e.happening ≡ Access access → IsSound m → Holds16 m.chip → LeaveSize m (access ∷ rest) →
+    KnowsWhatIs (known past) left m.chip → MachineStep m access n →
     (step_from (known past) e).action ≡ x → Does x (at_access m).chip n.chip →
-    IsOffAtLook (known past).setup.is_open x (at_access m).chip → Shown past left m e n
-made past left m e n access x is sound of_16 k step does h off =
+    IsOffAtLook (known past).setup.is_open x (at_access m).chip → Shown past left m e n rest
+made past left m e n rest access x is sound of_16 leave k step does h off =
     let a = known past in
     let s = step_from a e in
     let now = left + (length m.chip.transmitter.queue - length (at_access m).chip.transmitter.queue) in
@@ -502,7 +555,8 @@ made past left m e n access x is sound of_16 k step does h off =
           subst (λ (left : ℕ). AllLose (findings_at e past) (known past) left (at_access m).chip n) (sym same)
           (lost_at a now (at_access m).chip n s x does refl here (fits_in m sound of_16) h);
       sound = sound_step m n access sound step;
-      of_16 = step_16 m n access of_16 step;
+      of_16 = step_16 m n access rest leave of_16 step;
+      leave = leave_step m n access rest leave step;
       knows =
           subst (λ (now : ℕ). KnowsWhatIs (known (e ∷ past)) (if shows_room s then 0 else now) n.chip) (sym same)
           (after_all a now (at_access m).chip n.chip s x does refl h off here);
@@ -517,29 +571,32 @@ not_looking (ChangesLines inputs) q e = absurd (cc)
 not_looking (Arrives byte errors) q e = absurd (cc)
 not_looking _ q e = absurd q
 
-passed : (past : List Entry) (left : ℕ) (m : MachineState) (e : Entry) (n : MachineState) (x : Action) (h : Happening) → e.happening ≡ h →
-    IsSound m → Keeps16 m.chip → KnowsWhatIs (known past) left m.chip → n ≡ m → (step_from (known past) e).action ≡ x → IsNoAccess x →
+passed : (past : List Entry) (left : ℕ) (m : MachineState) (e : Entry) (n : MachineState) (rest : List RegisterAccess) (x : Action)
+    (h : Happening) → e.happening ≡ h → IsSound m → Holds16 m.chip → LeaveSize m rest → KnowsWhatIs (known past) left m.chip → n ≡ m →
+    (step_from (known past) e).action ≡ x → IsNoAccess x →
     left_at h left m m ≡ left →
-    Does x m.chip m.chip → Shown past left m e n
-passed past left m e n x h is sound of_16 k step does quiet still none =
+    Does x m.chip m.chip → Shown past left m e n rest
+passed past left m e n rest x h is sound of_16 leave k step does quiet still none =
     let a = known past in
     let s = step_from a e in
     let same : left_at e.happening left m m ≡ left = ap (λ (h : Happening). left_at h left m m) is ∙ still in
     record {
       lost = quiet_lost a (left_at e.happening left m n) (at_access m).chip n s x does quiet;
       sound = subst IsSound (sym step) sound;
-      of_16 = subst (λ (n : MachineState). Keeps16 n.chip) (sym step) of_16;
+      of_16 = subst (λ (n : MachineState). Holds16 n.chip) (sym step) of_16;
+      leave = subst (λ (n : MachineState). LeaveSize n rest) (sym step) leave;
       knows =
           subst (λ (n : MachineState). KnowsWhatIs (known (e ∷ past)) (left_after past e left m n) n.chip) (sym step)
           (subst (λ (now : ℕ). KnowsWhatIs (known (e ∷ past)) (if shows_room s then 0 else now) m.chip) (sym same)
           (after_all a left m.chip m.chip s x does refl none (λ o looks. absurd (not_looking x quiet looks)) k));
     }
 
-arrived : (past : List Entry) (left : ℕ) (m : MachineState) (e : Entry) (n : MachineState) (byte : ℕ) (errors : LSR) →
-    e.happening ≡ Arrive byte errors → IsSound m → Keeps16 m.chip → KnowsWhatIs (known past) left m.chip →
+arrived : (past : List Entry) (left : ℕ) (m : MachineState) (e : Entry) (n : MachineState) (rest : List RegisterAccess) (byte : ℕ)
+    (errors : LSR) → e.happening ≡ Arrive byte errors → IsSound m → Holds16 m.chip → LeaveSize m rest →
+    KnowsWhatIs (known past) left m.chip →
     IsNextArrival byte errors.0 m n →
-    Shown past left m e n
-arrived past left m e n byte errors is sound of_16 k next_one =
+    Shown past left m e n rest
+arrived past left m e n rest byte errors is sound of_16 leave k next_one =
     let a = known past in
     let s = step_from a e in
     let does : s.action ≡ Arrives byte errors = ap (action a.setup.is_open) is in
@@ -549,43 +606,46 @@ arrived past left m e n byte errors is sound of_16 k next_one =
       lost = quiet_lost a (left_at e.happening left m n) (at_access m).chip n s (Arrives byte errors) does tt;
       sound = sound_arrival byte errors.0 m n next_one sound;
       of_16 = arrival_16 byte errors.0 m n next_one of_16;
+      leave = leave_arrival byte errors.0 m n rest next_one leave;
       knows =
           subst (λ (now : ℕ). KnowsWhatIs (known (e ∷ past)) (if shows_room s then 0 else now) n.chip) (sym same)
           (after_arrival a left m n s byte errors does refl sound k next_one);
     }
 
-entry : (past : List Entry) (left : ℕ) (m : MachineState) (e : Entry) (n : MachineState) (h : Happening) → e.happening ≡ h → IsSound m →
-    Keeps16 m.chip → KnowsWhatIs (known past) left m.chip → Follows (known past) h m n → Shown past left m e n
-entry past left m e n (Access (Read offset value)) is sound of_16 k made_so =
+entry : (past : List Entry) (left : ℕ) (m : MachineState) (e : Entry) (n : MachineState) (rest : List RegisterAccess) (h : Happening) →
+    e.happening ≡ h → IsSound m → Holds16 m.chip → LeaveSize m (access_in h ++ rest) → KnowsWhatIs (known past) left m.chip →
+    Follows (known past) h m n → Shown past left m e n rest
+entry past left m e n rest (Access (Read offset value)) is sound of_16 leave k made_so =
     let o = (known past).setup.is_open in
-    made past left m e n (Read offset value) (read_action o offset value) is sound of_16 k made_so.step (ap (action o) is)
+    made past left m e n rest (Read offset value) (read_action o offset value) is sound of_16 leave k made_so.step (ap (action o) is)
     (subst (λ (d : ChipState). Does (read_action o offset value) (at_access m).chip d)
     (ap (λ (m : MachineState). m.chip) (sym made_so.step.0))
     (does_read (at_access m).chip offset value o (at_the_access (known past) left m sound k).dlab made_so.step.1))
     (λ none looks. same_dlab m ∙ off_at_look o offset value m.chip made_so.off none looks)
-entry past left m e n (Access (Write offset value)) is sound of_16 k made_so =
+entry past left m e n rest (Access (Write offset value)) is sound of_16 leave k made_so =
     let o = (known past).setup.is_open in
-    let lacks = (chip_lasts-before Keeps16 keeps_16 m.ahead m.chip of_16).1 in
-    made past left m e n (Write offset value) (write_action o offset value) is sound of_16 k made_so.step (ap (action o) is)
+    made past left m e n rest (Write offset value) (write_action o offset value) is sound of_16 leave k made_so.step (ap (action o) is)
     (subst (λ (d : ChipState). Does (write_action o offset value) (at_access m).chip d)
     (ap (λ (m : MachineState). m.chip) (sym made_so.step))
     (does_write (at_access m).chip offset value o (at_the_access (known past) left m sound k).dlab
-    (at_the_access (known past) left m sound k).model (λ _. lacking-keeps value (at_access m).chip lacks)))
+    (at_the_access (known past) left m sound k).model (none_switched m offset value rest leave)))
     (λ none looks. absurd (let e : false ≡ true = sym (no_write_looks o offset value) ∙ looks in cc))
-entry past left m e n (Arrive byte errors) is sound of_16 k step = arrived past left m e n byte errors is sound of_16 k step
-entry past left m e n (Interrupt is_raised) is sound of_16 k step =
-    passed past left m e n Other (Interrupt is_raised) is sound of_16 k step (ap (action (known past).setup.is_open) is) tt refl
+entry past left m e n rest (Arrive byte errors) is sound of_16 leave k step =
+    arrived past left m e n rest byte errors is sound of_16 leave k step
+entry past left m e n rest (Interrupt is_raised) is sound of_16 leave k step =
+    passed past left m e n rest Other (Interrupt is_raised) is sound of_16 leave k step (ap (action (known past).setup.is_open) is) tt refl
     (alike_refl m.chip, tt)
-entry past left m e n (Lines inputs) is sound of_16 k step =
-    passed past left m e n (ChangesLines inputs) (Lines inputs) is sound of_16 k step (ap (action (known past).setup.is_open) is) tt refl
+entry past left m e n rest (Lines inputs) is sound of_16 leave k step =
+    passed past left m e n rest (ChangesLines inputs) (Lines inputs) is sound of_16 leave k step
+    (ap (action (known past).setup.is_open) is) tt refl
     (alike_refl m.chip, tt)
 
-pub right : (past entries : List Entry) (left : ℕ) (m : MachineState) → IsSound m → Keeps16 m.chip →
-    KnowsWhatIs (known past) left m.chip → IsRight past left m entries
-right past [] left m sound of_16 k = tt
-right past (e ∷ entries) left m sound of_16 k = λ n follows.
-    let shown = entry past left m e n e.happening refl sound of_16 k follows in
-    (shown.lost, right (e ∷ past) entries (left_after past e left m n) n shown.sound shown.of_16 shown.knows)
+pub right : (past entries : List Entry) (left : ℕ) (m : MachineState) → IsSound m → Holds16 m.chip →
+    LeaveSize m (accesses_in entries) → KnowsWhatIs (known past) left m.chip → IsRight past left m entries
+right past [] left m sound of_16 leave k = tt
+right past (e ∷ entries) left m sound of_16 leave k = λ n follows.
+    let shown = entry past left m e n (accesses_in entries) e.happening refl sound of_16 leave k follows in
+    (shown.lost, right (e ∷ past) entries (left_after past e left m n) n shown.sound shown.of_16 shown.leave shown.knows)
 
 -- ---- the first entry
 

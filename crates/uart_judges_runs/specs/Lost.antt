@@ -1,5 +1,5 @@
 -- What the warnings that say that a byte is lost mean on the software chip.
-use Rattle.std.specs.Prelude.{◌≡◌, ◌≤◌, ℕ, ◌+◌, ◌-◌, ◌^◌, ◌==◌, Bool, true, false, List, [], ◌∷◌, length, min}
+use Rattle.std.specs.Prelude.{◌≡◌, ◌⊎◌, ◌≤◌, ℕ, ◌+◌, ◌-◌, ◌^◌, ◌==◌, Bool, true, false, List, [], ◌∷◌, length, min}
 use Rattle.std.specs.Prelude.{◌++◌, Option, Some, None, if◌then◌else◌}
 use Rattle.std.specs.List.{AllByRecursion}
 use Rattle.uart_spec.specs.Access.{Path}
@@ -13,6 +13,7 @@ use Rattle.uart_events.specs.declared.event.Event.{Event as ScheduleEvent}
 use Rattle.uart_events.specs.declared.event.Event.TheVariants as scheduled
 use Rattle.uart_chip.specs.Chip.{ChipState, arrive, is_dlab_set, is_loopback}
 use Rattle.uart_chip.specs.Machine.{MachineState, MachineStep, at_access, perform}
+use Rattle.uart_chip.specs.Switching.{NeverSwitches}
 use Rattle.uart_spec.specs.declared.setup.FifoSize.TheVariants.{Sixteen}
 use Rattle.uart_chip.specs.Transmitter.{room}
 use Rattle.uart_judges.specs.Findings.{findings_at}
@@ -48,6 +49,13 @@ pub record KnowsWhatIs (a : Auditor) (left : ℕ) (c : ChipState) : Type 0 where
 pub record KnowsDlab (a : Auditor) (left : ℕ) (c : ChipState) : Type 0 where
   pub knows : KnowsWhatIs a left c
   pub dlab : a.setup.is_open ≡ Some (is_dlab_set c.latches)
+
+-- The judge takes FIFOs for 16, and sees no switch of their size.
+
+-- these accesses leave the size of the FIFOs as it is: the chip has no switch of it, or none of them writes FCR while
+-- DLAB is set
+abbrev pub LeaveSize : MachineState → List RegisterAccess → Type 0
+LeaveSize m accesses = (m.chip.has_size_switch ≡ false) ⊎ NeverSwitches m.chip.latches.lcr accesses
 
 -- ---- what a finding says
 

@@ -27,7 +27,7 @@ ghost use Rattle.uart_judges_runs.specs.Calls.{IsSteady, AreTaken, KnowsAsTaken}
 ghost use Rattle.uart_judges_runs.specs.Causes.{AreShownFor, AsksFor, Causes, Fits, GivesOnly};
 ghost use Rattle.uart_judges_runs.specs.Causes.{IsConfiguredFor, IsSetUpFor, KnowsFor, cause_some};
 ghost use Rattle.uart_judges_runs.specs.Causes.{is_unfounded, is_warning};
-ghost use Rattle.uart_judges_runs.specs.Lost.{IsRight, KnowsDlab, KnowsWhatIs};
+ghost use Rattle.uart_judges_runs.specs.Lost.{IsRight, KnowsDlab, KnowsWhatIs, LeaveSize};
 ghost use Rattle.uart_judges_runs.specs.Recorded.{HasNone, accesses_in, is_of_calls};
 ghost use Rattle.uart_judges_runs.specs.Runs.{IsOpenTo, IsSession};
 ghost use Rattle.uart_calls.specs.Lists.{IsListOf};
@@ -106,11 +106,11 @@ pub fn nothing_is_known_at_first()
 
 /// Of a recording of the software chip, a 16550A with FIFOs of 16 under any schedule, made by any
 /// driver: each finding that says that a byte is lost names an access that loses it on the chip.
-/// What the judge knows at the beginning is to be so. The chip has no switch of a 16750: the judge
-/// takes FIFOs for 16, and knows of none that a driver makes larger.
+/// What the judge knows at the beginning is to be so. No access of the recording switches the size
+/// of the FIFOs, as on a 16750: the judge takes them for 16.
 pub fn lost_bytes_are_lost()
     ensures { (past entries : List Entry) (left : ℕ) (machine : MachineState) → IsSound machine →
-        machine.chip.transmitter.size ≡ Sixteen → machine.chip.has_size_switch ≡ false →
+        machine.chip.transmitter.size ≡ Sixteen → LeaveSize machine (accesses_in entries) →
         KnowsWhatIs (known past) left machine.chip → IsRight past left machine entries }
 {}
 

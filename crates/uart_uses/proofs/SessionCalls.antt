@@ -8,7 +8,7 @@ use Rattle.uart_events.specs.declared.call.Call.{Call}
 use Rattle.uart_events.specs.declared.call.Call.TheVariants as call
 use Rattle.uart_events.specs.declared.call.Answer.{Answer}
 use Rattle.uart_events.specs.declared.call.Answer.TheVariants.{Done}
-use Rattle.uart_run.specs.Ready.{Ready, BurstsFit, ComesTo}
+use Rattle.uart_run.specs.Ready.{Ready, BurstsFit, KeepsSize, ComesTo}
 use Rattle.uart_run.specs.Chains.{calls_of, answers_of}
 use Rattle.uart_run.specs.Run.{State, Link, Chain}
 use Rattle.uart_run.specs.Session.{IsWithinSession, AllWithinSession, Conserves, Ran, AllFollow}
@@ -35,7 +35,8 @@ initialised_by s t config answers other (link ∷ []) calls same follows chain f
     let answered : link.answer ≡ Done = subst (λ (all : List Answer). get_or all 0 other ≡ Done) (sym same) done in
     let comes = subst (λ (c : Call). ComesTo link.before c link.answer link.after) is_init follows.0.comes_to in
     let begins : BurstsFit link.before = subst BurstsFit (sym chain.0) fits in
-    subst Ready (sym chain.2) ((comes.leaves answered).ready (follows.0.fits begins))
+    let keeps = subst (λ (c : Call). KeepsSize link.before c) (sym is_init) tt in
+    subst Ready (sym chain.2) ((comes.leaves answered).ready (follows.0.fits keeps begins))
 initialised_by s t config answers other (link ∷ next ∷ links) calls same follows chain fits done = absurd (cc (calls))
 
 pub initialises_one : (s t : State) (config : Config) (answers : List Answer) (other : Answer) →
