@@ -147,7 +147,8 @@ module _ (value : ℕ) (c : ChipState) (asks : has_any value FCR.FIFO_64_ENABLE.
   keeps_64 : is_64 c.receiver.size ≡ true → is_switching value c ≡ false
   keeps_64 holds = go c.has_size_switch
     where
-      go : (has : Bool) → (has && (is_dlab_set c.latches && not (is_same (is_64 c.receiver.size) (has_any value FCR.FIFO_64_ENABLE.0)))) ≡ false
+      go : (has : Bool) →
+          (has && (is_dlab_set c.latches && not (is_same (is_64 c.receiver.size) (has_any value FCR.FIFO_64_ENABLE.0)))) ≡ false
       go true = rw (dlab, holds, asks) refl
       go false = refl
 
