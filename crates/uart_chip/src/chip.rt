@@ -563,7 +563,7 @@ impl Uart<HeapFifo<u8>, HeapWire, HeapFifo<Character>, Marks, ChosenCapabilities
     }
 
     /// Returns a 16750 after power-on: a 16550A with automatic flow control and FIFOs of 16, which
-    /// its size switch makes 64. All memory is as in [`Uart::new`], and a switch allocates none.
+    /// its size switch makes 64. Allocates all of its memory: a switch needs none.
     ///
     /// # Errors
     ///

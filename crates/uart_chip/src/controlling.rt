@@ -499,13 +499,17 @@ fn is_64(size: FifoSize) -> bool
     matches!(size, FifoSize::SixtyFour)
 }
 
-// Returns what ISR shows of the FIFOs.
-// Only a chip that has the size switch shows the size: bit 5 of a 16550A is 0.
+// Returns what ISR shows of the FIFOs. Bit 5 of a chip without the size switch is 0.
 fn fifo_flags<P: ChipParts>(parts: &P) -> ISR
     ensures { result.0 ≡ spec.fifo_flags (P.state parts.now) }
 {
-    let holds_64 = parts.has_size_switch() && is_64(parts.receiver().size());
-    flag(parts.fifo(), ISR::FIFOS_ENABLED).union(flag(parts.fifo() && holds_64, ISR::DMA_TX_END))
+    let on = flag(parts.fifo(), ISR::FIFOS_ENABLED);
+    if parts.has_size_switch() {
+        let holds_64 = is_64(parts.receiver().size());
+        on.union(flag(parts.fifo() && holds_64, ISR::DMA_TX_END))
+    } else {
+        on
+    }
 }
 
 // Reads ISR. A read that shows `THR_EMPTY` acknowledges it.
@@ -627,8 +631,8 @@ fn control<P: ChipParts>(parts: &mut P, value: FCR)
 }
 
 // Without the enable bit nothing but the switch is done: a chip whose FIFOs are off ignores the
-// resets, and keeps their size. Neither the character in the shift register nor the overrun flag
-// changes. The trigger level survives when the FIFOs are switched off.
+// resets. Neither the character in the shift register nor the overrun flag changes. The trigger
+// level survives when the FIFOs are switched off, and so does their size.
 fn set_fifo<P: ChipParts>(parts: &mut P, value: FCR)
     ensures after { P.state parts.new ≡ spec.set_fifo value.0 (P.state parts.old) }
     ensures canonical { P.canonical parts.old → P.canonical parts.new }

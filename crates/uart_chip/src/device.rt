@@ -158,8 +158,8 @@ impl Device16550 {
     /// Both FIFOs have room for as many characters, and the four trigger levels are those of a chip
     /// with FIFOs of this size. A 16450 has no FIFO, so the size changes nothing that it does.
     ///
-    /// The size is that from the start, and no access changes it. [`Device16550::new_16750`] makes
-    /// a chip that begins with FIFOs of 16, and switches them to 64.
+    /// The size is that from the start, and no access changes it. A chip of
+    /// [`Device16550::new_16750`] begins with 16, and a program can switch it to 64.
     ///
     /// # Errors
     ///

@@ -167,6 +167,11 @@ fn make_sized_device(alloc: Global, schedule: Vec<Event>) -> Outcome {
     check(built, 0xff)
 }
 
+fn make_16750(alloc: Global, schedule: Vec<Event>) -> Outcome {
+    let built = Device16550::new_16750(alloc, 4, 64, schedule, false);
+    check(built, 0xff)
+}
+
 // A driver whose spin limit was set, and that has saved errors.
 fn used_driver() -> Uart16550<Replay<'static>> {
     let mut uart = Uart16550::new_with_backend(Replay::new(&[0x1e, 0x60, 0x0f]));
@@ -258,6 +263,7 @@ fn main(rt: HostRuntime) -> io::Result<ExitCode> {
     let schedule = events(alloc)?;
     let schedule_to_cut = events(alloc)?;
     let schedule_of_sized = events(alloc)?;
+    let schedule_of_16750 = events(alloc)?;
     if allocate(alloc, before).is_err() {
         println!(rt; "refused before the calls")?;
         return Ok(ExitCode::FAILURE);
@@ -268,6 +274,7 @@ fn main(rt: HostRuntime) -> io::Result<ExitCode> {
         ("new", make_device(alloc, schedule)),
         ("new_cut", make_cutting_device(alloc, schedule_to_cut)),
         ("new_sized", make_sized_device(alloc, schedule_of_sized)),
+        ("new_16750", make_16750(alloc, schedule_of_16750)),
         ("rings", make_rings(alloc)),
         ("notes", make_notes(alloc)),
     ];
