@@ -133,7 +133,7 @@ enum uart_fifo_size_error_kind {
     UART_FIFO_SIZE_ERROR_STALLED = 3
 };
 
-/* Why the size of the FIFOs was not found. */
+/* Why the size of the FIFOs was not found or not changed. */
 struct uart_fifo_size_error {
     enum uart_fifo_size_error_kind kind;
     uint64_t too_few;
@@ -2033,9 +2033,9 @@ static inline uint8_t uart_level_control_of(enum u16550_core_fifo_trigger_level 
  * Returns whether the FIFOs hold 64 then. It does not set the size of the driver:
  * set_fifo_size does, as in the example.
  *
- * Call it after init, and again after a reset of the chip. On a chip that has no FIFOs of 64
- * it returns false, and changes nothing. The answer is ISR's bit 5, which a 16750 shows. So it
- * is of no use on a chip that shows something else there while its interrupts are disabled.
+ * Call it after init, and again after a reset of the chip. The answer is bit 5 of ISR after
+ * a write of FCR without DLAB, as other calls make it. A chip that ends the mode there counts
+ * as one of 16. On a chip that shows something else in this bit the answer is of no use.
  *
  * Nothing goes out on the line, but for what is in the transmitter already: the call waits
  * until it is empty, at most spin_limit polls. A chip that switches empties its FIFOs, so

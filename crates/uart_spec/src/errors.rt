@@ -240,14 +240,14 @@ pub enum LoopbackError {
     Stalled,
 }
 
-/// Why the size of the FIFOs was not found.
+/// Why the size of the FIFOs was not found or not changed.
 #[derive(Clone, Debug, PartialEq, Eq, Hash, Drop, Error)]
 pub enum FifoSizeError {
     /// The FIFOs are off, or the chip has none. No access was made.
     #[error("the FIFOs are off")]
     FifosOff,
     /// Fewer bytes came back than the smallest FIFO holds: the FIFOs do not work, the chip has no
-    /// loopback, or what it has is off.
+    /// loopback, or what it has is off. `enable_64_byte_fifos` does not return this.
     #[error("only {returned} bytes came back in loopback")]
     TooFew {
         /// How many bytes came back.

@@ -14,9 +14,9 @@ impl<B: Backend> Uart16550<B> {
     /// Returns whether the FIFOs hold 64 then. It does not set the size of the driver:
     /// `set_fifo_size` does, as in the example.
     ///
-    /// Call it after `init`, and again after a reset of the chip. On a chip that has no FIFOs of 64
-    /// it returns false, and changes nothing. The answer is ISR's bit 5, which a 16750 shows. So it
-    /// is of no use on a chip that shows something else there while its interrupts are disabled.
+    /// Call it after `init`, and again after a reset of the chip. The answer is bit 5 of ISR after
+    /// a write of FCR without DLAB, as other calls make it. A chip that ends the mode there counts
+    /// as one of 16. On a chip that shows something else in this bit the answer is of no use.
     ///
     /// Nothing goes out on the line, but for what is in the transmitter already: the call waits
     /// until it is empty, at most `spin_limit` polls. A chip that switches empties its FIFOs, so

@@ -1,5 +1,5 @@
 //! `find_fifo_size` over chips with FIFOs of every size, which are by hand: whatever happens between its accesses, it finds the size or
-//! stalls, and what it leaves is as before.
+//! stalls, and what it leaves is as before. And `enable_64_byte_fifos` over such chips, with the switch of a 16750 and without.
 
 use std::collections::VecDeque;
 use uart_16550::Uart16550;
@@ -197,6 +197,8 @@ struct SizedChip {
     transmitter: Sender,
     receiver: Taker,
     modem: Modem,
+    /// Whether FCR switches the size, as on a 16750.
+    switches: bool,
     random: Random,
     /// One more than the most ticks before an access.
     density: u64,
@@ -216,6 +218,10 @@ impl ChipParts for SizedChip {
 
     fn has_auto_flow(&self) -> bool {
         false
+    }
+
+    fn has_size_switch(&self) -> bool {
+        self.switches
     }
 
     fn transmitter(&self) -> &Sender {
@@ -240,6 +246,14 @@ impl ChipParts for SizedChip {
 
     fn turn_fifo(&mut self, on: bool) {
         self.fifo = on;
+    }
+
+    fn resize(&mut self, size: FifoSize) {
+        assert!(self.switches);
+        self.transmitter.size = size;
+        self.transmitter.queue.clear();
+        self.receiver.size = size;
+        self.receiver.queue.clear();
     }
 
     fn renew_modem(&mut self, mcr: MCR) {
@@ -323,6 +337,7 @@ impl SizedChip {
                 },
             },
             modem: Modem::new(),
+            switches: false,
             random: Random(seed),
             density,
         }
@@ -461,4 +476,74 @@ fn without_fifos_nothing_is_done() {
     let (out, kept) = (uart.backend().out(), uart.backend().kept());
     assert_eq!(uart.find_fifo_size(), Err(FifoSizeError::FifosOff));
     assert_eq!((uart.backend().out(), uart.backend().kept()), (out, kept));
+}
+
+/// A 16750, which holds 16 characters until it is told to hold 64.
+fn new_16750(char_ticks: u16, density: u64, seed: u64) -> SizedChip {
+    let mut chip = SizedChip::new(FifoSize::Sixteen, Chip::Uart16550A, char_ticks, density, seed);
+    chip.switches = true;
+    chip
+}
+
+#[test]
+fn a_16750_is_told_to_hold_64() {
+    for (i, density) in [2, 3, 9, 80].into_iter().enumerate() {
+        for char_ticks in [1, 2, 7, 40] {
+            let seed = 10 * i as u64 + u64::from(char_ticks);
+            let mut uart = set_up(new_16750(char_ticks, density, seed), 1_000_000);
+            let (out, kept) = (uart.backend().out(), uart.backend().kept());
+            assert_eq!(uart.enable_64_byte_fifos(), Ok(true));
+            let chip = uart.backend();
+            assert_eq!(chip.transmitter.wire, out);
+            assert_eq!((chip.out(), chip.kept()), (out, kept));
+            assert_eq!(chip.receiver.trigger, FifoTriggerLevel::Eight);
+            // What other calls write to FCR leaves the size, and `init` does too.
+            assert_eq!(uart.find_fifo_size(), Ok(FifoSize::SixtyFour));
+            uart.init(Config::DEFAULT).unwrap();
+            assert_eq!(uart.find_fifo_size(), Ok(FifoSize::SixtyFour));
+        }
+    }
+}
+
+#[test]
+fn a_chip_without_the_switch_keeps_its_size_and_its_bytes() {
+    for size in SIZES {
+        for density in [2, 9, 80] {
+            let chip = SizedChip::new(size, Chip::Uart16550A, 7, density, density);
+            let mut uart = set_up(chip, 1_000_000);
+            let (out, kept) = (uart.backend().out(), uart.backend().kept());
+            let waiting = uart.backend().receiver.queue.len();
+            assert_eq!(uart.enable_64_byte_fifos(), Ok(false));
+            let chip = uart.backend();
+            assert!(chip.receiver.queue.len() >= waiting);
+            assert_eq!((chip.out(), chip.kept()), (out, kept));
+            assert_eq!(uart.find_fifo_size(), Ok(size));
+        }
+    }
+}
+
+#[test]
+fn a_stall_before_the_switch_changes_nothing() {
+    let mut stalls = 0;
+    for seed in 0..200 {
+        let mut uart = set_up(new_16750(40, 2 + seed % 40, seed), 1 + seed % 20);
+        let (out, kept) = (uart.backend().out(), uart.backend().kept());
+        let told = uart.enable_64_byte_fifos();
+        let chip = uart.backend();
+        assert_eq!((chip.out(), chip.kept()), (out, kept));
+        let size = match told {
+            Ok(on) => {
+                assert!(on);
+                FifoSize::SixtyFour
+            }
+            Err(error) => {
+                assert_eq!(error, FifoSizeError::Stalled);
+                stalls += 1;
+                FifoSize::Sixteen
+            }
+        };
+        assert_eq!((chip.transmitter.size, chip.receiver.size), (size, size));
+    }
+    // Both happen, and often.
+    assert!(stalls > 50 && stalls < 150, "{stalls}");
 }
