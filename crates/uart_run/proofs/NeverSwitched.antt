@@ -512,4 +512,4 @@ call_stays (call.Send bytes) outcome f l after does = by_blocks l (sends_blocks 
 call_stays (call.SendExact bytes) outcome f l after does = by_blocks l (sends_exact_blocks (settings_of f) bytes.items outcome l does.0)
 call_stays (call.Write bytes) outcome f l after does = by_blocks l (writes_blocks (settings_of f) bytes.items outcome l does.0)
 call_stays (call.Text text) outcome f l after does = text_stays text.bytes outcome f l does.0.1
-call_stays _ outcome f l after does = unwritten l (rw does.0.1 (tt, (refl, tt)))
+call_stays other outcome f l after does = unwritten l (rw does.0.1 (tt, (refl, tt)))

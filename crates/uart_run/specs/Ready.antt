@@ -53,8 +53,8 @@ latches_of s = (machine_of s).chip.latches
 abbrev pub BurstsFit : State → Type 0
 BurstsFit s = characters (fields (inner_of s)).size ≤ characters (transmitter_of s).size
 
--- A 16750 switches the size of its FIFOs when FCR is written while DLAB is set. No call does that in a ready state,
--- where DLAB is clear. An `init`, an `init_with` and a `restore` clear it before they write FCR.
+-- A 16750 switches the size of its FIFOs when FCR is written while DLAB is set. No call of a run does that in a ready
+-- state, where DLAB is clear. An `init`, an `init_with` and a `restore` clear it before they write FCR.
 
 -- no write of FCR switches the size of the FIFOs: the chip has no switch of it, or DLAB is clear
 abbrev pub IsSizeFixed : MachineState → Type 0
