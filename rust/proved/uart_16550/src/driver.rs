@@ -3,6 +3,7 @@
 mod burst;
 mod checked;
 mod configured;
+mod enabling;
 mod frame;
 mod init;
 mod loopback;
@@ -32,9 +33,10 @@ pub const DEFAULT_SPIN_LIMIT: u64 = 1_000_000;
 /// works, and `check_connected` whether a remote is ready.
 ///
 /// No call blocks forever. `init`, `init_with`, `test_loopback`, `find_fifo_size`,
-/// `set_frame_when_idle`, `send_bytes_exact`, `receive_bytes_exact`, and the calls `read`, `write`
-/// and `flush` of the traits in [`embedded_io`](crate::embedded_io) poll LSR, and return an error
-/// after `spin_limit` unsuccessful polls in a row. The other calls do not wait.
+/// `enable_64_byte_fifos`, `set_frame_when_idle`, `send_bytes_exact`, `receive_bytes_exact`, and
+/// the calls `read`, `write` and `flush` of the traits in [`embedded_io`](crate::embedded_io) poll
+/// LSR, and return an error after `spin_limit` unsuccessful polls in a row. The other calls do not
+/// wait.
 ///
 /// A read of LSR clears its error bits in the chip, and a read of MSR its change bits. The driver
 /// saves those that its own reads clear, and the next `lsr` or `msr` returns them. So a poll loses
@@ -295,9 +297,9 @@ impl<B: Backend> Uart16550<B> {
     /// No other call changes the size: `init` and `attach` keep it.
     ///
     /// The size is taken on trust. If it is larger than the chip's, the bytes that do not fit are
-    /// lost, and nothing tells. Some chips hold more than 16 characters only after a register of
-    /// their own was written. `find_fifo_size` finds the size of FIFOs as they are set up; a chip
-    /// of DesignWare may show it in CPR.
+    /// lost, and nothing tells. Some chips hold more than 16 characters only after they were told:
+    /// a 16750 by `enable_64_byte_fifos`, others by a register of their own. `find_fifo_size` finds
+    /// the size of FIFOs as they are set up; a chip of DesignWare may show it in CPR.
     ///
     /// # Examples
     ///

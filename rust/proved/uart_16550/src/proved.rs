@@ -1165,7 +1165,7 @@ pub mod mmio {}
 #[doc(alias("TestsLoopback"))]
 pub mod loopback {}
 
-/// How the size of the FIFOs is found: in loopback, access by access.
+/// How the size of the FIFOs is found, and how FIFOs of 64 are turned on, access by access.
 ///
 /// From `crates/uart_16550/specs/Sizing.antt`.
 ///
@@ -1183,5 +1183,24 @@ pub mod loopback {}
 /// ```
 ///
 /// It uses `Doing` of `crates/uart_16550/specs/Driver.antt`; `FromEmpty` of `crates/uart_16550/specs/Loopback.antt`; `SizesInLoopback` of this file.
-#[doc(alias("FindsFifoSize"))]
+///
+/// <span id="Enables64"></span>
+///
+/// # `Enables64`
+///
+/// `enable_64_byte_fifos`: nothing is done if the FIFOs are off. Else LCR and IER are read, and there is a wait for an empty transmitter. If it reaches the limit, nothing is written, and the result is a stall; else FIFOs of 64 are asked for, and the result is whether ISR shows them.
+///
+/// ```text
+/// abbrev pub Enables64 : Result Bool FifoSizeError → Doing
+/// Enables64 (Ok on) f l after = (f.fifo ≡ true) × (lcr : ℕ) × (ier : ℕ) ×
+///     Saving (Then (BeginsEnabling lcr ier true) (Enabling lcr ier (unwrap_or f.config.fifo_trigger_level One) on))
+///     f l after
+/// Enables64 (Err FifosOff) f l after = (f.fifo ≡ false) × (l ≡ []) × (after ≡ f)
+/// Enables64 (Err (TooFew returned)) f l after = ⊥
+/// Enables64 (Err Stalled) f l after =
+///     (f.fifo ≡ true) × (lcr : ℕ) × (ier : ℕ) × Saving (BeginsEnabling lcr ier false) f l after
+/// ```
+///
+/// It uses [`Saving`](crate::proved::driver#Saving); `Doing` of `crates/uart_16550/specs/Driver.antt`; `Then` of `crates/uart_16550/specs/Grammar.antt`; `BeginsEnabling`, `Enabling` of this file.
+#[doc(alias("FindsFifoSize", "Enables64"))]
 pub mod sizing {}

@@ -53,6 +53,10 @@ impl<Q: Fifo<Character>> Fifo<Character> for Characters<Q> {
         self.queue.size()
     }
 
+    fn can_resize() -> bool {
+        Q::can_resize()
+    }
+
     fn len(&self) -> usize {
         self.queue.len()
     }
@@ -74,6 +78,11 @@ impl<Q: Fifo<Character>> Fifo<Character> for Characters<Q> {
 
     fn clear(&mut self) {
         self.queue.clear();
+        self.errors = 0;
+    }
+
+    fn resize(&mut self, size: FifoSize) {
+        self.queue.resize(size);
         self.errors = 0;
     }
 }

@@ -1,11 +1,11 @@
 //! The chip: its registers, its transmitter, its receiver and its modem lines.
 
+use crate::capabilities::{Capabilities, ChosenCapabilities};
 use crate::controlling::{
     ChipParts, advance, arrive_live, change_lines, cut, divisor, is_dlab_set, is_interrupting,
     is_loopback, read, receive_room, rts_output, tick, write,
 };
 use crate::fifo::{Fifo, HeapFifo};
-use crate::flow::{ChosenFlow, FlowControl};
 use crate::journal::{Journal, Marks};
 use crate::modem::{Modem, ModemData};
 use crate::receiver::{Character, Receiver, ReceiverData};
@@ -63,7 +63,7 @@ pub struct Uart<
     W: Wire = HeapWire,
     C: Fifo<Character> = HeapFifo<Character>,
     J: Journal = Marks,
-    F: FlowControl = ChosenFlow,
+    E: Capabilities = ChosenCapabilities,
 > {
     model: Chip,
     latches: Latches,
@@ -72,7 +72,7 @@ pub struct Uart<
     receiver: Receiver<C, J>,
     modem: Modem,
     cuts: bool,
-    flow: F,
+    capabilities: E,
 }
 
 impl<
@@ -80,10 +80,10 @@ impl<
     W: Wire,
     C: Fifo<Character>,
     J: Journal,
-    F: FlowControl,
-> Uart<B, W, C, J, F> {
+    E: Capabilities,
+> Uart<B, W, C, J, E> {
     /// Returns a chip after power-on, over empty queues of one size and an empty wire, with this
-    /// journal, and without automatic flow control.
+    /// journal, and with nothing beyond a 16550A.
     ///
     /// A character takes `char_ticks` ticks to be sent, and characters are cut to the word length
     /// if `cuts` is set.
@@ -111,12 +111,12 @@ impl<
             receiver: Receiver::new(characters, journal, char_ticks),
             modem: Modem::new(),
             cuts,
-            flow: F::by_driver(),
+            capabilities: E::none(),
         }
     }
 
     /// Returns the chip with these data, over empty queues of 16 and a wire that holds its bytes,
-    /// without a schedule and without automatic flow control.
+    /// without a schedule, and with nothing beyond a 16550A.
     pub fn from_parts(bytes: B, wire: W, characters: C, journal: J, saved: &ChipData) -> Self {
         let receiver = Receiver::from_data(
             characters,
@@ -132,12 +132,12 @@ impl<
             receiver,
             modem: Modem::from_data(saved.modem),
             cuts: saved.cuts,
-            flow: F::by_driver(),
+            capabilities: E::none(),
         }
     }
 
     /// Returns the chip as plain data, without the bytes on its wire and without its schedule. The
-    /// data are those of a chip with FIFOs of 16 that has no automatic flow control.
+    /// data are those of a chip with FIFOs of 16 that has nothing beyond a 16550A.
     pub fn data(&self) -> ChipData {
         ChipData {
             model: self.model,
@@ -282,8 +282,8 @@ impl<
     W: Wire,
     C: Fifo<Character>,
     J: Journal,
-    F: FlowControl,
-> ChipParts for Uart<B, W, C, J, F> {
+    E: Capabilities,
+> ChipParts for Uart<B, W, C, J, E> {
     type Transmitter = Transmitter<B, W>;
 
     type Receiver = Receiver<C, J>;
@@ -297,7 +297,11 @@ impl<
     }
 
     fn has_auto_flow(&self) -> bool {
-        self.flow.is_automatic()
+        self.capabilities.has_auto_flow()
+    }
+
+    fn has_size_switch(&self) -> bool {
+        self.capabilities.has_size_switch() && B::can_resize() && C::can_resize()
     }
 
     fn transmitter(&self) -> &Transmitter<B, W> {
@@ -322,6 +326,11 @@ impl<
 
     fn turn_fifo(&mut self, on: bool) {
         self.fifo = on;
+    }
+
+    fn resize(&mut self, size: FifoSize) {
+        self.transmitter.resize(size);
+        self.receiver.resize(size);
     }
 
     fn renew_modem(&mut self, mcr: MCR) {
@@ -365,7 +374,7 @@ impl<
     }
 }
 
-impl Uart<HeapFifo<u8>, HeapWire, HeapFifo<Character>, Marks, ChosenFlow> {
+impl Uart<HeapFifo<u8>, HeapWire, HeapFifo<Character>, Marks, ChosenCapabilities> {
     /// Returns a chip after power-on, for a schedule with this number of arrivals. Allocates all of
     /// its memory.
     ///
@@ -415,10 +424,50 @@ impl Uart<HeapFifo<u8>, HeapWire, HeapFifo<Character>, Marks, ChosenFlow> {
         Ok(Uart::with_parts(bytes, wire, characters, journal, model, char_ticks, cuts))
     }
 
+    /// Returns a 16750 after power-on: a 16550A with automatic flow control and FIFOs of 16, which
+    /// its size switch makes 64. Allocates all of its memory: a switch needs none.
+    ///
+    /// # Errors
+    ///
+    /// `AllocError` if memory could not be allocated.
+    pub fn new_16750(
+        alloc: Global,
+        char_ticks: u16,
+        capacity: usize,
+        arrivals: usize,
+        cuts: bool,
+    ) -> Result<Self, AllocError> {
+        let uart = Self::new(
+            alloc,
+            Chip::Uart16550A,
+            char_ticks,
+            capacity,
+            arrivals,
+            cuts,
+        )?;
+        Ok(uart.into_16750())
+    }
+
+    // Returns the same chip with what a 16750 has beyond a 16550A.
+    pub(crate) fn into_16750(self) -> Self {
+        let capabilities = ChosenCapabilities {
+            auto_flow: true,
+            size_switch: true,
+        };
+        Self {
+            capabilities,
+            ..self
+        }
+    }
+
     /// Returns the same chip with automatic flow control: MCR then keeps bit 5.
     pub fn with_auto_flow(self) -> Self {
+        let capabilities = ChosenCapabilities {
+            auto_flow: true,
+            ..self.capabilities
+        };
         Self {
-            flow: ChosenFlow::by_chip(),
+            capabilities,
             ..self
         }
     }

@@ -9,6 +9,7 @@ use crate::transmitting::{TransmitterParts, count_down, load, next_move};
 use crate::{flag, receiving, transmitting};
 use bitflags::Flags;
 use uart_events::Chip;
+use uart_spec::FifoSize;
 use uart_spec::registers::{
     FCR, FifoTriggerLevel, IER, ISR, InterruptType, LCR, LSR, MCR, MSR, WordLength, offsets,
 };
@@ -35,6 +36,9 @@ pub trait ChipParts {
     /// Returns whether the chip has automatic flow control.
     fn has_auto_flow(&self) -> bool;
 
+    /// Returns whether the chip has the switch of a 16750 between FIFOs of 16 characters and of 64.
+    fn has_size_switch(&self) -> bool;
+
     /// Returns the transmitter.
     fn transmitter(&self) -> &Self::Transmitter;
 
@@ -52,6 +56,10 @@ pub trait ChipParts {
 
     /// Sets whether the FIFOs are on.
     fn turn_fifo(&mut self, on: bool);
+
+    /// Empties both queues, and gives both FIFOs this size. The caller must show that the chip has
+    /// the switch, and that the size is at most 64.
+    fn resize(&mut self, size: FifoSize);
 
     /// Computes the modem lines anew under this value of MCR, and adds their changes.
     fn renew_modem(&mut self, mcr: MCR);
@@ -146,7 +154,7 @@ pub fn is_loopback<P: ChipParts>(parts: &P) -> bool {
 
 // Returns whether automatic flow control is on.
 fn is_auto_flow<P: ChipParts>(parts: &P) -> bool {
-    parts.has_auto_flow() && parts.mcr().intersects(MCR::_RESERVED0)
+    parts.has_auto_flow() && parts.mcr().intersects(MCR::AUTO_FLOW)
 }
 
 /// Returns whether the transmitter takes no next character: automatic flow control is on, and the
@@ -328,14 +336,30 @@ fn read_data<P: ChipParts>(parts: &mut P) -> u8 {
     take_front(parts.receiver_mut())
 }
 
+// Returns whether FIFOs of this size hold 64 characters.
+fn is_64(size: FifoSize) -> bool {
+    matches!(size, FifoSize::SixtyFour)
+}
+
+// Returns what ISR shows of the FIFOs. Bit 5 of a chip without the size switch is 0.
+fn fifo_flags<P: ChipParts>(parts: &P) -> ISR {
+    let on = flag(parts.fifo(), ISR::FIFOS_ENABLED);
+    if parts.has_size_switch() {
+        let holds_64 = is_64(parts.receiver().size());
+        on.union(flag(parts.fifo() && holds_64, ISR::FIFO_64_ENABLED))
+    } else {
+        on
+    }
+}
+
 // Reads ISR. A read that shows `THR_EMPTY` acknowledges it.
 fn read_interrupt<P: ChipParts>(parts: &mut P) -> u8 {
     let interrupt = pending_interrupt(parts);
-    let fifo = flag(parts.fifo(), ISR::FIFOS_ENABLED);
+    let flags = fifo_flags(parts);
     if is_thr_empty(interrupt) {
         parts.transmitter_mut().set_thr_pending(false);
     }
-    identification(interrupt).union(fifo).bits()
+    identification(interrupt).union(flags).bits()
 }
 
 /// Writes a value to the register at this offset.
@@ -423,16 +447,41 @@ fn control<P: ChipParts>(parts: &mut P, value: FCR) {
 
 // Without the enable bit nothing but the switch is done: a chip whose FIFOs are off ignores the
 // resets. Neither the character in the shift register nor the overrun flag changes. The trigger
-// level survives when the FIFOs are switched off.
+// level survives when the FIFOs are switched off, and so does their size.
 fn set_fifo<P: ChipParts>(parts: &mut P, value: FCR) {
     let on = value.intersects(FCR::FIFO_ENABLE);
     if parts.fifo() != on {
         switch(parts, on);
     }
     if on {
+        switch_size(parts, value);
         reset_receiver(parts, value);
         reset_transmitter(parts, value);
         parts.receiver_mut().set_trigger(trigger_level(value));
+    }
+}
+
+// Returns the size that a write of FCR asks for, on a chip that has the size switch.
+fn switched_size(fcr: FCR) -> FifoSize {
+    if fcr.intersects(FCR::FIFO_64_ENABLE) {
+        FifoSize::SixtyFour
+    } else {
+        FifoSize::Sixteen
+    }
+}
+
+// Returns whether a write of FCR that leaves the FIFOs on switches their size.
+fn is_switching<P: ChipParts>(parts: &P, fcr: FCR) -> bool {
+    parts.has_size_switch()
+        && is_dlab_set(parts)
+        && is_64(parts.receiver().size()) != fcr.intersects(FCR::FIFO_64_ENABLE)
+}
+
+// Switches the size of the FIFOs, if the write of FCR does. That empties both.
+fn switch_size<P: ChipParts>(parts: &mut P, value: FCR) {
+    if is_switching(parts, value) {
+        parts.receiver_mut().discard();
+        parts.resize(switched_size(value));
     }
 }
 

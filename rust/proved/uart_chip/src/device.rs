@@ -117,8 +117,8 @@ impl Device16550 {
     /// Both FIFOs have room for as many characters, and the four trigger levels are those of a chip
     /// with FIFOs of this size. A 16450 has no FIFO, so the size changes nothing that it does.
     ///
-    /// The size is that from the start. A real 16750 begins with FIFOs of 16, and bit 5 of FCR
-    /// switches them to 64 if it is written under DLAB. This chip ignores the bit.
+    /// The size is that from the start, and no access changes it. A chip of
+    /// [`Device16550::new_16750`] begins with 16, and a program can switch it to 64.
     ///
     /// # Errors
     ///
@@ -158,6 +158,51 @@ impl Device16550 {
             uart,
             schedule,
             cursor: 0,
+        })
+    }
+
+    /// Returns a machine as [`Device16550::new`] does, whose chip is a 16750 after power-on, and
+    /// cuts each character to the word length of LCR if `cuts` is set, as that of
+    /// [`Device16550::new_cut`] does.
+    ///
+    /// A 16750 is a 16550A with automatic flow control, as [`Device16550::with_auto_flow`] gives
+    /// it, and with a switch for the size of its FIFOs. It begins with FIFOs of 16. A write of FCR
+    /// that leaves them on, while DLAB is set, makes both 64 with bit 5, and 16 without: that
+    /// empties both if their size changes. Without DLAB a write of FCR leaves their size as it is.
+    /// While the FIFOs are on, bit 5 of ISR shows whether they hold 64.
+    ///
+    /// # Errors
+    ///
+    /// Those of [`Device16550::new`], in the same order.
+    ///
+    /// # Examples
+    ///
+    /// ```text
+    /// Ok(Device16550::new_16750(rt.alloc(), 4, 256, schedule, false)?)
+    /// ```
+    // The data sheet of TI's TL16C750 protects bit 5 of FCR by DLAB. That a change of the size
+    // empties both FIFOs is assumed, as a change of bit 0 does: a program cannot count on what was
+    // in them.
+    pub fn new_16750(
+        alloc: Global,
+        char_ticks: u16,
+        wire_capacity: usize,
+        schedule: Vec<Event>,
+        cuts: bool,
+    ) -> Result<Self, BuildError> {
+        let size = FifoSize::Sixteen;
+        let machine = Self::new_sized(
+            alloc,
+            Chip::Uart16550A,
+            size,
+            char_ticks,
+            wire_capacity,
+            schedule,
+            cuts,
+        )?;
+        Ok(Self {
+            uart: machine.uart.into_16750(),
+            ..machine
         })
     }
 

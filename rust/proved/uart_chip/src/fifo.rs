@@ -16,6 +16,9 @@ pub trait Fifo<T> {
     /// Returns the size of the FIFO: the queue has room for as many items.
     fn size(&self) -> FifoSize;
 
+    /// Returns whether such a queue can become that of a FIFO of another size, of up to 64.
+    fn can_resize() -> bool;
+
     /// Returns the number of items.
     fn len(&self) -> usize;
 
@@ -35,6 +38,10 @@ pub trait Fifo<T> {
 
     /// Removes all items.
     fn clear(&mut self);
+
+    /// Removes all items, and becomes the queue of a FIFO of this size. The caller must show that
+    /// such a queue can, and that the size is at most 64.
+    fn resize(&mut self, size: FifoSize);
 }
 
 /// Appends items to an empty queue.
@@ -55,6 +62,7 @@ pub fn items_of<T: Copy + Default, Q: Fifo<T>>(queue: &Q) -> ArrayVec<T, FIFO_SI
 }
 
 /// A queue in memory that is allocated once.
+// There is room for 64 items in each, so that a chip that switches its FIFOs to 64 allocates none.
 pub struct HeapFifo<T> {
     ring: HeapCircularBuffer<T>,
     size: FifoSize,
@@ -68,7 +76,8 @@ impl<T> HeapFifo<T> {
     ///
     /// `AllocError` if memory could not be allocated.
     pub fn new(alloc: Global, size: FifoSize) -> Result<Self, AllocError> {
-        let ring = HeapCircularBuffer::with_capacity(alloc, size.characters())?;
+        let places = size.characters().max(FifoSize::SixtyFour.characters());
+        let ring = HeapCircularBuffer::with_capacity(alloc, places)?;
         Ok(HeapFifo { ring, size })
     }
 }
@@ -76,6 +85,10 @@ impl<T> HeapFifo<T> {
 impl<T: Copy> Fifo<T> for HeapFifo<T> {
     fn size(&self) -> FifoSize {
         self.size
+    }
+
+    fn can_resize() -> bool {
+        true
     }
 
     fn len(&self) -> usize {
@@ -96,5 +109,10 @@ impl<T: Copy> Fifo<T> for HeapFifo<T> {
 
     fn clear(&mut self) {
         self.ring.clear();
+    }
+
+    fn resize(&mut self, size: FifoSize) {
+        self.clear();
+        self.size = size;
     }
 }

@@ -21,12 +21,12 @@ extern crate geesetrunk_kit as circular_buffer;
 // The chip and the chip under a schedule are one crate: `rt` exports facts about every type in a
 // crate's public signatures, even types of other crates. If one of them is the chip, that takes
 // half a minute.
+mod capabilities;
 mod characters;
 mod chip;
 pub mod controlling;
 mod device;
 mod fifo;
-mod flow;
 mod journal;
 mod masks;
 mod modem;
@@ -37,12 +37,12 @@ mod transmitter;
 pub mod transmitting;
 mod wire;
 
+pub use capabilities::{Capabilities, ChosenCapabilities, NoCapabilities};
 pub use characters::Characters;
 pub use chip::{ChipData, Latches, Uart};
 pub use controlling::identification;
 pub use device::Device16550;
 pub use fifo::{Fifo, HeapFifo, room_of};
-pub use flow::{ChosenFlow, DriverFlow, FlowControl};
 pub use journal::{Journal, Marks};
 pub use masks::{kept_interrupts, kept_modem_control};
 pub use modem::{Modem, ModemData};

@@ -27,7 +27,7 @@ pub fn kept_modem_control_of(auto_flow: bool, written: MCR) -> MCR {
         .union(MCR::OUT_1)
         .union(MCR::OUT_2_INT_ENABLE);
     if auto_flow {
-        written.intersection(outputs.union(MCR::LOOP_BACK).union(MCR::_RESERVED0))
+        written.intersection(outputs.union(MCR::LOOP_BACK).union(MCR::AUTO_FLOW))
     } else {
         kept_modem_control(written)
     }

@@ -62,6 +62,7 @@ pub mod receiver {}
 ///       modem = modem.fresh;
 ///       cuts = false;
 ///       auto_flow = false;
+///       has_size_switch = false;
 ///     }
 /// ```
 ///
@@ -233,7 +234,7 @@ pub mod receiver {}
 ///     if offset == offsets.DATA
 ///     then (if is_dlab_set c.latches then c.latches.dll else (take_front c.receiver.queue c.receiver).last_byte)
 ///     else if offset == offsets.IER then (if is_dlab_set c.latches then c.latches.dlm else c.latches.ier)
-///     else if offset == offsets.ISR then bit_or (identification (interrupt c)) (flag c.fifo ISR.FIFOS_ENABLED.0)
+///     else if offset == offsets.ISR then bit_or (identification (interrupt c)) (fifo_flags c)
 ///     else if offset == offsets.LCR then c.latches.lcr
 ///     else if offset == offsets.MCR then c.latches.mcr
 ///     else if offset == offsets.LSR then line_status c
@@ -241,7 +242,7 @@ pub mod receiver {}
 ///     else c.latches.scr
 /// ```
 ///
-/// It uses [`is_dlab_set`](crate::proved::chip#is_dlab_set), [`interrupt`](crate::proved::chip#interrupt), [`flag`](uart_spec::proved::bits#flag); `ChipState`, `identification`, `line_status` of this file; `take_front` of `crates/uart_chip/specs/Receiver.antt`.
+/// It uses [`is_dlab_set`](crate::proved::chip#is_dlab_set), [`interrupt`](crate::proved::chip#interrupt); `ChipState`, `identification`, `fifo_flags`, `line_status` of this file; `take_front` of `crates/uart_chip/specs/Receiver.antt`.
 ///
 /// <span id="after_read"></span>
 ///
@@ -339,7 +340,7 @@ pub mod jumps {}
 ///
 /// # `chip_of`
 ///
-/// The chip that these data describe, with these bytes on its wire and without a schedule; such a chip has no automatic flow control.
+/// The chip that these data describe, with these bytes on its wire and without a schedule; such a chip has no automatic flow control, and no switch of the size.
 ///
 /// ```text
 /// abbrev pub chip_of : ChipData → List ℕ → ChipState
@@ -353,6 +354,7 @@ pub mod jumps {}
 ///       modem = modem_of c.modem;
 ///       cuts = c.cuts;
 ///       auto_flow = false;
+///       has_size_switch = false;
 ///     }
 /// ```
 ///

@@ -186,6 +186,13 @@ impl<Q: Fifo<Character>, J: Journal> Receiver<Q, J> {
         }
     }
 
+    /// Empties the queue, and makes it that of a FIFO of this size. The caller must show that it
+    /// can be, and that the size is at most 64.
+    pub fn resize(&mut self, size: FifoSize) {
+        self.queue.resize(size);
+        self.status = flag(self.is_overrun, LSR::OVERRUN_ERROR);
+    }
+
     /// Returns the number of received bytes that have not been read.
     pub fn waiting_len(&self) -> usize {
         self.queue.len()

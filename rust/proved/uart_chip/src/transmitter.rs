@@ -99,6 +99,13 @@ impl<Q: Fifo<u8>, W: Wire> Transmitter<Q, W> {
         }
     }
 
+    /// Empties the queue, and makes it that of a FIFO of this size. The caller must show that it
+    /// can be, and that the size is at most 64.
+    pub fn resize(&mut self, size: FifoSize) {
+        self.queue.resize(size);
+        self.status = status_of(&self.queue, self.shift_register);
+    }
+
     /// Returns the bytes on the wire, from the first that was sent.
     pub fn wire(&self) -> &[u8] {
         self.wire.as_slice()

@@ -6,7 +6,8 @@ use uart_spec::FifoSize;
 const FIFO_MODE: u32 = 0x0001_0000;
 
 /// Returns the size of the FIFOs that a value of CPR shows, the component parameter register: the
-/// largest `FifoSize` of no more characters, which is safe in `Uart16550::send_burst`.
+/// largest `FifoSize` of no more characters, which is safe in `Uart16550::set_fifo_size` and
+/// `send_burst`.
 ///
 /// CPR is at 0xF4, and all of its 32 bits are needed. Bits 16 to 23 are the size in 16 characters:
 /// 0x80 is a FIFO of 2,048, of which 256 are used. The result is `None` if they are 0. Then the

@@ -49,6 +49,10 @@ impl<T: Copy> Fifo<T> for FixedFifo<T> {
         FifoSize::Sixteen
     }
 
+    fn can_resize() -> bool {
+        false
+    }
+
     fn len(&self) -> usize {
         self.len
     }
@@ -78,6 +82,10 @@ impl<T: Copy> Fifo<T> for FixedFifo<T> {
 
     fn clear(&mut self) {
         self.len = 0;
+    }
+
+    fn resize(&mut self, _size: FifoSize) {
+        unreachable!()
     }
 }
 

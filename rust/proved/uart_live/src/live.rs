@@ -8,14 +8,14 @@ use bitflags::Flags;
 use uart_chip::controlling::{ChipParts, cut};
 use uart_chip::receiving::{ReceiverParts, take_front};
 use uart_chip::transmitting::TransmitterParts;
-use uart_chip::{Character, DriverFlow, Origin, Uart, room_of};
+use uart_chip::{Character, NoCapabilities, Origin, Uart, room_of};
 use uart_events::{Chip, MAX_CHAR_TICKS};
 use uart_spec::registers::{IER, LCR, LSR, MSR, offsets};
 
 // A chip all of whose memory is in arrays, without a schedule. So no call can be refused memory.
 // The wire has room for 64 bytes, as in the library for C: its owner takes them after each `ticks`.
-// It is a 16550A or a 16450, which have no automatic flow control.
-type LiveUart = Uart<FixedFifo<u8>, FixedWire, FixedFifo<Character>, NoMarks, DriverFlow>;
+// It is a 16550A or a 16450, which have neither automatic flow control nor a switch of their size.
+type LiveUart = Uart<FixedFifo<u8>, FixedWire, FixedFifo<Character>, NoMarks, NoCapabilities>;
 
 /// A serial chip in software whose owner lets time pass, passes characters to it, and takes the
 /// bytes that it sends.
@@ -221,7 +221,7 @@ impl LiveChip {
     /// # Proved
     ///
     /// - *sends*: returns [`sends_at_once`](uart_chip::proved::sending#sends_at_once) `self.now`: a byte that is written to DATA would be on the wire at once: DLAB and loopback are off, the transmitter is not held off and holds nothing, and the wire has room.
-    /// - *live*: [`IsLive`](crate::proved::live#IsLive) `self.now`: the chip is sound and has nothing of a schedule: no event is to come, no arrival has a mark, none can be lost unnoticed; the wire has room for at most as much as a wire may have, the FIFOs hold 16 characters, and flow control is left to the driver.
+    /// - *live*: [`IsLive`](crate::proved::live#IsLive) `self.now`: the chip is sound and has nothing of a schedule: no event is to come, no arrival has a mark, none can be lost unnoticed; the wire has room for at most as much as a wire may have, the FIFOs hold 16 characters and have no switch of their size, and flow control is left to the driver.
     ///
     /// <details><summary>The clauses</summary>
     ///
@@ -297,7 +297,7 @@ impl LiveChip {
     /// - *after*: for each `value`: if it returns `true`, and `self.old.transmitter.wire ≡ []`: `self` becomes [`take_wire`](uart_chip::proved::chip#take_wire) `1 (sending_spec.send_at_once value self.old)`: a number of bytes are taken from the front of the wire.
     ///   - [`send_at_once`](uart_chip::proved::sending#send_at_once): the byte, cut to the word length, is on the wire, and THR became empty, which is an interrupt; no time passed.
     /// - *left*: if it returns `false`: nothing changes.
-    /// - *live*: [`IsLive`](crate::proved::live#IsLive) `self.old`: the chip is sound and has nothing of a schedule: no event is to come, no arrival has a mark, none can be lost unnoticed; the wire has room for at most as much as a wire may have, the FIFOs hold 16 characters, and flow control is left to the driver.
+    /// - *live*: [`IsLive`](crate::proved::live#IsLive) `self.old`: the chip is sound and has nothing of a schedule: no event is to come, no arrival has a mark, none can be lost unnoticed; the wire has room for at most as much as a wire may have, the FIFOs hold 16 characters and have no switch of their size, and flow control is left to the driver.
     ///
     /// <details><summary>The clauses</summary>
     ///
@@ -427,7 +427,7 @@ impl LiveChip {
     /// # Proved
     ///
     /// - *on*: returns `not (self.now.latches.ier == 0)`.
-    /// - *live*: [`IsLive`](crate::proved::live#IsLive) `self.now`: the chip is sound and has nothing of a schedule: no event is to come, no arrival has a mark, none can be lost unnoticed; the wire has room for at most as much as a wire may have, the FIFOs hold 16 characters, and flow control is left to the driver.
+    /// - *live*: [`IsLive`](crate::proved::live#IsLive) `self.now`: the chip is sound and has nothing of a schedule: no event is to come, no arrival has a mark, none can be lost unnoticed; the wire has room for at most as much as a wire may have, the FIFOs hold 16 characters and have no switch of their size, and flow control is left to the driver.
     ///
     /// <details><summary>The clauses</summary>
     ///
@@ -449,7 +449,7 @@ impl LiveChip {
     /// # Proved
     ///
     /// - *on*: returns [`has_any`](uart_spec::proved::bits#has_any) `self.now.latches.ier IER.DATA_READY.0`: the value has at least one of these bits.
-    /// - *live*: [`IsLive`](crate::proved::live#IsLive) `self.now`: the chip is sound and has nothing of a schedule: no event is to come, no arrival has a mark, none can be lost unnoticed; the wire has room for at most as much as a wire may have, the FIFOs hold 16 characters, and flow control is left to the driver.
+    /// - *live*: [`IsLive`](crate::proved::live#IsLive) `self.now`: the chip is sound and has nothing of a schedule: no event is to come, no arrival has a mark, none can be lost unnoticed; the wire has room for at most as much as a wire may have, the FIFOs hold 16 characters and have no switch of their size, and flow control is left to the driver.
     ///
     /// <details><summary>The clauses</summary>
     ///
@@ -472,7 +472,7 @@ impl LiveChip {
     ///
     /// - *answers*: returns [`answer`](uart_chip::proved::chip#answer) `offsets.DATA self.old`: what a read of the register returns.
     /// - *after*: `self` becomes [`after_read`](uart_chip::proved::chip#after_read) `offsets.DATA self.old`: the chip after a read of the register.
-    /// - *live*: [`IsLive`](crate::proved::live#IsLive) `self.old`: the chip is sound and has nothing of a schedule: no event is to come, no arrival has a mark, none can be lost unnoticed; the wire has room for at most as much as a wire may have, the FIFOs hold 16 characters, and flow control is left to the driver.
+    /// - *live*: [`IsLive`](crate::proved::live#IsLive) `self.old`: the chip is sound and has nothing of a schedule: no event is to come, no arrival has a mark, none can be lost unnoticed; the wire has room for at most as much as a wire may have, the FIFOs hold 16 characters and have no switch of their size, and flow control is left to the driver.
     ///
     /// <details><summary>The clauses</summary>
     ///
@@ -504,7 +504,7 @@ impl LiveChip {
     /// - *value*: returns [`clear_status`](crate::proved::quick#clear_status) `self.old`: what a read of LSR returns, if it shows no error and no character that waits has one.
     /// - *read*: if it returns `Some`: `self` becomes [`after_read`](uart_chip::proved::chip#after_read) `offsets.LSR self.old`: the chip after a read of the register.
     /// - *left*: if it returns `None`: nothing changes.
-    /// - *live*: [`IsLive`](crate::proved::live#IsLive) `self.old`: the chip is sound and has nothing of a schedule: no event is to come, no arrival has a mark, none can be lost unnoticed; the wire has room for at most as much as a wire may have, the FIFOs hold 16 characters, and flow control is left to the driver.
+    /// - *live*: [`IsLive`](crate::proved::live#IsLive) `self.old`: the chip is sound and has nothing of a schedule: no event is to come, no arrival has a mark, none can be lost unnoticed; the wire has room for at most as much as a wire may have, the FIFOs hold 16 characters and have no switch of their size, and flow control is left to the driver.
     ///
     /// <details><summary>The clauses</summary>
     ///
@@ -743,7 +743,7 @@ impl LiveChip {
     /// - *shown*: returns `not (has_any (spec.answer offsets.ISR self.now) ISR.INTERRUPT_STATUS.0)`.
     ///   - [`has_any`](uart_spec::proved::bits#has_any): the value has at least one of these bits.
     ///   - [`answer`](uart_chip::proved::chip#answer): what a read of the register returns.
-    /// - *live*: [`IsLive`](crate::proved::live#IsLive) `self.now`: the chip is sound and has nothing of a schedule: no event is to come, no arrival has a mark, none can be lost unnoticed; the wire has room for at most as much as a wire may have, the FIFOs hold 16 characters, and flow control is left to the driver.
+    /// - *live*: [`IsLive`](crate::proved::live#IsLive) `self.now`: the chip is sound and has nothing of a schedule: no event is to come, no arrival has a mark, none can be lost unnoticed; the wire has room for at most as much as a wire may have, the FIFOs hold 16 characters and have no switch of their size, and flow control is left to the driver.
     ///
     /// <details><summary>The clauses</summary>
     ///
@@ -827,7 +827,7 @@ impl LiveChip {
     /// # Proved
     ///
     /// - *room*: returns `self.now.transmitter.capacity - length self.now.transmitter.wire`.
-    /// - *live*: [`IsLive`](crate::proved::live#IsLive) `self.now`: the chip is sound and has nothing of a schedule: no event is to come, no arrival has a mark, none can be lost unnoticed; the wire has room for at most as much as a wire may have, the FIFOs hold 16 characters, and flow control is left to the driver.
+    /// - *live*: [`IsLive`](crate::proved::live#IsLive) `self.now`: the chip is sound and has nothing of a schedule: no event is to come, no arrival has a mark, none can be lost unnoticed; the wire has room for at most as much as a wire may have, the FIFOs hold 16 characters and have no switch of their size, and flow control is left to the driver.
     ///
     /// <details><summary>The clauses</summary>
     ///

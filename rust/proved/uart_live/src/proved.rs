@@ -16,7 +16,7 @@ pub use uart_events::proved as of_events;
 ///
 /// # `IsLive`
 ///
-/// The chip is sound and has nothing of a schedule: no event is to come, no arrival has a mark, none can be lost unnoticed; the wire has room for at most as much as a wire may have, the FIFOs hold 16 characters, and flow control is left to the driver.
+/// The chip is sound and has nothing of a schedule: no event is to come, no arrival has a mark, none can be lost unnoticed; the wire has room for at most as much as a wire may have, the FIFOs hold 16 characters and have no switch of their size, and flow control is left to the driver.
 ///
 /// ```text
 /// pub record IsLive (c : ChipState) : Type 0 where
@@ -26,6 +26,7 @@ pub use uart_events::proved as of_events;
 ///   pub room : c.transmitter.capacity ≤ MAX_WIRE_CAPACITY
 ///   pub size : c.transmitter.size ≡ Sixteen
 ///   pub flow : c.auto_flow ≡ false
+///   pub switch : c.has_size_switch ≡ false
 /// ```
 ///
 /// It uses `ChipState` of `crates/uart_chip/specs/Chip.antt`; `IsWhole` of `crates/uart_chip/specs/Sound.antt`.

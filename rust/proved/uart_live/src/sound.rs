@@ -183,8 +183,8 @@ fn are_sound(saved: &ChipData, wire: &[u8]) -> bool {
 ///
 /// # Proved
 ///
-/// - *sound*: if it returns `true`: [`IsLive`](crate::proved::live#IsLive) `(chip_of saved.now wire.now)`: the chip is sound and has nothing of a schedule: no event is to come, no arrival has a mark, none can be lost unnoticed; the wire has room for at most as much as a wire may have, the FIFOs hold 16 characters, and flow control is left to the driver.
-///   - [`chip_of`](uart_chip::proved::snapshot#chip_of): the chip that these data describe, with these bytes on its wire and without a schedule; such a chip has no automatic flow control.
+/// - *sound*: if it returns `true`: [`IsLive`](crate::proved::live#IsLive) `(chip_of saved.now wire.now)`: the chip is sound and has nothing of a schedule: no event is to come, no arrival has a mark, none can be lost unnoticed; the wire has room for at most as much as a wire may have, the FIFOs hold 16 characters and have no switch of their size, and flow control is left to the driver.
+///   - [`chip_of`](uart_chip::proved::snapshot#chip_of): the chip that these data describe, with these bytes on its wire and without a schedule; such a chip has no automatic flow control, and no switch of the size.
 /// - *unsound*: if it returns `false`: it is not so that [`IsLive`](crate::proved::live#IsLive) `(chip_of saved.now wire.now)`.
 ///
 /// <details><summary>The clauses</summary>

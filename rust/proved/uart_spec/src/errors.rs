@@ -502,13 +502,13 @@ impl std::fmt::Display for LoopbackError {
     }
 }
 
-/// Why the size of the FIFOs was not found.
+/// Why the size of the FIFOs was not found or not changed.
 #[derive(Clone, Debug, PartialEq, Eq, Hash)]
 pub enum FifoSizeError {
     /// The FIFOs are off, or the chip has none. No access was made.
     FifosOff,
     /// Fewer bytes came back than the smallest FIFO holds: the FIFOs do not work, the chip has no
-    /// loopback, or what it has is off.
+    /// loopback, or what it has is off. `enable_64_byte_fifos` does not return this.
     TooFew {
         /// How many bytes came back.
         returned: usize,

@@ -62,11 +62,13 @@ pub enum FifoAction {
     Disable,
 }
 
-/// How many characters the transmitter FIFO of a chip holds, for `Uart16550::send_burst`.
+/// How many characters each FIFO of a chip holds, for `Uart16550::set_fifo_size`, by which all
+/// calls that send and the rings go, and for one `Uart16550::send_burst`.
 ///
 /// A 16550 has 16. No register that all chips have shows the size, so it is taken from the
-/// datasheet, or `Uart16550::find_fifo_size` finds it. If a size is given that is larger than the
-/// chip's, bytes are lost.
+/// datasheet, or `Uart16550::find_fifo_size` finds it. A 16750 has 64 after
+/// `Uart16550::enable_64_byte_fifos`. If a size is given that is larger than the chip's, bytes are
+/// lost.
 ///
 /// # Examples
 ///

@@ -25,8 +25,8 @@ impl<B: Backend> Uart16550<B> {
     /// `fifo_size` says: sends as many bytes as it holds if the FIFO is on, else one.
     ///
     /// The size is taken on trust: on a chip with a smaller FIFO the bytes that do not fit are
-    /// lost, and nothing tells. Some chips hold more than 16 only after a register of their own was
-    /// written. `set_fifo_size` sets the size for all calls that send.
+    /// lost, and nothing tells. Some chips hold more than 16 only after they were told, as a 16750
+    /// by `enable_64_byte_fifos`. `set_fifo_size` sets the size for all calls that send.
     ///
     /// # Examples
     ///

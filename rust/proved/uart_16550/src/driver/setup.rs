@@ -12,7 +12,7 @@ use uart_spec::{
 };
 
 // Returns FCR for FIFOs that are on and stay on. Without the reset bits the bytes in them stay.
-fn level_control_of(level: FifoTriggerLevel) -> FCR {
+pub(super) fn level_control_of(level: FifoTriggerLevel) -> FCR {
     FCR::FIFO_ENABLE.set_fifo_trigger_level(level)
 }
 
@@ -230,16 +230,15 @@ impl<B: Backend> Uart16550<B> {
 
     // Returns the trigger level for FIFOs that are on: the configured one, or one byte if none is
     // configured, as on a port that was taken by `attach`.
+    pub(super) fn fifo_level(&self) -> FifoTriggerLevel {
+        self.config
+            .fifo_trigger_level
+            .unwrap_or(FifoTriggerLevel::One)
+    }
+
+    // Returns the trigger level for FIFOs that are on, and none for FIFOs that are off.
     pub(super) fn level_of(&self, on: bool) -> Option<FifoTriggerLevel> {
-        if on {
-            Some(
-                self.config
-                    .fifo_trigger_level
-                    .unwrap_or(FifoTriggerLevel::One),
-            )
-        } else {
-            None
-        }
+        if on { Some(self.fifo_level()) } else { None }
     }
 
     // Writes FCR as is asked for, and returns whether the FIFOs are on then.

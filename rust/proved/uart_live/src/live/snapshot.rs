@@ -23,8 +23,8 @@ impl LiveChip {
     /// # Proved
     ///
     /// - *data*: `chip_of result self.now.transmitter.wire ≡ self.now`.
-    ///   - [`chip_of`](uart_chip::proved::snapshot#chip_of): the chip that these data describe, with these bytes on its wire and without a schedule; such a chip has no automatic flow control.
-    /// - *live*: [`IsLive`](crate::proved::live#IsLive) `self.now`: the chip is sound and has nothing of a schedule: no event is to come, no arrival has a mark, none can be lost unnoticed; the wire has room for at most as much as a wire may have, the FIFOs hold 16 characters, and flow control is left to the driver.
+    ///   - [`chip_of`](uart_chip::proved::snapshot#chip_of): the chip that these data describe, with these bytes on its wire and without a schedule; such a chip has no automatic flow control, and no switch of the size.
+    /// - *live*: [`IsLive`](crate::proved::live#IsLive) `self.now`: the chip is sound and has nothing of a schedule: no event is to come, no arrival has a mark, none can be lost unnoticed; the wire has room for at most as much as a wire may have, the FIFOs hold 16 characters and have no switch of their size, and flow control is left to the driver.
     ///
     /// <details><summary>The clauses</summary>
     ///
@@ -62,9 +62,9 @@ impl LiveChip {
     ///
     /// # Proved
     ///
-    /// - *restored*: if it returns `Ok live`: `live` is [`chip_of`](uart_chip::proved::snapshot#chip_of) `saved.now wire.now`: the chip that these data describe, with these bytes on its wire and without a schedule; such a chip has no automatic flow control.
+    /// - *restored*: if it returns `Ok live`: `live` is [`chip_of`](uart_chip::proved::snapshot#chip_of) `saved.now wire.now`: the chip that these data describe, with these bytes on its wire and without a schedule; such a chip has no automatic flow control, and no switch of the size.
     /// - *refused*: unless [`IsLive`](crate::proved::live#IsLive) `(chip_of saved.now wire.now)`: returns `Err RestoreError.BadData`.
-    ///   - [`IsLive`](crate::proved::live#IsLive): the chip is sound and has nothing of a schedule: no event is to come, no arrival has a mark, none can be lost unnoticed; the wire has room for at most as much as a wire may have, the FIFOs hold 16 characters, and flow control is left to the driver.
+    ///   - [`IsLive`](crate::proved::live#IsLive): the chip is sound and has nothing of a schedule: no event is to come, no arrival has a mark, none can be lost unnoticed; the wire has room for at most as much as a wire may have, the FIFOs hold 16 characters and have no switch of their size, and flow control is left to the driver.
     /// - *large*: if [`IsLive`](crate::proved::live#IsLive) `(chip_of saved.now wire.now)`, and `WIRE_ROOM < saved.now.transmitter.wire_capacity`: returns `Err RestoreError.BadWire`.
     /// - *accepted*: if [`IsLive`](crate::proved::live#IsLive) `(chip_of saved.now wire.now)`, and `saved.now.transmitter.wire_capacity ≤ WIRE_ROOM`: returns `Ok`.
     ///

@@ -105,6 +105,11 @@ impl ISR {
     /// A DMA transmission ended, on chips with DMA signals.
     pub const DMA_TX_END: ISR = ISR(1 << 5);
 
+    /// The FIFOs are on and hold 64 characters, on chips that have such, as a 16750.
+    // The same bit as `DMA_TX_END`, by which the original crate calls it: that name is the one in
+    // the list of names, so that texts of ISR are those of the original.
+    pub const FIFO_64_ENABLED: ISR = ISR(ISR::DMA_TX_END.0);
+
     /// The first of two bits that are both set while the FIFOs are on.
     pub const FIFOS_ENABLED0: ISR = ISR(1 << 6);
 
@@ -185,6 +190,12 @@ impl FCR {
 
     /// No function on a 16550.
     pub const _RESERVED0: FCR = FCR(1 << 5);
+
+    /// FIFOs of 64 characters, on chips that have them, as a 16750: it looks at this bit only while
+    /// DLAB is set.
+    // The same bit as `_RESERVED0`, by which the original crate calls it: that name is the one in
+    // the list of names, so that texts of FCR are those of the original.
+    pub const FIFO_64_ENABLE: FCR = FCR(FCR::_RESERVED0.0);
 
     /// Bit 0 of the receiver trigger level.
     pub const RX_FIFO_TRIGGER_LEVEL0: FCR = FCR(1 << 6);

@@ -56,7 +56,7 @@ impl VirtualPort {
     /// # Proved
     ///
     /// - *data*: `chip_of result self.now.chip.transmitter.wire ≡ self.now.chip`.
-    ///   - [`chip_of`](uart_chip::proved::snapshot#chip_of): the chip that these data describe, with these bytes on its wire and without a schedule; such a chip has no automatic flow control.
+    ///   - [`chip_of`](uart_chip::proved::snapshot#chip_of): the chip that these data describe, with these bytes on its wire and without a schedule; such a chip has no automatic flow control, and no switch of the size.
     /// - *saved*: [`IsSaved`](crate::proved::port#IsSaved) `result self.now.chip.transmitter.wire`: these data, and these bytes of output, are those of a port: the chip is live, and nothing is left to happen.
     ///
     /// <details><summary>The clauses</summary>
@@ -100,7 +100,7 @@ impl VirtualPort {
     ///
     /// - *port*: if it returns `Ok r`: `r.port ≡ begun (chip_of saved.now output.now)`.
     ///   - [`begun`](crate::proved::port#begun): a port whose monitor was told of this chip, and of nothing before.
-    ///   - [`chip_of`](uart_chip::proved::snapshot#chip_of): the chip that these data describe, with these bytes on its wire and without a schedule; such a chip has no automatic flow control.
+    ///   - [`chip_of`](uart_chip::proved::snapshot#chip_of): the chip that these data describe, with these bytes on its wire and without a schedule; such a chip has no automatic flow control, and no switch of the size.
     /// - *todo*: if it returns `Ok r`: `r.todo ≡ todo_of renewed true (chip_of saved.now output.now) untold`.
     ///   - [`todo_of`](crate::proved::port#todo_of): what the monitor has to do, with what is seen of the chip when the call ends.
     ///   - [`renewed`](crate::proved::port#renewed): a port that is new, or restored.

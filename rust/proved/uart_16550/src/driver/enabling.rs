@@ -1,0 +1,90 @@
+//! How FIFOs of 64 are turned on.
+
+use super::Uart16550;
+use super::setup::level_control_of;
+use crate::backend::Backend;
+use bitflags::Flags;
+use uart_spec::FifoSizeError;
+use uart_spec::registers::{FCR, ISR, LCR, LSR, offsets};
+
+impl<B: Backend> Uart16550<B> {
+    /// Turns on the FIFOs of 64 characters of a 16750, which has FIFOs of 16 after power-on.
+    /// Returns whether the FIFOs hold 64 then. It does not set the size of the driver:
+    /// `set_fifo_size` does, as in the example.
+    ///
+    /// Call it after `init`, and again after a reset of the chip. The answer is bit 5 of ISR after
+    /// a write of FCR without DLAB, as other calls make it. A chip that ends the mode there counts
+    /// as one of 16. On a chip that shows something else in this bit the answer is of no use.
+    ///
+    /// Nothing goes out on the line, but for what is in the transmitter already: the call waits
+    /// until it is empty, at most `spin_limit` polls. A chip that switches empties its FIFOs, so
+    /// bytes that were received and not taken are lost: take them first. A chip that does not
+    /// switch loses nothing.
+    ///
+    /// Reads LCR and IER. After the wait it disables all interrupts, writes FCR while DLAB is set,
+    /// restores LCR, writes FCR once more, reads ISR, and restores IER. While DLAB is set, offsets
+    /// 0 and 1 are the latch, as in `dll_dlm`, so nothing else may access the chip. The level of
+    /// the receiver FIFO is that of the configuration, or one byte if none is configured. Error
+    /// bits are saved for the next `lsr`. If `THR_EMPTY` is enabled, the chip raises that interrupt
+    /// again.
+    ///
+    /// # Errors
+    ///
+    /// - `FifosOff` if the FIFOs are off (`fifo_enabled`). No access was made.
+    /// - `Stalled` if the transmitter was not empty after `spin_limit` polls. Nothing was written.
+    ///
+    /// # Examples
+    ///
+    /// ```
+    /// # include!(concat!(env!("CARGO_MANIFEST_DIR"), "/examples.rs"));
+    /// # fn main() {}
+    /// # fn example(uart: &mut Uart16550<Device>) -> Outcome<()> {
+    /// if uart.enable_64_byte_fifos()? {
+    ///     uart.set_fifo_size(FifoSize::SixtyFour);
+    /// }
+    /// # Ok(()) }
+    /// ```
+    ///
+    /// # Proved
+    ///
+    /// - [Does as](crate::proved::driver#Did) [`Enables64`](crate::proved::sizing#Enables64) `result`: nothing is done if the FIFOs are off. Else LCR and IER are read, and there is a wait for an empty transmitter. If it reaches the limit, nothing is written, and the result is a stall; else FIFOs of 64 are asked for, and the result is whether ISR shows them.
+    ///
+    /// <details><summary>The clauses</summary>
+    ///
+    /// [How to read them](uart_spec::proved):
+    ///
+    /// ```text
+    /// ensures { Did B.step (Enables64 result) self.old self.new }
+    /// ```
+    ///
+    /// </details>
+    pub fn enable_64_byte_fifos(&mut self) -> Result<bool, FifoSizeError> {
+        if !self.fifo_enabled {
+            return Err(FifoSizeError::FifosOff);
+        }
+        let lcr = self.lcr();
+        let ier = self.ier();
+        // A chip that switches empties its FIFOs: a byte that is still to go out would be lost.
+        if !self.wait_for(LSR::TRANSMITTER_EMPTY) {
+            return Err(FifoSizeError::Stalled);
+        }
+        let control = level_control_of(self.fifo_level());
+        // With two stop bits the frame may make LCR 0xbf, for which later chips show another
+        // register in place of FCR. A receiver looks at one stop bit, so it loses no character.
+        let opened = lcr.difference(LCR::MORE_STOP_BITS).union(LCR::DLAB);
+        // While DLAB is set a handler could reach neither data nor IER.
+        self.write_register(offsets::IER, 0);
+        // A 16750 looks at the bit only while DLAB is set, by its data sheet.
+        self.write_register(offsets::LCR, opened.bits());
+        self.write_register(offsets::FCR, control.union(FCR::FIFO_64_ENABLE).bits());
+        self.write_register(offsets::LCR, lcr.bits());
+        // So it keeps its FIFOs of 64 here. A chip that looks at the bit always leaves them, and
+        // would do so at the next call that writes FCR: bytes that were written for them would be
+        // lost. The answer is what stays.
+        self.write_register(offsets::FCR, control.bits());
+        // IER is still 0, so this read acknowledges no interrupt.
+        let on = self.isr().contains(ISR::FIFO_64_ENABLED);
+        self.write_register(offsets::IER, ier.bits());
+        Ok(on)
+    }
+}
