@@ -435,17 +435,9 @@ GUARDS |= {
     "uart_chip::fifo::Fifo::push": Guard(
         ["requires { length (items self.old) < characters (size_of self.old) }"], reason=NO_BODY
     ),
-    "uart_chip::fifo::Fifo::resize": Guard(
-        ["requires resizable { is_resizable ≡ true }", "requires most { characters size ≤ characters SixtyFour }"], reason=NO_BODY
-    ),
+    "uart_chip::fifo::Fifo::resize": Guard(["requires { characters size ≤ characters SixtyFour }"], reason=NO_BODY),
     "uart_chip::wire::Wire::push": Guard(["requires { length (sent self.old) < most self.old }"], reason=NO_BODY),
-    "uart_chip::controlling::ChipParts::resize": Guard(
-        [
-            "requires switch { (state self.old).has_size_switch ≡ true }",
-            "requires most { characters size ≤ characters SixtyFour }",
-        ],
-        reason=NO_BODY,
-    ),
+    "uart_chip::controlling::ChipParts::resize": Guard(["requires { characters size ≤ characters SixtyFour }"], reason=NO_BODY),
     "uart_chip::transmitting::TransmitterParts::put": Guard(
         ["requires { length (state self.old).queue < characters (state self.old).size }"], reason=NO_BODY
     ),

@@ -148,9 +148,7 @@ impl ChipParts for UartChip {
         self.fifo = on as u8;
     }
 
-    fn resize(&mut self, _size: FifoSize) {
-        unreachable!()
-    }
+    fn resize(&mut self, _size: FifoSize) {}
 
     fn renew_modem(&mut self, mcr: MCR) {
         self.modem.renew(mcr);

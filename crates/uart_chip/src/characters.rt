@@ -120,7 +120,9 @@ impl<Q: Fifo<Character> + Drop> Fifo<Character> for Characters<Q> {
     }
 
     fn resize(&mut self, size: FifoSize) {
-        self.queue.resize(size);
-        self.errors = 0;
+        if Q::can_resize() {
+            self.queue.resize(size);
+            self.errors = 0;
+        }
     }
 }

@@ -1,7 +1,7 @@
 //! What happens in a chip, over its parts: what an access does, and what happens between accesses.
 ghost use Rattle.std.specs.Borrow.{Lends, sem};
-ghost use Rattle.std.specs.Prelude.{◌≡◌, ◌<◌, ◌≤◌, ◌==◌, ◌+◌, true, [], not, bit_and, bit_or};
-ghost use Rattle.std.specs.Prelude.{is_some};
+ghost use Rattle.std.specs.Prelude.{◌≡◌, ◌<◌, ◌≤◌, ◌==◌, ◌+◌, true, false, [], not, bit_and};
+ghost use Rattle.std.specs.Prelude.{bit_or, is_some};
 ghost use Rattle.uart_chip.specs.Chip as spec;
 ghost use Rattle.uart_chip.specs.Chip.{ChipState};
 ghost use Rattle.uart_chip.specs.Jumps as jumps;
@@ -116,15 +116,15 @@ pub trait ChipParts {
         ensures after { state self.new ≡ record (state self.old) { fifo = on } }
         ensures canonical { canonical self.old → canonical self.new };
 
-    /// Empties both queues, and gives both FIFOs this size. The caller must show that the chip has
-    /// the switch, and that the size is at most 64.
+    /// Empties both queues, and gives both FIFOs this size, if the chip has the switch. Else it
+    /// stays as it is. The caller must show that the size is at most 64.
     fn resize(&mut self, size: FifoSize)
-        requires switch { (state self.old).has_size_switch ≡ true }
-        requires most { characters size ≤ characters SixtyFour }
-        ensures after { let c = state self.old in state self.new ≡ record c {
+        requires { characters size ≤ characters SixtyFour }
+        ensures after { let c = state self.old in c.has_size_switch ≡ true → state self.new ≡ record c {
           transmitter = record c.transmitter { size = size; queue = [] };
           receiver = record c.receiver { size = size; queue = [] };
         } }
+        ensures stays { (state self.old).has_size_switch ≡ false → state self.new ≡ state self.old }
         ensures canonical { canonical self.old → canonical self.new };
 
     /// Computes the modem lines anew under this value of MCR, and adds their changes.

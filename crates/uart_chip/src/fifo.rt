@@ -1,5 +1,5 @@
 //! The queues of the chip. A clause sees a queue as the list of its items, from the front.
-ghost use Rattle.std.specs.Prelude.{◌≡◌, ◌==◌, ◌<◌, ◌≤◌, Bool, true, List, [], ◌∷◌, ◌++◌};
+ghost use Rattle.std.specs.Prelude.{◌≡◌, ◌==◌, ◌<◌, ◌≤◌, Bool, true, false, List, [], ◌∷◌, ◌++◌};
 ghost use Rattle.std.specs.Prelude.{length, drop, slice_get, IfOk};
 ghost use Rattle.uart_spec.specs.declared.baud.TheConstants.{FIFO_SIZE};
 ghost use Rattle.uart_chip.specs.Transmitter.{room};
@@ -75,13 +75,13 @@ pub trait Fifo<T> {
         ensures items { items self.new ≡ [] }
         ensures size { size_of self.new ≡ size_of self.old };
 
-    /// Removes all items, and becomes the queue of a FIFO of this size. The caller must show that
-    /// such a queue can, and that the size is at most 64.
+    /// Removes all items, and becomes the queue of a FIFO of this size, if such a queue can. Else it
+    /// stays as it is. The caller must show that the size is at most 64.
     fn resize(&mut self, size: FifoSize)
-        requires resizable { is_resizable ≡ true }
-        requires most { characters size ≤ characters SixtyFour }
-        ensures items { items self.new ≡ [] }
-        ensures size { size_of self.new ≡ size };
+        requires { characters size ≤ characters SixtyFour }
+        ensures items { is_resizable ≡ true → items self.new ≡ [] }
+        ensures size { is_resizable ≡ true → size_of self.new ≡ size }
+        ensures stays { is_resizable ≡ false → self.new ≡ self.old };
 }
 
 /// Appends items to an empty queue.
