@@ -82,7 +82,9 @@ impl<Q: Fifo<Character>> Fifo<Character> for Characters<Q> {
     }
 
     fn resize(&mut self, size: FifoSize) {
-        self.queue.resize(size);
-        self.errors = 0;
+        if Q::can_resize() {
+            self.queue.resize(size);
+            self.errors = 0;
+        }
     }
 }

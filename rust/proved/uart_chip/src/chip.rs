@@ -329,8 +329,10 @@ impl<
     }
 
     fn resize(&mut self, size: FifoSize) {
-        self.transmitter.resize(size);
-        self.receiver.resize(size);
+        if self.has_size_switch() {
+            self.transmitter.resize(size);
+            self.receiver.resize(size);
+        }
     }
 
     fn renew_modem(&mut self, mcr: MCR) {

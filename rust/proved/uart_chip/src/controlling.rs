@@ -57,8 +57,8 @@ pub trait ChipParts {
     /// Sets whether the FIFOs are on.
     fn turn_fifo(&mut self, on: bool);
 
-    /// Empties both queues, and gives both FIFOs this size. The caller must show that the chip has
-    /// the switch, and that the size is at most 64.
+    /// Empties both queues, and gives both FIFOs this size, if the chip has the switch. Else it
+    /// stays as it is. The caller must show that the size is at most 64.
     fn resize(&mut self, size: FifoSize);
 
     /// Computes the modem lines anew under this value of MCR, and adds their changes.
