@@ -1499,6 +1499,12 @@ static inline uint8_t uart_flag_isr(bool on, uint8_t bits)
     return on ? bits : 0;
 }
 
+/* Returns what ISR shows of the FIFOs. Bit 5 of a chip without the size switch is 0. */
+static inline uint8_t uart_fifo_flags(const struct uart_chip *parts)
+{
+    return uart_flag_isr(uart_chip_fifo(parts), UART_ISR_FIFOS_ENABLED0 | UART_ISR_FIFOS_ENABLED1);
+}
+
 /* Returns whether a read of ISR that shows this interrupt acknowledges it. */
 static inline bool uart_is_thr_empty(struct uart_maybe_interrupt_type interrupt)
 {
@@ -1545,11 +1551,10 @@ static inline uint8_t uart_identification(struct uart_maybe_interrupt_type inter
 static inline uint8_t uart_read_interrupt(struct uart_chip *parts)
 {
     struct uart_maybe_interrupt_type interrupt = uart_pending_interrupt(parts);
-    uint8_t fifo =
-        uart_flag_isr(uart_chip_fifo(parts), UART_ISR_FIFOS_ENABLED0 | UART_ISR_FIFOS_ENABLED1);
+    uint8_t flags = uart_fifo_flags(parts);
     if (uart_is_thr_empty(interrupt))
         parts->transmitter.is_thr_pending = (uint8_t)false;
-    return uart_identification(interrupt) | fifo;
+    return uart_identification(interrupt) | flags;
 }
 
 /* Returns what a read of MSR returns, and clears the changes, as the read does. */
@@ -2781,7 +2786,7 @@ uart_receiver_set_trigger(struct uart_receiver *uart_receiver, enum uart_fifo_tr
 /*
  * Without the enable bit nothing but the switch is done: a chip whose FIFOs are off ignores the
  * resets. Neither the character in the shift register nor the overrun flag changes. The trigger
- * level survives when the FIFOs are switched off.
+ * level survives when the FIFOs are switched off, and so does their size.
  */
 static inline void uart_set_fifo(struct uart_chip *parts, uint8_t value)
 {
