@@ -120,10 +120,11 @@ pub trait ChipParts {
     /// stays as it is. The caller must show that the size is at most 64.
     fn resize(&mut self, size: FifoSize)
         requires { characters size ≤ characters SixtyFour }
-        ensures after { let c = state self.old in c.has_size_switch ≡ true → state self.new ≡ record c {
-          transmitter = record c.transmitter { size = size; queue = [] };
-          receiver = record c.receiver { size = size; queue = [] };
-        } }
+        ensures after { let c = state self.old in c.has_size_switch ≡ true →
+            state self.new ≡ record c {
+              transmitter = record c.transmitter { size = size; queue = [] };
+              receiver = record c.receiver { size = size; queue = [] };
+            } }
         ensures stays { (state self.old).has_size_switch ≡ false → state self.new ≡ state self.old }
         ensures canonical { canonical self.old → canonical self.new };
 

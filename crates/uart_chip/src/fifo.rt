@@ -75,8 +75,8 @@ pub trait Fifo<T> {
         ensures items { items self.new ≡ [] }
         ensures size { size_of self.new ≡ size_of self.old };
 
-    /// Removes all items, and becomes the queue of a FIFO of this size, if such a queue can. Else it
-    /// stays as it is. The caller must show that the size is at most 64.
+    /// Removes all items, and becomes the queue of a FIFO of this size, if such a queue can. Else
+    /// it stays as it is. The caller must show that the size is at most 64.
     fn resize(&mut self, size: FifoSize)
         requires { characters size ≤ characters SixtyFour }
         ensures items { is_resizable ≡ true → items self.new ≡ [] }

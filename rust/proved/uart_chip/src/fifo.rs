@@ -39,8 +39,8 @@ pub trait Fifo<T> {
     /// Removes all items.
     fn clear(&mut self);
 
-    /// Removes all items, and becomes the queue of a FIFO of this size, if such a queue can. Else it
-    /// stays as it is. The caller must show that the size is at most 64.
+    /// Removes all items, and becomes the queue of a FIFO of this size, if such a queue can. Else
+    /// it stays as it is. The caller must show that the size is at most 64.
     fn resize(&mut self, size: FifoSize);
 }
 
