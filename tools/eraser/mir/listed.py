@@ -50,12 +50,16 @@ DIFFER = {
 
 # Emitted functions that no case compares or reaches: a pattern of the name and of the cause that the program gives, and why.
 SCHEDULED = "of a chip under a schedule: nothing that is compared calls it"
+BY_SWITCH = "the size switch of a 16750, which no live chip has: rust/proved/uart_chip/tests/size_switch.rs tries it"
 SKIPPED = {
     r"^uart_chip::chip::Uart::(fifo|tick|arrive|expire_timeout|perform|rts_output): generic": SCHEDULED,
     r"^uart_chip::chip::UartChipParts::is_clear_to_send: generic": SCHEDULED,
     r"^uart_chip::controlling::rts_output: generic": SCHEDULED,
     r"^uart_chip::receiver::Receiver::(arrive|waiting_at|arrivals): generic": SCHEDULED,
     r"^uart_chip::transmitter::Transmitter::held_at: generic": SCHEDULED,
+    r"^uart_chip::(characters::CharactersFifoCharacter|chip::UartChipParts)::(can_)?resize: generic": BY_SWITCH,
+    r"^uart_chip::(receiver::Receiver|transmitter::Transmitter)::resize: generic": BY_SWITCH,
+    r"^uart_live::fixed::FixedFifoFifo::(can_)?resize: generic": BY_SWITCH,
     r"^uart_(16550|design_ware|ring)::.*Debug::fmt .*: printed and generic": "prints a backend, which the MIR's formatter does not know",
     r"^uart_ring::shown::\w+Debug::fmt: printed or generic": "prints rings over whatever backend: rust/uart_16550/tests/traits.rs has what is shown",
     r"^uart_ring::line::handle_line: generic": "over ports that its caller has: rust/uart_16550/tests/shared_line.rs calls it",
@@ -92,6 +96,11 @@ NOT_REACHED = {
     r"^uart_chip::controlling::is_(auto_flow|held_off) 1 if$": BY_DRIVER,
     r"^uart_chip::sending::sends_at_once 4 else$": BY_DRIVER,
     r"^uart_chip::transmitting::(next_move 2 if|tick 2 else)$": BY_DRIVER,
+    r"^uart_chip::characters::CharactersFifoCharacter::resize \d (entry|if|else)$": BY_SWITCH,
+    r"^uart_chip::chip::UartChipParts::(has_size_switch [13] if|resize \d (entry|if|else))$": BY_SWITCH,
+    r"^uart_chip::controlling::(fifo_flags [123] (if|else)|is_switching [13] if|switch_size 1 if)$": BY_SWITCH,
+    r"^uart_chip::(receiver::Receiver|transmitter::Transmitter)::resize 0 entry$": BY_SWITCH,
+    r"^uart_live::fixed::FixedFifoFifo::(can_)?resize 0 entry$": BY_SWITCH,
 }
 
 # Functions that read outside of an empty slice, as their contract allows.
