@@ -339,9 +339,9 @@ def together(left, most):
     return [*batch.values()] or left[:1]
 
 
-def in_batches(prover, left, is_narrow, verdicts, seconds):
+def in_batches(prover, left, is_narrow, settle, seconds):
     """Tries edits that are each in the body of a function, many in one check: of these functions and what they call, or of the whole crate.
-    Notes the verdict 'refused' on those that are, and returns those that are to be tried alone."""
+    Settles those that are refused, and returns those that are to be tried alone."""
     say, crate, alone, most = prover.say, prover.crate, [], BATCH
     while left:
         batch = together(left, most)
@@ -363,7 +363,7 @@ def in_batches(prover, left, is_narrow, verdicts, seconds):
             seconds[edit] += took / len(batch)
             if one != "waits":
                 left.remove(edit)
-                (alone.append(edit) if one == "alone" else verdicts.__setitem__(edit, one))
+                (alone.append(edit) if one == "alone" else settle(edit, one))
         # Those that waited come first, without those that they waited for.
         left.sort(key=lambda edit: found.get(edit) != "waits")
         most = min(2 * most, BATCH)
@@ -374,6 +374,12 @@ def tried(crate, edits, made, faces, say):
     """Tries edits of a crate over the libraries that `made` names, with these interfaces. Returns the verdict on each, and its processor
     seconds; `say` is told of each check. Without a verdict is everything if the crate is not proved as it stands."""
     verdicts, seconds = {}, collections.Counter()
+
+    def settle(edit, verdict):
+        """Keeps the verdict at once, so that a run which is stopped loses only the check that it was in."""
+        verdicts[edit] = verdict
+        keep(edit, faces, verdict)
+
     with proofs.work_of(crate) as work:
         prover = Prover(crate, made, faces, work, say)
         if not prover.is_proved():
@@ -381,11 +387,15 @@ def tried(crate, edits, made, faces, say):
         narrow = [edit for edit in edits if prover.name_of(edit)]
         wide = [edit for edit in edits if edit.place and edit not in narrow]
         alone = [edit for edit in edits if not edit.place]
-        alone += in_batches(prover, narrow, True, verdicts, seconds)
-        alone += in_batches(prover, wide, False, verdicts, seconds)
+        alone += in_batches(prover, narrow, True, settle, seconds)
+        alone += in_batches(prover, wide, False, settle, seconds)
         for edit in alone:
+            # Nothing can be said of an edit if the crate as it stands is not proved, or if that check was stopped.
+            if not prover.seed():
+                settle(edit, "not tried")
+                continue
             status, out, took = prover.check([edit])
-            verdicts[edit] = judged_alone(edit, status, out)
+            settle(edit, judged_alone(edit, status, out))
             seconds[edit] += took
             say(f"{edit.label}: alone: {verdicts[edit]}")
     return verdicts, seconds
