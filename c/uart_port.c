@@ -60,6 +60,23 @@ struct uart_chip_character {
     struct uart_origin origin;
 };
 
+/*
+ * How many characters each FIFO of a chip holds, for Uart16550_set_fifo_size, by which all
+ * calls that send and the rings go, and for one Uart16550_send_burst.
+ *
+ * A 16550 has 16. No register that all chips have shows the size, so it is taken from the
+ * datasheet, or Uart16550_find_fifo_size finds it. A 16750 has 64 after
+ * Uart16550_enable_64_byte_fifos. If a size is given that is larger than the chip's, bytes are
+ * lost.
+ */
+enum uart_fifo_size {
+    UART_FIFO_SIZE_SIXTEEN = 0,
+    UART_FIFO_SIZE_THIRTY_TWO = 1,
+    UART_FIFO_SIZE_SIXTY_FOUR = 2,
+    UART_FIFO_SIZE_ONE_HUNDRED_TWENTY_EIGHT = 3,
+    UART_FIFO_SIZE_TWO_HUNDRED_FIFTY_SIX = 4
+};
+
 struct uart_maybe_chip_character {
     bool is_some;
     struct uart_chip_character value;
@@ -191,7 +208,7 @@ struct uart_seen {
     bool level;
     bool has_room;
     bool is_empty;
-    bool fifo;
+    uint8_t rest;
     size_t ready;
 };
 
@@ -455,31 +472,85 @@ static inline bool uart_chip_fifo(const struct uart_chip *uart_chip)
     return uart_chip->fifo != 0;
 }
 
-/* How many items are in the queue. */
-static inline size_t
-uart_count_character(uint8_t len, const struct uart_character *items, size_t items_len)
+/* How many characters a FIFO with this number holds: as many as it says, or 16. */
+static inline uint8_t uart_places_of(uint8_t fifo_size)
 {
-    (void)items;
-    size_t number = (size_t)len;
-    return items_len < number ? items_len : number;
+    if (fifo_size < 32)
+        return 16;
+    switch (fifo_size) {
+    case 32:
+    case 64:
+    case 128:
+        return fifo_size;
+    default:
+        return 16;
+    }
+}
+
+/* How many items are in the queue of a FIFO. */
+static inline size_t uart_count(uint8_t len, uint8_t fifo_size)
+{
+    if ((uint64_t)len <= 16)
+        return (size_t)len;
+    uint8_t places_of = uart_places_of(fifo_size);
+    return (size_t)(places_of < len ? places_of : len);
 }
 
 /* Returns the number of characters in the queue. */
 static inline size_t uart_receiver_queue_len(const struct uart_receiver *uart_receiver)
 {
-    return uart_count_character(uart_receiver->queue.len, uart_receiver->queue.items, 16);
+    return uart_count(uart_receiver->queue.len, uart_receiver->fifo_size);
+}
+
+/* A FIFO of so many characters; any other number than 32, 64 and 128 counts as 16. */
+static inline enum uart_fifo_size uart_fifo_size_of(uint8_t characters)
+{
+    if (characters < 32)
+        return UART_FIFO_SIZE_SIXTEEN;
+    switch (characters) {
+    case 32:
+        return UART_FIFO_SIZE_THIRTY_TWO;
+    case 64:
+        return UART_FIFO_SIZE_SIXTY_FOUR;
+    case 128:
+        return UART_FIFO_SIZE_ONE_HUNDRED_TWENTY_EIGHT;
+    default:
+        return UART_FIFO_SIZE_SIXTEEN;
+    }
+}
+
+/* Returns the size of the FIFO. */
+static inline enum uart_fifo_size uart_receiver_size(const struct uart_receiver *uart_receiver)
+{
+    return uart_fifo_size_of(uart_receiver->fifo_size);
+}
+
+/* Returns the number of characters. */
+static inline size_t uart_fifo_size_characters(enum uart_fifo_size fifo_size)
+{
+    switch (fifo_size) {
+    case UART_FIFO_SIZE_SIXTEEN:
+        return 16;
+    case UART_FIFO_SIZE_THIRTY_TWO:
+        return 32;
+    case UART_FIFO_SIZE_SIXTY_FOUR:
+        return 64;
+    case UART_FIFO_SIZE_ONE_HUNDRED_TWENTY_EIGHT:
+        return 128;
+    case UART_FIFO_SIZE_TWO_HUNDRED_FIFTY_SIX:
+    default:
+        return 256;
+    }
 }
 
 /*
  * Returns the number of characters that a queue has room for, with a FIFO of this size. Without
  * FIFO that is one, although it could hold more.
- *
- * The size is sixteen in each call, and so it is left out.
  */
-static inline size_t uart_room_of(bool fifo)
+static inline size_t uart_room_of(bool fifo, enum uart_fifo_size size)
 {
     if (fifo)
-        return 16;
+        return uart_fifo_size_characters(size);
     return 1;
 }
 
@@ -516,21 +587,36 @@ uart_receiver_put(struct uart_receiver *uart_receiver, struct uart_chip_characte
         uart_receiver->is_front_reported = 0;
     struct uart_character *at = uart_receiver->queue.items;
     struct uart_character character = uart_character_of(new_);
-    uart_push_character(&uart_receiver->queue.len, at, 16, character);
+    uart_push_character(&uart_receiver->queue.len, at, 128, character);
 }
 
-/* The items behind the front move down by one place. */
-static inline void
-uart_drop_front_character(uint8_t *len, struct uart_character *items, size_t items_len)
+/* The items behind those of a FIFO of 16 move down by one place, as many as wait. */
+static UART_APART void
+uart_drop_others_character(struct uart_character *items, size_t items_len, size_t count)
 {
-    size_t count = uart_count_character(*len, items, items_len);
-    uart_move_down_characters(items, 1, 0, items_len - 1);
-    *len = (uint8_t)((uint8_t)count - 1);
+    (void)items_len;
+    size_t number = count / 16;
+    size_t number2 = count % 16 == 0 ? number : number + 1;
+    for (size_t block = 1; block < number2; block++)
+        uart_move_down_characters(&items[16 * block - 1], 1, 0, 17 - 1);
 }
 
-/* Takes the front. */
+/*
+ * The items behind the front move down by one place, as many as wait.
+ * In blocks of a constant size: a move of any number of items would call memmove.
+ */
+static inline void
+uart_drop_front_character(struct uart_character *items, size_t items_len, size_t count)
+{
+    uart_move_down_characters(items, 1, 0, 16 - 1);
+    if (16 < count)
+        uart_drop_others_character(items, items_len, count);
+}
+
+/* Takes the front of the queue of a FIFO. */
 static inline struct uart_maybe_character
-uart_pop_front_character(uint8_t *len, struct uart_character *items, size_t items_len)
+uart_pop_front_character(uint8_t *len, struct uart_character *items, size_t items_len,
+    uint8_t fifo_size)
 {
     if (*len == 0)
         return uart_no_character();
@@ -539,7 +625,9 @@ uart_pop_front_character(uint8_t *len, struct uart_character *items, size_t item
         *len = 0;
         return uart_some_character(character);
     }
-    uart_drop_front_character(len, items, items_len);
+    size_t count = uart_count(*len, fifo_size);
+    uart_drop_front_character(items, items_len, count);
+    *len = (uint8_t)((uint8_t)count - 1);
     return uart_some_character(character);
 }
 
@@ -565,7 +653,8 @@ static inline struct uart_maybe_chip_character
 uart_receiver_pop(struct uart_receiver *uart_receiver)
 {
     struct uart_maybe_character found =
-        uart_pop_front_character(&uart_receiver->queue.len, uart_receiver->queue.items, 16);
+        uart_pop_front_character(&uart_receiver->queue.len, uart_receiver->queue.items, 128,
+        uart_receiver->fifo_size);
     if (!found.is_some)
         return uart_no_chip_character();
     struct uart_character front = found.value;
@@ -593,7 +682,7 @@ static inline void
 uart_enter(struct uart_receiver *parts, bool fifo, struct uart_chip_character new_)
 {
     size_t receiver_queue_len = uart_receiver_queue_len(parts);
-    if (receiver_queue_len < uart_room_of(fifo)) {
+    if (receiver_queue_len < uart_room_of(fifo, uart_receiver_size(parts))) {
         uart_receiver_put(parts, new_);
     } else {
         if (!fifo) {
@@ -684,18 +773,10 @@ uart_transmitter_shifting(const struct uart_transmitter *uart_transmitter)
         uart_transmitter->ticks_left));
 }
 
-/* How many items are in the queue. */
-static inline size_t uart_count_u8(uint8_t len, const uint8_t *items, size_t items_len)
-{
-    (void)items;
-    size_t number = (size_t)len;
-    return items_len < number ? items_len : number;
-}
-
 /* Returns the number of bytes in the queue. */
 static inline size_t uart_transmitter_queue_len(const struct uart_transmitter *uart_transmitter)
 {
-    return uart_count_u8(uart_transmitter->queue.len, uart_transmitter->queue.items, 16);
+    return uart_count(uart_transmitter->queue.len, uart_transmitter->fifo_size);
 }
 
 /* Returns the number of bytes that are still to be sent. */
@@ -862,14 +943,54 @@ static inline uint8_t uart_characters_of_16(enum uart_fifo_trigger_level level)
     }
 }
 
+/* Returns one of four numbers, for the lowest trigger level to the highest. */
+static inline uint8_t
+uart_by_level(uint8_t first, uint8_t second, uint8_t third, uint8_t fourth,
+    enum uart_fifo_trigger_level level)
+{
+    switch (level) {
+    case UART_FIFO_TRIGGER_LEVEL_ONE:
+        return first;
+    case UART_FIFO_TRIGGER_LEVEL_FOUR:
+        return second;
+    case UART_FIFO_TRIGGER_LEVEL_EIGHT:
+        return third;
+    case UART_FIFO_TRIGGER_LEVEL_FOURTEEN:
+    default:
+        return fourth;
+    }
+}
+
+/*
+ * Returns the number of characters of a trigger level, for a FIFO of this size.
+ * The levels have the names of their numbers for a 16550.
+ */
+static inline uint8_t
+uart_characters_of(enum uart_fifo_size size, enum uart_fifo_trigger_level level)
+{
+    switch (size) {
+    case UART_FIFO_SIZE_SIXTEEN:
+        return uart_characters_of_16(level);
+    case UART_FIFO_SIZE_THIRTY_TWO:
+        return uart_by_level(8, 16, 24, 28, level);
+    case UART_FIFO_SIZE_SIXTY_FOUR:
+        return uart_by_level(1, 16, 32, 56, level);
+    case UART_FIFO_SIZE_ONE_HUNDRED_TWENTY_EIGHT:
+        return uart_by_level(16, 32, 112, 120, level);
+    case UART_FIFO_SIZE_TWO_HUNDRED_FIFTY_SIX:
+    default:
+        return uart_by_level(1, 64, 128, 254, level);
+    }
+}
+
 /* Returns whether there are as many characters as the trigger level, or without FIFO any. */
 static inline bool uart_is_data_pending(const struct uart_receiver *parts, bool fifo)
 {
-    if (fifo) {
-        size_t trigger = (size_t)uart_characters_of_16(uart_receiver_trigger(parts));
-        return trigger <= uart_receiver_queue_len(parts);
-    }
-    return 0 < uart_receiver_queue_len(parts);
+    size_t waiting = uart_receiver_queue_len(parts);
+    if (!fifo || (waiting == 0))
+        return 0 < waiting;
+    enum uart_fifo_trigger_level level = uart_receiver_trigger(parts);
+    return (size_t)uart_characters_of(uart_receiver_size(parts), level) <= waiting;
 }
 
 /*
@@ -1028,6 +1149,13 @@ uint8_t uart_chip_is_interrupting(const struct uart_chip *chip)
     return (uint8_t)uart_is_interrupting(chip);
 }
 
+/* Returns the size of the FIFO. */
+static inline enum uart_fifo_size
+uart_transmitter_size(const struct uart_transmitter *uart_transmitter)
+{
+    return uart_fifo_size_of(uart_transmitter->fifo_size);
+}
+
 /* Returns what IER keeps of a write: the interrupts that the chip has. */
 static inline uint8_t uart_kept_interrupts(uint8_t written)
 {
@@ -1123,10 +1251,11 @@ static inline bool uart_is_sound_queue(const struct uart_receiver *receiver)
  * due.
  */
 static inline bool
-uart_is_sound_receiver(const struct uart_receiver *receiver, bool fifo, uint16_t char_ticks)
+uart_is_sound_receiver(const struct uart_receiver *receiver, enum uart_fifo_size size, bool fifo,
+    uint16_t char_ticks)
 {
     size_t receiver_queue_len = uart_receiver_queue_len(receiver);
-    bool is_so = receiver_queue_len <= uart_room_of(fifo) && uart_is_sound_queue(receiver);
+    bool is_so = receiver_queue_len <= uart_room_of(fifo, size) && uart_is_sound_queue(receiver);
     return is_so && (uint32_t)receiver->timeout_ticks <= 4 * (uint32_t)char_ticks;
 }
 
@@ -1152,7 +1281,8 @@ static inline bool uart_is_ticking(uint16_t char_ticks, struct uart_maybe_shifti
 /* How many bytes have gone out and were not taken yet. */
 static inline size_t uart_wire_len(const struct uart_wire *uart_wire)
 {
-    return uart_count_u8(uart_wire->len, uart_wire->items, 64);
+    size_t number = (size_t)uart_wire->len;
+    return 64 < number ? 64 : number;
 }
 
 /* How many bytes there is room for. */
@@ -1163,7 +1293,9 @@ static inline size_t uart_wire_capacity(const struct uart_wire *uart_wire)
 }
 
 /* The ticks of a character are in their range, and the queue and the wire fit. */
-static inline bool uart_is_sound_transmitter(const struct uart_transmitter *transmitter, bool fifo)
+static inline bool
+uart_is_sound_transmitter(const struct uart_transmitter *transmitter, enum uart_fifo_size size,
+    bool fifo)
 {
     bool is_so = uart_is_char_time(transmitter->char_ticks);
     if (is_so) {
@@ -1173,7 +1305,7 @@ static inline bool uart_is_sound_transmitter(const struct uart_transmitter *tran
     bool is_so2 = is_so;
     if (is_so2) {
         size_t transmitter_queue_len = uart_transmitter_queue_len(transmitter);
-        is_so2 = transmitter_queue_len <= uart_room_of(fifo);
+        is_so2 = transmitter_queue_len <= uart_room_of(fifo, size);
     }
     bool is_so3 = is_so2;
     if (is_so3) {
@@ -1189,20 +1321,33 @@ static inline bool uart_has_limit(const struct uart_chip *chip)
     return (uint32_t)chip->receiver.timeout_limit == 4 * (uint32_t)chip->transmitter.char_ticks;
 }
 
+/* Both FIFOs have one size. */
+static inline bool uart_has_one_size(const struct uart_chip *chip)
+{
+    uint8_t places_of = uart_places_of(chip->receiver.fifo_size);
+    return places_of == uart_places_of(chip->transmitter.fifo_size);
+}
+
 /* Every part is sound. */
 static inline bool uart_are_sound(const struct uart_chip *chip)
 {
     bool fifo = uart_chip_fifo(chip);
+    enum uart_fifo_size size = uart_transmitter_size(&chip->transmitter);
     bool is_so = uart_is_sound_latches(uart_chip_latches_of(chip)) &&
         uart_is_implemented(uart_chip_model(chip), fifo);
     bool is_so2 = is_so && uart_is_sound_modem(uart_modem_data_of(chip->modem));
     bool is_so3 = is_so2 &&
-        uart_is_sound_receiver(&chip->receiver, fifo, chip->transmitter.char_ticks);
-    bool is_so4 = is_so3 && uart_is_sound_transmitter(&chip->transmitter, fifo);
-    return is_so4 && uart_has_limit(chip);
+        uart_is_sound_receiver(&chip->receiver, size, fifo, chip->transmitter.char_ticks);
+    bool is_so4 = is_so3 && uart_is_sound_transmitter(&chip->transmitter, size, fifo);
+    bool is_so5 = is_so4 && uart_has_limit(chip);
+    return is_so5 && uart_has_one_size(chip);
 }
 
-/* The data are those of a sound chip. No function of this library makes another of one. */
+/*
+ * The data are those of a sound chip. No function of this library makes another of one.
+ *
+ * Proved: sound as a live chip is, with FIFOs of the size that they have.
+ */
 static UART_APART bool uart_is_sound(const struct uart_chip *chip)
 {
     return uart_are_sound(chip);
@@ -1239,7 +1384,11 @@ static inline void uart_wire_restore(struct uart_wire *uart_wire, const struct u
     uart_put_all(&uart_wire->len, at, 64, saved->items, wire_len);
 }
 
-/* Becomes a transmitter like this one. */
+/*
+ * Becomes a transmitter like this one.
+ *
+ * Proved: a length is within the FIFO.
+ */
 static inline void
 uart_transmitter_restore(struct uart_transmitter *uart_transmitter,
     const struct uart_transmitter *saved)
@@ -1250,9 +1399,10 @@ uart_transmitter_restore(struct uart_transmitter *uart_transmitter,
     uart_transmitter->is_shifting = (uint8_t)(saved->is_shifting != 0);
     uart_transmitter->shift_byte = saved->shift_byte;
     uart_transmitter->is_thr_pending = (uint8_t)(saved->is_thr_pending != 0);
+    uart_transmitter->fifo_size = uart_places_of(saved->fifo_size);
     uart_wire_restore(&uart_transmitter->wire, &saved->wire);
     size_t transmitter_queue_len = uart_transmitter_queue_len(saved);
-    uart_put_all(&uart_transmitter->queue.len, uart_transmitter->queue.items, 16,
+    uart_put_all(&uart_transmitter->queue.len, uart_transmitter->queue.items, 128,
         saved->queue.items, transmitter_queue_len);
 }
 
@@ -1287,21 +1437,21 @@ static inline struct uart_character uart_character_restored(struct uart_characte
 }
 
 /*
- * Becomes a queue like this one.
+ * Becomes a queue like this one, of a FIFO of the same size.
  *
  * Proved: a flag of a character that waits too.
  */
 static inline void
 uart_characters_restore(struct uart_characters *uart_characters,
-    const struct uart_characters *saved)
+    const struct uart_characters *saved, uint8_t fifo_size)
 {
-    size_t count_character = uart_count_character(saved->len, saved->items, 16);
+    size_t count = uart_count(saved->len, fifo_size);
     const struct uart_character *at = saved->items;
     uart_characters->len = 0;
-    for (size_t character = 0; character < count_character; character++) {
+    for (size_t character = 0; character < count; character++) {
         struct uart_character *at2 = uart_characters->items;
         struct uart_character character2 = uart_character_restored(at[character]);
-        uart_push_character(&uart_characters->len, at2, 16, character2);
+        uart_push_character(&uart_characters->len, at2, 128, character2);
     }
 }
 
@@ -1319,7 +1469,8 @@ uart_receiver_restore(struct uart_receiver *uart_receiver, const struct uart_rec
     uart_receiver->is_front_reported = (uint8_t)(saved->is_front_reported != 0);
     uart_receiver->last_byte = saved->last_byte;
     uart_receiver->trigger = uart_number_of(uart_trigger_of(saved->trigger));
-    uart_characters_restore(&uart_receiver->queue, &saved->queue);
+    uart_receiver->fifo_size = uart_places_of(saved->fifo_size);
+    uart_characters_restore(&uart_receiver->queue, &saved->queue, saved->fifo_size);
 }
 
 /*
@@ -1350,55 +1501,76 @@ UART_SELDOM uint32_t uart_chip_load(struct uart_chip *chip, const struct uart_ch
     return UART_OK;
 }
 
-/*
- * A receiver to which nothing has come yet.
- *
- * Proved: the trigger is the number of characters of its level.
- */
-static inline struct uart_receiver uart_receiver_new(uint16_t char_ticks)
+/* A chip can be made with FIFOs of so many characters. */
+static inline bool uart_is_fifo_size(uint8_t characters)
 {
-    uint16_t number = (uint16_t)(4 * char_ticks);
-    struct uart_character character = uart_make_character(0, 0, 0);
-    struct uart_characters uart_characters;
-    uart_characters.len = 0;
-    for (size_t place = 0; place < 16; place++)
-        uart_characters.items[place] = character;
-    struct uart_receiver uart_receiver;
-    uart_receiver.timeout_ticks = 0;
-    uart_receiver.timeout_limit = number;
-    uart_receiver.is_overrun = 0;
-    uart_receiver.is_front_reported = 0;
-    uart_receiver.last_byte = 0;
-    uart_receiver.trigger = 1;
-    uart_receiver.queue = uart_characters;
-    return uart_receiver;
+    switch (characters) {
+    case 16:
+    case 32:
+    case 64:
+    case 128:
+        return true;
+    default:
+        return false;
+    }
 }
 
 /*
- * A chip after power on.
+ * Becomes a transmitter that has sent nothing yet, with a FIFO of this size.
+ * What is in the queue's places means nothing. To clear so many would call memset.
  *
- * Proved: the whole chip, but for bytes behind the end of a queue and those of an empty
- * shift register.
+ * Proved: a length is within the FIFO.
  */
-static struct uart_chip
-uart_new_chip(uint8_t model, uint16_t char_ticks, uint8_t capacity, uint8_t cuts)
+static inline void
+uart_transmitter_power_on(struct uart_transmitter *uart_transmitter, uint8_t fifo_size,
+    uint16_t char_ticks, uint8_t capacity)
 {
-    struct uart_bytes uart_bytes;
-    uart_bytes.len = 0;
-    uart_fill_bytes(uart_bytes.items, 0, 16);
+    uart_transmitter->overflows = 0;
+    uart_transmitter->char_ticks = char_ticks;
+    uart_transmitter->ticks_left = 0;
+    uart_transmitter->is_shifting = 0;
+    uart_transmitter->shift_byte = 0;
+    uart_transmitter->is_thr_pending = 0;
+    uart_transmitter->fifo_size = uart_places_of(fifo_size);
+    uart_transmitter->queue.len = 0;
     struct uart_wire uart_wire;
     uart_wire.len = 0;
     uart_wire.capacity = capacity;
     uart_fill_bytes(uart_wire.items, 0, 64);
-    struct uart_transmitter uart_transmitter;
-    uart_transmitter.overflows = 0;
-    uart_transmitter.char_ticks = char_ticks;
-    uart_transmitter.ticks_left = 0;
-    uart_transmitter.is_shifting = 0;
-    uart_transmitter.shift_byte = 0;
-    uart_transmitter.is_thr_pending = 0;
-    uart_transmitter.queue = uart_bytes;
-    uart_transmitter.wire = uart_wire;
+    uart_transmitter->wire = uart_wire;
+}
+
+/*
+ * Becomes a receiver to which nothing has come yet, with a FIFO of this size.
+ * What is in the queue's places means nothing. To clear so many would call memset.
+ *
+ * Proved: the trigger is the number of characters of its level.
+ */
+static inline void
+uart_receiver_power_on(struct uart_receiver *uart_receiver, uint8_t fifo_size, uint16_t char_ticks)
+{
+    uart_receiver->timeout_ticks = 0;
+    uart_receiver->timeout_limit = (uint16_t)(4 * char_ticks);
+    uart_receiver->is_overrun = 0;
+    uart_receiver->is_front_reported = 0;
+    uart_receiver->last_byte = 0;
+    uart_receiver->trigger = 1;
+    uart_receiver->fifo_size = uart_places_of(fifo_size);
+    uart_receiver->queue.len = 0;
+}
+
+/*
+ * Becomes a chip after power on, with FIFOs of this size.
+ *
+ * Proved: the whole chip, but for bytes behind the end of a queue and those of an empty
+ * shift register.
+ */
+static inline void
+uart_chip_power_on(struct uart_chip *uart_chip, uint8_t model, uint8_t fifo_size,
+    uint16_t char_ticks, uint8_t capacity, uint8_t cuts)
+{
+    uart_transmitter_power_on(&uart_chip->transmitter, fifo_size, char_ticks, capacity);
+    uart_receiver_power_on(&uart_chip->receiver, fifo_size, char_ticks);
     struct uart_latches uart_latches;
     uart_latches.ier = 0;
     uart_latches.lcr = 0;
@@ -1406,15 +1578,28 @@ uart_new_chip(uint8_t model, uint16_t char_ticks, uint8_t capacity, uint8_t cuts
     uart_latches.scr = 0;
     uart_latches.dll = 0;
     uart_latches.dlm = 0;
-    struct uart_chip uart_chip;
-    uart_chip.transmitter = uart_transmitter;
-    uart_chip.receiver = uart_receiver_new(char_ticks);
-    uart_chip.latches = uart_latches;
-    uart_chip.modem = uart_make_modem(0, 0, 0);
-    uart_chip.model = (uint8_t)(model != 0);
-    uart_chip.fifo = 0;
-    uart_chip.cuts = (uint8_t)(cuts != 0);
-    return uart_chip;
+    uart_chip->latches = uart_latches;
+    uart_chip->modem = uart_make_modem(0, 0, 0);
+    uart_chip->model = (uint8_t)(model != 0);
+    uart_chip->fifo = 0;
+    uart_chip->cuts = (uint8_t)(cuts != 0);
+}
+
+/* Makes a chip after power on, with FIFOs of so many characters. */
+UART_SELDOM uint32_t
+uart_chip_new_sized(struct uart_chip *chip, uint8_t model, uint8_t fifo_size, uint16_t char_ticks,
+    uint8_t wire_capacity, uint8_t cuts)
+{
+    if (chip == NULL)
+        return UART_NULL_POINTER;
+    if (!uart_is_fifo_size(fifo_size))
+        return UART_BAD_FIFO;
+    if ((char_ticks == 0) || (1000 < char_ticks))
+        return UART_BAD_TICKS;
+    if (64 < (uint64_t)wire_capacity)
+        return UART_BAD_WIRE;
+    uart_chip_power_on(chip, model, fifo_size, char_ticks, wire_capacity, cuts);
+    return UART_OK;
 }
 
 /* Makes a chip after power on. */
@@ -1424,12 +1609,7 @@ uart_chip_new(struct uart_chip *chip, uint8_t model, uint16_t char_ticks, uint8_
 {
     if (chip == NULL)
         return UART_NULL_POINTER;
-    if ((char_ticks == 0) || (1000 < char_ticks))
-        return UART_BAD_TICKS;
-    if (64 < (uint64_t)wire_capacity)
-        return UART_BAD_WIRE;
-    *chip = uart_new_chip(model, char_ticks, wire_capacity, cuts);
-    return UART_OK;
+    return uart_chip_new_sized(chip, model, 16, char_ticks, wire_capacity, cuts);
 }
 
 /* Returns whether a character has errors. */
@@ -1643,7 +1823,7 @@ uint8_t uart_chip_read(struct uart_chip *chip, uint8_t offset)
 /* Returns how many characters can be received before one is lost. */
 static inline size_t uart_receiving_receive_room(const struct uart_receiver *parts, bool fifo)
 {
-    size_t room_of = uart_room_of(fifo);
+    size_t room_of = uart_room_of(fifo, uart_receiver_size(parts));
     size_t receiver_queue_len = uart_receiver_queue_len(parts);
     return receiver_queue_len <= room_of ? room_of - receiver_queue_len : 0;
 }
@@ -1767,19 +1947,13 @@ UART_SELDOM uint32_t uart_chip_set_lines(struct uart_chip *chip, uint8_t inputs)
     return UART_OK;
 }
 
-/* The items behind the front move down by one place. */
-static inline void uart_drop_front_u8(uint8_t *len, uint8_t *items, size_t items_len)
-{
-    size_t count = uart_count_u8(*len, items, items_len);
-    uart_move_down_bytes(items, 1, 0, items_len - 1);
-    *len = (uint8_t)((uint8_t)count - 1);
-}
-
 /* Takes the front. */
 static inline uint8_t uart_wire_pop_front(struct uart_wire *uart_wire)
 {
     uint8_t number = uart_wire->items[0];
-    uart_drop_front_u8(&uart_wire->len, uart_wire->items, 64);
+    size_t count = uart_wire_len(uart_wire);
+    uart_move_down_bytes(uart_wire->items, 1, 0, 64 - 1);
+    uart_wire->len = (uint8_t)((uint8_t)count - 1);
     return number;
 }
 
@@ -1799,6 +1973,8 @@ static inline size_t uart_wire_take(struct uart_wire *uart_wire, uint8_t *bytes,
 /*
  * Takes bytes from the front of the wire: as many as there are, and as bytes has room for.
  * Returns how many.
+ *
+ * Proved: a length is within the FIFO.
  */
 static inline size_t
 uart_transmitter_take_wire(struct uart_transmitter *uart_transmitter, uint8_t *bytes,
@@ -1923,8 +2099,30 @@ static inline struct uart_maybe_u8 uart_shift(struct uart_transmitter *parts, bo
     return uart_no_u8();
 }
 
-/* Takes the front. */
-static inline struct uart_maybe_u8 uart_pop_front_u8(uint8_t *len, uint8_t *items, size_t items_len)
+/* The items behind those of a FIFO of 16 move down by one place, as many as wait. */
+static UART_APART void uart_drop_others_u8(uint8_t *items, size_t items_len, size_t count)
+{
+    (void)items_len;
+    size_t number = count / 16;
+    size_t number2 = count % 16 == 0 ? number : number + 1;
+    for (size_t block = 1; block < number2; block++)
+        uart_move_down_bytes(&items[(16 * block - 1) * sizeof(uint8_t)], 1, 0, 17 - 1);
+}
+
+/*
+ * The items behind the front move down by one place, as many as wait.
+ * In blocks of a constant size: a move of any number of items would call memmove.
+ */
+static inline void uart_drop_front_u8(uint8_t *items, size_t items_len, size_t count)
+{
+    uart_move_down_bytes(items, 1, 0, 16 - 1);
+    if (16 < count)
+        uart_drop_others_u8(items, items_len, count);
+}
+
+/* Takes the front of the queue of a FIFO. */
+static inline struct uart_maybe_u8
+uart_pop_front_u8(uint8_t *len, uint8_t *items, size_t items_len, uint8_t fifo_size)
 {
     if (*len == 0)
         return uart_no_u8();
@@ -1933,14 +2131,17 @@ static inline struct uart_maybe_u8 uart_pop_front_u8(uint8_t *len, uint8_t *item
         *len = 0;
         return uart_some_u8(number);
     }
-    uart_drop_front_u8(len, items, items_len);
+    size_t count = uart_count(*len, fifo_size);
+    uart_drop_front_u8(items, items_len, count);
+    *len = (uint8_t)((uint8_t)count - 1);
     return uart_some_u8(number);
 }
 
 /* Removes the front of the queue, and returns it. */
 static inline struct uart_maybe_u8 uart_transmitter_pop(struct uart_transmitter *uart_transmitter)
 {
-    return uart_pop_front_u8(&uart_transmitter->queue.len, uart_transmitter->queue.items, 16);
+    return uart_pop_front_u8(&uart_transmitter->queue.len, uart_transmitter->queue.items, 128,
+        uart_transmitter->fifo_size);
 }
 
 /* Moves the front of the queue into an empty shift register. */
@@ -2243,14 +2444,48 @@ static inline struct uart_virtual_told uart_told_known(struct uart_told uart_tol
     return told;
 }
 
+/*
+ * Returns whether the FIFO has room for one more character.
+ * Each has room for 16, so mostly there is no need to look at its size.
+ */
+static inline bool uart_receiver_has_place(const struct uart_receiver *uart_receiver)
+{
+    bool is_so = (uint64_t)uart_receiver->queue.len < 16;
+    if (!is_so) {
+        uint8_t number = uart_receiver->queue.len;
+        is_so = number < uart_places_of(uart_receiver->fifo_size);
+    }
+    return is_so;
+}
+
+/* Returns whether a character can be received. */
+static inline bool uart_has_room(const struct uart_chip *chip)
+{
+    if (uart_is_loopback(chip))
+        return false;
+    if (uart_chip_fifo(chip))
+        return uart_receiver_has_place(&chip->receiver);
+    return uart_receiver_queue_len(&chip->receiver) == 0;
+}
+
+/*
+ * Returns how many more characters than one a FIFO holds: none, if the guest has the FIFOs off.
+ */
+static inline uint8_t uart_rest_of(const struct uart_chip *chip)
+{
+    if (uart_chip_fifo(chip))
+        return (uint8_t)(uart_places_of(chip->transmitter.fifo_size) - 1);
+    return 0;
+}
+
 /* Returns what is seen of the chip when a call ends. */
 static inline struct uart_seen uart_seen_of(const struct uart_chip *chip)
 {
     struct uart_seen seen;
     seen.level = uart_is_interrupting(chip);
-    seen.has_room = uart_controlling_receive_room(chip) != 0;
+    seen.has_room = uart_has_room(chip);
     seen.is_empty = uart_receiver_queue_len(&chip->receiver) == 0;
-    seen.fifo = uart_chip_fifo(chip);
+    seen.rest = uart_rest_of(chip);
     seen.ready = uart_wire_len(&chip->transmitter.wire);
     return seen;
 }
@@ -2291,10 +2526,11 @@ uart_room_after(struct uart_kind kind, struct uart_seen seen, struct uart_virtua
  * A burst of 16 bytes takes the line down 16 times. The first of them is signalled, which calls the
  * guest's handler again once it is done; 15 signals more would say nothing. But a guest that does
  * not look may have returned from its handler before any of them. So a signal covers others only
- * after a look, and no more than a FIFO has room for.
+ * after a look, and no more than a FIFO has room for: rest says how many that are, with the one
+ * access in which the signal is given.
  */
 static uint8_t
-uart_spare_after(struct uart_kind kind, bool signal, bool fifo, struct uart_virtual_told told)
+uart_spare_after(struct uart_kind kind, bool signal, uint8_t rest, struct uart_virtual_told told)
 {
     if (kind.looks)
         return 0;
@@ -2302,8 +2538,8 @@ uart_spare_after(struct uart_kind kind, bool signal, bool fifo, struct uart_virt
         uint8_t number;
         bool is_so;
         if (kind.moves_data) {
-            if (told.has_looked && fifo) {
-                number = 15;
+            if (told.has_looked) {
+                number = rest;
                 is_so = false;
             } else {
                 is_so = true;
@@ -2342,7 +2578,7 @@ uart_tell(struct uart_seen seen, bool was_up, struct uart_virtual_told *told, st
     told2.line = seen.level;
     told2.has_room = has_room;
     told2.has_looked = kind.looks || (told->has_looked && !signal);
-    told2.spare = uart_spare_after(kind, signal, seen.fifo, *told);
+    told2.spare = uart_spare_after(kind, signal, seen.rest, *told);
     *told = told2;
     return todo;
 }
@@ -2399,27 +2635,38 @@ uart_port_load(struct uart_port *port, const struct uart_chip *saved, struct uar
     return UART_OK;
 }
 
+/* Returns the ticks that pass in each call of a port whose FIFOs have this size. */
+static inline uint16_t uart_settle_ticks(enum uart_fifo_size size)
+{
+    return (uint16_t)((uint16_t)uart_fifo_size_characters(size) + 6);
+}
+
 /*
  * Lets the time of a call pass. If the transmitter holds nothing, as in most calls, a reception
- * timeout is all that time brings.
+ * timeout is all that time brings, and nothing if that is due.
  *
  * Proved: the whole chip, but for bytes behind the end of a queue and those of an empty
  * shift register.
  */
 static inline void uart_settle(struct uart_chip *chip)
 {
-    if (uart_held_len(&chip->transmitter) == 0)
-        uart_count_up(&chip->receiver, 22);
-    else
-        uart_advance(chip, 22);
+    if (uart_held_len(&chip->transmitter) != 0) {
+        uart_advance(chip, uart_settle_ticks(uart_transmitter_size(&chip->transmitter)));
+    } else if (chip->receiver.timeout_ticks != chip->receiver.timeout_limit) {
+        uint16_t ticks = uart_settle_ticks(uart_transmitter_size(&chip->transmitter));
+        uart_count_up(&chip->receiver, ticks);
+    }
 }
 
-/* Makes a port after power on. */
-UART_SELDOM void uart_port_new(struct uart_port *port, uint8_t model)
+/*
+ * Makes a port after power on, with FIFOs of this size.
+ *
+ * Proved: a port whose data are the one value for their meaning, but for bytes of its chip
+ * that mean nothing.
+ */
+static void uart_power_on(struct uart_port *port, uint8_t model, uint8_t fifo_size)
 {
-    if (port == NULL)
-        return;
-    port->chip = uart_new_chip(model, 1, 64, 0);
+    uart_chip_power_on(&port->chip, model, fifo_size, 1, 64, 0);
     struct uart_told uart_told;
     uart_told.line = 0;
     uart_told.has_room = 0;
@@ -2442,6 +2689,25 @@ UART_SELDOM void uart_port_new(struct uart_port *port, uint8_t model)
     uart_decide(port, true, kind, &todo);
 }
 
+/* Makes a port after power on. */
+UART_SELDOM void uart_port_new(struct uart_port *port, uint8_t model)
+{
+    if (port == NULL)
+        return;
+    uart_power_on(port, model, 16);
+}
+
+/* Makes a port after power on, with FIFOs of so many characters. */
+UART_SELDOM uint32_t uart_port_new_sized(struct uart_port *port, uint8_t model, uint8_t fifo_size)
+{
+    if (port == NULL)
+        return UART_NULL_POINTER;
+    if (!uart_is_fifo_size(fifo_size))
+        return UART_BAD_FIFO;
+    uart_power_on(port, model, fifo_size);
+    return UART_OK;
+}
+
 /*
  * Returns whether a call of this kind leaves nothing to be told, as most do that find no interrupt.
  */
@@ -2451,7 +2717,7 @@ static inline bool uart_leaves_nothing(const struct uart_port *port, struct uart
         (port->told.line == 0 &&
         (port->told.spare == 0 &&
         (port->told.has_room != 0 &&
-        (uart_controlling_receive_room(&port->chip) != 0 && !uart_is_interrupting(&port->chip)))));
+        (uart_has_room(&port->chip) && !uart_is_interrupting(&port->chip)))));
 }
 
 /*
@@ -2608,7 +2874,11 @@ static inline void uart_wire_remove(struct uart_wire *uart_wire, size_t count)
         uart_wire_pop_front(uart_wire);
 }
 
-/* Removes this number of bytes from the front of the wire, or all if there are fewer. */
+/*
+ * Removes this number of bytes from the front of the wire, or all if there are fewer.
+ *
+ * Proved: a length is within the FIFO.
+ */
 static inline void
 uart_transmitter_remove_wire(struct uart_transmitter *uart_transmitter, size_t count)
 {
@@ -2646,7 +2916,7 @@ uart_chip_set_latches(struct uart_chip *uart_chip, struct uart_chip_latches latc
 /* Appends a byte to the queue. The caller must show that there is room. */
 static inline void uart_transmitter_put(struct uart_transmitter *uart_transmitter, uint8_t byte)
 {
-    uart_push_u8(&uart_transmitter->queue.len, uart_transmitter->queue.items, 16, byte);
+    uart_push_u8(&uart_transmitter->queue.len, uart_transmitter->queue.items, 128, byte);
 }
 
 /* Counts a byte that was written while there was no room. The count saturates. */
@@ -2665,7 +2935,8 @@ static inline void uart_transmitter_count_overflow(struct uart_transmitter *uart
 static inline void uart_load(struct uart_transmitter *parts, bool fifo, uint8_t byte)
 {
     if (fifo) {
-        if (uart_transmitter_queue_len(parts) < 16)
+        size_t transmitter_queue_len = uart_transmitter_queue_len(parts);
+        if (transmitter_queue_len < uart_fifo_size_characters(uart_transmitter_size(parts)))
             uart_transmitter_put(parts, byte);
         else
             uart_transmitter_count_overflow(parts);
@@ -2884,7 +3155,7 @@ static inline void uart_write(struct uart_chip *parts, uint8_t offset, uint8_t v
  */
 static inline bool uart_queues_whole(const struct uart_chip *chip)
 {
-    bool has_room = uart_transmitter_queue_len(&chip->transmitter) < 16;
+    bool has_room = (uint64_t)chip->transmitter.queue.len < 16;
     return !uart_is_dlab_set(chip) && (!uart_chip_cuts(chip) && (uart_chip_fifo(chip) && has_room));
 }
 
@@ -3030,6 +3301,8 @@ enum uart_state_layout {
     UART_STATE_CHIP_LEN = 86,
     UART_STATE_OUTPUT = 2,
     UART_STATE_OUTPUT_LEN = 65,
+    UART_STATE_FIFOS = 3,      /* what FIFOs of more than 16 have beyond 16; how many bytes it is depends on their size */
+    UART_STATE_FIFOS_HEAD = 3,
     UART_STATE_LEN_1 = 146     /* how many bytes a state of version 1 is */
 };
 
@@ -3061,6 +3334,30 @@ static void uart_state_put_number(uint8_t **to, uint64_t number, unsigned len)
 {
     for (; len > 0; len--, number >>= 8)
         uart_state_put(to, (uint8_t)(number & 0xff));
+}
+
+/* The numbers and places of FIFOs: how many characters one holds, how many of so many are beyond 16, and how many wait. */
+static uint8_t uart_state_size(uint8_t fifo_size)
+{
+    return fifo_size == 32 || fifo_size == 64 || fifo_size == 128 ? fifo_size : UART_FIFO_SIZE;
+}
+
+static uint8_t uart_state_beyond(uint8_t count)
+{
+    return (uint8_t)(count > UART_FIFO_SIZE ? count - UART_FIFO_SIZE : 0);
+}
+
+static uint8_t uart_state_waiting(uint8_t len, uint8_t fifo_size)
+{
+    return len < uart_state_size(fifo_size) ? len : uart_state_size(fifo_size);
+}
+
+/* How many bytes the part with the rest of such FIFOs is. Of eight characters one byte says which came by loopback. */
+static uint16_t uart_state_fifos_len(uint8_t fifo_size)
+{
+    uint8_t room = uart_state_beyond(uart_state_size(fifo_size));
+
+    return (uint16_t)(UART_STATE_FIFOS_HEAD + 3 * room + room / 8);
 }
 
 /* A list, with its length in front, in the room that it may take. A length beyond the room counts as the room. */
@@ -3097,6 +3394,33 @@ static void uart_state_put_characters(uint8_t **to, const struct uart_characters
     for (i = 0; i < len; i++)
         looped |= (unsigned)(queue->items[i].is_looped != 0) << i;
     uart_state_put_number(to, looped, 2);
+}
+
+/* What waits beyond 16 characters, in the room that it may take. */
+static void uart_state_put_more(uint8_t **to, const struct uart_chip *chip)
+{
+    const struct uart_bytes *bytes = &chip->transmitter.queue;
+    const struct uart_characters *queue = &chip->receiver.queue;
+    uint8_t size = uart_state_size(chip->transmitter.fifo_size);
+    uint8_t room = uart_state_beyond(size);
+    uint8_t len = uart_state_beyond(uart_state_waiting(queue->len, size));
+    uint8_t i, bit;
+
+    uart_state_put(to, size);
+    uart_state_put_list(to, bytes->items + UART_FIFO_SIZE, uart_state_beyond(uart_state_waiting(bytes->len, size)), room);
+    uart_state_put(to, len);
+    for (i = 0; i < room; i++)
+        uart_state_put(to, i < len ? queue->items[UART_FIFO_SIZE + i].byte : 0);
+    for (i = 0; i < room; i++)
+        uart_state_put(to, i < len ? queue->items[UART_FIFO_SIZE + i].errors : 0);
+    for (i = 0; i < room; i = (uint8_t)(i + 8)) {
+        unsigned looped = 0;
+
+        for (bit = 0; bit < 8; bit++)
+            if (i + bit < len && queue->items[UART_FIFO_SIZE + i + bit].is_looped)
+                looped |= 1u << bit;
+        uart_state_put(to, (uint8_t)looped);
+    }
 }
 
 static void uart_state_put_transmitter(uint8_t **to, const struct uart_transmitter *transmitter)
@@ -3258,6 +3582,51 @@ static void uart_state_characters(struct uart_state_reader *from, struct uart_ch
     }
 }
 
+/* What waits beyond 16 characters, of FIFOs of more. */
+static void uart_state_more(struct uart_state_reader *from, struct uart_chip *chip)
+{
+    struct uart_bytes *bytes = &chip->transmitter.queue;
+    struct uart_characters *queue = &chip->receiver.queue;
+    uint8_t more[UART_FIFO_ROOM] = { 0 };
+    size_t offset = from->offset;
+    uint8_t size = uart_state_byte(from);
+    uint8_t room = uart_state_beyond(size);
+    uint8_t i, len;
+
+    if (size == UART_FIFO_SIZE || uart_state_size(size) != size) {
+        uart_state_refuse(from, UART_STATE_BAD_VALUE, offset);
+        return;
+    }
+    chip->transmitter.fifo_size = chip->receiver.fifo_size = size;
+    /* Nothing waits beyond 16 unless as many wait before. */
+    offset = from->offset;
+    len = uart_state_list(from, bytes->items + UART_FIFO_SIZE, room);
+    if (len > 0 && bytes->len < UART_FIFO_SIZE)
+        uart_state_refuse(from, UART_STATE_BAD_VALUE, offset);
+    bytes->len = (uint8_t)(bytes->len + len);
+    offset = from->offset;
+    len = uart_state_list(from, more, room);
+    if (len > 0 && queue->len < UART_FIFO_SIZE)
+        uart_state_refuse(from, UART_STATE_BAD_VALUE, offset);
+    queue->len = (uint8_t)(queue->len + len);
+    for (i = 0; i < len; i++)
+        queue->items[UART_FIFO_SIZE + i].byte = more[i];
+    uart_state_items(from, more, len, room);
+    for (i = 0; i < len; i++)
+        queue->items[UART_FIFO_SIZE + i].errors = more[i];
+    for (i = 0; i < room; i = (uint8_t)(i + 8)) {
+        uint8_t looped, bit;
+
+        offset = from->offset;
+        looped = uart_state_byte(from);
+        for (bit = 0; bit < 8; bit++, looped >>= 1) {
+            if ((looped & 1) && i + bit >= len)
+                uart_state_refuse(from, UART_STATE_BAD_VALUE, offset);
+            queue->items[UART_FIFO_SIZE + i + bit].is_looped = looped & 1;
+        }
+    }
+}
+
 static void uart_state_transmitter(struct uart_state_reader *from, struct uart_transmitter *transmitter)
 {
     transmitter->is_thr_pending = uart_state_flag(from);
@@ -3274,6 +3643,19 @@ static void uart_state_receiver(struct uart_state_reader *from, struct uart_rece
     receiver->last_byte = uart_state_byte(from);
     receiver->trigger = uart_state_level(uart_state_up_to(from, 3));
     uart_state_characters(from, &receiver->queue);
+}
+
+/* A chip after power on, with nothing behind the ends of its queues. */
+static void uart_state_clear(struct uart_chip *chip)
+{
+    static const struct uart_character none = { 0, 0, 0 };
+    uint8_t i;
+
+    uart_chip_new(chip, UART_16550A, 1, UART_WIRE_ROOM, UART_WHOLE_BYTES);
+    for (i = 0; i < UART_FIFO_ROOM; i++) {
+        chip->transmitter.queue.items[i] = 0;
+        chip->receiver.queue.items[i] = none;
+    }
 }
 
 /* What version 1 has of a chip. */
@@ -3347,7 +3729,7 @@ static uint8_t uart_state_part(struct uart_state_reader *from, uint8_t last, str
         return 0;
     }
     body.len = from->offset;
-    if (kind > UART_STATE_OUTPUT) {
+    if (kind > UART_STATE_FIFOS) {
         if (is_needed)
             uart_state_refuse(&body, UART_STATE_UNKNOWN_PART, kind);
     } else if (!is_needed) {
@@ -3355,8 +3737,10 @@ static uint8_t uart_state_part(struct uart_state_reader *from, uint8_t last, str
     } else if (kind == UART_STATE_CHIP) {
         uart_state_registers(&body, chip);
         uart_state_pace(&body, chip);
-    } else {
+    } else if (kind == UART_STATE_OUTPUT) {
         uart_state_output(&body, &chip->transmitter.wire);
+    } else {
+        uart_state_more(&body, chip);
     }
     uart_state_refuse(from, body.status, body.detail);
     return kind;
@@ -3426,32 +3810,72 @@ static int uart_state_has_magic(const uint8_t *bytes, size_t len)
     return 1;
 }
 
-/* --------------------------------------------------------------- what is called
- *
- * Writes a chip as UART_STATE_LEN bytes. Of what the struct holds the same counts as in a call of the library: any number but 0
- * is a set flag, and a length beyond its array is that of the array.
- */
-void uart_chip_to_bytes(const struct uart_chip *chip, uint8_t *bytes)
+/* Writes a state of so many bytes: that of a chip whose FIFOs have one size. */
+static void uart_state_put_all(const struct uart_chip *chip, uint8_t *bytes, size_t len)
 {
-    if (chip == NULL || bytes == NULL)
-        return;
     uint8_t *to = bytes;
     size_t i;
 
     for (i = 0; i < UART_STATE_MAGIC_LEN; i++)
         uart_state_put(&to, uart_state_magic(i));
     uart_state_put_number(&to, UART_STATE_VERSION, 2);
-    uart_state_put_number(&to, UART_STATE_LEN, 4);
+    uart_state_put_number(&to, len, 4);
     uart_state_put_part(&to, UART_STATE_CHIP, UART_STATE_CHIP_LEN);
     uart_state_put_chip(&to, chip);
     uart_state_put_part(&to, UART_STATE_OUTPUT, UART_STATE_OUTPUT_LEN);
     uart_state_put_list(&to, chip->transmitter.wire.items, chip->transmitter.wire.len, UART_WIRE_ROOM);
+    if (len == UART_STATE_LEN)
+        return;
+    uart_state_put_part(&to, UART_STATE_FIFOS, uart_state_fifos_len(chip->transmitter.fifo_size));
+    uart_state_put_more(&to, chip);
+}
+
+/* --------------------------------------------------------------- what is called
+ *
+ * Writes a chip with FIFOs of any size as bytes, and returns how many: UART_STATE_LEN with FIFOs of 16, and else more, at most
+ * UART_STATE_MOST. If bytes has not room for so many, or the two FIFOs have not one size, as those of each chip that can be loaded have,
+ * it writes nothing and returns 0. Of what the struct holds the same counts as in a call of the library: any number but 0 is a set flag,
+ * and a length beyond its FIFO or its array is that of the FIFO or the array.
+ *
+ * A reader of an earlier release, and that of the Rust crate, refuses a chip with larger FIFOs: UART_STATE_UNKNOWN_PART, 3.
+ */
+size_t uart_chip_to_bytes_sized(const struct uart_chip *chip, uint8_t *bytes, size_t room)
+{
+    if (chip == NULL || bytes == NULL)
+        return 0;
+    uint8_t size = uart_state_size(chip->transmitter.fifo_size);
+    size_t len = UART_STATE_LEN;
+
+    if (size != UART_FIFO_SIZE)
+        len += UART_STATE_PART_HEADER + (size_t)uart_state_fifos_len(size);
+    if (size != uart_state_size(chip->receiver.fifo_size) || len > room)
+        return 0;
+    uart_state_put_all(chip, bytes, len);
+    return len;
 }
 
 /*
- * Reads a chip from len bytes, which may come from anywhere: those that uart_chip_to_bytes or the Rust crate wrote, in this
- * release, in one before it, or in one after it that added only what may be skipped. The chip is then for uart_port_load or
- * uart_chip_load, which refuses what is no port or no chip.
+ * The same for a chip with FIFOs of 16: writes UART_STATE_LEN bytes.
+ *
+ * Returns UART_STATE_OK, or UART_STATE_LARGER for a chip with larger FIFOs. The bytes are all 0 then, which are no state.
+ */
+uint32_t uart_chip_to_bytes(const struct uart_chip *chip, uint8_t *bytes)
+{
+    if (chip == NULL || bytes == NULL)
+        return UART_STATE_NULL_POINTER;
+    size_t i;
+
+    if (uart_chip_to_bytes_sized(chip, bytes, UART_STATE_LEN) == UART_STATE_LEN)
+        return UART_STATE_OK;
+    for (i = 0; i < UART_STATE_LEN; i++)
+        bytes[i] = 0;
+    return UART_STATE_LARGER;
+}
+
+/*
+ * Reads a chip from len bytes, which may come from anywhere: those that a function above or the Rust crate wrote, in this release, in
+ * one before it, or in one after it that added only what may be skipped. Its FIFOs have the size that they had. The chip is then for
+ * uart_port_load or uart_chip_load, which refuses what is no port or no chip.
  *
  * Returns an enum uart_state_status, and writes to *detail what that says. If it is not UART_STATE_OK, *saved is as before.
  */
@@ -3467,7 +3891,7 @@ uint32_t uart_chip_from_bytes(struct uart_chip *saved, const uint8_t *bytes, siz
     from.offset = 0;
     from.detail = 0;
     from.status = UART_STATE_OK;
-    uart_chip_new(&chip, UART_16550A, 1, UART_WIRE_ROOM, UART_WHOLE_BYTES);
+    uart_state_clear(&chip);
     if (uart_state_is_version_1(bytes, len))
         uart_state_version_1(&from, &chip);
     else if (uart_state_has_magic(bytes, len))

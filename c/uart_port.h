@@ -38,7 +38,8 @@ enum uart_status {
     UART_BAD_LINES = 4,  /* the modem lines are CTS, DSR, RI and CD */
     UART_BAD_CHIP = 5,   /* the saved data are those of no sound chip */
     UART_BAD_PORT = 6,   /* the saved data are those of no port */
-    UART_NULL_POINTER = 7 /* a pointer is null: nothing was done */
+    UART_NULL_POINTER = 7, /* a pointer is null: nothing was done */
+    UART_BAD_FIFO = 8    /* the FIFOs hold 16, 32, 64 or 128 characters */
 };
 
 /* --------------------------------------------------------------- the registers
@@ -91,7 +92,7 @@ enum uart_status {
 #define UART_FCR_FIFO_64_ENABLE 0x20        /* FIFOs of 64 characters: 16750, while DLAB is set; the chip of this library has no such bit */
 #define UART_FCR_RX_FIFO_TRIGGER_LEVEL0 0x40
 #define UART_FCR_RX_FIFO_TRIGGER_LEVEL1 0x80
-#define UART_FCR_RX_FIFO_TRIGGER_LEVEL 0xc0 /* 1, 4, 8 or 14 characters */
+#define UART_FCR_RX_FIFO_TRIGGER_LEVEL 0xc0 /* 1, 4, 8 or 14 characters, with FIFOs of 16 */
 
 /* Line control. */
 #define UART_LCR_WORD_LENGTH0 0x01
@@ -153,9 +154,15 @@ enum uart_status {
  * characters with uart_chip_arrive, takes what goes out with uart_chip_take_wire, and asks for the level of the interrupt
  * line with uart_chip_is_interrupting. No time passes but in uart_chip_ticks. A virtual machine monitor rather takes the port
  * below, which needs no clock, and says when to signal the guest and when there is room for input again.
+ *
+ * The FIFOs of a chip hold 16 characters, or 32, 64 or 128: then it was made by uart_chip_new_sized. Nothing that a guest reads says
+ * which, so tell it, for example by fifo-size in a device tree. One that does not know takes them to hold 16, and loses nothing. A length
+ * is a byte, so there are no FIFOs of 256. Each struct has room for FIFOs of UART_FIFO_ROOM characters, of which one of 16 uses the first
+ * 16: a chip is some 600 bytes.
  */
 
 #define UART_FIFO_SIZE 16
+#define UART_FIFO_ROOM 128
 #define UART_WIRE_ROOM 64
 
 enum uart_model { UART_16450 = 0, UART_16550A = 1 };
@@ -176,7 +183,7 @@ struct uart_modem {
 /* A queue of bytes. */
 struct uart_bytes {
     uint8_t len;
-    uint8_t items[UART_FIFO_SIZE];
+    uint8_t items[UART_FIFO_ROOM];
 };
 
 /* The bytes that have gone out, and how many there is room for. */
@@ -193,6 +200,7 @@ struct uart_transmitter {
     uint8_t is_shifting;     /* there is one */
     uint8_t shift_byte;
     uint8_t is_thr_pending;  /* the interrupt THR-empty is pending */
+    uint8_t fifo_size;       /* 16, 32, 64 or 128; another number counts as 16 */
     struct uart_bytes queue;
     struct uart_wire wire;
 };
@@ -206,7 +214,7 @@ struct uart_character {
 /* A queue of characters. */
 struct uart_characters {
     uint8_t len;
-    struct uart_character items[UART_FIFO_SIZE];
+    struct uart_character items[UART_FIFO_ROOM];
 };
 
 /* What receives. */
@@ -216,11 +224,15 @@ struct uart_receiver {
     uint8_t is_overrun;
     uint8_t is_front_reported;
     uint8_t last_byte;
-    uint8_t trigger;         /* 1, 4, 8 or 14 */
+    uint8_t trigger;         /* 1, 4, 8 or 14: the level that is so many characters with a FIFO of 16 */
+    uint8_t fifo_size;       /* as that of the transmitter */
     struct uart_characters queue;
 };
 
-/* The chip. Bytes behind the end of a queue mean nothing, nor do shift_byte and ticks_left while is_shifting is 0. */
+/*
+ * The chip. Bytes behind the end of a queue mean nothing, nor do shift_byte and ticks_left while is_shifting is 0. No function clears
+ * them: if the struct is to leave the program as it is, let it be all 0 before a chip is made in it.
+ */
 struct uart_chip {
     struct uart_transmitter transmitter;
     struct uart_receiver receiver;
@@ -247,10 +259,27 @@ struct uart_chip {
 uint32_t uart_chip_new(struct uart_chip *chip, uint8_t model, uint16_t char_ticks, uint8_t wire_capacity, uint8_t cuts);
 
 /*
+ * The same with FIFOs of fifo_size characters: 16, 32, 64 or 128. They fill and give interrupts as those of a real chip do: of 32 a 16650,
+ * of 64 a 16750, of 128 a 16950. That is all that it has of these: there is no automatic flow control, no switch of the size, and what
+ * ISR shows is that of a 16550A. A 16450 has no FIFOs, and is the same with any size.
+ *
+ * Returns UART_OK, or UART_BAD_FIFO, which comes first, UART_BAD_TICKS or UART_BAD_WIRE.
+ *
+ * Proved, status: whether a chip with FIFOs of so many characters is made: the first reason against it, or
+ *     UART_OK.
+ * Proved, built: result = UART_OK -> chip_of chip.new = record (spec.with_size (queue_spec.fifo_size_of
+ *     fifo_size) (spec.fresh (model_of model) char_ticks wire_capacity 0)) { cuts = queue_spec.is_on cuts }.
+ * Proved, kept: result != UART_OK -> chip.new = chip.old.
+ */
+uint32_t uart_chip_new_sized(struct uart_chip *chip, uint8_t model, uint8_t fifo_size, uint16_t char_ticks, uint8_t wire_capacity,
+                             uint8_t cuts);
+
+/*
  * Makes a chip like one that was saved, which may come from anywhere. It is refused exactly if it is no sound chip, that is,
- * if one of these holds. No chip that was made by uart_chip_new and used by the functions below is refused.
+ * if one of these holds. No chip that was made by a function above and used by those below is refused.
  *
  * - a queue has more than there is room for, which is one item without FIFO, or the wire more than its capacity;
+ * - the transmitter has a FIFO of another size than the receiver;
  * - a character takes no 1 to 1000 ticks, or the one in the shift register has no 1 to char_ticks left;
  * - timeout_limit is not four character times, or timeout_ticks is more;
  * - a character has other errors than parity, framing and break;
@@ -258,14 +287,17 @@ uint32_t uart_chip_new(struct uart_chip *chip, uint8_t model, uint16_t char_tick
  *
  * Returns UART_OK or UART_BAD_CHIP.
  *
- * Proved, accepted: IsLive (chip_of saved.now) -> (result = UART_OK) and (chip_of chip.new = chip_of saved.now).
- * Proved, refused: (IsLive (chip_of saved.now) -> false) -> (result = UART_BAD_CHIP) and (chip.new = chip.old).
+ * Proved, accepted: IsLiveChip (chip_of saved.now) -> (result = UART_OK) and (chip_of chip.new = chip_of
+ *     saved.now).
+ * Proved, refused: (IsLiveChip (chip_of saved.now) -> false) -> (result = UART_BAD_CHIP) and (chip.new =
+ *     chip.old).
  */
 uint32_t uart_chip_load(struct uart_chip *chip, const struct uart_chip *saved);
 
 /*
- * Saves a chip: saved becomes a chip that goes on as this one. Its flags are 0 or 1, its trigger is 1, 4, 8 or 14, and each
- * length is within its array. So it is with a chip that was made or loaded, and the functions below keep it so.
+ * Saves a chip: saved becomes a chip that goes on as this one. Its flags are 0 or 1, its trigger is 1, 4, 8 or 14, the sizes of its
+ * FIFOs are 16, 32, 64 or 128, and each length is within its array and its FIFO. So it is with a chip that was made or loaded, and the
+ * functions below keep it so.
  *
  * Proved, saved: chip_of saved.new = chip_of chip.now.
  */
@@ -421,9 +453,23 @@ struct uart_port {
 /*
  * A port after power on, without input and output. model is an enum uart_model. No interrupt is enabled, so nothing is to be done.
  *
- * Proved, built: a port after power-on: the time of a call passed.
+ * Proved, built: a port after power-on, with FIFOs of this size: the time of a call passed.
  */
 void uart_port_new(struct uart_port *port, uint8_t model);
+
+/*
+ * The same with FIFOs of fifo_size characters: 16, 32, 64 or 128, as those of a chip from uart_chip_new_sized. A guest that knows writes
+ * so many bytes at once for an interrupt, and as many characters of input are received before it reads them: the larger they are, the
+ * less often the guest and its monitor are called. Linux knows by a device tree with compatible "ns16550a", fifo-size = <64> and
+ * tx-threshold = <0>: it writes the size less the threshold, and 16 bytes if there is no threshold.
+ *
+ * Returns UART_OK or UART_BAD_FIFO.
+ *
+ * Proved, status: result = (if is_fifo_size fifo_size then UART_OK else UART_BAD_FIFO).
+ * Proved, built: result = UART_OK -> port_of port.new = spec.fresh (fifo_size_of fifo_size) (model_of model).
+ * Proved, kept: result != UART_OK -> port.new = port.old.
+ */
+uint32_t uart_port_new_sized(struct uart_port *port, uint8_t model, uint8_t fifo_size);
 
 /*
  * The guest reads the register. Of the offset the lowest three bits count.
@@ -448,7 +494,7 @@ void uart_port_write(struct uart_port *port, uint8_t offset, uint8_t value, stru
  * The host has input: as many of these bytes are received as there is room for, from the front. Returns how many. If these are
  * not all, there is no room left. The first call after which nothing waits says in has_room that there is room, or one by which
  * the guest makes room otherwise than by reading DATA. Offer the others then. Without FIFO there is room for one byte, with it
- * for UART_FIFO_SIZE, and in loopback for none.
+ * for as many as it holds, and in loopback for none.
  *
  * Proved, count: how many of these characters there is room for.
  * Proved, after: the port after this call: the access or what the host brings, and then the time that passes in
@@ -544,12 +590,12 @@ void uart_port_save(const struct uart_port *port, struct uart_chip *saved);
  *
  * Returns UART_OK, or UART_BAD_PORT, which changed neither *port nor *todo.
  *
- * Proved, accepted: IsLive (chip_of saved.now) -> IsStill (chip_of saved.now) -> (result = UART_OK) and (port_of
- *     port.new = spec.begun (chip_of saved.now)).
- * Proved, todo: IsLive (chip_of saved.now) -> IsStill (chip_of saved.now) -> todo.new = port_spec.shown
+ * Proved, accepted: IsLiveChip (chip_of saved.now) -> IsStill (chip_of saved.now) -> (result = UART_OK) and
+ *     (port_of port.new = spec.begun (chip_of saved.now)).
+ * Proved, todo: IsLiveChip (chip_of saved.now) -> IsStill (chip_of saved.now) -> todo.new = port_spec.shown
  *     (spec.todo_of spec.renewed true (chip_of saved.now) spec.untold).
- * Proved, dead: (IsLive (chip_of saved.now) -> false) -> (result = UART_BAD_PORT) and (port.new = port.old) and
- *     (todo.new = todo.old).
+ * Proved, dead: (IsLiveChip (chip_of saved.now) -> false) -> (result = UART_BAD_PORT) and (port.new = port.old)
+ *     and (todo.new = todo.old).
  * Proved, moving: (IsStill (chip_of saved.now) -> false) -> (result = UART_BAD_PORT) and (port.new = port.old)
  *     and (todo.new = todo.old).
  */
@@ -602,13 +648,15 @@ uint8_t uart_clock_pass_time(struct uart_clock *clock);
  *
  * For a file, for another machine, or for a monitor in Rust, whose crate uart_16550_chip reads and writes the same bytes. The layout is
  * in STATE.md of that crate. To save a port, call uart_port_save and then uart_chip_to_bytes. To restore one, call
- * uart_chip_from_bytes and then uart_port_load. Of a chip without a port it is uart_chip_save and uart_chip_load.
+ * uart_chip_from_bytes and then uart_port_load. Of a chip without a port it is uart_chip_save and uart_chip_load. Of one with FIFOs of more
+ * than 16 characters it is uart_chip_to_bytes_sized in the place of uart_chip_to_bytes.
  *
  * These functions are by hand, not proved, and move bytes alone.
  */
 
-/* How many bytes a state is that uart_chip_to_bytes writes, and its version. */
+/* How many bytes a state is with FIFOs of 16, which uart_chip_to_bytes writes; how many it is at most; and its version. */
 #define UART_STATE_LEN 171
+#define UART_STATE_MOST 528
 #define UART_STATE_VERSION 2
 
 /* What uart_chip_from_bytes returns, and what it then writes to *detail. */
@@ -620,19 +668,31 @@ enum uart_state_status {
     UART_STATE_UNKNOWN_PART = 4, /* a part that must not be skipped is not known: its kind */
     UART_STATE_MISSING_PART = 5, /* a part is not there: its kind */
     UART_STATE_BAD_VALUE = 6,    /* a byte that its field cannot have: the offset of the byte */
-    UART_STATE_NULL_POINTER = 7  /* a pointer is null: nothing is written */
+    UART_STATE_NULL_POINTER = 7, /* a pointer is null: nothing is written */
+    UART_STATE_LARGER = 8        /* of uart_chip_to_bytes: the FIFOs are not of 16 */
 };
 
 /*
- * Writes a chip as UART_STATE_LEN bytes. Of what the struct holds the same counts as in a call of the library: any number but 0
- * is a set flag, and a length beyond its array is that of the array.
+ * Writes a chip with FIFOs of any size as bytes, and returns how many: UART_STATE_LEN with FIFOs of 16, and else more, at most
+ * UART_STATE_MOST. If bytes has not room for so many, or the two FIFOs have not one size, as those of each chip that can be loaded have,
+ * it writes nothing and returns 0. Of what the struct holds the same counts as in a call of the library: any number but 0 is a set flag,
+ * and a length beyond its FIFO or its array is that of the FIFO or the array.
+ *
+ * A reader of an earlier release, and that of the Rust crate, refuses a chip with larger FIFOs: UART_STATE_UNKNOWN_PART, 3.
  */
-void uart_chip_to_bytes(const struct uart_chip *chip, uint8_t *bytes);
+size_t uart_chip_to_bytes_sized(const struct uart_chip *chip, uint8_t *bytes, size_t room);
 
 /*
- * Reads a chip from len bytes, which may come from anywhere: those that uart_chip_to_bytes or the Rust crate wrote, in this
- * release, in one before it, or in one after it that added only what may be skipped. The chip is then for uart_port_load or
- * uart_chip_load, which refuses what is no port or no chip.
+ * The same for a chip with FIFOs of 16: writes UART_STATE_LEN bytes.
+ *
+ * Returns UART_STATE_OK, or UART_STATE_LARGER for a chip with larger FIFOs. The bytes are all 0 then, which are no state.
+ */
+uint32_t uart_chip_to_bytes(const struct uart_chip *chip, uint8_t *bytes);
+
+/*
+ * Reads a chip from len bytes, which may come from anywhere: those that a function above or the Rust crate wrote, in this release, in
+ * one before it, or in one after it that added only what may be skipped. Its FIFOs have the size that they had. The chip is then for
+ * uart_port_load or uart_chip_load, which refuses what is no port or no chip.
  *
  * Returns an enum uart_state_status, and writes to *detail what that says. If it is not UART_STATE_OK, *saved is as before.
  */

@@ -7,8 +7,8 @@ use core::fmt::{self, Write as _};
 use uart_16550_chip::registers::{LSR, MSR};
 use uart_16550_chip::serial::{BadState, Error, FromStateError, TriggerError};
 use uart_16550_chip::{
-    Answer, ArrayVec, Character, Chip, ChipData, ChipError, Clock, InputError, LiveChip, NoEvents,
-    Output, Received, RestoreError, Restored, Serial, SerialState, Todo, Trigger, VirtualPort,
+    Answer, ArrayVec, Character, Chip, ChipData, ChipError, Clock, FifoSize, InputError, LiveChip, LiveChipWith,
+    NoEvents, Output, Received, RestoreError, Restored, Serial, SerialState, Todo, Trigger, VirtualPort, VirtualPortWith,
 };
 
 unsafe extern "Rust" {
@@ -90,6 +90,7 @@ calls! {
     chip_expire_timeout(chip: &mut LiveChip) { chip.expire_timeout() }
     chip_settle(chip: &mut LiveChip) -> usize { uart_16550_chip::settle(chip) }
     chip_divisor(chip: &LiveChip) -> u16 { chip.divisor() }
+    chip_fifo_size(chip: &LiveChipWith<64>) -> FifoSize { chip.fifo_size() }
     chip_overflows(chip: &LiveChip) -> u64 { chip.overflows() }
     chip_data(chip: &LiveChip) -> ChipData { chip.data() }
     chip_from_data(data: &ChipData, wire: &[u8]) -> Result<LiveChip, RestoreError> { LiveChip::from_data(data, wire) }
@@ -117,6 +118,11 @@ calls! {
     port_receive_room(port: &VirtualPort) -> usize { port.receive_room() }
     port_chip(port: &VirtualPort) -> &LiveChip { port.chip() }
     port_data(port: &VirtualPort) -> ChipData { port.data() }
+    port_try_new(chip: Chip) -> Result<VirtualPortWith<64>, ChipError> { VirtualPortWith::try_new(chip) }
+    port_of_64_read(port: &mut VirtualPortWith<64>, offset: u8) -> Answer { port.read(offset) }
+    port_of_64_write(port: &mut VirtualPortWith<64>, offset: u8, value: u8) -> Todo { port.write(offset, value) }
+    port_of_64_receive(port: &mut VirtualPortWith<64>, input: &[u8]) -> Received { port.receive(input) }
+    port_of_64_take_output(port: &mut VirtualPortWith<64>, count: usize) -> Todo { port.take_output(count) }
     port_from_data(data: &ChipData, output: &[u8]) -> Result<Restored, RestoreError> { VirtualPort::from_data(data, output) }
     clock_new() -> Clock { Clock::new() }
     clock_after_read(clock: &mut Clock, offset: u8, todo: &mut Todo) -> bool { clock.after_read(offset, todo) }

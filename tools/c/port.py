@@ -27,7 +27,7 @@ SHARED, SHARE = "uart_conclude", ["uart_port_receive_one", "uart_port_set_lines"
 # for which a compiler then has registers enough.
 APART = ["uart_is_sound", "uart_change_lines", "uart_write_slowly", "uart_chip_renew_modem"]
 # What is done once, or when somebody plugs a cable. A compiler makes such a function small.
-SELDOM = [f"uart_{of}_{name}" for of in ("chip", "port") for name in ("new", "load", "save", "set_lines")]
+SELDOM = [f"uart_{of}_{name}" for of in ("chip", "port") for name in ("new", "new_sized", "load", "save", "set_lines")]
 INLINE = """/* For a function that is to stand in the place of its calls, unless it is to be small. */
 #if defined(__GNUC__) && !defined(__OPTIMIZE_SIZE__)
 #define UART_INLINE static inline __attribute__((always_inline))
@@ -243,10 +243,10 @@ class Header:
             comment = comment[:-len(" */")].rstrip() + "\n *\n" + "".join(f" * {one}\n" for one in lines) + " */\n"
             return comment + found[3]
 
-        for last, with_null in LAST_STATUS.items():
-            if text.count(last) != 1:
-                sys.exit(f"emit: the header has {last!r} {text.count(last)} times, and not once")
-            text = text.replace(last, with_null)
+        for before, status in BEFORE_NULL.items():
+            if text.count(before) != 1:
+                sys.exit(f"emit: the header has {before!r} {text.count(before)} times, and not once")
+            text = text.replace(before, before + status)
         text = guarded(text)
         return re.sub(r"(?m)((?:^/\*(?:(?!\*/)[\s\S])*\*/\n))(?=\w[^\n]*\b(uart_\w+)\()(\w[^\n]*)", told, text)
 
@@ -265,19 +265,19 @@ class Header:
         start = self.state.index("enum uart_state_layout {")
         end = self.state.rindex("#ifdef __cplusplus")
         text = self.state[start:end].rstrip() + "\n"
-        text = re.sub(r"(?m)^static inline (?=\w+ (?:uart_chip_to_bytes|uart_chip_from_bytes)\()", "", text)
+        text = re.sub(r"(?m)^static inline (?=\w+ (?:uart_chip_to_bytes|uart_chip_to_bytes_sized|uart_chip_from_bytes)\()", "", text)
         text = text.replace("static inline ", "static ")
         return BY_HAND + text
 
 
 # The statuses that refuse null, by functions, and what they are added behind.
-NULL_STATUS = collections.defaultdict(lambda: "UART_NULL_POINTER", uart_chip_from_bytes="UART_STATE_NULL_POINTER")
-LAST_STATUS = {
-    "UART_BAD_PORT = 6    /* the saved data are those of no port */":
-        "UART_BAD_PORT = 6,   /* the saved data are those of no port */\n    UART_NULL_POINTER = 7 /* a pointer is null: nothing was done */",
-    "UART_STATE_BAD_VALUE = 6     /* a byte that its field cannot have: the offset of the byte */":
-        "UART_STATE_BAD_VALUE = 6,    /* a byte that its field cannot have: the offset of the byte */\n"
-        "    UART_STATE_NULL_POINTER = 7  /* a pointer is null: nothing is written */",
+NULL_STATUS = collections.defaultdict(lambda: "UART_NULL_POINTER", uart_chip_to_bytes="UART_STATE_NULL_POINTER",
+                                      uart_chip_from_bytes="UART_STATE_NULL_POINTER")
+BEFORE_NULL = {
+    "UART_BAD_PORT = 6,   /* the saved data are those of no port */\n":
+        "    UART_NULL_POINTER = 7, /* a pointer is null: nothing was done */\n",
+    "UART_STATE_BAD_VALUE = 6,    /* a byte that its field cannot have: the offset of the byte */\n":
+        "    UART_STATE_NULL_POINTER = 7, /* a pointer is null: nothing is written */\n",
 }
 OTHER = """#ifdef UART_16550_H
 #error "uart_16550.h declares the same: include one of the two"
@@ -295,7 +295,8 @@ STATE = """/* ------------------------------------------------------------------
  *
  * For a file, for another machine, or for a monitor in Rust, whose crate uart_16550_chip reads and writes the same bytes. The layout is
  * in STATE.md of that crate. To save a port, call uart_port_save and then uart_chip_to_bytes. To restore one, call
- * uart_chip_from_bytes and then uart_port_load. Of a chip without a port it is uart_chip_save and uart_chip_load.
+ * uart_chip_from_bytes and then uart_port_load. Of a chip without a port it is uart_chip_save and uart_chip_load. Of one with FIFOs of more
+ * than 16 characters it is uart_chip_to_bytes_sized in the place of uart_chip_to_bytes.
  *
  * These functions are by hand, not proved, and move bytes alone.
  */

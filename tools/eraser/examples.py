@@ -402,7 +402,7 @@ use facade::registers::{LSR, MSR, offsets};
 #[allow(unused_imports)]
 use facade::Flags as _;
 #[allow(unused_imports)]
-use facade::{Chip, ChipData, ChipError, InputError, LiveChip, Todo, VirtualPort};
+use facade::{Chip, ChipData, ChipError, InputError, LiveChip, Todo, VirtualPort, VirtualPortWith};
 
 #[allow(dead_code)]
 type Outcome<T = ()> = Result<T, Box<dyn std::error::Error>>;
@@ -443,40 +443,41 @@ def in_monitor(parameters, result=None):
 
 
 EXAMPLES |= {
-    "uart_live::live::LiveChip": compiles(f"{CHIP}, offset: u8, value: u8, elapsed: u16, sink: &mut [u8]"),
-    "uart_live::live::LiveChip::new": (INCLUDE + ["# fn example() -> Result<LiveChip, ChipError> {"], ["# }"]),
-    "uart_live::live::LiveChip::read": compiles(f"{CHIP}, offset: u8"),
-    "uart_live::live::LiveChip::write": compiles(f"{CHIP}, offset: u8, value: u8, elapsed: u16"),
-    "uart_live::live::LiveChip::sends_at_once": compiles(f"{CHIP}, value: u8"),
-    "uart_live::live::LiveChip::send_at_once": compiles(f"{CHIP}, value: u8"),
-    "uart_live::live::LiveChip::raise_thr_empty": compiles(f"{CHIP}, value: u8"),
-    "uart_live::live::LiveChip::ticks": compiles(f"{CHIP}, elapsed: u16"),
-    "uart_live::live::LiveChip::arrive": compiles(f"{CHIP}, byte: u8"),
-    "uart_live::live::LiveChip::arrive_holding_timeout": compiles(f"{CHIP}, byte: u8"),
-    "uart_live::live::LiveChip::set_lines": compiles(CHIP),
-    "uart_live::live::LiveChip::is_interrupting": (
+    "uart_live::live::LiveChipWith": compiles(f"{CHIP}, offset: u8, value: u8, elapsed: u16, sink: &mut [u8]"),
+    "uart_live::live::LiveChipWith::new": (INCLUDE + ["# fn example() -> Result<LiveChip, ChipError> {"], ["# }"]),
+    "uart_live::live::LiveChipWith::read": compiles(f"{CHIP}, offset: u8"),
+    "uart_live::live::LiveChipWith::write": compiles(f"{CHIP}, offset: u8, value: u8, elapsed: u16"),
+    "uart_live::live::LiveChipWith::sends_at_once": compiles(f"{CHIP}, value: u8"),
+    "uart_live::live::LiveChipWith::send_at_once": compiles(f"{CHIP}, value: u8"),
+    "uart_live::live::LiveChipWith::raise_thr_empty": compiles(f"{CHIP}, value: u8"),
+    "uart_live::live::LiveChipWith::ticks": compiles(f"{CHIP}, elapsed: u16"),
+    "uart_live::live::LiveChipWith::arrive": compiles(f"{CHIP}, byte: u8"),
+    "uart_live::live::LiveChipWith::arrive_holding_timeout": compiles(f"{CHIP}, byte: u8"),
+    "uart_live::live::LiveChipWith::set_lines": compiles(CHIP),
+    "uart_live::live::LiveChipWith::is_interrupting": (
         INCLUDE
         + ["# mod monitor {", "# pub struct Outcome { pub sent: usize, pub is_interrupting: bool }", "# }"]
         + [f"# fn example({CHIP}, sent: usize) -> monitor::Outcome {{", "# use monitor::Outcome;"],
         ["# }"],
     ),
-    "uart_live::live::LiveChip::wire": compiles(f"{CHIP}, sink: &mut [u8]"),
-    "uart_live::live::LiveChip::take_wire": compiles(f"{CHIP}, sent: usize"),
-    "uart_live::live::LiveChip::receive_room": compiles(f"{CHIP}, byte: u8"),
-    "uart_virtual::port::VirtualPort": in_monitor(f"{PORT_OF_GUEST}, {HOST}, offset: u8, value: u8"),
-    "uart_virtual::port::VirtualPort::new": in_monitor(""),
-    "uart_virtual::port::VirtualPort::read": in_monitor(f"{PORT_OF_GUEST}, {HOST}, offset: u8", "u8"),
-    "uart_virtual::port::VirtualPort::write": in_monitor(f"{PORT_OF_GUEST}, {HOST}, offset: u8, value: u8"),
-    "uart_virtual::port::VirtualPort::receive": in_monitor(f"{PORT_OF_GUEST}, {HOST}, input: &'static [u8]", "&'static [u8]"),
-    "uart_virtual::port::VirtualPort::receive_one": compiles(PORT_OF_GUEST),
-    "uart_virtual::port::VirtualPort::set_lines": compiles(PORT_OF_GUEST),
-    "uart_virtual::port::VirtualPort::output": in_monitor(f"{PORT_OF_GUEST}, {HOST}"),
-    "uart_virtual::port::VirtualPort::take_output": in_monitor(f"{PORT_OF_GUEST}, {HOST}, taken: usize"),
-    "uart_virtual::port::VirtualPort::level": in_monitor(f"{PORT_OF_GUEST}, {HOST}"),
-    "uart_virtual::port::snapshot::VirtualPort::data": compiles(f"{PORT_OF_GUEST}, {HOST}"),
-    "uart_virtual::port::snapshot::VirtualPort::from_data": compiles(f"{PORT_OF_GUEST}, {HOST}"),
-    "uart_live::live::snapshot::LiveChip::data": compiles(CHIP),
-    "uart_live::live::snapshot::LiveChip::from_data": compiles(f"{CHIP}, saved: &ChipData"),
+    "uart_live::live::LiveChipWith::wire": compiles(f"{CHIP}, sink: &mut [u8]"),
+    "uart_live::live::LiveChipWith::take_wire": compiles(f"{CHIP}, sent: usize"),
+    "uart_live::live::LiveChipWith::receive_room": compiles(f"{CHIP}, byte: u8"),
+    "uart_virtual::port::VirtualPortWith": in_monitor(f"{PORT_OF_GUEST}, {HOST}, offset: u8, value: u8"),
+    "uart_virtual::port::VirtualPortWith::new": in_monitor(""),
+    "uart_virtual::port::VirtualPortWith::try_new": (INCLUDE + ["# fn example() -> Result<(), ChipError> {"], ["# Ok(())", "# }"]),
+    "uart_virtual::port::VirtualPortWith::read": in_monitor(f"{PORT_OF_GUEST}, {HOST}, offset: u8", "u8"),
+    "uart_virtual::port::VirtualPortWith::write": in_monitor(f"{PORT_OF_GUEST}, {HOST}, offset: u8, value: u8"),
+    "uart_virtual::port::VirtualPortWith::receive": in_monitor(f"{PORT_OF_GUEST}, {HOST}, input: &'static [u8]", "&'static [u8]"),
+    "uart_virtual::port::VirtualPortWith::receive_one": compiles(PORT_OF_GUEST),
+    "uart_virtual::port::VirtualPortWith::set_lines": compiles(PORT_OF_GUEST),
+    "uart_virtual::port::VirtualPortWith::output": in_monitor(f"{PORT_OF_GUEST}, {HOST}"),
+    "uart_virtual::port::VirtualPortWith::take_output": in_monitor(f"{PORT_OF_GUEST}, {HOST}, taken: usize"),
+    "uart_virtual::port::VirtualPortWith::level": in_monitor(f"{PORT_OF_GUEST}, {HOST}"),
+    "uart_virtual::port::snapshot::VirtualPortWith::data": compiles(f"{PORT_OF_GUEST}, {HOST}"),
+    "uart_virtual::port::snapshot::VirtualPortWith::from_data": compiles(f"{PORT_OF_GUEST}, {HOST}"),
+    "uart_live::live::snapshot::LiveChipWith::data": compiles(CHIP),
+    "uart_live::live::snapshot::LiveChipWith::from_data": compiles(f"{CHIP}, saved: &ChipData"),
 }
 
 # The package of the users that the examples of a crate name, under which name, and the shared file. The rings have a crate `uart_16550`.

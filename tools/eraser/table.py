@@ -360,7 +360,7 @@ GUARDS = {
     ),
 }
 
-# The parts of the chip, which only `LiveChip` reaches.
+# The parts of the chip, which only `LiveChipWith` reaches.
 HIDDEN_IN = ["uart_chip"]
 HIDDEN = "Uart Transmitter Receiver Characters Modem Fifo FixedFifo Wire FixedWire Journal NoMarks fill items_of send enter".split()
 
@@ -432,6 +432,7 @@ CLAUSES = {
 GUARDS |= {
     **{f"uart_chip::{path}": Guard(clauses, reason=HIDDEN_INSIDE) for path, clauses in CLAUSES.items()},
     "uart_live::fixed::FixedWire::new": Guard(["requires { capacity ≤ WIRE_ROOM }"], reason=HIDDEN_INSIDE),
+    "uart_live::fixed::FixedFifo::new": Guard(["requires { characters (fifo_size FIFO) ≡ FIFO }"], reason=HIDDEN_INSIDE),
     "uart_chip::fifo::Fifo::push": Guard(
         ["requires { length (items self.old) < characters (size_of self.old) }"], reason=NO_BODY
     ),
@@ -500,12 +501,12 @@ GUARDS["uart_chip::sending::put_on_wire"] = Guard(["requires { spec.is_ready (T.
 GUARDS["uart_chip::sending::send_at_once"] = Guard(
     ["requires { spec.sends_at_once (P.state parts.old) ≡ true }"],
     test='assert!(sends_at_once(parts), "the transmitter is not idle");',
-    reason="in no interface, but reached by `LiveChip::send_at_once`",
+    reason="in no interface, but reached by `LiveChipWith::send_at_once`",
 )
 GUARDS["uart_chip::chip::Uart::send_at_once"] = Guard(
     [SENDS_AT_ONCE], tested_by="uart_chip::sending::send_at_once", reason="it does nothing else"
 )
-GUARDS["uart_live::live::LiveChip::send_at_once"] = Guard(
+GUARDS["uart_live::live::LiveChipWith::send_at_once"] = Guard(
     [SENDS_AT_ONCE],
     tested_by="uart_chip::chip::Uart::send_at_once",
     panics="If [`sends_at_once`](Self::sends_at_once) returns false. Nothing changed then.",
@@ -517,7 +518,7 @@ GUARDS["uart_virtual::port::decide_at"] = Guard(
 )
 GUARDS["uart_virtual::port::decide"] = Guard(["requires { IsPaced chip.now }"], reason=IN_FILE)
 GUARDS["uart_virtual::port::finish"] = Guard(
-    ["requires live { IsLive chip.old }", "requires paced { IsPaced chip.old }"], reason=IN_FILE
+    ["requires live { IsLive (fifo_size FIFO) chip.old }", "requires paced { IsPaced chip.old }"], reason=IN_FILE
 )
 GUARDS["uart_virtual::port::nothing_new"] = Guard(
     ["requires told { IsTold (record { chip = chip.now; told = told }) }", "requires paced { IsPaced chip.now }"], reason=IN_FILE
@@ -528,7 +529,7 @@ for name in ("finish_unmoved", "finish_read"):
     )
 GUARDS["uart_virtual::port::send"] = Guard(
     [
-        "requires live { IsLive chip.old }",
+        "requires live { IsLive (fifo_size FIFO) chip.old }",
         STILL,
         "requires sends { sends_at_once chip.old ≡ true }",
         "requires settled { port.ignores_falls told.old ≡ true }",
@@ -543,7 +544,7 @@ for access, first in (("read", "LSR"), ("write", "DATA")):
     GUARDS[f"uart_chip::controlling::{access}_register"] = Guard(
         OFFSET,
         test='assert!(offset < 8, "no register has this offset");',
-        reason=f"private, but reached by `LiveChip::{access}`",
+        reason=f"private, but reached by `LiveChipWith::{access}`",
     )
     GUARDS[f"uart_chip::controlling::{access}"] = Guard(
         OFFSET, tested_by=f"uart_chip::controlling::{access}_register", reason=f"of each offset but that of {first}"
@@ -551,11 +552,11 @@ for access, first in (("read", "LSR"), ("write", "DATA")):
     GUARDS[f"uart_chip::chip::Uart::{access}"] = Guard(
         OFFSET, tested_by=f"uart_chip::controlling::{access}", reason="it does nothing else"
     )
-    GUARDS[f"uart_live::live::LiveChip::{access}"] = Guard(
+    GUARDS[f"uart_live::live::LiveChipWith::{access}"] = Guard(
         OFFSET, tested_by=f"uart_chip::chip::Uart::{access}", panics="If the offset is 8 or more.", reason="it does nothing else"
     )
 GUARDS["uart_virtual::port::write_and_raise"] = Guard(
-    OFFSET, tested_by="uart_live::live::LiveChip::write", reason="before it changes anything"
+    OFFSET, tested_by="uart_live::live::LiveChipWith::write", reason="before it changes anything"
 )
 # Each write that is no byte for an idle transmitter is slow.
 GUARDS["uart_virtual::port::write_slowly"] = Guard(
@@ -574,11 +575,11 @@ GUARDS["uart_virtual::port::read"] = Guard(
         "requires told { IsTold (record { chip = chip.old; told = told.old }) }",
         STILL,
     ],
-    tested_by="uart_live::live::LiveChip::read",
+    tested_by="uart_live::live::LiveChipWith::read",
     reason="of the offset; what holds of a port always does",
 )
 for access in ("read", "write"):
-    GUARDS[f"uart_virtual::port::VirtualPort::{access}"] = Guard(
+    GUARDS[f"uart_virtual::port::VirtualPortWith::{access}"] = Guard(
         OFFSET, tested_by=f"uart_virtual::port::{access}", panics="If the offset is 8 or more.", reason="before it changes anything"
     )
 
@@ -626,7 +627,7 @@ CASTS = {
     "uart_design_ware::parameters::fifo_size_of": ["characters"],
     **{f"uart_ring::notes::ErrorNotes::{name}": ["register_offset"] for name in ("read", "write")},
     **{f"uart_chip::controlling::{name}": ["offset"] for name in ("read_register", "write_register")},
-    "uart_chip::receiving::is_data_pending": ["characters_of ( parts . size ( ) , parts . trigger ( ) )"],
+    "uart_chip::receiving::is_data_pending": ["characters_of ( parts . size ( ) , level )"],
     **{f"uart_virtual::port::{name}": ["offset"] for name in ("kind_of_read", "kind_of_write", "is_quiet", "is_fast", "write_and_raise")},
     **{f"uart_calls::replay::Replay::{name}": ["register_offset"] for name in ("read", "write")},
     **{f"uart_calls::tape::Tape::{name}": ["register_offset"] for name in ("read", "write")},

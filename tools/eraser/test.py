@@ -433,13 +433,13 @@ EXPORTED = [
 
 # Edits of the sources of the chip, and the cause.
 CHIP_SOURCES = [
-    ("uart_live/src/fixed.rt", "pub struct FixedFifo<T>", "pub struct FixedFifo<T: Drop + Copy>", "a bound `Drop` of another form"),
+    ("uart_live/src/fixed.rt", "pub struct FixedFifo<T, const FIFO: usize>", "pub struct FixedFifo<T: Drop + Copy, const FIFO: usize>", "a bound `Drop` of another form"),
     ("uart_chip/src/fifo.rt", "< characters (size_of self.old) }", "≤ characters (size_of self.old) }", "Fifo::push requires other things"),
     ("uart_live/src/fixed.rt", "requires { capacity ≤ WIRE_ROOM }", "", "FixedWire::new requires other things"),
     ("uart_chip/src/lib.rt", "mod wire;", "mod wire;\nmod extra;", "extra.rt: declared, and not there"),
     ("uart_live/src/live.rt", "requires { offset < NUM_REGISTERS }\n        ensures answers", "ensures answers", "requires other things"),
-    ("uart_virtual/src/port.rt", "    chip.write(offset, value);\n", "", "write_and_raise does not call uart_live::live::LiveChip::write"),
-    ("uart_virtual/src/port.rt", "fn take(chip: &mut", "pub fn take(chip: &mut", "port::take can be reached"),
+    ("uart_virtual/src/port.rt", "    chip.write(offset, value);\n", "", "write_and_raise does not call uart_live::live::LiveChipWith::write"),
+    ("uart_virtual/src/port.rt", "fn take<const FIFO: usize>(", "pub fn take<const FIFO: usize>(", "port::take can be reached"),
     ("uart_virtual/src/port.rt", "requires sends { sends_at_once chip.old ≡ true }", "", "port::send requires other things"),
     ("uart_chip/src/sending.rt", "requires { spec.sends_at_once", "requires { spec.is_ready", "send_at_once requires other things"),
 ]

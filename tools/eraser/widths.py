@@ -103,6 +103,8 @@ OF_WIDTH = re.compile(
 )
 # The numbers that have as many bits everywhere: `u16::from_le_bytes` has one meaning.
 NAMED = ["u8", "u16", "u32", "u64"]
+# A parameter of a type that is a number, which is no other name for its type.
+A_CONSTANT = re.compile(r"\bconst \w+ : usize\b")
 # Functions of slices, queues and iterators that give a `usize`.
 COUNTS = ["len", "count", "capacity", "position"]
 
@@ -115,7 +117,7 @@ def check(file, counts):
             file.refuse("`isize`", at)
         if word == "as" and after == "_":
             file.refuse("`as _`", at)
-        if word == "type" and "usize" in file.words(at, file.semicolon(at)).split():
+        if word == "type" and "usize" in A_CONSTANT.sub("", file.words(at, file.semicolon(at))).split():
             file.refuse("another name for `usize`", at)
         if before == "::" and word in ("MAX", "MIN", "BITS") and file.word(at - 2) == ">":
             file.refuse("a limit of a type in brackets", at)

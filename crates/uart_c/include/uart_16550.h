@@ -30,7 +30,8 @@ enum uart_status {
     UART_BAD_ERRORS = 3, /* a character has parity, framing and break errors alone */
     UART_BAD_LINES = 4,  /* the modem lines are CTS, DSR, RI and CD */
     UART_BAD_CHIP = 5,   /* the saved data are those of no sound chip */
-    UART_BAD_PORT = 6    /* the saved data are those of no port */
+    UART_BAD_PORT = 6,   /* the saved data are those of no port */
+    UART_BAD_FIFO = 8    /* the FIFOs hold 16, 32, 64 or 128 characters */
 };
 
 /* --------------------------------------------------------------- the registers
@@ -83,7 +84,7 @@ enum uart_status {
 #define UART_FCR_FIFO_64_ENABLE 0x20        /* FIFOs of 64 characters: 16750, while DLAB is set; the chip of this library has no such bit */
 #define UART_FCR_RX_FIFO_TRIGGER_LEVEL0 0x40
 #define UART_FCR_RX_FIFO_TRIGGER_LEVEL1 0x80
-#define UART_FCR_RX_FIFO_TRIGGER_LEVEL 0xc0 /* 1, 4, 8 or 14 characters */
+#define UART_FCR_RX_FIFO_TRIGGER_LEVEL 0xc0 /* 1, 4, 8 or 14 characters, with FIFOs of 16 */
 
 /* Line control. */
 #define UART_LCR_WORD_LENGTH0 0x01
@@ -145,9 +146,15 @@ enum uart_status {
  * characters with uart_chip_arrive, takes what goes out with uart_chip_take_wire, and asks for the level of the interrupt
  * line with uart_chip_is_interrupting. No time passes but in uart_chip_ticks. A virtual machine monitor rather takes the port
  * below, which needs no clock, and says when to signal the guest and when there is room for input again.
+ *
+ * The FIFOs of a chip hold 16 characters, or 32, 64 or 128: then it was made by uart_chip_new_sized. Nothing that a guest reads says
+ * which, so tell it, for example by fifo-size in a device tree. One that does not know takes them to hold 16, and loses nothing. A length
+ * is a byte, so there are no FIFOs of 256. Each struct has room for FIFOs of UART_FIFO_ROOM characters, of which one of 16 uses the first
+ * 16: a chip is some 600 bytes.
  */
 
 #define UART_FIFO_SIZE 16
+#define UART_FIFO_ROOM 128
 #define UART_WIRE_ROOM 64
 
 enum uart_model { UART_16450 = 0, UART_16550A = 1 };
@@ -168,7 +175,7 @@ struct uart_modem {
 /* A queue of bytes. */
 struct uart_bytes {
     uint8_t len;
-    uint8_t items[UART_FIFO_SIZE];
+    uint8_t items[UART_FIFO_ROOM];
 };
 
 /* The bytes that have gone out, and how many there is room for. */
@@ -185,6 +192,7 @@ struct uart_transmitter {
     uint8_t is_shifting;     /* there is one */
     uint8_t shift_byte;
     uint8_t is_thr_pending;  /* the interrupt THR-empty is pending */
+    uint8_t fifo_size;       /* 16, 32, 64 or 128; another number counts as 16 */
     struct uart_bytes queue;
     struct uart_wire wire;
 };
@@ -198,7 +206,7 @@ struct uart_character {
 /* A queue of characters. */
 struct uart_characters {
     uint8_t len;
-    struct uart_character items[UART_FIFO_SIZE];
+    struct uart_character items[UART_FIFO_ROOM];
 };
 
 /* What receives. */
@@ -208,11 +216,15 @@ struct uart_receiver {
     uint8_t is_overrun;
     uint8_t is_front_reported;
     uint8_t last_byte;
-    uint8_t trigger;         /* 1, 4, 8 or 14 */
+    uint8_t trigger;         /* 1, 4, 8 or 14: the level that is so many characters with a FIFO of 16 */
+    uint8_t fifo_size;       /* as that of the transmitter */
     struct uart_characters queue;
 };
 
-/* The chip. Bytes behind the end of a queue mean nothing, nor do shift_byte and ticks_left while is_shifting is 0. */
+/*
+ * The chip. Bytes behind the end of a queue mean nothing, nor do shift_byte and ticks_left while is_shifting is 0. No function clears
+ * them: if the struct is to leave the program as it is, let it be all 0 before a chip is made in it.
+ */
 struct uart_chip {
     struct uart_transmitter transmitter;
     struct uart_receiver receiver;
@@ -234,10 +246,21 @@ struct uart_chip {
 uint32_t uart_chip_new(struct uart_chip *chip, uint8_t model, uint16_t char_ticks, uint8_t wire_capacity, uint8_t cuts);
 
 /*
+ * The same with FIFOs of fifo_size characters: 16, 32, 64 or 128. They fill and give interrupts as those of a real chip do: of 32 a 16650,
+ * of 64 a 16750, of 128 a 16950. That is all that it has of these: there is no automatic flow control, no switch of the size, and what
+ * ISR shows is that of a 16550A. A 16450 has no FIFOs, and is the same with any size.
+ *
+ * Returns UART_OK, or UART_BAD_FIFO, which comes first, UART_BAD_TICKS or UART_BAD_WIRE.
+ */
+uint32_t uart_chip_new_sized(struct uart_chip *chip, uint8_t model, uint8_t fifo_size, uint16_t char_ticks, uint8_t wire_capacity,
+                             uint8_t cuts);
+
+/*
  * Makes a chip like one that was saved, which may come from anywhere. It is refused exactly if it is no sound chip, that is,
- * if one of these holds. No chip that was made by uart_chip_new and used by the functions below is refused.
+ * if one of these holds. No chip that was made by a function above and used by those below is refused.
  *
  * - a queue has more than there is room for, which is one item without FIFO, or the wire more than its capacity;
+ * - the transmitter has a FIFO of another size than the receiver;
  * - a character takes no 1 to 1000 ticks, or the one in the shift register has no 1 to char_ticks left;
  * - timeout_limit is not four character times, or timeout_ticks is more;
  * - a character has other errors than parity, framing and break;
@@ -248,8 +271,9 @@ uint32_t uart_chip_new(struct uart_chip *chip, uint8_t model, uint16_t char_tick
 uint32_t uart_chip_load(struct uart_chip *chip, const struct uart_chip *saved);
 
 /*
- * Saves a chip: saved becomes a chip that goes on as this one. Its flags are 0 or 1, its trigger is 1, 4, 8 or 14, and each
- * length is within its array. So it is with a chip that was made or loaded, and the functions below keep it so.
+ * Saves a chip: saved becomes a chip that goes on as this one. Its flags are 0 or 1, its trigger is 1, 4, 8 or 14, the sizes of its
+ * FIFOs are 16, 32, 64 or 128, and each length is within its array and its FIFO. So it is with a chip that was made or loaded, and the
+ * functions below keep it so.
  */
 void uart_chip_save(const struct uart_chip *chip, struct uart_chip *saved);
 
@@ -350,6 +374,16 @@ struct uart_port {
  */
 void uart_port_new(struct uart_port *port, uint8_t model);
 
+/*
+ * The same with FIFOs of fifo_size characters: 16, 32, 64 or 128, as those of a chip from uart_chip_new_sized. A guest that knows writes
+ * so many bytes at once for an interrupt, and as many characters of input are received before it reads them: the larger they are, the
+ * less often the guest and its monitor are called. Linux knows by a device tree with compatible "ns16550a", fifo-size = <64> and
+ * tx-threshold = <0>: it writes the size less the threshold, and 16 bytes if there is no threshold.
+ *
+ * Returns UART_OK or UART_BAD_FIFO.
+ */
+uint32_t uart_port_new_sized(struct uart_port *port, uint8_t model, uint8_t fifo_size);
+
 /* The guest reads the register. Of the offset the lowest three bits count. */
 uint8_t uart_port_read(struct uart_port *port, uint8_t offset, struct uart_todo *todo);
 
@@ -360,7 +394,7 @@ void uart_port_write(struct uart_port *port, uint8_t offset, uint8_t value, stru
  * The host has input: as many of these bytes are received as there is room for, from the front. Returns how many. If these are
  * not all, there is no room left. The first call after which nothing waits says in has_room that there is room, or one by which
  * the guest makes room otherwise than by reading DATA. Offer the others then. Without FIFO there is room for one byte, with it
- * for UART_FIFO_SIZE, and in loopback for none.
+ * for as many as it holds, and in loopback for none.
  */
 size_t uart_port_receive(struct uart_port *port, const uint8_t *bytes, size_t len, struct uart_todo *todo);
 

@@ -3,7 +3,8 @@
  * crate uart_16550_chip reads and writes the same bytes. The layout is in STATE.md of that crate.
  *
  * To save a port, call uart_port_save and then uart_chip_to_bytes. To restore one, call uart_chip_from_bytes and then
- * uart_port_load. Of a chip without a port it is uart_chip_save and uart_chip_load.
+ * uart_port_load. Of a chip without a port it is uart_chip_save and uart_chip_load. Of one with FIFOs of more than 16 characters it is
+ * uart_chip_to_bytes_sized in the place of uart_chip_to_bytes.
  *
  * The functions are by hand, not proved, and move bytes alone: whether a chip can be what they read is for uart_port_load or
  * uart_chip_load to say. Whatever bytes there are, they stay within them. A level of the interrupt line, and what the monitor
@@ -18,8 +19,9 @@
 extern "C" {
 #endif
 
-/* How many bytes a state is that uart_chip_to_bytes writes, and its version. */
+/* How many bytes a state is with FIFOs of 16, which uart_chip_to_bytes writes; how many it is at most; and its version. */
 #define UART_STATE_LEN 171
+#define UART_STATE_MOST 528
 #define UART_STATE_VERSION 2
 
 /* What uart_chip_from_bytes returns, and what it then writes to *detail. */
@@ -30,12 +32,13 @@ enum uart_state_status {
     UART_STATE_BAD_LENGTH = 3,   /* too few bytes, or too many: the offset where, 8 for those of all */
     UART_STATE_UNKNOWN_PART = 4, /* a part that must not be skipped is not known: its kind */
     UART_STATE_MISSING_PART = 5, /* a part is not there: its kind */
-    UART_STATE_BAD_VALUE = 6     /* a byte that its field cannot have: the offset of the byte */
+    UART_STATE_BAD_VALUE = 6,    /* a byte that its field cannot have: the offset of the byte */
+    UART_STATE_LARGER = 8        /* of uart_chip_to_bytes: the FIFOs are not of 16 */
 };
 
 /* ------------------------------------------------------------------ the layout
  *
- * What follows up to uart_chip_to_bytes is for the functions below, and not to be used otherwise.
+ * What follows up to uart_chip_to_bytes_sized is for the functions below, and not to be used otherwise.
  */
 
 enum uart_state_layout {
@@ -47,6 +50,8 @@ enum uart_state_layout {
     UART_STATE_CHIP_LEN = 86,
     UART_STATE_OUTPUT = 2,
     UART_STATE_OUTPUT_LEN = 65,
+    UART_STATE_FIFOS = 3,      /* what FIFOs of more than 16 have beyond 16; how many bytes it is depends on their size */
+    UART_STATE_FIFOS_HEAD = 3,
     UART_STATE_LEN_1 = 146     /* how many bytes a state of version 1 is */
 };
 
@@ -78,6 +83,30 @@ static inline void uart_state_put_number(uint8_t **to, uint64_t number, unsigned
 {
     for (; len > 0; len--, number >>= 8)
         uart_state_put(to, (uint8_t)(number & 0xff));
+}
+
+/* The numbers and places of FIFOs: how many characters one holds, how many of so many are beyond 16, and how many wait. */
+static inline uint8_t uart_state_size(uint8_t fifo_size)
+{
+    return fifo_size == 32 || fifo_size == 64 || fifo_size == 128 ? fifo_size : UART_FIFO_SIZE;
+}
+
+static inline uint8_t uart_state_beyond(uint8_t count)
+{
+    return (uint8_t)(count > UART_FIFO_SIZE ? count - UART_FIFO_SIZE : 0);
+}
+
+static inline uint8_t uart_state_waiting(uint8_t len, uint8_t fifo_size)
+{
+    return len < uart_state_size(fifo_size) ? len : uart_state_size(fifo_size);
+}
+
+/* How many bytes the part with the rest of such FIFOs is. Of eight characters one byte says which came by loopback. */
+static inline uint16_t uart_state_fifos_len(uint8_t fifo_size)
+{
+    uint8_t room = uart_state_beyond(uart_state_size(fifo_size));
+
+    return (uint16_t)(UART_STATE_FIFOS_HEAD + 3 * room + room / 8);
 }
 
 /* A list, with its length in front, in the room that it may take. A length beyond the room counts as the room. */
@@ -114,6 +143,33 @@ static inline void uart_state_put_characters(uint8_t **to, const struct uart_cha
     for (i = 0; i < len; i++)
         looped |= (unsigned)(queue->items[i].is_looped != 0) << i;
     uart_state_put_number(to, looped, 2);
+}
+
+/* What waits beyond 16 characters, in the room that it may take. */
+static inline void uart_state_put_more(uint8_t **to, const struct uart_chip *chip)
+{
+    const struct uart_bytes *bytes = &chip->transmitter.queue;
+    const struct uart_characters *queue = &chip->receiver.queue;
+    uint8_t size = uart_state_size(chip->transmitter.fifo_size);
+    uint8_t room = uart_state_beyond(size);
+    uint8_t len = uart_state_beyond(uart_state_waiting(queue->len, size));
+    uint8_t i, bit;
+
+    uart_state_put(to, size);
+    uart_state_put_list(to, bytes->items + UART_FIFO_SIZE, uart_state_beyond(uart_state_waiting(bytes->len, size)), room);
+    uart_state_put(to, len);
+    for (i = 0; i < room; i++)
+        uart_state_put(to, i < len ? queue->items[UART_FIFO_SIZE + i].byte : 0);
+    for (i = 0; i < room; i++)
+        uart_state_put(to, i < len ? queue->items[UART_FIFO_SIZE + i].errors : 0);
+    for (i = 0; i < room; i = (uint8_t)(i + 8)) {
+        unsigned looped = 0;
+
+        for (bit = 0; bit < 8; bit++)
+            if (i + bit < len && queue->items[UART_FIFO_SIZE + i + bit].is_looped)
+                looped |= 1u << bit;
+        uart_state_put(to, (uint8_t)looped);
+    }
 }
 
 static inline void uart_state_put_transmitter(uint8_t **to, const struct uart_transmitter *transmitter)
@@ -275,6 +331,51 @@ static inline void uart_state_characters(struct uart_state_reader *from, struct 
     }
 }
 
+/* What waits beyond 16 characters, of FIFOs of more. */
+static inline void uart_state_more(struct uart_state_reader *from, struct uart_chip *chip)
+{
+    struct uart_bytes *bytes = &chip->transmitter.queue;
+    struct uart_characters *queue = &chip->receiver.queue;
+    uint8_t more[UART_FIFO_ROOM] = { 0 };
+    size_t offset = from->offset;
+    uint8_t size = uart_state_byte(from);
+    uint8_t room = uart_state_beyond(size);
+    uint8_t i, len;
+
+    if (size == UART_FIFO_SIZE || uart_state_size(size) != size) {
+        uart_state_refuse(from, UART_STATE_BAD_VALUE, offset);
+        return;
+    }
+    chip->transmitter.fifo_size = chip->receiver.fifo_size = size;
+    /* Nothing waits beyond 16 unless as many wait before. */
+    offset = from->offset;
+    len = uart_state_list(from, bytes->items + UART_FIFO_SIZE, room);
+    if (len > 0 && bytes->len < UART_FIFO_SIZE)
+        uart_state_refuse(from, UART_STATE_BAD_VALUE, offset);
+    bytes->len = (uint8_t)(bytes->len + len);
+    offset = from->offset;
+    len = uart_state_list(from, more, room);
+    if (len > 0 && queue->len < UART_FIFO_SIZE)
+        uart_state_refuse(from, UART_STATE_BAD_VALUE, offset);
+    queue->len = (uint8_t)(queue->len + len);
+    for (i = 0; i < len; i++)
+        queue->items[UART_FIFO_SIZE + i].byte = more[i];
+    uart_state_items(from, more, len, room);
+    for (i = 0; i < len; i++)
+        queue->items[UART_FIFO_SIZE + i].errors = more[i];
+    for (i = 0; i < room; i = (uint8_t)(i + 8)) {
+        uint8_t looped, bit;
+
+        offset = from->offset;
+        looped = uart_state_byte(from);
+        for (bit = 0; bit < 8; bit++, looped >>= 1) {
+            if ((looped & 1) && i + bit >= len)
+                uart_state_refuse(from, UART_STATE_BAD_VALUE, offset);
+            queue->items[UART_FIFO_SIZE + i + bit].is_looped = looped & 1;
+        }
+    }
+}
+
 static inline void uart_state_transmitter(struct uart_state_reader *from, struct uart_transmitter *transmitter)
 {
     transmitter->is_thr_pending = uart_state_flag(from);
@@ -291,6 +392,19 @@ static inline void uart_state_receiver(struct uart_state_reader *from, struct ua
     receiver->last_byte = uart_state_byte(from);
     receiver->trigger = uart_state_level(uart_state_up_to(from, 3));
     uart_state_characters(from, &receiver->queue);
+}
+
+/* A chip after power on, with nothing behind the ends of its queues. */
+static inline void uart_state_clear(struct uart_chip *chip)
+{
+    static const struct uart_character none = { 0, 0, 0 };
+    uint8_t i;
+
+    uart_chip_new(chip, UART_16550A, 1, UART_WIRE_ROOM, UART_WHOLE_BYTES);
+    for (i = 0; i < UART_FIFO_ROOM; i++) {
+        chip->transmitter.queue.items[i] = 0;
+        chip->receiver.queue.items[i] = none;
+    }
 }
 
 /* What version 1 has of a chip. */
@@ -364,7 +478,7 @@ static inline uint8_t uart_state_part(struct uart_state_reader *from, uint8_t la
         return 0;
     }
     body.len = from->offset;
-    if (kind > UART_STATE_OUTPUT) {
+    if (kind > UART_STATE_FIFOS) {
         if (is_needed)
             uart_state_refuse(&body, UART_STATE_UNKNOWN_PART, kind);
     } else if (!is_needed) {
@@ -372,8 +486,10 @@ static inline uint8_t uart_state_part(struct uart_state_reader *from, uint8_t la
     } else if (kind == UART_STATE_CHIP) {
         uart_state_registers(&body, chip);
         uart_state_pace(&body, chip);
-    } else {
+    } else if (kind == UART_STATE_OUTPUT) {
         uart_state_output(&body, &chip->transmitter.wire);
+    } else {
+        uart_state_more(&body, chip);
     }
     uart_state_refuse(from, body.status, body.detail);
     return kind;
@@ -443,12 +559,8 @@ static inline int uart_state_has_magic(const uint8_t *bytes, size_t len)
     return 1;
 }
 
-/* --------------------------------------------------------------- what is called
- *
- * Writes a chip as UART_STATE_LEN bytes. Of what the struct holds the same counts as in a call of the library: any number but 0
- * is a set flag, and a length beyond its array is that of the array.
- */
-static inline void uart_chip_to_bytes(const struct uart_chip *chip, uint8_t *bytes)
+/* Writes a state of so many bytes: that of a chip whose FIFOs have one size. */
+static inline void uart_state_put_all(const struct uart_chip *chip, uint8_t *bytes, size_t len)
 {
     uint8_t *to = bytes;
     size_t i;
@@ -456,17 +568,59 @@ static inline void uart_chip_to_bytes(const struct uart_chip *chip, uint8_t *byt
     for (i = 0; i < UART_STATE_MAGIC_LEN; i++)
         uart_state_put(&to, uart_state_magic(i));
     uart_state_put_number(&to, UART_STATE_VERSION, 2);
-    uart_state_put_number(&to, UART_STATE_LEN, 4);
+    uart_state_put_number(&to, len, 4);
     uart_state_put_part(&to, UART_STATE_CHIP, UART_STATE_CHIP_LEN);
     uart_state_put_chip(&to, chip);
     uart_state_put_part(&to, UART_STATE_OUTPUT, UART_STATE_OUTPUT_LEN);
     uart_state_put_list(&to, chip->transmitter.wire.items, chip->transmitter.wire.len, UART_WIRE_ROOM);
+    if (len == UART_STATE_LEN)
+        return;
+    uart_state_put_part(&to, UART_STATE_FIFOS, uart_state_fifos_len(chip->transmitter.fifo_size));
+    uart_state_put_more(&to, chip);
+}
+
+/* --------------------------------------------------------------- what is called
+ *
+ * Writes a chip with FIFOs of any size as bytes, and returns how many: UART_STATE_LEN with FIFOs of 16, and else more, at most
+ * UART_STATE_MOST. If bytes has not room for so many, or the two FIFOs have not one size, as those of each chip that can be loaded have,
+ * it writes nothing and returns 0. Of what the struct holds the same counts as in a call of the library: any number but 0 is a set flag,
+ * and a length beyond its FIFO or its array is that of the FIFO or the array.
+ *
+ * A reader of an earlier release, and that of the Rust crate, refuses a chip with larger FIFOs: UART_STATE_UNKNOWN_PART, 3.
+ */
+static inline size_t uart_chip_to_bytes_sized(const struct uart_chip *chip, uint8_t *bytes, size_t room)
+{
+    uint8_t size = uart_state_size(chip->transmitter.fifo_size);
+    size_t len = UART_STATE_LEN;
+
+    if (size != UART_FIFO_SIZE)
+        len += UART_STATE_PART_HEADER + (size_t)uart_state_fifos_len(size);
+    if (size != uart_state_size(chip->receiver.fifo_size) || len > room)
+        return 0;
+    uart_state_put_all(chip, bytes, len);
+    return len;
 }
 
 /*
- * Reads a chip from len bytes, which may come from anywhere: those that uart_chip_to_bytes or the Rust crate wrote, in this
- * release, in one before it, or in one after it that added only what may be skipped. The chip is then for uart_port_load or
- * uart_chip_load, which refuses what is no port or no chip.
+ * The same for a chip with FIFOs of 16: writes UART_STATE_LEN bytes.
+ *
+ * Returns UART_STATE_OK, or UART_STATE_LARGER for a chip with larger FIFOs. The bytes are all 0 then, which are no state.
+ */
+static inline uint32_t uart_chip_to_bytes(const struct uart_chip *chip, uint8_t *bytes)
+{
+    size_t i;
+
+    if (uart_chip_to_bytes_sized(chip, bytes, UART_STATE_LEN) == UART_STATE_LEN)
+        return UART_STATE_OK;
+    for (i = 0; i < UART_STATE_LEN; i++)
+        bytes[i] = 0;
+    return UART_STATE_LARGER;
+}
+
+/*
+ * Reads a chip from len bytes, which may come from anywhere: those that a function above or the Rust crate wrote, in this release, in
+ * one before it, or in one after it that added only what may be skipped. Its FIFOs have the size that they had. The chip is then for
+ * uart_port_load or uart_chip_load, which refuses what is no port or no chip.
  *
  * Returns an enum uart_state_status, and writes to *detail what that says. If it is not UART_STATE_OK, *saved is as before.
  */
@@ -480,7 +634,7 @@ static inline uint32_t uart_chip_from_bytes(struct uart_chip *saved, const uint8
     from.offset = 0;
     from.detail = 0;
     from.status = UART_STATE_OK;
-    uart_chip_new(&chip, UART_16550A, 1, UART_WIRE_ROOM, UART_WHOLE_BYTES);
+    uart_state_clear(&chip);
     if (uart_state_is_version_1(bytes, len))
         uart_state_version_1(&from, &chip);
     else if (uart_state_has_magic(bytes, len))

@@ -1,10 +1,13 @@
 -- Whether some character of a queue has errors, or some one behind the front.
-use Rattle.std.proofs.Common.{◌≡◌, ℕ, ◌+◌, ◌-◌, ◌<◌, Bool, true, false, ◌||◌, List, [], ◌∷◌, take, drop, map, length, refl, sym}
-use Rattle.std.proofs.Common.{ap, ◌∙◌, arith}
+use Rattle.std.proofs.Common.{◌≡◌, ℕ, zero, suc, ◌+◌, ◌-◌, ◌<◌, ◌≤◌, Bool, true, false, ◌||◌, List, [], ◌∷◌, take, drop, map}
+use Rattle.std.proofs.Common.{length, get_or, bit_and, refl, sym, ap, ◌∙◌, arith}
 use Rattle.std.specs.List.{list_any, slice_range}
 use Rattle.std.proofs.lemmas.List.{take_min, drop-take, drop-map, length-take, length-map}
-use Rattle.uart_chip.specs.Receiver.{unreported}
+use Rattle.uart_c.specs.Queue.{character_of}
+use Rattle.uart_c.specs.declared.queue.UartCharacter.{UartCharacter}
+use Rattle.uart_chip.specs.Receiver.{front_errors, unreported}
 use Rattle.uart_chip.specs.declared.receiver.Character.{Character}
+use Rattle.uart_spec.specs.declared.registers.line_status.TheConstants.LSR
 
 any_map : {X Y : Type 0} (p : Y → Bool) (f : X → Y) (xs : List X) → list_any (λ x. p (f x)) xs ≡ list_any p (map f xs)
 any_map p f [] = refl
@@ -36,3 +39,11 @@ any_behind p f n len items reported is some on =
     any_map p f (slice_range items 1 len) ∙ ap (λ xs. list_any p (map f xs)) behind ∙
     ap (λ xs. list_any p xs) (sym (drop-map f 1 (take n items))) ∙
     ap (λ b. list_any p (unreported (map f (take n items)) b)) (sym on)
+
+-- the first item is the front, whose errors were not reported
+pub front_is : (n : ℕ) (items : List UartCharacter) (reported : Bool) (d : UartCharacter) → 1 ≤ n → 1 ≤ length items → false ≡ reported →
+    bit_and (get_or items 0 d).errors LSR.CHARACTER_ERRORS.0 ≡ front_errors (map character_of (take n items)) reported
+front_is zero items reported d some there off = absurd (omega (arith, some))
+front_is (suc n) [] reported d some there off = absurd (omega (arith, there))
+front_is (suc n) (x ∷ xs) true d some there off = absurd (cc)
+front_is (suc n) (x ∷ xs) false d some there off = refl

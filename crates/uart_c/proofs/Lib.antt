@@ -11,3 +11,4 @@ pub mod Saved
 pub mod Stays
 pub mod Steps
 pub mod Told
+pub mod Writes

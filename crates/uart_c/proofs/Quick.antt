@@ -10,9 +10,11 @@ use Rattle.uart_chip.specs.Sending.{sends_at_once, send_at_once}
 use Rattle.uart_chip.specs.Transmitter.{held, shift_bytes}
 use Rattle.uart_chip.specs.declared.transmitter.Shifting.{Shifting}
 use Rattle.uart_live.proofs.Sends.{Sends, each, sends, unset}
+use Rattle.uart_spec.specs.FifoSize.{characters}
 use Rattle.uart_spec.specs.declared.registers.offsets.TheConstants as offsets
 use Rattle.uart_virtual.proofs.Sends.{two_ticks}
-use Rattle.uart_virtual.specs.Port.{IsStill, has_room, is_empty, is_news, is_up, seen_of, settle, settle_ticks, spare_after, tell, todo_of}
+use Rattle.uart_virtual.specs.Port.{IsStill, has_room, is_empty, is_news, is_up, rest_of, seen_of, settle, settle_ticks, spare_after, tell}
+use Rattle.uart_virtual.specs.Port.{todo_of}
 use Rattle.uart_virtual.specs.declared.told.Kind.{Kind}
 use Rattle.uart_virtual.specs.declared.told.Told.{Told}
 
@@ -36,8 +38,21 @@ idle_ticks n c e =
       receiver = count_up n c.receiver;
     }) same
 
-pub settle-idle : (c : ChipState) → length (held c.transmitter) ≡ 0 → settle c ≡ record c { receiver = count_up settle_ticks c.receiver }
-settle-idle c e = idle_ticks settle_ticks c e
+pub settle-idle : (c : ChipState) → length (held c.transmitter) ≡ 0 →
+    settle c ≡ record c { receiver = count_up (settle_ticks c.transmitter.size) c.receiver }
+settle-idle c e = idle_ticks (settle_ticks c.transmitter.size) c e
+
+-- a timeout that is due stays due
+due-stays : (n ticks limit : ℕ) → ticks ≡ limit → timeout_after n ticks limit ≡ ticks
+due-stays zero ticks limit e = refl
+due-stays (suc n) ticks limit e = omega (arith, e)
+
+pub settle-due : (c : ChipState) → length (held c.transmitter) ≡ 0 → c.receiver.timeout_ticks ≡ c.receiver.timeout_limit →
+    settle c ≡ c
+settle-due c e due =
+    settle-idle c e ∙
+    ap (λ (i : ℕ). record c { receiver = record c.receiver { timeout_ticks = i } })
+    (due-stays (settle_ticks c.transmitter.size) c.receiver.timeout_ticks c.receiver.timeout_limit due)
 
 -- ---- a byte that is sent at once
 
@@ -49,10 +64,6 @@ none-shifted : (place : Option Shifting) → is_some place ≡ false → place �
 none-shifted None e = refl
 none-shifted (Some s) e = absurd (cc)
 
-due-stays : (n ticks limit : ℕ) → ticks ≡ limit → timeout_after n ticks limit ≡ ticks
-due-stays zero ticks limit e = refl
-due-stays (suc n) ticks limit e = omega (arith, e)
-
 -- after the time of a call the byte is on the output
 pub settle-sent : (value : ℕ) (c : ChipState) → IsStill c → sends_at_once c ≡ true →
     settle (after_write offsets.DATA value c) ≡ send_at_once value c
@@ -63,9 +74,12 @@ settle-sent value c still e =
     let sent : ChipState = send_at_once value c in
     let empty : length (held sent.transmitter) ≡ 0 =
     rw (none-queued c.transmitter.queue s.empty, none-shifted c.transmitter.shift_register s.free) refl in
-    ticks-add 20 2 d ∙ (ap (λ (x : ChipState). ticks 20 x) (two_ticks value c still s) ∙ (idle_ticks 20 sent empty ∙
+    let left : ℕ = characters d.transmitter.size + 4 in
+    let sum : characters d.transmitter.size + 6 ≡ left + 2 = omega arith in
+    ap (λ (n : ℕ). ticks n d) sum ∙ (ticks-add left 2 d ∙ (ap (λ (x : ChipState). ticks left x) (two_ticks value c still s) ∙
+    (idle_ticks left sent empty ∙
     ap (λ (i : ℕ). record sent { receiver = record c.receiver { timeout_ticks = i } })
-    (due-stays 20 c.receiver.timeout_ticks c.receiver.timeout_limit still.due)))
+    (due-stays left c.receiver.timeout_ticks c.receiver.timeout_limit still.due))))
 
 -- ---- nothing is told
 
@@ -130,7 +144,7 @@ quiet_told kind v c told e =
           line = up;
           has_room = some && (told.has_room || (kind.may_make_room || is_empty c));
           has_looked = looks || (told.has_looked && not signal);
-          spare = spare_after (record kind { looks = looks }) signal c.fifo told;
+          spare = spare_after (record kind { looks = looks }) signal (rest_of c) told;
         }
 
 pub quiet_todo : (kind : Kind) (v : Bool) (c : ChipState) (told : Told) → leaves_nothing kind c told ≡ true →

@@ -2,16 +2,17 @@
 use Rattle.std.specs.Prelude.{◌≡◌, ℕ, ◌<◌, ◌==◌, ◌&&◌, not, Bool, false}
 use Rattle.uart_c.specs.Canonical.{IsCanonical}
 use Rattle.uart_c.specs.Queue.{is_on}
+use Rattle.uart_c.specs.Saved.{IsLiveChip}
 use Rattle.uart_c.specs.State.{chip_of}
 use Rattle.uart_c.specs.declared.port.UartPort.{UartPort}
 use Rattle.uart_c.specs.declared.port.UartTodo.{UartTodo}
 use Rattle.uart_c.specs.declared.port.UartTold.{UartTold}
 use Rattle.uart_chip.specs.Chip.{ChipState}
 use Rattle.uart_events.specs.declared.event.Chip.{Chip}
-use Rattle.uart_live.specs.Live.{IsLive}
 use Rattle.uart_spec.specs.Bits.{IsWithin, flag}
 use Rattle.uart_spec.specs.declared.registers.line_status.TheConstants.LSR
 use Rattle.uart_spec.specs.declared.registers.modem_status.TheConstants.MSR
+use Rattle.uart_spec.specs.declared.setup.FifoSize.{FifoSize}
 use Rattle.uart_virtual.specs.Port.{PortState, PortCall, Write, ReceiveOne, SetLines, IsPort, IsStill}
 use Rattle.uart_virtual.specs.Port.{after, begun, fresh, has_room, is_up}
 use Rattle.uart_virtual.specs.declared.told.Kind.{Kind}
@@ -75,7 +76,7 @@ nothing_but ready =
 
 -- a sound chip, of which the monitor was told what is so, and to which nothing is left to happen
 pub record IsSoundPort (p : PortState) : Type 0 where
-  pub live : IsLive p.chip
+  pub live : IsLiveChip p.chip
   pub port : IsPort p
 
 -- the call is one that is not refused; a value that is written is a byte
@@ -85,13 +86,13 @@ IsAcceptedCall (ReceiveOne byte errors) = IsWithin errors LSR.CHARACTER_ERRORS.0
 IsAcceptedCall (SetLines inputs) = IsWithin inputs MSR.LINES.0
 IsAcceptedCall _ = Unit {0}
 
--- a port that is made is sound
+-- a port that is made is sound, with FIFOs of any size
 abbrev pub MadePortsAreSound : Type 0
-MadePortsAreSound = (model : Chip) → IsSoundPort (fresh model)
+MadePortsAreSound = (size : FifoSize) (model : Chip) → IsSoundPort (fresh size model)
 
 -- a port that is restored is sound
 abbrev pub RestoredPortsAreSound : Type 0
-RestoredPortsAreSound = (c : ChipState) → IsLive c → IsStill c → IsSoundPort (begun c)
+RestoredPortsAreSound = (c : ChipState) → IsLiveChip c → IsStill c → IsSoundPort (begun c)
 
 -- a sound port stays sound, whatever is done with it
 abbrev pub SoundPortsStaySound : Type 0

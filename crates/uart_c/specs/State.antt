@@ -1,6 +1,6 @@
 -- The chip that the data of C are.
 use Rattle.std.specs.Prelude.{ℕ, Option, Some, None, if◌then◌else◌, ◌==◌}
-use Rattle.uart_c.specs.Queue.{is_on, bytes_of, characters_of, wire_of, capacity_of}
+use Rattle.uart_c.specs.Queue.{is_on, fifo_size_of, bytes_of, characters_of, wire_of, capacity_of}
 use Rattle.uart_c.specs.declared.chip.UartChip.{UartChip}
 use Rattle.uart_c.specs.declared.chip.UartLatches.{UartLatches}
 use Rattle.uart_c.specs.declared.modem.UartModem.{UartModem}
@@ -58,7 +58,7 @@ number_of level = receiver.characters_of Sixteen level
 abbrev pub receiver_data : UartReceiver → ReceiverData
 receiver_data r =
     record {
-      queue = record { items = characters_of r.queue };
+      queue = record { items = characters_of (fifo_size_of r.fifo_size) r.queue };
       is_overrun = is_on r.is_overrun;
       is_front_reported = is_on r.is_front_reported;
       last_byte = r.last_byte;
@@ -75,7 +75,7 @@ place_of t =
 abbrev pub transmitter_data : UartTransmitter → TransmitterData
 transmitter_data t =
     record {
-      queue = record { items = bytes_of t.queue };
+      queue = record { items = bytes_of (fifo_size_of t.fifo_size) t.queue };
       shift_register = place_of t;
       wire_capacity = capacity_of t.wire;
       char_ticks = t.char_ticks;
@@ -102,17 +102,18 @@ chip_data c =
 
 -- ---- the chip of these data
 
--- the receiver with this limit of its idle ticks: the data of C hold the limit too
-abbrev pub limited_to : (limit : ℕ) → ReceiverState → ReceiverState
-limited_to limit r = record r { timeout_limit = limit }
+-- the data of a saved chip have no sizes of FIFOs and no limit of idle ticks: those of C do
 
 -- the transmitter; the receiver, without a schedule: no arrivals and no marks, as after power-on; the modem lines; the
 -- latches
 abbrev pub transmitter_of : UartTransmitter → TransmitterState
-transmitter_of t = parts.transmitter_of (transmitter_data t) (wire_of t.wire)
+transmitter_of t =
+    record (parts.transmitter_of (transmitter_data t) (wire_of t.wire)) { size = fifo_size_of t.fifo_size }
 
 abbrev pub receiver_of : UartReceiver → ReceiverState
-receiver_of r = limited_to r.timeout_limit (parts.receiver_of 0 (receiver_data r))
+receiver_of r =
+    record (parts.receiver_of 0 (receiver_data r))
+    { size = fifo_size_of r.fifo_size; timeout_limit = r.timeout_limit }
 
 abbrev pub modem_of : UartModem → ModemState
 modem_of m = parts.modem_of (modem_data m)
@@ -122,4 +123,6 @@ latches_of l = snapshot.latches_of (latches_data l)
 
 -- the chip that a struct of C is, whatever bytes it holds
 abbrev pub chip_of : UartChip → ChipState
-chip_of c = record (snapshot.chip_of (chip_data c) (wire_of c.transmitter.wire)) { receiver = receiver_of c.receiver }
+chip_of c =
+    record (snapshot.chip_of (chip_data c) (wire_of c.transmitter.wire))
+    { transmitter = transmitter_of c.transmitter; receiver = receiver_of c.receiver }

@@ -43,35 +43,33 @@ pub struct UartChip {
 }
 
 impl UartChip {
-    /// A chip after power on.
-    pub fn new(model: u8, char_ticks: u16, capacity: u8, cuts: u8) -> Self
+    /// Becomes a chip after power on, with FIFOs of this size.
+    pub fn power_on(&mut self, model: u8, fifo_size: u8, char_ticks: u16, capacity: u8, cuts: u8)
         requires char_ticks { char_ticks ≤ MAX_CHAR_TICKS }
         requires capacity { capacity ≤ WIRE_ROOM }
-        ensures chip { chip_of result ≡
-            record (spec.fresh (model_of model) char_ticks capacity 0)
-            { cuts = queue_spec.is_on cuts } }
-        ensures canonical { IsCanonical result }
+        ensures chip { chip_of self.new ≡
+            record (spec.with_size (queue_spec.fifo_size_of fifo_size)
+            (spec.fresh (model_of model) char_ticks capacity 0)) { cuts = queue_spec.is_on cuts } }
+        ensures canonical { IsCanonical self.new }
     {
-        UartChip {
-            transmitter: UartTransmitter::new(char_ticks, capacity),
-            receiver: UartReceiver::new(char_ticks),
-            latches: UartLatches {
-                ier: 0,
-                lcr: 0,
-                mcr: 0,
-                scr: 0,
-                dll: 0,
-                dlm: 0,
-            },
-            modem: UartModem {
-                inputs: 0,
-                lines: 0,
-                deltas: 0,
-            },
-            model: is_on(model) as u8,
-            fifo: 0,
-            cuts: is_on(cuts) as u8,
-        }
+        self.transmitter.power_on(fifo_size, char_ticks, capacity);
+        self.receiver.power_on(fifo_size, char_ticks);
+        self.latches = UartLatches {
+            ier: 0,
+            lcr: 0,
+            mcr: 0,
+            scr: 0,
+            dll: 0,
+            dlm: 0,
+        };
+        self.modem = UartModem {
+            inputs: 0,
+            lines: 0,
+            deltas: 0,
+        };
+        self.model = is_on(model) as u8;
+        self.fifo = 0;
+        self.cuts = is_on(cuts) as u8;
     }
 
     /// Becomes a chip like this one.

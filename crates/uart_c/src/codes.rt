@@ -22,6 +22,10 @@ pub const UART_BAD_CHIP: u32 = 5;
 /// The saved data are those of no port.
 pub const UART_BAD_PORT: u32 = 6;
 
+/// A chip has no FIFOs of so many characters.
+// 7 says that a pointer is null: the two files of C return it, which are made of this library.
+pub const UART_BAD_FIFO: u32 = 8;
+
 // The calls of the driver: `enum uart_call_kind`.
 
 pub const UART_INIT: u8 = 0;

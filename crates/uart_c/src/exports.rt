@@ -3,23 +3,24 @@ ghost use Rattle.std.specs.Prelude.{◌≡◌, ◌≢◌, ◌++◌, ◌-◌, ◌
 ghost use Rattle.std.specs.Prelude.{min, length, is_some, bit_and, not, nat_lt};
 ghost use Rattle.uart_c.specs.Canonical.{IsCanonical};
 ghost use Rattle.uart_c.specs.Queue as queue_spec;
+ghost use Rattle.uart_c.specs.Saved.{IsLiveChip};
 ghost use Rattle.uart_c.specs.State.{chip_of, model_of};
-ghost use Rattle.uart_c.specs.Status.{new_status};
+ghost use Rattle.uart_c.specs.Status.{new_status, sized_status};
 ghost use Rattle.uart_c.specs.declared.codes.TheConstants.{UART_OK, UART_BAD_CHIP};
 ghost use Rattle.uart_c.specs.declared.codes.TheConstants.{UART_BAD_ERRORS, UART_BAD_LINES};
 ghost use Rattle.uart_chip.specs.Chip as spec;
 ghost use Rattle.uart_spec.specs.Bits.{IsWithin, flag};
 ghost use Rattle.uart_chip.specs.Transmitter.{held};
-ghost use Rattle.uart_live.specs.Live.{IsLive};
 ghost use Rattle.uart_spec.specs.declared.baud.TheConstants.{FIFO_SIZE, NUM_REGISTERS};
 ghost use Rattle.uart_spec.specs.declared.registers.line_status.TheConstants.LSR;
 ghost use Rattle.uart_spec.specs.declared.registers.modem_status.TheConstants.MSR;
 
 use crate::chip::UartChip;
 use crate::codes::{
-    UART_BAD_CHIP, UART_BAD_ERRORS, UART_BAD_LINES, UART_BAD_TICKS, UART_BAD_WIRE, UART_OK,
+    UART_BAD_CHIP, UART_BAD_ERRORS, UART_BAD_FIFO, UART_BAD_LINES, UART_BAD_TICKS, UART_BAD_WIRE,
+    UART_OK,
 };
-use crate::queue::WIRE_ROOM;
+use crate::queue::{WIRE_ROOM, is_fifo_size};
 use crate::sound::is_sound;
 use bitflags::Flags;
 use uart_chip::MAX_CHAR_TICKS;
@@ -48,22 +49,53 @@ pub extern "C" fn uart_chip_new(
     ensures canonical { result ≡ UART_OK → IsCanonical chip.new }
     ensures kept { result ≢ UART_OK → chip.new ≡ chip.old }
 {
+    uart_chip_new_sized(
+        chip,
+        model,
+        FIFO_SIZE as u8,
+        char_ticks,
+        wire_capacity,
+        cuts,
+    )
+}
+
+/// Makes a chip after power on, with FIFOs of so many characters.
+#[unsafe(no_mangle)]
+pub extern "C" fn uart_chip_new_sized(
+    chip: &mut UartChip,
+    model: u8,
+    fifo_size: u8,
+    char_ticks: u16,
+    wire_capacity: u8,
+    cuts: u8,
+) -> u32
+    ensures status { result ≡ sized_status fifo_size char_ticks wire_capacity }
+    ensures built { result ≡ UART_OK → chip_of chip.new ≡
+        record (spec.with_size (queue_spec.fifo_size_of fifo_size)
+        (spec.fresh (model_of model) char_ticks wire_capacity 0))
+        { cuts = queue_spec.is_on cuts } }
+    ensures canonical { result ≡ UART_OK → IsCanonical chip.new }
+    ensures kept { result ≢ UART_OK → chip.new ≡ chip.old }
+{
+    if !is_fifo_size(fifo_size) {
+        return UART_BAD_FIFO;
+    }
     if char_ticks == 0 || char_ticks > MAX_CHAR_TICKS {
         return UART_BAD_TICKS;
     }
     if wire_capacity as usize > WIRE_ROOM {
         return UART_BAD_WIRE;
     }
-    *chip = UartChip::new(model, char_ticks, wire_capacity, cuts);
+    chip.power_on(model, fifo_size, char_ticks, wire_capacity, cuts);
     UART_OK
 }
 
 /// Makes a chip like one that was saved, unless the data are those of no sound chip.
 #[unsafe(no_mangle)]
 pub extern "C" fn uart_chip_load(chip: &mut UartChip, saved: &UartChip) -> u32
-    ensures accepted { IsLive (chip_of saved.now) →
+    ensures accepted { IsLiveChip (chip_of saved.now) →
         (result ≡ UART_OK) × (chip_of chip.new ≡ chip_of saved.now) }
-    ensures refused { (IsLive (chip_of saved.now) → ⊥) →
+    ensures refused { (IsLiveChip (chip_of saved.now) → ⊥) →
         (result ≡ UART_BAD_CHIP) × (chip.new ≡ chip.old) }
     ensures canonical { result ≡ UART_OK → IsCanonical chip.new }
 {
@@ -95,12 +127,14 @@ pub extern "C" fn uart_chip_read(chip: &mut UartChip, offset: u8) -> u8
 
 // Returns whether a byte that is written to DATA goes into the queue of a FIFO as it is, as most
 // do: DATA is not the divisor latch, characters are not cut, and there is room.
+#[tactic(auto, using(crate::proofs::Queues::at_least_16))]
 fn queues_whole(chip: &UartChip) -> bool
     ensures { result ≡ (not (spec.is_dlab_set (chip_of chip.now).latches)
         && (not (chip_of chip.now).cuts && ((chip_of chip.now).fifo
         && nat_lt (length (chip_of chip.now).transmitter.queue) FIFO_SIZE))) }
 {
-    let has_room = chip.transmitter.queue_len() < FIFO_SIZE;
+    // Each FIFO has room for 16. More in a larger one go the longer way: so its size is not read.
+    let has_room = (chip.transmitter.queue.len as usize) < FIFO_SIZE;
     !is_dlab_set(chip) && (!chip.cuts() && (chip.fifo() && has_room))
 }
 

@@ -6,7 +6,7 @@ ghost use Rattle.uart_c.specs.Port.{MadePortsAreSound, RestoredPortsAreSound};
 ghost use Rattle.uart_c.specs.Port.{SoundPortsStaySound};
 ghost use Rattle.uart_c.specs.Saved.{MadeChipsAreSound, SoundChipsStaySound};
 ghost use Rattle.uart_c.specs.declared.codes.TheConstants as code;
-ghost use Rattle.uart_c.specs.declared.queue.TheConstants.{WIRE_ROOM};
+ghost use Rattle.uart_c.specs.declared.queue.TheConstants.{FIFO_ROOM, WIRE_ROOM};
 ghost use Rattle.uart_events.specs.declared.call.TheConstants.{CALL_BYTES};
 ghost use Rattle.uart_events.specs.declared.event.TheConstants.{MAX_CHAR_TICKS};
 ghost use Rattle.uart_spec.specs.declared.baud.TheConstants.{FIFO_SIZE};
@@ -14,8 +14,8 @@ ghost use Rattle.uart_spec.specs.declared.baud.TheConstants.{FIFO_SIZE};
 /// The numbers of each enum of the header, in its order.
 pub fn codes_are_these()
     ensures status { (code.UART_OK ∷ code.UART_BAD_TICKS ∷ code.UART_BAD_WIRE ∷ code.UART_BAD_ERRORS
-        ∷ code.UART_BAD_LINES ∷ code.UART_BAD_CHIP ∷ code.UART_BAD_PORT ∷ [])
-        ≡ (0 ∷ 1 ∷ 2 ∷ 3 ∷ 4 ∷ 5 ∷ 6 ∷ []) }
+        ∷ code.UART_BAD_LINES ∷ code.UART_BAD_CHIP ∷ code.UART_BAD_PORT ∷ code.UART_BAD_FIFO ∷ [])
+        ≡ (0 ∷ 1 ∷ 2 ∷ 3 ∷ 4 ∷ 5 ∷ 6 ∷ 8 ∷ []) }
     ensures parity { (code.UART_PARITY_NONE ∷ code.UART_PARITY_ODD ∷ code.UART_PARITY_EVEN
         ∷ code.UART_PARITY_FORCED_1 ∷ code.UART_PARITY_FORCED_0 ∷ [])
         ≡ (0 ∷ 1 ∷ 2 ∷ 3 ∷ 4 ∷ []) }
@@ -78,10 +78,12 @@ pub fn codes_are_these()
         ≡ (0 ∷ 1 ∷ 2 ∷ 3 ∷ []) }
 {}
 
-/// The limits: the bytes of a wire, of a FIFO and of a call, and the ticks of a character.
+/// The limits: the bytes of a wire, of the smallest FIFO, of the array of a FIFO and of a call, and
+/// the ticks of a character.
 pub fn limits_are_these()
     ensures wire { WIRE_ROOM ≡ 64 }
     ensures fifo { FIFO_SIZE ≡ 16 }
+    ensures room { FIFO_ROOM ≡ 128 }
     ensures bytes { CALL_BYTES ≡ 64 }
     ensures ticks { MAX_CHAR_TICKS ≡ 1000 }
 {}

@@ -3,28 +3,31 @@
 //!
 //! What a call leaves, and what its monitor has to do then, is that of a port of `uart_virtual`,
 //! whatever bytes the struct holds.
-ghost use Rattle.std.specs.Prelude.{◌≡◌, ◌≢◌, ◌<◌, ◌%◌, bit_and, true, false};
+ghost use Rattle.std.specs.Prelude.{◌≡◌, ◌≢◌, ◌<◌, ◌%◌, bit_and, true, false, if◌then◌else◌};
 ghost use Rattle.uart_c.specs.Canonical.{IsCanonical};
 ghost use Rattle.uart_c.specs.Port as port_spec;
 ghost use Rattle.uart_c.specs.Port.{IsCanonicalPort, port_of, told_of};
+ghost use Rattle.uart_c.specs.Queue.{fifo_size_of};
+ghost use Rattle.uart_c.specs.Saved.{IsLiveChip};
 ghost use Rattle.uart_c.specs.State.{chip_of, model_of};
-ghost use Rattle.uart_c.specs.declared.codes.TheConstants.{UART_OK, UART_BAD_PORT};
+ghost use Rattle.uart_c.specs.Status.{is_fifo_size};
+ghost use Rattle.uart_c.specs.declared.codes.TheConstants.{UART_OK, UART_BAD_FIFO, UART_BAD_PORT};
 ghost use Rattle.uart_c.specs.declared.codes.TheConstants.{UART_BAD_ERRORS, UART_BAD_LINES};
 ghost use Rattle.uart_chip.specs.Chip as chip_spec;
 ghost use Rattle.uart_chip.specs.Sending.{sends_at_once};
-ghost use Rattle.uart_live.specs.Live.{IsLive};
 ghost use Rattle.uart_spec.specs.Bits.{IsWithin, flag};
 ghost use Rattle.uart_spec.specs.declared.baud.TheConstants.{NUM_REGISTERS};
 ghost use Rattle.uart_spec.specs.declared.registers.line_status.TheConstants.LSR;
 ghost use Rattle.uart_spec.specs.declared.registers.modem_status.TheConstants.MSR;
 ghost use Rattle.uart_spec.specs.declared.registers.offsets.TheConstants as offsets;
+ghost use Rattle.uart_spec.specs.declared.setup.FifoSize.TheVariants.{Sixteen};
 ghost use Rattle.uart_virtual.specs.Port as spec;
 ghost use Rattle.uart_virtual.specs.Port.{Read, Write, Receive, ReceiveOne, SetLines, TakeOutput};
 ghost use Rattle.uart_virtual.specs.Port.{IsStill};
 
 use crate::chip::UartChip;
-use crate::codes::{UART_BAD_ERRORS, UART_BAD_LINES, UART_BAD_PORT, UART_OK};
-use crate::queue::{WIRE_ROOM, is_on};
+use crate::codes::{UART_BAD_ERRORS, UART_BAD_FIFO, UART_BAD_LINES, UART_BAD_PORT, UART_OK};
+use crate::queue::{WIRE_ROOM, is_fifo_size, is_on, places_of};
 use crate::sound::is_sound;
 use bitflags::Flags;
 use uart_chip::controlling::{
@@ -34,8 +37,8 @@ use uart_chip::controlling::{
 use uart_chip::receiving::{ReceiverParts, count_up};
 use uart_chip::sending::{send_at_once, sends_at_once};
 use uart_chip::transmitting::{TransmitterParts, held_len, next_move};
-use uart_spec::NUM_REGISTERS;
 use uart_spec::registers::{LSR, MSR, offsets};
+use uart_spec::{FIFO_SIZE, NUM_REGISTERS};
 use uart_virtual::{Kind, Seen, Todo, Told, kind_of_read, kind_of_write, settle_ticks, tell};
 
 // The ticks that a character of a port takes.
@@ -145,15 +148,39 @@ pub fn asked(todo: UartTodo) -> Todo
     }
 }
 
+// Returns how many more characters than one a FIFO holds: none, if the guest has the FIFOs off.
+fn rest_of(chip: &UartChip) -> u8
+    ensures { result ≡ spec.rest_of (chip_of chip.now) }
+{
+    if chip.fifo() {
+        places_of(chip.transmitter.fifo_size) - 1
+    } else {
+        0
+    }
+}
+
+// Returns whether a character can be received.
+fn has_room(chip: &UartChip) -> bool
+    ensures { result ≡ spec.has_room (chip_of chip.now) }
+{
+    if is_loopback(chip) {
+        false
+    } else if chip.fifo() {
+        chip.receiver.has_place()
+    } else {
+        chip.receiver.queue_len() == 0
+    }
+}
+
 // Returns what is seen of the chip when a call ends.
 fn seen(chip: &UartChip) -> Seen
     ensures { result ≡ spec.seen_of (chip_of chip.now) }
 {
     Seen {
         level: is_interrupting(chip),
-        has_room: receive_room(chip) != 0,
+        has_room: has_room(chip),
         is_empty: chip.receiver.queue_len() == 0,
-        fifo: chip.fifo(),
+        rest: rest_of(chip),
         ready: chip.transmitter.wire.len(),
     }
 }
@@ -195,7 +222,7 @@ fn leaves_nothing(port: &UartPort, kind: Kind) -> bool
         && (!is_on(port.told.line)
             && (port.told.spare == 0
                 && (is_on(port.told.has_room)
-                    && (receive_room(&port.chip) != 0 && !is_interrupting(&port.chip)))))
+                    && (has_room(&port.chip) && !is_interrupting(&port.chip)))))
 }
 
 // Does the same as `decide`, which is called only if something is new: it writes all that the
@@ -216,15 +243,17 @@ fn report(port: &mut UartPort, was_up: bool, kind: Kind, todo: &mut UartTodo)
 }
 
 // Lets the time of a call pass. If the transmitter holds nothing, as in most calls, a reception
-// timeout is all that time brings.
+// timeout is all that time brings, and nothing if that is due.
 fn settle(chip: &mut UartChip)
     ensures after { chip_of chip.new ≡ spec.settle (chip_of chip.old) }
     ensures canonical { IsCanonical chip.old → IsCanonical chip.new }
 {
-    if held_len(&chip.transmitter) == 0 {
-        count_up(&mut chip.receiver, settle_ticks());
-    } else {
-        advance(chip, settle_ticks());
+    if held_len(&chip.transmitter) != 0 {
+        let ticks = settle_ticks(chip.transmitter.size());
+        advance(chip, ticks);
+    } else if chip.receiver.timeout_ticks != chip.receiver.timeout_limit {
+        let ticks = settle_ticks(chip.transmitter.size());
+        count_up(&mut chip.receiver, ticks);
     }
 }
 
@@ -257,17 +286,42 @@ fn conclude(port: &mut UartPort, kind: Kind, todo: &mut UartTodo)
     finish(port, was_up, kind, todo);
 }
 
-/// Makes a port after power on.
-#[unsafe(no_mangle)]
-pub extern "C" fn uart_port_new(port: &mut UartPort, model: u8)
-    ensures built { port_of port.new ≡ spec.fresh (model_of model) }
+// Makes a port after power on, with FIFOs of this size.
+fn power_on(port: &mut UartPort, model: u8, fifo_size: u8)
+    ensures built { port_of port.new ≡ spec.fresh (fifo_size_of fifo_size) (model_of model) }
     ensures canonical { IsCanonicalPort port.new }
 {
-    port.chip = UartChip::new(model, CHAR_TICKS, WIRE_ROOM as u8, 0);
+    port.chip
+        .power_on(model, fifo_size, CHAR_TICKS, WIRE_ROOM as u8, 0);
     port.told = UNTOLD;
     settle(&mut port.chip);
     let mut todo = nothing_but(0);
     decide(port, true, RENEWED, &mut todo);
+}
+
+/// Makes a port after power on.
+#[unsafe(no_mangle)]
+pub extern "C" fn uart_port_new(port: &mut UartPort, model: u8)
+    ensures built { port_of port.new ≡ spec.fresh Sixteen (model_of model) }
+    ensures canonical { IsCanonicalPort port.new }
+{
+    power_on(port, model, FIFO_SIZE as u8);
+}
+
+/// Makes a port after power on, with FIFOs of so many characters.
+#[unsafe(no_mangle)]
+pub extern "C" fn uart_port_new_sized(port: &mut UartPort, model: u8, fifo_size: u8) -> u32
+    ensures status { result ≡ (if is_fifo_size fifo_size then UART_OK else UART_BAD_FIFO) }
+    ensures built { result ≡ UART_OK →
+        port_of port.new ≡ spec.fresh (fifo_size_of fifo_size) (model_of model) }
+    ensures canonical { result ≡ UART_OK → IsCanonicalPort port.new }
+    ensures kept { result ≢ UART_OK → port.new ≡ port.old }
+{
+    if !is_fifo_size(fifo_size) {
+        return UART_BAD_FIFO;
+    }
+    power_on(port, model, fifo_size);
+    UART_OK
 }
 
 /// The guest reads a register.
@@ -492,11 +546,11 @@ fn is_settled(chip: &UartChip) -> bool
 /// Makes a port with a chip that was saved, unless the data are those of no port.
 #[unsafe(no_mangle)]
 pub extern "C" fn uart_port_load(port: &mut UartPort, saved: &UartChip, todo: &mut UartTodo) -> u32
-    ensures accepted { IsLive (chip_of saved.now) → IsStill (chip_of saved.now) →
+    ensures accepted { IsLiveChip (chip_of saved.now) → IsStill (chip_of saved.now) →
         (result ≡ UART_OK) × (port_of port.new ≡ spec.begun (chip_of saved.now)) }
-    ensures todo { IsLive (chip_of saved.now) → IsStill (chip_of saved.now) → todo.new ≡
+    ensures todo { IsLiveChip (chip_of saved.now) → IsStill (chip_of saved.now) → todo.new ≡
         port_spec.shown (spec.todo_of spec.renewed true (chip_of saved.now) spec.untold) }
-    ensures dead { (IsLive (chip_of saved.now) → ⊥) →
+    ensures dead { (IsLiveChip (chip_of saved.now) → ⊥) →
         (result ≡ UART_BAD_PORT) × (port.new ≡ port.old) × (todo.new ≡ todo.old) }
     ensures moving { (IsStill (chip_of saved.now) → ⊥) →
         (result ≡ UART_BAD_PORT) × (port.new ≡ port.old) × (todo.new ≡ todo.old) }

@@ -1,15 +1,18 @@
 //! The receiver as plain data.
-ghost use Rattle.std.specs.Prelude.{◌≡◌, ◌≤◌, false};
+ghost use Rattle.std.specs.Prelude.{◌≡◌, ◌≤◌, false, length, nat_lt};
 ghost use Rattle.std.specs.List.{list_any};
 ghost use Rattle.uart_c.specs.Canonical.{IsCanonicalReceiver};
+ghost use Rattle.uart_c.specs.Queue as queue_spec;
 ghost use Rattle.uart_c.specs.Queue.{character_of};
 ghost use Rattle.uart_c.specs.State.{number_of, receiver_of, trigger_of};
 ghost use Rattle.uart_chip.specs.Receiver as spec;
 ghost use Rattle.uart_chip.specs.Receiver.{front_errors, has_errors};
 ghost use Rattle.uart_events.specs.declared.event.TheConstants.{MAX_CHAR_TICKS};
-ghost use Rattle.uart_spec.specs.declared.setup.FifoSize.TheVariants.{Sixteen};
+ghost use Rattle.uart_spec.specs.FifoSize.{characters};
 
-use crate::queue::{UartCharacter, UartCharacters, count, is_on, pop_front, push};
+use crate::queue::{
+    UartCharacter, UartCharacters, count, fifo_size_of, is_on, places_of, pop_front, push,
+};
 use bitflags::Flags;
 use uart_chip::receiving::ReceiverParts;
 use uart_chip::{ArrivalMark, Character, Origin, Timeout, flag};
@@ -27,6 +30,7 @@ pub struct UartReceiver {
     pub is_front_reported: u8,
     pub last_byte: u8,
     pub trigger: u8,
+    pub fifo_size: u8,
     pub queue: UartCharacters,
 }
 
@@ -65,28 +69,22 @@ pub fn number_of(trigger: FifoTriggerLevel) -> u8
 }
 
 impl UartReceiver {
-    /// A receiver to which nothing has come yet.
-    pub fn new(char_ticks: u16) -> Self
+    /// Becomes a receiver to which nothing has come yet, with a FIFO of this size.
+    // What is in the queue's places means nothing. To clear so many would call `memset`.
+    pub fn power_on(&mut self, fifo_size: u8, char_ticks: u16)
         requires { char_ticks ≤ MAX_CHAR_TICKS }
-        ensures fresh { receiver_of result ≡ spec.fresh Sixteen char_ticks 0 }
-        ensures canonical { IsCanonicalReceiver result }
+        ensures fresh { receiver_of self.new ≡
+            spec.fresh (queue_spec.fifo_size_of fifo_size) char_ticks 0 }
+        ensures canonical { IsCanonicalReceiver self.new }
     {
-        UartReceiver {
-            timeout_ticks: 0,
-            timeout_limit: TIMEOUT_CHARACTERS * char_ticks,
-            is_overrun: 0,
-            is_front_reported: 0,
-            last_byte: 0,
-            trigger: 1,
-            queue: UartCharacters {
-                len: 0,
-                items: [UartCharacter {
-                    byte: 0,
-                    errors: 0,
-                    is_looped: 0,
-                }; FIFO_SIZE],
-            },
-        }
+        self.timeout_ticks = 0;
+        self.timeout_limit = TIMEOUT_CHARACTERS * char_ticks;
+        self.is_overrun = 0;
+        self.is_front_reported = 0;
+        self.last_byte = 0;
+        self.trigger = 1;
+        self.fifo_size = places_of(fifo_size);
+        self.queue.len = 0;
     }
 
     /// Becomes a receiver like this one.
@@ -101,7 +99,17 @@ impl UartReceiver {
         self.is_front_reported = is_on(saved.is_front_reported) as u8;
         self.last_byte = saved.last_byte;
         self.trigger = number_of(trigger_of(saved.trigger));
-        self.queue.restore(&saved.queue);
+        self.fifo_size = places_of(saved.fifo_size);
+        self.queue.restore(&saved.queue, saved.fifo_size);
+    }
+
+    /// Returns whether the FIFO has room for one more character.
+    // Each has room for 16, so mostly there is no need to look at its size.
+    pub fn has_place(&self) -> bool
+        ensures { result ≡ nat_lt (length (receiver_of self.now).queue)
+            (characters (receiver_of self.now).size) }
+    {
+        (self.queue.len as usize) < FIFO_SIZE || self.queue.len < places_of(self.fifo_size)
     }
 
     // The errors of the front, unless they were reported.
@@ -124,11 +132,11 @@ impl ReceiverParts for UartReceiver {
     ghost is_scheduled = { false };
 
     fn size(&self) -> FifoSize {
-        FifoSize::Sixteen
+        fifo_size_of(self.fifo_size)
     }
 
     fn queue_len(&self) -> usize {
-        count(self.queue.len, &self.queue.items)
+        count(self.queue.len, self.fifo_size)
     }
 
     #[tactic(auto, using(crate::proofs::Marks::only_unscheduled))]
@@ -144,7 +152,7 @@ impl ReceiverParts for UartReceiver {
     }
 
     fn pop(&mut self) -> Option<Character> {
-        let front = pop_front(&mut self.queue.len, &mut self.queue.items)?;
+        let front = pop_front(&mut self.queue.len, &mut self.queue.items, self.fifo_size)?;
         self.is_front_reported = 0;
         Some(front.shown())
     }

@@ -2,16 +2,18 @@
 ghost use Rattle.std.specs.Prelude.{◌≡◌, ◌≤◌, ◌++◌, take, drop, min, length};
 ghost use Rattle.uart_c.specs.declared.queue.TheConstants.{WIRE_ROOM};
 ghost use Rattle.uart_c.specs.Canonical.{IsCanonicalTransmitter};
+ghost use Rattle.uart_c.specs.Queue as queue_spec;
 ghost use Rattle.uart_c.specs.State.{transmitter_of};
 ghost use Rattle.uart_chip.specs.Transmitter as spec;
-ghost use Rattle.uart_spec.specs.declared.setup.FifoSize.TheVariants.{Sixteen};
 
-use crate::queue::{UartBytes, UartWire, WIRE_ROOM, count, is_on, pop_front, push, put_all};
+use crate::queue::{
+    UartBytes, UartWire, WIRE_ROOM, count, fifo_size_of, is_on, places_of, pop_front, push, put_all,
+};
 use bitflags::Flags;
 use uart_chip::transmitting::TransmitterParts;
 use uart_chip::{Shifting, flag};
+use uart_spec::FifoSize;
 use uart_spec::registers::LSR;
-use uart_spec::{FIFO_SIZE, FifoSize};
 
 /// What sends: bytes wait in the queue, one is shifted out, and then it is on the wire.
 #[repr(C)]
@@ -23,34 +25,33 @@ pub struct UartTransmitter {
     pub is_shifting: u8,
     pub shift_byte: u8,
     pub is_thr_pending: u8,
+    pub fifo_size: u8,
     pub queue: UartBytes,
     pub wire: UartWire,
 }
 
 impl UartTransmitter {
-    /// A transmitter that has sent nothing yet.
-    pub fn new(char_ticks: u16, capacity: u8) -> Self
+    /// Becomes a transmitter that has sent nothing yet, with a FIFO of this size.
+    // What is in the queue's places means nothing. To clear so many would call `memset`.
+    pub fn power_on(&mut self, fifo_size: u8, char_ticks: u16, capacity: u8)
         requires { capacity ≤ WIRE_ROOM }
-        ensures fresh { transmitter_of result ≡ spec.fresh Sixteen char_ticks capacity }
-        ensures canonical { IsCanonicalTransmitter result }
+        ensures fresh { transmitter_of self.new ≡
+            spec.fresh (queue_spec.fifo_size_of fifo_size) char_ticks capacity }
+        ensures canonical { IsCanonicalTransmitter self.new }
     {
-        UartTransmitter {
-            overflows: 0,
-            char_ticks,
-            ticks_left: 0,
-            is_shifting: 0,
-            shift_byte: 0,
-            is_thr_pending: 0,
-            queue: UartBytes {
-                len: 0,
-                items: [0; FIFO_SIZE],
-            },
-            wire: UartWire {
-                len: 0,
-                capacity,
-                items: [0; WIRE_ROOM],
-            },
-        }
+        self.overflows = 0;
+        self.char_ticks = char_ticks;
+        self.ticks_left = 0;
+        self.is_shifting = 0;
+        self.shift_byte = 0;
+        self.is_thr_pending = 0;
+        self.fifo_size = places_of(fifo_size);
+        self.queue.len = 0;
+        self.wire = UartWire {
+            len: 0,
+            capacity,
+            items: [0; WIRE_ROOM],
+        };
     }
 
     /// Becomes a transmitter like this one.
@@ -64,6 +65,7 @@ impl UartTransmitter {
         self.is_shifting = is_on(saved.is_shifting) as u8;
         self.shift_byte = saved.shift_byte;
         self.is_thr_pending = is_on(saved.is_thr_pending) as u8;
+        self.fifo_size = places_of(saved.fifo_size);
         self.wire.restore(&saved.wire);
         let queue = &saved.queue.items[..saved.queue_len()];
         put_all(&mut self.queue.len, &mut self.queue.items, queue);
@@ -97,19 +99,20 @@ impl TransmitterParts for UartTransmitter {
     ghost canonical = { λ t. IsCanonicalTransmitter t };
 
     fn size(&self) -> FifoSize {
-        FifoSize::Sixteen
+        fifo_size_of(self.fifo_size)
     }
 
     fn queue_len(&self) -> usize {
-        count(self.queue.len, &self.queue.items)
+        count(self.queue.len, self.fifo_size)
     }
 
+    #[tactic(auto, using(crate::proofs::Queues::one_more))]
     fn put(&mut self, byte: u8) {
         push(&mut self.queue.len, &mut self.queue.items, byte);
     }
 
     fn pop(&mut self) -> Option<u8> {
-        pop_front(&mut self.queue.len, &mut self.queue.items)
+        pop_front(&mut self.queue.len, &mut self.queue.items, self.fifo_size)
     }
 
     fn clear_queue(&mut self) {

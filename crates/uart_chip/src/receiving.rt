@@ -340,15 +340,19 @@ pub fn expire_timeout<R: ReceiverParts>(parts: &mut R)
 }
 
 /// Returns whether there are as many characters as the trigger level, or without FIFO any.
+#[tactic(auto, using(crate::proofs::Sizes::some_characters))]
 pub fn is_data_pending<R: ReceiverParts>(parts: &R, fifo: bool) -> bool
     ensures { result ≡ spec.is_data_pending fifo (R.state parts.now) }
 {
-    if fifo {
-        let trigger = characters_of(parts.size(), parts.trigger()) as usize;
-        trigger <= parts.queue_len()
-    } else {
-        parts.queue_len() > 0
+    let waiting = parts.queue_len();
+    // Mostly none wait, and each level is at least one character.
+    if !fifo || waiting == 0 {
+        return waiting > 0;
     }
+    // The level first: then a compiler goes straight from the size to its numbers.
+    let level = parts.trigger();
+    let trigger = characters_of(parts.size(), level) as usize;
+    trigger <= waiting
 }
 
 /// Returns whether there are characters in the FIFO, and none was received or read for four

@@ -7,3 +7,4 @@ pub mod Wires
 pub mod Journals
 pub mod Quick
 pub mod Sends
+pub mod Sizes

@@ -16,15 +16,15 @@ use Rattle.uart_chip.specs.Transmitter as transmitter
 use Rattle.uart_chip.specs.Transmitter.{TransmitterState, room, looped_byte}
 use Rattle.uart_chip.specs.Receiver as receiver
 use Rattle.uart_chip.specs.Receiver.{ReceiverState, is_unscheduled, enter, replace, come_back, take_front}
-use Rattle.uart_chip.specs.Chip.{ChipState, fresh, cut_of, is_loopback, is_held_off, ticks, arrive_live, take_wire, change_lines}
+use Rattle.uart_chip.specs.Chip.{ChipState, fresh, with_size, cut_of, is_loopback, is_held_off, ticks, arrive_live, take_wire, change_lines}
 use Rattle.uart_chip.specs.Chip.{after_read, after_write}
 use Rattle.uart_chip.specs.Sound.{IsWhole}
-use Rattle.uart_chip.proofs.soundness.Builds.{whole_fresh}
+use Rattle.uart_chip.proofs.soundness.Builds.{whole_sized}
 use Rattle.uart_chip.proofs.soundness.Idle.{whole_ticks}
-use Rattle.uart_chip.proofs.soundness.ReceiverSounds.{safe_bring}
+use Rattle.uart_chip.proofs.soundness.ReceiverSounds.{safe_bring, safe_take_front}
 use Rattle.uart_chip.proofs.soundness.Sounds.{Steady, steady_ticks, steady_lines, steady_read, steady_write, steady_receiver}
 use Rattle.uart_chip.proofs.soundness.Sounds.{steady_transmitter, whole_perform, whole_read, whole_write}
-use Rattle.uart_spec.specs.declared.setup.FifoSize.TheVariants.{Sixteen}
+use Rattle.uart_spec.specs.declared.setup.FifoSize.{FifoSize}
 use Rattle.uart_spec.specs.declared.registers.interrupt_type.InterruptType.{InterruptType}
 use Rattle.uart_spec.specs.declared.registers.interrupt_type.InterruptType.TheVariants.{ReceiverLineStatus}
 use Rattle.uart_spec.specs.declared.registers.interrupt_status.TheConstants.ISR
@@ -35,6 +35,10 @@ use Rattle.uart_live.specs.declared.errors.ChipError.TheVariants as ChipError
 use Rattle.uart_live.specs.Held.{is_due, expire, arrive_holding}
 use Rattle.uart_live.specs.Live.{IsLive}
 use Rattle.uart_live.specs.Refused as live
+use Rattle.uart_live.specs.Size.{fifo_size, is_size}
+use Rattle.uart_live.specs.declared.errors.ChipError.{ChipError as ChipErrorOf}
+use Rattle.uart_spec.specs.FifoSize.{characters}
+use Rattle.std.proofs.lemmas.Bool.{eqb-true}
 use Rattle.uart_chip.proofs.AccessMoves.{both_if, ReadMove, takes, read_move, WriteMove, sends, resizes, write_lasts}
 use Rattle.uart_chip.proofs.FifoBits.{isr_of}
 use Rattle.uart_chip.proofs.Switching.{lacking-keeps}
@@ -72,59 +76,64 @@ none_lost-take (front ∷ others) r h = h
 
 -- ---- the room of the wire and of the FIFO
 
-abbrev pub HasRoom : TransmitterState → Type 0
-HasRoom t = (t.capacity ≤ MAX_WIRE_CAPACITY) × (t.size ≡ Sixteen)
+abbrev pub HasRoom : FifoSize → TransmitterState → Type 0
+HasRoom size t = (t.capacity ≤ MAX_WIRE_CAPACITY) × (t.size ≡ size)
 
-room-shift : (loopback : Bool) (place : Option Shifting) (t : TransmitterState) → HasRoom t → HasRoom (transmitter.shift loopback place t)
-room-shift loopback None t h = h
-room-shift loopback (Some s) t h =
-    both_if HasRoom _ _ (nat_lt 1 s.ticks_left) h
-    (both_if HasRoom _ _ loopback h (both_if HasRoom _ _ (nat_lt (length t.wire) t.capacity) h h))
+room-shift : (size : FifoSize) (loopback : Bool) (place : Option Shifting) (t : TransmitterState) → HasRoom size t →
+    HasRoom size (transmitter.shift loopback place t)
+room-shift size loopback None t h = h
+room-shift size loopback (Some s) t h =
+    both_if (HasRoom size) _ _ (nat_lt 1 s.ticks_left) h
+    (both_if (HasRoom size) _ _ loopback h (both_if (HasRoom size) _ _ (nat_lt (length t.wire) t.capacity) h h))
 
-room-refill : (place : Option Shifting) (queue : List ℕ) (t : TransmitterState) → HasRoom t → HasRoom (transmitter.refill place queue t)
-room-refill None (x ∷ []) t h = h
-room-refill _ _ t h = h
+room-refill : (size : FifoSize) (place : Option Shifting) (queue : List ℕ) (t : TransmitterState) → HasRoom size t →
+    HasRoom size (transmitter.refill place queue t)
+room-refill size None (x ∷ []) t h = h
+room-refill size _ _ t h = h
 
-room-tick : (loopback held_off : Bool) (t : TransmitterState) → HasRoom t → HasRoom (transmitter.tick loopback held_off t)
-room-tick loopback true t h = room-shift loopback t.shift_register t h
-room-tick loopback false t h =
+room-tick : (size : FifoSize) (loopback held_off : Bool) (t : TransmitterState) → HasRoom size t →
+    HasRoom size (transmitter.tick loopback held_off t)
+room-tick size loopback true t h = room-shift size loopback t.shift_register t h
+room-tick size loopback false t h =
     let u : TransmitterState = transmitter.shift loopback t.shift_register t in
-    room-refill u.shift_register u.queue u (room-shift loopback t.shift_register t h)
+    room-refill size u.shift_register u.queue u (room-shift size loopback t.shift_register t h)
 
 -- ---- both, of the chip
 
-abbrev pub Keeps : ChipState → Type 0
-Keeps c = NoneLost c.receiver × (HasRoom c.transmitter × ((c.auto_flow ≡ false) × (c.has_size_switch ≡ false)))
+abbrev pub Keeps : FifoSize → ChipState → Type 0
+Keeps size c = NoneLost c.receiver × (HasRoom size c.transmitter × ((c.auto_flow ≡ false) × (c.has_size_switch ≡ false)))
 
-keeps-ticks : (n : ℕ) (c : ChipState) → Keeps c → Keeps (ticks n c)
-keeps-ticks zero c k = k
-keeps-ticks (suc n) c k =
+keeps-ticks : (size : FifoSize) (n : ℕ) (c : ChipState) → Keeps size c → Keeps size (ticks n c)
+keeps-ticks size zero c k = k
+keeps-ticks size (suc n) c k =
     let d : ChipState = ticks n c in
-    let w = keeps-ticks n c k in (
+    let w = keeps-ticks size n c k in (
       none_lost-come_back d.fifo (looped_byte (is_loopback d.latches) d.transmitter.shift_register) d.receiver w.0,
-      (room-tick (is_loopback d.latches) (is_held_off d) d.transmitter w.1.0, w.1.1),
+      (room-tick size (is_loopback d.latches) (is_held_off d) d.transmitter w.1.0, w.1.1),
     )
 
-keeps-reads : (offset : ℕ) (c d : ChipState) → ReadMove offset c d → Keeps c → Keeps d
-keeps-reads offset c d (takes p q) k = (none_lost-take c.receiver.queue c.receiver k.0, k.1)
-keeps-reads offset c d _ k = k
+keeps-reads : (size : FifoSize) (offset : ℕ) (c d : ChipState) → ReadMove offset c d → Keeps size c → Keeps size d
+keeps-reads size offset c d (takes p q) k = (none_lost-take c.receiver.queue c.receiver k.0, k.1)
+keeps-reads size offset c d _ k = k
 
-keeps-read : (offset : ℕ) (c : ChipState) → Keeps c → Keeps (after_read offset c)
-keeps-read offset c k = keeps-reads offset c _ (read_move offset c) k
+keeps-read : (size : FifoSize) (offset : ℕ) (c : ChipState) → Keeps size c → Keeps size (after_read offset c)
+keeps-read size offset c k = keeps-reads size offset c _ (read_move offset c) k
 
-keeps-writes : (offset value : ℕ) (c d : ChipState) → WriteMove offset value c d → Keeps c → Keeps d
-keeps-writes offset value c d (sends p q) k =
+-- the size has no switch, so no write of FCR changes it
+keeps-writes : (size : FifoSize) (offset value : ℕ) (c d : ChipState) → WriteMove offset value c d → Keeps size c → Keeps size d
+keeps-writes size offset value c d (sends p q) k =
     let t : TransmitterState = c.transmitter in
-    (k.0, (both_if HasRoom _ _ (nat_lt (length t.queue) (room c.fifo t.size)) k.1.0 k.1.0, k.1.1))
-keeps-writes offset value c d (resizes e s) k = let no : true ≡ false = sym s ∙ lacking-keeps value c k.1.1.1 in absurd (cc)
-keeps-writes offset value c d _ k = k
+    (k.0, (both_if (HasRoom size) _ _ (nat_lt (length t.queue) (room c.fifo t.size)) k.1.0 k.1.0, k.1.1))
+keeps-writes size offset value c d (resizes e s) k = let no : true ≡ false = sym s ∙ lacking-keeps value c k.1.1.1 in absurd (cc)
+keeps-writes size offset value c d _ k = k
 
-keeps-write : (offset value : ℕ) (c : ChipState) → Keeps c → Keeps (after_write offset value c)
-keeps-write offset value c k = write_lasts Keeps offset value (keeps-writes offset value) c k
+keeps-write : (size : FifoSize) (offset value : ℕ) (c : ChipState) → Keeps size c → Keeps size (after_write offset value c)
+keeps-write size offset value c k = write_lasts (Keeps size) offset value (keeps-writes size offset value) c k
 
 -- ---- the chip stays live
 
-live-steady : (c d : ChipState) → IsLive c → Steady c.receiver.arrived c d → IsWhole (record { chip = d; ahead = [] }) → Keeps d → IsLive d
+live-steady : {size : FifoSize} (c d : ChipState) → IsLive size c → Steady c.receiver.arrived c d →
+    IsWhole (record { chip = d; ahead = [] }) → Keeps size d → IsLive size d
 live-steady c d w s whole k =
     record {
       whole = whole;
@@ -136,23 +145,25 @@ live-steady c d w s whole k =
       switch = k.1.1.1;
     }
 
-pub live-read : (offset : ℕ) (c : ChipState) → IsLive c → IsLive (after_read offset c)
+pub live-read : {size : FifoSize} (offset : ℕ) (c : ChipState) → IsLive size c → IsLive size (after_read offset c)
 live-read offset c w =
     live-steady c _ w (steady_read offset c w.whole.sound.chip) (whole_read offset (record { chip = c; ahead = [] }) w.whole)
-    (keeps-read offset c (w.none_lost, ((w.room, w.size), (w.flow, w.switch))))
+    (keeps-read _ offset c (w.none_lost, ((w.room, w.size), (w.flow, w.switch))))
 
-pub live-write : (offset value : ℕ) (c : ChipState) → value < 256 → IsLive c → IsLive (after_write offset value c)
+pub live-write : {size : FifoSize} (offset value : ℕ) (c : ChipState) → value < 256 → IsLive size c →
+    IsLive size (after_write offset value c)
 live-write offset value c v w =
     live-steady c _ w (steady_write offset value c w.whole.sound.chip) (whole_write offset value
     (record { chip = c; ahead = [] }) v w.whole)
-    (keeps-write offset value c (w.none_lost, ((w.room, w.size), (w.flow, w.switch))))
+    (keeps-write _ offset value c (w.none_lost, ((w.room, w.size), (w.flow, w.switch))))
 
-pub live-ticks : (n : ℕ) (c : ChipState) → IsLive c → IsLive (ticks n c)
+pub live-ticks : {size : FifoSize} (n : ℕ) (c : ChipState) → IsLive size c → IsLive size (ticks n c)
 live-ticks n c w =
     live-steady c _ w (steady_ticks n c w.whole.sound.chip) (whole_ticks n c (ticks n c) [] refl w.whole)
-    (keeps-ticks n c (w.none_lost, ((w.room, w.size), (w.flow, w.switch))))
+    (keeps-ticks _ n c (w.none_lost, ((w.room, w.size), (w.flow, w.switch))))
 
-pub live-lines : (inputs : ℕ) (c : ChipState) → IsWithin inputs MSR.LINES.0 → IsLive c → IsLive (change_lines inputs c)
+pub live-lines : {size : FifoSize} (inputs : ℕ) (c : ChipState) → IsWithin inputs MSR.LINES.0 → IsLive size c →
+    IsLive size (change_lines inputs c)
 live-lines inputs c i w =
     live-steady c _ w (steady_lines inputs c w.whole.sound.chip i)
     (whole_perform (Lines inputs) [] c (record {
@@ -162,7 +173,8 @@ live-lines inputs c i w =
     (w.none_lost, ((w.room, w.size), (w.flow, w.switch)))
 
 -- a move of one part that leaves the latches alone
-pub live-part : (c d : ChipState) → IsLive c → Steady c.receiver.arrived c d → d.latches ≡ c.latches → Keeps d → IsLive d
+pub live-part : {size : FifoSize} (c d : ChipState) → IsLive size c → Steady c.receiver.arrived c d → d.latches ≡ c.latches → Keeps size d →
+    IsLive size d
 live-part c d w s l k =
     live-steady c d w s
     (record {
@@ -171,8 +183,17 @@ live-part c d w s l k =
     })
     k
 
-pub live-arrival : (byte errors : ℕ) (c : ChipState) → IsWithin errors LSR.CHARACTER_ERRORS.0 → IsLive c →
-    IsLive (arrive_live byte errors c)
+-- the front is taken, as a read of DATA takes it outside of DLAB
+pub live-front : {size : FifoSize} (c : ChipState) → IsLive size c →
+    IsLive size (record c { receiver = take_front c.receiver.queue c.receiver })
+live-front c w =
+    live-part c (record c { receiver = take_front c.receiver.queue c.receiver }) w
+    (steady_receiver c.receiver.arrived c (take_front c.receiver.queue c.receiver) w.whole.sound.chip
+    (safe_take_front c.fifo c.receiver w.whole.sound.chip.receiver)) refl
+    (none_lost-take c.receiver.queue c.receiver w.none_lost, ((w.room, w.size), (w.flow, w.switch)))
+
+pub live-arrival : {size : FifoSize} (byte errors : ℕ) (c : ChipState) → IsWithin errors LSR.CHARACTER_ERRORS.0 → IsLive size c →
+    IsLive size (arrive_live byte errors c)
 live-arrival byte errors c l w =
     let loopback : Bool = is_loopback c.latches in
     live-part c (arrive_live byte errors c) w
@@ -180,7 +201,7 @@ live-arrival byte errors c l w =
     (safe_bring loopback c.fifo c.receiver (cut_of c byte) errors w.whole.sound.chip.receiver l)) refl
     (none_lost-arrival loopback c.fifo (cut_of c byte) errors c.receiver w.none_lost, ((w.room, w.size), (w.flow, w.switch)))
 
-pub live-expire : (c : ChipState) → IsLive c → IsLive (expire c)
+pub live-expire : {size : FifoSize} (c : ChipState) → IsLive size c → IsLive size (expire c)
 live-expire c w =
     let r = w.whole.sound.chip.receiver in
     live-part c (expire c) w
@@ -205,14 +226,14 @@ live-expire c w =
     })) refl
     (w.none_lost, ((w.room, w.size), (w.flow, w.switch)))
 
-pub live-hold : (byte errors : ℕ) (c : ChipState) → IsWithin errors LSR.CHARACTER_ERRORS.0 → IsLive c →
-    IsLive (arrive_holding byte errors c)
+pub live-hold : {size : FifoSize} (byte errors : ℕ) (c : ChipState) → IsWithin errors LSR.CHARACTER_ERRORS.0 → IsLive size c →
+    IsLive size (arrive_holding byte errors c)
 live-hold byte errors c l w =
     let after = live-arrival byte errors c l w in
-    both_if IsLive (expire (arrive_live byte errors c)) (arrive_live byte errors c) (is_due c)
+    both_if (IsLive _) (expire (arrive_live byte errors c)) (arrive_live byte errors c) (is_due c)
     (live-expire (arrive_live byte errors c) after) after
 
-pub live-take : (count : ℕ) (c : ChipState) → IsLive c → IsLive (take_wire count c)
+pub live-take : {size : FifoSize} (count : ℕ) (c : ChipState) → IsLive size c → IsLive size (take_wire count c)
 live-take count c w =
     let t = w.whole.sound.chip.transmitter in
     let fewer : length (drop count c.transmitter.wire) ≤ c.transmitter.capacity =
@@ -236,23 +257,54 @@ within_room char_ticks capacity e =
     go false false w e = grind (arith, common_steps)
 
 -- what a live chip is made of, a machine could be made of
-pub passes : (char_ticks capacity : ℕ) → live.refusal char_ticks capacity ≡ None → refusal char_ticks capacity [] ≡ None
-passes char_ticks capacity e =
-    go (not (nat_le 1 char_ticks && nat_le char_ticks MAX_CHAR_TICKS)) (nat_lt MAX_WIRE_CAPACITY capacity)
+pub passes : (fifo char_ticks capacity : ℕ) → live.refusal fifo char_ticks capacity ≡ None → refusal char_ticks capacity [] ≡ None
+passes fifo char_ticks capacity e =
+    go (not (is_size fifo)) (not (nat_le 1 char_ticks && nat_le char_ticks MAX_CHAR_TICKS)) (nat_lt MAX_WIRE_CAPACITY capacity)
     (nat_lt WIRE_ROOM capacity) refl refl e
   where
-    go : (bad wide full : Bool) → nat_lt MAX_WIRE_CAPACITY capacity ≡ wide → nat_lt WIRE_ROOM capacity ≡ full →
-        (if bad then Some ChipError.BadTicks else if full then Some ChipError.BadWire else None) ≡ None →
+    go : (odd bad wide full : Bool) → nat_lt MAX_WIRE_CAPACITY capacity ≡ wide → nat_lt WIRE_ROOM capacity ≡ full →
+        (if odd then Some ChipError.BadFifo
+        else if bad then Some ChipError.BadTicks else if full then Some ChipError.BadWire else None) ≡ None →
         (if bad then Some BadTicks else if wide then Some BadWire else None) ≡ None
-    go true wide full w f e = absurd (cc)
-    go false wide true w f e = absurd (cc)
-    go false true false w f e = absurd (grind (arith, common_steps))
-    go false false false w f e = refl
+    go true bad wide full w f e = absurd (cc)
+    go false true wide full w f e = absurd (cc)
+    go false false wide true w f e = absurd (cc)
+    go false false true false w f e = absurd (grind (arith, common_steps))
+    go false false false false w f e = refl
 
-pub live-fresh : (chip : Chip) (char_ticks capacity : ℕ) → refusal char_ticks capacity [] ≡ None → IsLive (fresh chip char_ticks capacity 0)
-live-fresh chip char_ticks capacity e =
+-- its FIFOs are of a size
+pub sized : (fifo char_ticks capacity : ℕ) → live.refusal fifo char_ticks capacity ≡ None → characters (fifo_size fifo) ≡ fifo
+sized fifo char_ticks capacity e = go (is_size fifo) refl e
+  where
+    rest : Option ChipErrorOf
+    rest =
+        if not (nat_le 1 char_ticks && nat_le char_ticks MAX_CHAR_TICKS) then Some ChipError.BadTicks
+        else if nat_lt WIRE_ROOM capacity then Some ChipError.BadWire
+        else None
+
+    go : (b : Bool) → is_size fifo ≡ b → (if not b then Some ChipError.BadFifo else rest) ≡ None → characters (fifo_size fifo) ≡ fifo
+    go true s e = eqb-true (characters (fifo_size fifo)) fifo s
+    go false s e = absurd (cc)
+
+-- a character takes no more ticks than it may
+pub few_ticks : (fifo char_ticks capacity : ℕ) → live.refusal fifo char_ticks capacity ≡ None → char_ticks ≤ MAX_CHAR_TICKS
+few_ticks fifo char_ticks capacity e =
+    go (is_size fifo) (nat_le 1 char_ticks) (nat_le char_ticks MAX_CHAR_TICKS) refl (nat_lt WIRE_ROOM capacity) e
+  where
+    go : (a b d : Bool) → nat_le char_ticks MAX_CHAR_TICKS ≡ d → (w : Bool) →
+        (if not a then Some ChipError.BadFifo
+        else if not (b && d) then Some ChipError.BadTicks else if w then Some ChipError.BadWire else None) ≡ None →
+        char_ticks ≤ MAX_CHAR_TICKS
+    go true true true p w e = grind (arith, common_steps)
+    go false b d p w e = absurd (cc)
+    go true false d p w e = absurd (cc)
+    go true true false p w e = absurd (cc)
+
+pub live-fresh : (chip : Chip) (size : FifoSize) (char_ticks capacity : ℕ) → refusal char_ticks capacity [] ≡ None →
+    IsLive size (with_size size (fresh chip char_ticks capacity 0))
+live-fresh chip size char_ticks capacity e =
     record {
-      whole = whole_fresh chip char_ticks capacity [] e;
+      whole = whole_sized chip size char_ticks capacity false [] e;
       no_marks = refl;
       none_lost = refl;
       room = within_room char_ticks capacity e;

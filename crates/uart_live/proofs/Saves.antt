@@ -17,12 +17,12 @@ use Rattle.uart_chip.specs.declared.transmitter.TransmitterData.{TransmitterData
 use Rattle.uart_spec.specs.Bits.{IsWithin}
 use Rattle.uart_chip.specs.Receiver.{is_unscheduled}
 use Rattle.uart_chip.specs.Transmitter.{room}
-use Rattle.uart_chip.specs.Chip.{ChipState}
+use Rattle.uart_chip.specs.Chip.{ChipState, with_size}
 use Rattle.uart_chip.specs.Data.{transmitter_of, receiver_of}
 use Rattle.uart_chip.specs.Snapshot.{latches_of, chip_of, unscheduled}
 use Rattle.uart_chip.specs.Sound.{IsInQueue, AllInQueue, NoneHas, Distinct, AllErrorsLegal, IsSoundReceiver, IsTicking}
 use Rattle.uart_chip.specs.Sound.{IsSoundTransmitter, IsSoundChip, IsSound, HoldBytes}
-use Rattle.uart_spec.specs.declared.setup.FifoSize.TheVariants.{Sixteen}
+use Rattle.uart_spec.specs.declared.setup.FifoSize.{FifoSize}
 use Rattle.uart_live.specs.Live.{IsLive}
 use Rattle.uart_live.specs.Saved.{is_within, is_live_character, is_sound_receiver, is_ticking, is_char_time, is_sound_transmitter}
 use Rattle.uart_live.specs.Saved.{is_implemented, is_live}
@@ -89,10 +89,10 @@ all_live (x ∷ xs) h l =
     (true-both (is_unscheduled x.origin) (is_within x.errors 28) (unscheduled_here x.origin h.0) (is-within x.errors 28 l.0))
     (all_live xs h.1 l.1)
 
-sound_receiver : (fifo : Bool) (char_ticks : ℕ) (r : ReceiverData) → is_sound_receiver fifo char_ticks r ≡ true →
-    IsSoundReceiver fifo (receiver_of char_ticks r)
-sound_receiver fifo char_ticks r e =
-    let first = both-true (nat_le (length r.queue.items) (room fifo Sixteen)) _ e in
+sound_receiver : (size : FifoSize) (fifo : Bool) (char_ticks : ℕ) (r : ReceiverData) →
+    is_sound_receiver size fifo char_ticks r ≡ true → IsSoundReceiver fifo (record (receiver_of char_ticks r) { size = size })
+sound_receiver size fifo char_ticks r e =
+    let first = both-true (nat_le (length r.queue.items) (room fifo size)) _ e in
     let second = both-true (list_all is_live_character r.queue.items) _ first.1 in
     record {
       marked = record {
@@ -108,9 +108,9 @@ sound_receiver fifo char_ticks r e =
       idle = at-most _ _ second.1;
     }
 
-receiver_sound : (fifo : Bool) (char_ticks : ℕ) (r : ReceiverData) → IsSoundReceiver fifo (receiver_of char_ticks r) →
-    is_sound_receiver fifo char_ticks r ≡ true
-receiver_sound fifo char_ticks r w =
+receiver_sound : (size : FifoSize) (fifo : Bool) (char_ticks : ℕ) (r : ReceiverData) →
+    IsSoundReceiver fifo (record (receiver_of char_ticks r) { size = size }) → is_sound_receiver size fifo char_ticks r ≡ true
+receiver_sound size fifo char_ticks r w =
     true-both _ _ (most-at _ _ w.marked.in_room)
     (true-both _ _ (all_live r.queue.items w.marked.wait w.legal) (most-at _ _ w.idle))
 
@@ -126,16 +126,17 @@ is-ticking char_ticks None w = refl
 is-ticking char_ticks (Some s) w = true-both _ _ (most-at _ _ w.0) (most-at _ _ w.1)
 
 -- the transmitter is sound, and its wire has room for no more than a wire may have
-pub record Fits (fifo : Bool) (t : TransmitterData) (wire : List ℕ) : Type 0 where
-  pub sound : IsSoundTransmitter fifo (transmitter_of t wire)
+pub record Fits (size : FifoSize) (fifo : Bool) (t : TransmitterData) (wire : List ℕ) : Type 0 where
+  pub sound : IsSoundTransmitter fifo (record (transmitter_of t wire) { size = size })
   pub room : t.wire_capacity ≤ MAX_WIRE_CAPACITY
 
-sound_transmitter : (fifo : Bool) (t : TransmitterData) (wire : List ℕ) → is_sound_transmitter fifo t wire ≡ true → Fits fifo t wire
-sound_transmitter fifo t wire e =
+sound_transmitter : (size : FifoSize) (fifo : Bool) (t : TransmitterData) (wire : List ℕ) →
+    is_sound_transmitter size fifo t wire ≡ true → Fits size fifo t wire
+sound_transmitter size fifo t wire e =
     let a = both-true (is_char_time t.char_ticks) _ e in
     let time = both-true (nat_le 1 t.char_ticks) _ a.0 in
     let b = both-true (is_ticking t.char_ticks t.shift_register) _ a.1 in
-    let c = both-true (nat_le (length t.queue.items) (room fifo Sixteen)) _ b.1 in
+    let c = both-true (nat_le (length t.queue.items) (room fifo size)) _ b.1 in
     let d = both-true (nat_le (length wire) t.wire_capacity) _ c.1 in
     record {
       sound = record {
@@ -148,8 +149,9 @@ sound_transmitter fifo t wire e =
       room = at-most _ _ d.1;
     }
 
-transmitter_sound : (fifo : Bool) (t : TransmitterData) (wire : List ℕ) → Fits fifo t wire → is_sound_transmitter fifo t wire ≡ true
-transmitter_sound fifo t wire w =
+transmitter_sound : (size : FifoSize) (fifo : Bool) (t : TransmitterData) (wire : List ℕ) → Fits size fifo t wire →
+    is_sound_transmitter size fifo t wire ≡ true
+transmitter_sound size fifo t wire w =
     true-both _ _ (true-both _ _ (most-at _ _ w.sound.at_least_one) (most-at _ _ w.sound.at_most))
     (true-both _ _ (is-ticking t.char_ticks t.shift_register w.sound.ticking)
     (true-both _ _ (most-at _ _ w.sound.in_room) (true-both _ _ (most-at _ _ w.sound.on_wire) (most-at _ _ w.room))))
@@ -165,18 +167,20 @@ is-implemented Uart16550A fifo h = refl
 is-implemented Uart16450 true h = let no = h refl in absurd (cc)
 is-implemented Uart16450 false h = refl
 
-pub live_of : (c : ChipData) (wire : List ℕ) → is_live c wire ≡ true → HoldBytes (latches_of c.latches) → IsLive (chip_of c wire)
-live_of c wire e bytes =
+pub live_of : (size : FifoSize) (c : ChipData) (wire : List ℕ) → is_live size c wire ≡ true → HoldBytes (latches_of c.latches) →
+    IsLive size (with_size size (chip_of c wire))
+live_of size c wire e bytes =
+    let made : ChipState = with_size size (chip_of c wire) in
     let a = both-true _ _ e in
     let latches = both-true _ _ a.0 in
     let b = both-true (is_implemented c.model c.fifo) _ a.1 in
     let d = both-true _ _ b.1 in
     let modem = both-true _ _ d.0 in
     let lines = both-true _ _ modem.1 in
-    let f = both-true (is_sound_receiver c.fifo c.transmitter.char_ticks c.receiver) _ d.1 in
-    let fits = sound_transmitter c.fifo c.transmitter wire f.1 in
-    let chip : IsSoundChip (chip_of c wire) = record {
-      receiver = sound_receiver c.fifo c.transmitter.char_ticks c.receiver f.0;
+    let f = both-true (is_sound_receiver size c.fifo c.transmitter.char_ticks c.receiver) _ d.1 in
+    let fits = sound_transmitter size c.fifo c.transmitter wire f.1 in
+    let chip : IsSoundChip made = record {
+      receiver = sound_receiver size c.fifo c.transmitter.char_ticks c.receiver f.0;
       transmitter = fits.sound;
       modem = record { inputs = within _ _ modem.0; lines = within _ _ lines.0; deltas = within _ _ lines.1 };
       latches = record { ier = within _ _ latches.0; mcr = within _ _ latches.1 };
@@ -184,7 +188,7 @@ live_of c wire e bytes =
       implemented = implemented c.model c.fifo b.0;
       limit = refl;
     } in
-    let sound : IsSound (record { chip = chip_of c wire; ahead = [] }) = record { chip = chip; foreseen = refl; legal = tt } in
+    let sound : IsSound (record { chip = made; ahead = [] }) = record { chip = chip; foreseen = refl; legal = tt } in
     record {
       whole = record { sound = sound; bytes = bytes };
       no_marks = refl;
@@ -195,15 +199,16 @@ live_of c wire e bytes =
       switch = refl;
     }
 
-pub of_live : (c : ChipData) (wire : List ℕ) → IsLive (chip_of c wire) → is_live c wire ≡ true
-of_live c wire w =
+pub of_live : (size : FifoSize) (c : ChipData) (wire : List ℕ) → IsLive size (with_size size (chip_of c wire)) →
+    is_live size c wire ≡ true
+of_live size c wire w =
     let chip = w.whole.sound.chip in
     true-both _ _ (true-both _ _ (is-within _ _ chip.latches.ier) (is-within _ _ chip.latches.mcr))
     (true-both _ _ (is-implemented c.model c.fifo chip.implemented)
     (true-both _ _ (true-both _ _ (is-within _ _ chip.modem.inputs)
     (true-both _ _ (is-within _ _ chip.modem.lines) (is-within _ _ chip.modem.deltas)))
-    (true-both _ _ (receiver_sound c.fifo c.transmitter.char_ticks c.receiver chip.receiver)
-    (transmitter_sound c.fifo c.transmitter wire (record { sound = chip.transmitter; room = w.room })))))
+    (true-both _ _ (receiver_sound size c.fifo c.transmitter.char_ticks c.receiver chip.receiver)
+    (transmitter_sound size c.fifo c.transmitter wire (record { sound = chip.transmitter; room = w.room })))))
 
 -- ---- a live chip has no schedule to lose
 
@@ -216,7 +221,7 @@ no_marks : (marks : List ArrivalMark) → length marks ≡ 0 → [] ≡ marks
 no_marks [] e = refl
 no_marks (x ∷ xs) e = absurd (omega (arith, e))
 
-pub unscheduled_same : (c : ChipState) → IsLive c → unscheduled c ≡ c
+pub unscheduled_same : {size : FifoSize} (c : ChipState) → IsLive size c → unscheduled c ≡ c
 unscheduled_same c w =
     let none : 0 ≡ c.receiver.arrived = omega (arith, w.whole.sound.foreseen, w.no_marks) in
     same_receiver c (4 * c.transmitter.char_ticks) 0 [] false (sym w.whole.sound.chip.limit) none

@@ -7,6 +7,7 @@ use Rattle.uart_chip.specs.Sending.{sends_at_once, put_on_wire, send_at_once}
 use Rattle.uart_chip.proofs.soundness.Sounds.{steady_transmitter}
 use Rattle.uart_live.specs.Live.{IsLive}
 use Rattle.uart_live.proofs.Lives.{live-part}
+use Rattle.uart_spec.specs.declared.setup.FifoSize.{FifoSize}
 
 -- both tests succeed
 pub each : (a b : Bool) → (a && b) ≡ true → (a ≡ true) × (b ≡ true)
@@ -35,7 +36,7 @@ sends c e =
     let f = each (not (is_some c.transmitter.shift_register)) _ d.1 in
     record { latched = unset _ a.0; outside = unset _ b.0; goes_on = unset _ g.0; empty = d.0; free = unset _ f.0; room = f.1 }
 
-pub live-send : (value : ℕ) (c : ChipState) → sends_at_once c ≡ true → IsLive c → IsLive (send_at_once value c)
+pub live-send : {size : FifoSize} (value : ℕ) (c : ChipState) → sends_at_once c ≡ true → IsLive size c → IsLive size (send_at_once value c)
 live-send value c e w =
     let t = w.whole.sound.chip.transmitter in
     let free : nat_lt (length c.transmitter.wire) c.transmitter.capacity ≡ true = (sends c e).room in

@@ -1,3 +1,4 @@
+pub mod Size
 pub mod Live
 pub mod Held
 pub mod Laws

@@ -3,18 +3,18 @@ use Rattle.std.specs.Prelude.{◌≡◌, ◌≤◌, false, [], length}
 use Rattle.uart_events.specs.declared.event.TheConstants.{MAX_WIRE_CAPACITY}
 use Rattle.uart_chip.specs.Chip.{ChipState}
 use Rattle.uart_chip.specs.Sound.{IsWhole}
-use Rattle.uart_spec.specs.declared.setup.FifoSize.TheVariants.{Sixteen}
+use Rattle.uart_spec.specs.declared.setup.FifoSize.{FifoSize}
 
 -- A live chip is a machine with nothing ahead, so the lemmas of events and accesses serve both.
 
 -- the chip is sound and has nothing of a schedule: no event is to come, no arrival has a mark, none can be lost
--- unnoticed; the wire has room for at most as much as a wire may have, the FIFOs hold 16 characters and have no switch
--- of their size, and flow control is left to the driver
-pub record IsLive (c : ChipState) : Type 0 where
+-- unnoticed; the wire has room for at most as much as a wire may have, the FIFOs have this size and no switch of it,
+-- and flow control is left to the driver
+pub record IsLive (fifos : FifoSize) (c : ChipState) : Type 0 where
   pub whole : IsWhole (record { chip = c; ahead = [] })
   pub no_marks : length c.receiver.marks ≡ 0
   pub none_lost : c.receiver.is_unscheduled_lost ≡ false
   pub room : c.transmitter.capacity ≤ MAX_WIRE_CAPACITY
-  pub size : c.transmitter.size ≡ Sixteen
+  pub size : c.transmitter.size ≡ fifos
   pub flow : c.auto_flow ≡ false
   pub switch : c.has_size_switch ≡ false

@@ -1,4 +1,4 @@
--- Whether data are those of a live chip. Their arrays hold 16 characters, so they are of chips whose FIFOs do.
+-- Whether data are those of a live chip with FIFOs of some size.
 use Rattle.std.specs.Prelude.{ℕ, ◌*◌, Bool, true, not, ◌&&◌, ◌==◌, nat_le, bit_and, List, length, Option, Some, None}
 use Rattle.std.specs.List.{list_all}
 use Rattle.uart_chip.specs.declared.chip.ChipData.{ChipData}
@@ -17,7 +17,7 @@ use Rattle.uart_chip.specs.Transmitter.{room}
 use Rattle.uart_live.specs.declared.sound.TheConstants.{TIMEOUT_CHARACTERS}
 use Rattle.uart_spec.specs.declared.registers.line_status.TheConstants.LSR
 use Rattle.uart_spec.specs.declared.registers.modem_status.TheConstants.MSR
-use Rattle.uart_spec.specs.declared.setup.FifoSize.TheVariants.{Sixteen}
+use Rattle.uart_spec.specs.declared.setup.FifoSize.{FifoSize}
 
 -- no bit outside of the mask is set
 abbrev pub is_within : ℕ → ℕ → Bool
@@ -28,9 +28,9 @@ abbrev pub is_live_character : Character → Bool
 is_live_character character = is_unscheduled character.origin && is_within character.errors LSR.CHARACTER_ERRORS.0
 
 -- the queue fits, its characters may be there, and the idle ticks end when a reception timeout is due
-abbrev pub is_sound_receiver : Bool → ℕ → ReceiverData → Bool
-is_sound_receiver fifo char_ticks r =
-    nat_le (length r.queue.items) (room fifo Sixteen) &&
+abbrev pub is_sound_receiver : FifoSize → Bool → ℕ → ReceiverData → Bool
+is_sound_receiver size fifo char_ticks r =
+    nat_le (length r.queue.items) (room fifo size) &&
     (list_all is_live_character r.queue.items && nat_le r.timeout_ticks (TIMEOUT_CHARACTERS * char_ticks))
 
 -- a character in the shift register has at least one tick left, and at most its whole time
@@ -43,10 +43,10 @@ abbrev pub is_char_time : ℕ → Bool
 is_char_time char_ticks = nat_le 1 char_ticks && nat_le char_ticks MAX_CHAR_TICKS
 
 -- whether the transmitter is sound, as a test of its data
-abbrev pub is_sound_transmitter : Bool → TransmitterData → List ℕ → Bool
-is_sound_transmitter fifo t wire =
+abbrev pub is_sound_transmitter : FifoSize → Bool → TransmitterData → List ℕ → Bool
+is_sound_transmitter size fifo t wire =
     is_char_time t.char_ticks && (is_ticking t.char_ticks t.shift_register &&
-    (nat_le (length t.queue.items) (room fifo Sixteen) &&
+    (nat_le (length t.queue.items) (room fifo size) &&
     (nat_le (length wire) t.wire_capacity && nat_le t.wire_capacity MAX_WIRE_CAPACITY)))
 
 -- whether the modem lines and their changes are sound: none has a bit that is not its own
@@ -63,8 +63,9 @@ abbrev pub is_implemented : Chip → Bool → Bool
 is_implemented Uart16550A fifo = true
 is_implemented Uart16450 fifo = not fifo
 
--- whether all of these tests succeed; exactly the data of a chip that is `IsLive` pass them
-abbrev pub is_live : ChipData → List ℕ → Bool
-is_live c wire =
+-- whether all of these tests succeed; exactly the data of a chip that is `IsLive`, with FIFOs of this size, pass them
+abbrev pub is_live : FifoSize → ChipData → List ℕ → Bool
+is_live size c wire =
     is_sound_latches c.latches && (is_implemented c.model c.fifo && (is_sound_modem c.modem &&
-    (is_sound_receiver c.fifo c.transmitter.char_ticks c.receiver && is_sound_transmitter c.fifo c.transmitter wire)))
+    (is_sound_receiver size c.fifo c.transmitter.char_ticks c.receiver &&
+    is_sound_transmitter size c.fifo c.transmitter wire)))

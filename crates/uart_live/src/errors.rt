@@ -17,6 +17,9 @@ pub enum InputError {
 /// Why no chip was made: the first reason in this order.
 #[derive(Clone, Copy, Debug, PartialEq, Eq, Error)]
 pub enum ChipError {
+    /// A FIFO holds 16, 32, 64, 128 or 256 characters, and no other number.
+    #[error("a FIFO holds 16, 32, 64, 128 or 256 characters")]
+    BadFifo,
     /// A character takes no ticks, or more than `MAX_CHAR_TICKS`.
     #[error("a character takes 1 to {max} ticks", max = MAX_CHAR_TICKS)]
     BadTicks,

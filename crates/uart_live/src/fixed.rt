@@ -1,14 +1,14 @@
 //! What a live chip keeps in arrays, without other memory: its queues and its wire. It has no
 //! schedule, so its journal records nothing.
 ghost use Rattle.std.specs.Prelude.{◌≡◌, ◌<◌, ◌≤◌, false, [], length};
-ghost use Rattle.uart_spec.specs.declared.baud.TheConstants.{FIFO_SIZE};
-ghost use Rattle.uart_spec.specs.declared.setup.FifoSize.TheVariants.{Sixteen};
+ghost use Rattle.uart_spec.specs.FifoSize.{characters};
+ghost use Rattle.uart_live.specs.Size.{fifo_size, is_size};
 ghost use Rattle.uart_live.specs.declared.fixed.TheConstants.{WIRE_ROOM};
 
 use std::marker::Model;
 use uart_chip::{Character, Fifo, Journal, Origin, Wire};
 use uart_events::ArrivalMark;
-use uart_spec::{FIFO_SIZE, FifoSize};
+use uart_spec::FifoSize;
 
 /// The most bytes that the wire of a live chip has room for.
 pub const WIRE_ROOM: usize = 64;
@@ -16,50 +16,78 @@ pub const WIRE_ROOM: usize = 64;
 // The places of a `FixedWire`: each byte is in two of them.
 const WIRE_PLACES: usize = 2 * WIRE_ROOM;
 
-/// A queue in an array, without other memory. A push into a full one would overwrite the oldest
-/// item, so the caller of `push` must show that there is room.
+/// Returns the size of FIFOs that hold so many characters. A number that is no size counts as 16.
+// Of a const parameter the answer is known when the program is compiled. So a chip has no field for
+// its size, and tests none.
+#[inline]
+#[tactic(auto, unfolding(crate::specs::Size::fifo_size))]
+pub fn fifo_size(characters: usize) -> FifoSize
+    ensures { result ≡ fifo_size characters }
+{
+    match characters {
+        32 => FifoSize::ThirtyTwo,
+        64 => FifoSize::SixtyFour,
+        128 => FifoSize::OneHundredTwentyEight,
+        256 => FifoSize::TwoHundredFiftySix,
+        _ => FifoSize::Sixteen,
+    }
+}
+
+/// Returns whether FIFOs can hold so many characters: 16, 32, 64, 128 or 256.
+#[inline]
+pub fn is_size(characters: usize) -> bool
+    ensures { result ≡ is_size characters }
+{
+    fifo_size(characters).characters() == characters
+}
+
+/// A queue of `FIFO` items in an array, without other memory. A push into a full one would
+/// overwrite the oldest item, so the caller of `push` must show that there is room.
 #[derive(Drop)]
-pub struct FixedFifo<T> {
-    slots: [T; FIFO_SIZE],
+pub struct FixedFifo<T, const FIFO: usize> {
+    slots: [T; FIFO],
     start: usize,
     len: usize,
 }
 
-impl<T> Model for FixedFifo<T> {
+impl<T, const FIFO: usize> Model for FixedFifo<T, FIFO> {
     ghost use Rattle.std.specs.Prelude.{◌≡◌, ◌<◌, ◌≤◌, List, length};
-    ghost use Rattle.uart_spec.specs.declared.baud.TheConstants.{FIFO_SIZE};
+    ghost use Rattle.uart_spec.specs.FifoSize.{characters};
     ghost use Rattle.uart_live.specs.Ring.{window};
+    ghost use Rattle.uart_live.specs.Size.{fifo_size};
 
     ghost Value = { List T };
 
     ghost view = { λ q. window q.start q.len q.slots };
 
     ghost invariant = { λ q.
-        (q.start < FIFO_SIZE) × (q.len ≤ FIFO_SIZE) × (length q.slots ≡ FIFO_SIZE) };
+        (q.start < FIFO) × (q.len ≤ FIFO) × (length q.slots ≡ FIFO) ×
+        (characters (fifo_size FIFO) ≡ FIFO) };
 }
 
-impl<T: Copy> FixedFifo<T> {
+impl<T: Copy, const FIFO: usize> FixedFifo<T, FIFO> {
     /// Returns an empty queue, whose unused places hold `item`.
     pub fn new(item: T) -> Self
+        requires { characters (fifo_size FIFO) ≡ FIFO }
         ensures { result ≡ [] }
     {
         FixedFifo {
-            slots: [item; FIFO_SIZE],
+            slots: [item; FIFO],
             start: 0,
             len: 0,
         }
     }
 }
 
-impl<T: Copy + Drop> Fifo<T> for FixedFifo<T> {
+impl<T: Copy + Drop, const FIFO: usize> Fifo<T> for FixedFifo<T, FIFO> {
     ghost items = { λ q. q };
 
-    ghost size_of = { λ _. Sixteen };
+    ghost size_of = { λ _. fifo_size FIFO };
 
     ghost is_resizable = { false };
 
     fn size(&self) -> FifoSize {
-        FifoSize::Sixteen
+        fifo_size(FIFO)
     }
 
     fn can_resize() -> bool {
@@ -72,14 +100,14 @@ impl<T: Copy + Drop> Fifo<T> for FixedFifo<T> {
 
     fn get(&self, i: usize) -> Option<T> {
         if i < self.len {
-            Some(self.slots[(self.start + i) % FIFO_SIZE])
+            Some(self.slots[(self.start + i) % FIFO])
         } else {
             None
         }
     }
 
     fn push(&mut self, item: T) {
-        self.slots[(self.start + self.len) % FIFO_SIZE] = item;
+        self.slots[(self.start + self.len) % FIFO] = item;
         self.len += 1;
     }
 
@@ -87,8 +115,8 @@ impl<T: Copy + Drop> Fifo<T> for FixedFifo<T> {
         if self.len == 0 {
             return None;
         }
-        let front = self.slots[self.start % FIFO_SIZE];
-        self.start = (self.start + 1) % FIFO_SIZE;
+        let front = self.slots[self.start % FIFO];
+        self.start = (self.start + 1) % FIFO;
         self.len -= 1;
         Some(front)
     }

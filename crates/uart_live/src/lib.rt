@@ -13,7 +13,7 @@ pub mod sound;
 
 pub use errors::{ChipError, InputError, RestoreError};
 pub use fixed::WIRE_ROOM;
-pub use live::LiveChip;
+pub use live::{LiveChip, LiveChipWith};
 pub use uart_chip::{
     Character, Chip, ChipData, Latches, ModemData, Origin, ReceiverData, Shifting, TransmitterData,
 };

@@ -13,6 +13,7 @@ ghost use Rattle.uart_live.specs.Live.{IsLive};
 ghost use Rattle.uart_live.specs.Held.{arrive_holding, expire};
 ghost use Rattle.uart_live.specs.Quick.{clear_status, passed};
 ghost use Rattle.uart_live.specs.Refused.{refusal};
+ghost use Rattle.uart_live.specs.Size.{fifo_size};
 ghost use Rattle.uart_spec.specs.declared.baud.TheConstants.{NUM_REGISTERS};
 ghost use Rattle.uart_spec.specs.declared.registers.interrupt_enable.TheConstants.IER;
 ghost use Rattle.uart_spec.specs.declared.registers.interrupt_status.TheConstants.ISR;
@@ -20,12 +21,11 @@ ghost use Rattle.uart_spec.specs.declared.registers.line_control.TheConstants.LC
 ghost use Rattle.uart_spec.specs.declared.registers.line_status.TheConstants.LSR;
 ghost use Rattle.uart_spec.specs.declared.registers.modem_status.TheConstants.MSR;
 ghost use Rattle.uart_spec.specs.declared.registers.offsets.TheConstants as offsets;
-ghost use Rattle.uart_spec.specs.declared.setup.FifoSize.TheVariants.{Sixteen};
 
 mod snapshot;
 
 use crate::errors::{ChipError, InputError};
-use crate::fixed::{FixedFifo, FixedWire, NoMarks, WIRE_ROOM};
+use crate::fixed::{FixedFifo, FixedWire, NoMarks, WIRE_ROOM, is_size};
 use bitflags::Flags;
 use std::marker::Model;
 use uart_chip::controlling::{ChipParts, cut};
@@ -34,11 +34,18 @@ use uart_chip::transmitting::TransmitterParts;
 use uart_chip::{Character, NoCapabilities, Origin, Uart, room_of};
 use uart_events::{Chip, MAX_CHAR_TICKS};
 use uart_spec::registers::{IER, LCR, LSR, MSR, offsets};
+use uart_spec::{FIFO_SIZE, FifoSize};
 
 // A chip all of whose memory is in arrays, without a schedule. So no call can be refused memory.
 // The wire has room for 64 bytes, as in the library for C: its owner takes them after each `ticks`.
 // It is a 16550A or a 16450, which have neither automatic flow control nor a switch of their size.
-type LiveUart = Uart<FixedFifo<u8>, FixedWire, FixedFifo<Character>, NoMarks, NoCapabilities>;
+type LiveUart<const FIFO: usize> = Uart<
+    FixedFifo<u8, FIFO>,
+    FixedWire,
+    FixedFifo<Character, FIFO>,
+    NoMarks,
+    NoCapabilities,
+>;
 
 /// A serial chip in software whose owner lets time pass, passes characters to it, and takes the
 /// bytes that it sends.
@@ -51,6 +58,10 @@ type LiveUart = Uart<FixedFifo<u8>, FixedWire, FixedFifo<Character>, NoMarks, No
 /// No call allocates memory, and none blocks. The chip keeps no record of what was sent and
 /// received, so it can run without end.
 ///
+/// Each of its FIFOs holds `FIFO` characters: 16, 32, 64, 128 or 256. A [`LiveChip`] has 16. A
+/// guest finds no other number in a register of the chip: whoever makes the machine tells it, as by
+/// `fifo-size` of a device tree.
+///
 /// # Examples
 ///
 /// ```
@@ -61,26 +72,33 @@ type LiveUart = Uart<FixedFifo<u8>, FixedWire, FixedFifo<Character>, NoMarks, No
 /// chip.take_wire(sent);
 /// ```
 #[derive(Drop)]
-pub struct LiveChip {
-    uart: LiveUart,
+pub struct LiveChipWith<const FIFO: usize> {
+    uart: LiveUart<FIFO>,
 }
 
-impl Model for LiveChip {
+/// A [`LiveChipWith`] FIFOs of 16 characters, as those of a 16550A. Nearly everybody wants this.
+pub type LiveChip = LiveChipWith<FIFO_SIZE>;
+
+impl<const FIFO: usize> Model for LiveChipWith<FIFO> {
+    ghost use Rattle.std.specs.Prelude.{◌≤◌};
     ghost use Rattle.uart_chip.specs.Chip.{ChipState};
     ghost use Rattle.uart_live.specs.Live.{IsLive};
+    ghost use Rattle.uart_live.specs.Size.{fifo_size};
 
     ghost Value = { ChipState };
 
     ghost view = { λ live. live.uart };
 
-    ghost invariant = { λ live. IsLive live.uart };
+    ghost invariant = { λ live. (FIFO ≤ 256) × IsLive (fifo_size FIFO) live.uart };
 }
 
 // Returns why no chip is made.
-fn refusal(char_ticks: u16, wire_capacity: usize) -> Option<ChipError>
-    ensures { result ≡ refusal char_ticks wire_capacity }
+fn refusal(characters: usize, char_ticks: u16, wire_capacity: usize) -> Option<ChipError>
+    ensures { result ≡ refusal characters char_ticks wire_capacity }
 {
-    if char_ticks == 0 || char_ticks > MAX_CHAR_TICKS {
+    if !is_size(characters) {
+        Some(ChipError::BadFifo)
+    } else if char_ticks == 0 || char_ticks > MAX_CHAR_TICKS {
         Some(ChipError::BadTicks)
     } else if wire_capacity > WIRE_ROOM {
         Some(ChipError::BadWire)
@@ -91,7 +109,7 @@ fn refusal(char_ticks: u16, wire_capacity: usize) -> Option<ChipError>
 
 // There is no `new_cut`. An owner who wants characters cut makes a chip, sets `cuts` of its data,
 // and restores it: data are sound with either value.
-impl LiveChip {
+impl<const FIFO: usize> LiveChipWith<FIFO> {
     /// Returns a chip after power-on.
     ///
     /// A character takes `char_ticks` ticks in the shift register, and the wire has room for
@@ -102,6 +120,7 @@ impl LiveChip {
     ///
     /// The first of these:
     ///
+    /// - `BadFifo` if `FIFO` is none of 16, 32, 64, 128 and 256. A [`LiveChip`] has 16.
     /// - `BadTicks` if `char_ticks` is 0 or more than 1000.
     /// - `BadWire` if `wire_capacity` is more than 64.
     ///
@@ -111,12 +130,13 @@ impl LiveChip {
     /// LiveChip::new(Chip::Uart16550A, 4, 64)
     /// ```
     pub fn new(chip: Chip, char_ticks: u16, wire_capacity: usize) -> Result<Self, ChipError>
-        ensures built { IfOk result (λ live. live ≡ spec.fresh chip char_ticks wire_capacity 0) }
+        ensures built { IfOk result (λ live. live ≡
+            spec.with_size (fifo_size FIFO) (spec.fresh chip char_ticks wire_capacity 0)) }
         ensures refused { (reason : ChipError) →
-            refusal char_ticks wire_capacity ≡ Some reason → result ≡ Err reason }
-        ensures accepted { refusal char_ticks wire_capacity ≡ None → IsOk result }
+            refusal FIFO char_ticks wire_capacity ≡ Some reason → result ≡ Err reason }
+        ensures accepted { refusal FIFO char_ticks wire_capacity ≡ None → IsOk result }
     {
-        if let Some(reason) = refusal(char_ticks, wire_capacity) {
+        if let Some(reason) = refusal(FIFO, char_ticks, wire_capacity) {
             return Err(reason);
         }
         let uart = Uart::with_parts(
@@ -186,7 +206,7 @@ impl LiveChip {
     #[inline]
     pub fn sends_at_once(&self) -> bool
         ensures sends { result ≡ sending_spec.sends_at_once self.now }
-        ensures live { IsLive self.now }
+        ensures live { IsLive (fifo_size FIFO) self.now }
     {
         self.uart.sends_at_once()
     }
@@ -227,7 +247,7 @@ impl LiveChip {
         ensures after { (value : ℕ) → result ≡ true → self.old.transmitter.wire ≡ [] →
             self.new ≡ spec.take_wire 1 (sending_spec.send_at_once value self.old) }
         ensures left { result ≡ false → self.new ≡ self.old }
-        ensures live { IsLive self.old }
+        ensures live { IsLive (fifo_size FIFO) self.old }
     {
         let sends = self.uart.sends_at_once();
         if sends {
@@ -269,7 +289,7 @@ impl LiveChip {
     /// Receives a byte without errors, if there is room for it. Returns whether there is. If not,
     /// nothing changes.
     ///
-    /// The effect is that of [`LiveChip::arrive`]. Most input is of this kind.
+    /// The effect is that of [`LiveChipWith::arrive`]. Most input is of this kind.
     #[inline]
     pub fn arrive_in_room(&mut self, byte: u8) -> bool
         ensures room { result ≡ not (spec.receive_room self.old == 0) }
@@ -298,7 +318,7 @@ impl LiveChip {
     #[inline]
     pub fn has_interrupts_on(&self) -> bool
         ensures on { result ≡ not (self.now.latches.ier == 0) }
-        ensures live { IsLive self.now }
+        ensures live { IsLive (fifo_size FIFO) self.now }
     {
         !self.uart.ier().is_empty()
     }
@@ -307,17 +327,17 @@ impl LiveChip {
     #[inline]
     pub fn has_input_interrupt_on(&self) -> bool
         ensures on { result ≡ has_any self.now.latches.ier IER.DATA_READY.0 }
-        ensures live { IsLive self.now }
+        ensures live { IsLive (fifo_size FIFO) self.now }
     {
         self.uart.ier().intersects(IER::DATA_READY)
     }
 
-    /// Reads DATA for the guest, as [`LiveChip::read`] does.
+    /// Reads DATA for the guest, as [`LiveChipWith::read`] does.
     #[inline]
     pub fn read_data(&mut self) -> u8
         ensures answers { result ≡ spec.answer offsets.DATA self.old }
         ensures after { self.new ≡ spec.after_read offsets.DATA self.old }
-        ensures live { IsLive self.old }
+        ensures live { IsLive (fifo_size FIFO) self.old }
     {
         if self.uart.is_dlab_set() {
             return self.uart.read(offsets::DATA as u8);
@@ -328,14 +348,14 @@ impl LiveChip {
     /// Reads LSR for the guest, if it shows no error and no character that waits has one. Otherwise
     /// returns `None`, and nothing changes.
     ///
-    /// The value and the effect are those of [`LiveChip::read`]. A guest that waits makes this read
-    /// again and again.
+    /// The value and the effect are those of [`LiveChipWith::read`]. A guest that waits makes this
+    /// read again and again.
     #[inline]
     pub fn read_clear_status(&mut self) -> Option<u8>
         ensures value { result ≡ clear_status self.old }
         ensures read { is_some result ≡ true → self.new ≡ spec.after_read offsets.LSR self.old }
         ensures left { is_some result ≡ false → self.new ≡ self.old }
-        ensures live { IsLive self.old }
+        ensures live { IsLive (fifo_size FIFO) self.old }
     {
         if self.uart.receiver().has_errors() {
             return None;
@@ -353,8 +373,8 @@ impl LiveChip {
         Some(status.bits())
     }
 
-    /// Lets `count` ticks pass. Returns the number of jumps that this took, which is at most 18,
-    /// whatever `count` is.
+    /// Lets `count` ticks pass. Returns the number of jumps that this took, which is at most two
+    /// more than a FIFO holds characters, whatever `count` is: 18 with FIFOs of 16.
     ///
     /// A jump ends at the tick in which a character enters or leaves the shift register, or takes
     /// all ticks that are left.
@@ -369,7 +389,7 @@ impl LiveChip {
     pub fn ticks(&mut self, count: u16) -> usize
         ensures after { self.new ≡ spec.ticks count self.old }
         ensures jumps { result ≡ jumps_in count self.old }
-        ensures most { result ≤ most_jumps Sixteen }
+        ensures most { result ≤ most_jumps (fifo_size FIFO) }
     {
         self.uart.ticks(count)
     }
@@ -407,8 +427,8 @@ impl LiveChip {
         Ok(())
     }
 
-    /// Receives a character as [`LiveChip::arrive`] does, but a reception timeout that is due stays
-    /// due.
+    /// Receives a character as [`LiveChipWith::arrive`] does, but a reception timeout that is due
+    /// stays due.
     ///
     /// It then stays due until the guest reads DATA, or writes FCR so that the FIFO is emptied, or
     /// a character comes back in loopback. Only ISR and `is_interrupting` show the difference.
@@ -482,7 +502,7 @@ impl LiveChip {
         ensures pending { result ≡ is_some (spec.interrupt self.now) }
         ensures shown { result ≡
             not (has_any (spec.answer offsets.ISR self.now) ISR.INTERRUPT_STATUS.0) }
-        ensures live { IsLive self.now }
+        ensures live { IsLive (fifo_size FIFO) self.now }
     {
         self.uart.is_interrupting()
     }
@@ -520,7 +540,7 @@ impl LiveChip {
     #[inline]
     pub fn wire_room(&self) -> usize
         ensures room { result ≡ self.now.transmitter.capacity - length self.now.transmitter.wire }
-        ensures live { IsLive self.now }
+        ensures live { IsLive (fifo_size FIFO) self.now }
     {
         self.uart.transmitter().wire_room()
     }
@@ -547,6 +567,16 @@ impl LiveChip {
         ensures { result ≡ has_any self.now.latches.lcr LCR.SET_BREAK.0 }
     {
         self.uart.lcr().intersects(LCR::SET_BREAK)
+    }
+
+    /// Returns the size of the FIFOs, which is that of `FIFO` characters.
+    #[inline]
+    pub fn fifo_size(&self) -> FifoSize
+        ensures size { result ≡ fifo_size FIFO }
+        ensures transmitter { result ≡ self.now.transmitter.size }
+        ensures live { IsLive (fifo_size FIFO) self.now }
+    {
+        self.uart.transmitter().size()
     }
 
     /// Returns whether the guest has the FIFOs on.

@@ -1,4 +1,5 @@
-//! Whether data are those of a live chip: one test for each part of what holds of it.
+//! Whether data are those of a live chip with FIFOs of some size: one test for each part of what
+//! holds of it.
 //!
 //! Data are typed (a trigger level, an optional character in the shift register, registers), so
 //! that less of them can be wrong. The wire comes beside the data: its owner has it already.
@@ -6,6 +7,7 @@
 //! The tests of small parts are public: the library for C uses them for its own structs.
 ghost use Rattle.std.specs.Prelude.{◌≡◌, true, false};
 ghost use Rattle.std.specs.List.{list_all};
+ghost use Rattle.uart_chip.specs.Chip.{with_size};
 ghost use Rattle.uart_chip.specs.Snapshot.{latches_of, chip_of};
 ghost use Rattle.uart_chip.specs.Sound.{HoldBytes};
 ghost use Rattle.uart_live.specs.Live.{IsLive};
@@ -44,10 +46,10 @@ fn are_live(characters: &[Character]) -> bool
         .all(|character| is_live_character(character))
 }
 
-fn is_sound_receiver(saved: &ReceiverData, fifo: bool, char_ticks: u16) -> bool
-    ensures { result ≡ spec.is_sound_receiver fifo char_ticks saved.now }
+fn is_sound_receiver(saved: &ReceiverData, size: FifoSize, fifo: bool, char_ticks: u16) -> bool
+    ensures { result ≡ spec.is_sound_receiver size fifo char_ticks saved.now }
 {
-    saved.queue.as_slice().len() <= room_of(fifo, FifoSize::Sixteen)
+    saved.queue.as_slice().len() <= room_of(fifo, size)
         && are_live(saved.queue.as_slice())
         && saved.timeout_ticks as u32 <= TIMEOUT_CHARACTERS as u32 * char_ticks as u32
 }
@@ -70,12 +72,12 @@ pub fn is_char_time(char_ticks: u16) -> bool
     1 <= char_ticks && char_ticks <= MAX_CHAR_TICKS
 }
 
-fn is_sound_transmitter(saved: &TransmitterData, fifo: bool, wire: &[u8]) -> bool
-    ensures { result ≡ spec.is_sound_transmitter fifo saved.now wire.now }
+fn is_sound_transmitter(saved: &TransmitterData, size: FifoSize, fifo: bool, wire: &[u8]) -> bool
+    ensures { result ≡ spec.is_sound_transmitter size fifo saved.now wire.now }
 {
     is_char_time(saved.char_ticks)
         && is_ticking(saved.char_ticks, saved.shift_register)
-        && saved.queue.as_slice().len() <= room_of(fifo, FifoSize::Sixteen)
+        && saved.queue.as_slice().len() <= room_of(fifo, size)
         && wire.len() <= saved.wire_capacity
         && saved.wire_capacity <= MAX_WIRE_CAPACITY
 }
@@ -109,21 +111,28 @@ pub fn is_implemented(model: Chip, fifo: bool) -> bool
 }
 
 // Every part is sound.
-fn are_sound(saved: &ChipData, wire: &[u8]) -> bool
-    ensures value { result ≡ spec.is_live saved.now wire.now }
+fn are_sound(size: FifoSize, saved: &ChipData, wire: &[u8]) -> bool
+    ensures value { result ≡ spec.is_live size saved.now wire.now }
     ensures bytes { HoldBytes (latches_of saved.now.latches) }
 {
     is_sound_latches(saved.latches)
         && is_implemented(saved.model, saved.fifo)
         && is_sound_modem(saved.modem)
-        && is_sound_receiver(&saved.receiver, saved.fifo, saved.transmitter.char_ticks)
-        && is_sound_transmitter(&saved.transmitter, saved.fifo, wire)
+        && is_sound_receiver(
+            &saved.receiver,
+            size,
+            saved.fifo,
+            saved.transmitter.char_ticks,
+        )
+        && is_sound_transmitter(&saved.transmitter, size, saved.fifo, wire)
 }
 
-/// Returns whether the data, and these bytes on the wire, are those of a live chip.
-pub fn is_live(saved: &ChipData, wire: &[u8]) -> bool
-    ensures sound { result ≡ true → IsLive (chip_of saved.now wire.now) }
-    ensures unsound { result ≡ false → IsLive (chip_of saved.now wire.now) → ⊥ }
+/// Returns whether the data, and these bytes on the wire, are those of a live chip with FIFOs of
+/// this size.
+pub fn is_live(size: FifoSize, saved: &ChipData, wire: &[u8]) -> bool
+    ensures sound { result ≡ true → IsLive size (with_size size (chip_of saved.now wire.now)) }
+    ensures unsound { result ≡ false →
+        IsLive size (with_size size (chip_of saved.now wire.now)) → ⊥ }
 {
-    are_sound(saved, wire)
+    are_sound(size, saved, wire)
 }

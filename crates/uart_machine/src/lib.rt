@@ -10,7 +10,7 @@
 //!   [`RingAnswer`] for each [`RingCall`]. Its contract has the theorem about rings, driver and
 //!   chip together.
 //! - [`LiveChip`] is the same chip without a schedule, driven by its owner, and can be saved
-//!   and restored.
+//!   and restored. [`LiveChipWith`] is one with FIFOs of any size.
 //! - [`script`] plays a script from a reader to a writer.
 //! - [`laws`] has what follows from these contracts.
 //!
@@ -26,8 +26,8 @@ pub mod script;
 pub use uart_calls::{Answer, CALL_BYTES, Call, perform};
 pub use uart_chip::{ArrivalMark, BuildError, Chip, Device16550, Event};
 pub use uart_live::{
-    Character, ChipData, ChipError, InputError, Latches, LiveChip, ModemData, Origin, ReceiverData,
-    RestoreError, Shifting, TransmitterData, WIRE_ROOM,
+    Character, ChipData, ChipError, InputError, Latches, LiveChip, LiveChipWith, ModemData, Origin,
+    ReceiverData, RestoreError, Shifting, TransmitterData, WIRE_ROOM,
 };
 pub use uart_ring_runs::{RingAnswer, RingCall, run_ring};
 pub use uart_run::run;

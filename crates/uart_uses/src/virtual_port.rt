@@ -2,9 +2,12 @@
 ghost use Rattle.std.specs.Prelude.{◌≡◌, ◌<◌, [], ◌∷◌, length, min, take, drop};
 ghost use Rattle.uart_spec.specs.declared.baud.TheConstants.{NUM_REGISTERS};
 ghost use Rattle.uart_virtual.specs.Laws.{after_all};
-ghost use Rattle.uart_virtual.specs.Port.{Write, Receive, TakeOutput, accepted};
+ghost use Rattle.uart_virtual.specs.Port.{Write, Receive, TakeOutput, accepted, fresh};
+ghost use Rattle.uart_events.specs.declared.event.Chip.TheVariants.{Uart16550A};
+ghost use Rattle.uart_spec.specs.declared.setup.FifoSize.TheVariants.{SixtyFour};
 
-use uart_virtual::{Todo, VirtualPort};
+use uart_live::Chip;
+use uart_virtual::{Todo, VirtualPort, VirtualPortWith};
 
 /// What the rest of a monitor does for its serial port.
 pub trait Host {
@@ -72,4 +75,13 @@ pub fn input<'a, H: Host>(port: &mut VirtualPort, host: &mut H, input: &'a [u8])
     let received = port.receive(input);
     obey_signals(host, received.todo);
     &input[received.count..]
+}
+
+/// A port for a guest that is told of FIFOs of 64 characters, as by `fifo-size` of a device tree.
+/// It writes 64 bytes for each interrupt.
+pub fn port_of_64() -> VirtualPortWith<64>
+    ensures { result ≡ fresh SixtyFour Uart16550A }
+{
+    // FIFOs can hold so many characters, so the port is not refused.
+    VirtualPortWith::try_new(Chip::Uart16550A).unwrap()
 }

@@ -1,6 +1,6 @@
 -- A transmitter's queue that held bytes before a call and is empty after it interrupts a guest that has this enabled.
 use Rattle.std.proofs.Common.{◌≡◌, ◌≢◌, ℕ, zero, suc, ◌≤◌, ◌==◌, nat_lt, Bool, true, false, ◌&&◌, ◌⊎◌, inl, inr}
-use Rattle.std.proofs.Common.{List, [], ◌∷◌, ◌++◌, take, length, Option, Some, None, is_some, if◌then◌else◌}
+use Rattle.std.proofs.Common.{List, [], ◌∷◌, ◌++◌, take, length, Option, Some, None, is_some}
 use Rattle.std.proofs.Common.{refl, ap, sym, ◌∙◌, subst, arith}
 use Rattle.std.proofs.lemmas.Bool.{eqb-true, lt-ltb}
 use Rattle.std.proofs.lemmas.List.{length-append}
@@ -16,7 +16,7 @@ use Rattle.uart_chip.specs.Chip.{ChipState, ticks, is_loopback, is_held_off, is_
 use Rattle.uart_chip.specs.Chip.{after_write, arrive_live}
 use Rattle.uart_chip.proofs.AccessMoves.{both_if, if_given}
 use Rattle.uart_chip.proofs.lasting.Lasting.{LastsInAccesses, lasts-write}
-use Rattle.uart_virtual.specs.Port.{PortCall, Read, Write, Receive, ReceiveOne, SetLines, TakeOutput, after}
+use Rattle.uart_virtual.specs.Port.{PortCall, Read, Write, Receive, after}
 use Rattle.uart_virtual.specs.Port.{happen, written, holds_less, settle_ticks, is_up, accepted, arrive_all}
 use Rattle.uart_virtual.specs.Laws.{AnEmptiedQueueInterrupts}
 
@@ -145,7 +145,9 @@ pending_is_up c on pending =
 pub emptied_interrupts : AnEmptiedQueueInterrupts
 emptied_interrupts call p some none on =
     let d : ChipState = (after call p).chip in
-    let pending : d.transmitter.is_thr_pending ≡ true = elim (asks-ticks settle_ticks (happen call p.chip) (asks-happen call p.chip some)) [
+    let c : ChipState = happen call p.chip in
+    let pending : d.transmitter.is_thr_pending ≡ true =
+    elim (asks-ticks (settle_ticks c.transmitter.size) c (asks-happen call p.chip some)) [
       | inl more ↦ absurd (more none)
       | inr e ↦ e
     ] in

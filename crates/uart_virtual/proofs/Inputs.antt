@@ -189,8 +189,9 @@ alike_first byte p h f = go p.told.line refl
     go false e = inl e
     go true e = inr (sym (up_first byte p.chip f.outside f.none (sym h.told.line ∙ e)))
 
-pub received_first : (byte : ℕ) (p : PortState) (x : ChipState) (t : Told) → IsLive (expire (arrive_live byte 0 p.chip)) → IsPort p →
-    First p → x ≡ expire (arrive_live byte 0 p.chip) → t ≡ tell bringing true x p.told →
+pub received_first : {size : FifoSize} (byte : ℕ) (p : PortState) (x : ChipState) (t : Told) →
+    IsLive size (expire (arrive_live byte 0 p.chip)) → IsPort p → First p → x ≡ expire (arrive_live byte 0 p.chip) →
+    t ≡ tell bringing true x p.told →
     record { chip = x; told = t } ≡ after (Receive (byte ∷ [])) p
 received_first byte p x t w h f e told =
     let c : ChipState = p.chip in
@@ -205,8 +206,8 @@ received_first byte p x t w h f e told =
     ap (λ (y : ChipState). record { chip = settle y; told = tell (kind_of call c) (is_up y) (settle y) p.told })
     (sym (happens_one byte c f.some)))))
 
-pub todo_first : (byte : ℕ) (p : PortState) (x : ChipState) → IsLive (expire (arrive_live byte 0 p.chip)) → IsPort p →
-    First p → x ≡ expire (arrive_live byte 0 p.chip) →
+pub todo_first : {size : FifoSize} (byte : ℕ) (p : PortState) (x : ChipState) →
+    IsLive size (expire (arrive_live byte 0 p.chip)) → IsPort p → First p → x ≡ expire (arrive_live byte 0 p.chip) →
     todo_of bringing true x p.told ≡ todo (Receive (byte ∷ [])) p
 todo_first byte p x w h f e =
     let c : ChipState = p.chip in
@@ -238,8 +239,9 @@ level_last p e =
         let two : (length (receiver.waiting (record p.chip.receiver { queue = x ∷ y ∷ xs })) == 1) ≡ true = rw q at h in
         let no : false ≡ true = grind (arith, common_steps) in absurd (cc)
 
-pub did_read_last : (p : PortState) (x : ChipState) (t : Told) (level : Bool) → IsLive (expire (after_read offsets.DATA p.chip)) →
-    IsPort p → x ≡ expire (after_read offsets.DATA p.chip) → level ≡ is_up (after_read offsets.DATA p.chip) →
+pub did_read_last : {size : FifoSize} (p : PortState) (x : ChipState) (t : Told) (level : Bool) →
+    IsLive size (expire (after_read offsets.DATA p.chip)) → IsPort p → x ≡ expire (after_read offsets.DATA p.chip) →
+    level ≡ is_up (after_read offsets.DATA p.chip) →
     t ≡ tell (kind_of (Read offsets.DATA) p.chip) level x p.told → record { chip = x; told = t } ≡ after (Read offsets.DATA) p
 did_read_last p x t level w h e up told =
     let kind : Kind = kind_of (Read offsets.DATA) p.chip in
@@ -248,8 +250,9 @@ did_read_last p x t level w h e up told =
     (ap (λ (b : Bool). record { chip = x; told = tell kind b x p.told }) up ∙
     ap (λ (y : ChipState). record { chip = y; told = tell kind (is_up d) y p.told }) (e ∙ sym (read_settled p.chip w h.still)))
 
-pub last_todo : (p : PortState) (x : ChipState) (level : Bool) → IsLive (expire (after_read offsets.DATA p.chip)) → IsPort p →
-    x ≡ expire (after_read offsets.DATA p.chip) → level ≡ is_up (after_read offsets.DATA p.chip) →
+pub last_todo : {size : FifoSize} (p : PortState) (x : ChipState) (level : Bool) →
+    IsLive size (expire (after_read offsets.DATA p.chip)) → IsPort p → x ≡ expire (after_read offsets.DATA p.chip) →
+    level ≡ is_up (after_read offsets.DATA p.chip) →
     todo_of (kind_of (Read offsets.DATA) p.chip) level x p.told ≡ todo (Read offsets.DATA) p
 last_todo p x level w h e up =
     let kind : Kind = kind_of (Read offsets.DATA) p.chip in

@@ -10,3 +10,5 @@ mod Inputs
 mod Quiet
 mod Passes
 mod Polls
+mod Masks
+pub mod Sizes

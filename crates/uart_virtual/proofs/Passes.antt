@@ -6,6 +6,7 @@ use Rattle.std.proofs.lemmas.Grind.{common_steps}
 use Rattle.uart_spec.specs.Bits.{has_any}
 use Rattle.uart_spec.specs.declared.registers.line_status.TheConstants.LSR
 use Rattle.uart_spec.specs.declared.registers.offsets.TheConstants as offsets
+use Rattle.uart_spec.specs.declared.setup.FifoSize.{FifoSize}
 use Rattle.uart_chip.specs.declared.transmitter.Shifting.{Shifting}
 use Rattle.uart_chip.specs.Chip.{ChipState, after_read, after_write, line_status, take_wire}
 use Rattle.uart_chip.specs.Receiver.{has_errors}
@@ -21,7 +22,7 @@ use Rattle.uart_virtual.specs.declared.told.Todo.{Todo}
 use Rattle.uart_virtual.specs.declared.told.Told.{Told}
 use Rattle.uart_virtual.specs.Port.{PortState, PortCall, Read, Write, TakeOutput, IsPort, IsStill, IsTold, after, todo, tell, todo_of}
 use Rattle.uart_virtual.specs.Port.{kind_of, stays_up, settle, settle_ticks, is_up, ignores_falls, seen_of, room_after, told_after}
-use Rattle.uart_virtual.specs.Port.{todo_after}
+use Rattle.uart_virtual.specs.Port.{rest_of, todo_after}
 use Rattle.uart_virtual.specs.Port.{passes, nothing_new}
 use Rattle.uart_virtual.proofs.Quiet.{IsQuiet, quiet_read, quiet_kind, quiet_told, quiet_tell, quiet_todo, take_kind}
 use Rattle.uart_virtual.proofs.Sends.{settle-sent, same_told, same_todo}
@@ -65,7 +66,7 @@ none_held (x ∷ xs) None q e = let no : false ≡ true = grind (arith, common_s
 none_held queue (Some s) q e = absurd (cc)
 
 -- the port after the write, and after the byte was taken
-pub written : (value : ℕ) (p : PortState) → IsLive p.chip → IsPort p → passes p ≡ true →
+pub written : {size : FifoSize} (value : ℕ) (p : PortState) → IsLive size p.chip → IsPort p → passes p ≡ true →
     after (Write offsets.DATA value) p ≡
     record { chip = send_at_once value p.chip; told = tell sending false (passed p.chip) p.told }
 written value p w h e =
@@ -78,7 +79,7 @@ written value p w h e =
     ap (λ (told : Told). record { chip = send_at_once value c; told = told })
     (same_told sending (stays_up call d) false (send_at_once value c) p.told parts.settled)
 
-pub taken_after : (value : ℕ) (p : PortState) → IsLive p.chip → IsPort p → passes p ≡ true →
+pub taken_after : {size : FifoSize} (value : ℕ) (p : PortState) → IsLive size p.chip → IsPort p → passes p ≡ true →
     after (TakeOutput 1) (after (Write offsets.DATA value) p) ≡
     record { chip = passed p.chip; told = tell sending false (passed p.chip) p.told }
 taken_after value p w h e =
@@ -90,7 +91,7 @@ taken_after value p w h e =
     let none : length (held d.transmitter) ≡ 0 = none_held c.transmitter.queue c.transmitter.shift_register s.empty s.free in
     let same : take_wire 1 d ≡ passed c = sym (quick.pass value c parts.none) in
     let still : settle (passed c) ≡ passed c =
-    still_ticks settle_ticks (passed c) (quick.live-pass c w).whole.sound.chip (still_passed c h.still) in
+    still_ticks (settle_ticks c.transmitter.size) (passed c) (quick.live-pass c w).whole.sound.chip (still_passed c h.still) in
     let told : IsTold (record { chip = passed c; told = t }) = told_holds sending false (passed c) p.told in
     ap (λ (q : PortState). after (TakeOutput 1) q) (written value p w h e) ∙
     (ap (λ (x : ChipState). record { chip = settle x; told = tell (kind_of (TakeOutput 1) d) (is_up x) (settle x) t }) same ∙
@@ -99,7 +100,7 @@ taken_after value p w h e =
     ap (λ (told : Told). record { chip = passed c; told = told }) (nothing_told (passed c) t told))))
 
 -- what the monitor has to do after the write
-pub write_todo : (value : ℕ) (p : PortState) → IsLive p.chip → IsPort p → passes p ≡ true →
+pub write_todo : {size : FifoSize} (value : ℕ) (p : PortState) → IsLive size p.chip → IsPort p → passes p ≡ true →
     record (todo (Write offsets.DATA value) p) { ready = 0 } ≡ record (todo_of sending false (passed p.chip) p.told) { ready = 0 }
 write_todo value p w h e =
     let parts : Passing p = passing_parts p e in
@@ -112,7 +113,7 @@ write_todo value p w h e =
     (same_todo sending (stays_up call d) false (send_at_once value c) p.told parts.settled)
 
 -- when the byte was taken there is nothing to do
-pub take_todo : (value : ℕ) (p : PortState) → IsLive p.chip → IsPort p → passes p ≡ true →
+pub take_todo : {size : FifoSize} (value : ℕ) (p : PortState) → IsLive size p.chip → IsPort p → passes p ≡ true →
     todo (TakeOutput 1) (after (Write offsets.DATA value) p) ≡
     nothing_new (record { chip = passed p.chip; told = tell sending false (passed p.chip) p.told })
 take_todo value p w h e =
@@ -124,7 +125,7 @@ take_todo value p w h e =
     let none : length (held d.transmitter) ≡ 0 = none_held c.transmitter.queue c.transmitter.shift_register s.empty s.free in
     let same : take_wire 1 d ≡ passed c = sym (quick.pass value c parts.none) in
     let still : settle (passed c) ≡ passed c =
-    still_ticks settle_ticks (passed c) (quick.live-pass c w).whole.sound.chip (still_passed c h.still) in
+    still_ticks (settle_ticks c.transmitter.size) (passed c) (quick.live-pass c w).whole.sound.chip (still_passed c h.still) in
     let told : IsTold (record { chip = passed c; told = t }) = told_holds sending false (passed c) p.told in
     ap (λ (q : PortState). todo (TakeOutput 1) q) (written value p w h e) ∙
     (ap (λ (x : ChipState). todo_of (kind_of (TakeOutput 1) d) (is_up x) (settle x) t) same ∙
@@ -139,7 +140,7 @@ shown_passed c told =
       level = is_up (passed c);
       has_room = told.has_room;
       is_empty = false;
-      fifo = c.fifo;
+      rest = rest_of c;
       ready = length c.transmitter.wire;
     }
 
@@ -163,13 +164,13 @@ todo_passed c told h =
 
 -- what the call looked at is that
 pub seen_passed : (c : ChipState) (told : Told) (seen : Seen) → c.transmitter.wire ≡ [] → seen.level ≡ is_up (passed c) →
-    seen.has_room ≡ told.has_room → seen.is_empty ≡ false → seen.fifo ≡ c.fifo → seen.ready ≡ 0 → seen ≡ shown_passed c told
-seen_passed c told seen none level some empty fifo ready =
+    seen.has_room ≡ told.has_room → seen.is_empty ≡ false → seen.rest ≡ rest_of c → seen.ready ≡ 0 → seen ≡ shown_passed c told
+seen_passed c told seen none level some empty rest ready =
     ap (λ (b : Bool). record seen { level = b }) level ∙
     (ap (λ (b : Bool). record seen { level = is_up (passed c); has_room = b }) some ∙
     (ap (λ (b : Bool). record seen { level = is_up (passed c); has_room = told.has_room; is_empty = b }) empty ∙
-    (ap (λ (b : Bool). record seen { level = is_up (passed c); has_room = told.has_room; is_empty = false; fifo = b }) fifo ∙
-    ap (λ (n : ℕ). record { level = is_up (passed c); has_room = told.has_room; is_empty = false; fifo = c.fifo; ready = n })
+    (ap (λ (n : ℕ). record seen { level = is_up (passed c); has_room = told.has_room; is_empty = false; rest = n }) rest ∙
+    ap (λ (n : ℕ). record { level = is_up (passed c); has_room = told.has_room; is_empty = false; rest = rest_of c; ready = n })
     (ready ∙ ap (λ (wire : List ℕ). length wire) (sym none)))))
 
 -- ---- reads of LSR
@@ -186,7 +187,8 @@ clear_quiet c e =
     clear_is (list_any has_errors c.receiver.queue) (has_any (line_status c) LSR.LINE_ERRORS.0) (line_status c) e in
     quiet_read offsets.LSR c (ap (λ (b : Bool). not b) shown)
 
-pub clear_after : (p : PortState) → IsLive (after_read offsets.LSR p.chip) → IsPort p → is_some (clear_status p.chip) ≡ true →
+pub clear_after : {size : FifoSize} (p : PortState) → IsLive size (after_read offsets.LSR p.chip) → IsPort p →
+    is_some (clear_status p.chip) ≡ true →
     record { chip = after_read offsets.LSR p.chip; told = p.told } ≡ after (Read offsets.LSR) p
 clear_after p w h e =
     let c : ChipState = p.chip in
@@ -194,12 +196,13 @@ clear_after p w h e =
     let q : IsQuiet offsets.LSR c = clear_quiet c e in
     let told : IsTold (record { chip = d; told = p.told }) = quiet_told offsets.LSR c p.told q h.told in
     let still : settle d ≡ d =
-    still_ticks settle_ticks d w.whole.sound.chip (still_read offsets.LSR c q.other h.still) in
+    still_ticks (settle_ticks d.transmitter.size) d w.whole.sound.chip (still_read offsets.LSR c q.other h.still) in
     ap (λ (x : ChipState). record { chip = x; told = p.told }) (sym still) ∙
     ap (λ (t : Told). record { chip = settle d; told = t })
     (quiet_tell (Read offsets.LSR) c d p.told (quiet_kind offsets.LSR c q) still (nothing_told d p.told told))
 
-pub clear_todo : (p : PortState) → IsLive (after_read offsets.LSR p.chip) → IsPort p → is_some (clear_status p.chip) ≡ true →
+pub clear_todo : {size : FifoSize} (p : PortState) → IsLive size (after_read offsets.LSR p.chip) → IsPort p →
+    is_some (clear_status p.chip) ≡ true →
     todo (Read offsets.LSR) p ≡ nothing_new p
 clear_todo p w h e =
     let c : ChipState = p.chip in
@@ -207,7 +210,7 @@ clear_todo p w h e =
     let q : IsQuiet offsets.LSR c = clear_quiet c e in
     let told : IsTold (record { chip = d; told = p.told }) = quiet_told offsets.LSR c p.told q h.told in
     let still : settle d ≡ d =
-    still_ticks settle_ticks d w.whole.sound.chip (still_read offsets.LSR c q.other h.still) in
+    still_ticks (settle_ticks d.transmitter.size) d w.whole.sound.chip (still_read offsets.LSR c q.other h.still) in
     sym (quiet_todo (Read offsets.LSR) c d p.told (nothing_new p) (quiet_kind offsets.LSR c q) still (nothing_todo d p.told told))
 
 -- what both leave is a port
@@ -243,13 +246,13 @@ within other (Some it) = it
 pub same_some : (x y : Todo) → Some x ≡ Some y → x ≡ y
 same_some x y e = ap (λ (it : Option Todo). within x it) e
 
-pub pass_todo : (value : ℕ) (p : PortState) (result : Todo) → IsLive p.chip → IsPort p → passes p ≡ true →
+pub pass_todo : {size : FifoSize} (value : ℕ) (p : PortState) (result : Todo) → IsLive size p.chip → IsPort p → passes p ≡ true →
     result ≡ todo_of sending false (passed p.chip) p.told → result ≡ record (todo (Write offsets.DATA value) p) { ready = 0 }
 pass_todo value p result w h e same =
     same ∙ (ap (λ (wire : List ℕ). record (todo_of sending false (passed p.chip) p.told) { ready = length wire })
     (passing_parts p e).none ∙ sym (write_todo value p w h e))
 
-pub pass_taken : (value : ℕ) (p : PortState) → IsLive p.chip → IsPort p → passes p ≡ true →
+pub pass_taken : {size : FifoSize} (value : ℕ) (p : PortState) → IsLive size p.chip → IsPort p → passes p ≡ true →
     todo (TakeOutput 1) (after (Write offsets.DATA value) p) ≡
     nothing_new (after (TakeOutput 1) (after (Write offsets.DATA value) p))
 pass_taken value p w h e =

@@ -3,20 +3,23 @@ use Rattle.std.proofs.Common.{◌≡◌, ℕ, suc, ◌-◌, Bool, true, false, n
 use Rattle.std.proofs.Common.{refl, ap, sym, ◌∙◌, arith, if◌then◌else◌}
 use Rattle.std.proofs.lemmas.Grind.{common_steps}
 use Rattle.uart_spec.specs.declared.registers.offsets.TheConstants as offsets
+use Rattle.uart_spec.specs.declared.setup.FifoSize.{FifoSize}
 use Rattle.uart_chip.specs.declared.receiver.Character.{Character}
 use Rattle.uart_chip.specs.Chip.{ChipState, after_read, arrive_live, is_dlab_set, is_loopback, receive_room}
 use Rattle.uart_chip.specs.Receiver.{ReceiverState, take_front}
 use Rattle.uart_chip.specs.Transmitter.{room}
 use Rattle.uart_chip.proofs.AccessMoves.{both_if}
-use Rattle.uart_live.proofs.Sends.{each}
+use Rattle.uart_live.proofs.Sends.{each, unset}
 use Rattle.uart_live.specs.Held.{expire}
 use Rattle.uart_live.specs.Live.{IsLive}
 use Rattle.uart_virtual.specs.declared.told.Kind.{Kind}
 use Rattle.uart_virtual.specs.declared.told.Todo.{Todo}
 use Rattle.uart_virtual.specs.declared.told.Told.{Told}
+use Rattle.uart_virtual.proofs.Masks.{turned}
 use Rattle.uart_virtual.proofs.Times.{paced-happen, paced-all, unmoved-read, unmoved-all, settle-unmoved}
 use Rattle.uart_virtual.specs.Port.{PortState, PortCall, Read, Receive, IsPort, IsStill, after, todo, kind_of, settle, happen}
-use Rattle.uart_virtual.specs.Port.{accepted, is_up, has_room, is_empty, tell, todo_of, is_signalled, spare_after, differ, arrive_all}
+use Rattle.uart_virtual.specs.Port.{accepted, is_up, has_room, is_empty, tell, todo_of, is_signalled, rest_of, spare_after, differ}
+use Rattle.uart_virtual.specs.Port.{arrive_all}
 use Rattle.uart_virtual.specs.Port.{is_news, room_after, seen_of}
 use Rattle.uart_virtual.specs.Port.{nothing_new, reads_polled}
 
@@ -31,7 +34,7 @@ none_signalled kind v c told down =
 
 -- what is told of a call that is no look and uses up nothing that is covered
 pub down_told : (kind : Kind) (v : Bool) (c : ChipState) (told : Told) → kind.looks ≡ false →
-    spare_after kind false c.fifo told ≡ told.spare → told.line ≡ false → is_up c ≡ false →
+    spare_after kind false (rest_of c) told ≡ told.spare → told.line ≡ false → is_up c ≡ false →
     record told { has_room = room_after kind (seen_of c) told } ≡ tell kind v c told
 down_told kind v c told unseen same line down =
     let some : Bool = room_after kind (seen_of c) told in
@@ -39,24 +42,24 @@ down_told kind v c told unseen same line down =
       line = is_up c;
       has_room = some;
       has_looked = kind.looks || (told.has_looked && not signal);
-      spare = spare_after kind signal c.fifo told;
+      spare = spare_after kind signal (rest_of c) told;
     }) (none_signalled kind v c told down) ∙
     (ap (λ (looks : Bool). record told {
       line = is_up c;
       has_room = some;
       has_looked = looks || (told.has_looked && true);
-      spare = spare_after kind false c.fifo told;
+      spare = spare_after kind false (rest_of c) told;
     }) unseen ∙
     (ap (λ (up : Bool). record told {
       line = up;
       has_room = some;
       has_looked = told.has_looked && true;
-      spare = spare_after kind false c.fifo told;
+      spare = spare_after kind false (rest_of c) told;
     }) (down ∙ sym line) ∙
     (ap (λ (looked : Bool). record told {
       has_room = some;
       has_looked = looked;
-      spare = spare_after kind false c.fifo told;
+      spare = spare_after kind false (rest_of c) told;
     }) (with_true told.has_looked) ∙
     ap (λ (spare : ℕ). record told { has_room = some; spare = spare }) same))))
 
@@ -119,7 +122,7 @@ happens_none byte c none = rw (accepts_none byte c none) refl
 
 -- ---- both calls
 
-nothing_and : (b : Bool) → (b && false) ≡ false
+pub nothing_and : (b : Bool) → (b && false) ≡ false
 nothing_and true = refl
 nothing_and false = refl
 
@@ -129,12 +132,12 @@ off_down c off =
     let none : c.latches.ier ≡ 0 = grind (arith, common_steps, off) in
     rw none refl
 
-pub still_all : (bytes : List ℕ) (c : ChipState) → IsLive (expire (arrive_all bytes c)) → IsStill c →
+pub still_all : {size : FifoSize} (bytes : List ℕ) (c : ChipState) → IsLive size (expire (arrive_all bytes c)) → IsStill c →
     settle (arrive_all bytes c) ≡ expire (arrive_all bytes c)
 still_all bytes c w s =
     settle-unmoved (arrive_all bytes c) w.whole.sound.chip (paced-all bytes c s.paced) (unmoved-all bytes c s.unmoved)
 
-pub receive_after : (byte : ℕ) (p : PortState) → IsLive (expire (arrive_live byte 0 p.chip)) → IsPort p →
+pub receive_after : {size : FifoSize} (byte : ℕ) (p : PortState) → IsLive size (expire (arrive_live byte 0 p.chip)) → IsPort p →
     (p.chip.latches.ier == 0) ≡ true → has_room p.chip ≡ true → p.told.has_room ≡ true →
     record {
       chip = expire (arrive_live byte 0 p.chip);
@@ -154,7 +157,7 @@ receive_after byte p w h off some known =
     ap (λ (x : ChipState). record { chip = settle x; told = tell (kind_of call c) (is_up x) (settle x) p.told })
     (sym (happens_one byte c some))))
 
-pub receive_todo : (byte : ℕ) (p : PortState) → IsLive (expire (arrive_live byte 0 p.chip)) → IsPort p →
+pub receive_todo : {size : FifoSize} (byte : ℕ) (p : PortState) → IsLive size (expire (arrive_live byte 0 p.chip)) → IsPort p →
     (p.chip.latches.ier == 0) ≡ true → has_room p.chip ≡ true → p.told.has_room ≡ true →
     todo (Receive (byte ∷ [])) p ≡ nothing_new p
 receive_todo byte p w h off some known =
@@ -182,13 +185,13 @@ read_wire c =
     both_if (λ (d : ChipState). d.transmitter.wire ≡ c.transmitter.wire) c
     (record c { receiver = take_front c.receiver.queue c.receiver }) (is_dlab_set c.latches) refl refl
 
-pub read_settled : (c : ChipState) → IsLive (expire (after_read offsets.DATA c)) → IsStill c →
+pub read_settled : {size : FifoSize} (c : ChipState) → IsLive size (expire (after_read offsets.DATA c)) → IsStill c →
     settle (after_read offsets.DATA c) ≡ expire (after_read offsets.DATA c)
 read_settled c w s =
     settle-unmoved (after_read offsets.DATA c) w.whole.sound.chip (paced-happen (Read offsets.DATA) c s.paced)
     (unmoved-read offsets.DATA c s.unmoved)
 
-pub read_after : (p : PortState) → IsLive (expire (after_read offsets.DATA p.chip)) → IsPort p →
+pub read_after : {size : FifoSize} (p : PortState) → IsLive size (expire (after_read offsets.DATA p.chip)) → IsPort p →
     (p.chip.latches.ier == 0) ≡ true → p.told.has_room ≡ true → p.told.spare ≡ 0 →
     record { chip = expire (after_read offsets.DATA p.chip); told = p.told } ≡ after (Read offsets.DATA) p
 read_after p w h off room spent =
@@ -209,7 +212,7 @@ read_after p w h off room spent =
     room_then true false none e f = absurd (cc)
     room_then false some none e f = absurd (cc)
 
-pub read_todo : (p : PortState) → IsLive (expire (after_read offsets.DATA p.chip)) → IsPort p →
+pub read_todo : {size : FifoSize} (p : PortState) → IsLive size (expire (after_read offsets.DATA p.chip)) → IsPort p →
     (p.chip.latches.ier == 0) ≡ true → p.told.has_room ≡ true → todo (Read offsets.DATA) p ≡ nothing_new p
 read_todo p w h off room =
     let c : ChipState = p.chip in
@@ -242,15 +245,15 @@ reads_parts p e =
     let b = each p.told.has_room _ a.1 in
     record { off = a.0; room = b.0; spent = zero_is p.told.spare b.1 }
 
-turned : (b : Bool) → not b ≡ false → b ≡ true
-turned true e = refl
-turned false e = absurd (cc)
-
 pub no_interrupts : (c : ChipState) (result : Bool) → result ≡ not (c.latches.ier == 0) → result ≡ false → (c.latches.ier == 0) ≡ true
 no_interrupts c result e off = turned (c.latches.ier == 0) (sym e ∙ off)
 
+pub interrupts_on : (c : ChipState) (result : Bool) → result ≡ not (c.latches.ier == 0) → result ≡ true → (c.latches.ier == 0) ≡ false
+interrupts_on c result e on = unset (c.latches.ier == 0) (sym e ∙ on)
+
 -- the same of values that are equal to these
-pub received : (byte : ℕ) (p : PortState) (x : ChipState) (some : Bool) → IsLive (expire (arrive_live byte 0 p.chip)) → IsPort p →
+pub received : {size : FifoSize} (byte : ℕ) (p : PortState) (x : ChipState) (some : Bool) →
+    IsLive size (expire (arrive_live byte 0 p.chip)) → IsPort p →
     (p.chip.latches.ier == 0) ≡ true → has_room p.chip ≡ true → p.told.has_room ≡ true →
     x ≡ expire (arrive_live byte 0 p.chip) → some ≡ has_room x →
     record { chip = x; told = record p.told { has_room = some } } ≡ after (Receive (byte ∷ [])) p
@@ -259,7 +262,8 @@ received byte p x some w h off room known e f =
     (ap (λ (y : ChipState). record { chip = y; told = record p.told { has_room = has_room y } }) e ∙
     receive_after byte p w h off room known)
 
-pub did_read : (p : PortState) (x : ChipState) → IsLive (expire (after_read offsets.DATA p.chip)) → IsPort p → ReadsPolled p →
+pub did_read : {size : FifoSize} (p : PortState) (x : ChipState) → IsLive size (expire (after_read offsets.DATA p.chip)) → IsPort p →
+    ReadsPolled p →
     x ≡ expire (after_read offsets.DATA p.chip) → record { chip = x; told = p.told } ≡ after (Read offsets.DATA) p
 did_read p x w h parts e =
     ap (λ (y : ChipState). record { chip = y; told = p.told }) e ∙ read_after p w h parts.off parts.room parts.spent

@@ -166,7 +166,9 @@ room_told_at_once call p h none some free = at_end (may_make_room call || is_emp
     made (inr empty) u e = sym e ∙ empty
     made (inl r) u e =
         let before : receive_room p.chip ≡ 0 = zero_room (receive_room p.chip) none in
-        let after : receive_room ended ≡ 0 = room-ticks settle_ticks (happen call p.chip) ∙ none_made call p.chip r u before in
+        let c : ChipState = happen call p.chip in
+        let after : receive_room ended ≡ 0 =
+        room-ticks (settle_ticks c.transmitter.size) c ∙ none_made call p.chip r u before in
         sym (ap (λ (n : ℕ). not (n == 0)) after) ∙ some
 
     at_end : (b : Bool) → (may_make_room call || is_empty ended) ≡ b → (todo call p).has_room ≡ true
@@ -201,8 +203,9 @@ refusal_leaves_no_room bytes p h =
     let k : ℕ = receive_room p.chip in
     let all : accepted bytes p.chip ≡ k = omega (arith, h) in
     let none : receive_room (arrive_all (take k bytes) p.chip) ≡ 0 = room-all k bytes p.chip refl (omega (arith, h)) in
+    let d : ChipState = arrive_all (take (accepted bytes p.chip) bytes) p.chip in
     ap (λ (n : ℕ). not (n == 0))
-    (room-ticks settle_ticks (arrive_all (take (accepted bytes p.chip) bytes) p.chip) ∙
+    (room-ticks (settle_ticks d.transmitter.size) d ∙
     (ap (λ (n : ℕ). receive_room (arrive_all (take n bytes) p.chip)) all ∙ none))
 
 pub restored_is_told : RestoredIsTold

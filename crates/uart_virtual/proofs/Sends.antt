@@ -4,6 +4,7 @@ use Rattle.std.proofs.Common.{◌||◌, ◌==◌, ◌⊎◌, inl, inr, min, nat_
 use Rattle.std.proofs.Common.{length, Option, Some, None, is_some, refl, ap, sym, ◌∙◌, subst, arith}
 use Rattle.std.proofs.lemmas.Grind.{common_steps}
 use Rattle.uart_spec.specs.declared.registers.offsets.TheConstants as offsets
+use Rattle.uart_spec.specs.FifoSize.{characters}
 use Rattle.uart_spec.specs.declared.setup.FifoSize.{FifoSize}
 use Rattle.uart_chip.specs.declared.transmitter.Shifting.{Shifting}
 use Rattle.uart_chip.specs.Transmitter as transmitter
@@ -19,7 +20,8 @@ use Rattle.uart_chip.proofs.soundness.Sounds.{steady_ticks, steady_write}
 use Rattle.uart_live.proofs.Sends.{Sends, sends}
 use Rattle.uart_virtual.specs.declared.told.Kind.{Kind}
 use Rattle.uart_virtual.specs.declared.told.Told.{Told}
-use Rattle.uart_virtual.specs.Port.{settle, settle_ticks, IsStill, tell, todo_of, is_up, seen_of, is_news, spare_after, ignores_falls}
+use Rattle.uart_virtual.specs.Port.{settle, settle_ticks, IsStill, tell, todo_of, is_up, seen_of, is_news, rest_of, spare_after}
+use Rattle.uart_virtual.specs.Port.{ignores_falls}
 use Rattle.uart_virtual.proofs.Times.{still_ticks, tick-shifted, last_tick}
 
 -- nothing in the queue and in the shift register
@@ -131,12 +133,15 @@ pub settle-sent : (value : ℕ) (c : ChipState) → IsSoundChip c → IsStill c 
     (settle (after_write offsets.DATA value c) ≡ send_at_once value c) × IsStill (send_at_once value c)
 unfolding settle_ticks
 settle-sent value c w still e = (
-  ap (λ (n : ℕ). ticks n (after_write offsets.DATA value c)) many ∙ ticks-sent 20 value c w still (sends c e),
+  ap (λ (n : ℕ). ticks n d) many ∙ ticks-sent (characters d.transmitter.size + 4) value c w still (sends c e),
   still_sent value c still (sends c e),
 )
   where
-    many : settle_ticks ≡ 20 + 2
-    many = refl
+    d : ChipState
+    d = after_write offsets.DATA value c
+
+    many : settle_ticks d.transmitter.size ≡ (characters d.transmitter.size + 4) + 2
+    many = omega arith
 
 -- ---- what is told
 
@@ -155,7 +160,7 @@ pub same_told : (kind : Kind) (v w : Bool) (ended : ChipState) (told : Told) →
 same_told kind v w ended told e =
     ap (λ (signal : Bool). record (tell kind w ended told) {
       has_looked = kind.looks || (told.has_looked && not signal);
-      spare = spare_after kind signal ended.fifo told;
+      spare = spare_after kind signal (rest_of ended) told;
     }) (same_rise (is_up ended) told.line (told.spare == 0) (is_news kind (seen_of ended)) v w e)
 
 pub same_todo : (kind : Kind) (v w : Bool) (ended : ChipState) (told : Told) → ignores_falls told ≡ true →

@@ -4,7 +4,9 @@ use Rattle.std.proofs.Common.{inr, List, [], ◌∷◌, ◌++◌, map, take, len
 use Rattle.std.proofs.Common.{refl, ap, sym, ◌∙◌, subst, arith}
 use Rattle.std.proofs.lemmas.Bool.{eqb-true, or_left, or_right}
 use Rattle.uart_spec.specs.declared.registers.offsets.TheConstants as offsets
-use Rattle.uart_chip.specs.Chip.{ChipState}
+use Rattle.uart_spec.specs.FifoSize.{characters}
+use Rattle.uart_spec.specs.declared.setup.FifoSize.{FifoSize}
+use Rattle.uart_chip.specs.Chip.{ChipState, ticks}
 use Rattle.uart_chip.specs.Transmitter.{TransmitterState, out, shift_bytes, room}
 use Rattle.uart_chip.proofs.lasting.Lasting.{LastsInAccesses, lasts-write}
 use Rattle.uart_live.specs.Live.{IsLive}
@@ -16,9 +18,10 @@ use Rattle.uart_live.proofs.Sends.{each, unset}
 use Rattle.uart_virtual.specs.declared.told.Kind.{Kind}
 use Rattle.uart_virtual.specs.declared.told.Todo.{Todo}
 use Rattle.uart_virtual.specs.declared.told.Told.{Told}
-use Rattle.uart_virtual.specs.Port.{PortState, PortCall, Read, Write, Receive, ReceiveOne, SetLines, TakeOutput, after, todo}
+use Rattle.uart_virtual.specs.Port.{PortState, PortCall, Write, Receive, after, todo}
 use Rattle.uart_virtual.specs.Port.{happen, brings, looks, moves_data, kind_of, stays_up, settle, settle_ticks, is_up, idle}
-use Rattle.uart_virtual.specs.Port.{has_room, is_empty, IsTold, IsPaced, tell, todo_of, seen_of, is_signalled, spare_after, room_after}
+use Rattle.uart_virtual.specs.Port.{has_room, is_empty, IsTold, IsPaced, tell, todo_of, seen_of, is_signalled, rest_of, spare_after}
+use Rattle.uart_virtual.specs.Port.{room_after}
 use Rattle.uart_virtual.specs.Port.{differ, arrive_all, accepted}
 use Rattle.uart_virtual.specs.Laws.{after_all, some_told, ToldStays, SignalsAreUp, EachRiseIsSignalled, ASignalCovers}
 use Rattle.uart_virtual.specs.Laws.{none_looks, NoLookCoversNothing, AFullFifoIsSignalled, NoOtherSignals}
@@ -91,41 +94,48 @@ signals_up call p h = first (is_up (settle (happen call p.chip))) _ h
     first true b e = refl
     first false b e = e
 
-covers : (l m k s f : Bool) (n more : ℕ) →
-    ((if l then 0 else if s then (if m && (k && f) then more else 0) else if m then n - 1 else n) ≢ 0) → (l ≡ false) ×
-    (((s ≡ true) × ((m ≡ true) × ((k ≡ true) ×
-    ((if l then 0 else if s then (if m && (k && f) then more else 0) else if m then n - 1 else n) ≡ more)))) ⊎
-    ((s ≡ false) × ((n ≢ 0) ×
-    ((if l then 0 else if s then (if m && (k && f) then more else 0) else if m then n - 1 else n) ≡ (if m then n - 1 else n)))))
-covers true m k s f n more h = absurd (h refl)
-covers false true true true true n more h = (refl, inl (refl, (refl, (refl, refl))))
-covers false true true true false n more h = absurd (h refl)
-covers false true false true f n more h = absurd (h refl)
-covers false false k true f n more h = absurd (h refl)
-covers false true k false f n more h = (refl, inr (refl, (some n h, refl)))
+-- how many more accesses are covered, by what is known of a call
+abbrev covered : (looks moves knows signal fifo : Bool) → FifoSize → ℕ → ℕ
+covered looks moves knows signal fifo size n =
+    if looks then 0
+    else if signal then (if moves && knows then room fifo size - 1 else 0)
+    else if moves then n - 1
+    else n
+
+covers : (l m k s f : Bool) (size : FifoSize) (n : ℕ) → (covered l m k s f size n ≢ 0) → (l ≡ false) ×
+    (((s ≡ true) × ((m ≡ true) × ((k ≡ true) × (covered l m k s f size n ≡ characters size - 1)))) ⊎
+    ((s ≡ false) × ((n ≢ 0) × (covered l m k s f size n ≡ (if m then n - 1 else n)))))
+covers true m k s f size n h = absurd (h refl)
+covers false true true true true size n h = (refl, inl (refl, (refl, (refl, refl))))
+covers false true true true false size n h = absurd (h refl)
+covers false true false true f size n h = absurd (h refl)
+covers false false k true f size n h = absurd (h refl)
+covers false true k false f size n h = (refl, inr (refl, (some n h, refl)))
   where
     some : (n : ℕ) → (n - 1 ≢ 0) → n ≢ 0
     some n h e = h (omega (arith, e))
-covers false false k false f n more h = (refl, inr (refl, (h, refl)))
+covers false false k false f size n h = (refl, inr (refl, (h, refl)))
 
 pub a_signal_covers : ASignalCovers
 a_signal_covers call p h =
-    covers (looks call) (moves_data call) p.told.has_looked (todo call p).signal (settle (happen call p.chip)).fifo p.told.spare 15 h
+    let ended : ChipState = settle (happen call p.chip) in
+    covers (looks call) (moves_data call) p.told.has_looked (todo call p).signal ended.fifo ended.transmitter.size p.told.spare h
 
-none_left : (s m k f : Bool) (n more : ℕ) → k ≡ false → n ≡ 0 →
-    ((k && not s) ≡ false) × ((if s then (if m && (k && f) then more else 0) else if m then n - 1 else n) ≡ 0)
-none_left s m true f n more e z = absurd (cc)
-none_left true true false f n more e z = (refl, refl)
-none_left true false false f n more e z = (refl, refl)
-none_left false true false f n more e z = (refl, omega (arith, z))
-none_left false false false f n more e z = (refl, z)
+none_left : (s m k : Bool) (n rest : ℕ) → k ≡ false → n ≡ 0 →
+    ((k && not s) ≡ false) × ((if s then (if m && k then rest else 0) else if m then n - 1 else n) ≡ 0)
+none_left s m true n rest e z = absurd (cc)
+none_left true true false n rest e z = (refl, refl)
+none_left true false false n rest e z = (refl, refl)
+none_left false true false n rest e z = (refl, omega (arith, z))
+none_left false false false n rest e z = (refl, z)
 
 pub no_look_covers_nothing : NoLookCoversNothing
 no_look_covers_nothing [] p h k n = (k, n)
 no_look_covers_nothing (call ∷ calls) p h k n =
     let both = each (not (looks call)) (none_looks calls) h in
     let blind : looks call ≡ false = unset (looks call) both.0 in
-    let left = none_left (todo call p).signal (moves_data call) p.told.has_looked (settle (happen call p.chip)).fifo p.told.spare 15 k n in
+    let rest : ℕ = rest_of (settle (happen call p.chip)) in
+    let left = none_left (todo call p).signal (moves_data call) p.told.has_looked p.told.spare rest k n in
     no_look_covers_nothing calls (after call p) both.1 (rw blind left.0) (rw blind left.1)
 
 -- ---- input
@@ -179,8 +189,9 @@ acts-call : (call : PortCall) (p : PortState) → AllInTurn IsCareful (acts_of c
     live.after_all (acts_of call p.chip) p.chip ≡ (after call p).chip
 acts-call (Receive bytes) p h =
     let xs : List ℕ = take (accepted bytes p.chip) bytes in
-    acts-append (map (λ (byte : ℕ). Arrive byte 0) xs) (Ticks settle_ticks ∷ []) p.chip ∙
-    ap settle (acts-arrive xs p.chip)
+    let n : ℕ = settle_ticks (arrive_all xs p.chip).transmitter.size in
+    acts-append (map (λ (byte : ℕ). Arrive byte 0) xs) (Ticks n ∷ []) p.chip ∙
+    ap (λ (c : ChipState). ticks n c) (acts-arrive xs p.chip)
 acts-call (Write offset value) p h = go (offset == offsets.FCR) refl
   where
     go : (b : Bool) → (offset == offsets.FCR) ≡ b →
@@ -232,8 +243,8 @@ fcr_keeps value c e =
 
 -- ---- how many bytes are ready
 
-pub ready_is : (c : ChipState) → IsLive c → IsPaced c → (room : ℕ) → room ≡ c.transmitter.capacity - length c.transmitter.wire →
-    WIRE_ROOM - room ≡ length c.transmitter.wire
+pub ready_is : {size : FifoSize} (c : ChipState) → IsLive size c → IsPaced c → (room : ℕ) →
+    room ≡ c.transmitter.capacity - length c.transmitter.wire → WIRE_ROOM - room ≡ length c.transmitter.wire
 ready_is c w k room e = omega (arith, e, k.room, w.whole.sound.chip.transmitter.on_wire)
 
 -- ---- nothing is new
@@ -265,7 +276,7 @@ nothing_told c told h =
       line = up;
       has_room = room_after idle (seen_of c) told;
       has_looked = told.has_looked && not signal;
-      spare = spare_after idle signal c.fifo told;
+      spare = spare_after idle signal (rest_of c) told;
     }) (quiet_signal c told h) ∙
     (ap (λ (line : Bool). record told {
       line = line;

@@ -3,8 +3,8 @@ use Rattle.std.proofs.Common.{◌≡◌, ℕ, zero, suc, ◌+◌, ◌*◌, ◌�
 use Rattle.std.proofs.Common.{List, [], ◌∷◌, ◌++◌, length, take, drop, Option, Some, None, refl, ap, sym, ◌∙◌, subst, arith, if◌then◌else◌}
 use Rattle.std.proofs.lemmas.Bool.{cases_lt}
 use Rattle.std.proofs.lemmas.Grind.{common_steps}
+use Rattle.uart_spec.specs.FifoSize.{characters}
 use Rattle.uart_spec.specs.declared.registers.offsets.TheConstants as offsets
-use Rattle.uart_spec.specs.declared.setup.FifoSize.TheVariants.{Sixteen}
 use Rattle.uart_chip.specs.declared.transmitter.Shifting.{Shifting}
 use Rattle.uart_chip.specs.Transmitter as transmitter
 use Rattle.uart_chip.specs.Transmitter.{TransmitterState, room, looped_byte, shift, refill, held, shift_bytes}
@@ -179,67 +179,69 @@ stuck_or_moves loopback (Some s) queue t h =
           unlooped = rw f refl;
         })
 
--- ---- after 21 ticks
+-- ---- after the time of a call
 
--- the ticks towards a timeout, n ticks after which at most 17 moved a character, as with a FIFO of 16
-abbrev Nears : ℕ → ReceiverState → Type 0
-Nears n r = (n ≤ 17 + r.timeout_ticks) ⊎ (r.timeout_ticks ≡ r.timeout_limit)
+-- the ticks towards a timeout, n ticks after which at most so many moved a character
+abbrev pub Nears : (moved n : ℕ) → ReceiverState → Type 0
+Nears moved n r = (n ≤ moved + r.timeout_ticks) ⊎ (r.timeout_ticks ≡ r.timeout_limit)
 
-nears-tick : (n ticks limit : ℕ) → (n ≤ 17 + ticks) ⊎ (ticks ≡ limit) →
-    (suc n ≤ 17 + min (ticks + 1) limit) ⊎ (min (ticks + 1) limit ≡ limit)
-nears-tick n ticks limit (inr e) = inr (omega (arith, e))
-nears-tick n ticks limit (inl h) = elim (cases_lt ticks limit) [
+nears-tick : (moved n ticks limit : ℕ) → (n ≤ moved + ticks) ⊎ (ticks ≡ limit) →
+    (suc n ≤ moved + min (ticks + 1) limit) ⊎ (min (ticks + 1) limit ≡ limit)
+nears-tick moved n ticks limit (inr e) = inr (omega (arith, e))
+nears-tick moved n ticks limit (inl h) = elim (cases_lt ticks limit) [
   | inl low ↦ inl (omega (arith, h, low))
   | inr high ↦ inr (omega (arith, high))
 ]
 
-record Stops (n : ℕ) (c : ChipState) : Type 0 where
+record Stops (moved n : ℕ) (c : ChipState) : Type 0 where
   stuck : IsStuck (is_loopback c.latches) c.transmitter
-  nears : Nears n c.receiver
+  nears : Nears moved n c.receiver
 
-stops-tick : (n : ℕ) (c : ChipState) → Stops n c → Stops (suc n) (tick c)
-stops-tick n c h =
+stops-tick : (moved n : ℕ) (c : ChipState) → Stops moved n c → Stops moved (suc n) (tick c)
+stops-tick moved n c h =
     let loopback : Bool = is_loopback c.latches in
     let r : (tick c).receiver ≡ grow_timeout c.receiver =
     ap (λ looped. receiver.tick c.fifo looped c.receiver) h.stuck.unlooped in
     record {
       stuck = subst (λ (t : TransmitterState). IsStuck loopback t) (sym (h.stuck.same (is_held_off c))) h.stuck;
-      nears = subst (λ (r : ReceiverState). Nears (suc n) r) (sym r)
-          (nears-tick n c.receiver.timeout_ticks c.receiver.timeout_limit h.nears);
+      nears = subst (λ (r : ReceiverState). Nears moved (suc n) r) (sym r)
+          (nears-tick moved n c.receiver.timeout_ticks c.receiver.timeout_limit h.nears);
     }
 
-nearer : (n : ℕ) (c : ChipState) → IsSoundChip c → c.transmitter.size ≡ Sixteen → c.auto_flow ≡ false → CharTakes 1 c →
-    (moves (ticks n c).transmitter + n ≤ 17) ⊎ Stops n (ticks n c)
-nearer zero c w s f k =
+-- what a transmitter holds at most: a full FIFO, and a character in the shift register
+abbrev most_held : ChipState → ℕ
+most_held c = characters c.transmitter.size + 1
+
+nearer : (n : ℕ) (c : ChipState) → IsSoundChip c → c.auto_flow ≡ false → CharTakes 1 c →
+    (moves (ticks n c).transmitter + n ≤ most_held c) ⊎ Stops (most_held c) n (ticks n c)
+nearer zero c w f k =
     let few = moves-most c.fifo c.transmitter w.transmitter in
-    let most : moves c.transmitter ≤ 17 = rw s at few in
-    inl (omega (arith, most))
-nearer (suc n) c w s f k =
+    inl (omega (arith, few))
+nearer (suc n) c w f k =
     let d : ChipState = ticks n c in
     let t : TransmitterState = d.transmitter in
     let sound = (steady_ticks n c w).sound.transmitter in
     let ticking : IsTicking 1 t.shift_register =
     subst (λ m. IsTicking m t.shift_register) (takes-ticks 1 n c k) sound.ticking in
     let goes_on : is_held_off d ≡ false = never_held_off d (flow-ticks n c ∙ f) in
-    elim (nearer n c w s f k) [
+    elim (nearer n c w f k) [
       | inl more ↦ elim (stuck_or_moves (is_loopback d.latches) t.shift_register t.queue t ticking) [
-        | inl stuck ↦ inr (stops-tick n d (record { stuck = stuck; nears = inl (omega (arith, more)) }))
+        | inl stuck ↦ inr (stops-tick (most_held c) n d (record { stuck = stuck; nears = inl (omega (arith, more)) }))
         | inr moved ↦
             let ticked : moves (tick d).transmitter ≡ moves (transmitter.tick (is_loopback d.latches) false t) =
             ap (λ (b : Bool). moves (transmitter.tick (is_loopback d.latches) b t)) goes_on in
             inl (omega (arith, more, moved, ticked))
       ]
-      | inr stops ↦ inr (stops-tick n d stops)
+      | inr stops ↦ inr (stops-tick (most_held c) n d stops)
     ]
 
--- nothing is left to happen after 22 ticks
-still_after : (n : ℕ) (c : ChipState) → 22 ≤ n → IsSoundChip c → c.transmitter.size ≡ Sixteen → c.auto_flow ≡ false → IsPaced c →
-    IsStill (ticks n c)
-still_after n c many w s f k =
+-- nothing is left to happen five ticks after the last character can have moved
+still_after : (n : ℕ) (c : ChipState) → most_held c + 5 ≤ n → IsSoundChip c → c.auto_flow ≡ false → IsPaced c → IsStill (ticks n c)
+still_after n c many w f k =
     let d : ChipState = ticks n c in
     let sound = (steady_ticks n c w).sound in
     let one : d.transmitter.char_ticks ≡ 1 = takes-ticks 1 n c k.takes in
-    elim (nearer n c w s f k.takes) [
+    elim (nearer n c w f k.takes) [
       | inl more ↦ absurd (omega (arith, more, many))
       | inr stops ↦ record {
         paced = paced-ticks n c k;
@@ -251,10 +253,9 @@ still_after n c many w s f k =
       }
     ]
 
-pub still_settle : (c : ChipState) → IsSoundChip c → c.transmitter.size ≡ Sixteen → c.auto_flow ≡ false → IsPaced c →
-    IsStill (settle c)
+pub still_settle : (c : ChipState) → IsSoundChip c → c.auto_flow ≡ false → IsPaced c → IsStill (settle c)
 unfolding settle_ticks
-still_settle c w s f k = still_after settle_ticks c (omega arith) w s f k
+still_settle c w f k = still_after (settle_ticks c.transmitter.size) c (omega arith) w f k
 
 -- a transmitter that nothing moves stays so if it is held off too
 pub still_too : (n : ℕ) (held_off : Bool) (c : ChipState) → IsUnmoved c →
@@ -300,25 +301,27 @@ still_ticks n c w s =
 
 -- ---- while no character can move, time brings a reception timeout and nothing else
 
-timeout-over : (n ticks limit : ℕ) → limit ≤ suc n → timeout_after (suc n) ticks limit ≡ limit
-timeout-over n ticks limit h = omega (arith, h)
+timeout-over : (n ticks limit : ℕ) → 1 ≤ n → limit ≤ n → timeout_after n ticks limit ≡ limit
+timeout-over zero ticks limit some h = absurd (omega (arith, some))
+timeout-over (suc n) ticks limit some h = omega (arith, h)
 
 pub settle-unmoved : (c : ChipState) → IsSoundChip (expire c) → IsPaced c → IsUnmoved c → settle c ≡ expire c
 unfolding settle_ticks
 settle-unmoved c w k u =
     let t : TransmitterState = c.transmitter in
     let r : ReceiverState = c.receiver in
+    let n : ℕ = settle_ticks t.size in
     let limit : r.timeout_limit ≡ 4 * t.char_ticks = w.limit in
     let held : IsTicking t.char_ticks t.shift_register = w.transmitter.ticking in
     let ticking : IsTicking 1 t.shift_register = subst (λ m. IsTicking m t.shift_register) k.takes held in
-    let soon : r.timeout_limit ≤ 22 = omega (arith, limit, k.takes) in
-    ticks_skip 22 c (still_too 22 (is_held_off c) c u) ∙
+    let soon : r.timeout_limit ≤ n = omega (arith, limit, k.takes) in
+    ticks_skip n c (still_too n (is_held_off c) c u) ∙
     (ap (λ (place : Option Shifting). record c {
       transmitter = record t { shift_register = place };
-      receiver = record r { timeout_ticks = timeout_after 22 r.timeout_ticks r.timeout_limit };
-    }) (place-still 22 t.shift_register ticking) ∙
+      receiver = record r { timeout_ticks = timeout_after n r.timeout_ticks r.timeout_limit };
+    }) (place-still n t.shift_register ticking) ∙
     ap (λ (i : ℕ). record c { receiver = record r { timeout_ticks = i } })
-    (timeout-over 21 r.timeout_ticks r.timeout_limit soon))
+    (timeout-over n r.timeout_ticks r.timeout_limit (omega arith) soon))
 
 pub still-expire : (c : ChipState) → IsPaced c → IsUnmoved c → IsStill (expire c)
 still-expire c k u = record { paced = record { takes = k.takes; room = k.room }; unmoved = u; due = refl }

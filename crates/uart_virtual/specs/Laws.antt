@@ -5,6 +5,7 @@ use Rattle.std.specs.Prelude.{◌==◌, ◌∷◌, ◌++◌, map, take, ◌⊎�
 use Rattle.uart_chip.specs.Chip.{ChipState, receive_room, is_loopback, line_status, ticks, after_write}
 use Rattle.uart_chip.specs.Transmitter.{out, held}
 use Rattle.uart_spec.specs.Bits.{has_any}
+use Rattle.uart_spec.specs.FifoSize.{characters}
 use Rattle.uart_spec.specs.declared.registers.interrupt_enable.TheConstants.IER
 use Rattle.uart_spec.specs.declared.registers.line_status.TheConstants.LSR
 use Rattle.uart_spec.specs.declared.registers.offsets.TheConstants as offsets
@@ -55,12 +56,12 @@ EachDipIsSignalled =
     (call : PortCall) (p : PortState) (n : ℕ) → IsPort p → is_up (ticks n (happen call p.chip)) ≡ false →
     is_up (after call p).chip ≡ true → p.told.spare ≡ 0 → (todo call p).signal ≡ true
 
--- the call signals, and this covers 15 accesses of DATA more: the guest moves data, and has looked since the last
--- signal
+-- the call signals, and this covers as many accesses of DATA more as a FIFO holds characters besides one, which are 15
+-- with FIFOs of 16: the guest moves data, and has looked since the last signal
 abbrev pub IsCovering : PortCall → PortState → Type 0
 IsCovering call p =
     ((todo call p).signal ≡ true) × ((moves_data call ≡ true) × ((p.told.has_looked ≡ true) ×
-    ((after call p).told.spare ≡ 15)))
+    ((after call p).told.spare ≡ characters (after call p).chip.transmitter.size - 1)))
 
 -- the call does not signal, an earlier signal still covers it, and an access of DATA is one of those that it covers
 abbrev pub IsCovered : PortCall → PortState → Type 0
@@ -69,7 +70,7 @@ IsCovered call p =
     ((after call p).told.spare ≡ (if moves_data call then p.told.spare - 1 else p.told.spare)))
 
 -- a signal covers others only if it was given since the guest last read ISR, while the guest was moving data, and it
--- covers at most 15 accesses of DATA more
+-- covers at most as many accesses of DATA more as a FIFO holds characters besides one
 abbrev pub ASignalCovers : Type 0
 ASignalCovers =
     (call : PortCall) (p : PortState) → (after call p).told.spare ≢ 0 →
@@ -143,14 +144,18 @@ RestoredIsTold =
 
 -- ---- output
 
+-- what a call does with the chip before time passes
+abbrev pub acts_at_once : PortCall → ChipState → List Act
+acts_at_once (Read offset) c = live.Read offset ∷ []
+acts_at_once (Write offset value) c = live.Write offset value ∷ []
+acts_at_once (Receive bytes) c = map (λ byte. Arrive byte 0) (take (accepted bytes c) bytes)
+acts_at_once (ReceiveOne byte errors) c = Arrive byte errors ∷ []
+acts_at_once (SetLines inputs) c = live.SetLines inputs ∷ []
+acts_at_once (TakeOutput count) c = TakeWire count ∷ []
+
 -- what a call does with the chip
 abbrev pub acts_of : PortCall → ChipState → List Act
-acts_of (Read offset) c = live.Read offset ∷ Ticks settle_ticks ∷ []
-acts_of (Write offset value) c = live.Write offset value ∷ Ticks settle_ticks ∷ []
-acts_of (Receive bytes) c = map (λ byte. Arrive byte 0) (take (accepted bytes c) bytes) ++ Ticks settle_ticks ∷ []
-acts_of (ReceiveOne byte errors) c = Arrive byte errors ∷ Ticks settle_ticks ∷ []
-acts_of (SetLines inputs) c = live.SetLines inputs ∷ Ticks settle_ticks ∷ []
-acts_of (TakeOutput count) c = TakeWire count ∷ Ticks settle_ticks ∷ []
+acts_of call c = acts_at_once call c ++ Ticks (settle_ticks (happen call c).transmitter.size) ∷ []
 
 -- what these calls do with the chip
 abbrev pub acts_of_all : List PortCall → PortState → List Act

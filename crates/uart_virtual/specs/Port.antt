@@ -1,29 +1,31 @@
 -- The port: a live chip, what its monitor was told last, and what each call makes of both.
-use Rattle.std.specs.Prelude.{◌≡◌, ℕ, Bool, true, false, not, ◌&&◌, ◌||◌, ◌==◌, ◌-◌, List}
+use Rattle.std.specs.Prelude.{◌≡◌, ℕ, Bool, true, false, not, ◌&&◌, ◌||◌, ◌==◌, ◌+◌, ◌-◌, List}
 use Rattle.std.specs.Prelude.{[], ◌∷◌, length, take, min, is_some, nat_lt, nat_le, Option, None, Some, if◌then◌else◌}
 use Rattle.uart_chip.specs.declared.chip.ChipData.{ChipData}
 use Rattle.uart_chip.specs.Chip as chip
 use Rattle.uart_chip.specs.Chip.{ChipState, interrupt, ticks, arrive_live, take_wire}
 use Rattle.uart_chip.specs.Chip.{change_lines, after_read, after_write, is_loopback, receive_room, cut_of}
-use Rattle.uart_chip.specs.Chip.{with_thr_pending, is_dlab_set}
+use Rattle.uart_chip.specs.Chip.{with_size, with_thr_pending, is_dlab_set}
 use Rattle.uart_chip.specs.Jumps.{next_move}
 use Rattle.uart_chip.specs.Receiver.{waiting}
 use Rattle.uart_chip.specs.Sending.{sends_at_once}
 use Rattle.uart_chip.specs.Snapshot.{chip_of}
-use Rattle.uart_chip.specs.Transmitter.{held}
+use Rattle.uart_chip.specs.Transmitter.{held, room}
 use Rattle.uart_chip.specs.declared.transmitter.TransmitterData.{TransmitterData}
 use Rattle.uart_events.specs.declared.event.Chip.{Chip}
 use Rattle.uart_live.specs.Live.{IsLive}
 use Rattle.uart_live.specs.declared.fixed.TheConstants.{WIRE_ROOM}
 use Rattle.uart_spec.specs.Bits.{has_any}
+use Rattle.uart_spec.specs.FifoSize.{characters}
 use Rattle.uart_spec.specs.declared.registers.interrupt_enable.TheConstants.IER
 use Rattle.uart_spec.specs.declared.registers.line_status.TheConstants.LSR
 use Rattle.uart_spec.specs.declared.registers.offsets.TheConstants as offsets
+use Rattle.uart_spec.specs.declared.setup.FifoSize.{FifoSize}
+use Rattle.uart_spec.specs.declared.setup.FifoSize.TheVariants.{Sixteen}
 use Rattle.uart_virtual.specs.declared.told.Kind.{Kind}
 use Rattle.uart_virtual.specs.declared.told.Seen.{Seen}
 use Rattle.uart_virtual.specs.declared.told.Told.{Told}
 use Rattle.uart_virtual.specs.declared.told.Todo.{Todo}
-use Rattle.uart_virtual.specs.declared.told.TheConstants.{REST_OF_A_FIFO}
 
 -- What a monitor has to do after a call is plain data. So the port knows no eventfd and no interrupt controller, and
 -- edges and levels have the same port.
@@ -33,14 +35,14 @@ pub record PortState : Type 0 where
   pub chip : ChipState
   pub told : Told
 
--- the ticks that pass in each call: 17 for what a transmitter with a FIFO of 16 holds, 4 until a reception timeout is
--- due, and one
-unfoldable pub settle_ticks : ℕ
-settle_ticks = 22
+-- the ticks that pass in each call, which are 22 with FIFOs of 16: one for each character that a FIFO of this size
+-- holds, and 6 more: one for the character in the shift register, 4 until a reception timeout is due, and one
+unfoldable pub settle_ticks : FifoSize → ℕ
+settle_ticks size = characters size + 6
 
 -- so much time passes that nothing is left to happen
 abbrev pub settle : ChipState → ChipState
-settle c = ticks settle_ticks c
+settle c = ticks (settle_ticks c.transmitter.size) c
 
 -- the level of the interrupt line
 abbrev pub is_up : ChipState → Bool
@@ -139,6 +141,10 @@ stays_up _ c = is_up c
 
 -- ---- what the monitor is told
 
+-- how many more characters than one a FIFO holds; none, if the guest has the FIFOs off
+abbrev pub rest_of : ChipState → ℕ
+rest_of c = room c.fifo c.transmitter.size - 1
+
 -- what is seen of the chip when a call ends
 abbrev pub seen_of : (ended : ChipState) → Seen
 seen_of ended =
@@ -146,7 +152,7 @@ seen_of ended =
       level = is_up ended;
       has_room = has_room ended;
       is_empty = is_empty ended;
-      fifo = ended.fifo;
+      rest = rest_of ended;
       ready = length ended.transmitter.wire;
     }
 
@@ -164,10 +170,10 @@ is_signalled kind was_up seen told =
 -- how many more accesses of DATA a signal covers. One that is given when the guest has looked, and now moves data,
 -- covers what is left of a FIFO: the guest is in its handler, and this one signal calls the handler again. Any other
 -- signal covers nothing. A look ends what is covered
-abbrev pub spare_after : Kind → (signal fifo : Bool) → Told → ℕ
-spare_after kind signal fifo told =
+abbrev pub spare_after : Kind → (signal : Bool) → (rest : ℕ) → Told → ℕ
+spare_after kind signal rest told =
     if kind.looks then 0
-    else if signal then (if kind.moves_data && (told.has_looked && fifo) then REST_OF_A_FIFO else 0)
+    else if signal then (if kind.moves_data && told.has_looked then rest else 0)
     else if kind.moves_data then told.spare - 1
     else told.spare
 
@@ -185,7 +191,7 @@ told_after kind was_up seen told =
       line = seen.level;
       has_room = room_after kind seen told;
       has_looked = kind.looks || (told.has_looked && not signal);
-      spare = spare_after kind signal seen.fifo told;
+      spare = spare_after kind signal seen.rest told;
     }
 
 -- the levels are not the same
@@ -227,9 +233,9 @@ untold = record { line = false; has_room = false; has_looked = false; spare = 0 
 abbrev pub begun : ChipState → PortState
 begun c = record { chip = c; told = tell renewed true c untold }
 
--- a port after power-on: the time of a call passed
-abbrev pub fresh : Chip → PortState
-fresh model = begun (settle (chip.fresh model 1 WIRE_ROOM 0))
+-- a port after power-on, with FIFOs of this size: the time of a call passed
+abbrev pub fresh : FifoSize → Chip → PortState
+fresh size model = begun (settle (with_size size (chip.fresh model 1 WIRE_ROOM 0)))
 
 -- the port after this call: the access or what the host brings, and then the time that passes in each call
 abbrev pub after : PortCall → PortState → PortState
@@ -332,7 +338,8 @@ is_unmoved t loopback output =
     if is_some t.shift_register then not loopback && nat_le t.wire_capacity (length output)
     else length t.queue.items == 0
 
--- these data, and these bytes of output, are those of a port: the chip is live, and nothing is left to happen
+-- these data, and these bytes of output, are those of a port with FIFOs of 16: the chip is live, and nothing is left to
+-- happen
 pub record IsSaved (saved : ChipData) (output : List ℕ) : Type 0 where
-  pub live : IsLive (chip_of saved output)
+  pub live : IsLive Sixteen (chip_of saved output)
   pub still : IsStill (chip_of saved output)

@@ -26,8 +26,8 @@ pub fn level_is_told()
 ///
 /// A line that was down at any moment of a call, and is up at its end, is signalled too, unless an
 /// earlier signal covers that. A signal covers others only if it was given since the guest last
-/// read ISR, and at most 15 accesses of DATA. A guest that never reads ISR has none covered. There
-/// are no other signals.
+/// read ISR, and at most as many accesses of DATA as a FIFO holds characters besides one: 15 with
+/// FIFOs of 16. A guest that never reads ISR has none covered. There are no other signals.
 pub fn rises_are_signalled()
     ensures rise { EachRiseIsSignalled }
     ensures dip { EachDipIsSignalled }

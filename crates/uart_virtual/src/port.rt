@@ -1,5 +1,5 @@
 //! The port: how each call is carried out, and what is told of it.
-ghost use Rattle.std.specs.Prelude.{◌≡◌, ◌≢◌, ◌<◌, ◌≤◌, length, min, take, bit_and, Err, IsOk, Ok, ◌==◌, true, false, ℕ};
+ghost use Rattle.std.specs.Prelude.{◌≡◌, ◌≢◌, ◌<◌, ◌≤◌, length, min, take, bit_and, Err, IfOk, IsOk, Ok, ◌==◌, true, false, ℕ};
 ghost use Rattle.std.specs.Prelude.{Some, is_some, [], ◌∷◌, ◌&&◌, ◌||◌};
 ghost use Rattle.uart_chip.specs.Chip as spec;
 ghost use Rattle.uart_chip.specs.Chip.{ChipState};
@@ -7,6 +7,8 @@ ghost use Rattle.uart_chip.specs.Jumps.{most_jumps};
 ghost use Rattle.uart_chip.specs.Sending.{sends_at_once};
 ghost use Rattle.uart_live.specs.Live.{IsLive};
 ghost use Rattle.uart_live.specs.Quick.{clear_status};
+ghost use Rattle.uart_live.specs.Size.{fifo_size, is_size};
+ghost use Rattle.uart_live.specs.declared.errors.ChipError.{ChipError};
 ghost use Rattle.uart_spec.specs.Bits.{IsWithin};
 ghost use Rattle.uart_live.specs.declared.errors.InputError.{InputError};
 ghost use Rattle.uart_spec.specs.declared.baud.TheConstants.{NUM_REGISTERS};
@@ -22,20 +24,21 @@ ghost use Rattle.uart_spec.specs.declared.setup.FifoSize.TheVariants.{Sixteen};
 
 mod snapshot;
 
-use crate::told::{Kind, REST_OF_A_FIFO, Seen, Todo, Told};
+use crate::told::{Kind, Seen, Todo, Told};
 use bitflags::Flags;
 pub use snapshot::Restored;
 use std::marker::Model;
-use uart_live::{Chip, InputError, LiveChip, WIRE_ROOM};
+use uart_live::{Chip, ChipError, InputError, LiveChipWith, WIRE_ROOM};
 use uart_spec::registers::{LSR, MSR, offsets};
+use uart_spec::{FIFO_SIZE, FifoSize};
 
 // The ticks that a character takes.
 const CHAR_TICKS: u16 = 1;
 
-// The ticks that pass in each call: 17 for what a transmitter with a FIFO of 16 holds, 4 until a
-// reception timeout is due, and one. So time between calls would change nothing, and no guest waits
-// for a clock that its monitor does not have.
-const SETTLE_TICKS: u16 = 22;
+// The ticks that pass in each call, beside one for each character that a FIFO holds: one for the
+// character in the shift register, 4 until a reception timeout is due, and one. So time between
+// calls would change nothing, and no guest waits for a clock that its monitor does not have.
+const MORE_TICKS: u16 = 6;
 
 // A call of the host that brings something, and a port that is new, or restored.
 const INPUT: Kind = Kind {
@@ -71,6 +74,10 @@ const UNTOLD: Told = Told {
 /// and a character that waits interrupts a guest that has this enabled. No call allocates memory,
 /// and none blocks.
 ///
+/// Each FIFO of the port holds `FIFO` characters: 16, 32, 64, 128 or 256. A [`VirtualPort`] has 16.
+/// With larger ones a guest writes more bytes for each interrupt, if it is told so: no register of
+/// the chip shows it, but `fifo-size` of a device tree does.
+///
 /// # Examples
 ///
 /// ```
@@ -79,14 +86,17 @@ const UNTOLD: Told = Told {
 /// obey_signals(host, port.take_output(taken));
 /// ```
 #[derive(Drop)]
-pub struct VirtualPort {
+pub struct VirtualPortWith<const FIFO: usize> {
     // The output that the host has not taken is the chip's wire. A second queue would have to be
     // emptied into it, and a full one would have to hold the guest back as the full wire does.
-    chip: LiveChip,
+    chip: LiveChipWith<FIFO>,
     told: Told,
 }
 
-impl Model for VirtualPort {
+/// A [`VirtualPortWith`] FIFOs of 16 characters, as those of a 16550A. Nearly everybody wants this.
+pub type VirtualPort = VirtualPortWith<FIFO_SIZE>;
+
+impl<const FIFO: usize> Model for VirtualPortWith<FIFO> {
     ghost use Rattle.uart_virtual.specs.Port.{PortState, IsPort};
 
     ghost Value = { PortState };
@@ -153,23 +163,38 @@ pub fn kind_of_write(offset: u8) -> Kind
     }
 }
 
-/// Returns the ticks that pass in each call.
-pub fn settle_ticks() -> u16
-    ensures { result ≡ settle_ticks }
+/// Returns the ticks that pass in each call of a port whose FIFOs have this size.
+#[inline]
+pub fn settle_ticks(size: FifoSize) -> u16
+    ensures { result ≡ settle_ticks size }
 {
-    SETTLE_TICKS
+    size.characters() as u16 + MORE_TICKS
 }
 
-/// Lets so much time pass that nothing is left to happen, if a character takes one tick: 22 ticks.
-/// Returns the number of jumps, which is at most 18.
+/// Lets so much time pass that nothing is left to happen, if a character takes one tick: 6 ticks
+/// more than a FIFO holds characters, which are 22 with FIFOs of 16. Returns the number of jumps,
+/// which is at most two more than a FIFO holds characters: 18 with FIFOs of 16.
 ///
-/// Each call of a [`VirtualPort`] does this once or not at all, and takes no other time. So what a
-/// guest can make its monitor do in a call has this bound.
-pub fn settle(chip: &mut LiveChip) -> usize
+/// Each call of a [`VirtualPortWith`] does this once or not at all, and takes no other time. So
+/// what a guest can make its monitor do in a call has this bound.
+pub fn settle<const FIFO: usize>(chip: &mut LiveChipWith<FIFO>) -> usize
     ensures after { chip.new ≡ settle chip.old }
-    ensures most { result ≤ most_jumps Sixteen }
+    ensures most { result ≤ most_jumps (fifo_size FIFO) }
 {
-    chip.ticks(settle_ticks())
+    let count = settle_ticks(chip.fifo_size());
+    chip.ticks(count)
+}
+
+// Returns how many more characters than one a FIFO holds: none, if the guest has the FIFOs off.
+#[inline(always)]
+fn rest_of<const FIFO: usize>(chip: &LiveChipWith<FIFO>) -> u8
+    ensures { result ≡ port.rest_of chip.now }
+{
+    if chip.has_fifo_on() {
+        (chip.fifo_size().characters() - 1) as u8
+    } else {
+        0
+    }
 }
 
 // Returns how many more accesses of DATA the last signal covers.
@@ -177,15 +202,16 @@ pub fn settle(chip: &mut LiveChip) -> usize
 // A burst of 16 bytes takes the line down 16 times. The first of them is signalled, which calls the
 // guest's handler again once it is done; 15 signals more would say nothing. But a guest that does
 // not look may have returned from its handler before any of them. So a signal covers others only
-// after a look, and no more than a FIFO has room for.
-fn spare_after(kind: Kind, signal: bool, fifo: bool, told: Told) -> u8
-    ensures { result ≡ port.spare_after kind signal fifo told }
+// after a look, and no more than a FIFO has room for: `rest` says how many that are, with the one
+// access in which the signal is given.
+fn spare_after(kind: Kind, signal: bool, rest: u8, told: Told) -> u8
+    ensures { result ≡ port.spare_after kind signal rest told }
 {
     if kind.looks {
         0
     } else if signal {
-        if kind.moves_data && (told.has_looked && fifo) {
-            REST_OF_A_FIFO
+        if kind.moves_data && told.has_looked {
+            rest
         } else {
             0
         }
@@ -249,7 +275,7 @@ pub fn tell(seen: Seen, was_up: bool, told: &mut Told, kind: Kind) -> Todo
         line: level,
         has_room,
         has_looked: kind.looks || (told.has_looked && !signal),
-        spare: spare_after(kind, signal, seen.fifo, *told),
+        spare: spare_after(kind, signal, seen.rest, *told),
     };
     todo
 }
@@ -257,7 +283,13 @@ pub fn tell(seen: Seen, was_up: bool, told: &mut Told, kind: Kind) -> Todo
 // Returns what is to be told after a call that leaves the line at this level, and notes that it
 // was told.
 #[inline(always)]
-fn decide_at(chip: &LiveChip, is_high: bool, was_up: bool, told: &mut Told, kind: Kind) -> Todo
+fn decide_at<const FIFO: usize>(
+    chip: &LiveChipWith<FIFO>,
+    is_high: bool,
+    was_up: bool,
+    told: &mut Told,
+    kind: Kind,
+) -> Todo
     requires paced { IsPaced chip.now }
     requires level { is_high ≡ is_up chip.now }
     ensures holds { IsTold (record { chip = chip.now; told = told.new }) }
@@ -269,7 +301,7 @@ fn decide_at(chip: &LiveChip, is_high: bool, was_up: bool, told: &mut Told, kind
         level: is_high,
         has_room,
         is_empty: chip.waiting_len() == 0,
-        fifo: chip.has_fifo_on(),
+        rest: rest_of(chip),
         ready: WIRE_ROOM - chip.wire_room(),
     };
     tell(seen, was_up, told, kind)
@@ -277,9 +309,14 @@ fn decide_at(chip: &LiveChip, is_high: bool, was_up: bool, told: &mut Told, kind
 
 // Returns what is to be told after a call, and notes that it was told.
 #[inline(always)]
-fn decide(chip: &LiveChip, was_up: bool, told: &mut Told, kind: Kind) -> Todo
+fn decide<const FIFO: usize>(
+    chip: &LiveChipWith<FIFO>,
+    was_up: bool,
+    told: &mut Told,
+    kind: Kind,
+) -> Todo
     requires { IsPaced chip.now }
-    ensures live { IsLive chip.now }
+    ensures live { IsLive (fifo_size FIFO) chip.now }
     ensures holds { IsTold (record { chip = chip.now; told = told.new }) }
     ensures told { told.new ≡ tell kind was_up chip.now told.old }
     ensures todo { result ≡ todo_of kind was_up chip.now told.old }
@@ -290,10 +327,10 @@ fn decide(chip: &LiveChip, was_up: bool, told: &mut Told, kind: Kind) -> Todo
 
 // Returns what is to be told after a call that leaves the line and the room as they were.
 #[inline(always)]
-fn nothing_new(chip: &LiveChip, told: Told) -> Todo
+fn nothing_new<const FIFO: usize>(chip: &LiveChipWith<FIFO>, told: Told) -> Todo
     requires told { IsTold (record { chip = chip.now; told = told }) }
     requires paced { IsPaced chip.now }
-    ensures live { IsLive chip.now }
+    ensures live { IsLive (fifo_size FIFO) chip.now }
     ensures told { tell idle (is_up chip.now) chip.now told ≡ told }
     ensures todo { result ≡ todo_of idle (is_up chip.now) chip.now told }
 {
@@ -308,8 +345,13 @@ fn nothing_new(chip: &LiveChip, told: Told) -> Todo
 
 // Lets the time of a call pass, and returns what is to be told.
 #[inline(never)]
-fn finish(chip: &mut LiveChip, was_up: bool, told: &mut Told, kind: Kind) -> Todo
-    requires live { IsLive chip.old }
+fn finish<const FIFO: usize>(
+    chip: &mut LiveChipWith<FIFO>,
+    was_up: bool,
+    told: &mut Told,
+    kind: Kind,
+) -> Todo
+    requires live { IsLive (fifo_size FIFO) chip.old }
     requires paced { IsPaced chip.old }
     ensures after { chip.new ≡ settle chip.old }
     ensures still { IsStill chip.new }
@@ -324,7 +366,11 @@ fn finish(chip: &mut LiveChip, was_up: bool, told: &mut Told, kind: Kind) -> Tod
 // Does the same as `finish`, if no character can move in the transmitter. Then a reception timeout
 // is all that time brings.
 #[inline(always)]
-fn finish_unmoved(chip: &mut LiveChip, told: &mut Told, kind: Kind) -> Todo
+fn finish_unmoved<const FIFO: usize>(
+    chip: &mut LiveChipWith<FIFO>,
+    told: &mut Told,
+    kind: Kind,
+) -> Todo
     requires paced { IsPaced chip.old }
     requires unmoved { IsUnmoved chip.old }
     ensures after { chip.new ≡ settle chip.old }
@@ -341,7 +387,11 @@ fn finish_unmoved(chip: &mut LiveChip, told: &mut Told, kind: Kind) -> Todo
 
 // Does the same as `finish_unmoved`, out of line: most reads are of LSR, and need none of it.
 #[inline(never)]
-fn finish_read(chip: &mut LiveChip, told: &mut Told, kind: Kind) -> Todo
+fn finish_read<const FIFO: usize>(
+    chip: &mut LiveChipWith<FIFO>,
+    told: &mut Told,
+    kind: Kind,
+) -> Todo
     requires paced { IsPaced chip.old }
     requires unmoved { IsUnmoved chip.old }
     ensures after { chip.new ≡ settle chip.old }
@@ -369,7 +419,7 @@ fn is_quiet(offset: u8, value: u8) -> bool
 
 // Reads a register, and lets the time of a call pass.
 #[inline]
-fn read(chip: &mut LiveChip, offset: u8, told: &mut Told) -> Answer
+fn read<const FIFO: usize>(chip: &mut LiveChipWith<FIFO>, offset: u8, told: &mut Told) -> Answer
     requires offset { offset < NUM_REGISTERS }
     requires told { IsTold (record { chip = chip.old; told = told.old }) }
     requires still { IsStill chip.old }
@@ -403,10 +453,10 @@ fn ignores_falls(told: Told) -> bool
 
 // Returns whether a write can be made by `send`: it is a byte that meets an idle transmitter, and
 // what is told does not depend on the level of the line in between.
-fn is_fast(chip: &LiveChip, offset: u8, told: Told) -> bool
+fn is_fast<const FIFO: usize>(chip: &LiveChipWith<FIFO>, offset: u8, told: Told) -> bool
     ensures fast { result ≡ true → (offset ≡ offsets.DATA) ×
         ((sends_at_once chip.now ≡ true) × (port.ignores_falls told ≡ true)) }
-    ensures live { IsLive chip.now }
+    ensures live { IsLive (fifo_size FIFO) chip.now }
 {
     let sends = chip.sends_at_once();
     offset as usize == offsets::DATA && (sends && (!told.line || told.spare != 0))
@@ -414,8 +464,8 @@ fn is_fast(chip: &LiveChip, offset: u8, told: Told) -> bool
 
 // Does the same as `write_slowly` for a byte that can be sent at once.
 #[inline]
-fn send(chip: &mut LiveChip, value: u8, told: &mut Told) -> Todo
-    requires live { IsLive chip.old }
+fn send<const FIFO: usize>(chip: &mut LiveChipWith<FIFO>, value: u8, told: &mut Told) -> Todo
+    requires live { IsLive (fifo_size FIFO) chip.old }
     requires still { IsStill chip.old }
     requires sends { sends_at_once chip.old ≡ true }
     requires settled { port.ignores_falls told.old ≡ true }
@@ -439,7 +489,7 @@ fn send(chip: &mut LiveChip, value: u8, told: &mut Told) -> Todo
 //
 // A switch of the FIFOs empties the queue too, and the chip leaves the interrupt as it was then. A
 // guest that prints by interrupts would wait for ever.
-fn write_and_raise(chip: &mut LiveChip, offset: u8, value: u8)
+fn write_and_raise<const FIFO: usize>(chip: &mut LiveChipWith<FIFO>, offset: u8, value: u8)
     requires { offset < NUM_REGISTERS }
     ensures { chip.new ≡ port.written offset value chip.old }
 {
@@ -452,7 +502,12 @@ fn write_and_raise(chip: &mut LiveChip, offset: u8, value: u8)
 
 // Writes a register and lets the time of a call pass.
 #[inline(never)]
-fn write_slowly(chip: &mut LiveChip, offset: u8, value: u8, told: &mut Told) -> Todo
+fn write_slowly<const FIFO: usize>(
+    chip: &mut LiveChipWith<FIFO>,
+    offset: u8,
+    value: u8,
+    told: &mut Told,
+) -> Todo
     requires offset { offset < NUM_REGISTERS }
     requires still { IsStill chip.old }
     ensures after { chip.new ≡ settle (port.written offset value chip.old) }
@@ -474,7 +529,12 @@ fn write_slowly(chip: &mut LiveChip, offset: u8, value: u8, told: &mut Told) -> 
 
 // Does the same as `write_slowly`, by `send` where that can do it.
 #[inline]
-fn write(chip: &mut LiveChip, offset: u8, value: u8, told: &mut Told) -> Todo
+fn write<const FIFO: usize>(
+    chip: &mut LiveChipWith<FIFO>,
+    offset: u8,
+    value: u8,
+    told: &mut Told,
+) -> Todo
     requires offset { offset < NUM_REGISTERS }
     requires still { IsStill chip.old }
     ensures after { chip.new ≡ settle (port.written offset value chip.old) }
@@ -498,7 +558,7 @@ fn write(chip: &mut LiveChip, offset: u8, value: u8, told: &mut Told) -> Todo
 // call pass. Only if the transmitter holds something, time has something to do, and something is
 // new.
 #[inline]
-fn take(chip: &mut LiveChip, count: usize, told: &mut Told) -> Todo
+fn take<const FIFO: usize>(chip: &mut LiveChipWith<FIFO>, count: usize, told: &mut Told) -> Todo
     requires told { IsTold (record { chip = chip.old; told = told.old }) }
     requires still { IsStill chip.old }
     ensures after { chip.new ≡ settle (spec.take_wire count chip.old) }
@@ -522,7 +582,7 @@ fn take(chip: &mut LiveChip, count: usize, told: &mut Told) -> Todo
 }
 
 // Receives these bytes, without errors.
-fn receive_all(chip: &mut LiveChip, input: &[u8])
+fn receive_all<const FIFO: usize>(chip: &mut LiveChipWith<FIFO>, input: &[u8])
     ensures { chip.new ≡ arrive_all input.now chip.old }
 {
     for byte in input {
@@ -530,7 +590,7 @@ fn receive_all(chip: &mut LiveChip, input: &[u8])
     }
 }
 
-impl VirtualPort {
+impl VirtualPortWith<FIFO_SIZE> {
     /// Returns a port after power-on. The output has room for 64 bytes. No interrupt is enabled, so
     /// nothing is to be done.
     ///
@@ -540,16 +600,38 @@ impl VirtualPort {
     /// let mut port = VirtualPort::new(Chip::Uart16550A);
     /// ```
     pub fn new(chip: Chip) -> Self
-        ensures { result ≡ port.fresh chip }
+        ensures { result ≡ port.fresh Sixteen chip }
     {
-        // A chip with this time and this wire is never refused: the contract of `LiveChip::new`
-        // says so, and the check proves it here. A `Result` would give each caller an error that
-        // never comes.
-        let mut chip = LiveChip::new(chip, CHAR_TICKS, WIRE_ROOM).unwrap();
+        // With FIFOs of 16 a port is never refused: the contract of `try_new` says so, and the
+        // check proves it here. A `Result` would give each caller an error that never comes.
+        Self::try_new(chip).unwrap()
+    }
+}
+
+impl<const FIFO: usize> VirtualPortWith<FIFO> {
+    /// Returns a port after power-on, whose FIFOs hold `FIFO` characters. The output has room for
+    /// 64 bytes, whatever that number is. No interrupt is enabled, so nothing is to be done.
+    ///
+    /// # Errors
+    ///
+    /// `BadFifo` if `FIFO` is none of 16, 32, 64, 128 and 256.
+    ///
+    /// # Examples
+    ///
+    /// ```
+    /// let mut port = VirtualPortWith::<64>::try_new(Chip::Uart16550A)?;
+    /// ```
+    pub fn try_new(chip: Chip) -> Result<Self, ChipError>
+        ensures made { IfOk result (λ made. made ≡ port.fresh (fifo_size FIFO) chip) }
+        ensures refused { is_size FIFO ≡ false → result ≡ Err ChipError.BadFifo }
+        ensures accepted { is_size FIFO ≡ true → IsOk result }
+    {
+        // A chip with this time and this wire is refused for its FIFOs alone.
+        let mut chip = LiveChipWith::new(chip, CHAR_TICKS, WIRE_ROOM)?;
         // Nothing is in the chip that could move.
         let mut told = UNTOLD;
         let _todo = finish_unmoved(&mut chip, &mut told, RENEWED);
-        VirtualPort { chip, told }
+        Ok(VirtualPortWith { chip, told })
     }
 
     /// Reads the register at this offset for the guest. Returns its value, and what the monitor has
@@ -578,8 +660,8 @@ impl VirtualPort {
     /// Reads LSR for the guest, if it shows no error and no character that waits has one. Then the
     /// monitor has nothing to do. Otherwise returns `None`, and nothing changes.
     ///
-    /// The value and the effect are those of [`VirtualPort::read`]. A guest that waits makes this
-    /// read again and again.
+    /// The value and the effect are those of [`VirtualPortWith::read`]. A guest that waits makes
+    /// this read again and again.
     #[inline]
     pub fn read_clear_status(&mut self) -> Option<u8>
         ensures value { result ≡ clear_status self.old.chip }
@@ -604,7 +686,7 @@ impl VirtualPort {
     /// the monitor knows of room for input. Then it has nothing to do. Otherwise returns `None`,
     /// and nothing changes.
     ///
-    /// The value and the effect are those of [`VirtualPort::read`].
+    /// The value and the effect are those of [`VirtualPortWith::read`].
     #[inline]
     pub fn read_polled(&mut self) -> Option<u8>
         ensures polled { is_some result ≡ port.reads_polled self.old }
@@ -619,7 +701,7 @@ impl VirtualPort {
             return None;
         }
         let value = self.chip.read_data();
-        LiveChip::expire_timeout(&mut self.chip);
+        LiveChipWith::expire_timeout(&mut self.chip);
         Some(value)
     }
 
@@ -634,7 +716,7 @@ impl VirtualPort {
     /// Reads DATA for the guest, if one character waits. Returns its value, and what the monitor
     /// has to do. Otherwise returns `None`, and nothing changes.
     ///
-    /// The value, the effect and what has to be done are those of [`VirtualPort::read`].
+    /// The value, the effect and what has to be done are those of [`VirtualPortWith::read`].
     // No reception timeout is to come when no character waits. So the line is asked for once.
     #[inline]
     pub fn read_last(&mut self) -> Option<Answer>
@@ -651,7 +733,7 @@ impl VirtualPort {
         }
         let value = self.chip.read_data();
         let level = self.chip.is_interrupting();
-        LiveChip::expire_timeout(&mut self.chip);
+        LiveChipWith::expire_timeout(&mut self.chip);
         let kind = kind_of_read(offsets::DATA as u8);
         let todo = decide_at(&self.chip, level, level, &mut self.told, kind);
         Some(Answer { value, todo })
@@ -710,7 +792,7 @@ impl VirtualPort {
             level: self.chip.is_interrupting(),
             has_room: self.told.has_room,
             is_empty: false,
-            fifo: self.chip.has_fifo_on(),
+            rest: rest_of(&self.chip),
             ready: 0,
         };
         let kind = kind_of_write(offsets::DATA as u8);
@@ -744,7 +826,7 @@ impl VirtualPort {
     /// If that is not all, there is no room left. The first call after which nothing waits says in
     /// `has_room` that there is room, or one by which the guest makes room otherwise than by
     /// reading DATA. Offer the others again then, and not before. Without FIFO there is room for
-    /// one byte, with it for 16, and in loopback for none.
+    /// one byte, with it for `FIFO`, and in loopback for none.
     ///
     /// # Examples
     ///
@@ -776,7 +858,7 @@ impl VirtualPort {
     /// room for the byte. Then it has nothing to do. Otherwise returns `false`, and nothing
     /// changes.
     ///
-    /// The effect is that of [`VirtualPort::receive`].
+    /// The effect is that of [`VirtualPortWith::receive`].
     #[inline]
     pub fn receive_polled(&mut self, byte: u8) -> bool
         ensures polled { result ≡ port.receives_polled self.old }
@@ -791,7 +873,7 @@ impl VirtualPort {
         if !self.chip.arrive_in_room(byte) {
             return false;
         }
-        LiveChip::expire_timeout(&mut self.chip);
+        LiveChipWith::expire_timeout(&mut self.chip);
         self.told.has_room = self.chip.receive_room() != 0;
         true
     }
@@ -801,7 +883,7 @@ impl VirtualPort {
     #[inline]
     fn receives_first(&self) -> bool
         ensures first { result ≡ port.receives_first self.now }
-        ensures live { IsLive self.now.chip }
+        ensures live { IsLive (fifo_size FIFO) self.now.chip }
     {
         let is_on = self.chip.has_input_interrupt_on();
         let has_room = self.chip.receive_room() != 0;
@@ -812,7 +894,7 @@ impl VirtualPort {
     /// enabled: if the monitor knows of room. Returns what the monitor has to do. Otherwise returns
     /// `None`, and nothing changes.
     ///
-    /// The effect and what has to be done are those of [`VirtualPort::receive`].
+    /// The effect and what has to be done are those of [`VirtualPortWith::receive`].
     // A character that waits takes the line up when the call ends, and one that comes while none
     // waits takes no line down. So the chip is not asked for the line.
     #[inline]
@@ -828,7 +910,7 @@ impl VirtualPort {
             return None;
         }
         let _arrived = self.chip.arrive_in_room(byte);
-        LiveChip::expire_timeout(&mut self.chip);
+        LiveChipWith::expire_timeout(&mut self.chip);
         let todo = decide_at(&self.chip, true, true, &mut self.told, INPUT);
         Some(todo)
     }
@@ -937,7 +1019,7 @@ impl VirtualPort {
     }
 
     /// Returns the chip, for what can be seen of it.
-    pub fn chip(&self) -> &LiveChip
+    pub fn chip(&self) -> &LiveChipWith<FIFO>
         ensures { result.now ≡ self.now.chip }
     {
         &self.chip

@@ -1,6 +1,6 @@
 //! The chip of libuart_c.a, as its header `uart_16550.h` has it.
 
-const FIFO_SIZE: usize = 16;
+const FIFO_ROOM: usize = 128;
 pub const WIRE_ROOM: usize = 64;
 
 /// Whole bytes are sent and received, as by vm-superio's device.
@@ -36,10 +36,19 @@ pub struct Modem {
 
 /// Bytes, of which the first `len` count.
 #[repr(C)]
-#[derive(Clone, Copy, Debug, Default, PartialEq, Eq)]
+#[derive(Clone, Copy, Debug, PartialEq, Eq)]
 pub struct Bytes {
     pub len: u8,
-    pub items: [u8; FIFO_SIZE],
+    pub items: [u8; FIFO_ROOM],
+}
+
+impl Default for Bytes {
+    fn default() -> Self {
+        Bytes {
+            len: 0,
+            items: [0; FIFO_ROOM],
+        }
+    }
 }
 
 #[repr(C)]
@@ -69,6 +78,7 @@ pub struct Transmitter {
     pub is_shifting: u8,
     pub shift_byte: u8,
     pub is_thr_pending: u8,
+    pub fifo_size: u8,
     pub queue: Bytes,
     pub wire: Wire,
 }
@@ -83,10 +93,19 @@ pub struct Character {
 
 /// Characters, of which the first `len` count.
 #[repr(C)]
-#[derive(Clone, Copy, Debug, Default, PartialEq, Eq)]
+#[derive(Clone, Copy, Debug, PartialEq, Eq)]
 pub struct Characters {
     pub len: u8,
-    pub items: [Character; FIFO_SIZE],
+    pub items: [Character; FIFO_ROOM],
+}
+
+impl Default for Characters {
+    fn default() -> Self {
+        Characters {
+            len: 0,
+            items: [Character::default(); FIFO_ROOM],
+        }
+    }
 }
 
 #[repr(C)]
@@ -98,6 +117,7 @@ pub struct Receiver {
     pub is_front_reported: u8,
     pub last_byte: u8,
     pub trigger: u8,
+    pub fifo_size: u8,
     pub queue: Characters,
 }
 

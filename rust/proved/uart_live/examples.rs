@@ -4,7 +4,7 @@ use uart_16550_chip::registers::{LSR, MSR, offsets};
 #[allow(unused_imports)]
 use uart_16550_chip::Flags as _;
 #[allow(unused_imports)]
-use uart_16550_chip::{Chip, ChipData, ChipError, InputError, LiveChip, Todo, VirtualPort};
+use uart_16550_chip::{Chip, ChipData, ChipError, InputError, LiveChip, Todo, VirtualPort, VirtualPortWith};
 
 #[allow(dead_code)]
 type Outcome<T = ()> = Result<T, Box<dyn std::error::Error>>;

@@ -17,12 +17,16 @@ pub use serial::{
 };
 #[doc(inline)]
 pub use uart_live::{
-    Character, Chip, ChipData, ChipError, InputError, Latches, LiveChip, ModemData, Origin,
-    ReceiverData, RestoreError, Shifting, TransmitterData, WIRE_ROOM,
+    Character, Chip, ChipData, ChipError, InputError, Latches, LiveChip, LiveChipWith, ModemData,
+    Origin, ReceiverData, RestoreError, Shifting, TransmitterData, WIRE_ROOM,
 };
+#[doc(inline)]
+pub use uart_spec::FifoSize;
 pub use uart_spec::registers;
 #[doc(inline)]
-pub use uart_virtual::{Answer, Clock, Received, Restored, Todo, VirtualPort, settle};
+pub use uart_virtual::{
+    Answer, Clock, Received, Restored, Todo, VirtualPort, VirtualPortWith, settle,
+};
 
 /// The definitions that the sections "Proved" cite: what each name there means. No code is in it.
 ///

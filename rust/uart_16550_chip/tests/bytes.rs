@@ -79,6 +79,8 @@ fn a_state_comes_back_from_its_bytes() {
 /// What was stored in each version, by the state that `busy` makes. `travel.rs` has these too.
 const STORED_1: &[u8] = include_bytes!("states/version-1.bin");
 const STORED_2: &[u8] = include_bytes!("states/version-2.bin");
+/// A chip of the library for C with FIFOs of 64, which has what STORED_2 has, and more in its queues.
+const LARGER: &[u8] = include_bytes!("states/larger.bin");
 
 /// Where the parts are, and the length of each.
 const CHIP_PART: usize = 12;
@@ -172,6 +174,12 @@ fn parts_are_refused_that_are_cut_short_or_unknown_or_not_there() {
     let mut short = chip[..89].to_vec();
     short[2] = 85;
     assert_eq!(refused(&[&short, output]), BadState::Length { offset: 101 });
+}
+
+/// A chip with larger FIFOs is not cut to one with FIFOs of 16.
+#[test]
+fn larger_fifos_are_refused() {
+    assert_eq!(refusal(LARGER), BadState::UnknownPart { kind: 3 });
 }
 
 /// What a later release may add, and an older one skips: a part that is not needed, and fields at the end of a part.

@@ -11,7 +11,7 @@
 
 #include "choices.h"
 
-enum { CHIPS = 3, PORTS = 2, ROOM = 80, STATE_ROOM = 200 };
+enum { CHIPS = 3, PORTS = 2, ROOM = 160, STATE_ROOM = UART_STATE_MOST + 29 };
 
 static struct uart_chip chips[CHIPS];
 static struct uart_port ports[PORTS];
@@ -35,8 +35,9 @@ static void note_transmitter(const struct uart_transmitter *transmitter)
     note(transmitter->is_shifting);
     note(transmitter->shift_byte);
     note(transmitter->is_thr_pending);
+    note(transmitter->fifo_size);
     note(transmitter->queue.len);
-    note_bytes(transmitter->queue.items, UART_FIFO_SIZE);
+    note_bytes(transmitter->queue.items, UART_FIFO_ROOM);
     note(transmitter->wire.len);
     note(transmitter->wire.capacity);
     note_bytes(transmitter->wire.items, UART_WIRE_ROOM);
@@ -50,8 +51,9 @@ static void note_receiver(const struct uart_receiver *receiver)
     note(receiver->is_front_reported);
     note(receiver->last_byte);
     note(receiver->trigger);
+    note(receiver->fifo_size);
     note(receiver->queue.len);
-    for (size_t i = 0; i < UART_FIFO_SIZE; i++) {
+    for (size_t i = 0; i < UART_FIFO_ROOM; i++) {
         const struct uart_character *character = &receiver->queue.items[i];
         note(character->byte * UINT64_C(65536) + character->errors * UINT64_C(256) + character->is_looped);
     }
@@ -103,6 +105,24 @@ static uint8_t small(uint32_t most)
     return below(6) ? (uint8_t)below(most) : any_byte();
 }
 
+/* How many characters FIFOs hold: a number that there is, or mostly one. */
+static uint8_t some_size(void)
+{
+    static const uint8_t sizes[6] = { 16, 16, 32, 64, 64, 128 };
+    return sizes[below(6)];
+}
+
+static uint8_t any_size(void)
+{
+    return below(6) ? some_size() : any_byte();
+}
+
+/* A length of a queue in FIFOs of so many characters. */
+static uint8_t some_len(uint8_t fifo_size)
+{
+    return below(2) ? small(18) : (uint8_t)(fifo_size - 1 + below(3));
+}
+
 /* A struct of any bytes, but each field mostly one that it may have. */
 static void spoil_transmitter(struct uart_transmitter *transmitter)
 {
@@ -112,8 +132,9 @@ static void spoil_transmitter(struct uart_transmitter *transmitter)
     transmitter->is_shifting = small(2);
     transmitter->shift_byte = any_byte();
     transmitter->is_thr_pending = small(2);
-    transmitter->queue.len = small(18);
-    for (size_t i = 0; i < UART_FIFO_SIZE; i++)
+    transmitter->fifo_size = any_size();
+    transmitter->queue.len = some_len(transmitter->fifo_size);
+    for (size_t i = 0; i < UART_FIFO_ROOM; i++)
         transmitter->queue.items[i] = any_byte();
     transmitter->wire.len = small(66);
     transmitter->wire.capacity = below(2) ? UART_WIRE_ROOM : small(70);
@@ -130,8 +151,9 @@ static void spoil_receiver(struct uart_receiver *receiver)
     receiver->is_front_reported = small(2);
     receiver->last_byte = any_byte();
     receiver->trigger = below(6) ? levels[below(4)] : any_byte();
-    receiver->queue.len = small(18);
-    for (size_t i = 0; i < UART_FIFO_SIZE; i++) {
+    receiver->fifo_size = any_size();
+    receiver->queue.len = some_len(receiver->fifo_size);
+    for (size_t i = 0; i < UART_FIFO_ROOM; i++) {
         receiver->queue.items[i].byte = any_byte();
         receiver->queue.items[i].errors = below(6) ? (uint8_t)(below(8) << 2) : any_byte();
         receiver->queue.items[i].is_looped = small(2);
@@ -142,6 +164,8 @@ static void spoil(struct uart_chip *chip)
 {
     spoil_transmitter(&chip->transmitter);
     spoil_receiver(&chip->receiver);
+    if (below(3))
+        chip->receiver.fifo_size = chip->transmitter.fifo_size;
     chip->latches.ier = small(16);
     chip->latches.lcr = any_byte();
     chip->latches.mcr = small(32);
@@ -171,7 +195,7 @@ static void spoil_one(struct uart_chip *chip)
     struct uart_chip other = *chip;
     size_t place;
     spoil(&other);
-    switch (below(20)) {
+    switch (below(22)) {
     case 0:
         chip->transmitter.queue.len = other.transmitter.queue.len;
         break;
@@ -200,7 +224,7 @@ static void spoil_one(struct uart_chip *chip)
         chip->receiver.timeout_limit = other.receiver.timeout_limit;
         break;
     case 9:
-        place = below(UART_FIFO_SIZE);
+        place = below(below(2) ? UART_FIFO_SIZE : UART_FIFO_ROOM);
         chip->receiver.queue.items[place].errors = any_byte();
         break;
     case 10:
@@ -231,6 +255,12 @@ static void spoil_one(struct uart_chip *chip)
         chip->transmitter.is_thr_pending = other.transmitter.is_thr_pending;
         chip->receiver.is_front_reported = other.receiver.is_front_reported;
         chip->receiver.is_overrun = other.receiver.is_overrun;
+        break;
+    case 19:
+        chip->receiver.fifo_size = other.receiver.fifo_size;
+        break;
+    case 20:
+        chip->transmitter.fifo_size = chip->receiver.fifo_size = other.transmitter.fifo_size;
         break;
     default:
         chip->transmitter.wire.len = UART_WIRE_ROOM;
@@ -294,7 +324,9 @@ static uint32_t new_chip(struct uart_chip *chip)
     uint8_t model = small(2), cuts = small(2);
     uint16_t ticks = (uint16_t)(below(4) ? 1 + below(4) : below(3) ? below(1100) : any_number());
     uint8_t capacity = (uint8_t)(below(3) ? below(66) : below(256));
-    return uart_chip_new(chip, model, ticks, capacity, cuts);
+    if (below(2))
+        return uart_chip_new(chip, model, ticks, capacity, cuts);
+    return uart_chip_new_sized(chip, model, any_size(), ticks, capacity, cuts);
 }
 
 static void call_chip(struct uart_chip *chip, struct uart_chip *other, uint32_t which)
@@ -383,6 +415,12 @@ static void call_clock(struct uart_clock *clock, uint8_t offset, struct uart_tod
     note(clock->is_owed);
 }
 
+static uint32_t new_port(struct uart_port *port)
+{
+    uint8_t model = small(2), size = any_size();
+    return uart_port_new_sized(port, model, size);
+}
+
 static void call_port(struct uart_port *port, struct uart_chip *saved, uint32_t which)
 {
     struct uart_todo todo = { 77, 5, 6, 7, 8 };
@@ -390,7 +428,10 @@ static void call_port(struct uart_port *port, struct uart_chip *saved, uint32_t 
     size_t len;
     switch (which) {
     case 0:
-        uart_port_new(port, small(2));
+        if (below(2))
+            uart_port_new(port, small(2));
+        else
+            told(new_port(port));
         break;
     case 1:
     case 2:
@@ -403,7 +444,7 @@ static void call_port(struct uart_port *port, struct uart_chip *saved, uint32_t 
         break;
     case 5:
     case 6:
-        len = below(3) ? below(4) : below(40);
+        len = below(3) ? below(4) : below(3) ? below(40) : below(ROOM);
         fill(len);
         note(uart_port_receive(port, bytes, len, &todo));
         break;
@@ -468,8 +509,13 @@ static void call_state(struct uart_chip *chip, uint32_t which)
     case 0:
         for (size_t i = 0; i < STATE_ROOM; i++)
             state[i] = 0;
-        uart_chip_to_bytes(chip, state);
-        state_len = UART_STATE_LEN;
+        if (below(2)) {
+            told(uart_chip_to_bytes(chip, state));
+            state_len = UART_STATE_LEN;
+        } else {
+            state_len = uart_chip_to_bytes_sized(chip, state, below(4) ? UART_STATE_MOST : below(UART_STATE_MOST));
+            note(state_len);
+        }
         note_bytes(state, STATE_ROOM);
         break;
     case 1:
@@ -477,7 +523,7 @@ static void call_state(struct uart_chip *chip, uint32_t which)
         state[place] = small(4);
         break;
     case 2:
-        state_len = below(3) ? UART_STATE_LEN : below(STATE_ROOM);
+        state_len = below(3) ? state_len : below(STATE_ROOM);
         break;
     case 3:
         uart_chip_to_bytes(chip, state);
@@ -519,8 +565,8 @@ static void call(void)
 /* Prints something, which nothing else does, unless each function refuses each pointer that is null, and then changes nothing. */
 static void refuse_null(void)
 {
-    struct uart_chip chip, other;
-    struct uart_port port;
+    static struct uart_chip chip, other;
+    static struct uart_port port;
     struct uart_clock clock = { 0 };
     struct uart_todo todo = { 0 };
     uint64_t before;
@@ -534,6 +580,7 @@ static void refuse_null(void)
     note_port(&port);
     before = hash;
     wrong += uart_chip_new(NULL, UART_16550A, 1, 1, UART_CUT) != UART_NULL_POINTER;
+    wrong += uart_chip_new_sized(NULL, UART_16550A, 64, 1, 1, UART_CUT) != UART_NULL_POINTER;
     wrong += uart_chip_load(NULL, &other) != UART_NULL_POINTER || uart_chip_load(&chip, NULL) != UART_NULL_POINTER;
     uart_chip_save(NULL, &other);
     uart_chip_save(&chip, NULL);
@@ -545,6 +592,7 @@ static void refuse_null(void)
     wrong += uart_chip_wire_len(NULL) != 0 || uart_chip_wire_room(NULL) != 0 || uart_chip_receive_room(NULL) != 0;
     wrong += uart_chip_waiting_len(NULL) != 0 || uart_chip_held_len(NULL) != 0 || uart_chip_divisor(NULL) != 0;
     uart_port_new(NULL, UART_16550A);
+    wrong += uart_port_new_sized(NULL, UART_16550A, 64) != UART_NULL_POINTER;
     wrong += uart_port_read(NULL, UART_OFFSET_ISR, &todo) != 0 || uart_port_read(&port, UART_OFFSET_ISR, NULL) != 0;
     uart_port_write(NULL, UART_OFFSET_DATA, 1, &todo);
     uart_port_write(&port, UART_OFFSET_DATA, 1, NULL);
@@ -564,8 +612,8 @@ static void refuse_null(void)
     uart_clock_after_host(NULL, &todo);
     uart_clock_after_host(&clock, NULL);
     wrong += uart_clock_pass_time(NULL) != 0;
-    uart_chip_to_bytes(NULL, state);
-    uart_chip_to_bytes(&chip, NULL);
+    wrong += uart_chip_to_bytes(NULL, state) != UART_STATE_NULL_POINTER || uart_chip_to_bytes(&chip, NULL) != UART_STATE_NULL_POINTER;
+    wrong += uart_chip_to_bytes_sized(NULL, state, STATE_ROOM) != 0 || uart_chip_to_bytes_sized(&chip, NULL, STATE_ROOM) != 0;
     wrong += uart_chip_from_bytes(NULL, state, 1, &detail) != UART_STATE_NULL_POINTER;
     wrong += uart_chip_from_bytes(&other, NULL, 0, &detail) != UART_STATE_NULL_POINTER;
     wrong += uart_chip_from_bytes(&other, state, 1, NULL) != UART_STATE_NULL_POINTER || detail != 77;
@@ -591,10 +639,12 @@ static void compare(uint64_t seed, uint32_t total)
 #endif
     for (uint32_t made = 0; made < total; made++) {
         if (made % 400 == 0) {
-            for (size_t i = 0; i < CHIPS; i++)
-                told(uart_chip_new(&chips[i], UART_16550A, (uint16_t)(1 + i), UART_WIRE_ROOM, (uint8_t)below(2)));
+            for (size_t i = 0; i < CHIPS; i++) {
+                uint8_t cuts = (uint8_t)below(2);
+                told(uart_chip_new_sized(&chips[i], UART_16550A, some_size(), (uint16_t)(1 + i), UART_WIRE_ROOM, cuts));
+            }
             for (size_t i = 0; i < PORTS; i++) {
-                uart_port_new(&ports[i], UART_16550A);
+                told(uart_port_new_sized(&ports[i], UART_16550A, some_size()));
                 note_port(&ports[i]);
             }
         }

@@ -14,7 +14,8 @@ TYPE = re.compile(
 )
 OWNER = re.compile(r"(?:^|\n)(impl|(?:pub(?:\([^)]*\))? )?trait)\b([^{;]*)\{")
 CONSTANT = re.compile(r"\n( *)((?:pub(?:\([^)]*\))? )?)const (\w+)\s*:\s*([^=;]+?)\s*[=;]")
-BEGINS = re.compile(r"\b(?:fn|struct|enum|union|static) \w|\bconst [A-Z_]\w*\s*:")
+# A constant that stands in a list of parameters begins nothing.
+BEGINS = re.compile(r"\b(?:fn|struct|enum|union|static) \w|(?<!<)(?<!, )\bconst [A-Z_]\w*\s*:")
 NUMBER = re.compile(r"\b(0x[0-9a-fA-F_]+|0b[01_]+|\d[\d_]*)(?:_?[ui](?:8|16|32|64|size))?\b")
 
 

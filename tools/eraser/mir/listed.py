@@ -10,6 +10,10 @@ PACKAGES = {
     "uart_16550": (OF_DRIVER, ["alloc"], OF_DRIVER),
     "uart_16550_chip": (OF_CHIP, [], OF_CHIP),
 }
+# What is given for a parameter that is a number, as how many characters a FIFO holds: what is most used, and a larger one. And constants
+# that are given for it in the emitted text.
+NUMBERS = [16, 64]
+CONSTANTS = {"FIFO_SIZE": 16}
 # What is not compared: a pattern of the name, and why.
 UNDER_A_SCHEDULE = "of a chip under a schedule, which allocates: scripts that are played by both sides compare it"
 UNCOMPARED = {
@@ -101,6 +105,8 @@ NOT_REACHED = {
     r"^uart_chip::controlling::(fifo_flags [123] (if|else)|is_switching [13] if|switch_size 1 if)$": BY_SWITCH,
     r"^uart_chip::(receiver::Receiver|transmitter::Transmitter)::resize 0 entry$": BY_SWITCH,
     r"^uart_live::fixed::FixedFifoFifo::(can_)?resize 0 entry$": BY_SWITCH,
+    r"^uart_virtual::port::VirtualPortWith::try_new 2 case 1$": "a number that no FIFO holds, which is not among NUMBERS: "
+    "the test `no_fifo_holds_another_number` has some",
 }
 
 # Functions that read outside of an empty slice, as their contract allows.
@@ -140,11 +146,11 @@ CONTRACTS = {
         for name in ("read", "read_meant", "read_plain", "write", "write_meant", "write_plain")
     },
     "uart_ring::queue::ByteQueue::byte_at": "a1 >= a0.len()",
-    "uart_live::live::LiveChip::read": "a1 >= 8",
-    "uart_live::live::LiveChip::write": "a1 >= 8",
-    "uart_live::live::LiveChip::send_at_once": "!a0.sends_at_once()",
-    "uart_virtual::port::VirtualPort::read": "a1 >= 8",
-    "uart_virtual::port::VirtualPort::write": "a1 >= 8",
+    "uart_live::live::LiveChipWith::read": "a1 >= 8",
+    "uart_live::live::LiveChipWith::write": "a1 >= 8",
+    "uart_live::live::LiveChipWith::send_at_once": "!a0.sends_at_once()",
+    "uart_virtual::port::VirtualPortWith::read": "a1 >= 8",
+    "uart_virtual::port::VirtualPortWith::write": "a1 >= 8",
     "uart_virtual::port::read": "a1 >= 8",
     "uart_virtual::port::send": "!a0.sends_at_once()",
     "uart_virtual::port::write": "a1 >= 8",
@@ -179,31 +185,32 @@ SEQUENCES = {
     "uart_design_ware::state::DesignWare::new": [],
     "uart_ring::ring::Uart16550Ring::new": [],
     "uart_waits::waits::Waits::new": [],
-    "uart_live::live::LiveChip::new": [
+    "uart_live::live::LiveChipWith::new": [
         (
             "if let Ok(made) = LiveChip::from_data(&state.data(), state.wire()) { state = made; }",
-            "let mut data = {uart_live::live::LiveChip::data}(&raw mut state as *mut u8); "
-            "let wire = {uart_live::live::LiveChip::wire}(&raw mut state as *mut u8); "
-            "let made = {uart_live::live::LiveChip::from_data}(&raw mut data as *mut u8, wire); "
+            "let mut data = {uart_live::live::snapshot::LiveChipWith+FIFO_SIZE::data}(&raw mut state as *mut u8); "
+            "let wire = {uart_live::live::LiveChipWith::wire}(&raw mut state as *mut u8); "
+            "let made = {uart_live::live::snapshot::LiveChipWith+FIFO_SIZE::from_data}(&raw mut data as *mut u8, wire); "
             "if made.v0.f0 == 0 { state = made.v0.f1; }",
         ),
         # and with a wire that is longer than there are places
         (
             "let mut data = state.data(); data.transmitter.wire_capacity += 100; "
             "out.push(LiveChip::from_data(&data, state.wire()).is_ok() as u64);",
-            "let mut data = {uart_live::live::LiveChip::data}(&raw mut state as *mut u8); data.f3.f2 += 100; "
-            "let wire = {uart_live::live::LiveChip::wire}(&raw mut state as *mut u8); "
-            "let made = {uart_live::live::LiveChip::from_data}(&raw mut data as *mut u8, wire); out.push((made.v0.f0 == 0) as u64);",
+            "let mut data = {uart_live::live::snapshot::LiveChipWith+FIFO_SIZE::data}(&raw mut state as *mut u8); data.f3.f2 += 100; "
+            "let wire = {uart_live::live::LiveChipWith::wire}(&raw mut state as *mut u8); "
+            "let made = {uart_live::live::snapshot::LiveChipWith+FIFO_SIZE::from_data}(&raw mut data as *mut u8, wire); "
+            "out.push((made.v0.f0 == 0) as u64);",
         ),
     ],
-    "uart_virtual::port::VirtualPort::new": [
+    "uart_virtual::port::VirtualPortWith+FIFO_SIZE::new": [
         # Data at random are those of no port.
         (
             "if let Ok(made) = VirtualPort::from_data(&state.data(), state.output()) "
             "{ Value::show(&made.todo, &mut out); state = made.port; }",
-            "let mut data = {uart_virtual::port::VirtualPort::data}(&raw mut state as *mut u8); "
-            "let output = {uart_virtual::port::VirtualPort::output}(&raw mut state as *mut u8); "
-            "let made = {uart_virtual::port::VirtualPort::from_data}(&raw mut data as *mut u8, output); "
+            "let mut data = {uart_virtual::port::snapshot::VirtualPortWith+FIFO_SIZE::data}(&raw mut state as *mut u8); "
+            "let output = {uart_virtual::port::VirtualPortWith::output}(&raw mut state as *mut u8); "
+            "let made = {uart_virtual::port::snapshot::VirtualPortWith+FIFO_SIZE::from_data}(&raw mut data as *mut u8, output); "
             "if made.v0.f0 == 0 { Value::show(&{ made.v0.f1.f1 }, &mut out); state = made.v0.f1.f0; }",
         ),
         # and with an input that is no line
@@ -211,11 +218,13 @@ SEQUENCES = {
             "let mut data = state.data(); "
             "data.modem.inputs = MSR::from_bits_retain(data.modem.inputs.bits() | 1); "
             "out.push(VirtualPort::from_data(&data, state.output()).is_ok() as u64);",
-            "let mut data = {uart_virtual::port::VirtualPort::data}(&raw mut state as *mut u8); data.f5.f0.f0 |= 1; "
-            "let output = {uart_virtual::port::VirtualPort::output}(&raw mut state as *mut u8); "
-            "let made = {uart_virtual::port::VirtualPort::from_data}(&raw mut data as *mut u8, output); "
+            "let mut data = {uart_virtual::port::snapshot::VirtualPortWith+FIFO_SIZE::data}(&raw mut state as *mut u8); "
+            "data.f5.f0.f0 |= 1; "
+            "let output = {uart_virtual::port::VirtualPortWith::output}(&raw mut state as *mut u8); "
+            "let made = {uart_virtual::port::snapshot::VirtualPortWith+FIFO_SIZE::from_data}(&raw mut data as *mut u8, output); "
             "out.push((made.v0.f0 == 0) as u64);",
         ),
     ],
+    "uart_virtual::port::VirtualPortWith::try_new": [],
 }
 STEPS = 60

@@ -13,6 +13,8 @@ DEVICE = "crate::run::Device"
 # A parameter of which nothing is asked, as what wakes a task, is a byte on both sides.
 UNASKED = re.compile(r"[<,]\s*([A-Z])\s*(?=[,>])")
 OF_UNASKED = ("Int", 8)
+# A parameter that is a number.
+NUMBER = re.compile(r"\bconst ([A-Z]\w*): usize\b")
 # The methods of derived traits, and how many values of the type they take.
 DERIVED = {"PartialEq": ("eq", 2), "Ord": ("cmp", 2), "PartialOrd": ("partial_cmp", 2), "Default": ("default", 0), "Clone": ("clone", 1)}
 PRINTED = {"Debug": ["{:?}", "{:#?}"], "Display": ["{}"]}
@@ -119,9 +121,14 @@ class Pairs:
     def put(self, file, text):
         self.texts.setdefault(file, []).append(text)
 
-    def over_device(self, function, text):
-        """A type of a signature, with the device for each parameter that is a way to reach one, and a byte for one of which nothing is asked."""
+    def over_device(self, function, text, number):
+        """A type of a signature, with the device for each parameter that is a way to reach one, a byte for one of which nothing is asked, and
+        a number for one that is a number."""
         text = without_lifetimes(text)
+        for name in NUMBER.findall(function.generics):
+            text = re.sub(rf"\b{name}\b", str(number), text)
+        for name, value in listed.CONSTANTS.items():
+            text = text.replace(f"<{name}>", f"<{value}>")
         of_device = "|".join(trait.split("::")[-1] for trait in natives.TRAITS if trait.startswith("uart_"))
         for name in re.findall(rf"(\w+)\s*:\s*[\w:]*(?:{of_device})\b", function.generics):
             text = re.sub(rf"\b{name}\b", DEVICE, text)
@@ -170,11 +177,14 @@ class Pairs:
         least = 1 if name.split("::")[-1] in listed.NOT_EMPTY else 0
         return [self.argument(order, text, of, least) for order, (text, of) in enumerate(zip(texts, types))]
 
-    def instance(self, name):
-        """The translated function over a device, the types of its parameters, and that of its result."""
+    def instance(self, name, number=None):
+        """The translated function over a device, or over a number, the types of its parameters, and that of its result."""
         function = self.translation.program.functions[name]
         asked = {one["Param"] for bound in function["generics"]["bounds"] for one in bound["types"] if "Param" in one}
-        types = tuple(natives.DEVICE if order in asked else OF_UNASKED for order in range(len(function["generics"]["types"])))
+        given = function["generics"]["types"]
+        types = tuple(
+            ("Num", number) if one["const_bits"] else natives.DEVICE if order in asked else OF_UNASKED for order, one in enumerate(given)
+        )
         dictionaries = []
         for bound in function["generics"]["bounds"]:
             found = natives.dictionary(bound["of"], tuple(self.translation.type(one, types) for one in bound["types"]))
@@ -194,11 +204,11 @@ class Pairs:
 
     # Comparisons.
 
-    def compare(self, title, name, file, texts, call, path=None):
+    def compare(self, title, name, file, texts, call, path=None, number=None):
         """Writes a comparison. `texts` has the types of the arguments as the signature has them, `call` gives the call of such arguments."""
         if not self.is_wanted(title):
             return
-        function, types, result = self.instance(name)
+        function, types, result = self.instance(name, number)
         if len(types) != len(texts):
             raise Unknown(f"{len(types)} arguments in the MIR, {len(texts)} emitted")
         listing = self.arguments(name, texts, types)
@@ -227,27 +237,32 @@ class Pairs:
 
     def functions(self):
         for name, function in self.pairs.items():
-            try:
-                self.one(name, function)
-            except (Unknown, KeyError) as cause:
-                self.skip(name, cause)
+            for number in numbers(function):
+                try:
+                    self.one(name, function, number)
+                except (Unknown, KeyError) as cause:
+                    # The cause is the same for each number.
+                    self.skip(name, cause)
 
-    def one(self, name, function):
+    def one(self, name, function, number):
         if name.endswith("+decl"):
             raise Unknown(DECLARATION)
         if re.search(r"impl |Formatter|dyn ", " ".join([*function.parameters, function.result])):
             raise Unknown("printed or generic")
-        owner = self.over_device(function, function.owner)
+        owner = self.over_device(function, function.owner, number)
         texts = []
         for parameter in function.parameters:
             receiver = re.fullmatch(r"(&(?:'\w+ )?(?:mut )?)?(?:mut )?self", parameter)
             text = f"{receiver[1] or ''}Self" if receiver else parameter.split(":", 1)[1].strip()
-            texts.append(self.over_device(function, text.replace("Self", owner)))
+            texts.append(self.over_device(function, text.replace("Self", owner), number))
         if any(re.search(r"\b[A-Z]\b", text) for text in [owner, *texts]):
             raise Unknown("generic")
-        trait = self.over_device(function, function.trait)
+        trait = self.over_device(function, function.trait, number)
         path = f"<{owner} as {trait}>::" if trait else f"<{owner}>::" if owner else ""
-        self.compare(name, name, function.file, texts, lambda passed: f"{path}{function.name}({', '.join(passed)})", function.path())
+        called = f"{path}{function.name}"
+        self.compare(
+            with_number(name, number), name, function.file, texts, lambda passed: f"{called}({', '.join(passed)})", function.path(), number
+        )
         is_method = texts and owner and texts[0] in (f"&{owner}", f"&mut {owner}")
         if is_method and function.is_public and listed.CONTRACTS.get(function.path(), OF_OFFSET) == OF_OFFSET:
             self.methods.setdefault(owner, []).append((name, function, texts, path))
@@ -334,26 +349,28 @@ class Pairs:
     def sequences(self):
         """Writes a comparison of sequences of calls for each type that has a constructor in the list."""
         for constructor in listed.SEQUENCES:
-            if constructor in self.pairs and self.is_wanted(title_of_sequences(constructor)):
-                self.sequence(constructor)
+            for number in numbers(self.pairs[constructor]) if constructor in self.pairs else []:
+                if self.is_wanted(title_of_sequences(constructor, number)):
+                    self.sequence(constructor, number)
 
-    def sequence(self, constructor):
+    def sequence(self, constructor, number):
         function = self.pairs[constructor]
-        owner = self.over_device(function, function.owner)
-        texts = [self.over_device(function, one.split(":", 1)[1].strip().replace("Self", owner)) for one in function.parameters]
-        new, types, made = self.instance(constructor)
+        owner = self.over_device(function, function.owner, number)
+        texts = [self.over_device(function, one.split(":", 1)[1].strip().replace("Self", owner), number) for one in function.parameters]
+        new, types, made = self.instance(constructor, number)
         listing = self.arguments(constructor, texts, types)
         is_result = made[0] == "Named" and made[1] == "core::result::Result"
         state = made[2][0] if is_result else made
         rust_steps, mir_steps = [], []
         for order, (name, method, step_texts, path) in enumerate(self.methods[owner]):
-            rust_steps.append(f"{order} => {{ {self.step(name, method, step_texts, path, owner, True)} }}")
-            mir_steps.append(f"{order} => {{ {self.step(name, method, step_texts, path, owner, False)} }}")
-        for mine, theirs in listed.SEQUENCES[constructor]:
+            rust_steps.append(f"{order} => {{ {self.step(name, method, step_texts, path, owner, number, True)} }}")
+            mir_steps.append(f"{order} => {{ {self.step(name, method, step_texts, path, owner, number, False)} }}")
+        # The steps are those of the first number.
+        for mine, theirs in listed.SEQUENCES[constructor] if number in (None, listed.NUMBERS[0]) else []:
             rust_steps.append(f"{len(rust_steps)} => {{ {mine} }}")
-            theirs = re.sub(r"\{([\w:]+)\}", lambda found: f"crate::mir::{self.instance(found[1])[0]}", theirs)
+            theirs = re.sub(r"\{([\w:+]+)\}", lambda found: f"crate::mir::{self.instance(found[1], listed.NUMBERS[0])[0]}", theirs)
             mir_steps.append(f"{len(mir_steps)} => {{ {theirs} }}")
-        count, title = len(rust_steps), title_of_sequences(constructor)
+        count, title = len(rust_steps), title_of_sequences(constructor, number)
         mine, theirs = (" ".join(getattr(one, side) for one in listing) for side in ("rust", "mir"))
         call = f"<{owner}>::{function.name}({', '.join(one.rust_passed for one in listing)})"
         passed = ", ".join(one.mir_passed for one in listing)
@@ -380,10 +397,10 @@ class Pairs:
         self.compared[title] = constructor
         self.calls.append(f"crate::proved::{self.declared.modules[function.file]}::compare_{order}(run);")
 
-    def step(self, name, method, texts, path, owner, is_rust):
+    def step(self, name, method, texts, path, owner, number, is_rust):
         """One call of a sequence on one side: a helper in the file of the method, and the call of it."""
         order = f"{'rust' if is_rust else 'mir'}_step_{len(self.compared)}_{name.replace('::', '_').replace('+', '_')}"
-        function, types, result = self.instance(name)
+        function, types, result = self.instance(name, number or listed.NUMBERS[0])
         listing = self.arguments(name, texts, types)[1:]
         side = "rust" if is_rust else "mir"
         made = " ".join(getattr(one, side) for one in listing)
@@ -407,5 +424,15 @@ class Pairs:
         return f"crate::proved::{self.declared.modules[method.file]}::{order}({state}, choices, &mut out);"
 
 
-def title_of_sequences(constructor):
-    return f"sequences of {constructor.rsplit('::', 1)[0]}"
+def numbers(function):
+    """What is given for the parameter of a function that is a number: nothing, if it has none."""
+    return listed.NUMBERS if NUMBER.search(function.generics) else [None]
+
+
+def with_number(title, number):
+    """A title of what is compared with a number for a parameter. The first one is the usual one."""
+    return title if number in (None, listed.NUMBERS[0]) else f"{title} of {number}"
+
+
+def title_of_sequences(constructor, number):
+    return with_number(f"sequences of {constructor.rsplit('::', 1)[0]}", number)

@@ -16,9 +16,12 @@ def of_emitted(one):
     parameters, arguments = [], []
     for parameter in one.parameters:
         name, _, bound = parameter.partition(":")
-        arguments.append(name.strip())
+        arguments.append(name.removeprefix("const ").strip())
         if name.startswith("'"):
             parameters.append(name)
+            continue
+        if name.startswith("const "):
+            parameters.append(parameter)
             continue
         parameters.append(f"{name.strip()}: {' + '.join([VALUE, *([bound.strip()] if bound.strip() else [])])}")
     generics = f"<{', '.join(parameters)}>" if parameters else ""
@@ -40,7 +43,8 @@ def of_emitted(one):
     return f"impl{generics} {VALUE} for {target} {{ {HEAD} {{ match self {{ {' '.join(shows)} }} }} {MAKE} {{ {make} }} }}"
 
 
-# The types by hand of the MIR: how a value is shown, and how it is made. `{rest}` has the bytes between its fields.
+# The types by hand of the MIR: how a value is shown, and how it is made. `{rest}` has the bytes between its fields, and `{number}` is what
+# its last parameter is given, if that is a number.
 OF_MIR = {
     "uart_ring::queue::ByteQueue": (
         "let cells = self.f0.f2; out.extend([cells, self.f2]); unsafe { for at in 0..self.f2 { "
@@ -71,7 +75,7 @@ OF_MIR = {
     ),
     "uart_live::fixed::FixedFifo": (
         "out.extend([self.f1, self.f2]); self.f0.show(out);",
-        "let (f1, f2) = (choices.pick(16), choices.pick(17)); Self { f0: Value::make(choices), f1, f2{rest} }",
+        "let (f1, f2) = (choices.pick({number}), choices.pick({number} + 1)); Self { f0: Value::make(choices), f1, f2{rest} }",
     ),
     "uart_live::fixed::FixedWire": (
         "self.f0.show(out); out.extend([self.f1, self.f2, self.f3]);",
@@ -104,6 +108,8 @@ def of_shape(translation, name):
     by_hand = OF_MIR.get(of[1]) if of[0] == "Named" else None
     if by_hand:
         show, make = by_hand[0], by_hand[1].replace("{rest}", translation.rest(of))
+        if of[2] and of[2][-1][0] == "Num":
+            make = make.replace("{number}", str(of[2][-1][1]))
     elif of[0] == "Named" and of[1] == "std_alloc::vec::Vec":
         show, make = (text.format(item=translation.rust(of[2][0]), size=translation.layout(of[2][0])[0]) for text in LIST)
     elif of[0] == "Struct" and of[1] in ("&[]", "&str"):

@@ -4,15 +4,18 @@ ghost use Rattle.uart_chip.specs.Snapshot.{chip_of};
 ghost use Rattle.uart_live.specs.declared.fixed.TheConstants.{WIRE_ROOM};
 ghost use Rattle.uart_live.specs.declared.errors.RestoreError.{RestoreError};
 ghost use Rattle.uart_live.specs.Live.{IsLive};
+ghost use Rattle.uart_spec.specs.declared.setup.FifoSize.TheVariants.{Sixteen};
 
-use super::LiveChip;
+use super::LiveChipWith;
 use crate::errors::RestoreError;
 use crate::fixed::{FixedFifo, FixedWire, NoMarks, WIRE_ROOM};
 use crate::sound::is_live;
 use uart_chip::{Character, ChipData, Uart, send};
+use uart_spec::{FIFO_SIZE, FifoSize};
 
-impl LiveChip {
-    /// Returns the chip as plain data. The bytes on its wire are [`LiveChip::wire`].
+// The arrays of the data hold 16 characters.
+impl LiveChipWith<FIFO_SIZE> {
+    /// Returns the chip as plain data. The bytes on its wire are [`LiveChipWith::wire`].
     ///
     /// # Examples
     ///
@@ -20,9 +23,10 @@ impl LiveChip {
     /// let saved = chip.data();
     /// let restored = LiveChip::from_data(&saved, chip.wire())?;
     /// ```
+    #[tactic(auto, unfolding(crate::specs::Size::fifo_size))]
     pub fn data(&self) -> ChipData
         ensures data { chip_of result self.now.transmitter.wire ≡ self.now }
-        ensures live { IsLive self.now }
+        ensures live { IsLive Sixteen self.now }
     {
         self.uart.data()
     }
@@ -42,16 +46,17 @@ impl LiveChip {
     /// ```
     /// let restored = LiveChip::from_data(&saved, chip.wire())?;
     /// ```
+    #[tactic(auto, unfolding(crate::specs::Size::fifo_size))]
     pub fn from_data(saved: &ChipData, wire: &[u8]) -> Result<Self, RestoreError>
         ensures restored { IfOk result (λ live. live ≡ chip_of saved.now wire.now) }
-        ensures refused { (IsLive (chip_of saved.now wire.now) → ⊥) →
+        ensures refused { (IsLive Sixteen (chip_of saved.now wire.now) → ⊥) →
             result ≡ Err RestoreError.BadData }
-        ensures large { IsLive (chip_of saved.now wire.now) →
+        ensures large { IsLive Sixteen (chip_of saved.now wire.now) →
             WIRE_ROOM < saved.now.transmitter.wire_capacity → result ≡ Err RestoreError.BadWire }
-        ensures accepted { IsLive (chip_of saved.now wire.now) →
+        ensures accepted { IsLive Sixteen (chip_of saved.now wire.now) →
             saved.now.transmitter.wire_capacity ≤ WIRE_ROOM → IsOk result }
     {
-        if !is_live(saved, wire) {
+        if !is_live(FifoSize::Sixteen, saved, wire) {
             return Err(RestoreError::BadData);
         }
         if saved.transmitter.wire_capacity > WIRE_ROOM {

@@ -1,7 +1,7 @@
 //! Two monitors of a serial port: one whose interrupt controller takes edges, and one whose
 //! controller takes levels.
 
-use crate::virtual_port::{Host, input, obey_levels, read, write};
+use crate::virtual_port::{Host, input, obey_levels, obey_signals, port_of_64, read, write};
 use std::process::Abort;
 use std::test::Fail;
 use uart_chip::Chip;
@@ -106,5 +106,24 @@ fn a_pin_that_detects_edges_sees_a_fall_within_a_call(rt: HostRuntime) -> Result
         obey_levels(&mut host, port.read(DATA).todo);
     }
     assert!(rt; host.line && host.rises == 2);
+    Ok(())
+}
+
+// The guest is interrupted by an empty THR, looks, and writes 64 bytes. It is interrupted for the
+// first of them, which calls its handler again, and for no other.
+#[test]
+fn a_burst_of_64_bytes_is_one_interrupt(rt: HostRuntime) -> Result<(), Fail> {
+    let mut port = port_of_64();
+    let mut host = host();
+    obey_signals(&mut host, port.write(FCR, 0x01));
+    obey_signals(&mut host, port.write(IER, 0x02));
+    assert!(rt; host.signals == 1);
+    assert!(rt; port.read(ISR).value == 0xc2);
+    for byte in 0..64 {
+        obey_signals(&mut host, port.write(DATA, byte));
+    }
+    assert!(rt; host.signals == 2 && port.output().len() == 64);
+    // The output is full. The FIFO holds 64 more while the host takes nothing.
+    assert!(rt; port.receive_room() == 64);
     Ok(())
 }

@@ -4,10 +4,11 @@ ghost use Rattle.uart_chip.specs.Snapshot.{chip_of};
 ghost use Rattle.uart_live.specs.declared.errors.RestoreError.{RestoreError};
 ghost use Rattle.uart_virtual.specs.Port.{IsSaved, IsStill, begun, is_unmoved, renewed, todo_of, untold};
 
-use super::{CHAR_TICKS, RENEWED, UNTOLD, VirtualPort, decide};
+use super::{CHAR_TICKS, RENEWED, UNTOLD, VirtualPort, VirtualPortWith, decide};
 use crate::told::Todo;
 use bitflags::Flags;
 use uart_live::{ChipData, LiveChip, RestoreError, TransmitterData, WIRE_ROOM};
+use uart_spec::FIFO_SIZE;
 use uart_spec::registers::MCR;
 
 // The ticks after which a reception timeout is due: four characters, each of one tick.
@@ -45,8 +46,9 @@ fn is_settled(saved: &ChipData, output: &[u8]) -> bool
         && is_unmoved(&saved.transmitter, loopback, output)
 }
 
-impl VirtualPort {
-    /// Returns the port as plain data. The bytes of its output are [`VirtualPort::output`].
+// The arrays of the data hold 16 characters.
+impl VirtualPortWith<FIFO_SIZE> {
+    /// Returns the port as plain data. The bytes of its output are [`VirtualPortWith::output`].
     ///
     /// What the monitor was told is not part of the data: a monitor that restores a port is told
     /// anew.
@@ -97,7 +99,7 @@ impl VirtualPort {
         let chip = LiveChip::from_data(saved, output)?;
         let mut told = UNTOLD;
         let todo = decide(&chip, true, &mut told, RENEWED);
-        let port = VirtualPort { chip, told };
+        let port = VirtualPortWith { chip, told };
         Ok(Restored { port, todo })
     }
 }

@@ -5,7 +5,8 @@ use std::mem::{MaybeUninit, take};
 
 // The structs and numbers of crates/uart_c/include/uart_16550.h.
 
-const FIFO_SIZE: usize = 16;
+const FIFO_SIZE: u8 = 16;
+const FIFO_ROOM: usize = 128;
 const WIRE_ROOM: usize = 64;
 const OK: u32 = 0;
 
@@ -32,7 +33,7 @@ struct Modem {
 #[derive(Clone, Copy)]
 struct Bytes {
     len: u8,
-    items: [u8; FIFO_SIZE],
+    items: [u8; FIFO_ROOM],
 }
 
 #[repr(C)]
@@ -52,6 +53,7 @@ struct Transmitter {
     is_shifting: u8,
     shift_byte: u8,
     is_thr_pending: u8,
+    fifo_size: u8,
     queue: Bytes,
     wire: Wire,
 }
@@ -68,7 +70,7 @@ struct Character {
 #[derive(Clone, Copy)]
 struct Characters {
     len: u8,
-    items: [Character; FIFO_SIZE],
+    items: [Character; FIFO_ROOM],
 }
 
 #[repr(C)]
@@ -80,6 +82,7 @@ struct Receiver {
     is_front_reported: u8,
     last_byte: u8,
     trigger: u8,
+    fifo_size: u8,
     queue: Characters,
 }
 
@@ -124,7 +127,7 @@ impl Chip {
     /// Returns a new chip, if there is one with these values.
     fn new(model: u8, char_ticks: u16, wire_capacity: u8) -> Option<Self> {
         let mut chip = MaybeUninit::zeroed();
-        // SAFETY: the function writes the whole struct, and each of its bytes may have any value.
+        // SAFETY: the struct is of zeros at first, and each of its bytes may have any value.
         let (status, chip) = unsafe {
             let status = uart_chip_new(chip.as_mut_ptr(), model, char_ticks, wire_capacity, 0);
             (status, chip.assume_init())
@@ -172,8 +175,10 @@ impl Chip {
         unsafe { uart_chip_take_wire(self, taken.as_mut_ptr(), room) };
     }
 
-    /// Returns each field of the data.
+    /// Returns each field of the data, but for the sizes of the FIFOs, which are 16.
     fn data_bytes(&self) -> Vec<u8> {
+        let sizes = [self.transmitter.fifo_size, self.receiver.fifo_size];
+        assert_eq!(sizes, [FIFO_SIZE; 2]);
         let Latches {
             ier,
             lcr,

@@ -68,6 +68,20 @@ pub mod receiver {}
 ///
 /// It uses `ChipState` of this file; `fresh` of `crates/uart_chip/specs/Transmitter.antt`; `fresh` of `crates/uart_chip/specs/Receiver.antt`; `fresh` of `crates/uart_chip/specs/Modem.antt`.
 ///
+/// <span id="with_size"></span>
+///
+/// # `with_size`
+///
+/// The same chip, with FIFOs of this size; a 16450 has none, and nothing that it does depends on their size.
+///
+/// ```text
+/// abbrev pub with_size : FifoSize → ChipState → ChipState
+/// with_size size c =
+///     record c { transmitter = record c.transmitter { size = size }; receiver = record c.receiver { size = size } }
+/// ```
+///
+/// It uses `ChipState` of this file.
+///
 /// <span id="is_dlab_set"></span>
 ///
 /// # `is_dlab_set`
@@ -283,7 +297,7 @@ pub mod receiver {}
 /// ```
 ///
 /// It uses [`is_dlab_set`](crate::proved::chip#is_dlab_set); `ChipState`, `write_data`, `with_latches`, `enable`, `control`, `control_modem` of this file; `kept_mcr` of `crates/uart_chip/specs/Masks.antt`.
-#[doc(alias("fresh", "is_dlab_set", "is_loopback", "divisor", "cut_of", "ticks", "arrive_live", "receive_room", "take_wire", "change_lines", "interrupt", "with_thr_pending", "answer", "after_read", "after_write"))]
+#[doc(alias("fresh", "with_size", "is_dlab_set", "is_loopback", "divisor", "cut_of", "ticks", "arrive_live", "receive_room", "take_wire", "change_lines", "interrupt", "with_thr_pending", "answer", "after_read", "after_write"))]
 pub mod chip {}
 
 /// Ticks in jumps: when a character moves next, what happens until then, and how many jumps there are at most. No theorem rests on these definitions but that of `idle`, whose contract gives the effect of the ticks by those of `Chip`.

@@ -39,6 +39,8 @@ impl std::error::Error for InputError {}
 /// Why no chip was made: the first reason in this order.
 #[derive(Clone, Copy, Debug, PartialEq, Eq)]
 pub enum ChipError {
+    /// A FIFO holds 16, 32, 64, 128 or 256 characters, and no other number.
+    BadFifo,
     /// A character takes no ticks, or more than `MAX_CHAR_TICKS`.
     BadTicks,
     /// The wire has room for more than `WIRE_ROOM` bytes.
@@ -49,6 +51,9 @@ pub enum ChipError {
 impl std::fmt::Display for ChipError {
     fn fmt(&self, f: &mut std::fmt::Formatter<'_>) -> std::fmt::Result {
         match self {
+            Self::BadFifo => {
+                ({ (f.write_fmt(format_args!("a FIFO holds 16, 32, 64, 128 or 256 characters"))) })
+            }
             Self::BadTicks => {
                 ({
                     (f.write_fmt(format_args!(

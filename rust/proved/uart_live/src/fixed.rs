@@ -3,7 +3,7 @@
 
 use uart_chip::{Character, Fifo, Journal, Origin, Wire};
 use uart_events::ArrivalMark;
-use uart_spec::{FIFO_SIZE, FifoSize};
+use uart_spec::FifoSize;
 
 /// The most bytes that the wire of a live chip has room for.
 pub const WIRE_ROOM: usize = 64;
@@ -11,18 +11,68 @@ pub const WIRE_ROOM: usize = 64;
 // The places of a `FixedWire`: each byte is in two of them.
 const WIRE_PLACES: usize = 2 * WIRE_ROOM;
 
-/// A queue in an array, without other memory. A push into a full one would overwrite the oldest
-/// item, so the caller of `push` must show that there is room.
-pub struct FixedFifo<T> {
-    slots: [T; FIFO_SIZE],
+/// Returns the size of FIFOs that hold so many characters. A number that is no size counts as 16.
+///
+/// # Proved
+///
+/// - Returns [`fifo_size`](crate::proved::size#fifo_size) `characters`: the size of FIFOs that hold so many characters; a number that is no size counts as 16.
+///
+/// <details><summary>The clauses</summary>
+///
+/// [How to read them](uart_spec::proved):
+///
+/// ```text
+/// ensures { result ≡ fifo_size characters }
+/// ```
+///
+/// </details>
+// Of a const parameter the answer is known when the program is compiled. So a chip has no field for
+// its size, and tests none.
+#[inline]
+pub fn fifo_size(characters: usize) -> FifoSize {
+    match characters {
+        32 => FifoSize::ThirtyTwo,
+        64 => FifoSize::SixtyFour,
+        128 => FifoSize::OneHundredTwentyEight,
+        256 => FifoSize::TwoHundredFiftySix,
+        _ => FifoSize::Sixteen,
+    }
+}
+
+/// Returns whether FIFOs can hold so many characters: 16, 32, 64, 128 or 256.
+///
+/// # Proved
+///
+/// - Returns [`is_size`](crate::proved::size#is_size) `characters`: FIFOs of some size hold so many characters: 16, 32, 64, 128 or 256.
+///
+/// <details><summary>The clauses</summary>
+///
+/// [How to read them](uart_spec::proved):
+///
+/// ```text
+/// ensures { result ≡ is_size characters }
+/// ```
+///
+/// </details>
+#[inline]
+pub fn is_size(characters: usize) -> bool {
+    fifo_size(characters).characters() == characters
+}
+
+/// A queue of `FIFO` items in an array, without other memory. A push into a full one would
+/// overwrite the oldest item, so the caller of `push` must show that there is room.
+pub struct FixedFifo<T, const FIFO: usize> {
+    slots: [T; FIFO],
     start: usize,
     len: usize,
 }
 
-impl<T: Copy> FixedFifo<T> {
+impl<T: Copy, const FIFO: usize> FixedFifo<T, FIFO> {
     /// Returns an empty queue, whose unused places hold `item`.
     ///
     /// # Proved
+    ///
+    /// If `characters (fifo_size FIFO) ≡ FIFO` (the number of characters of a FIFO of this size) (the size of FIFOs that hold so many characters; a number that is no size counts as 16):
     ///
     /// - Returns `[]`.
     ///
@@ -31,22 +81,23 @@ impl<T: Copy> FixedFifo<T> {
     /// [How to read them](uart_spec::proved):
     ///
     /// ```text
+    /// requires { characters (fifo_size FIFO) ≡ FIFO }
     /// ensures { result ≡ [] }
     /// ```
     ///
     /// </details>
     pub fn new(item: T) -> Self {
         FixedFifo {
-            slots: [item; FIFO_SIZE],
+            slots: [item; FIFO],
             start: 0,
             len: 0,
         }
     }
 }
 
-impl<T: Copy> Fifo<T> for FixedFifo<T> {
+impl<T: Copy, const FIFO: usize> Fifo<T> for FixedFifo<T, FIFO> {
     fn size(&self) -> FifoSize {
-        FifoSize::Sixteen
+        fifo_size(FIFO)
     }
 
     fn can_resize() -> bool {
@@ -59,14 +110,14 @@ impl<T: Copy> Fifo<T> for FixedFifo<T> {
 
     fn get(&self, i: usize) -> Option<T> {
         if i < self.len {
-            Some(self.slots[(self.start + i) % FIFO_SIZE])
+            Some(self.slots[(self.start + i) % FIFO])
         } else {
             None
         }
     }
 
     fn push(&mut self, item: T) {
-        self.slots[(self.start + self.len) % FIFO_SIZE] = item;
+        self.slots[(self.start + self.len) % FIFO] = item;
         self.len += 1;
     }
 
@@ -74,8 +125,8 @@ impl<T: Copy> Fifo<T> for FixedFifo<T> {
         if self.len == 0 {
             return None;
         }
-        let front = self.slots[self.start % FIFO_SIZE];
-        self.start = (self.start + 1) % FIFO_SIZE;
+        let front = self.slots[self.start % FIFO];
+        self.start = (self.start + 1) % FIFO;
         self.len -= 1;
         Some(front)
     }

@@ -3,7 +3,7 @@
 mod snapshot;
 
 use crate::errors::{ChipError, InputError};
-use crate::fixed::{FixedFifo, FixedWire, NoMarks, WIRE_ROOM};
+use crate::fixed::{FixedFifo, FixedWire, NoMarks, WIRE_ROOM, is_size};
 use bitflags::Flags;
 use uart_chip::controlling::{ChipParts, cut};
 use uart_chip::receiving::{ReceiverParts, take_front};
@@ -11,11 +11,18 @@ use uart_chip::transmitting::TransmitterParts;
 use uart_chip::{Character, NoCapabilities, Origin, Uart, room_of};
 use uart_events::{Chip, MAX_CHAR_TICKS};
 use uart_spec::registers::{IER, LCR, LSR, MSR, offsets};
+use uart_spec::{FIFO_SIZE, FifoSize};
 
 // A chip all of whose memory is in arrays, without a schedule. So no call can be refused memory.
 // The wire has room for 64 bytes, as in the library for C: its owner takes them after each `ticks`.
 // It is a 16550A or a 16450, which have neither automatic flow control nor a switch of their size.
-type LiveUart = Uart<FixedFifo<u8>, FixedWire, FixedFifo<Character>, NoMarks, NoCapabilities>;
+type LiveUart<const FIFO: usize> = Uart<
+    FixedFifo<u8, FIFO>,
+    FixedWire,
+    FixedFifo<Character, FIFO>,
+    NoMarks,
+    NoCapabilities,
+>;
 
 /// A serial chip in software whose owner lets time pass, passes characters to it, and takes the
 /// bytes that it sends.
@@ -27,6 +34,10 @@ type LiveUart = Uart<FixedFifo<u8>, FixedWire, FixedFifo<Character>, NoMarks, No
 ///
 /// No call allocates memory, and none blocks. The chip keeps no record of what was sent and
 /// received, so it can run without end.
+///
+/// Each of its FIFOs holds `FIFO` characters: 16, 32, 64, 128 or 256. A [`LiveChip`] has 16. A
+/// guest finds no other number in a register of the chip: whoever makes the machine tells it, as by
+/// `fifo-size` of a device tree.
 ///
 /// # Examples
 ///
@@ -41,13 +52,18 @@ type LiveUart = Uart<FixedFifo<u8>, FixedWire, FixedFifo<Character>, NoMarks, No
 /// chip.take_wire(sent);
 /// # Ok(()) }
 /// ```
-pub struct LiveChip {
-    uart: LiveUart,
+pub struct LiveChipWith<const FIFO: usize> {
+    uart: LiveUart<FIFO>,
 }
 
+/// A [`LiveChipWith`] FIFOs of 16 characters, as those of a 16550A. Nearly everybody wants this.
+pub type LiveChip = LiveChipWith<FIFO_SIZE>;
+
 // Returns why no chip is made.
-fn refusal(char_ticks: u16, wire_capacity: usize) -> Option<ChipError> {
-    if char_ticks == 0 || char_ticks > MAX_CHAR_TICKS {
+fn refusal(characters: usize, char_ticks: u16, wire_capacity: usize) -> Option<ChipError> {
+    if !is_size(characters) {
+        Some(ChipError::BadFifo)
+    } else if char_ticks == 0 || char_ticks > MAX_CHAR_TICKS {
         Some(ChipError::BadTicks)
     } else if wire_capacity > WIRE_ROOM {
         Some(ChipError::BadWire)
@@ -58,7 +74,7 @@ fn refusal(char_ticks: u16, wire_capacity: usize) -> Option<ChipError> {
 
 // There is no `new_cut`. An owner who wants characters cut makes a chip, sets `cuts` of its data,
 // and restores it: data are sound with either value.
-impl LiveChip {
+impl<const FIFO: usize> LiveChipWith<FIFO> {
     /// Returns a chip after power-on.
     ///
     /// A character takes `char_ticks` ticks in the shift register, and the wire has room for
@@ -69,6 +85,7 @@ impl LiveChip {
     ///
     /// The first of these:
     ///
+    /// - `BadFifo` if `FIFO` is none of 16, 32, 64, 128 and 256. A [`LiveChip`] has 16.
     /// - `BadTicks` if `char_ticks` is 0 or more than 1000.
     /// - `BadWire` if `wire_capacity` is more than 64.
     ///
@@ -84,24 +101,26 @@ impl LiveChip {
     ///
     /// # Proved
     ///
-    /// - *built*: if it returns `Ok live`: `live` is [`fresh`](uart_chip::proved::chip#fresh) `chip char_ticks wire_capacity 0`: a chip after power-on, whose FIFOs hold 16 characters, for a schedule with this number of arrivals.
-    /// - *refused*: for each `reason`: if `refusal char_ticks wire_capacity ≡ Some reason`: returns `Err reason`.
-    ///   - [`refusal`](crate::proved::refused#refusal): why no chip is made, if none is: the ticks of a character are not in their range, or else the wire has room for too much.
-    /// - *accepted*: if `refusal char_ticks wire_capacity ≡ None`: returns `Ok`.
+    /// - *built*: if it returns `Ok live`: `live` is [`with_size`](uart_chip::proved::chip#with_size) `(fifo_size FIFO) (spec.fresh chip char_ticks wire_capacity 0)`: the same chip, with FIFOs of this size; a 16450 has none, and nothing that it does depends on their size.
+    ///   - [`fifo_size`](crate::proved::size#fifo_size): the size of FIFOs that hold so many characters; a number that is no size counts as 16.
+    ///   - [`fresh`](uart_chip::proved::chip#fresh): a chip after power-on, whose FIFOs hold 16 characters, for a schedule with this number of arrivals.
+    /// - *refused*: for each `reason`: if `refusal FIFO char_ticks wire_capacity ≡ Some reason`: returns `Err reason`.
+    ///   - [`refusal`](crate::proved::refused#refusal): why no chip is made, if none is: no FIFO holds so many characters, or else the ticks of a character are not in their range, or else the wire has room for too much.
+    /// - *accepted*: if `refusal FIFO char_ticks wire_capacity ≡ None`: returns `Ok`.
     ///
     /// <details><summary>The clauses</summary>
     ///
     /// [How to read them](uart_spec::proved):
     ///
     /// ```text
-    /// ensures built { IfOk result (λ live. live ≡ spec.fresh chip char_ticks wire_capacity 0) }
-    /// ensures refused { (reason : ChipError) → refusal char_ticks wire_capacity ≡ Some reason → result ≡ Err reason }
-    /// ensures accepted { refusal char_ticks wire_capacity ≡ None → IsOk result }
+    /// ensures built { IfOk result (λ live. live ≡ spec.with_size (fifo_size FIFO) (spec.fresh chip char_ticks wire_capacity 0)) }
+    /// ensures refused { (reason : ChipError) → refusal FIFO char_ticks wire_capacity ≡ Some reason → result ≡ Err reason }
+    /// ensures accepted { refusal FIFO char_ticks wire_capacity ≡ None → IsOk result }
     /// ```
     ///
     /// </details>
     pub fn new(chip: Chip, char_ticks: u16, wire_capacity: usize) -> Result<Self, ChipError> {
-        if let Some(reason) = refusal(char_ticks, wire_capacity) {
+        if let Some(reason) = refusal(FIFO, char_ticks, wire_capacity) {
             return Err(reason);
         }
         let uart = Uart::with_parts(
@@ -221,7 +240,8 @@ impl LiveChip {
     /// # Proved
     ///
     /// - *sends*: returns [`sends_at_once`](uart_chip::proved::sending#sends_at_once) `self.now`: a byte that is written to DATA would be on the wire at once: DLAB and loopback are off, the transmitter is not held off and holds nothing, and the wire has room.
-    /// - *live*: [`IsLive`](crate::proved::live#IsLive) `self.now`: the chip is sound and has nothing of a schedule: no event is to come, no arrival has a mark, none can be lost unnoticed; the wire has room for at most as much as a wire may have, the FIFOs hold 16 characters and have no switch of their size, and flow control is left to the driver.
+    /// - *live*: [`IsLive`](crate::proved::live#IsLive) `(fifo_size FIFO) self.now`: the chip is sound and has nothing of a schedule: no event is to come, no arrival has a mark, none can be lost unnoticed; the wire has room for at most as much as a wire may have, the FIFOs have this size and no switch of it, and flow control is left to the driver.
+    ///   - [`fifo_size`](crate::proved::size#fifo_size): the size of FIFOs that hold so many characters; a number that is no size counts as 16.
     ///
     /// <details><summary>The clauses</summary>
     ///
@@ -229,7 +249,7 @@ impl LiveChip {
     ///
     /// ```text
     /// ensures sends { result ≡ sending_spec.sends_at_once self.now }
-    /// ensures live { IsLive self.now }
+    /// ensures live { IsLive (fifo_size FIFO) self.now }
     /// ```
     ///
     /// </details>
@@ -297,7 +317,8 @@ impl LiveChip {
     /// - *after*: for each `value`: if it returns `true`, and `self.old.transmitter.wire ≡ []`: `self` becomes [`take_wire`](uart_chip::proved::chip#take_wire) `1 (sending_spec.send_at_once value self.old)`: a number of bytes are taken from the front of the wire.
     ///   - [`send_at_once`](uart_chip::proved::sending#send_at_once): the byte, cut to the word length, is on the wire, and THR became empty, which is an interrupt; no time passed.
     /// - *left*: if it returns `false`: nothing changes.
-    /// - *live*: [`IsLive`](crate::proved::live#IsLive) `self.old`: the chip is sound and has nothing of a schedule: no event is to come, no arrival has a mark, none can be lost unnoticed; the wire has room for at most as much as a wire may have, the FIFOs hold 16 characters and have no switch of their size, and flow control is left to the driver.
+    /// - *live*: [`IsLive`](crate::proved::live#IsLive) `(fifo_size FIFO) self.old`: the chip is sound and has nothing of a schedule: no event is to come, no arrival has a mark, none can be lost unnoticed; the wire has room for at most as much as a wire may have, the FIFOs have this size and no switch of it, and flow control is left to the driver.
+    ///   - [`fifo_size`](crate::proved::size#fifo_size): the size of FIFOs that hold so many characters; a number that is no size counts as 16.
     ///
     /// <details><summary>The clauses</summary>
     ///
@@ -308,7 +329,7 @@ impl LiveChip {
     /// ensures passed { result ≡ true → self.new ≡ passed self.old }
     /// ensures after { (value : ℕ) → result ≡ true → self.old.transmitter.wire ≡ [] → self.new ≡ spec.take_wire 1 (sending_spec.send_at_once value self.old) }
     /// ensures left { result ≡ false → self.new ≡ self.old }
-    /// ensures live { IsLive self.old }
+    /// ensures live { IsLive (fifo_size FIFO) self.old }
     /// ```
     ///
     /// </details>
@@ -382,7 +403,7 @@ impl LiveChip {
     /// Receives a byte without errors, if there is room for it. Returns whether there is. If not,
     /// nothing changes.
     ///
-    /// The effect is that of [`LiveChip::arrive`]. Most input is of this kind.
+    /// The effect is that of [`LiveChipWith::arrive`]. Most input is of this kind.
     ///
     /// # Proved
     ///
@@ -427,7 +448,8 @@ impl LiveChip {
     /// # Proved
     ///
     /// - *on*: returns `not (self.now.latches.ier == 0)`.
-    /// - *live*: [`IsLive`](crate::proved::live#IsLive) `self.now`: the chip is sound and has nothing of a schedule: no event is to come, no arrival has a mark, none can be lost unnoticed; the wire has room for at most as much as a wire may have, the FIFOs hold 16 characters and have no switch of their size, and flow control is left to the driver.
+    /// - *live*: [`IsLive`](crate::proved::live#IsLive) `(fifo_size FIFO) self.now`: the chip is sound and has nothing of a schedule: no event is to come, no arrival has a mark, none can be lost unnoticed; the wire has room for at most as much as a wire may have, the FIFOs have this size and no switch of it, and flow control is left to the driver.
+    ///   - [`fifo_size`](crate::proved::size#fifo_size): the size of FIFOs that hold so many characters; a number that is no size counts as 16.
     ///
     /// <details><summary>The clauses</summary>
     ///
@@ -435,7 +457,7 @@ impl LiveChip {
     ///
     /// ```text
     /// ensures on { result ≡ not (self.now.latches.ier == 0) }
-    /// ensures live { IsLive self.now }
+    /// ensures live { IsLive (fifo_size FIFO) self.now }
     /// ```
     ///
     /// </details>
@@ -449,7 +471,8 @@ impl LiveChip {
     /// # Proved
     ///
     /// - *on*: returns [`has_any`](uart_spec::proved::bits#has_any) `self.now.latches.ier IER.DATA_READY.0`: the value has at least one of these bits.
-    /// - *live*: [`IsLive`](crate::proved::live#IsLive) `self.now`: the chip is sound and has nothing of a schedule: no event is to come, no arrival has a mark, none can be lost unnoticed; the wire has room for at most as much as a wire may have, the FIFOs hold 16 characters and have no switch of their size, and flow control is left to the driver.
+    /// - *live*: [`IsLive`](crate::proved::live#IsLive) `(fifo_size FIFO) self.now`: the chip is sound and has nothing of a schedule: no event is to come, no arrival has a mark, none can be lost unnoticed; the wire has room for at most as much as a wire may have, the FIFOs have this size and no switch of it, and flow control is left to the driver.
+    ///   - [`fifo_size`](crate::proved::size#fifo_size): the size of FIFOs that hold so many characters; a number that is no size counts as 16.
     ///
     /// <details><summary>The clauses</summary>
     ///
@@ -457,7 +480,7 @@ impl LiveChip {
     ///
     /// ```text
     /// ensures on { result ≡ has_any self.now.latches.ier IER.DATA_READY.0 }
-    /// ensures live { IsLive self.now }
+    /// ensures live { IsLive (fifo_size FIFO) self.now }
     /// ```
     ///
     /// </details>
@@ -466,13 +489,14 @@ impl LiveChip {
         self.uart.ier().intersects(IER::DATA_READY)
     }
 
-    /// Reads DATA for the guest, as [`LiveChip::read`] does.
+    /// Reads DATA for the guest, as [`LiveChipWith::read`] does.
     ///
     /// # Proved
     ///
     /// - *answers*: returns [`answer`](uart_chip::proved::chip#answer) `offsets.DATA self.old`: what a read of the register returns.
     /// - *after*: `self` becomes [`after_read`](uart_chip::proved::chip#after_read) `offsets.DATA self.old`: the chip after a read of the register.
-    /// - *live*: [`IsLive`](crate::proved::live#IsLive) `self.old`: the chip is sound and has nothing of a schedule: no event is to come, no arrival has a mark, none can be lost unnoticed; the wire has room for at most as much as a wire may have, the FIFOs hold 16 characters and have no switch of their size, and flow control is left to the driver.
+    /// - *live*: [`IsLive`](crate::proved::live#IsLive) `(fifo_size FIFO) self.old`: the chip is sound and has nothing of a schedule: no event is to come, no arrival has a mark, none can be lost unnoticed; the wire has room for at most as much as a wire may have, the FIFOs have this size and no switch of it, and flow control is left to the driver.
+    ///   - [`fifo_size`](crate::proved::size#fifo_size): the size of FIFOs that hold so many characters; a number that is no size counts as 16.
     ///
     /// <details><summary>The clauses</summary>
     ///
@@ -481,7 +505,7 @@ impl LiveChip {
     /// ```text
     /// ensures answers { result ≡ spec.answer offsets.DATA self.old }
     /// ensures after { self.new ≡ spec.after_read offsets.DATA self.old }
-    /// ensures live { IsLive self.old }
+    /// ensures live { IsLive (fifo_size FIFO) self.old }
     /// ```
     ///
     /// </details>
@@ -496,15 +520,16 @@ impl LiveChip {
     /// Reads LSR for the guest, if it shows no error and no character that waits has one. Otherwise
     /// returns `None`, and nothing changes.
     ///
-    /// The value and the effect are those of [`LiveChip::read`]. A guest that waits makes this read
-    /// again and again.
+    /// The value and the effect are those of [`LiveChipWith::read`]. A guest that waits makes this
+    /// read again and again.
     ///
     /// # Proved
     ///
     /// - *value*: returns [`clear_status`](crate::proved::quick#clear_status) `self.old`: what a read of LSR returns, if it shows no error and no character that waits has one.
     /// - *read*: if it returns `Some`: `self` becomes [`after_read`](uart_chip::proved::chip#after_read) `offsets.LSR self.old`: the chip after a read of the register.
     /// - *left*: if it returns `None`: nothing changes.
-    /// - *live*: [`IsLive`](crate::proved::live#IsLive) `self.old`: the chip is sound and has nothing of a schedule: no event is to come, no arrival has a mark, none can be lost unnoticed; the wire has room for at most as much as a wire may have, the FIFOs hold 16 characters and have no switch of their size, and flow control is left to the driver.
+    /// - *live*: [`IsLive`](crate::proved::live#IsLive) `(fifo_size FIFO) self.old`: the chip is sound and has nothing of a schedule: no event is to come, no arrival has a mark, none can be lost unnoticed; the wire has room for at most as much as a wire may have, the FIFOs have this size and no switch of it, and flow control is left to the driver.
+    ///   - [`fifo_size`](crate::proved::size#fifo_size): the size of FIFOs that hold so many characters; a number that is no size counts as 16.
     ///
     /// <details><summary>The clauses</summary>
     ///
@@ -514,7 +539,7 @@ impl LiveChip {
     /// ensures value { result ≡ clear_status self.old }
     /// ensures read { is_some result ≡ true → self.new ≡ spec.after_read offsets.LSR self.old }
     /// ensures left { is_some result ≡ false → self.new ≡ self.old }
-    /// ensures live { IsLive self.old }
+    /// ensures live { IsLive (fifo_size FIFO) self.old }
     /// ```
     ///
     /// </details>
@@ -536,8 +561,8 @@ impl LiveChip {
         Some(status.bits())
     }
 
-    /// Lets `count` ticks pass. Returns the number of jumps that this took, which is at most 18,
-    /// whatever `count` is.
+    /// Lets `count` ticks pass. Returns the number of jumps that this took, which is at most two
+    /// more than a FIFO holds characters, whatever `count` is: 18 with FIFOs of 16.
     ///
     /// A jump ends at the tick in which a character enters or leaves the shift register, or takes
     /// all ticks that are left.
@@ -558,8 +583,9 @@ impl LiveChip {
     ///
     /// - *after*: `self` becomes [`ticks`](uart_chip::proved::chip#ticks) `count self.old`: the chip after so many ticks.
     /// - *jumps*: returns [`jumps_in`](uart_chip::proved::jumps#jumps_in) `count self.old`: how many jumps so many ticks are: each ends with a tick in which a character moves, and the last one with the last tick.
-    /// - *most*: `result ≤ most_jumps Sixteen`.
+    /// - *most*: `result ≤ most_jumps (fifo_size FIFO)`.
     ///   - [`most_jumps`](uart_chip::proved::jumps#most_jumps): the most jumps that any number of ticks takes with a FIFO of this size, which are 18 with one of 16: one for each character in the queue, and for the one that enters or leaves the shift register, and one for what is left.
+    ///   - [`fifo_size`](crate::proved::size#fifo_size): the size of FIFOs that hold so many characters; a number that is no size counts as 16.
     ///
     /// <details><summary>The clauses</summary>
     ///
@@ -568,7 +594,7 @@ impl LiveChip {
     /// ```text
     /// ensures after { self.new ≡ spec.ticks count self.old }
     /// ensures jumps { result ≡ jumps_in count self.old }
-    /// ensures most { result ≤ most_jumps Sixteen }
+    /// ensures most { result ≤ most_jumps (fifo_size FIFO) }
     /// ```
     ///
     /// </details>
@@ -625,8 +651,8 @@ impl LiveChip {
         Ok(())
     }
 
-    /// Receives a character as [`LiveChip::arrive`] does, but a reception timeout that is due stays
-    /// due.
+    /// Receives a character as [`LiveChipWith::arrive`] does, but a reception timeout that is due
+    /// stays due.
     ///
     /// It then stays due until the guest reads DATA, or writes FCR so that the FIFO is emptied, or
     /// a character comes back in loopback. Only ISR and `is_interrupting` show the difference.
@@ -743,7 +769,8 @@ impl LiveChip {
     /// - *shown*: returns `not (has_any (spec.answer offsets.ISR self.now) ISR.INTERRUPT_STATUS.0)`.
     ///   - [`has_any`](uart_spec::proved::bits#has_any): the value has at least one of these bits.
     ///   - [`answer`](uart_chip::proved::chip#answer): what a read of the register returns.
-    /// - *live*: [`IsLive`](crate::proved::live#IsLive) `self.now`: the chip is sound and has nothing of a schedule: no event is to come, no arrival has a mark, none can be lost unnoticed; the wire has room for at most as much as a wire may have, the FIFOs hold 16 characters and have no switch of their size, and flow control is left to the driver.
+    /// - *live*: [`IsLive`](crate::proved::live#IsLive) `(fifo_size FIFO) self.now`: the chip is sound and has nothing of a schedule: no event is to come, no arrival has a mark, none can be lost unnoticed; the wire has room for at most as much as a wire may have, the FIFOs have this size and no switch of it, and flow control is left to the driver.
+    ///   - [`fifo_size`](crate::proved::size#fifo_size): the size of FIFOs that hold so many characters; a number that is no size counts as 16.
     ///
     /// <details><summary>The clauses</summary>
     ///
@@ -752,7 +779,7 @@ impl LiveChip {
     /// ```text
     /// ensures pending { result ≡ is_some (spec.interrupt self.now) }
     /// ensures shown { result ≡ not (has_any (spec.answer offsets.ISR self.now) ISR.INTERRUPT_STATUS.0) }
-    /// ensures live { IsLive self.now }
+    /// ensures live { IsLive (fifo_size FIFO) self.now }
     /// ```
     ///
     /// </details>
@@ -827,7 +854,8 @@ impl LiveChip {
     /// # Proved
     ///
     /// - *room*: returns `self.now.transmitter.capacity - length self.now.transmitter.wire`.
-    /// - *live*: [`IsLive`](crate::proved::live#IsLive) `self.now`: the chip is sound and has nothing of a schedule: no event is to come, no arrival has a mark, none can be lost unnoticed; the wire has room for at most as much as a wire may have, the FIFOs hold 16 characters and have no switch of their size, and flow control is left to the driver.
+    /// - *live*: [`IsLive`](crate::proved::live#IsLive) `(fifo_size FIFO) self.now`: the chip is sound and has nothing of a schedule: no event is to come, no arrival has a mark, none can be lost unnoticed; the wire has room for at most as much as a wire may have, the FIFOs have this size and no switch of it, and flow control is left to the driver.
+    ///   - [`fifo_size`](crate::proved::size#fifo_size): the size of FIFOs that hold so many characters; a number that is no size counts as 16.
     ///
     /// <details><summary>The clauses</summary>
     ///
@@ -835,7 +863,7 @@ impl LiveChip {
     ///
     /// ```text
     /// ensures room { result ≡ self.now.transmitter.capacity - length self.now.transmitter.wire }
-    /// ensures live { IsLive self.now }
+    /// ensures live { IsLive (fifo_size FIFO) self.now }
     /// ```
     ///
     /// </details>
@@ -902,6 +930,30 @@ impl LiveChip {
     /// </details>
     pub fn is_breaking(&self) -> bool {
         self.uart.lcr().intersects(LCR::SET_BREAK)
+    }
+
+    /// Returns the size of the FIFOs, which is that of `FIFO` characters.
+    ///
+    /// # Proved
+    ///
+    /// - *size*: returns [`fifo_size`](crate::proved::size#fifo_size) `FIFO`: the size of FIFOs that hold so many characters; a number that is no size counts as 16.
+    /// - *transmitter*: returns `self.now.transmitter.size`.
+    /// - *live*: [`IsLive`](crate::proved::live#IsLive) `(fifo_size FIFO) self.now`: the chip is sound and has nothing of a schedule: no event is to come, no arrival has a mark, none can be lost unnoticed; the wire has room for at most as much as a wire may have, the FIFOs have this size and no switch of it, and flow control is left to the driver.
+    ///
+    /// <details><summary>The clauses</summary>
+    ///
+    /// [How to read them](uart_spec::proved):
+    ///
+    /// ```text
+    /// ensures size { result ≡ fifo_size FIFO }
+    /// ensures transmitter { result ≡ self.now.transmitter.size }
+    /// ensures live { IsLive (fifo_size FIFO) self.now }
+    /// ```
+    ///
+    /// </details>
+    #[inline]
+    pub fn fifo_size(&self) -> FifoSize {
+        self.uart.transmitter().size()
     }
 
     /// Returns whether the guest has the FIFOs on.

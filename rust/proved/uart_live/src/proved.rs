@@ -8,6 +8,43 @@ pub use uart_chip::proved as of_chip;
 #[doc(inline)]
 pub use uart_events::proved as of_events;
 
+/// The sizes that the FIFOs of a live chip can have.
+///
+/// From `crates/uart_live/specs/Size.antt`.
+///
+/// <span id="fifo_size"></span>
+///
+/// # `fifo_size`
+///
+/// The size of FIFOs that hold so many characters; a number that is no size counts as 16.
+///
+/// ```text
+/// unfoldable pub fifo_size : (count : ℕ) → FifoSize
+/// fifo_size count =
+///     if count == characters ThirtyTwo then ThirtyTwo
+///     else if count == characters SixtyFour then SixtyFour
+///     else if count == characters OneHundredTwentyEight then OneHundredTwentyEight
+///     else if count == characters TwoHundredFiftySix then TwoHundredFiftySix
+///     else Sixteen
+/// ```
+///
+/// It uses [`characters`](uart_spec::proved::fifo_size#characters).
+///
+/// <span id="is_size"></span>
+///
+/// # `is_size`
+///
+/// FIFOs of some size hold so many characters: 16, 32, 64, 128 or 256.
+///
+/// ```text
+/// abbrev pub is_size : (count : ℕ) → Bool
+/// is_size count = characters (fifo_size count) == count
+/// ```
+///
+/// It uses [`characters`](uart_spec::proved::fifo_size#characters), [`fifo_size`](crate::proved::size#fifo_size).
+#[doc(alias("fifo_size", "is_size"))]
+pub mod size {}
+
 /// What holds of every live chip, whatever its owner and the guest did with it.
 ///
 /// From `crates/uart_live/specs/Live.antt`.
@@ -16,15 +53,15 @@ pub use uart_events::proved as of_events;
 ///
 /// # `IsLive`
 ///
-/// The chip is sound and has nothing of a schedule: no event is to come, no arrival has a mark, none can be lost unnoticed; the wire has room for at most as much as a wire may have, the FIFOs hold 16 characters and have no switch of their size, and flow control is left to the driver.
+/// The chip is sound and has nothing of a schedule: no event is to come, no arrival has a mark, none can be lost unnoticed; the wire has room for at most as much as a wire may have, the FIFOs have this size and no switch of it, and flow control is left to the driver.
 ///
 /// ```text
-/// pub record IsLive (c : ChipState) : Type 0 where
+/// pub record IsLive (fifos : FifoSize) (c : ChipState) : Type 0 where
 ///   pub whole : IsWhole (record { chip = c; ahead = [] })
 ///   pub no_marks : length c.receiver.marks ≡ 0
 ///   pub none_lost : c.receiver.is_unscheduled_lost ≡ false
 ///   pub room : c.transmitter.capacity ≤ MAX_WIRE_CAPACITY
-///   pub size : c.transmitter.size ≡ Sixteen
+///   pub size : c.transmitter.size ≡ fifos
 ///   pub flow : c.auto_flow ≡ false
 ///   pub switch : c.has_size_switch ≡ false
 /// ```
@@ -65,7 +102,7 @@ pub mod live {}
 #[doc(alias("expire", "arrive_holding"))]
 pub mod held {}
 
-/// Whether data are those of a live chip. Their arrays hold 16 characters, so they are of chips whose FIFOs do.
+/// Whether data are those of a live chip with FIFOs of some size.
 ///
 /// From `crates/uart_live/specs/Saved.antt`.
 ///
@@ -154,15 +191,18 @@ pub mod saved {}
 ///
 /// # `refusal`
 ///
-/// Why no chip is made, if none is: the ticks of a character are not in their range, or else the wire has room for too much.
+/// Why no chip is made, if none is: no FIFO holds so many characters, or else the ticks of a character are not in their range, or else the wire has room for too much.
 ///
 /// ```text
-/// abbrev pub refusal : (char_ticks capacity : ℕ) → Option ChipError
-/// refusal char_ticks capacity =
-///     if not (nat_le 1 char_ticks && nat_le char_ticks MAX_CHAR_TICKS) then Some BadTicks
+/// abbrev pub refusal : (count char_ticks capacity : ℕ) → Option ChipError
+/// refusal count char_ticks capacity =
+///     if not (is_size count) then Some BadFifo
+///     else if not (nat_le 1 char_ticks && nat_le char_ticks MAX_CHAR_TICKS) then Some BadTicks
 ///     else if nat_lt WIRE_ROOM capacity then Some BadWire
 ///     else None
 /// ```
+///
+/// It uses [`is_size`](crate::proved::size#is_size).
 #[doc(alias("refusal"))]
 pub mod refused {}
 

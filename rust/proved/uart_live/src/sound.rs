@@ -1,4 +1,5 @@
-//! Whether data are those of a live chip: one test for each part of what holds of it.
+//! Whether data are those of a live chip with FIFOs of some size: one test for each part of what
+//! holds of it.
 //!
 //! Data are typed (a trigger level, an optional character in the shift register, registers), so
 //! that less of them can be wrong. The wire comes beside the data: its owner has it already.
@@ -48,8 +49,8 @@ fn are_live(characters: &[Character]) -> bool {
         .all(|character| is_live_character(character))
 }
 
-fn is_sound_receiver(saved: &ReceiverData, fifo: bool, char_ticks: u16) -> bool {
-    saved.queue.as_slice().len() <= room_of(fifo, FifoSize::Sixteen)
+fn is_sound_receiver(saved: &ReceiverData, size: FifoSize, fifo: bool, char_ticks: u16) -> bool {
+    saved.queue.as_slice().len() <= room_of(fifo, size)
         && are_live(saved.queue.as_slice())
         && saved.timeout_ticks as u32 <= TIMEOUT_CHARACTERS as u32 * char_ticks as u32
 }
@@ -96,10 +97,10 @@ pub fn is_char_time(char_ticks: u16) -> bool {
     1 <= char_ticks && char_ticks <= MAX_CHAR_TICKS
 }
 
-fn is_sound_transmitter(saved: &TransmitterData, fifo: bool, wire: &[u8]) -> bool {
+fn is_sound_transmitter(saved: &TransmitterData, size: FifoSize, fifo: bool, wire: &[u8]) -> bool {
     is_char_time(saved.char_ticks)
         && is_ticking(saved.char_ticks, saved.shift_register)
-        && saved.queue.as_slice().len() <= room_of(fifo, FifoSize::Sixteen)
+        && saved.queue.as_slice().len() <= room_of(fifo, size)
         && wire.len() <= saved.wire_capacity
         && saved.wire_capacity <= MAX_WIRE_CAPACITY
 }
@@ -171,32 +172,39 @@ pub fn is_implemented(model: Chip, fifo: bool) -> bool {
 }
 
 // Every part is sound.
-fn are_sound(saved: &ChipData, wire: &[u8]) -> bool {
+fn are_sound(size: FifoSize, saved: &ChipData, wire: &[u8]) -> bool {
     is_sound_latches(saved.latches)
         && is_implemented(saved.model, saved.fifo)
         && is_sound_modem(saved.modem)
-        && is_sound_receiver(&saved.receiver, saved.fifo, saved.transmitter.char_ticks)
-        && is_sound_transmitter(&saved.transmitter, saved.fifo, wire)
+        && is_sound_receiver(
+            &saved.receiver,
+            size,
+            saved.fifo,
+            saved.transmitter.char_ticks,
+        )
+        && is_sound_transmitter(&saved.transmitter, size, saved.fifo, wire)
 }
 
-/// Returns whether the data, and these bytes on the wire, are those of a live chip.
+/// Returns whether the data, and these bytes on the wire, are those of a live chip with FIFOs of
+/// this size.
 ///
 /// # Proved
 ///
-/// - *sound*: if it returns `true`: [`IsLive`](crate::proved::live#IsLive) `(chip_of saved.now wire.now)`: the chip is sound and has nothing of a schedule: no event is to come, no arrival has a mark, none can be lost unnoticed; the wire has room for at most as much as a wire may have, the FIFOs hold 16 characters and have no switch of their size, and flow control is left to the driver.
+/// - *sound*: if it returns `true`: [`IsLive`](crate::proved::live#IsLive) `size (with_size size (chip_of saved.now wire.now))`: the chip is sound and has nothing of a schedule: no event is to come, no arrival has a mark, none can be lost unnoticed; the wire has room for at most as much as a wire may have, the FIFOs have this size and no switch of it, and flow control is left to the driver.
+///   - [`with_size`](uart_chip::proved::chip#with_size): the same chip, with FIFOs of this size; a 16450 has none, and nothing that it does depends on their size.
 ///   - [`chip_of`](uart_chip::proved::snapshot#chip_of): the chip that these data describe, with these bytes on its wire and without a schedule; such a chip has no automatic flow control, and no switch of the size.
-/// - *unsound*: if it returns `false`: it is not so that [`IsLive`](crate::proved::live#IsLive) `(chip_of saved.now wire.now)`.
+/// - *unsound*: if it returns `false`: it is not so that [`IsLive`](crate::proved::live#IsLive) `size (with_size size (chip_of saved.now wire.now))`.
 ///
 /// <details><summary>The clauses</summary>
 ///
 /// [How to read them](uart_spec::proved):
 ///
 /// ```text
-/// ensures sound { result ≡ true → IsLive (chip_of saved.now wire.now) }
-/// ensures unsound { result ≡ false → IsLive (chip_of saved.now wire.now) → ⊥ }
+/// ensures sound { result ≡ true → IsLive size (with_size size (chip_of saved.now wire.now)) }
+/// ensures unsound { result ≡ false → IsLive size (with_size size (chip_of saved.now wire.now)) → ⊥ }
 /// ```
 ///
 /// </details>
-pub fn is_live(saved: &ChipData, wire: &[u8]) -> bool {
-    are_sound(saved, wire)
+pub fn is_live(size: FifoSize, saved: &ChipData, wire: &[u8]) -> bool {
+    are_sound(size, saved, wire)
 }

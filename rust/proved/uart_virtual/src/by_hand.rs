@@ -1,9 +1,9 @@
 //! How a port is shown.
 
-use crate::VirtualPort;
+use crate::VirtualPortWith;
 use core::fmt;
 
-impl fmt::Debug for VirtualPort {
+impl<const FIFO: usize> fmt::Debug for VirtualPortWith<FIFO> {
     fn fmt(&self, f: &mut fmt::Formatter<'_>) -> fmt::Result {
         f.debug_struct("VirtualPort")
             .field("level", &self.level())

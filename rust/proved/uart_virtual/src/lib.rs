@@ -19,8 +19,8 @@ mod told;
 
 pub use clock::Clock;
 pub use port::{
-    Answer, Received, Restored, VirtualPort, kind_of_read, kind_of_write, settle, settle_ticks,
-    tell,
+    Answer, Received, Restored, VirtualPort, VirtualPortWith, kind_of_read, kind_of_write, settle,
+    settle_ticks, tell,
 };
 pub use told::{Kind, Seen, Todo, Told};
 

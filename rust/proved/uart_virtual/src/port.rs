@@ -2,19 +2,20 @@
 
 mod snapshot;
 
-use crate::told::{Kind, REST_OF_A_FIFO, Seen, Todo, Told};
+use crate::told::{Kind, Seen, Todo, Told};
 use bitflags::Flags;
 pub use snapshot::Restored;
-use uart_live::{Chip, InputError, LiveChip, WIRE_ROOM};
+use uart_live::{Chip, ChipError, InputError, LiveChipWith, WIRE_ROOM};
 use uart_spec::registers::{LSR, MSR, offsets};
+use uart_spec::{FIFO_SIZE, FifoSize};
 
 // The ticks that a character takes.
 const CHAR_TICKS: u16 = 1;
 
-// The ticks that pass in each call: 17 for what a transmitter with a FIFO of 16 holds, 4 until a
-// reception timeout is due, and one. So time between calls would change nothing, and no guest waits
-// for a clock that its monitor does not have.
-const SETTLE_TICKS: u16 = 22;
+// The ticks that pass in each call, beside one for each character that a FIFO holds: one for the
+// character in the shift register, 4 until a reception timeout is due, and one. So time between
+// calls would change nothing, and no guest waits for a clock that its monitor does not have.
+const MORE_TICKS: u16 = 6;
 
 // A call of the host that brings something, and a port that is new, or restored.
 const INPUT: Kind = Kind {
@@ -50,6 +51,10 @@ const UNTOLD: Told = Told {
 /// and a character that waits interrupts a guest that has this enabled. No call allocates memory,
 /// and none blocks.
 ///
+/// Each FIFO of the port holds `FIFO` characters: 16, 32, 64, 128 or 256. A [`VirtualPort`] has 16.
+/// With larger ones a guest writes more bytes for each interrupt, if it is told so: no register of
+/// the chip shows it, but `fifo-size` of a device tree does.
+///
 /// # Examples
 ///
 /// ```
@@ -61,12 +66,15 @@ const UNTOLD: Told = Told {
 /// obey_signals(host, port.take_output(taken));
 /// # }
 /// ```
-pub struct VirtualPort {
+pub struct VirtualPortWith<const FIFO: usize> {
     // The output that the host has not taken is the chip's wire. A second queue would have to be
     // emptied into it, and a full one would have to hold the guest back as the full wire does.
-    chip: LiveChip,
+    chip: LiveChipWith<FIFO>,
     told: Told,
 }
+
+/// A [`VirtualPortWith`] FIFOs of 16 characters, as those of a 16550A. Nearly everybody wants this.
+pub type VirtualPort = VirtualPortWith<FIFO_SIZE>;
 
 /// What a read returns: the value for the guest, and what the monitor has to do.
 #[derive(Clone, Copy, Debug, PartialEq, Eq)]
@@ -139,36 +147,39 @@ pub fn kind_of_write(offset: u8) -> Kind {
     }
 }
 
-/// Returns the ticks that pass in each call.
+/// Returns the ticks that pass in each call of a port whose FIFOs have this size.
 ///
 /// # Proved
 ///
-/// - Returns [`settle_ticks`](crate::proved::port#settle_ticks): the ticks that pass in each call: 17 for what a transmitter with a FIFO of 16 holds, 4 until a reception timeout is due, and one.
+/// - Returns [`settle_ticks`](crate::proved::port#settle_ticks) `size`: the ticks that pass in each call, which are 22 with FIFOs of 16: one for each character that a FIFO of this size holds, and 6 more: one for the character in the shift register, 4 until a reception timeout is due, and one.
 ///
 /// <details><summary>The clauses</summary>
 ///
 /// [How to read them](uart_spec::proved):
 ///
 /// ```text
-/// ensures { result ≡ settle_ticks }
+/// ensures { result ≡ settle_ticks size }
 /// ```
 ///
 /// </details>
-pub fn settle_ticks() -> u16 {
-    SETTLE_TICKS
+#[inline]
+pub fn settle_ticks(size: FifoSize) -> u16 {
+    size.characters() as u16 + MORE_TICKS
 }
 
-/// Lets so much time pass that nothing is left to happen, if a character takes one tick: 22 ticks.
-/// Returns the number of jumps, which is at most 18.
+/// Lets so much time pass that nothing is left to happen, if a character takes one tick: 6 ticks
+/// more than a FIFO holds characters, which are 22 with FIFOs of 16. Returns the number of jumps,
+/// which is at most two more than a FIFO holds characters: 18 with FIFOs of 16.
 ///
-/// Each call of a [`VirtualPort`] does this once or not at all, and takes no other time. So what a
-/// guest can make its monitor do in a call has this bound.
+/// Each call of a [`VirtualPortWith`] does this once or not at all, and takes no other time. So
+/// what a guest can make its monitor do in a call has this bound.
 ///
 /// # Proved
 ///
 /// - *after*: `chip` becomes [`settle`](crate::proved::port#settle) `chip.old`: so much time passes that nothing is left to happen.
-/// - *most*: `result ≤ most_jumps Sixteen`.
+/// - *most*: `result ≤ most_jumps (fifo_size FIFO)`.
 ///   - [`most_jumps`](uart_chip::proved::jumps#most_jumps): the most jumps that any number of ticks takes with a FIFO of this size, which are 18 with one of 16: one for each character in the queue, and for the one that enters or leaves the shift register, and one for what is left.
+///   - [`fifo_size`](uart_live::proved::size#fifo_size): the size of FIFOs that hold so many characters; a number that is no size counts as 16.
 ///
 /// <details><summary>The clauses</summary>
 ///
@@ -176,12 +187,23 @@ pub fn settle_ticks() -> u16 {
 ///
 /// ```text
 /// ensures after { chip.new ≡ settle chip.old }
-/// ensures most { result ≤ most_jumps Sixteen }
+/// ensures most { result ≤ most_jumps (fifo_size FIFO) }
 /// ```
 ///
 /// </details>
-pub fn settle(chip: &mut LiveChip) -> usize {
-    chip.ticks(settle_ticks())
+pub fn settle<const FIFO: usize>(chip: &mut LiveChipWith<FIFO>) -> usize {
+    let count = settle_ticks(chip.fifo_size());
+    chip.ticks(count)
+}
+
+// Returns how many more characters than one a FIFO holds: none, if the guest has the FIFOs off.
+#[inline(always)]
+fn rest_of<const FIFO: usize>(chip: &LiveChipWith<FIFO>) -> u8 {
+    if chip.has_fifo_on() {
+        (chip.fifo_size().characters() - 1) as u8
+    } else {
+        0
+    }
 }
 
 // Returns how many more accesses of DATA the last signal covers.
@@ -189,13 +211,14 @@ pub fn settle(chip: &mut LiveChip) -> usize {
 // A burst of 16 bytes takes the line down 16 times. The first of them is signalled, which calls the
 // guest's handler again once it is done; 15 signals more would say nothing. But a guest that does
 // not look may have returned from its handler before any of them. So a signal covers others only
-// after a look, and no more than a FIFO has room for.
-fn spare_after(kind: Kind, signal: bool, fifo: bool, told: Told) -> u8 {
+// after a look, and no more than a FIFO has room for: `rest` says how many that are, with the one
+// access in which the signal is given.
+fn spare_after(kind: Kind, signal: bool, rest: u8, told: Told) -> u8 {
     if kind.looks {
         0
     } else if signal {
-        if kind.moves_data && (told.has_looked && fifo) {
-            REST_OF_A_FIFO
+        if kind.moves_data && told.has_looked {
+            rest
         } else {
             0
         }
@@ -268,7 +291,7 @@ pub fn tell(seen: Seen, was_up: bool, told: &mut Told, kind: Kind) -> Todo {
         line: level,
         has_room,
         has_looked: kind.looks || (told.has_looked && !signal),
-        spare: spare_after(kind, signal, seen.fifo, *told),
+        spare: spare_after(kind, signal, seen.rest, *told),
     };
     todo
 }
@@ -276,13 +299,19 @@ pub fn tell(seen: Seen, was_up: bool, told: &mut Told, kind: Kind) -> Todo {
 // Returns what is to be told after a call that leaves the line at this level, and notes that it
 // was told.
 #[inline(always)]
-fn decide_at(chip: &LiveChip, is_high: bool, was_up: bool, told: &mut Told, kind: Kind) -> Todo {
+fn decide_at<const FIFO: usize>(
+    chip: &LiveChipWith<FIFO>,
+    is_high: bool,
+    was_up: bool,
+    told: &mut Told,
+    kind: Kind,
+) -> Todo {
     let has_room = chip.receive_room() != 0;
     let seen = Seen {
         level: is_high,
         has_room,
         is_empty: chip.waiting_len() == 0,
-        fifo: chip.has_fifo_on(),
+        rest: rest_of(chip),
         ready: WIRE_ROOM - chip.wire_room(),
     };
     tell(seen, was_up, told, kind)
@@ -290,14 +319,19 @@ fn decide_at(chip: &LiveChip, is_high: bool, was_up: bool, told: &mut Told, kind
 
 // Returns what is to be told after a call, and notes that it was told.
 #[inline(always)]
-fn decide(chip: &LiveChip, was_up: bool, told: &mut Told, kind: Kind) -> Todo {
+fn decide<const FIFO: usize>(
+    chip: &LiveChipWith<FIFO>,
+    was_up: bool,
+    told: &mut Told,
+    kind: Kind,
+) -> Todo {
     let level = chip.is_interrupting();
     decide_at(chip, level, was_up, told, kind)
 }
 
 // Returns what is to be told after a call that leaves the line and the room as they were.
 #[inline(always)]
-fn nothing_new(chip: &LiveChip, told: Told) -> Todo {
+fn nothing_new<const FIFO: usize>(chip: &LiveChipWith<FIFO>, told: Told) -> Todo {
     Todo {
         signal: false,
         level: told.line,
@@ -309,7 +343,12 @@ fn nothing_new(chip: &LiveChip, told: Told) -> Todo {
 
 // Lets the time of a call pass, and returns what is to be told.
 #[inline(never)]
-fn finish(chip: &mut LiveChip, was_up: bool, told: &mut Told, kind: Kind) -> Todo {
+fn finish<const FIFO: usize>(
+    chip: &mut LiveChipWith<FIFO>,
+    was_up: bool,
+    told: &mut Told,
+    kind: Kind,
+) -> Todo {
     settle(chip);
     decide(chip, was_up, told, kind)
 }
@@ -317,7 +356,11 @@ fn finish(chip: &mut LiveChip, was_up: bool, told: &mut Told, kind: Kind) -> Tod
 // Does the same as `finish`, if no character can move in the transmitter. Then a reception timeout
 // is all that time brings.
 #[inline(always)]
-fn finish_unmoved(chip: &mut LiveChip, told: &mut Told, kind: Kind) -> Todo {
+fn finish_unmoved<const FIFO: usize>(
+    chip: &mut LiveChipWith<FIFO>,
+    told: &mut Told,
+    kind: Kind,
+) -> Todo {
     // If the line was down before the call, it does not matter here.
     let was_up = told.line && chip.is_interrupting();
     chip.expire_timeout();
@@ -326,7 +369,11 @@ fn finish_unmoved(chip: &mut LiveChip, told: &mut Told, kind: Kind) -> Todo {
 
 // Does the same as `finish_unmoved`, out of line: most reads are of LSR, and need none of it.
 #[inline(never)]
-fn finish_read(chip: &mut LiveChip, told: &mut Told, kind: Kind) -> Todo {
+fn finish_read<const FIFO: usize>(
+    chip: &mut LiveChipWith<FIFO>,
+    told: &mut Told,
+    kind: Kind,
+) -> Todo {
     finish_unmoved(chip, told, kind)
 }
 
@@ -344,7 +391,7 @@ fn is_quiet(offset: u8, value: u8) -> bool {
 
 // Reads a register, and lets the time of a call pass.
 #[inline]
-fn read(chip: &mut LiveChip, offset: u8, told: &mut Told) -> Answer {
+fn read<const FIFO: usize>(chip: &mut LiveChipWith<FIFO>, offset: u8, told: &mut Told) -> Answer {
     let value = chip.read(offset);
     if is_quiet(offset, value) {
         let todo = nothing_new(chip, *told);
@@ -362,14 +409,14 @@ fn ignores_falls(told: Told) -> bool {
 
 // Returns whether a write can be made by `send`: it is a byte that meets an idle transmitter, and
 // what is told does not depend on the level of the line in between.
-fn is_fast(chip: &LiveChip, offset: u8, told: Told) -> bool {
+fn is_fast<const FIFO: usize>(chip: &LiveChipWith<FIFO>, offset: u8, told: Told) -> bool {
     let sends = chip.sends_at_once();
     offset as usize == offsets::DATA && (sends && (!told.line || told.spare != 0))
 }
 
 // Does the same as `write_slowly` for a byte that can be sent at once.
 #[inline]
-fn send(chip: &mut LiveChip, value: u8, told: &mut Told) -> Todo {
+fn send<const FIFO: usize>(chip: &mut LiveChipWith<FIFO>, value: u8, told: &mut Told) -> Todo {
     let kind = kind_of_write(offsets::DATA as u8);
     chip.send_at_once(value);
     decide(chip, false, told, kind)
@@ -380,7 +427,7 @@ fn send(chip: &mut LiveChip, value: u8, told: &mut Told) -> Todo {
 //
 // A switch of the FIFOs empties the queue too, and the chip leaves the interrupt as it was then. A
 // guest that prints by interrupts would wait for ever.
-fn write_and_raise(chip: &mut LiveChip, offset: u8, value: u8) {
+fn write_and_raise<const FIFO: usize>(chip: &mut LiveChipWith<FIFO>, offset: u8, value: u8) {
     let held = chip.held_len();
     chip.write(offset, value);
     if offset as usize == offsets::FCR && chip.held_len() < held {
@@ -390,7 +437,12 @@ fn write_and_raise(chip: &mut LiveChip, offset: u8, value: u8) {
 
 // Writes a register and lets the time of a call pass.
 #[inline(never)]
-fn write_slowly(chip: &mut LiveChip, offset: u8, value: u8, told: &mut Told) -> Todo {
+fn write_slowly<const FIFO: usize>(
+    chip: &mut LiveChipWith<FIFO>,
+    offset: u8,
+    value: u8,
+    told: &mut Told,
+) -> Todo {
     write_and_raise(chip, offset, value);
     // What comes back in loopback takes the line down for four ticks if a timeout was due, and up
     // again. So there a line that is up before and after counts as one that fell.
@@ -400,7 +452,12 @@ fn write_slowly(chip: &mut LiveChip, offset: u8, value: u8, told: &mut Told) -> 
 
 // Does the same as `write_slowly`, by `send` where that can do it.
 #[inline]
-fn write(chip: &mut LiveChip, offset: u8, value: u8, told: &mut Told) -> Todo {
+fn write<const FIFO: usize>(
+    chip: &mut LiveChipWith<FIFO>,
+    offset: u8,
+    value: u8,
+    told: &mut Told,
+) -> Todo {
     if is_fast(chip, offset, *told) {
         send(chip, value, told)
     } else {
@@ -412,7 +469,7 @@ fn write(chip: &mut LiveChip, offset: u8, value: u8, told: &mut Told) -> Todo {
 // call pass. Only if the transmitter holds something, time has something to do, and something is
 // new.
 #[inline]
-fn take(chip: &mut LiveChip, count: usize, told: &mut Told) -> Todo {
+fn take<const FIFO: usize>(chip: &mut LiveChipWith<FIFO>, count: usize, told: &mut Told) -> Todo {
     let held = chip.held_len();
     chip.take_wire(count);
     if held == 0 {
@@ -424,13 +481,13 @@ fn take(chip: &mut LiveChip, count: usize, told: &mut Told) -> Todo {
 }
 
 // Receives these bytes, without errors.
-fn receive_all(chip: &mut LiveChip, input: &[u8]) {
+fn receive_all<const FIFO: usize>(chip: &mut LiveChipWith<FIFO>, input: &[u8]) {
     for byte in input {
         let _received = chip.arrive(*byte, LSR::empty());
     }
 }
 
-impl VirtualPort {
+impl VirtualPortWith<FIFO_SIZE> {
     /// Returns a port after power-on. The output has room for 64 bytes. No interrupt is enabled, so
     /// nothing is to be done.
     ///
@@ -446,26 +503,69 @@ impl VirtualPort {
     ///
     /// # Proved
     ///
-    /// - Returns [`fresh`](crate::proved::port#fresh) `chip`: a port after power-on: the time of a call passed.
+    /// - Returns [`fresh`](crate::proved::port#fresh) `Sixteen chip`: a port after power-on, with FIFOs of this size: the time of a call passed.
     ///
     /// <details><summary>The clauses</summary>
     ///
     /// [How to read them](uart_spec::proved):
     ///
     /// ```text
-    /// ensures { result ≡ port.fresh chip }
+    /// ensures { result ≡ port.fresh Sixteen chip }
     /// ```
     ///
     /// </details>
     pub fn new(chip: Chip) -> Self {
-        // A chip with this time and this wire is never refused: the contract of `LiveChip::new`
-        // says so, and the check proves it here. A `Result` would give each caller an error that
-        // never comes.
-        let mut chip = LiveChip::new(chip, CHAR_TICKS, WIRE_ROOM).unwrap();
+        // With FIFOs of 16 a port is never refused: the contract of `try_new` says so, and the
+        // check proves it here. A `Result` would give each caller an error that never comes.
+        Self::try_new(chip).unwrap()
+    }
+}
+
+impl<const FIFO: usize> VirtualPortWith<FIFO> {
+    /// Returns a port after power-on, whose FIFOs hold `FIFO` characters. The output has room for
+    /// 64 bytes, whatever that number is. No interrupt is enabled, so nothing is to be done.
+    ///
+    /// # Errors
+    ///
+    /// `BadFifo` if `FIFO` is none of 16, 32, 64, 128 and 256.
+    ///
+    /// # Examples
+    ///
+    /// ```
+    /// # include!(concat!(env!("CARGO_MANIFEST_DIR"), "/examples.rs"));
+    /// # fn main() {}
+    /// # fn example() -> Result<(), ChipError> {
+    /// let mut port = VirtualPortWith::<64>::try_new(Chip::Uart16550A)?;
+    /// # Ok(())
+    /// # }
+    /// ```
+    ///
+    /// # Proved
+    ///
+    /// - *made*: if it returns `Ok made`: `made` is [`fresh`](crate::proved::port#fresh) `(fifo_size FIFO) chip`: a port after power-on, with FIFOs of this size: the time of a call passed.
+    ///   - [`fifo_size`](uart_live::proved::size#fifo_size): the size of FIFOs that hold so many characters; a number that is no size counts as 16.
+    /// - *refused*: if `is_size FIFO ≡ false`: returns `Err ChipError.BadFifo`.
+    ///   - [`is_size`](uart_live::proved::size#is_size): FIFOs of some size hold so many characters: 16, 32, 64, 128 or 256.
+    /// - *accepted*: if `is_size FIFO ≡ true`: returns `Ok`.
+    ///
+    /// <details><summary>The clauses</summary>
+    ///
+    /// [How to read them](uart_spec::proved):
+    ///
+    /// ```text
+    /// ensures made { IfOk result (λ made. made ≡ port.fresh (fifo_size FIFO) chip) }
+    /// ensures refused { is_size FIFO ≡ false → result ≡ Err ChipError.BadFifo }
+    /// ensures accepted { is_size FIFO ≡ true → IsOk result }
+    /// ```
+    ///
+    /// </details>
+    pub fn try_new(chip: Chip) -> Result<Self, ChipError> {
+        // A chip with this time and this wire is refused for its FIFOs alone.
+        let mut chip = LiveChipWith::new(chip, CHAR_TICKS, WIRE_ROOM)?;
         // Nothing is in the chip that could move.
         let mut told = UNTOLD;
         let _todo = finish_unmoved(&mut chip, &mut told, RENEWED);
-        VirtualPort { chip, told }
+        Ok(VirtualPortWith { chip, told })
     }
 
     /// Reads the register at this offset for the guest. Returns its value, and what the monitor has
@@ -518,8 +618,8 @@ impl VirtualPort {
     /// Reads LSR for the guest, if it shows no error and no character that waits has one. Then the
     /// monitor has nothing to do. Otherwise returns `None`, and nothing changes.
     ///
-    /// The value and the effect are those of [`VirtualPort::read`]. A guest that waits makes this
-    /// read again and again.
+    /// The value and the effect are those of [`VirtualPortWith::read`]. A guest that waits makes
+    /// this read again and again.
     ///
     /// # Proved
     ///
@@ -558,7 +658,7 @@ impl VirtualPort {
     /// the monitor knows of room for input. Then it has nothing to do. Otherwise returns `None`,
     /// and nothing changes.
     ///
-    /// The value and the effect are those of [`VirtualPort::read`].
+    /// The value and the effect are those of [`VirtualPortWith::read`].
     ///
     /// # Proved
     ///
@@ -589,7 +689,7 @@ impl VirtualPort {
             return None;
         }
         let value = self.chip.read_data();
-        LiveChip::expire_timeout(&mut self.chip);
+        LiveChipWith::expire_timeout(&mut self.chip);
         Some(value)
     }
 
@@ -602,7 +702,7 @@ impl VirtualPort {
     /// Reads DATA for the guest, if one character waits. Returns its value, and what the monitor
     /// has to do. Otherwise returns `None`, and nothing changes.
     ///
-    /// The value, the effect and what has to be done are those of [`VirtualPort::read`].
+    /// The value, the effect and what has to be done are those of [`VirtualPortWith::read`].
     ///
     /// # Proved
     ///
@@ -635,7 +735,7 @@ impl VirtualPort {
         }
         let value = self.chip.read_data();
         let level = self.chip.is_interrupting();
-        LiveChip::expire_timeout(&mut self.chip);
+        LiveChipWith::expire_timeout(&mut self.chip);
         let kind = kind_of_read(offsets::DATA as u8);
         let todo = decide_at(&self.chip, level, level, &mut self.told, kind);
         Some(Answer { value, todo })
@@ -717,7 +817,7 @@ impl VirtualPort {
             level: self.chip.is_interrupting(),
             has_room: self.told.has_room,
             is_empty: false,
-            fifo: self.chip.has_fifo_on(),
+            rest: rest_of(&self.chip),
             ready: 0,
         };
         let kind = kind_of_write(offsets::DATA as u8);
@@ -774,7 +874,7 @@ impl VirtualPort {
     /// If that is not all, there is no room left. The first call after which nothing waits says in
     /// `has_room` that there is room, or one by which the guest makes room otherwise than by
     /// reading DATA. Offer the others again then, and not before. Without FIFO there is room for
-    /// one byte, with it for 16, and in loopback for none.
+    /// one byte, with it for `FIFO`, and in loopback for none.
     ///
     /// # Examples
     ///
@@ -824,7 +924,7 @@ impl VirtualPort {
     /// room for the byte. Then it has nothing to do. Otherwise returns `false`, and nothing
     /// changes.
     ///
-    /// The effect is that of [`VirtualPort::receive`].
+    /// The effect is that of [`VirtualPortWith::receive`].
     ///
     /// # Proved
     ///
@@ -855,7 +955,7 @@ impl VirtualPort {
         if !self.chip.arrive_in_room(byte) {
             return false;
         }
-        LiveChip::expire_timeout(&mut self.chip);
+        LiveChipWith::expire_timeout(&mut self.chip);
         self.told.has_room = self.chip.receive_room() != 0;
         true
     }
@@ -873,7 +973,7 @@ impl VirtualPort {
     /// enabled: if the monitor knows of room. Returns what the monitor has to do. Otherwise returns
     /// `None`, and nothing changes.
     ///
-    /// The effect and what has to be done are those of [`VirtualPort::receive`].
+    /// The effect and what has to be done are those of [`VirtualPortWith::receive`].
     ///
     /// # Proved
     ///
@@ -902,7 +1002,7 @@ impl VirtualPort {
             return None;
         }
         let _arrived = self.chip.arrive_in_room(byte);
-        LiveChip::expire_timeout(&mut self.chip);
+        LiveChipWith::expire_timeout(&mut self.chip);
         let todo = decide_at(&self.chip, true, true, &mut self.told, INPUT);
         Some(todo)
     }
@@ -1103,7 +1203,7 @@ impl VirtualPort {
     /// ```
     ///
     /// </details>
-    pub fn chip(&self) -> &LiveChip {
+    pub fn chip(&self) -> &LiveChipWith<FIFO> {
         &self.chip
     }
 

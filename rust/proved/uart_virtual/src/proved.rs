@@ -10,12 +10,14 @@
 ///
 /// # `settle_ticks`
 ///
-/// The ticks that pass in each call: 17 for what a transmitter with a FIFO of 16 holds, 4 until a reception timeout is due, and one.
+/// The ticks that pass in each call, which are 22 with FIFOs of 16: one for each character that a FIFO of this size holds, and 6 more: one for the character in the shift register, 4 until a reception timeout is due, and one.
 ///
 /// ```text
-/// unfoldable pub settle_ticks : ℕ
-/// settle_ticks = 22
+/// unfoldable pub settle_ticks : FifoSize → ℕ
+/// settle_ticks size = characters size + 6
 /// ```
+///
+/// It uses [`characters`](uart_spec::proved::fifo_size#characters).
 ///
 /// <span id="settle"></span>
 ///
@@ -25,7 +27,7 @@
 ///
 /// ```text
 /// abbrev pub settle : ChipState → ChipState
-/// settle c = ticks settle_ticks c
+/// settle c = ticks (settle_ticks c.transmitter.size) c
 /// ```
 ///
 /// It uses [`ticks`](uart_chip::proved::chip#ticks), [`settle_ticks`](crate::proved::port#settle_ticks); `ChipState` of `crates/uart_chip/specs/Chip.antt`.
@@ -70,7 +72,7 @@
 ///       line = seen.level;
 ///       has_room = room_after kind seen told;
 ///       has_looked = kind.looks || (told.has_looked && not signal);
-///       spare = spare_after kind signal seen.fifo told;
+///       spare = spare_after kind signal seen.rest told;
 ///     }
 /// ```
 ///
@@ -152,14 +154,14 @@
 ///
 /// # `fresh`
 ///
-/// A port after power-on: the time of a call passed.
+/// A port after power-on, with FIFOs of this size: the time of a call passed.
 ///
 /// ```text
-/// abbrev pub fresh : Chip → PortState
-/// fresh model = begun (settle (chip.fresh model 1 WIRE_ROOM 0))
+/// abbrev pub fresh : FifoSize → Chip → PortState
+/// fresh size model = begun (settle (with_size size (chip.fresh model 1 WIRE_ROOM 0)))
 /// ```
 ///
-/// It uses [`begun`](crate::proved::port#begun), [`settle`](crate::proved::port#settle), [`fresh`](uart_chip::proved::chip#fresh); `PortState` of this file.
+/// It uses [`begun`](crate::proved::port#begun), [`settle`](crate::proved::port#settle), [`with_size`](uart_chip::proved::chip#with_size), [`fresh`](uart_chip::proved::chip#fresh); `PortState` of this file.
 ///
 /// <span id="after"></span>
 ///
@@ -202,7 +204,7 @@
 ///   pub room : p.told.has_room ≡ (has_room p.chip && (p.told.has_room || is_empty p.chip))
 /// ```
 ///
-/// It uses [`is_up`](crate::proved::port#is_up); `PortState`, `has_room`, `is_empty` of this file.
+/// It uses [`is_up`](crate::proved::port#is_up); `PortState`, `has_room`, `is_empty` of this file; `room` of `crates/uart_chip/specs/Transmitter.antt`.
 ///
 /// <span id="IsStill"></span>
 ///
@@ -322,11 +324,11 @@
 ///
 /// # `IsSaved`
 ///
-/// These data, and these bytes of output, are those of a port: the chip is live, and nothing is left to happen.
+/// These data, and these bytes of output, are those of a port with FIFOs of 16: the chip is live, and nothing is left to happen.
 ///
 /// ```text
 /// pub record IsSaved (saved : ChipData) (output : List ℕ) : Type 0 where
-///   pub live : IsLive (chip_of saved output)
+///   pub live : IsLive Sixteen (chip_of saved output)
 ///   pub still : IsStill (chip_of saved output)
 /// ```
 ///

@@ -1,7 +1,5 @@
 //! What a monitor has to do after a call, and what a port keeps of what it told.
 
-use uart_spec::FIFO_SIZE;
-
 /// What a monitor has to do after a call.
 ///
 /// A monitor whose interrupt controller takes edges obeys `signal`, and one whose controller takes
@@ -20,10 +18,6 @@ pub struct Todo {
     /// How many bytes of output are ready. `output` returns them.
     pub ready: usize,
 }
-
-// How many more accesses of DATA a signal covers, if the guest has looked before it: with the one
-// in which it is given, as many as a FIFO has characters.
-pub const REST_OF_A_FIFO: u8 = FIFO_SIZE as u8 - 1;
 
 /// What a monitor was told, as far as the next call depends on it.
 #[derive(Clone, Copy, Debug, PartialEq, Eq)]
@@ -62,8 +56,9 @@ pub struct Seen {
     pub has_room: bool,
     /// No character waits.
     pub is_empty: bool,
-    /// The guest has the FIFOs on.
-    pub fifo: bool,
+    /// How many more characters than one a FIFO holds: 15 with FIFOs of 16. It is 0 if the guest
+    /// has the FIFOs off.
+    pub rest: u8,
     /// How many bytes of output are ready.
     pub ready: usize,
 }

@@ -7,17 +7,17 @@ use Rattle.uart_virtual.proofs.Sends.{settle-sent, same_told, same_todo}
 use Rattle.uart_virtual.proofs.port.send.Goals as goal
 
 pub returns-clause-after : goal.returns-clause-after
-returns-clause-after c =
+returns-clause-after g c =
     rw c.send_at_once.ensures
     (sym (settle-sent c.args.value c.args.chip.now c.requires.live.whole.sound.chip c.requires.still c.requires.sends).0)
 
 pub returns-clause-still : goal.returns-clause-still
-returns-clause-still c =
+returns-clause-still g c =
     rw c.send_at_once.ensures
     (settle-sent c.args.value c.args.chip.now c.requires.live.whole.sound.chip c.requires.still c.requires.sends).1
 
 pub returns-clause-told : goal.returns-clause-told
-returns-clause-told c =
+returns-clause-told g c =
     let old : ChipState = c.args.chip.now in
     let call : PortCall = Write offsets.DATA c.args.value in
     let d : ChipState = after_write offsets.DATA c.args.value old in
@@ -28,7 +28,7 @@ returns-clause-told c =
     same_told (kind_of call old) false (stays_up call d) (settle d) c.args.told.now c.requires.settled))
 
 pub returns-clause-todo : goal.returns-clause-todo
-returns-clause-todo c =
+returns-clause-todo g c =
     let old : ChipState = c.args.chip.now in
     let call : PortCall = Write offsets.DATA c.args.value in
     let d : ChipState = after_write offsets.DATA c.args.value old in

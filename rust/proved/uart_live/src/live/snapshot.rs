@@ -1,13 +1,15 @@
 //! A live chip as plain data, and back.
 
-use super::LiveChip;
+use super::LiveChipWith;
 use crate::errors::RestoreError;
 use crate::fixed::{FixedFifo, FixedWire, NoMarks, WIRE_ROOM};
 use crate::sound::is_live;
 use uart_chip::{Character, ChipData, Uart, send};
+use uart_spec::{FIFO_SIZE, FifoSize};
 
-impl LiveChip {
-    /// Returns the chip as plain data. The bytes on its wire are [`LiveChip::wire`].
+// The arrays of the data hold 16 characters.
+impl LiveChipWith<FIFO_SIZE> {
+    /// Returns the chip as plain data. The bytes on its wire are [`LiveChipWith::wire`].
     ///
     /// # Examples
     ///
@@ -24,7 +26,7 @@ impl LiveChip {
     ///
     /// - *data*: `chip_of result self.now.transmitter.wire ≡ self.now`.
     ///   - [`chip_of`](uart_chip::proved::snapshot#chip_of): the chip that these data describe, with these bytes on its wire and without a schedule; such a chip has no automatic flow control, and no switch of the size.
-    /// - *live*: [`IsLive`](crate::proved::live#IsLive) `self.now`: the chip is sound and has nothing of a schedule: no event is to come, no arrival has a mark, none can be lost unnoticed; the wire has room for at most as much as a wire may have, the FIFOs hold 16 characters and have no switch of their size, and flow control is left to the driver.
+    /// - *live*: [`IsLive`](crate::proved::live#IsLive) `Sixteen self.now`: the chip is sound and has nothing of a schedule: no event is to come, no arrival has a mark, none can be lost unnoticed; the wire has room for at most as much as a wire may have, the FIFOs have this size and no switch of it, and flow control is left to the driver.
     ///
     /// <details><summary>The clauses</summary>
     ///
@@ -32,7 +34,7 @@ impl LiveChip {
     ///
     /// ```text
     /// ensures data { chip_of result self.now.transmitter.wire ≡ self.now }
-    /// ensures live { IsLive self.now }
+    /// ensures live { IsLive Sixteen self.now }
     /// ```
     ///
     /// </details>
@@ -63,10 +65,10 @@ impl LiveChip {
     /// # Proved
     ///
     /// - *restored*: if it returns `Ok live`: `live` is [`chip_of`](uart_chip::proved::snapshot#chip_of) `saved.now wire.now`: the chip that these data describe, with these bytes on its wire and without a schedule; such a chip has no automatic flow control, and no switch of the size.
-    /// - *refused*: unless [`IsLive`](crate::proved::live#IsLive) `(chip_of saved.now wire.now)`: returns `Err RestoreError.BadData`.
-    ///   - [`IsLive`](crate::proved::live#IsLive): the chip is sound and has nothing of a schedule: no event is to come, no arrival has a mark, none can be lost unnoticed; the wire has room for at most as much as a wire may have, the FIFOs hold 16 characters and have no switch of their size, and flow control is left to the driver.
-    /// - *large*: if [`IsLive`](crate::proved::live#IsLive) `(chip_of saved.now wire.now)`, and `WIRE_ROOM < saved.now.transmitter.wire_capacity`: returns `Err RestoreError.BadWire`.
-    /// - *accepted*: if [`IsLive`](crate::proved::live#IsLive) `(chip_of saved.now wire.now)`, and `saved.now.transmitter.wire_capacity ≤ WIRE_ROOM`: returns `Ok`.
+    /// - *refused*: unless [`IsLive`](crate::proved::live#IsLive) `Sixteen (chip_of saved.now wire.now)`: returns `Err RestoreError.BadData`.
+    ///   - [`IsLive`](crate::proved::live#IsLive): the chip is sound and has nothing of a schedule: no event is to come, no arrival has a mark, none can be lost unnoticed; the wire has room for at most as much as a wire may have, the FIFOs have this size and no switch of it, and flow control is left to the driver.
+    /// - *large*: if [`IsLive`](crate::proved::live#IsLive) `Sixteen (chip_of saved.now wire.now)`, and `WIRE_ROOM < saved.now.transmitter.wire_capacity`: returns `Err RestoreError.BadWire`.
+    /// - *accepted*: if [`IsLive`](crate::proved::live#IsLive) `Sixteen (chip_of saved.now wire.now)`, and `saved.now.transmitter.wire_capacity ≤ WIRE_ROOM`: returns `Ok`.
     ///
     /// <details><summary>The clauses</summary>
     ///
@@ -74,14 +76,14 @@ impl LiveChip {
     ///
     /// ```text
     /// ensures restored { IfOk result (λ live. live ≡ chip_of saved.now wire.now) }
-    /// ensures refused { (IsLive (chip_of saved.now wire.now) → ⊥) → result ≡ Err RestoreError.BadData }
-    /// ensures large { IsLive (chip_of saved.now wire.now) → WIRE_ROOM < saved.now.transmitter.wire_capacity → result ≡ Err RestoreError.BadWire }
-    /// ensures accepted { IsLive (chip_of saved.now wire.now) → saved.now.transmitter.wire_capacity ≤ WIRE_ROOM → IsOk result }
+    /// ensures refused { (IsLive Sixteen (chip_of saved.now wire.now) → ⊥) → result ≡ Err RestoreError.BadData }
+    /// ensures large { IsLive Sixteen (chip_of saved.now wire.now) → WIRE_ROOM < saved.now.transmitter.wire_capacity → result ≡ Err RestoreError.BadWire }
+    /// ensures accepted { IsLive Sixteen (chip_of saved.now wire.now) → saved.now.transmitter.wire_capacity ≤ WIRE_ROOM → IsOk result }
     /// ```
     ///
     /// </details>
     pub fn from_data(saved: &ChipData, wire: &[u8]) -> Result<Self, RestoreError> {
-        if !is_live(saved, wire) {
+        if !is_live(FifoSize::Sixteen, saved, wire) {
             return Err(RestoreError::BadData);
         }
         if saved.transmitter.wire_capacity > WIRE_ROOM {

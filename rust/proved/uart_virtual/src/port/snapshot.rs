@@ -1,9 +1,10 @@
 //! A port as plain data, and back.
 
-use super::{CHAR_TICKS, RENEWED, UNTOLD, VirtualPort, decide};
+use super::{CHAR_TICKS, RENEWED, UNTOLD, VirtualPort, VirtualPortWith, decide};
 use crate::told::Todo;
 use bitflags::Flags;
 use uart_live::{ChipData, LiveChip, RestoreError, TransmitterData, WIRE_ROOM};
+use uart_spec::FIFO_SIZE;
 use uart_spec::registers::MCR;
 
 // The ticks after which a reception timeout is due: four characters, each of one tick.
@@ -35,8 +36,9 @@ fn is_settled(saved: &ChipData, output: &[u8]) -> bool {
         && is_unmoved(&saved.transmitter, loopback, output)
 }
 
-impl VirtualPort {
-    /// Returns the port as plain data. The bytes of its output are [`VirtualPort::output`].
+// The arrays of the data hold 16 characters.
+impl VirtualPortWith<FIFO_SIZE> {
+    /// Returns the port as plain data. The bytes of its output are [`VirtualPortWith::output`].
     ///
     /// What the monitor was told is not part of the data: a monitor that restores a port is told
     /// anew.
@@ -57,7 +59,7 @@ impl VirtualPort {
     ///
     /// - *data*: `chip_of result self.now.chip.transmitter.wire ≡ self.now.chip`.
     ///   - [`chip_of`](uart_chip::proved::snapshot#chip_of): the chip that these data describe, with these bytes on its wire and without a schedule; such a chip has no automatic flow control, and no switch of the size.
-    /// - *saved*: [`IsSaved`](crate::proved::port#IsSaved) `result self.now.chip.transmitter.wire`: these data, and these bytes of output, are those of a port: the chip is live, and nothing is left to happen.
+    /// - *saved*: [`IsSaved`](crate::proved::port#IsSaved) `result self.now.chip.transmitter.wire`: these data, and these bytes of output, are those of a port with FIFOs of 16: the chip is live, and nothing is left to happen.
     ///
     /// <details><summary>The clauses</summary>
     ///
@@ -106,7 +108,7 @@ impl VirtualPort {
     ///   - [`renewed`](crate::proved::port#renewed): a port that is new, or restored.
     ///   - [`untold`](crate::proved::port#untold): nothing was told yet.
     /// - *accepted*: if [`IsSaved`](crate::proved::port#IsSaved) `saved.now output.now`: returns `Ok`.
-    ///   - [`IsSaved`](crate::proved::port#IsSaved): these data, and these bytes of output, are those of a port: the chip is live, and nothing is left to happen.
+    ///   - [`IsSaved`](crate::proved::port#IsSaved): these data, and these bytes of output, are those of a port with FIFOs of 16: the chip is live, and nothing is left to happen.
     /// - *refused*: unless [`IsSaved`](crate::proved::port#IsSaved) `saved.now output.now`: returns `Err RestoreError.BadData`.
     ///
     /// <details><summary>The clauses</summary>
@@ -128,7 +130,7 @@ impl VirtualPort {
         let chip = LiveChip::from_data(saved, output)?;
         let mut told = UNTOLD;
         let todo = decide(&chip, true, &mut told, RENEWED);
-        let port = VirtualPort { chip, told };
+        let port = VirtualPortWith { chip, told };
         Ok(Restored { port, todo })
     }
 }

@@ -6,8 +6,8 @@ use Rattle.uart_live.proofs.fixed.FixedFifoFifo.push.Goals as goal
 pub returns-clause-items : goal.returns-clause-items
 returns-clause-items g c =
     let q = c.self.inside in
-    let length_old = length-window 16 q.start q.len q.slots c.self.invariant.0 c.self.invariant.1 c.self.invariant.2 in
+    let length_old = length-window g.row.FIFO q.start q.len q.slots c.self.invariant.0 c.self.invariant.1 c.self.invariant.2 in
     let same_length = ap length c.self.view_is in
-    let has_room : q.len < 16 = omega arith in
-    window_after_push 16 q.start q.len q.slots c.self.invariant.0 c.self.invariant.1 c.self.invariant.2 c.args.item has_room
+    let has_room : q.len < g.row.FIFO = omega arith in
+    window_after_push g.row.FIFO q.start q.len q.slots c.self.invariant.0 c.self.invariant.1 c.self.invariant.2 c.args.item has_room
     ∙ ap (λ xs. xs ++ c.args.item ∷ []) c.self.view_is

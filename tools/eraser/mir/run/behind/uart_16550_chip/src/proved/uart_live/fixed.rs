@@ -1,11 +1,11 @@
 
-impl<T: crate::run::Value> crate::run::Value for FixedFifo<T> {
+impl<T: crate::run::Value, const FIFO: usize> crate::run::Value for FixedFifo<T, FIFO> {
     fn show(&self, out: &mut ::std::vec::Vec<u64>) {
         out.extend([self.start as u64, self.len as u64]);
         self.slots.show(out);
     }
     fn make(choices: &mut crate::run::Choices) -> Self {
-        let (start, len) = (choices.pick(16) as usize, choices.pick(17) as usize);
+        let (start, len) = (choices.pick(FIFO as u64) as usize, choices.pick(FIFO as u64 + 1) as usize);
         Self { slots: crate::run::Value::make(choices), start, len }
     }
 }

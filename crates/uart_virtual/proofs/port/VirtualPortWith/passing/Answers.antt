@@ -1,0 +1,6 @@
+use Rattle.uart_virtual.proofs.Sizes.{within_port}
+use Rattle.uart_virtual.proofs.port.VirtualPortWith.passing.Goals as goal
+
+-- a port takes no more memory than there can be, and its chip less than the port
+pub cut-requires : goal.cut-requires
+cut-requires g c = within_port _ 9223372036854775808 (assumption c)
