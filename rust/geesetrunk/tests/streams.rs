@@ -24,11 +24,22 @@ fn started(program: &str, words: &[&str], stdout: Stdio) -> Child {
 // A script whose trace is longer than any pipe holds.
 const LONG: &[u8] = b"chip 16550a 4 64\nlimit 20000\ninit 14 9600 cts 00 8\nsend-exact 41\n";
 
-// The end of a pipe whose reader is gone.
+// The end of a pipe whose reader is gone. Another test that starts a program meanwhile copies the
+// reader, and keeps it until the program begins, which on a busy machine takes a while. So this waits
+// until a write finds nobody. The pipe has room for all these bytes.
 fn broken_pipe() -> Stdio {
-    let (reader, writer) = io::pipe().unwrap();
+    let (reader, mut writer) = io::pipe().unwrap();
     drop(reader);
-    writer.into()
+    for _ in 0..60_000 {
+        match writer.write(b"x") {
+            Ok(_) => thread::sleep(Duration::from_millis(1)),
+            Err(cause) => {
+                assert_eq!(cause.kind(), io::ErrorKind::BrokenPipe);
+                return writer.into();
+            }
+        }
+    }
+    panic!("another process keeps the reader")
 }
 
 #[test]

@@ -56,7 +56,9 @@ fn moved(com1: &Com1, terminal: UnixStream) -> io::Result<Com1> {
     Ok(moved)
 }
 
-const SOON: Duration = Duration::from_secs(10);
+// How long a wait lasts at most whose event is due at once. A busy machine may take any time, so this is only there so that an event
+// which never comes ends the test.
+const SOON: Duration = Duration::from_secs(600);
 
 #[test]
 fn a_person_and_a_guest_talk() {
