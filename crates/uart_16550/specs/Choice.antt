@@ -32,7 +32,10 @@ pub record PartAtRead (one other : List Access) : Type 0 where
 -- after it; or they part at a read: so what the reads have returned so far determines the next access
 abbrev pub LeavesNoChoice : {R : Type 0} → (R → Doing) → Type 0
 LeavesNoChoice {R} G = (f : Fields) (a b : R) (l m : List Access) (after after' : Fields) →
-    G a f l after → G b f m after' → ((a ≡ b) × (l ≡ m) × (after ≡ after')) ⊎ PartAtRead l m
+    -- the call may make the one list from these fields
+    G a f l after →
+    -- and the other
+    G b f m after' → ((a ≡ b) × (l ≡ m) × (after ≡ after')) ⊎ PartAtRead l m
 
 -- what the reads of a list returned, in order
 abbrev pub answers : List Access → List ℕ
@@ -49,7 +52,9 @@ IsAnsweredFrom stream accesses = (rest : List ℕ) × (stream ≡ answers access
 abbrev pub Agree : {R B C : Type 0} → (R → Doing) → (B → Access → B → Type 0) → (C → Access → C → Type 0) → Type 0
 Agree {R} {B} {C} G step other_step =
     (stream : List ℕ) (a b : R) (old new : Uart16550 B) (other_old other_new : Uart16550 C) →
-    (p : Did step (G a) old new) (q : Did other_step (G b) other_old other_new) → fields old ≡ fields other_old →
+    (p : Did step (G a) old new) (q : Did other_step (G b) other_old other_new) →
+    -- the two drivers have equal fields
+    fields old ≡ fields other_old →
     IsAnsweredFrom stream p.list → IsAnsweredFrom stream q.list →
     (a ≡ b) × (p.list ≡ q.list) × (fields new ≡ fields other_new)
 
@@ -60,7 +65,9 @@ abbrev pub AgreeSaving : {R B C : Type 0} → (R → Language) → (B → Access
     Type 0
 AgreeSaving {R} {B} {C} L step other_step =
     (stream : List ℕ) (a b : R) (old new : Uart16550 B) (other_old other_new : Uart16550 C) →
-    (p : Made step (L a) old new) (q : Made other_step (L b) other_old other_new) → fields old ≡ fields other_old →
+    (p : Made step (L a) old new) (q : Made other_step (L b) other_old other_new) →
+    -- the two drivers have equal fields
+    fields old ≡ fields other_old →
     IsAnsweredFrom stream p.list → IsAnsweredFrom stream q.list →
     (a ≡ b) × (p.list ≡ q.list) × (fields new ≡ fields other_new)
 

@@ -24,6 +24,9 @@ Writes bytes (Ok count) s l =
     ((length bytes ≡ 0) × (count ≡ 0) × (l ≡ [])) ⊎ ((0 < length bytes) × SendsSome bytes (Some count) s l)
 Writes bytes (Err e) s l = (0 < length bytes) × (e.done ≡ 0) × SendsSome bytes None s l
 
+-- proved: A reader's count is at most the number of slots, and 0 only if there are none; a writer's likewise.
+-- on: the traits `Read`, `Write`, `ReadReady`, `WriteReady`, and their implementations for `Uart16550`
+
 -- `flush`: a wait for an empty transmitter
 abbrev pub Flushes : {T : Type 0} → Result T StalledError → Language
 Flushes (Ok x) s l = WaitsFor LSR.TRANSMITTER_EMPTY.0 true s l

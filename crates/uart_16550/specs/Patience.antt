@@ -20,7 +20,9 @@ keeps_waiting (suc n) = true ∷ keeps_waiting n
 
 -- so many misses in a row, which are fewer than the limit, and then what was waited for
 abbrev pub After : ℕ → (miss hit : Language) → Language
-After n miss hit s l = (n < s.limit) × Then (Times n miss) hit s l
+After n miss hit s l =
+    -- there are fewer misses than the limit
+    (n < s.limit) × Then (Times n miss) hit s l
 
 -- a wait in vain, and the answers of the caller, which is asked once after each miss: there were as many misses in a
 -- row as the limit, or the answer after the last one was to wait no longer

@@ -30,6 +30,11 @@ pub record IsPortRefusal (port : ℕ) (e : InvalidAddressError) : Type 0 where
   pub is : e ≡ InvalidBaseAddress port
   pub beyond : last_port < port + offsets.SPR
 
+-- promise: I/O ports and memory are touched at base and offset alone
+-- with: PortStep.made, MemoryStep.made
+-- shown by: ports_are_reached_one_by_one, a_device_in_memory
+-- refused: ports_write_twice, memory_reads_the_first_register
+
 -- the object makes the access at the port base + offset, and the base does not change
 pub record PortStep {P : Type 0} (step : P → Access → P → Type 0) (old : Ports P) (access : Access)
     (new : Ports P) : Type 0 where

@@ -31,6 +31,13 @@ impl<P: PortAccess + Drop> Uart16550<PioBackend<P>> {
     /// uart.send_bytes_exact(b"hello")?;
     /// ```
     pub fn new_port(base_port: u16, access: P) -> Result<Self, InvalidAddressError>
+        // promise: an address is refused exactly if the device would not fit, the stride first
+        // with: new_port.refused, new_mmio.refused
+        // shown by: new_mmio_refuses_the_stride_first, new_port_refuses_ports_beyond_the_last
+        // refused: new_mmio_checks_the_base_first, new_mmio_takes_any_stride
+        // proved: An address is refused exactly if the last register would lie beyond the last port
+        //   or address, or if the stride is no power of two, which is checked first
+        // on: `new_port`, `new_mmio`, `new_mmio_from_address`
         ensures fresh { IfOk result (λ driver. IsFresh driver (backend_of driver) Config.DEFAULT) }
         ensures place { IfOk result (λ driver. IsAtPorts (backend_of driver) base_port access) }
         ensures refused { IfErr result (IsPortRefusal base_port) }

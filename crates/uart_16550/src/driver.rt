@@ -90,6 +90,9 @@ impl<B: Backend> Uart16550<B> {
     /// });
     /// ```
     pub fn new_with_backend(backend: B) -> Self
+        // proved: A new driver made no access. Settings and accessors make none
+        // on: `new_with_backend`, `backend`, `backend_mut`, `config`, `fifo_enabled`, `fifo_size`,
+        //   `set_fifo_size`, `spin_limit`, `set_spin_limit`; `laws::default_spin_limit_is_this`
         ensures { IsFresh result backend Config.DEFAULT }
     {
         Uart16550 {
@@ -208,6 +211,15 @@ impl<B: Backend> Uart16550<B> {
     /// uart.send_bytes_exact(bytes)?;
     /// ```
     pub fn set_fifo_size(&mut self, size: FifoSize)
+        // promise: a burst is as large as the FIFO by the size that is set, in all calls that send;
+        //   nothing but `set_fifo_size` changes the size, and that nothing else
+        // with: set_fifo_size, Made.size, burst_limit, write_burst.size
+        // shown by: the_size_that_is_set_is_that_of_each_burst
+        // refused: set_fifo_size_is_ignored, set_fifo_size_turns_the_fifo_on,
+        //   send_bytes_sends_sixteen_whatever_the_size, find_fifo_size_sets_what_it_found
+        // proved: The size of the FIFOs is stored, and nothing else: from then on each burst is as
+        //   large. No other call changes it
+        // on: `set_fifo_size`, `fifo_size`; `Made.size` of every call
         ensures { Did B.step (Sets (with_fifo_size size)) self.old self.new }
     {
         self.fifo_size = size;

@@ -26,6 +26,10 @@ use std::num::{NonZeroU8, NonZeroUsize};
 // If a call's language were too wide, the call would still be proved to keep to it, and nobody
 // would notice. This law is about the contracts alone: it is false if one of them leaves a choice.
 pub fn calls_leave_no_choice()
+    // promise: every access of a call is named, in order, with what the call returns for it
+    // with: calls_leave_no_choice.saving, calls_leave_no_choice.changing
+    // shown by: bytes_over_ff, bytes_over_00, calls_over_the_register_file
+    // refused: isr_reads_twice, ier_reads_isr
     ensures saving { (call : SavingCall) →
         LeavesNoChoice (λ outcome. Saving (SavingLists call outcome)) }
     ensures changing { (call : ChangingCall) → LeavesNoChoice (ChangingDoing call) }
@@ -34,6 +38,10 @@ pub fn calls_leave_no_choice()
 /// Two drivers with equal fields, each over its own backend, do the same in a call whose reads
 /// return the same.
 pub fn calls_agree<B: Backend, C: Backend>()
+    // promise: equal reads lead to the same call, and a replay repeats a call
+    // with: calls_agree, calls_have_one_outcome, replays_repeat_calls
+    // shown by: a_replay_shows_what_a_call_does, bytes_over_a_replay
+    // refused: uart_calls/replay_forgets_writes, uart_calls/replay_shows_a_part
     ensures saving { (call : SavingCall) → AgreeSaving (SavingLists call) B.step C.step }
     ensures changing { (call : ChangingCall) → Agree (ChangingDoing call) B.step C.step }
 {}

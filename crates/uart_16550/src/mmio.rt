@@ -67,6 +67,11 @@ impl<M: ByteAccess> MmioBackend<M> {
 
     /// Returns the address of the first register.
     pub fn base(&self) -> NonZeroUsize
+        // proved: An access touches exactly the port base + offset, or the address base + offset *
+        //   stride; `access()` returns the access object. Backends are compared by base, stride and
+        //   access object, in this order
+        // on: `Backend` of `PioBackend` and of `MmioBackend`; `base`, `stride`, `access`,
+        //   `access_mut`; `laws::backends_are_in_order`
         ensures value { result ≡ self.now.base }
         ensures in_range { IsMapping (non_zero_usize_get result) (non_zero_u8_get self.now.stride) }
     {

@@ -86,6 +86,13 @@ impl<B: Backend + Drop> Uart16550Tty<B> {
     /// let tty = Uart16550Tty::new_with_backend(device(), Config::DEFAULT)?;
     /// ```
     pub fn new_with_backend(backend: B, config: Config) -> Result<Self, Uart16550TtyError>
+        // promise: a terminal is set up, or refused for exactly its cause
+        // with: new_with_backend, new_port.refused
+        // shown by: terminals_are_set_up, terminals_are_refused_by_the_test
+        // refused: terminal_always_finds_no_device
+        // proved: A terminal is made by an `init` and then a loopback test on a new driver; each
+        //   refusal holds the cause and comes exactly if that call was refused
+        // on: `Uart16550Tty::new_with_backend`, `new_port`, `new_mmio`, `new_mmio_from_address`
         requires { IsComputable config }
         ensures { BuildsTerminal B.step backend config result }
     {
@@ -291,6 +298,17 @@ impl<B: Backend> Uart16550Tty<B> {
     /// assert_eq!(rt; terminal.write_text("\x7f"), Ok(()));
     /// ```
     pub fn write_text(&mut self, text: &str) -> Result<(), StalledError>
+        // promise: a terminal sends the expansion of a text, or as much of its beginning as a stall
+        //   tells
+        // with: write_text, write_raw_text, write_str.made
+        // shown by: texts_stall, a_line_ends_as_terminals_expect
+        // refused: delete_is_sent_as_it_is, write_raw_text_sends_seven_bits,
+        //   write_str_hides_a_stall
+        // proved: A terminal sends the expansion of a text, or as much of its beginning as a stall
+        //   reports: backspace and delete as backspace, space, backspace, and a line feed with a
+        //   carriage return before it
+        // on: `Uart16550Tty::write_text`, `write_raw_text`, `fmt::Write::write_str`; `from_inner`,
+        //   `inner`, `inner_mut`, `into_inner`
         ensures { TerminalMade B.step (SendsText text.now result) self.old self.new }
     {
         self.write_raw_text(text.as_bytes())

@@ -31,6 +31,7 @@ IsCanonicalWire w = (w.len ≤ WIRE_ROOM) × (w.capacity ≤ WIRE_ROOM)
 abbrev pub IsCanonicalTransmitter : UartTransmitter → Type 0
 IsCanonicalTransmitter t =
     IsFlag t.is_shifting × IsFlag t.is_thr_pending × IsCanonicalSize t.fifo_size ×
+    -- no more bytes are in the queue than the FIFO holds
     (t.queue.len ≤ characters (fifo_size_of t.fifo_size)) × IsCanonicalWire t.wire
 
 -- a flag of a character that waits too
@@ -40,7 +41,9 @@ IsCanonicalQueue size q = (q.len ≤ characters size) × All (λ character. IsFl
 -- the trigger is the number of characters of its level
 abbrev pub IsCanonicalReceiver : UartReceiver → Type 0
 IsCanonicalReceiver r =
-    IsFlag r.is_overrun × IsFlag r.is_front_reported × (r.trigger ≡ number_of (trigger_of r.trigger)) ×
+    IsFlag r.is_overrun × IsFlag r.is_front_reported ×
+    -- the trigger is the number of characters of its level
+    (r.trigger ≡ number_of (trigger_of r.trigger)) ×
     IsCanonicalSize r.fifo_size × IsCanonicalQueue (fifo_size_of r.fifo_size) r.queue
 
 -- the whole chip, but for bytes behind the end of a queue and those of an empty shift register

@@ -41,6 +41,7 @@ IsAccepted _ = Unit {0}
 abbrev pub MadeChipsAreSound : Type 0
 MadeChipsAreSound =
     (size : FifoSize) (model : Chip) (char_ticks wire_capacity : ℕ) (cuts : Bool) →
+    -- the number of ticks and the room of the wire are not refused
     new_status char_ticks wire_capacity ≡ UART_OK →
     IsLiveChip (record (with_size size (fresh model char_ticks wire_capacity 0)) { cuts = cuts })
 

@@ -39,6 +39,14 @@ pub extern "C" fn uart_clock_after_read(
     offset: u8,
     todo: &mut UartTodo,
 ) -> u8
+    // promise: a clock of C is one of the port
+    // with: uart_clock_after_read.todo, uart_clock_after_write.owed, uart_clock_pass_time.given
+    // shown by: integration/library
+    // refused: clock_never_gives, clock_reads_another_register
+    // proved: What a monitor with a clock puts off, has left to do and owes is that of a `Clock` of
+    //   `uart_virtual`, whatever bytes its structs hold
+    // on: `uart_clock_after_read`, `uart_clock_after_write`, `uart_clock_after_host` and
+    //   `uart_clock_pass_time`
     ensures waits { result ≡ flag (can_wait (Read (offset % NUM_REGISTERS)) (asked todo.old)) 1 }
     ensures todo { todo.new ≡ port_spec.shown
         (todo_now (can_wait (Read (offset % NUM_REGISTERS)) (asked todo.old)) (asked todo.old)) }

@@ -42,6 +42,16 @@ pub extern "C" fn uart_chip_new(
     wire_capacity: u8,
     cuts: u8,
 ) -> u32
+    // proved: A chip after power on is made, of this model, which cuts characters if that is asked
+    //   for, with FIFOs of 16 or of the size that is asked for, or the first refusal is returned
+    //   and nothing changed
+    // on: `uart_chip_new`, `uart_chip_new_sized`
+    // proved: A chip's flags are 0 or 1, its trigger is 1, 4, 8 or 14, the sizes of its FIFOs are
+    //   16, 32, 64 or 128, and each length is within its FIFO or its array (`IsCanonical`), once it
+    //   was made, loaded or saved; each call keeps this. So it is with the chip of a port, and the
+    //   flags of what its monitor was told are 0 or 1
+    // on: `uart_chip_new`, `uart_chip_new_sized`, `uart_chip_load`, `uart_chip_save`, and those of
+    //   the first row; each function of a port that changes it
     ensures status { result ≡ new_status char_ticks wire_capacity }
     ensures built { result ≡ UART_OK → chip_of chip.new ≡
         record (spec.fresh (model_of model) char_ticks wire_capacity 0)
@@ -69,6 +79,11 @@ pub extern "C" fn uart_chip_new_sized(
     wire_capacity: u8,
     cuts: u8,
 ) -> u32
+    // promise: a chip in C, and a port, has FIFOs of 16, 32, 64 or 128, whatever bytes the struct
+    //   holds, and no other is made
+    // with: uart_chip_new_sized, uart_port_new_sized, IsCanonical
+    // shown by: integration/library
+    // refused: new_sized_takes_any_size, port_new_sized_is_of_16, load_takes_two_sizes
     ensures status { result ≡ sized_status fifo_size char_ticks wire_capacity }
     ensures built { result ≡ UART_OK → chip_of chip.new ≡
         record (spec.with_size (queue_spec.fifo_size_of fifo_size)
@@ -93,8 +108,12 @@ pub extern "C" fn uart_chip_new_sized(
 /// Makes a chip like one that was saved, unless the data are those of no sound chip.
 #[unsafe(no_mangle)]
 pub extern "C" fn uart_chip_load(chip: &mut UartChip, saved: &UartChip) -> u32
+    // proved: A saved chip is restored exactly if it is sound as a live chip with FIFOs of its size
+    //   is (`IsLiveChip`), and else nothing changes
+    // on: `uart_chip_load`, `uart_chip_save`
     ensures accepted { IsLiveChip (chip_of saved.now) →
         (result ≡ UART_OK) × (chip_of chip.new ≡ chip_of saved.now) }
+    // if: the saved chip is not sound as a live chip is, or has something of a schedule
     ensures refused { (IsLiveChip (chip_of saved.now) → ⊥) →
         (result ≡ UART_BAD_CHIP) × (chip.new ≡ chip.old) }
     ensures canonical { result ≡ UART_OK → IsCanonical chip.new }
@@ -118,6 +137,15 @@ pub extern "C" fn uart_chip_save(chip: &UartChip, saved: &mut UartChip)
 /// The guest reads a register.
 #[unsafe(no_mangle)]
 pub extern "C" fn uart_chip_read(chip: &mut UartChip, offset: u8) -> u8
+    // promise: each function of the library for C is one function of the chip, whatever bytes a
+    //   struct holds
+    // with: uart_chip_read, uart_chip_write, uart_chip_load, sound_chips_stay_sound
+    // shown by: integration/library
+    // refused: read_of_another_register, load_takes_any_bytes
+    // proved: The caller's struct is some chip, whatever bytes it holds. Each exported function
+    //   does to this chip what one function of the chip's definitions says
+    // on: `uart_chip_read`, `uart_chip_write`, `uart_chip_ticks`, `uart_chip_arrive`,
+    //   `uart_chip_set_lines`, `uart_chip_take_wire`
     ensures answers { result ≡ spec.answer (offset % NUM_REGISTERS) (chip_of chip.old) }
     ensures after { chip_of chip.new ≡ spec.after_read (offset % NUM_REGISTERS) (chip_of chip.old) }
     ensures canonical { IsCanonical chip.old → IsCanonical chip.new }
@@ -211,6 +239,10 @@ pub extern "C" fn uart_chip_set_lines(chip: &mut UartChip, inputs: u8) -> u32
 /// 1 if the chip asks for an interrupt, else 0.
 #[unsafe(no_mangle)]
 pub extern "C" fn uart_chip_is_interrupting(chip: &UartChip) -> u8
+    // proved: What is shown is the chip's: the interrupt line, lengths and room, the divisor latch
+    // on: `uart_chip_is_interrupting`, `uart_chip_wire_len`, `uart_chip_wire_room`,
+    //   `uart_chip_receive_room`, `uart_chip_waiting_len`, `uart_chip_held_len`,
+    //   `uart_chip_divisor`
     ensures { result ≡ flag (is_some (spec.interrupt (chip_of chip.now))) 1 }
 {
     is_interrupting(chip) as u8

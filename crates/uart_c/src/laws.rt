@@ -13,6 +13,9 @@ ghost use Rattle.uart_spec.specs.declared.baud.TheConstants.{FIFO_SIZE};
 
 /// The numbers of each enum of the header, in its order.
 pub fn codes_are_these()
+    // proved: Each number of the header's enums, and how many bytes a wire, a FIFO and a call have
+    //   room for
+    // on: `laws::codes_are_these`, `laws::limits_are_these`
     ensures status { (code.UART_OK ∷ code.UART_BAD_TICKS ∷ code.UART_BAD_WIRE ∷ code.UART_BAD_ERRORS
         ∷ code.UART_BAD_LINES ∷ code.UART_BAD_CHIP ∷ code.UART_BAD_PORT ∷ code.UART_BAD_FIFO ∷ [])
         ≡ (0 ∷ 1 ∷ 2 ∷ 3 ∷ 4 ∷ 5 ∷ 6 ∷ 8 ∷ []) }

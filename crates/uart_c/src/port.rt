@@ -302,6 +302,11 @@ fn power_on(port: &mut UartPort, model: u8, fifo_size: u8)
 /// Makes a port after power on.
 #[unsafe(no_mangle)]
 pub extern "C" fn uart_port_new(port: &mut UartPort, model: u8)
+    // proved: A port after power on is made, with FIFOs of 16 or of the size that is asked for. A
+    //   saved port is restored exactly if its chip is sound as a live chip is and nothing is left
+    //   to happen to it, and else nothing changes; its monitor is told as if nothing had been told
+    //   before
+    // on: `uart_port_new`, `uart_port_new_sized`, `uart_port_save`, `uart_port_load`
     ensures built { port_of port.new ≡ spec.fresh Sixteen (model_of model) }
     ensures canonical { IsCanonicalPort port.new }
 {
@@ -327,6 +332,18 @@ pub extern "C" fn uart_port_new_sized(port: &mut UartPort, model: u8, fifo_size:
 /// The guest reads a register.
 #[unsafe(no_mangle)]
 pub extern "C" fn uart_port_read(port: &mut UartPort, offset: u8, todo: &mut UartTodo) -> u8
+    // promise: each function of a port in C is one call of a port, whatever bytes a struct holds,
+    //   and a port that is made or restored stays one
+    // with: uart_port_read.todo, uart_port_receive.after, uart_port_load.accepted,
+    //   sound_ports_stay_sound.stay
+    // shown by: integration/library
+    // refused: port_receive_takes_one_byte, port_load_takes_any_bytes,
+    //   port_lets_half_of_the_time_pass
+    // proved: The caller's struct is some port, whatever bytes it holds. Each function leaves
+    //   exactly the port that a call of [`uart_virtual`](../uart_virtual/README.md) leaves, and
+    //   returns and writes exactly what its monitor then has to do
+    // on: `uart_port_read`, `uart_port_write`, `uart_port_receive`, `uart_port_receive_one`,
+    //   `uart_port_set_lines`, `uart_port_take_output`
     ensures answers { result ≡ chip_spec.answer (offset % NUM_REGISTERS) (chip_of port.old.chip) }
     ensures after { port_of port.new ≡
         spec.after (Read (offset % NUM_REGISTERS)) (port_of port.old) }
@@ -518,6 +535,7 @@ pub extern "C" fn uart_port_take_output(port: &mut UartPort, count: usize, todo:
 /// The level of the interrupt line.
 #[unsafe(no_mangle)]
 pub extern "C" fn uart_port_level(port: &UartPort) -> u8
+    // proved: The level that is shown is that of the interrupt line
     ensures { result ≡ flag (spec.is_up (chip_of port.now.chip)) 1 }
 {
     is_interrupting(&port.chip) as u8

@@ -19,6 +19,7 @@ use uart_calls::{NextStep, next};
 /// Makes a driver that has made no access.
 #[unsafe(no_mangle)]
 pub extern "C" fn uart_driver_new(driver: &mut UartDriver, spin_limit: u64)
+    // proved: A driver that was just made, with this limit
     ensures fields { fields_of driver.new ≡ with_limit (max spin_limit 1) (numbered fresh_fields) }
     ensures written { driver.new ≡ data_of (with_limit (max spin_limit 1) fresh_fields) }
 {
@@ -38,6 +39,14 @@ pub extern "C" fn uart_step(
     access: &mut UartAccess,
     answer: &mut UartAnswer,
 ) -> u32
+    // promise: a step of the driver in C is the next access that the call makes
+    // with: uart_step.done, uart_step.asked, uart_step.strayed, uart_step.refused
+    // shown by: integration/library
+    // refused: step_forgets_the_driver, step_runs_what_cannot_run,
+    //   state_of_takes_fifos_for_sixteen, kept_forgets_the_size_of_the_fifos
+    // proved: What the library writes for an answer, for an access that is asked for and for a
+    //   driver is one value for each: flags are 0 or 1, and what does not count is 0
+    // on: `uart_step`, `uart_driver_new`
     ensures done { result ≡ UART_STEP_DONE →
         IsDone call.now driver.old made.now answer.new driver.new }
     ensures asked { result ≡ UART_STEP_ASKED → IsAsked call.now driver.old made.now access.new }

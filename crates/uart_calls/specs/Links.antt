@@ -29,6 +29,11 @@ Takes links bytes (Ok x) = taken links ≡ bytes
 Takes {S} {E} links bytes (Err e) = (front : List (WriteLink S E)) × (last : WriteLink S E) × (rest : List ℕ) ×
     (links ≡ front ++ last ∷ []) × (last.answer ≡ Err e) × (taken links ++ rest ≡ bytes)
 
+-- promise: generic code over a writer can rest on the writer's contract alone
+-- with: send_all, SendsThrough.takes
+-- shown by: a_driver_is_a_writer, a_failing_writer_is_told
+-- refused: uart_16550/write_sends_one_byte
+
 -- bytes sent by repeated calls of a writer
 pub record SendsThrough {S E T : Type 0} (writes : S → List ℕ → Result ℕ E → S → Type 0) (s : S) (bytes : List ℕ)
     (result : Result T E) (t : S) : Type 0 where

@@ -23,7 +23,9 @@ answer_of (means doing answer) outcome = answer outcome
 pub record IsListOf (call : Call) (before : Fields) (list : List Access)
     (answer : Answer) (after : Fields) : Type 0 where
   pub outcome : outcome_of (meaning call)
+  -- the driver did what the call's row of the table says for this outcome
   pub does : doing_of (meaning call) outcome before list after
+  -- the answer is the row's for this outcome
   pub answered : answer ≡ answer_of (meaning call) outcome
 
 -- the call makes this list, with the answer and the driver that are returned

@@ -55,7 +55,10 @@ Replayed G old new =
 abbrev pub IsRepeated : {R B : Type 0} → (a b : R) → List Access → (old new : Uart16550 B) →
     (before after : Uart16550 Replay) → Type 0
 IsRepeated a b list old new before after =
-    fields old ≡ fields before → before.backend.answers ≡ answers list →
+    -- the two drivers have equal fields
+    fields old ≡ fields before →
+    -- the replay has the values that the call's reads returned
+    before.backend.answers ≡ answers list →
     (a ≡ b) × (fields new ≡ fields after)
     × (after.backend.whole ≡ true → after.backend.made ≡ before.backend.made ++ list)
 

@@ -75,6 +75,14 @@ pub fn follow<R: Recorded>(accesses: &[R], state: &DriverState, call: &Call) -> 
 /// the call returned, and the state of the driver after it; `None` if they are not, whatever the
 /// call might have returned. Allocates no memory.
 pub fn check<R: Recorded>(accesses: &[R], state: &DriverState, call: &Call) -> Option<Returned>
+    // promise: a recorded list is a list of the call, or none of the call's lists is this one
+    // with: check.sound, check.complete
+    // shown by: no_call_runs_on_beyond_its_list
+    // refused: check_always_refuses, follow_keeps_half
+    // proved: `check` returns an answer only if the recorded list is a list of this call from these
+    //   fields, with this answer, and the driver's fields are then those returned; it returns none
+    //   only if no answer of the call has that list. For every call
+    // on: `check`, `follow`
     requires { IsRunnable call.now }
     ensures sound { IfSome result (λ returned.
         Makes call.now (fields_of state.now) (map R.access accesses.now) returned) }
@@ -91,6 +99,9 @@ pub fn check<R: Recorded>(accesses: &[R], state: &DriverState, call: &Call) -> O
 /// Returns what the driver does next in this call, starting from this state, after it has made
 /// these accesses. Allocates no memory.
 pub fn next<R: Recorded>(made: &[R], state: &DriverState, call: &Call) -> NextStep
+    // proved: What the driver would do next: the call is done, with this answer; or the driver asks
+    //   for this access, which continues a list of the call; or no list of the call begins with the
+    //   accesses that were made
     requires { IsRunnable call.now }
     ensures { IsNext call.now (fields_of state.now) (map R.access made.now) result }
 {

@@ -16,6 +16,8 @@ use uart_16550::backend::Backend;
 /// The meaning of a call determines what the driver does: what its reads have returned so far
 /// determines the next access, and in the end the answer and the driver's fields.
 pub fn meanings_leave_no_choice()
+    // proved: What a call means leaves no choice, as the driver's calls do not
+    // on: `uart_calls::laws::meanings_leave_no_choice`
     ensures { (call : Call) → IsRunnable call → LeavesNoChoice (doing_of (meaning call)) }
 {}
 

@@ -35,6 +35,12 @@ use uart_spec::{
 /// perform(uart, &Call::CheckPresent)
 /// ```
 pub fn perform<B: Backend>(uart: &mut Uart16550Tty<B>, call: &Call) -> Answer
+    // promise: a check is a call of a session like others: it moves no byte; and a script and C
+    //   tell what was expected and what is shown
+    // with: IsWithinSession, perform, render
+    // shown by: a_check_is_a_call, checks-what-was-written, each_difference_has_its_line
+    // refused: perform_hides_a_difference, perform_checks_other_outputs,
+    //   uart_language/what_is_shown_is_what_is_expected
     requires { IsRunnable call.now }
     ensures { Performed B.step uart.old call.now result uart.new }
 {

@@ -48,6 +48,13 @@ impl<'a> Replay<'a> {
     /// let mut uart = Uart16550::new_with_backend(Replay::new(&[0x1e, 0x60, 0x0f]));
     /// ```
     pub fn new(answers: &'a [u8]) -> Self
+        // proved: A `Replay` returns its answers in turn and keeps the accesses. What it shows
+        //   after a call is a list of that call, whose reads returned these answers. If a `Replay`
+        //   is given what the reads of a call over some backend returned, the call over the
+        //   `Replay` has the same result, leaves the same fields, and makes the same accesses
+        // on: `Backend` of `Replay`, `Replay::new`, `accesses`,
+        //   `replay::replays_show_their_accesses`, `laws::replays_repeat_calls`,
+        //   `laws::replay_room_is_this`; for each call a function of the test module `replays`
         ensures { result ≡ record { answers = answers.now; made = []; whole = true } }
     {
         Replay {

@@ -1,4 +1,5 @@
--- What lasts of the transmitter and of the size of the FIFOs, whatever else happens.
+-- What lasts of the transmitter, of the size of the FIFOs and of automatic flow control, whatever else happens.
 pub mod Lasting
 pub mod Constants
 pub mod FifoSizes
+pub mod Flows

@@ -351,6 +351,10 @@ write_data value c =
     then with_latches (record c.latches { dll = value }) c
     else record c { transmitter = load c.fifo (cut_of c value) c.transmitter }
 
+-- proved: Each effect of the chip is exactly its function: what a read returns and leaves, what a write, a tick, an
+--   arrival and a change of lines do
+-- on: the methods of `Uart`, `Transmitter`, `Receiver` and `Modem`, on which the rows below rest
+
 -- the chip after a write of a register; a byte for the transmitter is cut to the word length before it is queued
 abbrev pub after_write : ℕ → ℕ → ChipState → ChipState
 after_write offset value c =

@@ -10,6 +10,7 @@ pub mod Status
 pub mod Jumps
 pub mod Machine
 pub mod Switching
+pub mod AutoFlow
 pub mod Data
 pub mod Snapshot
 pub mod Sound

@@ -50,6 +50,11 @@ perform (Arrive byte errors) c = arrive byte errors c
 perform (Lines inputs) c = change_lines inputs c
 perform _ c = c
 
+-- promise: an access takes a tick, unless the schedule gates it
+-- with: before_access, after_access
+-- shown by: gates-each-access
+-- refused: tick_although_gated
+
 -- the chip at an access: after the events up to the first Access; or after those up to a Mark or the end, and one
 -- more tick
 abbrev pub before_access : List Event → ChipState → ChipState
@@ -84,6 +89,10 @@ after_mark (_ ∷ events) = after_mark events
 -- the machine after the next Mark was removed
 abbrev pub at_mark : MachineState → MachineState
 at_mark m = record { chip = before_mark m.ahead m.chip; ahead = after_mark m.ahead }
+
+-- proved: Each register access is exactly the machine's step: first the scheduled events, then the register's effect,
+--   for every schedule
+-- on: `Backend` of `Device16550`
 
 -- which access leads from which machine to which: first the events happen, then the effect on the register
 abbrev pub MachineStep : MachineState → Access → MachineState → Type 0

@@ -125,8 +125,13 @@ pub record IsSoundChip (c : ChipState) : Type 0 where
   pub transmitter : IsSoundTransmitter c.fifo c.transmitter
   pub modem : IsSoundModem c.modem
   pub latches : IsSoundLatches c.auto_flow c.latches
+  -- both FIFOs have one size
   pub sizes : c.receiver.size ≡ c.transmitter.size
-  pub implemented : c.fifo ≡ true → c.model ≡ Uart16550A
+  -- only a chip that has a FIFO has it on
+  pub implemented :
+      -- the FIFO is on
+      c.fifo ≡ true → c.model ≡ Uart16550A
+  -- a reception timeout is due after four character times
   pub limit : c.receiver.timeout_limit ≡ 4 * c.transmitter.char_ticks
 
 -- the events have only bits that they may have
@@ -137,11 +142,17 @@ AllLegal events = AllByRecursion IsLegal events
 -- this, whatever is written
 pub record IsSound (m : MachineState) : Type 0 where
   pub chip : IsSoundChip m.chip
+  -- each arrival still to come has a mark
   pub foreseen : m.chip.receiver.arrived + arrivals m.ahead ≡ length m.chip.receiver.marks
   pub legal : AllLegal m.ahead
 
 -- `IsSound` is kept by every access of the step relation, whose written values are any numbers. That latches hold bytes
 -- needs that a byte was written.
+
+-- promise: every machine is sound: its parts are within their limits, and only a chip that has a FIFO has it on
+-- with: IsWhole.sound, IsSoundChip.implemented
+-- shown by: registers_one_by_one
+-- refused: fifo_enabled_inverted
 
 -- what holds of every machine: it is sound, and its latches hold bytes
 pub record IsWhole (m : MachineState) : Type 0 where

@@ -26,7 +26,9 @@ ReadsKeepSizes = (offset : ℕ) (c : ChipState) → SameSizes c (after_read offs
 -- only a write of FCR that switches the size changes it
 abbrev pub OnlySwitchesResize : Type 0
 OnlySwitchesResize =
-    (offset value : ℕ) (c : ChipState) → (offset ≡ offsets.FCR → is_switching value c ≡ false) →
+    (offset value : ℕ) (c : ChipState) →
+    -- if FCR is written, the write is no switch of the size
+    (offset ≡ offsets.FCR → is_switching value c ≡ false) →
     SameSizes c (after_write offset value c)
 
 -- ---- accesses of a machine
@@ -34,7 +36,9 @@ OnlySwitchesResize =
 -- a chip that has no switch keeps its size for ever
 abbrev pub SizesStayWithoutSwitch : Type 0
 SizesStayWithoutSwitch =
-    (accesses : List Access) (m n : MachineState) → m.chip.has_size_switch ≡ false → Path MachineStep m accesses n →
+    (accesses : List Access) (m n : MachineState) →
+    -- the chip has no switch of the size
+    m.chip.has_size_switch ≡ false → Path MachineStep m accesses n →
     SameSizes m.chip n.chip
 
 -- LCR after an access, by what it was before

@@ -366,6 +366,11 @@ impl<
     /// chip.
     #[inline]
     pub fn read(&mut self, offset: u8) -> u8
+        // promise: each access, tick, arrival and change of lines is exactly its definition
+        // with: MachineStep, read, write
+        // shown by: registers, acknowledges-thr-empty, shifts-for-four-ticks
+        // refused: reset_leaves_waiting
+        // it is the offset of a register
         requires { offset < NUM_REGISTERS }
         ensures answers { result ≡ spec.answer offset self.old }
         ensures after { self.new ≡ spec.after_read offset self.old }
@@ -375,6 +380,7 @@ impl<
 
     /// Writes a value to the register at this offset.
     pub fn write(&mut self, offset: u8, value: u8)
+        // it is the offset of a register
         requires { offset < NUM_REGISTERS }
         ensures { self.new ≡ spec.after_write offset value self.old }
     {
@@ -608,6 +614,14 @@ impl Uart<HeapFifo<u8>, HeapWire, HeapFifo<Character>, Marks, ChosenCapabilities
 
     /// Returns the same chip with automatic flow control: MCR then keeps bit 5.
     pub fn with_auto_flow(self) -> Self
+        // promise: with automatic flow control MCR keeps bit 5, the transmitter takes no next
+        //   character while CTS is off, and RTS is off from the trigger level on; no other chip has
+        //   it
+        // with: with_auto_flow, kept_modem_control_of, is_held_off, rts_output
+        // shown by: held-off-by-the-chip, mcr_keeps_bit_5_with_automatic_flow_control_alone,
+        //   a_transmitter_that_is_held_off_sends_what_it_has_begun,
+        //   rts_is_off_from_the_trigger_level_on
+        // refused: held_transmitter_refills, mcr_keeps_bit_5_without_auto_flow
         ensures { result ≡ record self { auto_flow = true } }
     {
         let capabilities = ChosenCapabilities {

@@ -420,9 +420,11 @@ pub fn is_interrupting<P: ChipParts>(parts: &P) -> bool
 /// chip.
 #[inline]
 pub fn read<P: ChipParts>(parts: &mut P, offset: u8) -> u8
+    // it is the offset of a register
     requires { offset < NUM_REGISTERS }
     ensures answers { result ≡ spec.answer offset (P.state parts.old) }
     ensures after { P.state parts.new ≡ spec.after_read offset (P.state parts.old) }
+    // if: the parts are as each call leaves them
     ensures canonical { P.canonical parts.old → P.canonical parts.new }
 {
     // A guest that waits reads LSR and nothing else, so it is looked for first.
@@ -530,8 +532,10 @@ fn read_interrupt<P: ChipParts>(parts: &mut P) -> u8
 /// Writes a value to the register at this offset.
 #[inline]
 pub fn write<P: ChipParts>(parts: &mut P, offset: u8, value: u8)
+    // it is the offset of a register
     requires { offset < NUM_REGISTERS }
     ensures after { P.state parts.new ≡ spec.after_write offset value (P.state parts.old) }
+    // if: the parts are as each call leaves them
     ensures canonical { P.canonical parts.old → P.canonical parts.new }
 {
     // A guest that prints writes DATA most often, so it is looked for first.
@@ -674,6 +678,7 @@ fn is_switching<P: ChipParts>(parts: &P, fcr: FCR) -> bool
 // Switches the size of the FIFOs, if the write of FCR does. That empties both.
 fn switch_size<P: ChipParts>(parts: &mut P, value: FCR)
     ensures after { P.state parts.new ≡ spec.switch_size value.0 (P.state parts.old) }
+    // if: the parts are as each call leaves them
     ensures canonical { P.canonical parts.old → P.canonical parts.new }
 {
     if is_switching(parts, value) {

@@ -92,10 +92,19 @@ impl Device16550 {
         wire_capacity: usize,
         schedule: Vec<Event>,
     ) -> Result<Self, BuildError>
+        // promise: a machine is made, or the first refusal is told; no later call allocates
+        // with: new.built, new.refused, new.accepted
+        // shown by: .ci/refused-memory
+        // refused: new_makes_another_chip
+        // proved: A machine under a schedule after power on, or the first refusal in a fixed order;
+        //   else only `OutOfMemory`. All memory is allocated here
+        // on: `Device16550::new`, `new_cut`, `new_sized`, `new_16750`
         ensures built { IfOk result (λ machine.
             machine ≡ spec.fresh chip char_ticks wire_capacity schedule.items) }
+        // if: this is the first thing that is wrong with what is asked for
         ensures refused { (reason : BuildError) →
             refusal char_ticks wire_capacity schedule.items ≡ Some reason → result ≡ Err reason }
+        // if: nothing is wrong with what is asked for
         ensures accepted { refusal char_ticks wire_capacity schedule.items ≡ None →
             IsOkUnless result BuildError.OutOfMemory }
     {
@@ -238,6 +247,15 @@ impl Device16550 {
         schedule: Vec<Event>,
         cuts: bool,
     ) -> Result<Self, BuildError>
+        // promise: a 16750 begins with FIFOs of 16. A write of FCR with bit 0, while DLAB is set,
+        //   makes both 64 or 16 by its bit 5, and empties both if their size changes. ISR shows 64
+        //   while they are on
+        // with: new_16750.built, is_switching, switch_size, fifo_flags
+        // shown by: a_16750_begins_with_16, fcr_switches_the_size_under_dlab_alone,
+        //   bit_5_counts_only_with_bit_0, a_switch_empties_both_fifos,
+        //   the_trigger_level_is_that_of_the_size
+        // refused: new_16750_begins_with_64, size_switch_ignores_bit_0,
+        //   heap_queue_keeps_its_items_when_resized, size_switch_leaves_marks
         ensures built { IfOk result (λ machine. machine ≡ spec.switchable (spec.flowing true
             (spec.cutting cuts (spec.fresh Uart16550A char_ticks wire_capacity schedule.items)))) }
         ensures refused { (reason : BuildError) →
@@ -304,6 +322,13 @@ impl Device16550 {
     // The contract of this observer, which says that the machine is sound, spares callers a
     // premise.
     pub fn wire(&self) -> &[u8]
+        // proved: What the machine holds
+        // on: `wire`, `held_len`, `held_at`, `waiting_len`, `waiting_at`, `arrivals`, `mark`,
+        //   `fifo_enabled`, `divisor`, `overflows`
+        // proved: What holds of every machine, whatever was done with it: marks agree with what
+        //   waits, each arrival is there at most once, queues and wire keep within their room, both
+        //   FIFOs have one size, only a 16550A has the FIFO on
+        // on: `Device16550::wire`, `Device16550::fifo_enabled`
         ensures bytes { result.now ≡ self.now.chip.transmitter.wire }
         ensures whole { IsWhole self.now }
     {
@@ -450,6 +475,11 @@ impl Device16550 {
     /// assert_eq!(rt; uart.backend().wire(), b"AT\r".as_slice());
     /// ```
     pub fn idle(&mut self, n: u16) -> usize
+        // promise: time passes in at most two jumps more than a FIFO holds characters, 18 with one
+        //   of 16, whatever the number of ticks
+        // with: idle.after, idle.jumps, idle.most
+        // shown by: holds-the-last-character, jumps_pass_the_ticks
+        // refused: jump_ends_a_character_on_a_full_wire, idle_forgets_the_rest
         ensures after { self.new ≡ record self.old { chip = ticks n self.old.chip } }
         ensures jumps { result ≡ jumps_in n self.old.chip }
         ensures most { result ≤ most_jumps self.old.chip.transmitter.size }
@@ -487,6 +517,8 @@ impl Device16550 {
     /// assert_eq!(rt; chip.mark(0), Some(ArrivalMark::Waiting));
     /// ```
     pub fn next(&mut self)
+        // proved: Exactly the events up to the next mark
+        // on: `Device16550::next`
         ensures { self.new ≡ spec.at_mark self.old }
     {
         while self.cursor < self.schedule.len() {

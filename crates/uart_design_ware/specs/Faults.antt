@@ -16,6 +16,10 @@ opens_latch line = has line LCR.DLAB.0
 abbrev pub with_fault : Option DesignWareFault → Held → Held
 with_fault fault h = record h { fault = fault }
 
+-- proved: While there is a fault the chip's interrupts are off, if IER can be reached. With the next write of LCR that
+--   is taken IER is what the driver wrote to it
+-- on: `BeginsFault`, `EndsFault`, `WritesInterrupts`, on `DesignWare::write`
+
 -- a fault begins: all interrupts are disabled, if LCR shows that IER can be reached
 abbrev pub BeginsFault : DesignWareFault → Doing
 BeginsFault fault = Next (Sets (with_fault (Some fault)))

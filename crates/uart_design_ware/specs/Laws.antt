@@ -48,7 +48,9 @@ LineKeepsBytes = (line : ℕ) (h after : Held) (l : List Access) → Performs of
 -- a read of DATA by the driver returns the first byte of those that are kept and, behind them, those that it reads, and
 -- the others stay. If DATA cannot be reached, it returns 0, and nothing is read
 abbrev pub DataHandsOn : Type 0
-DataHandsOn = (answer : ℕ) (h after : Held) (l : List Access) → is_latch offsets.DATA h ≡ false →
+DataHandsOn = (answer : ℕ) (h after : Held) (l : List Access) →
+    -- the offset of DATA is not that of the divisor latch now
+    is_latch offsets.DATA h ≡ false →
     Answers offsets.DATA answer h l after →
     ((answer ≡ 0) × (taken l ≡ []) × (bytes_of after.kept ≡ bytes_of h.kept))
     ⊎ (bytes_of h.kept ++ taken l ≡ answer ∷ bytes_of after.kept)
@@ -64,5 +66,7 @@ most_accesses patience = patience * 6 + 3 + 2 * KEPT
 
 -- a write of LCR is bounded, if no more characters are kept than there is room for. Nor are there more afterwards
 abbrev pub LineIsBounded : Type 0
-LineIsBounded = (line : ℕ) (h after : Held) (l : List Access) → length h.kept ≤ KEPT →
+LineIsBounded = (line : ℕ) (h after : Held) (l : List Access) →
+    -- no more characters are kept than there is room for
+    length h.kept ≤ KEPT →
     Performs offsets.LCR line h l after → (length l ≤ most_accesses h.patience) × (length after.kept ≤ KEPT)

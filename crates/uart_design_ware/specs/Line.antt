@@ -67,6 +67,10 @@ abbrev pub ResetsReceiver : Doing
 ResetsReceiver h l after = (l ≡ Write offsets.FCR (bit_or h.fifo_control FCR.RX_FIFO_RESET.0) ∷ [])
     × (after ≡ record h { cleared = bit_or h.cleared LSR.OVERRUN_ERROR.0 })
 
+-- proved: Received data are discarded only while DLAB is set in the chip, where they cannot be read; LSR then shows an
+--   overrun
+-- on: `DiscardsUnreadable`, on `DesignWare::write`
+
 -- while offset 0 is the divisor latch, data that LSR shows are discarded
 abbrev pub DiscardsUnreadable : Doing
 DiscardsUnreadable = AnyOf (λ lsr. Next (Looks lsr) (If (λ h. has lsr LSR.DATA_READY.0) ResetsReceiver Nothing))

@@ -84,6 +84,10 @@ FindsNoData none = If is_empty
 abbrev pub cause : ℕ → ℕ
 cause isr = bit_and isr CAUSE
 
+-- proved: A read of RBR that ends a reception timeout comes right behind a look at LSR that showed neither data nor a
+--   break
+-- on: `EndsTimeout`, on `DesignWare::read`
+
 -- a reception timeout without data is ended by a read of DATA
 abbrev pub EndsTimeout : Bool → Doing
 EndsTimeout ended = Next (FindsNoData ended) (If (λ h. ended) (AnyOf (λ byte. Reads offsets.DATA byte)) Nothing)
@@ -123,6 +127,10 @@ NeverEnds answer h l after = (ended : List ℕ) × (length ended ≡ ROUNDS)
     × (answer ≡ with_cause (last_of NONE ended) NONE)
     × Next (InOrder (λ isr. Round isr true) ended) (BeginsFault InterruptWithoutEnd) h l after
 
+-- proved: A read of ISR ends at most four interrupts that the driver cannot serve. One that does not end is the fault
+--   `InterruptWithoutEnd`
+-- on: `ReadsInterrupt`, on `DesignWare::read`
+
 -- a read of ISR
 abbrev pub ReadsInterrupt : ℕ → Doing
 ReadsInterrupt answer h l after = ServesLater answer h l after ⊎ NeverEnds answer h l after
@@ -144,6 +152,10 @@ is_shared offset = not (nat_lt offsets.IER offset)
 -- whether a register is something else than the driver means: a look, if DLAB changes it
 abbrev pub LooksAt : ℕ → Bool → Doing
 LooksAt offset mistaken = If (λ h. is_shared offset) (LooksIfMistaken mistaken) (Where (mistaken ≡ false) Nothing)
+
+-- proved: Each read and write of the driver makes exactly the accesses of `DoesAccess`, returns what that says, and
+--   holds afterwards what that says
+-- on: `DesignWare::read`, `DesignWare::write`
 
 -- what a read by the driver does: offsets 0 and 1 read as 0 while they are something else than the driver means
 abbrev pub Answers : ℕ → ℕ → Doing

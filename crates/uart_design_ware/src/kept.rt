@@ -69,6 +69,9 @@ impl KeptCharacters {
 
     // Adds a character behind the others.
     pub(crate) fn keep(&mut self, character: KeptCharacter)
+        // proved: The kept characters are a list of at most 64, and are taken in the order in which
+        //   they came
+        // on: `KeptCharacters`: `keep`, `pop`, `take_errors`, `is_full`, `is_empty`, `clear`
         requires { length self.old < KEPT }
         ensures { self.new ≡ self.old ++ character ∷ [] }
     {

@@ -23,6 +23,9 @@ const FIFO_MODE: u32 = 0x0001_0000;
 /// assert_eq!(rt; fifo_size_of(0), None);
 /// ```
 pub fn fifo_size_of(cpr: u32) -> Option<FifoSize>
+    // promise: the size of the FIFOs is read from CPR of a DesignWare UART
+    // shown by: what_cpr_shows
+    // refused: fifo_size_of_takes_the_next_field
     ensures { IsLargestUpTo (fifo_characters cpr) result }
 {
     let mode = (cpr / FIFO_MODE % 256) as u16;

@@ -74,6 +74,9 @@ impl<R: DesignWareRegisters> DesignWare<R> {
     /// assert_eq!(rt; uart.read(5), 0);
     /// ```
     pub fn new(registers: R, patience: NonZeroU64) -> Self
+        // proved: A new backend holds nothing, and has no fault. The fault is what is held, and the
+        //   registers are those that were given
+        // on: `DesignWare::new`, `DesignWare::fault`, `DesignWare::registers_mut`
         ensures { IsFresh result registers (non_zero_u64_get patience) }
     {
         DesignWare {

@@ -219,6 +219,11 @@ fn at_most(most: usize, text: &[u8]) -> Result<(), OptionError>
 /// ```
 #[tactic(auto, unfolding(crate::specs::CommandLine::earlycon_of))]
 pub fn read_earlycon(text: &[u8]) -> Result<PortDescription, OptionError>
+    // promise: the port of `earlycon=` or `console=` is the one that its parts say, or the first
+    //   part that is wrong is told
+    // with: read_earlycon, read_console
+    // shown by: earlycon_says_a_port, console_says_a_port_of_a_pc
+    // refused: earlycon_takes_its_address_for_the_rate
     ensures { result ≡ earlycon_of text.now }
 {
     name_of(part(text, 0))?;

@@ -216,6 +216,10 @@ fn pin_of(header: &[u8]) -> Option<Interrupt>
 /// assert_eq!(rt; read_pci(&[], 0), Err(PciError::TooShort));
 /// ```
 pub fn read_pci(header: &[u8], port: u8) -> Result<PortDescription, PciError>
+    // promise: a port of a PCI function is at its first base address, and as far from it as its
+    //   card has it
+    // with: read_pci.ok, read_pci.err
+    // shown by: pci_says_each_port
     ensures ok { IfOk result (SaysPort header.now port) }
     ensures err { IfErr result (IsFault header.now port) }
 {

@@ -120,6 +120,10 @@ impl Call {
     /// Returns whether the call can be made: a count is at most [`CALL_BYTES`], and a configuration
     /// is computable.
     pub fn is_runnable(&self) -> bool
+        // proved: Which calls as data can be run, and how many bytes one has at most: 64. A
+        //   machine's character takes 1000 ticks at most, and its wire has room for 65,536 bytes at
+        //   most
+        // on: `Call::is_runnable`, `laws::limits_are_these`
         ensures { IsTrue result ↔ IsRunnable self.now }
     {
         match self {

@@ -101,6 +101,9 @@ fn first_bad_lines(events: &[Event]) -> Option<usize>
 /// Returns why no machine can be built, however much memory there is: the first reason in the order
 /// of [`BuildError`].
 pub fn refusal(char_ticks: u16, wire_capacity: usize, events: &[Event]) -> Option<BuildError>
+    // proved: Why no machine can be built, however much memory there is: the first reason in a
+    //   fixed order. How many arrivals a schedule has
+    // on: `refusal`, `arrivals`
     ensures { result ≡ spec.refusal char_ticks wire_capacity events.now }
 {
     if char_ticks == 0 || char_ticks > MAX_CHAR_TICKS {

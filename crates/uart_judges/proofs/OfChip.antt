@@ -95,8 +95,8 @@ silent_flow a s =
 silent_gate : (a : Auditor) (s : Step) → Silent (f.gate a s)
 silent_gate a s =
     let is_off : Bool = f.enables_bytes s.setup.interrupts && f.is_cut_off s.setup.modem in
-    silent_if (a.has_signalled || is_line_up s) None (if not (f.transfers s.action) then None else when is_off found.InterruptsCutOff) refl
-    (silent_if (not (f.transfers s.action)) None (when is_off found.InterruptsCutOff) refl
+    silent_if (a.has_signalled || is_line_up s) None (if not (f.relies a s) then None else when is_off found.InterruptsCutOff) refl
+    (silent_if (not (f.relies a s)) None (when is_off found.InterruptsCutOff) refl
     (silent_when is_off found.InterruptsCutOff refl))
 
 silent_nothing : (again : Bool) (ready : Option Bool) (interrupt : Option InterruptType) → Silent (f.from_nothing again ready interrupt)

@@ -143,16 +143,22 @@ abbrev pub is_cut_off : Option MCR → Bool
 is_cut_off (Some mcr) = not (has_any mcr.0 24)
 is_cut_off None = false
 
--- a byte is sent or received
-abbrev pub transfers : Action → Bool
-transfers x = sends x || receives x
+-- room was shown for a byte: LSR or ISR showed an empty THR, and nothing was sent since; or the byte fits beside those
+-- that were sent since then, of which the first was judged
+abbrev pub is_room_shown : Auditor → Step → Bool
+is_room_shown a s =
+    a.is_thr_empty || (nat_lt 0 (sent_before a s) && nat_lt (sent_before a s) (depth s.setup.has_fifo))
 
--- a byte is sent or received while such interrupts are enabled and OUT2 is off, and none was seen to reach the
+-- a byte is received, or one is sent for which no room was shown: an interrupt is to tell of it
+abbrev pub relies : Auditor → Step → Bool
+relies a s = if sends s.action then not (is_room_shown a s) else receives s.action
+
+-- such a byte goes either way while such interrupts are enabled and OUT2 is off, and none was seen to reach the
 -- processor
 abbrev pub gate : Auditor → Step → Option Finding
 gate a s =
     if a.has_signalled || is_line_up s then None
-    else if not (transfers s.action) then None
+    else if not (relies a s) then None
     else when (enables_bytes s.setup.interrupts && is_cut_off s.setup.modem) found.InterruptsCutOff
 
 -- ---- a read of DATA

@@ -14,6 +14,9 @@ ghost use Rattle.uart_judges.specs.declared.recording.limits.TheConstants.{MOST_
 
 /// The most that a recording or a trace may have.
 pub fn limits_are_these()
+    // proved: The most that a line, a repeated read, a time and a trace may have; the nanoseconds
+    //   of a second
+    // on: `laws::limits_are_these`, `laws::times_are_these`
     ensures trace { MOST_TRACE_BYTES ≡ 67108864 }
     ensures line { MOST_LINE_BYTES ≡ 65535 }
     ensures repeats { MOST_REPEATS ≡ 100000000 }

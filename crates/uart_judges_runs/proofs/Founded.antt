@@ -13,7 +13,7 @@ use Rattle.uart_judges.specs.Findings.{all_found, arrival, arrived_at, asks_for_
 use Rattle.uart_judges.specs.Findings.{discard, empty, empty_in, enables_bytes, flow, from_nothing, gate, given, has_low_alone, ignored}
 use Rattle.uart_judges.specs.Findings.{is_cut_off, is_held, is_in_break, is_next, is_other_frame, is_zero, latch, latched, left_up, level}
 use Rattle.uart_judges.specs.Findings.{level_as, level_at, line_up, lines_as, loops_again, missing, noted, output, overrun, overrun_in}
-use Rattle.uart_judges.specs.Findings.{room, served_by, service, set_up, taken, taken_from, transfers, when, are_off, is_long_since}
+use Rattle.uart_judges.specs.Findings.{room, served_by, service, set_up, taken, taken_from, relies, when, are_off, is_long_since}
 use Rattle.uart_judges.specs.Shows.{identified, receives, sends}
 use Rattle.uart_judges.specs.Steps.{is_line_up, loops_back}
 use Rattle.uart_judges.specs.Unread.{front, second}
@@ -188,7 +188,7 @@ module _ (c : Causes) where
       (c.out2_is_off ≡ false → is_cut_off s.setup.modem ≡ false) → Founded c (gate a s)
   gate_founded a s off connected =
       founded_if (a.has_signalled || is_line_up s) _ _ nothing
-      (founded_if (not (transfers s.action)) _ _ nothing
+      (founded_if (not (relies a s)) _ _ nothing
       (with_cause (enables_bytes s.setup.interrupts && is_cut_off s.setup.modem) found.InterruptsCutOff None
       (λ e. uncut c.interrupts_are_on c.out2_is_off _ _ e off connected) nothing))
 

@@ -9,7 +9,7 @@ use Rattle.uart_spec.specs.declared.registers.modem_control.MCR.{MCR}
 use Rattle.uart_spec.specs.declared.registers.modem_status.MSR.{MSR}
 use Rattle.uart_judges.specs.Findings.{all_found, arrival, arrived_at, change, chip, chip_at, discard, empty, empty_in, flow, gate, ignored}
 use Rattle.uart_judges.specs.Findings.{latch, left_up, level, level_as, level_at, line_up, lines_as, missing, note, noted, output, overrun}
-use Rattle.uart_judges.specs.Findings.{overrun_in, room, asks_for_cts, enables_bytes, is_cut_off, is_held, served_by, service, transfers}
+use Rattle.uart_judges.specs.Findings.{overrun_in, room, asks_for_cts, enables_bytes, is_cut_off, is_held, served_by, service, relies}
 use Rattle.uart_judges.specs.Findings.{set_up, taken, when}
 use Rattle.uart_judges.specs.Shows.{sends}
 use Rattle.uart_judges.specs.Steps.{is_line_up, loops_back}
@@ -70,7 +70,7 @@ flow_spared a s =
 gate_spared : (a : Auditor) (s : Step) → Spared (gate a s)
 gate_spared a s =
     spared_if (a.has_signalled || is_line_up s) _ _ nothing
-    (spared_if (not (transfers s.action)) _ _ nothing
+    (spared_if (not (relies a s)) _ _ nothing
     (spared_when (enables_bytes s.setup.interrupts && is_cut_off s.setup.modem) found.InterruptsCutOff refl))
 
 arrived_spared : (a : Auditor) (oldest : Option Arrived) (x : Action) → Spared (arrived_at a oldest x)

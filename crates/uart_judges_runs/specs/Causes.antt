@@ -119,11 +119,15 @@ pub record AsksFor (c : Causes) (line : ℕ) (call : Call) : Type 0 where
   pub interrupts : c.interrupts_are_on ≡ false → enables_some (enabled_by call) ≡ false
   pub isr : c.isr_is_read ≡ false → reads_isr call ≡ false
 
--- nor do a driver's fields, and a value of LCR in which DLAB is off
+-- the driver's fields, and a value of LCR in which DLAB is off, give no cause but these
 pub record IsSetUpFor (c : Causes) (line : ℕ) (f : Fields) : Type 0 where
+  -- DLAB is off in LCR
   pub dlab : has line LCR.DLAB.0 ≡ false
+  -- LCR has no break on, unless that is a cause
   pub not_in_break : c.break_is_sent ≡ false → has line LCR.SET_BREAK.0 ≡ false
+  -- the driver checks CTS before it sends, unless that it does not is a cause
   pub checks : c.cts_is_unchecked ≡ false → f.config.check_cts_before_sending ≡ true
+  -- the driver takes the FIFOs to be on, unless that they are off is a cause
   pub fifos : c.fifos_are_off ≡ false → f.fifo ≡ true
 
 -- LCR as it is while DLAB is on, or off
@@ -151,13 +155,16 @@ AreShownFrom c line opened (access ∷ accesses) =
 abbrev pub AreShownFor : Causes → (line : ℕ) → List Access → Type 0
 AreShownFor c line accesses = AreShownFrom c line false accesses
 
--- nor does what a session begins with: DLAB and loopback are off, and the FIFOs are as the driver takes them to be; no
--- interrupt is enabled; OUT2 is on; nor do the driver's fields, and the calls
+-- what a session begins with, the driver's fields and the calls give no cause but these
 pub record GivesOnly (c : Causes) (calls : List Call) (f : Fields) (m : MachineState) : Type 0 where
   pub begins : IsOpenTo f m
+  -- no interrupt is enabled, unless that is a cause
   pub interrupts : c.interrupts_are_on ≡ false → enables_some (Some (record { 0 = m.chip.latches.ier })) ≡ false
+  -- OUT2 is on, unless that is a cause
   pub out2 : c.out2_is_off ≡ false → is_cut_off (Some (record { 0 = m.chip.latches.mcr })) ≡ false
   pub set_up : IsSetUpFor c m.chip.latches.lcr f
+  -- no call gives another cause: its bytes fit, and it reads neither MSR nor ISR and enables no interrupt, unless that
+  -- is a cause
   pub asks : AllByRecursion (AsksFor c m.chip.latches.lcr) calls
 
 -- nor does a configuration, with which a chip of this model is set up
@@ -166,13 +173,18 @@ pub record IsConfiguredFor (c : Causes) (config : Config) (model : Chip) : Type 
   pub interrupts : c.interrupts_are_on ≡ false → enables_some (Some config.interrupts) ≡ false
   pub fifos : c.fifos_are_off ≡ false → (is_level config.fifo_trigger_level && has_fifo model) ≡ true
 
--- nor does what the judge knows before: of LCR what it is; of no interrupt that is enabled, and of no handler at work;
--- not that CTS is clear, once it was set; not that OUT2 is off; and not that the divisor is zero
+-- what the judge knows before gives no cause but these: it knows
 pub record KnowsFor (c : Causes) (line : ℕ) (a : Auditor) : Type 0 where
+  -- of LCR what it is, or nothing
   pub lcr : IsSo a.setup.line (λ lcr. lcr.0 ≡ line)
+  -- of no interrupt that is enabled, unless that is a cause
   pub interrupts : c.interrupts_are_on ≡ false → enables_some a.setup.interrupts ≡ false
+  -- of no handler at work, unless enabled interrupts and reads of ISR are causes
   pub not_handling : (c.interrupts_are_on && c.isr_is_read) ≡ false → a.is_handling ≡ false
+  -- not that CTS is clear and was set before, if the driver is not to check it and no call reads MSR
   pub clear : c.cts_is_unchecked ≡ true → c.msr_is_read ≡ false → (is_held a.cts && a.was_cts_set) ≡ false
+  -- not that OUT2 is off, unless that is a cause
   pub out2 : c.out2_is_off ≡ false → is_cut_off a.setup.modem ≡ false
+  -- not that the divisor is zero, unless that is a cause
   pub divisor : c.divisor_is_zero ≡ false →
       (is_zero a.setup.divisor.low && is_zero a.setup.divisor.high) ≡ false

@@ -37,12 +37,16 @@ IsSo (Some x) Holds = Holds x
 -- least. And the bytes that it counts as sent, up to those that there is room for, are in the transmitter's queue, but
 -- for so many that have left it since
 pub record KnowsWhatIs (a : Auditor) (left : ℕ) (c : ChipState) : Type 0 where
+  -- the chip is a 16550A
   pub model : c.model ≡ Uart16550A
   pub dlab : IsSo a.setup.is_open (λ on. is_dlab_set c.latches ≡ on)
   pub loopback : IsSo a.setup.modem (λ mcr. is_loopback c.latches ≡ has mcr.0 MCR.LOOP_BACK.0)
   pub fifos : IsSo a.setup.has_fifo (λ on. c.fifo ≡ on)
   pub trigger : IsSo a.setup.trigger (λ level. c.receiver.trigger ≡ level)
+  -- at least as many bytes wait as the judge counts
   pub waiting : a.waiting ≤ length c.receiver.queue
+  -- the bytes that the judge counts as sent, up to those that there is room for, are in the transmitter's queue, but
+  -- for so many that have left it since
   pub sent : min a.sent (room c.fifo Sixteen) ≤ length c.transmitter.queue + left
 
 -- the same, and it does know DLAB

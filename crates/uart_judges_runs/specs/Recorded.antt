@@ -17,6 +17,10 @@ abbrev pub accesses_in : List Entry → List RegisterAccess
 accesses_in [] = []
 accesses_in (entry ∷ entries) = access_in entry.happening ++ accesses_in entries
 
+-- these accesses are those of these entries, in order
+abbrev pub AreRecorded : List RegisterAccess → List Entry → Type 0
+AreRecorded accesses entries = accesses_in entries ≡ accesses
+
 -- a finding that is about how a call is made, and not about which calls are made, or when: bytes beyond the room; bytes
 -- into the divisor; bytes in loopback that are not read back; a read of DATA with no byte, without a look at LSR, or of
 -- the divisor; a value of IER into the divisor; half a divisor, or another one while bytes go out; and FIFOs that are

@@ -24,6 +24,7 @@ pub record IsCalled (call : Call) (Follows : Fields → MachineState → List Ac
   pub answer : Answer
   pub after : Fields
   pub mid : MachineState
+  -- these are its accesses, and then those of what follows
   pub whole : accesses ≡ front ++ back
   pub steady : IsSteady call
   pub list : IsListOf call f front answer after

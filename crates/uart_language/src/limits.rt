@@ -31,6 +31,8 @@ pub const MOST_DIGITS: usize = 19;
 
 /// The values of the limits in the definition of the language.
 pub fn limits_are_these()
+    // proved: The limits of the language
+    // on: `limits::limits_are_these`
     ensures bytes { MOST_BYTES ≡ 65536 }
     ensures read { MOST_READ ≡ 65537 }
     ensures lines { MOST_LINES ≡ 4096 }

@@ -240,6 +240,13 @@ fn first_item(bytes: &[u8]) -> Result<(Header, &[u8]), ScriptError>
 /// Ok(script.calls().len())
 /// ```
 pub fn parse(alloc: Global, bytes: &[u8]) -> Result<Script, ScriptError>
+    // promise: bytes are the one script that they say, or are refused for the first fault
+    // with: parse, IsScript.body, IsFirstFault.before
+    // shown by: every_word_means_its_event_or_call, refused-two-spaces, refused-too-many-lines
+    // refused: misplaced_before_bad_byte, parse_accepts_a_byte_too_many
+    // proved: `parse` returns the one script that the bytes are, or, if and only if they are not a
+    //   script, its first faulty line and the cause
+    // on: `parse`, the readers of `Script`, `Cause::text`
     ensures { IsParsed bytes.now result }
 {
     let (header, rest) = first_item(bytes)?;

@@ -297,6 +297,8 @@ fn push_dump(alloc: Global, out: &mut Vec<u8>, dump: &ConfigRegisterDump) -> Res
 
 /// Appends an answer as it is printed, without the end of its line.
 pub fn push_answer(alloc: Global, out: &mut Vec<u8>, answer: &Answer) -> Result<(), AllocError>
+    // proved: What is printed: a line for each answer, and four for the last state of the machine
+    // on: `push_answer`, `render`
     ensures { OnOk result (out.new.items ≡ out.old.items ++ answer_text answer.now) }
 {
     match answer {

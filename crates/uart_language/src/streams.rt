@@ -52,6 +52,9 @@ pub trait Output {
 
     /// Writes bytes from the front, and returns how many. If it fails, nothing is written.
     fn write(&mut self, bytes: &[u8]) -> Result<usize, StreamFault>
+        // proved: What a reader or a writer of std gives, takes and reports is passed on, and that
+        //   it failed is kept
+        // on: `Input` and `Output` of `Std`
         ensures bound { IfOk result (λ n. n ≤ length bytes.now) }
         ensures bytes { WriteAppends (contents self.old) (contents self.new) result bytes.now }
         ensures fault { has_failed self.new ≡
@@ -128,6 +131,8 @@ impl<T: Write> Output for Std<T> {
 /// - `ReadFault` if the reader failed.
 /// - `OutOfMemory` if memory for the text could not be allocated.
 pub fn read_all<R: Input>(alloc: Global, reader: &mut R) -> Result<Vec<u8>, PlayError>
+    // proved: What is read is the reader's bytes up to their end, or the first 65,537 of them. A
+    //   read fault comes exactly if the reader failed
     ensures whole { IfOk result (λ text.
         IsReadText (R.remaining reader.old) (R.remaining reader.new) text.items) }
     ensures most { ConsumesAtMost MOST_READ (R.remaining reader.old) (R.remaining reader.new) }
@@ -158,6 +163,7 @@ pub fn read_all<R: Input>(alloc: Global, reader: &mut R) -> Result<Vec<u8>, Play
 /// [`StreamFault`] if the writer failed, or accepted no byte; a beginning of the bytes may be
 /// written.
 pub fn write_all<W: Output>(writer: &mut W, bytes: &[u8]) -> Result<(), StreamFault>
+    // proved: All of the bytes are written, or the writer failed, and then a beginning of them
     ensures all { OnOk result (Appends (W.contents writer.old) (W.contents writer.new) bytes.now) }
     ensures front { WritesFront (W.contents writer.old) (W.contents writer.new) bytes.now }
     ensures fault { W.has_failed writer.new ≡ (W.has_failed writer.old || is_err result) }

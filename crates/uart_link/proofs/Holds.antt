@@ -29,7 +29,7 @@ use Rattle.uart_ring.specs.Service.{ServesInterrupt, ServesOne, Stops, ServesUpT
 use Rattle.uart_ring.specs.Handle.{RetriggersUnlessIdle, Handles}
 use Rattle.uart_ring.specs.Storm.{LooksOnceMore, CountsUnfinished, CountsRound, HandlesRound, StaysStuck, TriesToHandle, counts_as}
 use Rattle.uart_ring.specs.Storm.{Restarts}
-use Rattle.uart_ring.specs.Storm.{has_moved}
+use Rattle.uart_ring.specs.Storm.{has_moved, round_limit}
 use Rattle.uart_ring.specs.declared.ring.receive.ReceiveMarks.{ReceiveMarks}
 use Rattle.uart_ring.specs.declared.ring.storm.StuckError.{StuckError}
 use Rattle.uart_ring.specs.declared.ring.service.TheConstants.{MAX_INTERRUPTS}
@@ -251,10 +251,10 @@ counts rounds Limit found f l after t = counts_unfinished rounds found f l after
 pub tries : (limit rounds : ℕ) (result : Result Handled StuckError) → Implies (TriesToHandle limit rounds result) Keeping
 tries limit rounds result f l after t = go f.stuck t
   where
-    go : (was : Option StuckError) → MatchOption was (HandlesRound limit rounds result f l after)
+    go : (was : Option StuckError) → MatchOption was (HandlesRound (round_limit limit) rounds result f l after)
         (λ error. StaysStuck result error f l after) → Keeps f after
     go None (handled, found, is, t) =
-        keeps-then f t.mid after (handles limit handled f t.front t.mid t.first)
+        keeps-then f t.mid after (handles (round_limit limit) handled f t.front t.mid t.first)
         (counts rounds (counts_as (has_moved f t.mid) handled.end) found t.mid t.back after t.second)
     go (Some error) t = alike f _ after t.1.1 refl refl refl refl refl refl
 

@@ -4,6 +4,7 @@ pub mod Arranges
 pub mod Crossings
 pub mod Lines
 pub mod Lefts
+pub mod Lasting
 pub mod EndPasses
 pub mod EndActs
 pub mod LinkSteps
@@ -22,6 +23,7 @@ pub mod News
 pub mod Budgets
 pub mod Passing
 pub mod Stretches
+pub mod Stays
 pub mod Resumes
 pub mod Taking
 pub mod SendsOn
@@ -29,3 +31,4 @@ pub mod Rounds
 pub mod Agrees
 pub mod XoffEnds
 pub mod AutoFlows
+pub mod Later

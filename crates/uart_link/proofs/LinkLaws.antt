@@ -6,7 +6,7 @@ use Rattle.std.proofs.lemmas.List.Elements.{filter-append}
 use Rattle.uart_events.specs.declared.event.ArrivalMark.TheVariants.{Pending}
 use Rattle.uart_events.specs.declared.event.Event.{Event}
 use Rattle.uart_chip.proofs.conservation.Went.{Modes, dlab-in, loopback-in}
-use Rattle.uart_chip.specs.Conserved.{stands, waiting, arriving, cut_character}
+use Rattle.uart_chip.specs.Conserved.{stands, waiting, arriving, cut_character, out}
 use Rattle.uart_chip.specs.Receiver.{ReceiverState, mark_at}
 use Rattle.uart_chip.specs.Sound.{IsSound}
 use Rattle.uart_chip.specs.Transmitter.{held}
@@ -27,9 +27,10 @@ use Rattle.uart_link.specs.declared.link.Link.{Link}
 use Rattle.uart_link.specs.Brought.{brought, numbered}
 use Rattle.uart_link.specs.Cable.{on_cable}
 use Rattle.uart_link.specs.Carried.{on_the_way, to_be_taken, receiver_at, not_dropped, Carries, IsJoined, BothReady, NoneCut}
-use Rattle.uart_link.specs.Carried.{AllKeepOrderAt, queued_at, bytes_gone}
+use Rattle.uart_link.specs.Carried.{AllKeepOrderAt, all_sent, queued_at, bytes_gone, Queues}
 use Rattle.uart_link.specs.Link.{at_end, other, Step, LinkChain}
 use Rattle.uart_link.specs.Parts.{LinkConserves}
+use Rattle.uart_link.specs.Stays.{StaysAt}
 use Rattle.uart_link.specs.Told.{NoLineAt}
 use Rattle.uart_link.proofs.Agrees.{keeps_agreed}
 use Rattle.uart_link.proofs.Crossings.{arriving_numbered}
@@ -39,6 +40,8 @@ use Rattle.uart_link.proofs.AutoFlows.{chips_drop_nothing}
 use Rattle.uart_link.proofs.Flows.{drops_nothing}
 use Rattle.uart_link.proofs.LinkSteps.{Brings, LinkPasses, link_chain, joined_after}
 use Rattle.uart_link.proofs.LinkTold.{tells_drops}
+use Rattle.uart_link.proofs.Stays.{stays}
+use Rattle.uart_link.proofs.Stretches.{Going}
 use Rattle.uart_link.proofs.Rounds.{progresses, empties_receiver, keeps_rts_on, all_leave_armed}
 use Rattle.uart_link.proofs.Takings.{takes_all_gone}
 use Rattle.uart_link.proofs.Wholes.{delivers, carries_all}
@@ -148,6 +151,17 @@ module _ (x y : Modes) (A B N O : Type 0) (q p e f : List ℕ) (s t r u : RingSt
       number_after : (receiver_at u).arrived ≡ (receiver_at r).arrived + length (brought events)
       number_after = arrived_after _ _ _ events gets.went
 
+-- what has left an end and waits there grew by what was queued
+queued_up : (x : Modes) (A N : Type 0) (q left : List ℕ) (s t : RingState) (events : List Event) → CutsNothing x →
+    EndPasses x A q N s t left events → A → all_sent t ≡ all_sent s ++ q
+queued_up x A N q left s t events whole p order =
+    let written = data_written p.made in
+    let before = out (ring_machine s) in
+    let grows : out (ring_machine t) ≡ before ++ written =
+    p.went.sends.grows ∙ ap (λ zs. before ++ zs) (ap (λ (cut : ℕ → ℕ). map cut written) whole ∙ map-id written) in
+    ap (λ zs. zs ++ to_send t) grows ∙ (append_assoc before written (to_send t) ∙
+    (ap (λ zs. before ++ zs) (p.sent order) ∙ sym (append_assoc before (to_send s) q)))
+
 -- ---- a part of a run
 
 -- the modes in which a session runs that cuts nothing
@@ -201,6 +215,13 @@ carries x y a b steps w v joined whole whole_too chain end = by end (link_chain 
     by Right p = carried y x _ _ _ _ _ _ _ _ a.right b.right a.left b.left _ _ p.right p.left p.leftward joined.left.behind
         whole_too whole p.in_left
 
+-- what has left an end and waits there grew by what was queued
+queues : (x y : Modes) (a b : Link) (steps : List Step) → CutsNothing x → CutsNothing y →
+    LinkPasses x y (λ end. AllKeepOrderAt end steps) (λ end. NoLineAt end steps) (λ end. queued_at end steps)
+    (λ end. bytes_gone end steps) a b → (end : Side) → Queues end a steps b
+queues x y a b steps whole whole_too p Left = queued_up x _ _ _ _ a.left b.left _ whole p.left
+queues x y a b steps whole whole_too p Right = queued_up y _ _ _ _ a.right b.right _ whole_too p.right
+
 pub link_conserves : (a b : Link) (steps : List Step) → IsSound (ring_machine a.left) → IsSound (ring_machine a.right) →
     IsWired (under a.left) → IsWired (under a.right) → IsJoined a → BothReady a → NoneCut a → LinkChain a steps b →
     LinkConserves a steps b
@@ -210,6 +231,8 @@ link_conserves a b steps sound_left sound_right wired_left wired_right joined re
     let w = whole_end a.left ready.left uncut.left sound_left wired_left in
     let v = whole_end a.right ready.right uncut.right sound_right wired_right in
     let p = link_chain x y a b steps w v joined chain in
+    let going : Going x y a = record { left = w; right = v; joined = joined } in
+    let kept : (end : Side) → StaysAt (at_end end a) (at_end end b) = λ end. stays x y end steps a b going chain in
     let all : (part : List Step) (u : Link) → LinkChain a part u → (end : Side) → Carries end a part u = λ part u within end.
     carries x y a u part w v joined (cuts_nothing a.left) (cuts_nothing a.right) within end in
     record {
@@ -223,7 +246,7 @@ link_conserves a b steps sound_left sound_right wired_left wired_right joined re
           (xoff_drops_nothing x y pace end a b steps w v joined chain paced);
       whole_by_chip = λ end late paced. delivers end a b steps (sound_there end) (all steps b chain end)
           (chips_drop_nothing x y late end a b steps w v joined chain paced);
-      told_and_held = λ end. all_tell_and_hold x y end steps a b (record { left = w; right = v; joined = joined }) (cuts_nothing a.left)
+      told_and_held = λ end. all_tell_and_hold x y end steps a b going (cuts_nothing a.left)
           (cuts_nothing a.right) chain;
       agreed = λ end. keeps_agreed x y end a b steps w v joined (cuts_nothing a.left) (cuts_nothing a.right)
           (λ u o part in_left in_right between within. carries x y u o part in_left in_right between (cuts_nothing a.left)
@@ -232,9 +255,12 @@ link_conserves a b steps sound_left sound_right wired_left wired_right joined re
           (λ part u within none. carries_all end a u part (sound_there end) none (all part u within end));
       handled = λ end. empties_receiver x y end steps a b w v joined chain;
       rts = λ end. keeps_rts_on x y end steps a b w v joined chain;
-      armed = λ end. all_leave_armed x y end steps a b (record { left = w; right = v; joined = joined }) chain;
+      armed = λ end. all_leave_armed x y end steps a b going chain;
+      queues = queues x y a b steps (cuts_nothing a.left) (cuts_nothing a.right) p;
+      stays = kept;
       ready = record { left = ready_after x b.left p.in_left; right = ready_after y b.right p.in_right };
       joined = joined_after x y _ _ _ _ a b p;
+      uncut = record { left = (kept Left).chip.cuts ∙ uncut.left; right = (kept Right).chip.cuts ∙ uncut.right };
     }
   where
     sound_there : (end : Side) → IsSound (ring_machine (at_end (other end) a))

@@ -1,16 +1,13 @@
 -- Every call of a link leaves both machines sound, and what is proved of runs.
-use Rattle.std.proofs.Common.{◌≡◌, ◌⊎◌, inl, inr, ℕ, ◌≤◌, List, length, take, sym, subst}
-use Rattle.uart_spec.specs.Access.{Path}
-use Rattle.uart_spec.specs.declared.access.Access.{Access}
-use Rattle.uart_chip.specs.Machine.{MachineState, MachineStep}
+use Rattle.std.proofs.Common.{◌≡◌, inl, inr, ℕ, ◌≤◌, List, length, take, sym, subst}
+use Rattle.uart_chip.specs.Machine.{MachineState}
 use Rattle.uart_chip.specs.Sound.{IsSound}
 use Rattle.uart_chip.proofs.soundness.Sounds.{sound_mark, sound_path}
 use Rattle.uart_run.specs.Chains.{RunOf}
 use Rattle.uart_run.specs.Wired.{IsWired, IsWiredChip}
 use Rattle.uart_run.proofs.Chains.{chain_keeps, run_whole}
-use Rattle.uart_run.proofs.Wired.{wired_path, wired_mark}
+use Rattle.uart_run.proofs.Sessions.{lasts_wired}
 use Rattle.uart_ring_runs.specs.declared.call.RingCall.{RingCall}
-use Rattle.uart_ring_runs.specs.declared.call.RingCall.TheVariants as call
 use Rattle.uart_ring_runs.specs.declared.call.RingAnswer.{RingAnswer}
 use Rattle.uart_ring_runs.specs.RingRun.{RingState, ring_machine, under}
 use Rattle.uart_link.specs.declared.call.LinkCall.{LinkCall}
@@ -19,20 +16,11 @@ use Rattle.uart_link.specs.declared.call.Side.{Side}
 use Rattle.uart_link.specs.declared.call.Side.TheVariants.{Left, Right}
 use Rattle.uart_link.specs.declared.link.Link.{Link}
 use Rattle.uart_link.specs.Cable.{settled}
-use Rattle.uart_link.specs.Link.{at_end, other, CabledCallStep, EndStep, LinkCallStep}
+use Rattle.uart_link.specs.Link.{at_end, other, EndStep, LinkCallStep}
 use Rattle.uart_link.specs.Parts.{RanLink}
 use Rattle.uart_link.proofs.EndActs.{sound_settled, sound_arranged}
+use Rattle.uart_link.proofs.Lasting.{Called, called, lasts_chain}
 use Rattle.uart_link.proofs.LinkLaws.{link_conserves}
-
--- a call made accesses, or let all moments happen
-abbrev Called : RingState → RingState → Type 0
-Called s t =
-    ((made : List Access) × Path MachineStep (ring_machine s) made (ring_machine t)) ⊎ (ring_machine t ≡ settled (ring_machine s))
-
-called : (s t : RingState) (c : RingCall) (a : RingAnswer) → CabledCallStep s c a t → Called s t
-called s t call.Next a h = inr h.passes.machine
-called s t (call.Driver c) a h = absurd h
-called s t other a h = inl (h.did.list, h.did.path)
 
 sound_called : (s t : RingState) → IsSound (ring_machine s) → Called s t → IsSound (ring_machine t)
 sound_called s t w (inl h) = sound_path h.0 (ring_machine s) (ring_machine t) w h.1
@@ -46,23 +34,10 @@ sound_end moments there s t c a w h =
     let ready = sound_arranged moments (ring_machine there).chip (settled m).chip (sound_mark m w).chip in
     sound_called h.begins t (subst (λ (o : MachineState). IsSound o) (sym h.arranges.machine) ready) (called h.begins t c a h.called)
 
--- and wired
-wired_called : (s t : RingState) → IsWired (under s) → Called s t → IsWired (under t)
-wired_called s t w (inl h) = wired_path h.0 (ring_machine s) (ring_machine t) w h.1
-wired_called s t w (inr h) = subst (λ (m : MachineState). IsWiredChip m.chip) (sym h) (wired_mark (ring_machine s) w)
-
-wired_end : (moments : List Moment) (there s t : RingState) (c : RingCall) (a : RingAnswer) → IsWired (under s) →
-    EndStep moments there s c a t → IsWired (under t)
-wired_end moments there s t c a w h =
-    let begins = subst (λ (o : MachineState). IsWiredChip o.chip) (sym h.arranges.machine) (wired_mark (ring_machine s) w) in
-    wired_called h.begins t begins (called h.begins t c a h.called)
-
--- both machines are sound and wired
+-- both machines are sound
 record BothSound (a : Link) : Type 0 where
   pub left : IsSound (ring_machine a.left)
   pub right : IsSound (ring_machine a.right)
-  pub wired_left : IsWired (under a.left)
-  pub wired_right : IsWired (under a.right)
 
 sound_step : (a b : Link) (side : Side) (moments : List Moment) (c : RingCall) (answer : RingAnswer) → BothSound a →
     EndStep moments (at_end (other side) a) (at_end side a) c answer (at_end side b) →
@@ -70,14 +45,10 @@ sound_step : (a b : Link) (side : Side) (moments : List Moment) (c : RingCall) (
 sound_step a b Left moments c answer w h same = record {
   left = sound_end moments a.right a.left b.left c answer w.left h;
   right = subst (λ (s : RingState). IsSound (ring_machine s)) (sym same) w.right;
-  wired_left = wired_end moments a.right a.left b.left c answer w.wired_left h;
-  wired_right = subst (λ (s : RingState). IsWired (under s)) (sym same) w.wired_right;
 }
 sound_step a b Right moments c answer w h same = record {
   left = subst (λ (s : RingState). IsSound (ring_machine s)) (sym same) w.left;
   right = sound_end moments a.left a.right b.right c answer w.right h;
-  wired_left = subst (λ (s : RingState). IsWired (under s)) (sym same) w.wired_left;
-  wired_right = wired_end moments a.left a.right b.right c answer w.wired_right h;
 }
 
 sound_call : (a b : Link) (c : LinkCall) (answer : RingAnswer) → BothSound a → LinkCallStep a c answer b → BothSound b
@@ -91,8 +62,7 @@ pub ran_link : (s t : Link) (calls : List LinkCall) (answers : List RingAnswer) 
 ran_link s t calls answers i all slots left right wired_left wired_right run = record {
   run = run_whole LinkCallStep s t calls answers i all slots run;
   parts = λ front part rest a b is before within after joined ready uncut.
-      let begins : BothSound s =
-      record { left = left; right = right; wired_left = wired_left; wired_right = wired_right } in
-      let sound = chain_keeps LinkCallStep BothSound sound_call s a front begins before in
-      link_conserves a b part sound.left sound.right sound.wired_left sound.wired_right joined ready uncut within;
+      let sound = chain_keeps LinkCallStep BothSound sound_call s a front (record { left = left; right = right }) before in
+      link_conserves a b part sound.left sound.right (lasts_chain IsWiredChip lasts_wired Left s a front wired_left before)
+      (lasts_chain IsWiredChip lasts_wired Right s a front wired_right before) joined ready uncut within;
 }

@@ -9,8 +9,9 @@ use Rattle.uart_events.specs.declared.event.Event.TheVariants.{Arrive}
 use Rattle.uart_events.specs.Build.{has_bad_errors, has_bad_lines, refusal}
 use Rattle.uart_chip.specs.Chip as chip
 use Rattle.uart_chip.specs.Chip.{ChipState}
-use Rattle.uart_chip.specs.Machine.{MachineState, fresh}
-use Rattle.uart_chip.proofs.soundness.Builds.{whole_fresh}
+use Rattle.uart_spec.specs.declared.setup.FifoSize.{FifoSize}
+use Rattle.uart_chip.specs.Machine.{MachineState, fresh, cutting, sized}
+use Rattle.uart_chip.proofs.soundness.Builds.{whole_sized}
 use Rattle.std.proofs.lemmas.List.{drop_all}
 use Rattle.uart_link.specs.Brought.{IsBrought}
 use Rattle.uart_link.specs.Cable.{unknown}
@@ -45,24 +46,26 @@ refusal_unknown char_ticks capacity count =
     none_at has_bad_lines (unknown count) (let h = pass_lines count in omega (arith, h)) in
     rw (errors, lines) refl
 
--- the chip that `new` makes is the fresh machine, of which nothing is known
-pub is_new : (model : Chip) (char_ticks capacity count : ℕ) (events : List Event) (c : ChipState) →
-    c ≡ record (chip.fresh model char_ticks capacity count) { cuts = false } → events ≡ [] →
-    record { chip = c; ahead = drop 0 events ++ unknown count } ≡ fresh model char_ticks capacity (unknown count)
-is_new model char_ticks capacity count events c p q =
-    let f : ℕ → MachineState = λ n. record { chip = chip.fresh model char_ticks capacity n; ahead = unknown count } in
+-- the chip that `new_sized` makes is the fresh machine, of which nothing is known
+pub is_new : (model : Chip) (size : FifoSize) (char_ticks capacity count : ℕ) (cuts : Bool) (events : List Event) (c : ChipState) →
+    c ≡ chip.with_size size (record (chip.fresh model char_ticks capacity count) { cuts = cuts }) → events ≡ [] →
+    record { chip = c; ahead = drop 0 events ++ unknown count } ≡
+    sized size (cutting cuts (fresh model char_ticks capacity (unknown count)))
+is_new model size char_ticks capacity count cuts events c p q =
+    let f : ℕ → MachineState =
+    λ n. sized size (cutting cuts (record { chip = chip.fresh model char_ticks capacity n; ahead = unknown count })) in
     ap (λ (d : ChipState). let m : MachineState = record { chip = d; ahead = drop 0 events ++ unknown count } in m) p ∙
     (ap (λ (es : List Event). let m : MachineState = record {
-      chip = chip.fresh model char_ticks capacity count;
+      chip = chip.with_size size (record (chip.fresh model char_ticks capacity count) { cuts = cuts });
       ahead = drop 0 es ++ unknown count;
     } in m) q ∙ ap f (sym (arrivals-unknown count)))
 
-pub known_new : (model : Chip) (char_ticks capacity count : ℕ) (events : List Event) (c : ChipState) →
-    c ≡ record (chip.fresh model char_ticks capacity count) { cuts = false } → events ≡ [] →
+pub known_new : (model : Chip) (size : FifoSize) (char_ticks capacity count : ℕ) (cuts : Bool) (events : List Event) (c : ChipState) →
+    c ≡ chip.with_size size (record (chip.fresh model char_ticks capacity count) { cuts = cuts }) → events ≡ [] →
     refusal char_ticks capacity [] ≡ None → IsKnown c (drop 0 events) count
-known_new model char_ticks capacity count events c p q e = record {
-  whole = rw (is_new model char_ticks capacity count events c p q)
-      (whole_fresh model char_ticks capacity (unknown count) (refusal_unknown char_ticks capacity count ∙ e));
+known_new model size char_ticks capacity count cuts events c p q e = record {
+  whole = rw (is_new model size char_ticks capacity count cuts events c p q)
+      (whole_sized model size char_ticks capacity cuts (unknown count) (refusal_unknown char_ticks capacity count ∙ e));
   unmarked = rw q tt;
   wired = rw p refl;
 }

@@ -1,6 +1,6 @@
 -- Each round brings a byte nearer; so after rounds enough all has been taken that was queued.
 use Rattle.std.proofs.Common.{◌≡◌, ℕ, zero, suc, ◌+◌, ◌-◌, ◌<◌, ◌≤◌, Bool, true, false, List, [], ◌∷◌, ◌++◌, length, take, drop}
-use Rattle.std.proofs.Common.{append_assoc, length-append, refl, sym, ◌∙◌, ap, subst, arith, nat_lt, filter, map, None, ◌*◌, inl, inr}
+use Rattle.std.proofs.Common.{append_assoc, length-append, refl, sym, ◌∙◌, ap, subst, arith, nat_lt, filter, map, None, ◌*◌, ◌⊎◌, inl, inr}
 use Rattle.std.proofs.lemmas.Grind.{common_steps}
 use Rattle.std.proofs.lemmas.List.{length-drop, length-map, nil_from_length, take-append-le, take-append-drop, map-append}
 use Rattle.std.proofs.Math.Seq.{take-append_seam}
@@ -9,6 +9,7 @@ use Rattle.uart_events.specs.declared.event.Event.{Event}
 use Rattle.uart_spec.specs.Bits.{has_any}
 use Rattle.uart_spec.specs.declared.access.Access.{Access}
 use Rattle.uart_spec.specs.declared.registers.modem_control.TheConstants.MCR
+use Rattle.uart_chip.proofs.AutoFlow.{never_on}
 use Rattle.uart_chip.proofs.conservation.Went.{Modes, Went as Stretch, arriving_cut, loopback-in}
 use Rattle.uart_chip.specs.Chip.{ChipState}
 use Rattle.uart_chip.specs.Conserved.{origin_stands, stands, waiting as received, out}
@@ -16,6 +17,7 @@ use Rattle.uart_chip.specs.Receiver.{ReceiverState}
 use Rattle.uart_chip.specs.Transmitter.{shift_bytes, TransmitterState, held}
 use Rattle.uart_chip.specs.declared.receiver.Character.{Character}
 use Rattle.uart_chip.specs.declared.receiver.Origin.{Origin}
+use Rattle.uart_run.specs.Progress.{IsUnheld}
 use Rattle.uart_ring.specs.Lossless.{data_written}
 use Rattle.uart_ring_runs.specs.RingBytes.{to_take, to_send, queued_by}
 use Rattle.uart_ring_runs.specs.RingRun.{RingState, ring_machine}
@@ -141,11 +143,11 @@ split [] back a b h = record { mid = a; first = refl; second = h }
 split (step ∷ front) back a b h =
     let r = split front back step.after b h.2 in record { mid = r.mid; first = (h.0, h.1, r.first); second = r.second }
 
-joined_chains : (front back : List Step) (a b c : Link) → LinkChain a front b → LinkChain b back c → LinkChain a (front ++ back) c
+pub joined_chains : (front back : List Step) (a b c : Link) → LinkChain a front b → LinkChain b back c → LinkChain a (front ++ back) c
 joined_chains [] back a b c h k = subst (λ (o : Link). LinkChain o back c) h k
 joined_chains (step ∷ front) back a b c h k = (h.0, h.1, joined_chains front back step.after b c h.2 k)
 
-order_front : (end : Side) (front back : List Step) → AllKeepOrderAt end (front ++ back) → AllKeepOrderAt end front
+pub order_front : (end : Side) (front back : List Step) → AllKeepOrderAt end (front ++ back) → AllKeepOrderAt end front
 order_front end [] back h = tt
 order_front end (step ∷ front) back h = (h.0, order_front end front back h.1)
 
@@ -243,7 +245,7 @@ roomy_after x y end ticks total steps a b g chain r =
       flow = here.flow ∙ r.flow;
     }
 
-queued_append : (end : Side) (front back : List Step) →
+pub queued_append : (end : Side) (front back : List Step) →
     length (queued_at end (front ++ back)) ≡ length (queued_at end front) + length (queued_at end back)
 queued_append end [] back = omega arith
 queued_append end (step ∷ front) back =
@@ -701,8 +703,8 @@ keeps_mcr x y end (step ∷ steps) a b g chain none =
     ap (λ (o : Link). (ring_machine (at_end end o)).chip.latches.mcr) chain.0)
 
 pub keeps_rts_on : (x y : Modes) (end : Side) (steps : List Step) (a b : Link) → InEnd x a.left → InEnd y a.right → IsJoined a →
-    LinkChain a steps b → KeepsRtsOn end steps b
-keeps_rts_on x y end steps a b w v joined chain comes by_driver =
+    LinkChain a steps b → KeepsRtsOn end a steps b
+keeps_rts_on x y end steps a b w v joined chain comes unheld =
     let f = find x y end _ _ steps a b (record { left = w; right = v; joined = joined }) chain comes in
     let p = f.such in
     let step = f.step in
@@ -711,8 +713,13 @@ keeps_rts_on x y end steps a b w v joined chain comes by_driver =
     let same = keeps_mcr x y end f.back step.after b f.after.going f.second f.follow in
     let e = in_end x y end b (going_after x y f.back step.after b f.after.going f.second) in
     rts_on (at_end end b)
-    (loopback-in _ (ring_machine (at_end end b)).chip e.1.session.stands.modes ∙ e.1.session.open_modes.loopback) by_driver
+    (loopback-in _ (ring_machine (at_end end b)).chip e.1.session.stands.modes ∙ e.1.session.open_modes.loopback) (off unheld)
     (ap (λ v. has_any v MCR.RTS.0) same ∙ on)
+  where
+    off : ((chip_at end a).auto_flow ≡ false) ⊎ IsUnheld (ring_machine (at_end end b)) → IsUnheld (ring_machine (at_end end b))
+    off (inl lacks) =
+        never_on (chip_at end b) ((same_rooms x y end steps a b (record { left = w; right = v; joined = joined }) chain).flow ∙ lacks)
+    off (inr h) = h
 
 -- ---- the handler
 

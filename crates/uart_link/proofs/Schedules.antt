@@ -1,10 +1,12 @@
 -- The schedule of a chip at a cable: what is known of it, and behind that what nobody knows yet.
 use Rattle.std.proofs.Common.{◌≡◌, ◌≢◌, ℕ, zero, suc, true, ◌+◌, ◌-◌, ◌<◌, ◌≤◌, List, [], ◌∷◌, ◌++◌, length, drop, replicate, refl, sym}
-use Rattle.std.proofs.Common.{◌∙◌, ap}
+use Rattle.std.proofs.Common.{◌∙◌, ap, subst}
+use Rattle.std.proofs.lemmas.Bool.{eqb-true}
+use Rattle.std.proofs.lemmas.Grind.{common_steps}
 use Rattle.std.proofs.Common.{slice_index_or, drop-cons, add-one, arith, zero-le}
 use Rattle.std.proofs.lemmas.List.{drop_all}
 use Rattle.uart_events.specs.declared.event.Event.{Event}
-use Rattle.uart_events.specs.declared.event.Event.TheVariants.{Ticks, Arrive, Lines as Change, Mark}
+use Rattle.uart_events.specs.declared.event.Event.TheVariants.{Ticks, Arrive, Lines as Change, Access as Gate, Mark}
 use Rattle.uart_events.specs.Build.{IsLegal}
 use Rattle.uart_spec.specs.Bits.{IsWithin}
 use Rattle.uart_spec.specs.declared.registers.modem_status.TheConstants.MSR
@@ -18,8 +20,8 @@ use Rattle.uart_run.specs.Wired.{IsWiredChip}
 use Rattle.uart_run.proofs.Wired.{wired-ticks}
 use Rattle.uart_link.specs.declared.call.Moment.{Moment}
 use Rattle.uart_link.specs.declared.call.Moment.TheVariants as moment
-use Rattle.uart_link.specs.Cable.{events_of, unknown, to_come, with_ahead, settled}
-use Rattle.uart_link.specs.Known.{AllUnmarked, IsKnown}
+use Rattle.uart_link.specs.Cable.{events_of, unknown, to_come, with_ahead, settled, may_happen, expecting, performed}
+use Rattle.uart_link.specs.Known.{IsUnmarked, AllUnmarked, IsKnown}
 
 -- ---- arrivals
 
@@ -212,6 +214,62 @@ has_settled m c known count e k =
     let blank = is_blank known count (to_come (settled m).chip - 0) k.unmarked (ap (λ (o : MachineState). o.ahead) e) in
     let none : IsKnown c [] count = rw blank.none at k in
     record { chip = sym chip; known = none; number = count_to_come c count none.whole.sound }
+
+-- ---- an event that lies ahead alone
+
+-- how many characters may come once all that is known has happened
+remain_settled : (events : List Event) (c : ChipState) (count : ℕ) → IsKnown c events count →
+    to_come (settled (record { chip = c; ahead = events ++ unknown count })).chip ≡ count
+remain_settled [] c count k = count_to_come c count k.whole.sound
+remain_settled (event ∷ events) c count k =
+    ap (λ (m : MachineState). to_come m.chip) (sym (settle_performs event (events ++ unknown count) c k.unmarked.0)) ∙
+    remain_settled events (perform event c) count (known_perform event events c count k)
+
+pub come_settled : (m : MachineState) (c : ChipState) (known : List Event) (count : ℕ) →
+    record { chip = c; ahead = known ++ unknown count } ≡ m → IsKnown c known count → to_come (settled m).chip ≡ count
+come_settled m c known count same k =
+    subst (λ (n : MachineState). to_come (settled n).chip ≡ count) same (remain_settled known c count k)
+
+-- it may happen at a cable, if so many characters may come
+pub record IsAllowed (event : Event) (count : ℕ) : Type 0 where
+  pub legal : IsLegal event
+  pub unmarked : IsUnmarked event
+  pub few : arrivals (event ∷ []) ≤ count
+
+pub is_allowed : (event : Event) (count : ℕ) → may_happen event count ≡ true → IsAllowed event count
+is_allowed (Arrive byte errors) count e = record {
+  legal = let none : errors ≡ 0 = grind (arith, common_steps, e) in rw none refl;
+  unmarked = λ e. cc;
+  few = grind (arith, common_steps, e);
+}
+is_allowed (Change inputs) count e = record { legal = eqb-true _ _ e; unmarked = λ e. cc; few = zero-le }
+is_allowed Mark count e = absurd (cc)
+is_allowed (Ticks n) count e = record { legal = tt; unmarked = λ e. cc; few = zero-le }
+is_allowed Gate count e = record { legal = tt; unmarked = λ e. cc; few = zero-le }
+
+-- the event lies ahead of the machine, as its memory has it
+pub record IsExpected (event : Event) (m : MachineState) (c : ChipState) (items : List Event) (count taken : ℕ) : Type 0 where
+  pub same : record { chip = c; ahead = items ++ unknown (count - taken) } ≡ expecting event m
+  pub known : IsKnown c items (count - taken)
+  pub few : taken ≤ count
+
+pub is_expected : (event : Event) (c : ChipState) (m : MachineState) (count taken : ℕ) (items : List Event) → HasSettled m c count →
+    items ≡ event ∷ [] → taken ≡ arrivals items → IsLegal event → IsUnmarked event → arrivals (event ∷ []) ≤ to_come (settled m).chip →
+    IsExpected event m c items count taken
+is_expected event c m count taken items h e n legal unmarked few =
+    let fits : arrivals (event ∷ []) ≤ to_come c = subst (λ (d : ChipState). arrivals (event ∷ []) ≤ to_come d) h.chip few in
+    let enough : arrivals (event ∷ []) ≤ count = let k = h.number in omega (arith, fits, k) in
+    let D : ChipState → MachineState = λ d. with_ahead (event ∷ []) d in
+    rw (n, e) (record {
+      same = sym (known_arranged c count (event ∷ []) h.known) ∙ ap D (sym h.chip);
+      known = known_ahead c count (event ∷ []) h.known (legal, tt) (unmarked, tt) enough;
+      few = enough;
+    })
+
+-- once it has happened
+pub performs : (event : Event) (m : MachineState) → event ≢ Gate → settled (expecting event m) ≡ performed event m
+performs Gate m other = absurd (other refl)
+performs _ m other = refl
 
 -- the journal is made for all that may still come
 pub few_remain : (c : ChipState) (known : List Event) (count : ℕ) → IsKnown c known count → count ≤ length c.receiver.marks

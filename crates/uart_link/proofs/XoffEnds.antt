@@ -15,7 +15,8 @@ use Rattle.uart_link.specs.declared.call.Side.TheVariants.{Left, Right}
 use Rattle.uart_link.specs.declared.link.Link.{Link}
 use Rattle.uart_link.specs.Carried.{OfEnd}
 use Rattle.uart_link.specs.Link.{at_end, EndStep, LinkChain, other, Step}
-use Rattle.uart_link.specs.Xoff.{all_sent, AllTellAndHold, HoldsBack, TellsNext}
+use Rattle.uart_link.specs.Carried.{all_sent}
+use Rattle.uart_link.specs.Xoff.{AllTellAndHold, HoldsBack, TellsNext}
 use Rattle.uart_link.proofs.EndPasses.{InEnd}
 use Rattle.uart_link.proofs.Stretches.{Going, going_after}
 use Rattle.uart_link.proofs.XoffFlows.{Sent, sent_end, urges}

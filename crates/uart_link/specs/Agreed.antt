@@ -57,6 +57,7 @@ will_hold from to = held_as_told (last_told None (not_looked_at from to)) (is_ho
 -- two ends agree: the one will hold its transmit ring if the other one has told XOFF last, and only then; and what
 -- waits to be sent there is text
 pub record Agree (from to : RingState) : Type 0 where
+  -- the one end will hold its transmit ring exactly if the other one has told XOFF last
   pub same : will_hold from to ≡ has_told from
   pub text : IsText (ring_fields from).transmit.items
 

@@ -1,6 +1,7 @@
 -- A null-modem cable between two chips: which characters are on it, which lines it joins, and the schedule that it
 -- makes of the moments at one end.
-use Rattle.std.specs.Prelude.{ℕ, ◌-◌, Bool, List, [], ◌∷◌, ◌++◌, take, drop, length, replicate, bit_or, if◌then◌else◌}
+use Rattle.std.specs.Prelude.{ℕ, ◌-◌, Bool, true, false, ◌&&◌, ◌==◌, nat_lt, bit_and, List, [], ◌∷◌, ◌++◌, take, drop}
+use Rattle.std.specs.Prelude.{length, replicate, bit_or, if◌then◌else◌}
 use Rattle.uart_events.specs.declared.event.Event.{Event}
 use Rattle.uart_events.specs.declared.event.Event.TheVariants as event
 use Rattle.uart_spec.specs.Bits.{has_any, flag}
@@ -65,3 +66,23 @@ abbrev pub arranged : List Moment → (there : ChipState) → MachineState → M
 arranged moments there m =
     let c = (settled m).chip in
     with_ahead (events_of moments (take (to_come c) (on_cable there c)) (lines_from there)) c
+
+-- ---- what happens at once
+
+-- this event may happen at a cable, if so many characters may still come: one that arrives has no errors, and lines
+-- are lines
+abbrev pub may_happen : Event → (count : ℕ) → Bool
+may_happen (event.Arrive byte errors) count = (errors == 0) && nat_lt 0 count
+may_happen (event.Lines inputs) count = bit_and inputs MSR.LINES.0 == inputs
+may_happen event.Mark count = false
+may_happen _ count = true
+
+-- a machine after all that is known of its schedule has happened, with this event ahead
+abbrev pub expecting : Event → MachineState → MachineState
+expecting next m = with_ahead (next ∷ []) (settled m).chip
+
+-- a machine after this event has happened too. An Access is where the next register access takes place, so it lies
+-- ahead
+abbrev pub performed : Event → MachineState → MachineState
+performed event.Access m = expecting event.Access m
+performed next m = settled (expecting next m)

@@ -3,7 +3,7 @@ use Rattle.std.specs.Prelude.{◌≡◌, ◌≢◌, ℕ, List, [], ◌∷◌, �
 use Rattle.uart_chip.specs.declared.receiver.Character.{Character}
 use Rattle.uart_chip.specs.Transmitter.{held}
 use Rattle.uart_chip.specs.Receiver.{ReceiverState}
-use Rattle.uart_chip.specs.Conserved.{stands, waiting}
+use Rattle.uart_chip.specs.Conserved.{stands, waiting, out}
 use Rattle.uart_run.specs.Ready.{Ready}
 use Rattle.uart_run.specs.Uncut.{IsUncut}
 use Rattle.uart_ring_runs.specs.RingRun.{RingState, ring_machine, under}
@@ -30,6 +30,11 @@ on_the_way from to =
 -- the bytes that have come to an end and were not taken: in the receive ring, and in the receiver
 abbrev pub to_be_taken : RingState → List ℕ
 to_be_taken s = to_take s ++ waiting (ring_machine s)
+
+-- all that has left an end or is to leave it, in order: what has left its chip, what its transmitter holds, and what
+-- waits in its rings
+abbrev pub all_sent : RingState → List ℕ
+all_sent s = out (ring_machine s) ++ to_send s
 
 -- the receiver of an end
 abbrev pub receiver_at : RingState → ReceiverState
@@ -79,6 +84,12 @@ abbrev pub left_in : RingCall → RingAnswer → (there : List ℕ) → List Gon
 left_in call.ClearReceive a there = map Cleared there
 left_in other a there = map Taken (taken_by other a)
 
+-- promise: of each byte that left a receive ring it is said whether it was taken or cleared; an end that never clears
+--   has taken all
+-- with: gone_at, LinkConserves.taken
+-- shown by: what_was_cleared_is_not_taken
+-- refused: a_clear_drops_nothing, clears_of_the_transmit_ring_count
+
 -- those that left the receive ring of an end, in order: taken or cleared; as bytes; and those that were taken
 abbrev pub gone_at : Side → List Step → List Gone
 gone_at end [] = []
@@ -108,6 +119,11 @@ AllKeepOrderAt end (step ∷ steps) = OfEnd end step.call.side (KeepsOrder step.
 
 -- ---- what is carried
 
+-- what has left an end and is to leave it grew by what was queued, if no call lets a byte overtake or drops one
+abbrev pub Queues : Side → Link → List Step → Link → Type 0
+Queues end a steps b =
+    AllKeepOrderAt end steps → all_sent (at_end end b) ≡ all_sent (at_end end a) ++ queued_at end steps
+
 -- From one end to the other, in this order: what was taken or cleared, what waits to be taken, what is on its way. That
 -- is what waited to be taken, what was on its way and what was queued, less what the receiver has dropped.
 abbrev pub Carries : Side → Link → List Step → Link → Type 0
@@ -126,6 +142,7 @@ pub record BothReady (a : Link) : Type 0 where
   pub left : Ready (under a.left)
   pub right : Ready (under a.right)
 
+-- neither chip cuts characters to the word length
 pub record NoneCut (a : Link) : Type 0 where
   pub left : IsUncut (under a.left)
   pub right : IsUncut (under a.right)

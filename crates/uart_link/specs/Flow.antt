@@ -63,7 +63,8 @@ abbrev pub SeesLines : List Moment → Type 0
 SeesLines moments = (others : List Moment) × (moments ≡ moment.Lines ∷ others)
 
 -- a call of programs that keep to flow control from this end to the other one: one of the sender finds the lines as the
--- receiver gives them, and one of the receiver adjusts RTS as it should, if it does
+-- receiver gives them, and one of the receiver that adjusts RTS has a high enough mark, and comes behind the handler,
+-- with few characters on the cable
 pub record IsPacedStep (pace : Pace) (end : Side) (step : Step) : Type 0 where
   pub lines : OfEnd end step.call.side (SeesLines step.call.moments.items)
   pub adjusts : let to = other end in
@@ -106,6 +107,7 @@ pub record BeginsPaced (pace : Pace) (from to : RingState) : Type 0 where
 
 -- a part of a run in which both programs keep to these numbers in the direction from this end to the other one
 pub record IsPaced (pace : Pace) (end : Side) (a : Link) (steps : List Step) : Type 0 where
+  -- no more characters come between two adjustments than a FIFO of 16 holds
   pub few : pace.between ≤ FIFO_SIZE
   pub begins : BeginsPaced pace (at_end end a) (at_end (other end) a)
   pub each : AllByRecursion (IsPacedStep pace end) steps

@@ -6,7 +6,9 @@ pub mod Carried
 pub mod Told
 pub mod Flow
 pub mod Progress
+pub mod Stays
 pub mod Xoff
 pub mod AutoFlow
 pub mod Agreed
 pub mod Parts
+pub mod Later

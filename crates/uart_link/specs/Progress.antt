@@ -78,6 +78,7 @@ pub record EndInNext (end : Side) (steps : List Step) : Type 0 where
 -- time passes at an end: there are so many ticks in these calls
 pub record PassTime (ticks : ℕ) (end : Side) (steps : List Step) : Type 0 where
   pub happened : EndInNext end steps
+  -- at least so many ticks are in them
   pub enough : ticks ≤ in_calls_at ticks_in end steps
 
 -- all arrives that is on the cable to an end when these calls begin: there are as many arrivals in them
@@ -85,7 +86,9 @@ pub record BringAll (end : Side) (steps : List Step) : Type 0 where
   pub happened : EndInNext end steps
   pub first : Step
   pub others : List Step
+  -- these are the calls
   pub begin : steps ≡ first ∷ others
+  -- there are as many arrivals as characters are on the cable when the first begins
   pub enough : length (on_cable (chip_at (other end) first.before) (chip_at end first.before)) ≤
       in_calls_at arrives_in end steps
 
@@ -113,6 +116,7 @@ IsEachTold c =
 -- which it is not while receiving is paused
 pub record HandlesAll (end : Side) (step : Step) : Type 0 where
   pub runs : HandlerRuns end step
+  -- DATA_READY is enabled after it
   pub enabled : has_any (chip_at end step.after).latches.ier IER.DATA_READY.0 ≡ true
   pub told : IsEachTold (chip_at end step.after)
 
@@ -177,6 +181,7 @@ HasRounds end ticks (suc rounds) =
 -- arrivals. Chips in software keep what they have sent, and what became of each arrival
 pub record HasJournals (end : Side) (a : Link) (steps : List Step) : Type 0 where
   pub wire : HasRoom (length (to_send (at_end end a)) + length (queued_at end steps)) (ring_machine (at_end end a))
+  -- the receiver's journal has room for all that may arrive
   pub arrivals :
       length (out (ring_machine (at_end end a))) + (length (to_send (at_end end a)) + length (queued_at end steps)) ≤
       length (chip_at (other end) a).receiver.marks
@@ -204,10 +209,13 @@ abbrev pub NoneAdjusts : Side → List Step → Type 0
 NoneAdjusts end [] = ⊤
 NoneAdjusts end (step ∷ steps) = OfEnd end step.call.side (hold_of step.call.call ≡ None) × NoneAdjusts end steps
 
--- RTS stays on that was turned on, until the end adjusts it again, if its chip does not turn it off by itself
-abbrev pub KeepsRtsOn : Side → List Step → Link → Type 0
-KeepsRtsOn end steps b =
-    Comes (TurnsRtsOn end) (NoneAdjusts end) steps → IsUnheld (ring_machine (at_end end b)) → IsRtsOn end b
+-- RTS stays on that was turned on, until the end adjusts it again, if its chip does not turn it off by itself: it had
+-- no automatic flow control at first, or that is off in the end
+abbrev pub KeepsRtsOn : Side → Link → List Step → Link → Type 0
+KeepsRtsOn end a steps b =
+    Comes (TurnsRtsOn end) (NoneAdjusts end) steps →
+    -- its chip had no automatic flow control at first, or that is off in the end
+    ((chip_at end a).auto_flow ≡ false) ⊎ IsUnheld (ring_machine (at_end end b)) → IsRtsOn end b
 
 -- a call of an end whose driver does not check CTS leaves its rings armed, if it finds them so or arms them; each call
 -- does
@@ -239,6 +247,7 @@ enough_rounds s = length (to_send s) + 1
 -- most `enough_rounds` times `enough_ticks` have to pass
 abbrev pub Progresses : Side → Link → List Step → Link → Type 0
 Progresses end a steps b =
+    -- the sender's chip has no automatic flow control
     (chip_at end a).auto_flow ≡ false → AllKeepOrderAt end steps → DropsNothing (other end) a b →
     HasJournals end a steps → HasRounds end (enough_ticks (transmitter_at end a)) (enough_rounds (at_end end a)) steps →
     TakesQueued end a steps

@@ -19,6 +19,13 @@ NoLineAt end (step ∷ steps) = OfEnd end step.call.side (step.call.call ≢ cal
 -- they began shows as the overrun flag
 abbrev pub TellsDrops : Side → Link → List Step → Link → Type 0
 TellsDrops end a steps b =
-    (some : List Step) (last : Step) (value : ℕ) → steps ≡ some ++ last ∷ [] → NoLineAt end some →
-    last.call.side ≡ end → last.call.call ≡ call.TakeLine → last.answer ≡ line_answer value →
+    (some : List Step) (last : Step) (value : ℕ) →
+    -- this is the last call
+    steps ≡ some ++ last ∷ [] → NoLineAt end some →
+    -- the last call is one of that end
+    last.call.side ≡ end →
+    -- it is a `take_line`
+    last.call.call ≡ call.TakeLine →
+    -- this is what it returned
+    last.answer ≡ line_answer value →
     IsDrop (ring_machine (at_end end a)) (ring_machine (at_end end b)) → has_any value LSR.OVERRUN_ERROR.0 ≡ true

@@ -15,7 +15,7 @@ use Rattle.uart_ring_runs.specs.RingRun.{RingState, ring_machine}
 use Rattle.uart_link.specs.declared.call.Side.{Side}
 use Rattle.uart_link.specs.declared.link.Link.{Link}
 use Rattle.uart_link.specs.Cable.{on_cable}
-use Rattle.uart_link.specs.Carried.{receiver_at, OfEnd}
+use Rattle.uart_link.specs.Carried.{receiver_at, all_sent, OfEnd}
 use Rattle.uart_link.specs.Flow.{beyond, receive_room, arrived_in, since_at}
 use Rattle.uart_link.specs.Link.{at_end, other, Step}
 use Rattle.uart_link.specs.Progress.{of_side}
@@ -75,8 +75,8 @@ abbrev pub AdjustsXoffIfAny : XoffPace → Option ℕ → (before here there : R
 AdjustsXoffIfAny pace None before here there = ⊤
 AdjustsXoffIfAny pace (Some hold) before here there = AdjustsXoff pace hold before here there
 
--- a call of programs that keep to flow control from this end to the other one: one of the receiver adjusts XOFF as it
--- should, if it does
+-- a call of programs that keep to flow control from this end to the other one: one of the receiver that adjusts XOFF
+-- has a high enough mark, and comes behind the handler, with no urgent byte in the way and few characters on the cable
 abbrev pub IsXoffStep : XoffPace → Side → Step → Type 0
 IsXoffStep pace end step =
     let to = other end in
@@ -137,7 +137,8 @@ pub record ObeysInTime (pace : XoffPace) (since : SinceXoff) (from : RingState) 
   pub holds : HoldsInTime pace since from
   pub few : since.urgent ≤ pace.urgent
 
--- it does so after each of these calls, as long as the other end wants it
+-- after each of these calls the sender has obeyed in time, and has had few urgent bytes to send, as long as the other
+-- end wants it to hold
 abbrev pub AllObeyed : XoffPace → (end : Side) → SinceXoff → List Step → Type 0
 AllObeyed pace end since [] = ⊤
 AllObeyed pace end since (step ∷ steps) =
@@ -157,6 +158,7 @@ pub record BeginsByXoff (pace : XoffPace) (from to : RingState) : Type 0 where
 
 -- a part of a run in which both programs keep to these numbers in the direction from this end to the other one
 pub record IsPacedByXoff (pace : XoffPace) (end : Side) (a : Link) (steps : List Step) : Type 0 where
+  -- no more characters come between two adjustments than a FIFO of 16 holds
   pub few : pace.between ≤ FIFO_SIZE
   pub begins : BeginsByXoff pace (at_end end a) (at_end (other end) a)
   pub each : AllByRecursion (IsXoffStep pace end) steps
@@ -164,11 +166,6 @@ pub record IsPacedByXoff (pace : XoffPace) (end : Side) (a : Link) (steps : List
   pub obeyed : AllObeyed pace end (from_now_on (at_end end a) (at_end (other end) a)) steps
 
 -- ---- each end by itself
-
--- all that has left an end or is to leave it, in order: what has left its chip, what its transmitter holds, and what
--- waits in its rings
-abbrev pub all_sent : RingState → List ℕ
-all_sent s = out (ring_machine s) ++ to_send s
 
 -- what a call tells goes out right behind what the transmitter holds, and before all that waits
 abbrev pub TellsNext : RingCall → RingAnswer → (before after : RingState) → Type 0

@@ -50,6 +50,8 @@ impl LinkCall {
     /// Returns whether the call can be made: there are at most [`uart_calls::CALL_BYTES`] slots,
     /// and the call is one of the rings themselves.
     pub fn is_runnable(&self) -> bool
+        // proved: Which calls can be made
+        // on: `LinkCall::is_runnable`
         ensures { IsTrue result ↔ IsLinkRunnable self.now }
     {
         self.call.is_runnable() && self.call.is_of_rings()

@@ -1,15 +1,16 @@
 //! The chip at one end of a cable.
-ghost use Rattle.std.specs.Prelude.{◌≡◌, ◌≤◌, ◌<◌, ◌+◌, true, List, [], ◌∷◌, ◌++◌, length, drop};
+ghost use Rattle.std.specs.Prelude.{◌≡◌, ◌≤◌, ◌<◌, ◌+◌, true, false, List, [], ◌∷◌, ◌++◌, length, drop};
 ghost use Rattle.std.specs.Prelude.{ℕ, vec_len, vec_capacity, slice_get, IfOk, IsOkUnless, IsTrue};
 ghost use Rattle.uart_chip.specs.Conserved.{waiting};
 ghost use Rattle.uart_chip.specs.Machine as machine;
 ghost use Rattle.uart_chip.specs.Sound.{IsWhole};
 ghost use Rattle.uart_chip.specs.Transmitter.{held};
-ghost use Rattle.uart_events.specs.Build.{refusal};
+ghost use Rattle.uart_events.specs.Build.{refusal, IsLegal};
 ghost use Rattle.uart_run.specs.Wired.{IsWiredChip};
 ghost use Rattle.uart_events.specs.declared.event.BuildError.{BuildError};
 ghost use Rattle.uart_link.specs.Brought.{IsBrought};
 ghost use Rattle.uart_link.specs.Cable as spec;
+ghost use Rattle.uart_link.specs.Known.{IsUnmarked};
 ghost use Rattle.uart_link.specs.declared.call.Moment.{Moment};
 ghost use Rattle.uart_link.specs.declared.call.TheConstants.{CALL_MOMENTS};
 
@@ -19,6 +20,7 @@ use std::alloc::Global;
 use std::marker::Model;
 use uart_chip::controlling::ChipParts;
 use uart_chip::{ArrivalMark, BuildError, Chip, Event, Uart, arrivals, refusal};
+use uart_spec::FifoSize;
 use uart_spec::backend::Backend;
 use uart_spec::registers::{MCR, MSR, flag};
 
@@ -126,6 +128,31 @@ fn put_events(events: &mut Vec<Event>, moments: &[Moment], cable: &[u8], lines: 
     }
 }
 
+// Leaves this event alone in a list with room for it.
+fn put_alone(events: &mut Vec<Event>, event: Event)
+    requires room { 0 < vec_capacity events.old }
+    ensures items { events.new.items ≡ event ∷ [] }
+    ensures room { vec_capacity events.old ≤ vec_capacity events.new }
+{
+    events.clear();
+    events.push(event).unwrap();
+}
+
+// Returns whether this event may happen at a cable, if so many characters may still come.
+fn may_happen(event: Event, to_come: usize) -> bool
+    ensures { result ≡ spec.may_happen event to_come }
+{
+    match event {
+        Event::Arrive { errors, .. } => errors == 0 && to_come > 0,
+        Event::Lines(inputs) => {
+            let inputs = MSR::from_bits_retain(inputs);
+            inputs.intersection(MSR::LINES) == inputs
+        }
+        Event::Mark => false,
+        _ => true,
+    }
+}
+
 impl CabledChip {
     /// Returns a chip after power-on, at a cable on which nothing has been sent yet.
     ///
@@ -157,6 +184,9 @@ impl CabledChip {
         wire_capacity: usize,
         arrivals: usize,
     ) -> Result<Self, BuildError>
+        // proved: A chip after power-on, or the first refusal in a fixed order; else only
+        //   `OutOfMemory`
+        // on: `CabledChip::new`
         ensures built { IfOk result (λ m.
             m ≡ machine.fresh chip char_ticks wire_capacity (spec.unknown arrivals)) }
         ensures refused { (reason : BuildError) →
@@ -164,10 +194,69 @@ impl CabledChip {
         ensures accepted { refusal char_ticks wire_capacity [] ≡ None →
             IsOkUnless result BuildError.OutOfMemory }
     {
+        Self::new_sized(
+            alloc,
+            chip,
+            FifoSize::Sixteen,
+            char_ticks,
+            wire_capacity,
+            arrivals,
+            false,
+        )
+    }
+
+    /// Returns a chip as [`CabledChip::new`] does, whose FIFOs have this size, and which cuts each
+    /// character to the word length of LCR if `cuts` is set.
+    ///
+    /// The size is that from the start, and no access changes it. The four trigger levels are those
+    /// of a chip with FIFOs of this size. A 16450 has no FIFO, so the size changes nothing that it
+    /// does.
+    ///
+    /// # Errors
+    ///
+    /// Those of [`CabledChip::new`], in the same order.
+    ///
+    /// # Examples
+    ///
+    /// ```
+    /// // As a 16750 that has been switched to 64.
+    /// let chip = Chip::Uart16550A;
+    /// let size = FifoSize::SixtyFour;
+    /// let machine = CabledChip::new_sized(rt.alloc(), chip, size, 4, 64, 64, false)?;
+    /// let mut uart = Uart16550::new_with_backend(machine.with_auto_flow());
+    /// uart.init(Config::DEFAULT)?;
+    /// ```
+    pub fn new_sized(
+        alloc: Global,
+        chip: Chip,
+        size: FifoSize,
+        char_ticks: u16,
+        wire_capacity: usize,
+        arrivals: usize,
+        cuts: bool,
+    ) -> Result<Self, BuildError>
+        // promise: a chip at a cable has FIFOs of the size that it was made with
+        // with: new_sized.built, new_sized.refused, new_sized.accepted
+        // shown by: nine_under_way_find_room_in_a_fifo_of_64, a_chip_of_each_size_holds_as_many
+        // refused: new_sized_makes_fifos_of_16, new_sized_cuts_nothing
+        // proved: The same with FIFOs of a size, for characters that are cut to the word length, or
+        //   are not
+        // on: `CabledChip::new_sized`
+        ensures built { IfOk result (λ m. m ≡ machine.sized size
+            (machine.cutting cuts
+            (machine.fresh chip char_ticks wire_capacity (spec.unknown arrivals)))) }
+        // if: this is the first thing that is wrong with what is asked for
+        ensures refused { (reason : BuildError) →
+            refusal char_ticks wire_capacity [] ≡ Some reason → result ≡ Err reason }
+        // if: nothing is wrong with what is asked for
+        ensures accepted { refusal char_ticks wire_capacity [] ≡ None →
+            IsOkUnless result BuildError.OutOfMemory }
+    {
         if let Some(reason) = refusal(char_ticks, wire_capacity, &[]) {
             return Err(reason);
         }
-        let Ok(uart) = Uart::new(alloc, chip, char_ticks, wire_capacity, arrivals, false) else {
+        let Ok(uart) = Uart::new_sized(alloc, chip, size, char_ticks, wire_capacity, arrivals, cuts)
+        else {
             return Err(BuildError::OutOfMemory);
         };
         let Ok(events) = Vec::with_capacity(alloc, CALL_MOMENTS) else {
@@ -196,6 +285,8 @@ impl CabledChip {
     /// ```
     #[tactic(auto, using(crate::proofs::Schedules::known_flowing))]
     pub fn with_auto_flow(self) -> Self
+        // proved: The chip with automatic flow control
+        // on: `CabledChip::with_auto_flow`
         ensures { result ≡ machine.flowing true self }
     {
         Self {
@@ -251,8 +342,69 @@ impl CabledChip {
         self.remaining -= arrivals(&self.events);
     }
 
-    // Returns the modem lines that this chip gives to the other end.
-    fn lines(&self) -> MSR
+    // Lets all that is known of the schedule happen, and puts this event into it.
+    fn expect(&mut self, event: Event)
+        requires legal { IsLegal event }
+        requires unmarked { IsUnmarked event }
+        requires few { machine.arrivals (event ∷ []) ≤ spec.to_come (spec.settled self.old).chip }
+        ensures { self.new ≡ spec.expecting event self.old }
+    {
+        self.settle();
+        self.cursor = 0;
+        put_alone(&mut self.events, event);
+        self.remaining -= arrivals(&self.events);
+    }
+
+    // Returns whether this event may happen, once all that is known of the schedule has.
+    fn may_happen(&self, event: Event) -> bool
+        ensures { result ≡
+            spec.may_happen event (spec.to_come (spec.settled self.now).chip) }
+    {
+        may_happen(event, self.remaining)
+    }
+
+    /// Lets all that is known of the schedule happen, and then this event, and returns true. An
+    /// `Access` lies ahead then: there the next register access takes place, without the tick that
+    /// passes elsewhere.
+    ///
+    /// This is for a cable that a program plays itself, from moment to moment. [`run_link`] brings
+    /// what has left the other end, from call to call.
+    ///
+    /// Returns false, and nothing happens, if the event cannot be at a cable: an arrival with
+    /// errors or behind the last one that the chip was made for, lines with bits outside of 0xf0,
+    /// and a `Mark`.
+    ///
+    /// # Examples
+    ///
+    /// ```
+    /// chip.perform(Event::Ticks(1));
+    /// let arrives = chip.perform(Event::Arrive { byte, errors: 0 });
+    /// ```
+    ///
+    /// [`run_link`]: crate::run_link
+    pub fn perform(&mut self, event: Event) -> bool
+        // proved: An event from outside, which happens at once, or nothing, if it cannot be at a
+        //   cable
+        // on: `CabledChip::perform`
+        ensures which { result ≡
+            spec.may_happen event (spec.to_come (spec.settled self.old).chip) }
+        ensures happened { result ≡ true → self.new ≡ spec.performed event self.old }
+        ensures refused { result ≡ false → self.new ≡ self.old }
+    {
+        if !self.may_happen(event) {
+            return false;
+        }
+        self.expect(event);
+        match event {
+            Event::Access => {}
+            _ => self.settle(),
+        }
+        true
+    }
+
+    /// Returns the modem lines that this chip gives to the other end: its RTS is CTS there, and its
+    /// DTR is DSR and CD. In loopback its outputs are off.
+    pub fn lines(&self) -> MSR
         ensures { result.0 ≡ spec.lines_from self.now.chip }
     {
         if self.uart.is_loopback() {
@@ -271,12 +423,21 @@ impl CabledChip {
     /// assert!(rt; CabledChip::new(rt.alloc(), Chip::Uart16550A, 4, 64, 64)?.is_untouched());
     /// ```
     pub fn is_untouched(&self) -> bool
+        // proved: Nothing has come to a chip yet: whatever has left the other one may come
+        // on: `CabledChip::is_untouched`
         ensures { IsTrue result → (wire : List ℕ) → IsBrought wire self.now }
     {
         if self.cursor < self.events.len() {
             return false;
         }
         self.remaining == self.uart.receiver().arrivals()
+    }
+
+    /// Returns the chip.
+    pub fn chip(&self) -> &Uart
+        ensures { result.now ≡ self.now.chip }
+    {
+        &self.uart
     }
 
     /// Returns the bytes that have left the chip, in order.

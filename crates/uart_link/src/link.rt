@@ -42,6 +42,9 @@ impl Link {
         left: Uart16550Ring<CabledChip>,
         right: Uart16550Ring<CabledChip>,
     ) -> Result<Self, (Uart16550Ring<CabledChip>, Uart16550Ring<CabledChip>)>
+        // proved: Rings at two ends are joined, if nothing has come to either chip yet; else they
+        //   are returned as they were
+        // on: `Link::new`: `joined`, `ends`, `refused`
         ensures joined { IfOk result (λ link. IsJoined link) }
         ensures ends { IfOk result (λ link. (link.left ≡ left) × (link.right ≡ right)) }
         ensures refused { IfErr result (λ rings. rings ≡ (left, right)) }
@@ -129,7 +132,20 @@ fn make_link_call(link: &mut Link, call: &LinkCall) -> RingAnswer
 /// run_link(&mut link, &calls, &mut answers);
 /// ```
 pub fn run_link(link: &mut Link, calls: &[LinkCall], answers: &mut [RingAnswer])
+    // promise: over a cable, what is queued at one end is taken at the other, cleared there or on
+    //   its way, in order, less what the receiver dropped, if no call of the sender overtakes or
+    //   drops; a drop is told
+    // with: run_link, RanLink.parts, LinkConserves.rightward, LinkConserves.tells
+    // shown by: bytes_cross_the_cable_in_order, a_byte_that_overruns_is_told, the_lines_cross_over,
+    //   what_is_queued_is_taken_less_what_is_dropped
+    // proved: The calls are made in turn, each at its end with its moments, and the other end stays
+    //   as it is meanwhile
+    // on: `run_link`: `run`
+    // proved: After such a part a session may go on at both ends, and the two are still joined:
+    //   what is ahead of each is what has left the other
+    // on: `run_link`: `ready`, `joined`
     requires runnable { All IsLinkRunnable calls.now }
+    // there is a slot for each answer
     requires slots { length calls.now ≡ length answers.old }
     ensures { RanLink link.old calls.now answers.new link.new }
 {

@@ -119,7 +119,10 @@ some_overrun (act ∷ acts) c = shows_overrun act c || some_overrun acts (after 
 -- read and what is in the receiver
 abbrev pub CharactersAreReadInOrder : Type 0
 CharactersAreReadInOrder =
-    (acts : List Act) (c : ChipState) → AllInTurn IsUnreset acts c → some_overrun acts c ≡ false →
+    (acts : List Act) (c : ChipState) → AllInTurn IsUnreset acts c →
+    -- no read of LSR returned the overrun flag
+    some_overrun acts c ≡ false →
+    -- the flag is not set now
     (after_all acts c).receiver.is_overrun ≡ false →
     c.receiver.queue ++ in_turn came acts c ≡ in_turn read acts c ++ (after_all acts c).receiver.queue
 
@@ -164,7 +167,9 @@ IsHolding _ c = Unit {0}
 -- a timeout that is due stays due
 abbrev pub HeldTimeoutsStay : Type 0
 HeldTimeoutsStay =
-    (acts : List Act) (c : ChipState) → AllInTurn IsHolding acts c → is_due c ≡ true → is_due (after_all acts c) ≡ true
+    (acts : List Act) (c : ChipState) → AllInTurn IsHolding acts c →
+    -- a reception timeout is due
+    is_due c ≡ true → is_due (after_all acts c) ≡ true
 
 -- an interrupt is pending if a timeout is due and the guest enabled it
 abbrev pub DueTimeoutsInterrupt : Type 0

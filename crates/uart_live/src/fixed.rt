@@ -68,6 +68,14 @@ impl<T, const FIFO: usize> Model for FixedFifo<T, FIFO> {
 impl<T: Copy, const FIFO: usize> FixedFifo<T, FIFO> {
     /// Returns an empty queue, whose unused places hold `item`.
     pub fn new(item: T) -> Self
+        // proved: Each call is one function of the chip's definitions, the same as under a
+        //   schedule; what it shows is the chip's
+        // on: `LiveChip::new`, clause `built`; `read`, clauses `answers` and `after`; `write`;
+        //   `ticks`, clause `after`; `arrive`, `arrive_holding_timeout` and `set_lines`, clause
+        //   `accepted`; `take_wire`, `wire`, `wire_room`, `receive_room`, `waiting_len`,
+        //   `held_len`, `divisor`, `overflows`
+        // proved: What is refused, FIFOs of another size among it, and that it then changes nothing
+        // on: `LiveChip::new`, `arrive`, `arrive_holding_timeout` and `set_lines`, clause `refused`
         requires { characters (fifo_size FIFO) ≡ FIFO }
         ensures { result ≡ [] }
     {

@@ -130,6 +130,10 @@ impl<const FIFO: usize> LiveChipWith<FIFO> {
     /// LiveChip::new(Chip::Uart16550A, 4, 64)
     /// ```
     pub fn new(chip: Chip, char_ticks: u16, wire_capacity: usize) -> Result<Self, ChipError>
+        // promise: a live chip, and a port, has FIFOs of the size that its type names, 16, 32, 64,
+        //   128 or 256, and keeps it; any other number is refused before all else
+        // with: new.built, try_new.made, try_new.refused, IsLive, is_size, refusal
+        // shown by: a_chip_of_each_size_holds_as_many, no_fifo_holds_another_number
         ensures built { IfOk result (λ live. live ≡
             spec.with_size (fifo_size FIFO) (spec.fresh chip char_ticks wire_capacity 0)) }
         ensures refused { (reason : ChipError) →
@@ -205,6 +209,9 @@ impl<const FIFO: usize> LiveChipWith<FIFO> {
     /// ```
     #[inline]
     pub fn sends_at_once(&self) -> bool
+        // proved: Whether a byte can go onto the wire at once, and what that leaves: the byte is on
+        //   the wire, and THR became empty
+        // on: `LiveChip::sends_at_once`, clause `sends`; `send_at_once`
         ensures sends { result ≡ sending_spec.sends_at_once self.now }
         ensures live { IsLive (fifo_size FIFO) self.now }
     {
@@ -242,6 +249,9 @@ impl<const FIFO: usize> LiveChipWith<FIFO> {
     /// byte is.
     #[inline]
     pub fn pass_wire(&mut self) -> bool
+        // proved: A byte can be taken before it is on an empty wire, which leaves what
+        //   `send_at_once` and `take_wire(1)` leave; the byte is the one that is sent
+        // on: `LiveChip::pass_wire`, clause `after`; `cut`
         ensures sends { result ≡ sending_spec.sends_at_once self.old }
         ensures passed { result ≡ true → self.new ≡ passed self.old }
         ensures after { (value : ℕ) → result ≡ true → self.old.transmitter.wire ≡ [] →
@@ -271,6 +281,8 @@ impl<const FIFO: usize> LiveChipWith<FIFO> {
     /// }
     /// ```
     pub fn raise_thr_empty(&mut self)
+        // proved: A THR-empty interrupt is made pending, and nothing else changes
+        // on: `LiveChip::raise_thr_empty`
         ensures { self.new ≡ spec.with_thr_pending true self.old }
     {
         let transmitter = self.uart.transmitter_mut();
@@ -317,6 +329,8 @@ impl<const FIFO: usize> LiveChipWith<FIFO> {
     /// Returns whether the guest has an interrupt enabled. If not, the interrupt line is down.
     #[inline]
     pub fn has_interrupts_on(&self) -> bool
+        // proved: Whether an interrupt is enabled, and whether that of received characters is
+        // on: `LiveChip::has_interrupts_on`, `has_input_interrupt_on`
         ensures on { result ≡ not (self.now.latches.ier == 0) }
         ensures live { IsLive (fifo_size FIFO) self.now }
     {
@@ -352,6 +366,9 @@ impl<const FIFO: usize> LiveChipWith<FIFO> {
     /// read again and again.
     #[inline]
     pub fn read_clear_status(&mut self) -> Option<u8>
+        // proved: The short ways of what guests do most answer and leave what `read` and `arrive`
+        //   do; one that refuses changes nothing
+        // on: `LiveChip::read_clear_status`, `read_data` and `arrive_in_room`
         ensures value { result ≡ clear_status self.old }
         ensures read { is_some result ≡ true → self.new ≡ spec.after_read offsets.LSR self.old }
         ensures left { is_some result ≡ false → self.new ≡ self.old }
@@ -387,6 +404,10 @@ impl<const FIFO: usize> LiveChipWith<FIFO> {
     /// chip.ticks(elapsed);
     /// ```
     pub fn ticks(&mut self, count: u16) -> usize
+        // proved: Ticks pass in at most two jumps more than a FIFO holds characters, which are 18
+        //   with FIFOs of 16, whatever their number, and the result is the number of jumps, as of
+        //   `idle`
+        // on: `LiveChip::ticks`, clauses `jumps` and `most`
         ensures after { self.new ≡ spec.ticks count self.old }
         ensures jumps { result ≡ jumps_in count self.old }
         ensures most { result ≤ most_jumps (fifo_size FIFO) }
@@ -499,6 +520,11 @@ impl<const FIFO: usize> LiveChipWith<FIFO> {
     /// ```
     #[inline]
     pub fn is_interrupting(&self) -> bool
+        // proved: The interrupt line is up exactly if a read of ISR would show an interrupt
+        // on: `LiveChip::is_interrupting`, clauses `pending` and `shown`
+        // proved: Every live chip is sound, and its FIFOs keep their size, whatever was done with
+        //   it
+        // on: `LiveChip::is_interrupting`, clause `live`; `fifo_size`
         ensures pending { result ≡ is_some (spec.interrupt self.now) }
         ensures shown { result ≡
             not (has_any (spec.answer offsets.ISR self.now) ISR.INTERRUPT_STATUS.0) }

@@ -18,6 +18,13 @@ first_machine plan =
     flowing plan.auto_flow
     (sized plan.fifo_size (cutting plan.cuts (fresh plan.chip plan.ticks plan.wire_capacity plan.events)))
 
+-- promise: the driver of a script takes the FIFOs for the size that the script sets, and for 16 if it sets none; it
+--   sets one on line 2, or on line 3 behind `limit`
+-- with: IsFirst.driver, IsScript.driver_fifo_size
+-- shown by: a_send_fills_a_fifo_of_the_size_of_the_script, fills-a-larger-fifo, refused-late-fifo-size
+-- refused: the_driver_takes_the_size_of_the_chip, uart_language/parse_forgets_the_fifo_size,
+--   uart_language/fifo_size_on_a_later_line
+
 -- this machine, and a new driver with the limit of the script, which takes the FIFOs for the size that the script sets
 pub record IsFirst (plan : Plan) (s : State) : Type 0 where
   pub machine : machine_of s ≡ first_machine plan

@@ -6,6 +6,8 @@ ghost use Rattle.uart_play.specs.OneOutcome.{RunsHaveOneOutcome, ScriptsHaveOneO
 /// The answers of `run`, and the state after it, are a function of the calls and the state before
 /// it.
 pub fn runs_have_one_outcome()
+    // promise: a run has one outcome
+    // shown by: calls_in_turn_do_what_a_run_does
     ensures { RunsHaveOneOutcome }
 {}
 

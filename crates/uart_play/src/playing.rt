@@ -24,6 +24,8 @@ use uart_run::run;
 ///
 /// If memory for the schedule or the machine could not be allocated.
 pub fn machine_for(alloc: Global, script: &Script) -> Result<Device16550, AllocError>
+    // proved: The machine of a script, with FIFOs of the size that the script names, under its
+    //   schedule
     requires { IsPlayable (plan_of script.now) }
     ensures { IfOk result (λ machine. machine ≡ first_machine (plan_of script.now)) }
 {
@@ -137,6 +139,18 @@ pub fn play<R: Input, W: Output>(
     reader: &mut R,
     writer: &mut W,
 ) -> Result<(), PlayError>
+    // promise: what is written for a script is the output of its run, and one output
+    // with: play.outcome, scripts_have_one_output
+    // shown by: plays_from_a_reader_to_a_writer
+    // refused: play_writes_the_input_back, play_reads_a_part, play_reads_nothing
+    // promise: a fault comes exactly if that side failed; a refusal has written nothing
+    // with: play.reader_fault, play.writer_fault, play.nothing
+    // shown by: a_reader_fails_at_each_read, a_writer_fails_at_each_write, a_script_is_cut_off
+    // refused: play_always_returns_read_fault, play_always_returns_write_fault
+    // promise: a refused request for memory is reported, and nothing was written
+    // with: play.nothing, parse
+    // shown by: .ci/refused-memory
+    // refused: uart_language/parse_wants_memory_before_faults
     // The outcome of an input, if its bytes are known.
     ensures outcome { IfSome (R.remaining reader.old)
         (λ input. Outcome input result (W.contents writer.old) (W.contents writer.new)) }

@@ -53,6 +53,10 @@ pub record IsFailed {F : Type 0} (step : F → Attempt → F → Type 0) (old : 
   pub port : first.port ≡ port_of access
   pub floating : IsFloating access
 
+-- proved: Before a fault of a port an access is exactly the one requested, or fails; after it no access is made, and
+--   reads return `ff`
+-- on: `PortAccess` of `GuardedPorts`
+
 -- before a fault the file makes the access or fails at it; after one nothing happens
 abbrev pub GuardedStep : {F : Type 0} → (F → Attempt → F → Type 0) → GuardedPorts F → Access → GuardedPorts F →
     Type 0

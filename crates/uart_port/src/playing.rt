@@ -32,6 +32,10 @@ pub fn terminal_at<F: PortFile + Drop>(
     fifo_size: FifoSize,
     file: F,
 ) -> Terminal<F>
+    // promise: at I/O ports that may fail no access is made after the first fault
+    // with: GuardedStep, terminal_at
+    // shown by: integration/port
+    // refused: writes_on_after_a_fault, hides_the_fault
     requires { IsPortBase port }
     ensures { IsTerminalAt port (non_zero_u64_get limit) fifo_size file result }
 {
@@ -89,6 +93,9 @@ impl<W: Write, T: Write> Report<W, T> {
 
     // Prints the answer of this call, which has returned.
     fn answer(&mut self, call: &Call, answer: &Answer) -> Result<(), ReportError>
+        // proved: Each access that was made is one that the ports made, and adds its line to the
+        //   trace, and so do each call and its answer
+        // on: `PortFile` of `NotedPorts`, `Trace::answer`
         ensures printed { OnOk result
             (Appends (W.contents (writer_of self.old)) (W.contents (writer_of self.new))
             (line (answer_text answer.now))) }
@@ -122,6 +129,8 @@ pub fn play<F: PortFile, W: Write, T: Write>(
     lines: &[&[u8]],
     report: &mut Report<W, T>,
 ) -> Result<(), ReportError>
+    // proved: What is printed are the answers of calls that `perform` made, in order, up to the
+    //   first fault
     requires { All IsRunnable calls.now }
     ensures { OnOk result
         (IsPlayed F.step uart.old calls.now (W.contents (writer_of report.old))

@@ -36,7 +36,7 @@ use Rattle.uart_ring.specs.declared.ring.receive.ReceiveMarks.{ReceiveMarks}
 use Rattle.uart_spec.specs.declared.registers.modem_control.TheConstants.MCR
 use Rattle.uart_16550.specs.Frame.{switched, unlooped}
 use Rattle.uart_ring.specs.Ring.{free}
-use Rattle.uart_ring.specs.Storm.{counts_as, has_moved}
+use Rattle.uart_ring.specs.Storm.{counts_as, has_moved, round_limit}
 use Rattle.uart_ring.specs.Storm.{LooksOnceMore, CountsUnfinished, CountsRound, HandlesRound, StaysStuck, TriesToHandle, Restarts}
 use Rattle.uart_ring.specs.Storm.{not_paused}
 use Rattle.uart_ring.specs.declared.ring.storm.StuckError.{StuckError}
@@ -572,11 +572,11 @@ counts_leave rounds Limit found f l after t = counts_unfinished_leave rounds fou
 pub tries_leave : (limit rounds : ℕ) (result : Result Handled StuckError) → Implies (TriesToHandle limit rounds result) LeavesArmed
 tries_leave limit rounds result f l after t = go f.stuck refl t
   where
-    go : (was : Option StuckError) → f.stuck ≡ was → MatchOption was (HandlesRound limit rounds result f l after)
+    go : (was : Option StuckError) → f.stuck ≡ was → MatchOption was (HandlesRound (round_limit limit) rounds result f l after)
         (λ error. StaysStuck result error f l after) → LeavesArmed f l after
     go None e (handled, found, is, t) =
-        rw t.whole (leaves_then f t.mid after t.front t.back (handles_carry limit handled f t.front t.mid t.first)
-        (handles_leave limit handled f t.front t.mid t.first)
+        rw t.whole (leaves_then f t.mid after t.front t.back (handles_carry (round_limit limit) handled f t.front t.mid t.first)
+        (handles_leave (round_limit limit) handled f t.front t.mid t.first)
         (counts_leave rounds (counts_as (has_moved f t.mid) handled.end) found t.mid t.back after t.second))
     go (Some error) e t = leaves_stuck f l after (ap sendable t.1.1 ∙ none_stuck f error e)
 

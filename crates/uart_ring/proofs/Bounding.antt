@@ -31,7 +31,7 @@ use Rattle.uart_ring.specs.declared.ring.receive.ReceiveMarks.{ReceiveMarks}
 use Rattle.uart_spec.specs.Bits.{has}
 use Rattle.uart_spec.specs.declared.registers.modem_control.TheConstants.MCR
 use Rattle.uart_16550.specs.Frame.{switched, unlooped}
-use Rattle.uart_ring.specs.Storm.{counts_as, has_moved}
+use Rattle.uart_ring.specs.Storm.{counts_as, has_moved, round_limit}
 use Rattle.uart_ring.specs.Storm.{every_bit, LooksOnceMore, CountsUnfinished, CountsRound, HandlesRound, StaysStuck, TriesToHandle}
 use Rattle.uart_ring.specs.Storm.{Restarts}
 use Rattle.uart_ring.specs.Storm.{not_paused}
@@ -341,11 +341,11 @@ pub tries_size : (limit rounds : ℕ) (result : Result Handled StuckError) →
     Implies (TriesToHandle limit rounds result) (MakesAtMostBySize (most_of_try_handle limit))
 tries_size limit rounds result f l after t = go f.stuck t
   where
-    go : (was : Option StuckError) → MatchOption was (HandlesRound limit rounds result f l after)
+    go : (was : Option StuckError) → MatchOption was (HandlesRound (round_limit limit) rounds result f l after)
         (λ error. StaysStuck result error f l after) → length l ≤ most_of_try_handle limit f.driver.size
     go None (handled, found, is, t) =
-        both l t.front t.back (most_of_handle limit f.driver.size) (1 + most_of_change) t.whole
-        (handles_size limit handled f t.front t.mid t.first)
+        both l t.front t.back (most_of_handle (round_limit limit) f.driver.size) (1 + most_of_change) t.whole
+        (handles_size (round_limit limit) handled f t.front t.mid t.first)
         (counts_size rounds (counts_as (has_moved f t.mid) handled.end) found t.mid t.back after t.second)
     go (Some error) t = omega (arith, changes_size (rid_of every_bit) f.driver l after.driver t.1.0)
 

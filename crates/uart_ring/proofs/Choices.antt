@@ -45,7 +45,7 @@ use Rattle.uart_spec.specs.declared.registers.modem_control.TheConstants.MCR
 use Rattle.uart_16550.specs.Frame.{switched, unlooped}
 use Rattle.uart_16550.specs.Grammar.{Settings}
 use Rattle.uart_ring.specs.Storm.{every_bit, TurnsOff, ShowsReason, ShowsStuck, LooksOnceMore, CountsUnfinished, CountsRound}
-use Rattle.uart_ring.specs.Storm.{HandlesRound}
+use Rattle.uart_ring.specs.Storm.{HandlesRound, round_limit}
 use Rattle.uart_ring.specs.Storm.{StaysStuck, TriesToHandle, Restarts, not_paused, unless_stuck, counts_as, has_moved, CountsSince}
 use Rattle.uart_ring.specs.declared.ring.storm.StuckError.{StuckError}
 use Rattle.uart_ring.specs.declared.ring.storm.StuckError.TheVariants as stuck
@@ -582,17 +582,18 @@ pub tries_leave_no_choice : (limit rounds : ℕ) → LeavesNoRingChoice (TriesTo
 tries_leave_no_choice limit rounds = no_choice (λ f x y. record { at = λ l m a b p q. at f x y l m a b f.stuck p q })
   where
     handled : (f : RingFields) (x y : Result Handled StuckError) (l m : List Access) (a b : RingFields) →
-        HandlesRound limit rounds x f l a → HandlesRound limit rounds y f m b → SameOrPart ((x ≡ y) × (a ≡ b)) l m
+        HandlesRound (round_limit limit) rounds x f l a → HandlesRound (round_limit limit) rounds y f m b →
+        SameOrPart ((x ≡ y) × (a ≡ b)) l m
     handled f x y l m a b (h, found, is, p) (k, found', is', q) =
-        let both : RingDoes ((h ≡ k) × (found ≡ found')) f (RingNext (Handles limit h) (CountsSince rounds f h.end found))
-        (RingNext (Handles limit k) (CountsSince rounds f k.end found')) =
-        ring_next (handles_same limit f h k)
+        let both : RingDoes ((h ≡ k) × (found ≡ found')) f (RingNext (Handles (round_limit limit) h) (CountsSince rounds f h.end found))
+        (RingNext (Handles (round_limit limit) k) (CountsSince rounds f k.end found')) =
+        ring_next (handles_same (round_limit limit) f h k)
         (λ e mid. ring_so (λ t. (e, t)) (since_alike rounds f h.end k.end (ap (λ (z : Handled). z.end) e) found found' mid)) in
         so (λ r. (is ∙ ((λ i. unless_stuck (r.0.0 i) (r.0.1 i)) ∙ sym is'), r.1)) (both.at l m a b p q)
 
     at : (f : RingFields) (x y : Result Handled StuckError) (l m : List Access) (a b : RingFields) (was : Option StuckError) →
-        MatchOption was (HandlesRound limit rounds x f l a) (λ error. StaysStuck x error f l a) →
-        MatchOption was (HandlesRound limit rounds y f m b) (λ error. StaysStuck y error f m b) →
+        MatchOption was (HandlesRound (round_limit limit) rounds x f l a) (λ error. StaysStuck x error f l a) →
+        MatchOption was (HandlesRound (round_limit limit) rounds y f m b) (λ error. StaysStuck y error f m b) →
         SameOrPart ((x ≡ y) × (a ≡ b)) l m
     at f x y l m a b None p q = handled f x y l m a b p q
     at f x y l m a b (Some error) p q =

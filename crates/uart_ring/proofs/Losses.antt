@@ -37,7 +37,7 @@ use Rattle.uart_spec.specs.Bits.{has}
 use Rattle.uart_spec.specs.declared.registers.modem_control.TheConstants.MCR
 use Rattle.uart_16550.specs.Frame.{switched, unlooped}
 use Rattle.uart_ring.specs.Ring.{free}
-use Rattle.uart_ring.specs.Storm.{counts_as, has_moved}
+use Rattle.uart_ring.specs.Storm.{counts_as, has_moved, round_limit}
 use Rattle.uart_ring.specs.Storm.{every_bit, TurnsOff, ShowsStuck, LooksOnceMore, CountsUnfinished, CountsRound, HandlesRound}
 use Rattle.uart_ring.specs.Storm.{StaysStuck, TriesToHandle, Restarts, not_paused}
 use Rattle.uart_ring.specs.declared.ring.storm.StuckError.{StuckError}
@@ -606,10 +606,10 @@ stays_stuck_carries error result f l after (is, t) =
 pub tries_carry : (limit rounds : ℕ) (result : Result Handled StuckError) → Implies (TriesToHandle limit rounds result) Carries
 tries_carry limit rounds result f l after t = go f.stuck t
   where
-    go : (was : Option StuckError) → MatchOption was (HandlesRound limit rounds result f l after)
+    go : (was : Option StuckError) → MatchOption was (HandlesRound (round_limit limit) rounds result f l after)
         (λ error. StaysStuck result error f l after) → Carries f l after
     go None (handled, found, is, t) =
-        rw t.whole (carries-then f t.mid after t.front t.back (handles_carry limit handled f t.front t.mid t.first)
+        rw t.whole (carries-then f t.mid after t.front t.back (handles_carry (round_limit limit) handled f t.front t.mid t.first)
         (counts_carry rounds (counts_as (has_moved f t.mid) handled.end) found t.mid t.back after t.second))
     go (Some error) t = stays_stuck_carries error result f l after t
 

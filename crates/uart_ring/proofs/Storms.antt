@@ -21,7 +21,7 @@ use Rattle.uart_ring.specs.Service.{ServesInterrupt, ServesOne, Stops}
 use Rattle.uart_ring.specs.Handle.{RetriggersUnlessIdle, Handles}
 use Rattle.uart_ring.specs.Storm.{TurnsOff, LooksOnceMore, CountsUnfinished, CountsRound, HandlesRound, StaysStuck}
 use Rattle.uart_ring.specs.Storm.{TriesToHandle, unless_stuck, EndsWith, LeavesOff, CountsOrIsIdle, IsLastStill}
-use Rattle.uart_ring.specs.Storm.{counts_as, has_moved, CountsSince}
+use Rattle.uart_ring.specs.Storm.{counts_as, has_moved, CountsSince, round_limit}
 use Rattle.uart_ring.specs.Lossless.{Implies}
 use Rattle.uart_ring.specs.declared.ring.service.HandleEnd.{HandleEnd}
 use Rattle.uart_ring.specs.declared.ring.service.HandleEnd.TheVariants.{Idle, Unknown, Limit}
@@ -112,7 +112,7 @@ found_stuck handled (Some other) error is = cc
 pub tries_off : (limit rounds : ℕ) (error : StuckError) → Implies (TriesToHandle limit rounds (Err error)) (LeavesOff error)
 tries_off limit rounds error f l after t = go f.stuck refl t
   where
-    go : (was : Option StuckError) → f.stuck ≡ was → MatchOption was (HandlesRound limit rounds (Err error) f l after)
+    go : (was : Option StuckError) → f.stuck ≡ was → MatchOption was (HandlesRound (round_limit limit) rounds (Err error) f l after)
         (λ other. StaysStuck (Err error) other f l after) → LeavesOff error f l after
     go None e (handled, found, is, t) =
         let end = counts_as (has_moved f t.mid) handled.end in
@@ -151,18 +151,19 @@ pub tries_still : (limit rounds : ℕ) (error : StuckError) → Implies (TriesTo
 tries_still limit rounds error f l after t none = go (subst M none t)
   where
     M : Option StuckError → Type 0
-    M was = MatchOption was (HandlesRound limit rounds (Err error) f l after) (λ other. StaysStuck (Err error) other f l after)
+    M was = MatchOption was (HandlesRound (round_limit limit) rounds (Err error) f l after)
+        (λ other. StaysStuck (Err error) other f l after)
 
     unmoved : (moved : Bool) (end : HandleEnd) → counts_as moved end ≢ Idle → moved ≡ false
     unmoved true end not_idle = absurd (not_idle refl)
     unmoved false end not_idle = refl
 
-    go : HandlesRound limit rounds (Err error) f l after → (has_moved f after ≡ false) × (rounds ≤ suc f.rounds)
+    go : HandlesRound (round_limit limit) rounds (Err error) f l after → (has_moved f after ≡ false) × (rounds ≤ suc f.rounds)
     go (handled, found, is, t) =
         let end = counts_as (has_moved f t.mid) handled.end in
         let F : Option StuckError → Type 0 = λ o. CountsRound rounds end o t.mid t.back after in
         let last = last_round rounds end error t.mid t.back after (subst F (found_stuck handled found error is) t.second) in
-        let kept : t.mid.rounds ≡ f.rounds = handles_keep limit handled f t.front t.mid t.first in (
+        let kept : t.mid.rounds ≡ f.rounds = handles_keep (round_limit limit) handled f t.front t.mid t.first in (
           ap (has_moved f) last.2 ∙ unmoved (has_moved f t.mid) handled.end last.0,
           rw kept at last.1,
         )
@@ -256,17 +257,17 @@ tries_count limit rounds handled f l after t = go f.stuck t
     ends Limit front back mid is same idle t = later front back mid.rounds is same (unfinished_goes_on rounds mid back after t)
 
     -- a byte moved, or not
-    counts : (other : Handled) (front back : List Access) (mid : RingFields) → l ≡ front ++ back → Handles limit other f front mid →
-        (moved : Bool) → has_moved f mid ≡ moved → CountsRound rounds (counts_as moved other.end) None mid back after →
-        CountsOrIsIdle rounds f l after
+    counts : (other : Handled) (front back : List Access) (mid : RingFields) → l ≡ front ++ back →
+        Handles (round_limit limit) other f front mid → (moved : Bool) → has_moved f mid ≡ moved →
+        CountsRound rounds (counts_as moved other.end) None mid back after → CountsOrIsIdle rounds f l after
     counts other front back mid is first true e t =
         inr (inl (counted_still rounds f mid Idle back after t ∙ e, ap (λ (g : RingFields). g.rounds) t.1.1))
     counts other front back mid is first false e t =
         as_law (counted_still rounds f mid other.end back after t ∙ e)
-        (ends other.end front back mid is (handles_keep limit other f front mid first)
-        (λ idle. handles_idle limit other idle f front mid first) t)
+        (ends other.end front back mid is (handles_keep (round_limit limit) other f front mid first)
+        (λ idle. handles_idle (round_limit limit) other idle f front mid first) t)
 
-    go : (was : Option StuckError) → MatchOption was (HandlesRound limit rounds (Ok handled) f l after)
+    go : (was : Option StuckError) → MatchOption was (HandlesRound (round_limit limit) rounds (Ok handled) f l after)
         (λ error. StaysStuck (Ok handled) error f l after) → CountsOrIsIdle rounds f l after
     go None (other, found, is, t) =
         let F : Option StuckError → Type 0 = λ o. CountsSince rounds f other.end o t.mid t.back after in
@@ -279,13 +280,13 @@ tries_count limit rounds handled f l after t = go f.stuck t
 pub already_stuck : (limit rounds : ℕ) (error : StuckError) (f : RingFields) (l : List Access) (after : RingFields) → f.stuck ≡ Some error →
     OnDriver TurnsOff unchanged f l after → TriesToHandle limit rounds (Err error) f l after
 already_stuck limit rounds error f l after is t =
-    let M : Option StuckError → Type 0 = λ was. MatchOption was (HandlesRound limit rounds (Err error) f l after)
+    let M : Option StuckError → Type 0 = λ was. MatchOption was (HandlesRound (round_limit limit) rounds (Err error) f l after)
     (λ other. StaysStuck (Err error) other f l after) in
     subst M (sym is) (refl, t)
 
 pub not_stuck : (limit rounds : ℕ) (result : Result Handled StuckError) (f : RingFields) (l : List Access) (after : RingFields) →
-    f.stuck ≡ None → HandlesRound limit rounds result f l after → TriesToHandle limit rounds result f l after
+    f.stuck ≡ None → HandlesRound (round_limit limit) rounds result f l after → TriesToHandle limit rounds result f l after
 not_stuck limit rounds result f l after is t =
-    let M : Option StuckError → Type 0 = λ was. MatchOption was (HandlesRound limit rounds result f l after)
+    let M : Option StuckError → Type 0 = λ was. MatchOption was (HandlesRound (round_limit limit) rounds result f l after)
     (λ other. StaysStuck result other f l after) in
     subst M (sym is) t

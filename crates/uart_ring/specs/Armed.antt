@@ -67,6 +67,7 @@ abbrev pub IsHarmless : Access → Type 0
 IsHarmless (Read offset answer) = (offset == offsets.ISR) ≡ false
 IsHarmless (Write offset value) = (offset ≡ offsets.DATA) ⊎ (offset ≡ offsets.MCR)
 
+-- no access reads ISR or writes a register other than DATA and MCR
 abbrev pub AllHarmless : List Access → Type 0
 AllHarmless [] = ⊤
 AllHarmless (access ∷ accesses) = IsHarmless access × AllHarmless accesses

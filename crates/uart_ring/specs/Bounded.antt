@@ -3,6 +3,7 @@ use Rattle.std.specs.Prelude.{◌≤◌, ◌+◌, ◌*◌, ℕ, length}
 use Rattle.uart_spec.specs.FifoSize.{characters}
 use Rattle.uart_spec.specs.declared.setup.FifoSize.{FifoSize}
 use Rattle.uart_ring.specs.Ring.{RingDoing}
+use Rattle.uart_ring.specs.Storm.{round_limit}
 use Rattle.uart_ring.specs.declared.ring.service.TheConstants.{MAX_INTERRUPTS}
 
 -- this number of accesses, or fewer
@@ -42,9 +43,9 @@ most_of_retrigger = 3
 abbrev pub most_of_handle : (limit : ℕ) → FifoSize → ℕ
 most_of_handle limit size = limit * (1 + most_of_receiving size) + most_of_retrigger
 
--- `try_handle`: a `handle`, one more read of ISR, and a change of IER
+-- `try_handle`: a `handle` of at least six interrupts, one more read of ISR, and a change of IER
 abbrev pub most_of_try_handle : (limit : ℕ) → FifoSize → ℕ
-most_of_try_handle limit size = most_of_handle limit size + (1 + most_of_change)
+most_of_try_handle limit size = most_of_handle (round_limit limit) size + (1 + most_of_change)
 
 -- `config_register_dump`: five accesses for the divisor latch, seven registers, and a pump
 abbrev pub most_of_dump : FifoSize → ℕ

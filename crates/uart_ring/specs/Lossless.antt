@@ -66,4 +66,6 @@ LosesNothing accepted given line modem = LosesOnly (with_accepted accepted) give
 
 -- whatever does the first also does the second
 abbrev pub Implies : RingDoing → RingDoing → Type 0
-Implies G H = (f : RingFields) (l : List Access) (after : RingFields) → G f l after → H f l after
+Implies G H = (f : RingFields) (l : List Access) (after : RingFields) →
+    -- the call did what its contract says
+    G f l after → H f l after

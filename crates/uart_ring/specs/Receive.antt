@@ -58,6 +58,7 @@ TakesBytes slots bytes f l after =
 -- receiving ends
 abbrev pub ClearsReceive : ℕ → RingDoing
 ClearsReceive count f l after =
+    -- the result is how many bytes the receive ring had
     (count ≡ length f.receive.items) × IfAny count EndsPause (without_taken count f) l after
 
 -- ---- holding the other end back

@@ -1,6 +1,6 @@
 -- A chip that shows interrupts for ever: it is stuck, and its interrupts are off until a restart.
 use Rattle.std.specs.Prelude.{◌≡◌, ◌==◌, ◌<◌, ◌≤◌, ◌⊎◌, ◌&&◌, ◌||◌, ℕ, suc, nat_lt, Bool, true, false, not, MatchBool}
-use Rattle.std.specs.Prelude.{Option, Some, None, MatchOption, length}
+use Rattle.std.specs.Prelude.{Option, Some, None, MatchOption, length, max}
 use Rattle.std.specs.Option.{is_some}
 use Rattle.std.specs.Prelude.{Result, Ok, Err, List, [], ◌∷◌, ◌++◌, if◌then◌else◌}
 use Rattle.bitflags.specs.Sets.{without}
@@ -99,11 +99,20 @@ HandlesRound limit rounds result f l after =
 abbrev pub StaysStuck : Result Handled StuckError → StuckError → RingDoing
 StaysStuck result error f l after = (result ≡ Err error) × OnDriver TurnsOff unchanged f l after
 
+-- A round of few interrupts is left unfinished also by a chip that works: one of a single interrupt never ends with no
+-- interrupt pending. A working chip shows at most five in a row without a byte that moves and without news from
+-- outside, so a round of six tells it from one that is stuck.
+
+-- how many interrupts a round serves at most: as many as the caller allows, and at least six
+abbrev pub round_limit : (limit : ℕ) → ℕ
+round_limit limit = max limit 6
+
 -- `try_handle`: a `handle`, whose round is counted, and after which the chip may be found stuck; or, if the chip is
 -- stuck already, all interrupts are disabled again. The error is why it is stuck
 abbrev pub TriesToHandle : (limit rounds : ℕ) → Result Handled StuckError → RingDoing
-TriesToHandle limit rounds result f l after =
-    MatchOption f.stuck (HandlesRound limit rounds result f l after) (λ error. StaysStuck result error f l after)
+TriesToHandle limit rounds result f l after = MatchOption f.stuck
+    (HandlesRound (round_limit limit) rounds result f l after)
+    (λ error. StaysStuck result error f l after)
 
 -- these interrupts, without DATA_READY while receiving is paused
 abbrev pub not_paused : Bool → ℕ → ℕ

@@ -48,6 +48,19 @@ ghost use Rattle.uart_ring.specs.declared.ring.service.TheConstants.{MAX_INTERRU
 /// What `clear_transmit` drops are as many bytes as it returns, from the end of those that wait:
 /// all of the ring. What `clear_receive` drops is all that was in the receive ring.
 pub fn ring_calls_lose_nothing()
+    // promise: nothing is lost between the rings and the chip, over every device
+    // with: ring_calls_lose_nothing.queue, ring_calls_lose_nothing.service,
+    //   ring_calls_lose_nothing.take
+    // shown by: bytes_are_queued_and_sent, receiving_is_paused_by_a_full_ring,
+    //   line_errors_are_noted, modem_changes_are_noted
+    // refused: pump_drops_what_was_not_sent, service_receives_more_than_fits,
+    //   service_forgets_line_errors
+    // promise: an urgent byte overtakes all that waits, and what is dropped is counted
+    // with: ring_calls_lose_nothing.queue_urgent, ring_calls_lose_nothing.clear_transmit,
+    //   ring_calls_lose_nothing.clear_receive, RingConserves.in_line
+    // shown by: an_urgent_byte_overtakes, bytes_are_dropped
+    // refused: queue_urgent_keeps_the_older_byte, clear_transmit_keeps_half,
+    //   clear_receive_drops_half
     ensures queue { (bytes : List ℕ) (count : ℕ) →
         Implies (Queues bytes count) (LosesNothing (take count bytes) [] 0 0) }
     ensures resume_transmit { Implies ResumesTransmit (LosesNothing [] [] 0 0) }
@@ -88,6 +101,8 @@ pub fn ring_calls_lose_nothing()
 /// clear.
 pub fn ring_calls_leave_armed()
     ensures queue { (bytes : List ℕ) (count : ℕ) → Implies (Queues bytes count) LeavesArmed }
+    // a `queue` that accepts a byte arms the rings, if CTS is not checked
+    // if: at least one byte was accepted
     ensures queue_arms { (bytes : List ℕ) (count : ℕ) → 0 < count →
         Implies (Queues bytes count) Arms }
     ensures queue_arms_unless_held { (bytes : List ℕ) (count : ℕ) → 0 < count →
@@ -125,6 +140,9 @@ pub fn ring_calls_leave_armed()
 /// or switch outputs. Their contracts name their accesses. So any list of such calls and of ring
 /// calls leaves the rings armed.
 pub fn other_accesses_leave_armed()
+    // proved: Calls of the driver through `inner_mut` leave rings armed that neither read ISR nor
+    //   write a register other than DATA and MCR
+    // on: `laws::other_accesses_leave_armed`
     ensures { (l : List Access) → AllHarmless l → (known : ThrEmpty) (f : RingFields) →
         IsArmed known f → IsArmed (known_after_all known l) f }
 {}
@@ -132,6 +150,10 @@ pub fn other_accesses_leave_armed()
 /// No ring call waits: each makes at most this number of accesses, whatever they return. Where a
 /// call may fill or empty a FIFO, the number depends on the size that is set.
 pub fn ring_calls_are_bounded()
+    // promise: each ring call makes a bounded number of accesses
+    // with: ring_calls_are_bounded.service, ring_calls_are_bounded.handle
+    // shown by: a_storm_of_each_kind_ends
+    // refused: handle_serves_more_than_the_limit, service_serves_nine
     ensures queue { (bytes : List ℕ) (count : ℕ) →
         Implies (Queues bytes count) (MakesAtMostBySize most_of_pump) }
     ensures resume_transmit { Implies ResumesTransmit (MakesAtMostBySize most_of_pump) }
@@ -165,6 +187,9 @@ pub fn ring_calls_are_bounded()
 /// far determines the next access, and in the end the result, the contents of the rings, and the
 /// driver's fields.
 pub fn ring_calls_leave_no_choice()
+    // proved: No ring call has a choice: what its reads returned so far decides the next access,
+    //   and in the end what is returned and what is in the rings
+    // on: `laws::ring_calls_leave_no_choice`
     ensures queue { (bytes : List ℕ) → LeavesNoRingChoice (Queues bytes) }
     ensures resume_transmit { LeavesNoRingChoice (λ (_ : ⊤). ResumesTransmit) }
     ensures take { (slots : ℕ) → LeavesNoRingChoice (TakesBytes slots) }
@@ -199,10 +224,29 @@ pub fn ring_calls_leave_no_choice()
 /// And a chip is found stuck only then: in as many calls in a row as there may be rounds no byte
 /// moved, and none of them ended with no interrupt pending.
 pub fn storms_end()
+    // promise: a storm ends with IER 0, after as many rounds as the caller allows; and a chip is
+    //   found stuck only if in so many calls in a row no byte moved and none ended with no
+    //   interrupt pending; over the chip, only if characters or changes of the modem lines came in
+    //   the course of each of them, whatever the limit is: as many as the limit, but for five
+    // with: storms_end.off, storms_end.counted, storms_end.still, handles_lose_no_edge.stuck,
+    //   chips_that_work_are_not_stuck.stuck, chips_that_work_are_not_stuck.counted,
+    //   receive_len.within
+    // shown by: a_storm_of_unknown_interrupts, an_interrupt_that_does_not_go_away,
+    //   a_slow_chip_is_not_stuck_at_any_limit,
+    //   a_large_ring_goes_out_in_more_rounds_than_are_allowed, no_limit_stops_a_chip_that_works
+    // refused: try_handle_allows_one_round_more, try_handle_counts_no_round,
+    //   try_handle_takes_a_limit_of_five, a_stuck_chip_gets_data_ready_back
+    // if `try_handle` finds the chip stuck, it says why, and turns the chip's interrupts off: its
+    // last access writes 0 to IER
     ensures off { (limit rounds : ℕ) (error : StuckError) →
         Implies (TriesToHandle limit rounds (Err error)) (LeavesOff error) }
+    // a chip is found stuck only then: in so many calls in a row no byte moved, and none of them
+    // ended with no interrupt pending
     ensures still { (limit rounds : ℕ) (error : StuckError) →
         Implies (TriesToHandle limit rounds (Err error)) (IsLastStill rounds) }
+    // else it has counted one more unfinished round in a row, and more are allowed, or a byte
+    // moved, or ISR showed that no interrupt is pending: so it finds the chip stuck after as many
+    // calls in a row as the program allows
     ensures counted { (limit rounds : ℕ) (handled : Handled) →
         Implies (TriesToHandle limit rounds (Ok handled)) (CountsOrIsIdle rounds) }
 {}
@@ -211,6 +255,11 @@ pub fn storms_end()
 /// each port of a line that several share: they lose nothing, make few accesses, and have no
 /// choice. Both together leave the rings armed. A chip that is stuck has 0 in IER after both.
 pub fn line_calls_are_ring_calls()
+    // proved: Both halves of a `handle_line` lose nothing, have no choice and make at most as many
+    //   accesses for each interrupt of the limit, which is 6 if it is lower, as twice the size of
+    //   the FIFOs and 3, with FIFOs of 16 these are 35, and 11 more; together they leave the rings
+    //   armed, and IER of a stuck chip 0
+    // on: `laws::line_calls_are_ring_calls`
     ensures lower_loses_nothing { (limit rounds : ℕ) (lowered : Lowered) →
         Implies (LowersLine limit rounds lowered) (LosesNothing [] [] 0 0) }
     ensures raise_loses_nothing { (bits : ℕ) →
@@ -260,6 +309,8 @@ pub fn obey_xoff_is_a_ring_call()
 
 /// The values of the limits.
 pub fn constants_are_these()
+    // proved: The largest capacity of a ring is 4096, and a `service` serves at most 8 interrupts
+    // on: `laws::constants_are_these`
     ensures capacity { MAX_CAPACITY ≡ 4096 }
     ensures interrupts { MAX_INTERRUPTS ≡ 8 }
 {}

@@ -66,6 +66,10 @@ pub trait LinePorts {
 /// let has_served = handle_line(&mut ports, 4 * MAX_INTERRUPTS, MAX_UNFINISHED_ROUNDS);
 /// ```
 pub fn handle_line<P: LinePorts>(ports: &mut P, limit: usize, rounds: u32) -> bool
+    // proved: `handle_line` lowers the line of each port, in the order of their numbers, and then
+    //   raises that of each. In between is a moment at which all were lowered and none raised. It
+    //   returns whether an interrupt was served at one of them. The ports have one state, so the
+    //   order of all steps is fixed
     ensures { HandlesLine (P.lowers limit rounds) P.raises (P.number ports.old) result
         ports.old ports.new }
 {
@@ -188,8 +192,9 @@ fn raise_each<B: Backend>(ports: &mut [LinePort<B>])
 /// Returns whether an interrupt was served at one of them; [`LinePort::handled`] tells what was
 /// handled at each, and which chip is stuck.
 ///
-/// Does not wait: makes at most 35 accesses for each interrupt of the limit and 11 more, at each
-/// port. With a larger `fifo_size` of the driver it is twice that size and 3 in place of the 35.
+/// Does not wait: makes at most 35 accesses for each interrupt of the limit, which is 6 if it is
+/// lower, and 11 more, at each port. With a larger `fifo_size` of the driver it is twice that size
+/// and 3 in place of the 35.
 ///
 /// # Examples
 ///
@@ -197,6 +202,11 @@ fn raise_each<B: Backend>(ports: &mut [LinePort<B>])
 /// let has_served = handle_ports(&mut ports, 4 * MAX_INTERRUPTS, MAX_UNFINISHED_ROUNDS);
 /// ```
 pub fn handle_ports<B: Backend>(ports: &mut [LinePort<B>], limit: usize, rounds: u32) -> bool
+    // proved: `handle_ports` does so at the ports of a slice: which accesses each makes, what is
+    //   noted there, and that the others stay as they are meanwhile. A chip that is stuck is off
+    //   alone
+    // on: `handle_ports`, `LinePort::lower`, `LinePort::raise`, `LinePort::new`,
+    //   `LinePort::handled`
     ensures { HandlesPorts B.step limit rounds (length ports.old) result ports.old ports.new }
 {
     let has_served = lower_each(ports, limit, rounds);

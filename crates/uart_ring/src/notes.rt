@@ -85,7 +85,14 @@ impl<B: Backend> ErrorNotes<B> {
     /// };
     /// ```
     pub fn new(alloc: Global, backend: B, capacity: usize) -> Result<Self, (B, RingError)>
+        // proved: `ErrorNotes` makes each access of the driver over the backend under it, and no
+        //   other. At each read of DATA, but for one under DLAB, it notes the line errors that
+        //   reads of LSR have shown since the one before, of the last so many bytes. It leaves out
+        //   an overrun that the first read of LSR shows since the notes were made or the receiver
+        //   was reset: it may be of before
+        // on: `ErrorNotes::new`, its `Backend::read` and `Backend::write`
         ensures made { IfOk result (λ notes. AreNew notes backend capacity) }
+        // if: the capacity is none that notes may have
         ensures refused { (IsCapacity capacity → ⊥) →
             result ≡ Err (backend, RingError.BadCapacity) }
         ensures accepted { IsCapacity capacity →

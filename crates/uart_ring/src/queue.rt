@@ -38,6 +38,12 @@ impl Model for ByteQueue {
 impl ByteQueue {
     /// Returns an empty queue with room for this number of bytes.
     pub fn with_capacity(alloc: Global, capacity: usize) -> Result<Self, AllocError>
+        // proved: The queue of a ring has its bytes in order, in cells whose number is fixed. As
+        //   many are added as there is room for, at the end, and as many are taken as are asked
+        //   for, from the front; slots past the count stay as they are
+        // on: `ByteQueue`: `with_capacity`, `len`, `capacity`, `is_empty`, `is_full`,
+        //   `fill_from_slice`, `copy_front`, `front_slices`, `drop_front`, `read_into`,
+        //   `receive_from`
         ensures { IfOk result (λ made. made ≡ queue [] capacity) }
     {
         Ok(ByteQueue {
@@ -105,6 +111,12 @@ impl ByteQueue {
     /// many.
     #[inline]
     pub fn fill_from_slice(&mut self, bytes: &[u8]) -> usize
+        // promise: the queue of a ring keeps its bytes in order, and takes no more than fit
+        // with: fill_from_slice.items, copy_front.copied, read_into.items, drop_front,
+        //   transmit_len.within, receive_len.within
+        // shown by: bytes_are_queued_and_sent, receiving_is_paused_by_a_full_ring
+        // refused: byte_queue_overwrites_its_front, byte_queue_drops_from_its_end,
+        //   byte_queue_copies_the_first_half_alone, receive_len_is_that_of_the_fuller_ring
         ensures count { result ≡ min (length bytes.now)
             (self.old.capacity - length self.old.items) }
         ensures items { self.new ≡
@@ -127,6 +139,15 @@ impl ByteQueue {
         uart: &mut Uart16550<B>,
         slots: usize,
     ) -> usize
+        // promise: a ring fills and empties the FIFO by the size that is set, also where it wraps,
+        //   and the bounds of its accesses are those of the size
+        // with: Pumps, FillsReceiveRing, receive_from.received, ReceivesToEnd,
+        //   ring_calls_are_bounded
+        // shown by: a_pump_fills_a_large_fifo, a_large_fifo_is_emptied_in_one_visit
+        // refused: pump_stops_at_sixteen, pump_stops_where_the_ring_wraps,
+        //   receive_stops_at_the_last_cell, service_receives_sixteen_whatever_the_size,
+        //   a_pump_makes_one_access_less
+        // there is room for as many bytes
         requires { length self.old.items + slots ≤ self.old.capacity }
         ensures received { ReceivesToEnd B.step slots result self.old self.new uart.old uart.new }
         ensures within { result ≤ slots }
@@ -196,6 +217,7 @@ impl ByteQueue {
     /// Drops this number of bytes from the front.
     #[inline]
     pub(crate) fn drop_front(&mut self, count: usize)
+        // there are as many bytes
         requires { count ≤ length self.old.items }
         ensures { self.new ≡ queue (drop count self.old.items) self.old.capacity }
     {

@@ -123,7 +123,12 @@ impl<B: Backend> Uart16550Ring<B> {
         tx_capacity: usize,
         rx_capacity: usize,
     ) -> Result<Self, (Uart16550<B>, RingError)>
+        // promise: a refused `new` returns the driver
+        // with: new.refused
+        // shown by: a_refusal_returns_the_driver
+        // refused: new_looks_at_one_capacity
         ensures made { IfOk result (λ ring. AreEmpty ring uart tx_capacity rx_capacity) }
+        // if: the one capacity or the other is none that a ring may have
         ensures refused { (IsCapacity tx_capacity × IsCapacity rx_capacity → ⊥) →
             result ≡ Err (uart, RingError.BadCapacity) }
         ensures accepted { IsCapacity tx_capacity × IsCapacity rx_capacity →
@@ -166,6 +171,10 @@ impl<B: Backend> Uart16550Ring<B> {
     /// assert_eq!(rt; ring.transmit_len(), 0);
     /// ```
     pub fn transmit_len(&self) -> usize
+        // proved: What the rings hold, which is never more than they have room for, and the driver
+        //   under them
+        // on: `transmit_len`, `receive_len`, `transmit_room`, `is_paused`, `is_held`, `urgent`,
+        //   `stuck`, `inner`, `inner_mut`, `into_inner`
         ensures len { result ≡ length (ring_fields self.now).transmit.items }
         ensures within { result ≤ (ring_fields self.now).transmit.capacity }
     {
@@ -283,7 +292,8 @@ impl<B: Backend> Uart16550Ring<B> {
     ///   interrupt. The rings have a `config_register_dump` of their own, which needs nothing;
     /// - `disable_interrupts` of `THR_EMPTY`;
     /// - `init`, `init_with`, `restore`, `quiesce` and `test_loopback`, which set the port up, test
-    ///   it or leave it.
+    ///   it or leave it, and `checked_init` and `checked_init_with`, which are an `init` and an
+    ///   `init_with`.
     ///
     /// After every other call the interrupt is still to come, if DLAB and loopback are off.
     ///

@@ -1,6 +1,6 @@
 -- The driver's calls that leave the THR-empty interrupt: what they read is not ISR, and what they write is neither IER nor FCR; or they
 -- write IER with the interrupt in it, or FCR without a reset.
-use Rattle.std.proofs.Common.{◌≡◌, ℕ, ◌==◌, ◌||◌, ◌%◌, ◌/◌, true, false, List, [], ◌∷◌, ◌++◌, refl, sym, ◌∙◌}
+use Rattle.std.proofs.Common.{◌≡◌, ℕ, ◌||◌, ◌%◌, ◌/◌, true, false, List, [], ◌∷◌, ◌++◌, refl, sym, ◌∙◌}
 use Rattle.std.proofs.Common.{ap, Result, Ok, Err, bit_or, arith}
 use Rattle.std.proofs.lemmas.Grind.{common_steps}
 use Rattle.bitflags.specs.Sets.{without}
@@ -23,7 +23,7 @@ use Rattle.uart_events.specs.declared.call.Call.TheVariants as driver
 use Rattle.uart_events.specs.declared.call.Answer.{Answer}
 use Rattle.uart_events.specs.declared.event.Chip.{Chip}
 use Rattle.uart_events.specs.declared.event.Chip.TheVariants.{Uart16550A, Uart16450}
-use Rattle.uart_16550.specs.Grammar.{Language, Settings, Only}
+use Rattle.uart_16550.specs.Grammar.{Settings, Only}
 use Rattle.uart_16550.specs.Driver.{Fields, Sets, Saving, Next, fields, settings_of}
 use Rattle.uart_16550.specs.Frame.{frame_writes, with_frame, SetsFrame}
 use Rattle.uart_16550.specs.Init.{frame_bits}
@@ -31,10 +31,6 @@ use Rattle.uart_16550.specs.Setup.{SetsFrameWhenIdle, SetsTrigger, level_bits}
 use Rattle.uart_16550.specs.Status.{Enables, Disables, Retriggers, retrigger_accesses}
 use Rattle.uart_16550.specs.Transmit.{WaitsFor}
 use Rattle.uart_16550.specs.Tty.{inner_of}
-use Rattle.uart_events.specs.declared.call.Answer.TheVariants.{Flag, Count, Register}
-use Rattle.uart_calls.specs.Meaning.{CalledAs, ShowsRegister, connected_answer, receive_ready_answer, received_answer}
-use Rattle.uart_calls.specs.Meaning.{sent_answer, exact_answer, count_answer, ready_answer, latch_answer, bytes_answer}
-use Rattle.uart_calls.specs.Meaning.{with_errors_answer, receive_exact_answer, read_answer}
 use Rattle.uart_chip.specs.Chip.{ChipState, control, is_dlab_set}
 use Rattle.uart_chip.specs.Machine.{MachineState, MachineStep, at_access}
 use Rattle.uart_chip.proofs.Bits.{has_one, has_or}
@@ -43,6 +39,10 @@ use Rattle.uart_chip.proofs.conservation.Effects.{IsLevel, levelled}
 use Rattle.uart_chip.proofs.lasting.Lasting.{chip_lasts-before_mark}
 use Rattle.uart_run.specs.Ready.{Ready}
 use Rattle.uart_run.specs.Run.{State, machine_of, CallStep}
+use Rattle.uart_ring_runs.proofs.ThrSpared.{IsToCome, IsThrArmed, to_come, comes, in_events, at_once, spared_step, spare}
+use Rattle.uart_ring_runs.proofs.ThrSpared.{does_spare, spared_list}
+use Rattle.uart_run.proofs.built.Receive.{waits_for}
+use Rattle.uart_run.proofs.built.Calls.{call_does}
 use Rattle.uart_run.proofs.CallLaws.{level_bits_keep}
 use Rattle.uart_run.proofs.FrameLaws.{framed_by}
 use Rattle.uart_run.proofs.Latches.{Kept, kept_in, keep, kept_access, kept_step}
@@ -51,21 +51,7 @@ use Rattle.uart_ring_runs.specs.RingArmed.{LeavesThrEmpty}
 use Rattle.uart_ring.specs.Armed.{ThrEmpty, KeepsIer, known_after_all}
 use Rattle.uart_ring_runs.proofs.RingBlocks.{AllLeaveLcr}
 use Rattle.uart_ring_runs.proofs.RingDue.{Holds, IsDlabOff, path_holds}
-use Rattle.uart_ring_runs.proofs.ThrSpared.{IsToCome, IsThrArmed, to_come, comes, in_events, at_once, spared_step, Spare, spare_asks}
-use Rattle.uart_ring_runs.proofs.ThrSpared.{spare_waits, spare_receives, spare_receives_with, spare_receives_exact, spare_reads}
-use Rattle.uart_ring_runs.proofs.ThrSpared.{spare_try_receive, spare_ready_to_receive, spare_ready_to_send, spare_sends, spare_try_sends}
-use Rattle.uart_ring_runs.proofs.ThrSpared.{spare_sends_exact, spare_writes, spare_text, spare_flushes, spare_answers_read}
-use Rattle.uart_ring_runs.proofs.ThrSpared.{spare_answers_write, spare_presence, spare_connects, spare_divisor, spared_list}
 use Rattle.uart_ring_runs.proofs.CheckArms.{checks_arm}
-
--- ---- calls whose accesses spare it
-
-spared_call : {R : Type 0} (L : R → Language) (answer_of : R → Answer) (s t : State) (a : Answer) →
-    ((v : Settings) (r : R) → Spare v (L r)) → CalledAs MachineStep (λ r. Saving (L r)) answer_of a (inner_of s) (inner_of t) →
-    IsThrArmed (machine_of s) → IsThrArmed (machine_of t)
-spared_call L answer_of s t a spare c h =
-    spared_list c.did.list (machine_of s) (machine_of t) (spare (settings_of (fields (inner_of s))) c.outcome c.did.list c.did.does.0)
-    c.did.path h
 
 -- ---- writes of IER with the interrupt in it
 
@@ -165,18 +151,14 @@ frames_when_idle_arm config (Ok u) f after l m n d path h =
     let a = next_stages (Saving (WaitsFor LSR.TRANSMITTER_EMPTY.0 true)) (Next (Sets (with_frame config)) (Saving (Only frame))) f
     after l m n d.2 path in
     let first = spared_list a.parts.front m a.parts.between
-    (spare_waits (settings_of f) LSR.TRANSMITTER_EMPTY.0 true a.parts.front a.parts.first.0) a.parts.before h in
+    (spare (waits_for LSR.TRANSMITTER_EMPTY.0 true) refl refl (settings_of f) a.parts.front a.parts.first.0) a.parts.before h in
     frame_arms d.0 (frame_bits config) a.parts.back a.parts.between n (framed_by d.0 config a.mid after a.parts.back a.parts.second).is
     a.parts.after first
 frames_when_idle_arm config (Err (InvalidBaudRate e)) f after l m n d path h = spared_list l m n (rw d.1 tt) path h
 frames_when_idle_arm config (Err Stalled) f after l m n d path h =
-    spared_list l m n (spare_waits (settings_of f) LSR.TRANSMITTER_EMPTY.0 false l d.2.0) path h
+    spared_list l m n (spare (waits_for LSR.TRANSMITTER_EMPTY.0 false) refl refl (settings_of f) l d.2.0) path h
 
 -- ---- each call
-
--- one read of a register
-spare_register : (register : ℕ) → (register == offsets.ISR) ≡ false → (s : Settings) (value : ℕ) → Spare s (ShowsRegister register value)
-spare_register register other s value l t = rw t.is (other, tt)
 
 pub driver_arms : (s t : State) (c : Call) (a : Answer) → Ready s → LeavesThrEmpty c → CallStep s c a t → IsThrArmed (machine_of s) →
     IsThrArmed (machine_of t)
@@ -203,48 +185,15 @@ driver_arms s t (driver.SetFrameWhenIdle config) a ready k h armed =
     (machine_of s) (machine_of t) h.did.does h.did.path armed
 driver_arms s t (driver.SetTriggerLevel level) a ready k h armed =
     levels_arm level h.outcome s t h.did.list ready h.did.does h.did.path armed
-driver_arms s t (driver.SetBreak on) a ready k h armed =
-    spared_list h.did.list (machine_of s) (machine_of t) (rw h.did.does.0.1 (refl, ((refl, refl), tt))) h.did.path armed
-driver_arms s t (driver.SetModemControl outputs) a ready k h armed =
-    spared_list h.did.list (machine_of s) (machine_of t) (rw h.did.does.0.is ((refl, refl), tt)) h.did.path armed
-driver_arms s t (driver.SetRts on) a ready k h armed =
-    spared_list h.did.list (machine_of s) (machine_of t) (rw h.did.does.0.1 (refl, ((refl, refl), tt))) h.did.path armed
-driver_arms s t (driver.SetDtr on) a ready k h armed =
-    spared_list h.did.list (machine_of s) (machine_of t) (rw h.did.does.0.1 (refl, ((refl, refl), tt))) h.did.path armed
-driver_arms s t driver.CheckPresent a ready k h armed = spared_call _ Flag s t a (λ v r. spare_presence v r) h armed
-driver_arms s t driver.CheckConnected a ready k h armed = spared_call _ connected_answer s t a (λ v r. spare_connects v r) h armed
-driver_arms s t driver.ReadyToReceive a ready k h armed =
-    spared_call _ receive_ready_answer s t a (λ v r. spare_ready_to_receive v r) h armed
-driver_arms s t driver.ReadyToSend a ready k h armed = spared_call _ sent_answer s t a (λ v r. spare_ready_to_send v r) h armed
-driver_arms s t driver.TryReceive a ready k h armed = spared_call _ received_answer s t a (λ v r. spare_try_receive v r) h armed
-driver_arms s t driver.Flush a ready k h armed = spared_call _ exact_answer s t a (λ v r. spare_flushes v r) h armed
-driver_arms s t driver.ReadReady a ready k h armed = spared_call _ ready_answer s t a (λ v r. spare_answers_read v r) h armed
-driver_arms s t driver.WriteReady a ready k h armed = spared_call _ ready_answer s t a (λ v r. spare_answers_write v r) h armed
-driver_arms s t driver.Ier a ready k h armed = spared_call _ Register s t a (spare_register offsets.IER refl) h armed
-driver_arms s t driver.Lcr a ready k h armed = spared_call _ Register s t a (spare_register offsets.LCR refl) h armed
-driver_arms s t driver.Mcr a ready k h armed = spared_call _ Register s t a (spare_register offsets.MCR refl) h armed
-driver_arms s t driver.Lsr a ready k h armed =
-    spared_list h.did.list (machine_of s) (machine_of t) (rw h.did.does.1 (refl, tt)) h.did.path armed
-driver_arms s t driver.Msr a ready k h armed =
-    spared_list h.did.list (machine_of s) (machine_of t) (rw h.did.does.1 (refl, tt)) h.did.path armed
-driver_arms s t driver.PeekModem a ready k h armed = spared_call _ Register s t a (spare_register offsets.MSR refl) h armed
-driver_arms s t driver.IsIdle a ready k h armed =
-    spared_call _ Flag s t a (λ v r. spare_asks v offsets.LSR LSR.TRANSMITTER_EMPTY.0 r refl) h armed
-driver_arms s t driver.Spr a ready k h armed = spared_call _ Register s t a (spare_register offsets.SPR refl) h armed
-driver_arms s t driver.DllDlm a ready k h armed = spared_call _ latch_answer s t a (λ v latch. spare_divisor v latch.0 latch.1) h armed
-driver_arms s t driver.FifoEnabled a ready k h armed =
-    spared_list h.did.list (machine_of s) (machine_of t) (rw h.did.does.1.0 tt) h.did.path armed
-driver_arms s t (driver.TrySend byte) a ready k h armed = spared_call _ sent_answer s t a (λ v r. spare_try_sends v byte r) h armed
-driver_arms s t (driver.Receive slots) a ready k h armed =
-    spared_call _ bytes_answer s t a (λ v bytes. spare_receives v slots bytes) h armed
-driver_arms s t (driver.ReceiveExact slots) a ready k h armed =
-    spared_call _ receive_exact_answer s t a (λ v got. spare_receives_exact v slots got) h armed
-driver_arms s t (driver.ReceiveWithErrors slots) a ready k h armed =
-    spared_call _ with_errors_answer s t a (λ v items. spare_receives_with v slots items) h armed
-driver_arms s t (driver.Read slots) a ready k h armed = spared_call _ read_answer s t a (λ v got. spare_reads v slots got) h armed
-driver_arms s t (driver.Send bytes) a ready k h armed = spared_call _ Count s t a (λ v sent. spare_sends v bytes.items sent) h armed
-driver_arms s t (driver.SendExact bytes) a ready k h armed =
-    spared_call _ exact_answer s t a (λ v r. spare_sends_exact v bytes.items r) h armed
-driver_arms s t (driver.Write bytes) a ready k h armed = spared_call _ count_answer s t a (λ v r. spare_writes v bytes.items r) h armed
-driver_arms s t (driver.Text text) a ready k h armed = spared_call _ exact_answer s t a (λ v r. spare_text v text.bytes r) h armed
-driver_arms s t _ a ready k h armed = absurd k
+driver_arms s t driver.Isr a ready k h armed = absurd k
+driver_arms s t driver.Dump a ready k h armed = absurd k
+driver_arms s t driver.Attach a ready k h armed = absurd k
+driver_arms s t (driver.Quiesce outputs fifos) a ready k h armed = absurd k
+driver_arms s t (driver.Restore dump) a ready k h armed = absurd k
+driver_arms s t driver.TestLoopback a ready k h armed = absurd k
+driver_arms s t (driver.Init config) a ready k h armed = absurd k
+driver_arms s t (driver.InitWith config setup) a ready k h armed = absurd k
+driver_arms s t other a ready k h armed =
+    let f = fields (inner_of s) in
+    spared_list h.did.list (machine_of s) (machine_of t)
+    (does_spare (call_does other h.outcome) refl refl f h.did.list (fields (inner_of t)) h.did.does) h.did.path armed

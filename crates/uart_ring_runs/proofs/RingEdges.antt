@@ -20,7 +20,7 @@ use Rattle.uart_chip.proofs.FifoBits.{isr_of}
 use Rattle.uart_chip.specs.Machine.{MachineState, MachineStep, at_access}
 use Rattle.uart_ring.specs.Ring.{RingDoing, RingDid, RingFields, RingNext, RingTimes, RingSets, with_rounds}
 use Rattle.uart_ring.specs.Storm.{every_bit, TurnsOff, LooksOnceMore, CountsUnfinished, CountsRound, HandlesRound, StaysStuck}
-use Rattle.uart_ring.specs.Storm.{TriesToHandle, unless_stuck, counts_as, has_moved}
+use Rattle.uart_ring.specs.Storm.{TriesToHandle, unless_stuck, counts_as, has_moved, round_limit}
 use Rattle.uart_ring.specs.declared.ring.storm.StuckError.{StuckError}
 use Rattle.uart_ring.specs.Service.{ServesOne, Stops, IsWithin, Services}
 use Rattle.uart_ring.specs.declared.ring.service.TheConstants.{MAX_INTERRUPTS}
@@ -344,10 +344,10 @@ tries_last limit rounds result error e f l after t = go f.stuck t
     found_is handled None is = absurd (let both : Ok handled ≡ Err error = sym is ∙ e in cc)
     found_is handled (Some other) is = let both : Err other ≡ Err error = sym is ∙ e in cc
 
-    go : (was : Option StuckError) → MatchOption was (HandlesRound limit rounds result f l after)
+    go : (was : Option StuckError) → MatchOption was (HandlesRound (round_limit limit) rounds result f l after)
         (λ error. StaysStuck result error f l after) → LastDown l
     go None (handled, found, is, t) =
-        let leaves : AllLeaveLcr t.front = (walk.handles MakesBlocks in_blocks limit handled f t.front t.mid t.first).lcr in
+        let leaves : AllLeaveLcr t.front = (walk.handles MakesBlocks in_blocks (round_limit limit) handled f t.front t.mid t.first).lcr in
         let end = counts_as (has_moved f t.mid) handled.end in
         let F : Option StuckError → Type 0 = λ o. CountsRound rounds end o t.mid t.back after in
         subst LastDown (sym t.whole) (last_later t.front t.back leaves
@@ -358,10 +358,10 @@ pub tries_down : (limit rounds : ℕ) (result : Result Handled StuckError) (f : 
     TriesToHandle limit rounds result f l after → AlwaysDown l
 tries_down limit rounds result f l after t = go f.stuck t
   where
-    go : (was : Option StuckError) → MatchOption was (HandlesRound limit rounds result f l after)
+    go : (was : Option StuckError) → MatchOption was (HandlesRound (round_limit limit) rounds result f l after)
         (λ error. StaysStuck result error f l after) → AlwaysDown l
     go None (handled, found, is, t) =
-        subst AlwaysDown (sym t.whole) (always_first t.front t.back (handles_down limit handled f t.front t.mid t.first))
+        subst AlwaysDown (sym t.whole) (always_first t.front t.back (handles_down (round_limit limit) handled f t.front t.mid t.first))
     go (Some other) t = last_always l (turns_off_last f.driver l after.driver t.1.0)
 
 pub try_handle_loses_no_edge : (limit rounds : ℕ) (result : Result Handled StuckError) (s t : RingState) → IsDlabOff (ring_machine s) →

@@ -26,7 +26,7 @@ use Rattle.uart_ring.specs.Status.{TakesLine, TakesModem}
 use Rattle.uart_ring.specs.Service.{ServesInterrupt, ServesOne, Stops, ServesUpTo, Services}
 use Rattle.uart_ring.specs.Handle.{Retriggers, RetriggersUnlessIdle, Handles}
 use Rattle.uart_ring.specs.Storm.{every_bit, LooksOnceMore, CountsUnfinished, CountsRound, HandlesRound, StaysStuck, TriesToHandle}
-use Rattle.uart_ring.specs.Storm.{Restarts, not_paused, counts_as, has_moved}
+use Rattle.uart_ring.specs.Storm.{Restarts, not_paused, counts_as, has_moved, round_limit}
 use Rattle.uart_ring.specs.declared.ring.storm.StuckError.{StuckError}
 use Rattle.uart_ring.specs.declared.ring.service.TheConstants.{MAX_INTERRUPTS}
 use Rattle.uart_ring.specs.declared.ring.service.HandleEnd.{HandleEnd}
@@ -208,10 +208,10 @@ module _ (P : Doing) (w : Walks P) where
   pub tries : (limit rounds : ℕ) (result : Result Handled StuckError) → Implies (TriesToHandle limit rounds result) (InRings P)
   tries limit rounds result f l after t = go f.stuck t
     where
-      go : (was : Option StuckError) → MatchOption was (HandlesRound limit rounds result f l after)
+      go : (was : Option StuckError) → MatchOption was (HandlesRound (round_limit limit) rounds result f l after)
           (λ error. StaysStuck result error f l after) → InRings P f l after
       go None (handled, found, is, t) =
-          rw t.whole (w.next f.driver t.mid.driver after.driver t.front t.back (handles limit handled f t.front t.mid t.first)
+          rw t.whole (w.next f.driver t.mid.driver after.driver t.front t.back (handles (round_limit limit) handled f t.front t.mid t.first)
           (counts rounds (counts_as (has_moved f t.mid) handled.end) found t.mid t.back after t.second))
       go (Some error) t = w.disables every_bit f.driver l after.driver t.1.0
 

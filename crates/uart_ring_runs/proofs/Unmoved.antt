@@ -36,7 +36,7 @@ use Rattle.uart_ring.specs.Transmit.{ArmsIfLeft, Pumps}
 use Rattle.uart_ring.specs.Receive.{PausesIfFull, FillsReceiveRing}
 use Rattle.uart_ring.specs.Service.{ServesInterrupt, ServesOne, Stops, IsWithin}
 use Rattle.uart_ring.specs.Handle.{Handles, RetriggersUnlessIdle}
-use Rattle.uart_ring.specs.Storm.{has_moved, counts_as, CountsRound, HandlesRound, StaysStuck, TriesToHandle, unless_stuck}
+use Rattle.uart_ring.specs.Storm.{has_moved, counts_as, CountsRound, HandlesRound, StaysStuck, TriesToHandle, unless_stuck, round_limit}
 use Rattle.uart_ring.specs.declared.ring.service.HandleEnd.{HandleEnd}
 use Rattle.uart_ring.specs.declared.ring.service.HandleEnd.TheVariants.{Idle, Unknown, Limit}
 use Rattle.uart_ring.specs.declared.ring.service.Handled.{Handled}
@@ -477,30 +477,31 @@ served_count limit handled f l after t = handles_keep limit handled f l after t
 tried : (limit rounds : ℕ) (result : Result Handled StuckError) (s t : RingState) →
     (h : RingDid MachineStep (TriesToHandle limit rounds result) s t) → Ready (under s) → IsInRoom s → (ring_fields s).stuck ≡ None →
     ((handled : Handled) → result ≡ Ok handled → (ring_fields t).rounds ≡ suc (ring_fields s).rounds) →
-    limit ≤ most_without_news + news_between s t
+    round_limit limit ≤ most_without_news + news_between s t
 tried limit rounds result s t h ready room none up = go (subst M none h.does)
   where
     M : Option StuckError → Type 0
-    M was = MatchOption was (HandlesRound limit rounds result (ring_fields s) h.list (ring_fields t))
+    M was = MatchOption was (HandlesRound (round_limit limit) rounds result (ring_fields s) h.list (ring_fields t))
         (λ error. StaysStuck result error (ring_fields s) h.list (ring_fields t))
 
-    go : HandlesRound limit rounds result (ring_fields s) h.list (ring_fields t) → limit ≤ most_without_news + news_between s t
+    go : HandlesRound (round_limit limit) rounds result (ring_fields s) h.list (ring_fields t) →
+        round_limit limit ≤ most_without_news + news_between s t
     go (handled, found, is, d) =
-        let kept = served_count limit handled (ring_fields s) d.front d.mid d.first in
+        let kept = served_count (round_limit limit) handled (ring_fields s) d.front d.mid d.first in
         let not_idle = counted_end rounds (counts_as (has_moved (ring_fields s) d.mid) handled.end) found d.mid d.back
         (ring_fields t) d.second
         (λ e. up handled (is ∙ ap (unless_stuck handled) e) ∙ ap suc (sym kept)) in
         let c = counts (ring_fields s) d.mid handled.end not_idle in
         let p = path_split MachineStep (ring_machine s) (ring_machine t) d.front d.back
         (subst (λ xs. Path MachineStep (ring_machine s) xs (ring_machine t)) d.whole h.path) in
-        round_left limit handled (ring_fields s) d.mid d.front (ring_machine s) p.0 (ring_machine t) d.first c.not_idle c.still room
-        (record { dlab = ready.dlab; loopback = ready.loopback }) p.1 (path_came d.back p.0 (ring_machine t) p.2)
+        round_left (round_limit limit) handled (ring_fields s) d.mid d.front (ring_machine s) p.0 (ring_machine t) d.first c.not_idle
+        c.still room (record { dlab = ready.dlab; loopback = ready.loopback }) p.1 (path_came d.back p.0 (ring_machine t) p.2)
 
 pub counted_left : (limit rounds : ℕ) (handled : Handled) (s t : RingState) → Ready (under s) → IsInRoom s → (ring_fields s).stuck ≡ None →
     RingDid MachineStep (TriesToHandle limit rounds (Ok handled)) s t → (ring_fields t).rounds ≡ suc (ring_fields s).rounds →
-    limit ≤ most_without_news + news_between s t
+    round_limit limit ≤ most_without_news + news_between s t
 counted_left limit rounds handled s t ready room none h up = tried limit rounds (Ok handled) s t h ready room none (λ other is. up)
 
 pub stuck_left : (limit rounds : ℕ) (error : StuckError) (s t : RingState) → Ready (under s) → IsInRoom s → (ring_fields s).stuck ≡ None →
-    RingDid MachineStep (TriesToHandle limit rounds (Err error)) s t → limit ≤ most_without_news + news_between s t
+    RingDid MachineStep (TriesToHandle limit rounds (Err error)) s t → round_limit limit ≤ most_without_news + news_between s t
 stuck_left limit rounds error s t ready room none h = tried limit rounds (Err error) s t h ready room none (λ other is. absurd (cc (is)))

@@ -61,6 +61,7 @@ NotedCallStep s other answer t = RingPerformed (NotesErrors MachineStep) s other
 abbrev pub NotedLink : Type 0
 NotedLink = LinkOf NotedState RingCall RingAnswer
 
+-- these calls lead from the one state to the other, in turn
 abbrev pub NotedChain : NotedState → List NotedLink → NotedState → Type 0
 NotedChain = ChainOf NotedCallStep
 
@@ -86,9 +87,14 @@ shown_of (Some character) = character_errors character.errors
 -- what was shown since the last byte was read is of the next one: the errors of the front of the FIFO, once a look has
 -- shown them, and else none. An overrun that was shown tells where a character was lost, and so does the flag
 pub record IsInStep (n : Notes) (r : ReceiverState) : Type 0 where
+  -- DLAB is off
   pub latch : n.is_latch ≡ false
+  -- the errors shown since the last byte are those of the character in front, if a look has shown them, and else none
   pub shown : character_errors n.shown ≡ shown_of (reported_front r)
-  pub lost : has_any n.shown LSR.OVERRUN_ERROR.0 ≡ true → IsLost r.size r.queue r.marks
+  -- an overrun that was shown tells where a character was lost
+  pub lost :
+      -- an overrun was shown
+      has_any n.shown LSR.OVERRUN_ERROR.0 ≡ true → IsLost r.size r.queue r.marks
   pub flag : FlagTells r
 
 -- nothing was shown yet, as when notes are made and after a reset of the receiver; so an overrun that is shown next may
@@ -128,9 +134,11 @@ pub record AreExact (items : List Received) (characters : List Character) (r : R
 -- characters, of which all errors are noted. It may be empty
 pub record MayBegin (characters : List Character) (s : NotedState) : Type 0 where
   pub ready : Ready (under (without_notes s))
+  -- the driver takes the FIFO to be on
   pub fifo : (ring_fields s).driver.fifo ≡ true
   pub in_step : IsInStep (notes_in s) (receiver_of s)
   pub holds : Holds characters s
+  -- the errors of all bytes in the ring are noted
   pub noted : unnoted_in s ≡ 0
 
 -- what such calls do, if the receive ring held these characters before: those that left it, then those in it, then

@@ -70,14 +70,22 @@ pub record OwnBytesUncut (s : RingState) (links : List RingLink) (t : RingState)
 -- line errors and changes; and there are never bytes that may be sent with no interrupt to come
 pub record OwnConserves (s : RingState) (links : List RingLink) (t : RingState) : Type 0 where
   pub ready : Ready (under t)
+  -- a wired machine stays wired
   pub wired : IsWired (under s) → IsWired (under t)
+  -- the wire and the transmitter, and then what waits to be sent, grew by what was queued, in order
   pub sent : AllKeepOrder links → let cut = map (cut_of (ring_machine s).chip) in
       out (ring_machine t) ++ cut (to_send t) ≡ out (ring_machine s) ++ (cut (to_send s) ++ cut (queued links))
   pub in_line : AllSendInLine links
+  -- no data write met a full transmitter
   pub no_overflow : overflows (under t) ≡ overflows (under s)
+  -- all that left the receive ring was taken
   pub all_taken : NoneIs call.ClearReceive links → gone links ≡ taken links
+  -- what was taken or cleared, then the receive ring, then what waits in the chip, is what was there and what arrived,
+  -- in order, less what was dropped
   pub kept : gone links ++ (to_take t ++ waiting (ring_machine t)) ≡
       to_take s ++ kept (ring_machine s) (ring_machine t)
+  -- a chip that cuts no characters does so with whole bytes
   pub uncut : IsUncut (under s) → OwnBytesUncut s links t
   pub tells : OwnTells s links t
+  -- each call leaves an interrupt to come while bytes wait that may be sent, if CTS is not checked
   pub armed : IsUnchecked (under s) → AllOwnLeaveArmed links

@@ -65,6 +65,7 @@ KeepsOrder (call.AdjustXoff marks) = ⊥
 KeepsOrder (call.Driver c) = SendsNothing c
 KeepsOrder other = ⊤
 
+-- no call overtakes and none drops a byte that waits to be sent
 abbrev pub AllKeepOrder : List RingLink → Type 0
 AllKeepOrder [] = Unit {0}
 AllKeepOrder (link ∷ links) = KeepsOrder link.call × AllKeepOrder links
@@ -80,6 +81,7 @@ abbrev pub TakesInTurn : RingCall → (there : List ℕ) → Type 0
 TakesInTurn (call.Driver c) there = ReceivesNothing c ⊎ (there ≡ [])
 TakesInTurn other there = ⊤
 
+-- no call of the driver receives past bytes in the receive ring
 abbrev pub AllTakeInTurn : List RingLink → Type 0
 AllTakeInTurn links = AllByRecursion (λ link. TakesInTurn link.call (to_take link.before)) links
 

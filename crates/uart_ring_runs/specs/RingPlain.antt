@@ -26,6 +26,8 @@ IsPlain (call.TryHandle limit rounds) = ⊥
 IsPlain (call.Driver c) = SendsNothing c × ReceivesNothing c × LeavesThrEmpty c
 IsPlain other = KeepsOrder other
 
+-- no call holds, overtakes, drops or counts rounds, and no call of the driver sends, receives or may take the THR-empty
+-- interrupt away
 abbrev pub ArePlain : List RingLink → Type 0
 ArePlain links = AllByRecursion (λ link. IsPlain link.call) links
 

@@ -62,8 +62,10 @@ pub record DriverCalled {B : Type 0} (step : B → Access → B → Type 0) (c :
     (s t : Uart16550Ring B) : Type 0 where
   pub of_driver : IsOfDriver c
   pub outcome : Answer
+  -- the answer is that of the driver
   pub answered : answer ≡ answers.Driver outcome
   pub called : Called step (meaning c) outcome (driver_of s) (driver_of t)
+  -- the rings are as they were
   pub rings : ring_fields t ≡ with_driver (fields (driver_of t)) (ring_fields s)
 
 -- bytes, bits of LSR and bits of MSR as answers

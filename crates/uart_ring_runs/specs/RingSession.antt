@@ -25,6 +25,7 @@ IsWithinRingSession s (call.AdjustRts marks) = IsWired (under s)
 IsWithinRingSession s (call.Driver c) = IsWithinSession (under s) c
 IsWithinRingSession s other = Unit {0}
 
+-- each call goes on with a session that began in this state
 abbrev pub AllWithinRingSession : RingState → List RingLink → Type 0
 AllWithinRingSession s [] = Unit {0}
 AllWithinRingSession s (link ∷ links) = IsWithinRingSession s link.call × AllWithinRingSession s links
@@ -51,6 +52,7 @@ SendsInLine link =
     out (ring_machine link.after) ++ cut (to_send link.after) ≡
     out (ring_machine link.before) ++ cut (to_send_with link.call link.answer (to_send link.before))
 
+-- each of these calls sends what waits in its order: only an urgent byte and what a call of the driver sends overtake
 abbrev pub AllSendInLine : List RingLink → Type 0
 AllSendInLine [] = Unit {0}
 AllSendInLine (link ∷ links) = SendsInLine link × AllSendInLine links
@@ -60,22 +62,35 @@ AllSendInLine (link ∷ links) = SendsInLine link × AllSendInLine links
 -- and changes; and there are never bytes that may be sent with no interrupt to come
 pub record RingConserves (s : RingState) (links : List RingLink) (t : RingState) : Type 0 where
   pub ready : Ready (under t)
+  -- a wired machine stays wired
   pub wired : IsWired (under s) → IsWired (under t)
+  -- the wire and the transmitter, and then what waits to be sent, grew by what was queued, in order; a call that drops
+  -- bytes says how many
   pub sent : AllKeepOrder links → let cut = map (cut_of (ring_machine s).chip) in
       out (ring_machine t) ++ cut (to_send t) ≡ out (ring_machine s) ++ (cut (to_send s) ++ cut (queued links))
   pub in_line : AllSendInLine links
+  -- no data write met a full transmitter
   pub no_overflow : overflows (under t) ≡ overflows (under s)
+  -- all that left the receive ring was taken
   pub all_taken : NoneIs call.ClearReceive links → gone links ≡ taken links
+  -- what was taken or cleared, then the receive ring, then what waits in the chip, is what was there and what arrived,
+  -- in order, less what was dropped
   pub kept : AllTakeInTurn links → gone links ++ (to_take t ++ waiting (ring_machine t)) ≡
       to_take s ++ kept (ring_machine s) (ring_machine t)
+  -- a chip that cuts no characters does so with whole bytes
   pub uncut : IsUncut (under s) → ConservesBytesUncut s links t
   pub tells : RingTells s links t
+  -- each call that finds the rings armed leaves them so: while bytes wait that may be sent, an interrupt is to come.
+  -- Where the chip controls the flow, it comes once CTS lets the transmitter go on
   pub armed : IsUnchecked (under s) → AllLeaveRingArmed links
 
 -- these calls, with these answers, lead from s to t; and each session in them conserves: of ring calls, only those of
 -- the driver end one
 pub record RanRing (s : RingState) (calls : List RingCall) (answers : List RingAnswer) (t : RingState) : Type 0 where
   pub run : RunOf RingCallStep s calls answers t
-  pub sessions : (front session rest : List RingLink) (a b : RingState) → run.links ≡ front ++ (session ++ rest) →
+  -- each session among the calls conserves
+  pub sessions : (front session rest : List RingLink) (a b : RingState) →
+      -- these calls are a part of the run
+      run.links ≡ front ++ (session ++ rest) →
       RingChain s front a → RingChain a session b → RingChain b rest t → IsRingSession a session →
       RingConserves a session b

@@ -75,6 +75,8 @@ impl RingCall {
     /// Returns whether the call can be made: there are at most [`CALL_BYTES`] slots, and a call of
     /// the driver is one that can be made through `inner_mut`.
     pub fn is_runnable(&self) -> bool
+        // proved: Which ring calls can be run, and which are calls of the rings themselves
+        // on: `RingCall::is_runnable`, `RingCall::is_of_rings`
         ensures { IsTrue result ↔ IsRingRunnable self.now }
     {
         match self {
@@ -141,6 +143,7 @@ fn take<B: Backend>(ring: &mut Uart16550Ring<B>, slots: &mut [u8]) -> RingAnswer
 /// perform_ring(ring, &RingCall::Retrigger)
 /// ```
 pub fn perform_ring<B: Backend>(ring: &mut Uart16550Ring<B>, call: &RingCall) -> RingAnswer
+    // proved: A ring call does over every backend what its row says
     requires { IsRingRunnable call.now }
     ensures { RingPerformed B.step ring.old call.now result ring.new }
 {

@@ -23,7 +23,7 @@ ghost use Rattle.uart_ring.specs.declared.line.LinePort.{LinePort};
 ghost use Rattle.uart_ring.specs.Notes.{NotesErrors, bytes_of, errors_in, errors_of};
 ghost use Rattle.uart_ring.specs.Notes.{notes_of, unnoted_in};
 ghost use Rattle.uart_ring.specs.Receive.{TakesBytes};
-ghost use Rattle.uart_ring.specs.Storm.{TriesToHandle};
+ghost use Rattle.uart_ring.specs.Storm.{TriesToHandle, round_limit};
 ghost use Rattle.uart_ring.specs.Ring.{AreEmpty, RingDid, driver_of};
 ghost use Rattle.uart_ring.specs.Ring.{ring_backend_of, ring_fields};
 ghost use Rattle.uart_ring.specs.declared.notes.ErrorNotes.{ErrorNotes};
@@ -79,6 +79,11 @@ use uart_ring::{ErrorNotes, Uart16550Ring};
 /// }
 /// ```
 pub fn init_leaves_ready(uart: &Uart16550<Device16550>)
+    // proved: After an `init` that returns Ok, whatever the chip was before it, if its FIFOs are no
+    //   smaller than the driver takes them for, a session of ring calls may begin, with any call of
+    //   the rings themselves in it, whether the rings are made after the `init` or were there
+    //   before
+    // on: `laws::init_leaves_ready`: `ready`, `wired`
     ensures ready { (config : Config) (after : Uart16550 MachineState) (ring : RingState) →
         BurstsFit (under_terminal uart.now) →
         Did MachineStep (Inits {T = Unit {0}} config (Ok tt)) uart.now after →
@@ -110,19 +115,34 @@ pub fn init_leaves_ready(uart: &Uart16550<Device16550>)
 /// handles_lose_no_edge();
 /// ```
 pub fn handles_lose_no_edge()
+    // promise: a handler loses no edge of the interrupt line, while DLAB is off
+    // with: handles_lose_no_edge.handle, handles_lose_no_edge.retrigger
+    // shown by: a_handler_ends_with_a_line_that_was_low, a_handler_stops_before_all_are_served
+    // refused: uart_ring/handle_takes_an_unknown_interrupt_for_none,
+    //   uart_ring/handle_does_not_retrigger_at_the_limit,
+    //   uart_ring/handle_looks_at_isr_once_more_at_the_limit
+    // if the line is high after `handle`, it has risen since `handle` began: so a controller that
+    // detects edges calls the handler again
+    // if: DLAB is off
     ensures handle { (limit : ℕ) (handled : Handled) (s t : RingState) →
         is_dlab_set (ring_machine s).chip.latches ≡ false →
         (did : RingDid MachineStep (Handles limit handled) s t) →
         LosesNoEdge did.list s t did.path }
+    // so it is with `retrigger`
+    // if: DLAB is off
     ensures retrigger { (s t : RingState) →
         is_dlab_set (ring_machine s).chip.latches ≡ false →
         (did : RingDid MachineStep Retriggers s t) → LosesNoEdge did.list s t did.path }
+    // if: it ended with no interrupt pending
     ensures idle { (limit : ℕ) (handled : Handled) (s t : RingState) → handled.end ≡ Idle →
         RingDid MachineStep (Handles limit handled) s t → is_line_up (ring_machine t) ≡ false }
+    // if: DLAB is off
     ensures try_handle { (limit rounds : ℕ) (result : Result Handled StuckError)
         (s t : RingState) → is_dlab_set (ring_machine s).chip.latches ≡ false →
         (did : RingDid MachineStep (TriesToHandle limit rounds result) s t) →
         LosesNoEdge did.list s t did.path }
+    // after a `try_handle` that finds the chip stuck the line is low
+    // if: DLAB is off
     ensures stuck { (limit rounds : ℕ) (error : StuckError) (s t : RingState) →
         is_dlab_set (ring_machine s).chip.latches ≡ false →
         RingDid MachineStep (TriesToHandle limit rounds (Err error)) s t →
@@ -139,9 +159,20 @@ pub fn handles_lose_no_edge()
 /// calls the handler again. DLAB of each chip is off. Nobody else accesses the chips meanwhile:
 /// whoever does takes the lock of the line.
 pub fn shared_lines_lose_no_edge()
+    // promise: a line that several ports share loses no edge: it is low at some time during
+    //   `handle_ports`, whatever happens to the chips while DLAB is off
+    // with: shared_lines_lose_no_edge.all_low, shared_lines_lose_no_edge.has_risen
+    // shown by: falling_at_once_loses_no_edge, with_the_lock_of_the_line_neither_sleeps
+    // refused: uart_ring/lower_line_leaves_the_modem_interrupt,
+    //   uart_ring/handle_line_raises_each_at_once, uart_ring/raise_line_enables_a_stuck_chip,
+    //   uart_ring/handle_ports_raises_nothing
+    // a line that several ports share, behind one lock, is low once each port's was lowered,
+    // whatever happens to the chips
     ensures all_low { (limit rounds : ℕ) (before low later : Moment) → AreDlabsOff before →
         WereLowered limit rounds (length before) before low → EachGoes Happened low later →
         is_shared_line_up later ≡ false }
+    // so if it is high later, it has risen since the call began
+    // if: the line is up at the last moment
     ensures has_risen { (limit rounds : ℕ) (before low : Moment) (course : List Moment) →
         AreDlabsOff before → WereLowered limit rounds (length before) before low →
         is_shared_line_up (last_of low course) ≡ true → RisesIn low course }
@@ -163,6 +194,16 @@ pub fn shared_lines_lose_no_edge()
 ///
 /// Rings are told nothing when they are made.
 pub fn plain_sessions_conserve()
+    // promise: rings that are told nothing are two queues over the chip, with an interrupt to come
+    //   while bytes are in the transmit ring
+    // with: plain_sessions_conserve.session
+    // shown by: bytes_are_queued_and_sent
+    // proved: New rings are two queues until a call holds them, overtakes, drops or counts rounds,
+    //   or a call of the driver sends, receives or may take the interrupt away. In such a session
+    //   the wire, the transmitter and the transmit ring together grow by exactly what was queued.
+    //   What was taken and what waits is what waited and what arrived, less what the chip dropped.
+    //   If CTS is not checked, bytes in the transmit ring have an interrupt to come
+    // on: `laws::plain_sessions_conserve`: `session`, `made`
     ensures session { (s t : RingState) (links : List RingLink) → RingChain s links t →
         RingConserves s links t → AreUntold (ring_fields s) → ArePlain links →
         ConservesPlainly s links t }
@@ -170,27 +211,35 @@ pub fn plain_sessions_conserve()
         AreEmpty r driver transmit receive → AreUntold (ring_fields r) }
 {}
 
-/// A chip that works is found stuck only if news come as fast as they are served: characters that
-/// arrive, and changes of the modem's inputs, by the schedule.
+/// A chip that works is found stuck only if news come all the while: characters that arrive, and
+/// changes of the modem's inputs, by the schedule.
 ///
-/// `try_handle` counts a round more, or finds the chip stuck, only if of its `limit` interrupts all
-/// but 5 are news that came in the course of that call. So if there is a call in each row of
-/// `rounds` calls in which fewer than `limit - 5` come, the chip is never found stuck, whatever the
-/// schedule has between the calls, and however many come there.
+/// `try_handle` counts a round more, or finds the chip stuck, only if news came in the course of
+/// that call, whatever its limit is. Of as many interrupts as the limit allows, and of 6 if it is
+/// lower, all but 5 are such news. So if there is a call in each row of `rounds` calls in which
+/// fewer come, the chip is never found stuck, whatever the schedule has between the calls, and
+/// however many come there.
 ///
 /// DLAB and loopback are off, as in each session, and the chip was not stuck before. The receive
 /// ring holds no more bytes than it has room for: `receive_len` promises this of all rings, in its
 /// clause `within`.
 pub fn chips_that_work_are_not_stuck()
+    // a working chip has a round counted only if characters or line changes came while it was
+    // served: at least one, whatever the limit is, and with a limit of 64 at least 59
+    // if: no chip was found stuck before
+    // if: the call counted a round
     ensures counted { (limit rounds : ℕ) (handled : Handled) (s t : RingState) → Ready (under s) →
         IsInRoom s → (ring_fields s).stuck ≡ None →
         RingDid MachineStep (TriesToHandle limit rounds (Ok handled)) s t →
         (ring_fields t).rounds ≡ suc (ring_fields s).rounds →
-        limit ≤ most_without_news + news_between s t }
+        round_limit limit ≤ most_without_news + news_between s t }
+    // the same of the call that finds it stuck: so it is turned off only if so many came in every
+    // one of those calls
+    // if: no chip was found stuck before
     ensures stuck { (limit rounds : ℕ) (error : StuckError) (s t : RingState) → Ready (under s) →
         IsInRoom s → (ring_fields s).stuck ≡ None →
         RingDid MachineStep (TriesToHandle limit rounds (Err error)) s t →
-        limit ≤ most_without_news + news_between s t }
+        round_limit limit ≤ most_without_news + news_between s t }
 {}
 
 /// A call of the driver, through `inner_mut`, leaves the rings armed in a ready state if it is none
@@ -200,6 +249,19 @@ pub fn chips_that_work_are_not_stuck()
 /// This is for each call by itself, also for those that end a session. Rings are armed if no byte
 /// waits that may be sent, or if THR_EMPTY is enabled and due.
 pub fn calls_of_the_driver_leave_armed()
+    // promise: an interrupt is to come while bytes wait, if CTS is not checked, also after each
+    //   call of the driver but those that are named, and after a dump of the rings' own
+    // with: calls_of_the_driver_leave_armed, other_accesses_leave_armed,
+    //   ring_calls_leave_armed.config_register_dump, ring_calls_leave_armed.queue_arms,
+    //   ring_calls_leave_armed.service, ring_calls_leave_armed.resume_transmit
+    // shown by: bytes_that_wait_are_sent_at_the_interrupt, sending_is_resumed,
+    //   a_full_ring_goes_on_after_an_init, these_calls_leave_the_interrupt,
+    //   without_it_bytes_wait_for_ever, a_dump_of_the_rings_wakes_them
+    // refused: uart_ring/pump_without_room_leaves_thr_empty_off,
+    //   uart_ring/resume_transmit_only_enables_thr_empty,
+    //   uart_ring/config_register_dump_lets_what_waits_sleep
+    // a call of the driver, through `inner_mut`, leaves the rings armed if it is none of those that
+    // the page of `inner_mut` names; a `resume_transmit` arms them again
     ensures { (c : Call) (answer : RingAnswer) (s t : RingState) → Ready (under s) →
         LeavesThrEmpty c → DriverCalled MachineStep c answer s t → IsRingArmed s → IsRingArmed t }
 {}
@@ -211,6 +273,11 @@ pub fn calls_of_the_driver_leave_armed()
 /// takes the THR_EMPTY interrupt away, or forgets what a `take_line` or a `take_modem` is to tell.
 /// So what is said of a session holds of them without these conditions.
 pub fn calls_of_the_rings_meet_conditions()
+    // proved: Calls of the rings themselves meet each condition that a session has because of calls
+    //   of the driver: from a wired machine they go on with it, and none receives past bytes in the
+    //   receive ring, takes the interrupt away, or forgets what `take_line` and `take_modem` are to
+    //   tell
+    // on: `laws::calls_of_the_rings_meet_conditions`: `within`, `in_turn`, `armed`, `told`
     ensures within { (s : RingState) (links : List RingLink) → All IsOfRings (calls_of links) →
         IsWired (under s) → AllWithinRingSession s links }
     ensures in_turn { (links : List RingLink) → All IsOfRings (calls_of links) →
@@ -227,6 +294,13 @@ pub fn calls_of_the_rings_meet_conditions()
 /// and those that arrived; a `take_line` and a `take_modem` tell all since the last; and each call
 /// leaves an interrupt to come, if CTS is not checked.
 pub fn own_sessions_conserve()
+    // promise: what is said of sessions of rings holds of rings that are made after an `init`, for
+    //   calls of the rings themselves without the conditions that are there for calls of the
+    //   driver; and with calls of the driver among them, if each goes on with the session
+    // with: run_from_init, own_sessions_conserve, calls_of_the_rings_meet_conditions.within
+    // shown by: rings_from_an_init
+    // refused: uart_uses/run_from_init_makes_no_call,
+    //   uart_uses/run_from_init_writes_by_itself
     ensures { (s t : RingState) (links : List RingLink) → All IsOfRings (calls_of links) →
         RingConserves s links t → OwnConserves s links t }
 {}
@@ -256,11 +330,16 @@ pub fn own_sessions_conserve()
 /// noted_errors_are_exact(&ring);
 /// ```
 pub fn noted_errors_are_exact(ring: &Uart16550Ring<ErrorNotes<Device16550>>)
+    // if: the driver takes the FIFO to be on
+    // if: no earlier look has shown the character in front
     ensures begins { (line : ℕ) (after : ErrorNotes MachineState) →
         Ready (under (without_notes ring.now)) → (ring_fields ring.now).driver.fifo ≡ true →
         AreUnlooked (notes_in ring.now) → reported_front (receiver_of ring.now) ≡ None →
         NotesErrors MachineStep (ring_backend_of ring.now) (Read offsets.LSR line) after →
         IsInStep (notes_of after) after.backend.chip.receiver }
+    // if: the driver takes the FIFO to be on
+    // if: DLAB is off
+    // if: the look shows that a byte waits
     ensures with_a_byte { (line byte : ℕ) (after : ErrorNotes MachineState) →
         Ready (under (without_notes ring.now)) → (ring_fields ring.now).driver.fifo ≡ true →
         (notes_in ring.now).is_latch ≡ false → has_any line LSR.DATA_READY.0 ≡ true →
@@ -272,6 +351,8 @@ pub fn noted_errors_are_exact(ring: &Uart16550Ring<ErrorNotes<Device16550>>)
         AllWithinRingSession (without_notes ring.now) (links_without_notes links) →
         All IsOfRings (calls_of links) → NotedChain ring.now links t →
         NotesExactly before ring.now links t }
+    // if: the errors of all bytes in the ring are noted
+    // if: the errors that were returned are the first that are noted
     ensures taken { (characters : List Character) (slots count : ℕ) (items : List Received)
         (t : NotedState) → Holds characters ring.now → unnoted_in ring.now ≡ 0 →
         RingDid (NotesErrors MachineStep) (TakesBytes slots (bytes_of items)) ring.now t →
@@ -292,6 +373,12 @@ pub fn noted_errors_are_exact(ring: &Uart16550Ring<ErrorNotes<Device16550>>)
 /// init_leaves_notes_in_step(&uart);
 /// ```
 pub fn init_leaves_notes_in_step(uart: &Uart16550<ErrorNotes<Device16550>>)
+    // proved: After an `init` that returns Ok the notes are in step, if the chip has a FIFO, a
+    //   trigger level is configured, and the chip was not left in loopback before
+    // on: `laws::init_leaves_notes_in_step`
+    // if: the chip is not in loopback
+    // if: the chip is a 16550A
+    // if: a trigger level is configured
     ensures { (config : Config) (level : FifoTriggerLevel)
         (after : Uart16550 (ErrorNotes MachineState)) →
         is_loopback (backend_of uart.now).backend.chip.latches ≡ false →

@@ -55,7 +55,39 @@ pub fn run_ring(
     calls: &[RingCall],
     answers: &mut [RingAnswer],
 )
+    // promise: over the chip, in each session: queued bytes go out in order, if no call overtakes
+    //   or drops; arrivals are taken in order, less what was dropped; errors and changes are
+    //   reported
+    // with: run_ring, RingConserves.sent, RingConserves.kept, RingConserves.tells,
+    //   RingConserves.armed
+    // shown by: a_full_ring_leaves_bytes_in_the_chip, an_overrun_is_told_once,
+    //   bytes_have_their_errors
+    // refused: uart_ring/service_makes_no_read_of_isr
+    // proved: Each call leaves the wire, the transmitter and the bytes that wait as they were, but
+    //   for what it does itself, as its answer tells: `queue` adds bytes at the end, `queue_urgent`
+    //   puts its byte before all that wait, in place of one that it returns, `clear_transmit` drops
+    //   as many at the end as it returns, and so on. What a call of the driver sends goes before
+    //   all that wait
+    // on: `run_ring`: `in_line`
+    // proved: No data write meets a full transmitter
+    // on: `run_ring`: `no_overflow`
+    // proved: The first `take_line` begun after a drop shows the overrun flag, and every
+    //   `take_line` but the first of the session shows the flag only then. A `take_line` shows the
+    //   errors of each character that was taken or is in front, whatever `service` saw of them.
+    //   Without FIFO it shows these errors or the overrun flag, since a character that is dropped
+    //   takes its errors with it. This holds if the driver makes no `lsr` in between, which tells
+    //   the same
+    // on: `run_ring`: `tells`: `line`, `only_drops`
+    // proved: `take_modem` shows each change of the modem lines, and every `take_modem` but the
+    //   first of the session shows no other change. This holds if the driver makes no `msr` in
+    //   between, which tells the same
+    // on: `run_ring`: `tells`: `changes`, `only_changes`
+    // proved: Each call leaves a state in which a session goes on, and a wired machine stays wired;
+    //   `run_ring` never refuses, and its answers are those of the ring calls one after the other
+    // on: `run_ring`: `ready`, `wired`, `chain`
+    // each call can be run, as `is_runnable` checks
     requires runnable { All IsRingRunnable calls.now }
+    // there is a slot for each answer
     requires slots { length calls.now ≡ length answers.old }
     ensures { RanRing ring.old calls.now answers.new ring.new }
 {

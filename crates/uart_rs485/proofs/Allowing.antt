@@ -6,7 +6,7 @@ use Rattle.uart_spec.specs.declared.access.Access.{Access}
 use Rattle.uart_spec.specs.declared.access.Access.TheVariants.{Read, Write}
 use Rattle.uart_spec.specs.declared.registers.line_status.TheConstants.LSR
 use Rattle.uart_spec.specs.declared.registers.offsets.TheConstants as offsets
-use Rattle.uart_rs485.specs.Directions.{empty_after, empty_after_one, sends_after, sends_after_one, sends_by}
+use Rattle.uart_rs485.specs.Directions.{drives_itself, empty_after, empty_after_one, sends_after, sends_after_one, sends_by}
 use Rattle.uart_rs485.specs.Laws.{KeepsDirection}
 use Rattle.uart_rs485.specs.declared.direction.Direction.{Direction}
 
@@ -15,6 +15,7 @@ abbrev Allows : Direction → (sends empty : Bool) → Access → Type 0
 Allows d sends empty (Read offset answer) = ⊤
 Allows d sends empty (Write offset value) =
     (offset ≡ offsets.DATA → sends ≡ true) × (offset ≡ offsets.MCR → sends_by d value ≡ false → empty ≡ true)
+    × (offset ≡ offsets.MCR → drives_itself d value ≡ false)
 
 abbrev pub AllowsAll : Direction → (sends empty : Bool) → List Access → Type 0
 AllowsAll d sends empty [] = ⊤
@@ -33,6 +34,12 @@ turns_allowed d sends empty [] behind mcr t off = t.0.1 refl off
 turns_allowed d sends empty (access ∷ before) behind mcr t off =
     turns_allowed d (sends_after_one d sends access) (empty_after_one empty access) before behind mcr t.1 off
 
+own_allowed : (d : Direction) (sends empty : Bool) (before behind : List Access) (mcr : ℕ) →
+    AllowsAll d sends empty (before ++ Write offsets.MCR mcr ∷ behind) → drives_itself d mcr ≡ false
+own_allowed d sends empty [] behind mcr t = t.0.2 refl
+own_allowed d sends empty (access ∷ before) behind mcr t =
+    own_allowed d (sends_after_one d sends access) (empty_after_one empty access) before behind mcr t.1
+
 -- a list whose accesses are allowed keeps the direction
 pub keeps_all : (d : Direction) (sends : Bool) (l : List Access) → AllowsAll d sends false l → KeepsDirection d sends l
 keeps_all d sends l t =
@@ -40,6 +47,7 @@ keeps_all d sends l t =
     record {
       bytes = λ before behind byte is. bytes_allowed d sends false before behind byte (subst P is t);
       turns = λ before behind mcr is off. turns_allowed d sends false before behind mcr (subst P is t) off;
+      own = λ before behind mcr is. own_allowed d sends false before behind mcr (subst P is t);
     }
 
 -- ---- one list after another
@@ -60,7 +68,7 @@ one_less e f (Write offset value) less is = go (not (offset == offsets.DATA)) is
 
 one_more : (d : Direction) (sends e f : Bool) (access : Access) → (e ≡ true → f ≡ true) → Allows d sends e access → Allows d sends f access
 one_more d sends e f (Read offset answer) less t = tt
-one_more d sends e f (Write offset value) less t = (t.0, λ at off. less (t.1 at off))
+one_more d sends e f (Write offset value) less t = (t.0, λ at off. less (t.1 at off), t.2)
 
 allows_more : (d : Direction) (sends e f : Bool) (l : List Access) → (e ≡ true → f ≡ true) → AllowsAll d sends e l → AllowsAll d sends f l
 allows_more d sends e f [] less t = tt

@@ -5,9 +5,9 @@ use Rattle.uart_spec.specs.declared.access.Access.TheVariants.{Read, Write}
 use Rattle.uart_spec.specs.declared.registers.line_status.TheConstants.LSR
 use Rattle.uart_spec.specs.declared.registers.offsets.TheConstants as offsets
 use Rattle.uart_spec.specs.Bits.{has}
-use Rattle.uart_16550.specs.Frame.{switched, unlooped}
+use Rattle.uart_16550.specs.Frame.{unlooped}
 use Rattle.uart_rs485.specs.Bus.{BusFields, SendsBytes, SendsBytesExact, Stays, TriesToFinish, Turns, with_driver}
-use Rattle.uart_rs485.specs.Directions.{bit_of, level, sends_after}
+use Rattle.uart_rs485.specs.Directions.{sends_after, turned}
 use Rattle.uart_rs485.specs.Laws.{BusCall, DoesCall, DoesCalls, CallsKeepDirection, KeepsFromNew}
 use Rattle.uart_rs485.specs.declared.direction.Direction.{Direction}
 use Rattle.uart_rs485.specs.declared.errors.BusyError.{BusyError}
@@ -59,16 +59,16 @@ then_kept d before l m mid after p q =
 -- ---- the transceiver is switched
 
 -- what is written to MCR in this direction
-abbrev turned : Direction → (sends : Bool) → ℕ → ℕ
-turned d sends mcr = unlooped (switched (level d sends) (bit_of d.line) mcr)
+abbrev written : Direction → (sends : Bool) → ℕ → ℕ
+written d sends mcr = unlooped (turned d sends mcr)
 
 apart : offsets.MCR ≡ offsets.DATA → ⊥
 apart same = absurd (omega arith)
 
 turn_allows : (d : Direction) (before empty sends : Bool) (mcr : ℕ) → (sends ≡ false → empty ≡ true) →
-    AllowsAll d before empty (Read offsets.MCR mcr ∷ Write offsets.MCR (turned d sends mcr) ∷ [])
+    AllowsAll d before empty (Read offsets.MCR mcr ∷ Write offsets.MCR (written d sends mcr) ∷ [])
 turn_allows d before empty sends mcr due =
-    (tt, ((λ at. absurd (apart at), λ at off. due (sym (switches_turn d sends mcr) ∙ off)), tt))
+    let t = switches_turn d sends mcr in (tt, ((λ at. absurd (apart at), λ at off. due (sym t.0 ∙ off), λ at. t.1), tt))
 
 never : (e : Bool) → true ≡ false → e ≡ true
 never e wrong = absurd cc
@@ -78,17 +78,17 @@ turns_kept f l after t =
     let made = t.0.0 in
     record {
       allows = rw made.1 (turn_allows f.direction f.sends false true made.0 (never false));
-      sends = ap (λ (x : BusFields). x.sends) t.1 ∙ rw made.1 (sym (switches_turn f.direction true made.0));
+      sends = ap (λ (x : BusFields). x.sends) t.1 ∙ rw made.1 (sym (switches_turn f.direction true made.0).0);
       direction = ap (λ (x : BusFields). x.direction) t.1;
     }
 
 -- LSR shows an empty transmitter, and the transceiver is switched to receive
 finished : (d : Direction) (before : Bool) (lsr mcr : ℕ) (l : List Access) → has lsr LSR.TRANSMITTER_EMPTY.0 ≡ true →
-    l ≡ Read offsets.LSR lsr ∷ Read offsets.MCR mcr ∷ Write offsets.MCR (turned d false mcr) ∷ [] →
+    l ≡ Read offsets.LSR lsr ∷ Read offsets.MCR mcr ∷ Write offsets.MCR (written d false mcr) ∷ [] →
     AllowsAll d before false l × (sends_after d before l ≡ false)
 finished d before lsr mcr l shows is = rw is (
   (tt, turn_allows d before (has lsr LSR.TRANSMITTER_EMPTY.0) false mcr (λ off. shows)),
-  switches_turn d false mcr,
+  (switches_turn d false mcr).0,
 )
 
 finishes_kept : (f : BusFields) (l : List Access) (after : BusFields) (before : Bool) → TriesToFinish {T = Unit {0}} (Ok tt) f l after →
@@ -98,10 +98,10 @@ finishes_kept f l after before t =
     let made = t.second.0.0 in
     let way : t.mid.direction ≡ f.direction = ap (λ (x : BusFields). x.direction) t.first.1 in
     let is : l ≡ Read offsets.LSR looked.answer ∷ Read offsets.MCR made.0 ∷
-    Write offsets.MCR (turned f.direction false made.0) ∷ [] =
+    Write offsets.MCR (written f.direction false made.0) ∷ [] =
     t.whole ∙ (λ i. looked.is i ++ made.1 i)
     ∙ ap (λ (d : Direction). Read offsets.LSR looked.answer ∷ Read offsets.MCR made.0 ∷
-    Write offsets.MCR (turned d false made.0) ∷ []) way in
+    Write offsets.MCR (written d false made.0) ∷ []) way in
     let done = finished f.direction before looked.answer made.0 l looked.shows is in
     record {
       allows = done.0;

@@ -1,5 +1,5 @@
 -- Calls of the driver that write no register but DATA, and that only while the transceiver sends.
-use Rattle.std.proofs.Common.{◌≡◌, ◌==◌, ℕ, zero, suc, Bool, true, false, MatchBool, List, [], ◌∷◌, ◌++◌, Result, Ok, Err, refl, sym}
+use Rattle.std.proofs.Common.{◌≡◌, ℕ, zero, suc, Bool, true, false, MatchBool, List, [], ◌∷◌, ◌++◌, Result, Ok, Err, refl, sym}
 use Rattle.std.proofs.Common.{take, subst, arith, inl, inr}
 use Rattle.std.specs.Prelude.{⊤}
 use Rattle.uart_spec.specs.declared.access.Access.{Access}
@@ -34,7 +34,7 @@ quiet_allows d sends empty [] t = tt
 quiet_allows d sends empty (Read offset answer ∷ l) t = (tt, quiet_allows d sends _ l t.1)
 quiet_allows d sends empty (Write offset value ∷ l) t =
     let P : ℕ → Type 0 = λ n. AllowsAll d sends empty (Write n value ∷ l) in
-    subst P (sym t.0.0) ((λ at. t.0.1, λ at off. absurd (apart at)), quiet_allows d sends false l t.1)
+    subst P (sym t.0.0) ((λ at. t.0.1, λ at off. absurd (apart at), λ at. absurd (apart at)), quiet_allows d sends false l t.1)
 
 pub quiet_stays : (d : Direction) (sends : Bool) (l : List Access) → AllQuiet sends l → sends_after d sends l ≡ sends
 quiet_stays d sends [] t = refl

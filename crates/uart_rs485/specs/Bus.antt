@@ -3,11 +3,13 @@ use Rattle.std.specs.Prelude.{◌≡◌, ℕ, Bool, true, false, List, [], Resul
 use Rattle.uart_spec.specs.Access.{Path}
 use Rattle.uart_spec.specs.declared.access.Access.{Access}
 use Rattle.uart_spec.specs.declared.errors.StalledError.{StalledError}
+use Rattle.uart_spec.specs.declared.registers.offsets.TheConstants as offsets
 use Rattle.uart_16550.specs.Driver.{Fields, Doing, Saving, Next, fields, backend_of}
-use Rattle.uart_16550.specs.Frame.{SetsOutput, ShowsIdle}
+use Rattle.uart_16550.specs.Frame.{ShowsIdle, unlooped}
+use Rattle.uart_16550.specs.Grammar.{Modifies}
 use Rattle.uart_16550.specs.Transmit.{Sends, SendsExact}
 use Rattle.uart_16550.specs.declared.driver.Uart16550.{Uart16550}
-use Rattle.uart_rs485.specs.Directions.{bit_of, level}
+use Rattle.uart_rs485.specs.Directions.{turned}
 use Rattle.uart_rs485.specs.declared.bus.HalfDuplex.{HalfDuplex}
 use Rattle.uart_rs485.specs.declared.direction.Direction.{Direction}
 use Rattle.uart_rs485.specs.declared.errors.BusyError.{BusyError}
@@ -65,10 +67,10 @@ abbrev pub Stays : BusDoing
 Stays f l after = (l ≡ []) × (after ≡ f)
 
 -- the transceiver is switched: MCR is read, and written with the line as it is to be in this direction, without
--- loopback, as by the driver's `set_rts` or `set_dtr`
+-- loopback, and at RTS without automatic flow control
 abbrev pub Turns : (sends : Bool) → BusDoing
 Turns sends f =
-    OnDriver (Saving (SetsOutput (bit_of f.direction.line) (level f.direction sends))) (with_sends sends) f
+    OnDriver (Saving (Modifies offsets.MCR (λ mcr. unlooped (turned f.direction sends mcr)))) (with_sends sends) f
 
 -- `try_finish`: a look at LSR shows that the transmitter is empty, and the transceiver is switched to receive; or it
 -- shows that it is not, and nothing else is done

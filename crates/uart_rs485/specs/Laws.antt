@@ -6,25 +6,39 @@ use Rattle.uart_spec.specs.declared.errors.StalledError.{StalledError}
 use Rattle.uart_spec.specs.declared.received.Received.{Received}
 use Rattle.uart_spec.specs.declared.registers.offsets.TheConstants as offsets
 use Rattle.uart_16550.specs.Driver.{Fields, Next, Saving}
-use Rattle.uart_16550.specs.Frame.{ShowsIdle, switched, unlooped}
+use Rattle.uart_16550.specs.Frame.{ShowsIdle, unlooped}
 use Rattle.uart_16550.specs.Io.{Flushes}
 use Rattle.uart_16550.specs.Receive.{Receives, ReceivesWithErrors}
 use Rattle.uart_16550.specs.Status.{TakesLsr}
 use Rattle.uart_rs485.specs.Bus.{BusDoing, BusFields, OnDriver, SendsBytes, SendsBytesExact, Stays, TriesToFinish}
 use Rattle.uart_rs485.specs.Bus.{Turns, unchanged}
-use Rattle.uart_rs485.specs.Directions.{bit_of, empty_after, level, sends_after, sends_by}
+use Rattle.uart_rs485.specs.Directions.{drives_itself, empty_after, sends_after, sends_by, turned}
 use Rattle.uart_rs485.specs.declared.direction.Direction.{Direction}
 use Rattle.uart_rs485.specs.declared.errors.BusyError.{BusyError}
 use Rattle.uart_rs485.specs.declared.errors.NotSendingError.{NotSendingError}
 use Rattle.uart_rs485.specs.declared.errors.SendError.{SendError}
 
 -- in this list, which begins while the transceiver sends or does not, each byte is written to DATA while it sends. And
--- it is switched to receive only behind a look at LSR that showed an empty transmitter, with no byte written in between
+-- it is switched to receive only behind a look at LSR that showed an empty transmitter, with no byte written in
+-- between. No write of MCR lets the chip drive the line itself
 pub record KeepsDirection (d : Direction) (sends : Bool) (l : List Access) : Type 0 where
-  pub bytes : (before behind : List Access) (byte : ℕ) → l ≡ before ++ Write offsets.DATA byte ∷ behind →
+  -- each byte is written to DATA while the transceiver sends
+  pub bytes : (before behind : List Access) (byte : ℕ) →
+      -- a byte is written to DATA
+      l ≡ before ++ Write offsets.DATA byte ∷ behind →
       sends_after d sends before ≡ true
-  pub turns : (before behind : List Access) (mcr : ℕ) → l ≡ before ++ Write offsets.MCR mcr ∷ behind →
+  -- the transceiver is switched to receive only behind a look at LSR that showed an empty transmitter, with no byte
+  -- written in between
+  pub turns : (before behind : List Access) (mcr : ℕ) →
+      -- MCR is written
+      l ≡ before ++ Write offsets.MCR mcr ∷ behind →
+      -- with this value the transceiver receives
       sends_by d mcr ≡ false → empty_after false before ≡ true
+  -- the chip does not drive the line itself
+  pub own : (before behind : List Access) (mcr : ℕ) →
+      -- MCR is written
+      l ≡ before ++ Write offsets.MCR mcr ∷ behind →
+      drives_itself d mcr ≡ false
 
 -- the calls at a bus that make accesses
 pub data BusCall : Type 0 where
@@ -67,13 +81,15 @@ KeepsFromNew = (d : Direction) (sends : Bool) (driver : Fields) (calls : List Bu
     DoesCalls calls mid m after →
     KeepsDirection d sends (l ++ m) × (after.sends ≡ sends_after d sends (l ++ m))
 
+-- with MCR so the transceiver sends, or does not, whatever happens in the chip
+abbrev pub Switches : Direction → (sends : Bool) → (mcr : ℕ) → Type 0
+Switches d sends mcr = (sends_by d mcr ≡ sends) × (drives_itself d mcr ≡ false)
+
 -- what is written to MCR, whatever was read of it, switches the transceiver as asked
 abbrev pub SwitchesTurn : Type 0
-SwitchesTurn = (d : Direction) (sends : Bool) (mcr : ℕ) →
-    sends_by d (unlooped (switched (level d sends) (bit_of d.line) mcr)) ≡ sends
+SwitchesTurn = (d : Direction) (sends : Bool) (mcr : ℕ) → Switches d sends (unlooped (turned d sends mcr))
 
 -- with the outputs of `receiving`, and also without loopback, the transceiver does not send
 abbrev pub OutputsReceive : Type 0
 OutputsReceive = (d : Direction) (outputs : ℕ) →
-    (sends_by d (switched (level d false) (bit_of d.line) outputs) ≡ false)
-    × (sends_by d (unlooped (switched (level d false) (bit_of d.line) outputs)) ≡ false)
+    Switches d false (turned d false outputs) × Switches d false (unlooped (turned d false outputs))

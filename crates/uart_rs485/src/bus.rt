@@ -6,7 +6,7 @@ ghost use Rattle.uart_16550.specs.Io.{Flushes};
 ghost use Rattle.uart_rs485.specs.Bus.{Begins, BusDid, OnDriver, Turns, TriesToFinish};
 ghost use Rattle.uart_rs485.specs.Bus.{unchanged};
 
-use crate::direction::{Direction, DirectionLine};
+use crate::direction::Direction;
 use crate::errors::BusyError;
 use uart_16550::Uart16550;
 use uart_16550::backend::Backend;
@@ -38,8 +38,8 @@ use uart_spec::StalledError;
 ///
 /// Only calls of this type keep the direction, so it lends no driver that could write. For other
 /// calls, as `set_frame`, take the driver back by `into_inner`, and give it to `new` again. So set
-/// the size of the FIFOs, by `set_fifo_size`, before `new`. The direction is by software: leave
-/// flow control by the chip off, which would drive RTS itself.
+/// the size of the FIFOs, by `set_fifo_size`, before `new`. The direction is by software: where RTS
+/// is the line, flow control by the chip would drive it, so each switch turns that off.
 ///
 /// # Examples
 ///
@@ -82,6 +82,9 @@ impl<B: Backend> HalfDuplex<B> {
     /// };
     /// ```
     pub fn new(uart: Uart16550<B>, direction: Direction) -> Result<Self, (Uart16550<B>, BusyError)>
+        // proved: A bus is begun as by a `try_finish`; if the transmitter is not empty, the driver
+        //   is returned
+        // on: `HalfDuplex::new`
         ensures { Begins B.step uart direction result }
     {
         // Nothing is known of the direction. If it is to send, it may be taken back only while the
@@ -101,16 +104,15 @@ impl<B: Backend> HalfDuplex<B> {
     fn turn(&mut self, sends: bool)
         ensures { BusDid B.step (Turns sends) self.old self.new }
     {
-        let on = self.direction.level(sends);
-        match self.direction.line {
-            DirectionLine::Rts => self.uart.set_rts(on),
-            DirectionLine::Dtr => self.uart.set_dtr(on),
-        }
+        let outputs = self.uart.mcr();
+        self.uart
+            .set_modem_control(self.direction.turned(sends, outputs));
         self.is_sending = sends;
     }
 
     /// Switches the transceiver to send: reads MCR, and writes it with the line so, as `set_rts` or
-    /// `set_dtr` of the driver do. From now on bytes may be sent.
+    /// `set_dtr` of the driver do. Where the line is RTS, flow control by the chip is off from then
+    /// on. From now on bytes may be sent.
     ///
     /// Does not wait. Before the first byte wait as long as the transceiver takes.
     ///
@@ -145,6 +147,8 @@ impl<B: Backend> HalfDuplex<B> {
     /// assert!(rt; !bus.is_sending());
     /// ```
     pub fn try_finish(&mut self) -> Result<(), BusyError>
+        // proved: The direction is given back by a look at LSR and a switch, right behind each
+        //   other; or the look shows that the transmitter is not empty, and nothing is written
         ensures { BusDid B.step (TriesToFinish result) self.old self.new }
     {
         // The look is part of the call that switches. A look of an earlier call would tell nothing
@@ -166,6 +170,8 @@ impl<B: Backend> HalfDuplex<B> {
     /// assert!(rt; bus.is_idle());
     /// ```
     pub fn is_idle(&mut self) -> bool
+        // proved: The other calls are the driver's, and leave the direction
+        // on: `is_idle`, `flush`, `receive_bytes`, `receive_with_errors`, `lsr`
         ensures { BusDid B.step (OnDriver (Saving (ShowsIdle result)) unchanged)
             self.old self.new }
     {

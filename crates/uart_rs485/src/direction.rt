@@ -1,7 +1,6 @@
 //! Which output of the chip switches the transceiver, and how.
 ghost use Rattle.std.specs.Prelude.{◌≡◌, false};
-ghost use Rattle.uart_16550.specs.Frame.{switched};
-ghost use Rattle.uart_rs485.specs.Directions.{bit_of, level};
+ghost use Rattle.uart_rs485.specs.Directions.{bit_of, flow_of, level, turned};
 
 use bitflags::Flags;
 use uart_spec::registers::MCR;
@@ -50,6 +49,17 @@ impl Direction {
         }
     }
 
+    // Returns the bit by which the chip would drive the output itself: flow control by the chip
+    // drives RTS, by how many characters wait.
+    fn flow(self) -> MCR
+        ensures { result.0 ≡ flow_of self.line }
+    {
+        match self.line {
+            DirectionLine::Rts => MCR::AUTO_FLOW,
+            DirectionLine::Dtr => MCR::empty(),
+        }
+    }
+
     // Returns whether the bit of the output is set in this direction.
     pub(crate) fn level(self, sends: bool) -> bool
         ensures { result ≡ level self sends }
@@ -61,7 +71,23 @@ impl Direction {
         }
     }
 
-    /// Returns these outputs with the line as it is to be while the transceiver receives.
+    // Returns these outputs with the line as it is to be in this direction.
+    pub(crate) fn turned(self, sends: bool, outputs: MCR) -> MCR
+        ensures { result.0 ≡ turned self sends outputs.0 }
+    {
+        let switched = if self.level(sends) {
+            outputs.union(self.bit())
+        } else {
+            outputs.difference(self.bit())
+        };
+        // A chip whose flow control is on clears RTS once its FIFO has as many characters as its
+        // trigger level. It would give the bus away in the middle of a message whose echo is not
+        // yet read. Firmware, or a driver before this one, may have left it on.
+        switched.difference(self.flow())
+    }
+
+    /// Returns these outputs with the line as it is to be while the transceiver receives: of RTS
+    /// without flow control by the chip, which would drive it.
     ///
     /// `init` raises RTS and DTR. On a bus with other ends that may send, initialise the chip with
     /// these outputs instead, by `init_with`: else this end may hold the bus until
@@ -77,12 +103,8 @@ impl Direction {
     /// uart.init_with(Config::DEFAULT, &setup)?;
     /// ```
     pub fn receiving(self, outputs: MCR) -> MCR
-        ensures { result.0 ≡ switched (level self false) (bit_of self.line) outputs.0 }
+        ensures { result.0 ≡ turned self false outputs.0 }
     {
-        if self.level(false) {
-            outputs.union(self.bit())
-        } else {
-            outputs.difference(self.bit())
-        }
+        self.turned(false, outputs)
     }
 }

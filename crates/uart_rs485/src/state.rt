@@ -16,6 +16,8 @@ impl<B: Backend> HalfDuplex<B> {
     /// assert!(rt; !bus.is_sending());
     /// ```
     pub fn is_sending(&self) -> bool
+        // proved: What is held, and the driver under it. No access is made
+        // on: `is_sending`, `direction`, `inner`, `into_inner`
         ensures { result ≡ (bus_fields self.now).sends }
     {
         self.is_sending

@@ -28,6 +28,9 @@ impl<B: Backend> HalfDuplex<B> {
     /// let rest = &bytes[sent..];
     /// ```
     pub fn send_bytes(&mut self, buffer: &[u8]) -> Result<usize, NotSendingError>
+        // proved: While the direction is to send, bytes are sent as the driver's calls send them;
+        //   else no access is made, and that is the error
+        // on: `send_bytes`, `send_bytes_exact`
         ensures { BusDid B.step (SendsBytes buffer.now result) self.old self.new }
     {
         if !self.is_sending {

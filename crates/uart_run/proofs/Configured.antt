@@ -1,25 +1,19 @@
 -- That the registers are as configured after an `init` or an `init_with` that is done, so that `check_configured` is Ok.
-use Rattle.std.proofs.Common.{◌≡◌, ℕ, ◌<◌, Bool, true, List, [], ◌∷◌, Ok, refl, sym, ◌∙◌, ap, subst, arith, bit_and}
+use Rattle.std.proofs.Common.{◌≡◌, ℕ, ◌<◌, Ok, sym, ◌∙◌, ap, subst, arith, bit_and}
 use Rattle.std.proofs.lemmas.Nat.{and_assoc, and_mask}
 use Rattle.std.proofs.lemmas.Grind.{common_steps}
 use Rattle.bitflags.specs.Sets.{without}
 use Rattle.uart_spec.specs.Bits.{IsWithin}
 use Rattle.uart_spec.specs.Config.{IsComputable}
-use Rattle.uart_spec.specs.declared.access.Access.{Access}
-use Rattle.uart_spec.specs.declared.access.Access.TheVariants.{Write}
 use Rattle.uart_spec.specs.declared.config.Config.{Config}
 use Rattle.uart_spec.specs.declared.registers.line_control.TheConstants.LCR
 use Rattle.uart_spec.specs.declared.registers.line_status.TheConstants.LSR
 use Rattle.uart_spec.specs.declared.registers.modem_control.TheConstants.MCR
-use Rattle.uart_spec.specs.declared.registers.offsets.TheConstants as offsets
 use Rattle.uart_spec.specs.declared.setup.Setup.{Setup}
 use Rattle.uart_16550.specs.Configured.{Verdict, ChecksConfigured}
-use Rattle.uart_16550.specs.Driver.{Did, Doing, Fields, fields, backend_of, Made, Saving, Plain, Sets, Next, with_fifo, with_saved}
-use Rattle.uart_16550.specs.Frame.{unlooped}
-use Rattle.uart_16550.specs.Grammar.{Language, Only, Then, ReadsRegister}
-use Rattle.uart_16550.specs.Init.{ChecksPresence, DivisorOf, DrainsReceiver, Ends, Inits, SetsFifo, frame_bits, line_writes, raised_outputs}
-use Rattle.uart_16550.specs.Setup.{InitsWith, Looks, SetsUp, WaitsIf, is_last}
-use Rattle.uart_16550.specs.Transmit.{WaitsFor}
+use Rattle.uart_16550.specs.Driver.{Did, fields, backend_of, Made}
+use Rattle.uart_16550.specs.Init.{DivisorOf, Inits, frame_bits}
+use Rattle.uart_16550.specs.Setup.{InitsWith}
 use Rattle.uart_16550.specs.Tty.{inner_of}
 use Rattle.uart_16550.specs.declared.driver.Uart16550.{Uart16550}
 use Rattle.uart_chip.specs.Chip.{divisor}
@@ -34,68 +28,8 @@ use Rattle.uart_run.proofs.OutputLaws.{within_unlooped}
 use Rattle.uart_run.proofs.initialising.Initialised as initialised
 use Rattle.uart_run.proofs.initialising.Inits.{frame-low}
 use Rattle.uart_run.proofs.initialising.SetUp as arranged
+use Rattle.uart_run.proofs.initialising.Stored.{init_stores, init_with_stores}
 use Rattle.uart_chip.proofs.McrBits.{within_any}
-
--- ---- the configuration that is stored
-
--- it leaves the configuration as it is
-abbrev KeepsConfig : Doing → Type 0
-KeepsConfig G = (f after : Fields) (l : List Access) → G f l after → after.config ≡ f.config
-
-keeps_next : (G H : Doing) → KeepsConfig G → KeepsConfig H → KeepsConfig (Next G H)
-keeps_next G H p q f after l t = q t.mid after t.back t.second ∙ p f t.mid t.front t.first
-
-keeps_saving : (L : Language) → KeepsConfig (Saving L)
-keeps_saving L f after l t = ap (λ (g : Fields). g.config) t.1
-
-keeps_plain : (L : Language) → KeepsConfig (Plain L)
-keeps_plain L f after l t = ap (λ (g : Fields). g.config) t.1
-
-keeps_sets : (change : Fields → Fields) → ((f : Fields) → (change f).config ≡ f.config) → KeepsConfig (Sets change)
-keeps_sets change same f after l t = ap (λ (g : Fields). g.config) t.1 ∙ same f
-
--- the statuses are read, and the interrupts enabled
-keeps_ends : (config : Config) → KeepsConfig (Ends config)
-keeps_ends config =
-    let statuses : Language = Then (ReadsRegister offsets.LSR) (Then (ReadsRegister offsets.ISR) (ReadsRegister offsets.MSR)) in
-    let enables : Language = Only (Write offsets.IER config.interrupts.0 ∷ []) in
-    keeps_next (Plain statuses) (Next (Sets (with_saved 0 0)) (Saving enables)) (keeps_plain statuses)
-    (keeps_next (Sets (with_saved 0 0)) (Saving enables) (keeps_sets (with_saved 0 0) (λ f. refl)) (keeps_saving enables))
-
--- the FIFO is noted, the receiver drained, and the outputs written
-abbrev Drains : Bool → (outputs : ℕ) → Doing
-Drains on outputs = Next (Sets (with_fifo on)) (Next (Plain DrainsReceiver) (Saving (Only (Write offsets.MCR outputs ∷ []))))
-
-keeps_drains : (on : Bool) (outputs : ℕ) → KeepsConfig (Drains on outputs)
-keeps_drains on outputs =
-    let writes : Language = Only (Write offsets.MCR outputs ∷ []) in
-    keeps_next (Sets (with_fifo on)) (Next (Plain DrainsReceiver) (Saving writes)) (keeps_sets (with_fifo on) (λ f. refl))
-    (keeps_next (Plain DrainsReceiver) (Saving writes) (keeps_plain DrainsReceiver) (keeps_saving writes))
-
-init_stores : (config : Config) (f after : Fields) (l : List Access) → Inits config (Ok (tt {0})) f l after → after.config ≡ config
-init_stores config f after l (d, on, of, does) =
-    let line : Language = Then (ChecksPresence true) (Then (Only (line_writes d (frame_bits config)))
-    (SetsFifo config.fifo_trigger_level on)) in
-    let waits : Language = WaitsFor LSR.TRANSMITTER_EMPTY.0 true in
-    let begins = does.first in
-    let sets = begins.first.1 in
-    keeps_next (Saving waits) (Ends config) (keeps_saving waits) (keeps_ends config) does.mid after does.back does.second
-    ∙ (keeps_next (Saving line) (Drains on raised_outputs) (keeps_saving line) (keeps_drains on raised_outputs) begins.mid does.mid
-    begins.back begins.second ∙ ap (λ (g : Fields). g.config) sets)
-
-init_with_stores : (setup : Setup) (config : Config) (f after : Fields) (l : List Access) →
-    InitsWith setup config (Ok (tt {0})) f l after → after.config ≡ config
-init_with_stores setup config f after l (d, on, of, does) =
-    let line : Language = Then (Only (line_writes d (frame_bits config))) (SetsFifo config.fifo_trigger_level on) in
-    let outputs = unlooped setup.outputs.0 in
-    let looks : Language = Looks setup true in
-    let waits : Language = WaitsIf (is_last setup.wait) true in
-    let ends : Doing = Next (Saving waits) (Ends config) in
-    let sets_up : KeepsConfig (SetsUp setup config d on) =
-    keeps_next (Saving line) (Drains on outputs) (keeps_saving line) (keeps_drains on outputs) in
-    keeps_next (Saving looks) (Next (SetsUp setup config d on) ends) (keeps_saving looks)
-    (keeps_next (SetsUp setup config d on) ends sets_up (keeps_next (Saving waits) (Ends config) (keeps_saving waits) (keeps_ends config)))
-    does.mid after does.back does.second ∙ ap (λ (g : Fields). g.config) does.first.1
 
 -- ---- the registers
 

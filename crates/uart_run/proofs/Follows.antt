@@ -18,8 +18,9 @@ use Rattle.uart_run.proofs.CheckAnswers.{checks}
 use Rattle.uart_run.proofs.initialising.SetUp.{arranges}
 use Rattle.uart_run.proofs.initialising.Initialised.{initialises}
 use Rattle.uart_run.proofs.loopback.LoopTests.{tested}
-use Rattle.uart_run.proofs.SizeKept.{fits_kept}
+use Rattle.uart_run.proofs.SizeKept.{size_kept, sizes_kept, checks_kept, fits_kept}
 use Rattle.uart_run.proofs.ReadyKept.{follows_ready}
+use Rattle.uart_run.proofs.progress.Timely.{timely_kept, flow_kept}
 use Rattle.uart_run.proofs.progress.Succeeds.{flush_succeeds, write_succeeds, send_exact_succeeds, text_succeeds}
 use Rattle.uart_run.proofs.initialising.InitSucceeds.{init_succeeds}
 use Rattle.uart_run.proofs.initialising.InitWithSucceeds.{init_with_succeeds, frame_when_idle_succeeds}
@@ -76,6 +77,11 @@ follow_chain s t (link ∷ links) w h =
       ready = follows_ready link.before link.after link.call link.answer begins h.1;
       fits = fits_kept link.before link.after link.call link.answer h.1;
       wired = λ wired. lasts_call link.before link.after link.call link.answer lasts_wired wired h.1;
+      takes = size_kept link.before link.after link.call link.answer h.1;
+      size = sizes_kept link.before link.after link.call link.answer h.1;
+      timely = timely_kept link.before link.after link.call link.answer h.1;
+      checks = checks_kept link.before link.after link.call link.answer h.1;
+      flow = flow_kept link.before link.after link.call link.answer h.1;
       comes_to = comes_to link.before link.after link.call link.answer begins h.1;
       succeeds = succeeds link.before link.after link.call link.answer begins h.1;
     } in

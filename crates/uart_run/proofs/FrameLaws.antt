@@ -58,7 +58,8 @@ use Rattle.uart_run.proofs.Wired.{wired_step, passed_mcr}
 use Rattle.uart_run.proofs.Latches.{Kept, kept_in, keep, kept_after, kept_step, kept_path, kept_list, kept_access}
 use Rattle.uart_run.proofs.Pieces.{then_parts, next_stages}
 use Rattle.uart_run.proofs.initialising.FifoShown.{fifo_shown}
-use Rattle.uart_run.proofs.NeverSwitched.{attaches_stay}
+use Rattle.uart_run.proofs.NeverSwitched.{stays as stays_so}
+use Rattle.uart_run.proofs.built.SettingUp as built
 use Rattle.uart_run.proofs.SizeKept.{left_ever, keeps_size, fits_after, fits_kept}
 use Rattle.uart_run.proofs.CallBlocks.{Makes, most_in, makes_quiet, makes_then, passed_silently, waits_blocks}
 use Rattle.uart_run.proofs.CallKeeps.{reads_divisor_blocks, saving_keeps}
@@ -649,7 +650,7 @@ takes_port x N M s t on low high l w some d path =
     let passed = passed_silently x (most_in (settings_of f)) (machine_of s) (machine_of t) d.front [] w.open_modes w.stands
     (finds_port_blocks (settings_of f) on low high d.front d.first.0) (path_as (machine_of s) (machine_of t) l d.front is path) in
     let size = ap (λ (g : Fields). g.size) d.second.1 ∙ ap (λ (g : Fields). g.size) d.first.1 in
-    let stays = attaches_stay (Ok (low, high)) f l (fields (inner_of t)) (some, on, d) in
+    let stays = stays_so (built.attaches (Ok (low, high))) refl f l (fields (inner_of t)) (some, on, d) in
     let fits = fits_after s t l size (left_ever (machine_of s) l stays) path w.fits in
     let ready = (attached s t on low high l some d path).ready fits in
     record {

@@ -159,43 +159,34 @@ pub record LeftBy (made : List Access) (f after : Fields) (m n : MachineState) :
 abbrev pub CutsAs : Bool → MachineState → Type 0
 CutsAs cuts m = m.chip.cuts ≡ cuts
 
--- both options
-abbrev options : Kept → Bool × Bool
-options k = (k.cuts, k.auto_flow)
+abbrev cuts_in : Kept → Bool
+cuts_in k = k.cuts
 
-options-control : (model : Chip) (value : ℕ) (k : Kept) → options (keep_control model value k) ≡ options k
-options-control Uart16450 value k = refl
-options-control Uart16550A value k = refl
+cuts-control : (model : Chip) (value : ℕ) (k : Kept) → cuts_in (keep_control model value k) ≡ cuts_in k
+cuts-control Uart16450 value k = refl
+cuts-control Uart16550A value k = refl
 
-options_if : (b : Bool) (x y k : Kept) → options x ≡ options k → options y ≡ options k → options (if b then x else y) ≡ options k
-options_if true x y k p q = p
-options_if false x y k p q = q
+cuts_if : (b : Bool) (x y k : Kept) → cuts_in x ≡ cuts_in k → cuts_in y ≡ cuts_in k → cuts_in (if b then x else y) ≡ cuts_in k
+cuts_if true x y k p q = p
+cuts_if false x y k p q = q
 
-options-keep : (access : Access) (k : Kept) → options (keep access k) ≡ options k
-options-keep (Read offset answer) k = refl
-options-keep (Write offset value) k =
-    options_if (offset == offsets.DATA) _ _ k (options_if (is_dlab_set k.latches) _ _ k refl refl)
-    (options_if (offset == offsets.IER) _ _ k (options_if (is_dlab_set k.latches) _ _ k refl refl)
-    (options_if (offset == offsets.FCR) _ _ k (options-control k.model value k)
-    (options_if (offset == offsets.LCR) _ _ k refl
-    (options_if (offset == offsets.MCR) _ _ k refl
-    (options_if (offset == offsets.SPR) _ _ k refl refl)))))
+cuts-keep : (access : Access) (k : Kept) → cuts_in (keep access k) ≡ cuts_in k
+cuts-keep (Read offset answer) k = refl
+cuts-keep (Write offset value) k =
+    cuts_if (offset == offsets.DATA) _ _ k (cuts_if (is_dlab_set k.latches) _ _ k refl refl)
+    (cuts_if (offset == offsets.IER) _ _ k (cuts_if (is_dlab_set k.latches) _ _ k refl refl)
+    (cuts_if (offset == offsets.FCR) _ _ k (cuts-control k.model value k)
+    (cuts_if (offset == offsets.LCR) _ _ k refl
+    (cuts_if (offset == offsets.MCR) _ _ k refl
+    (cuts_if (offset == offsets.SPR) _ _ k refl refl)))))
 
-options-after : (made : List Access) (k : Kept) → options (kept_after made k) ≡ options k
-options-after [] k = refl
-options-after (access ∷ accesses) k = options-after accesses (keep access k) ∙ options-keep access k
+cuts-after : (made : List Access) (k : Kept) → cuts_in (kept_after made k) ≡ cuts_in k
+cuts-after [] k = refl
+cuts-after (access ∷ accesses) k = cuts-after accesses (keep access k) ∙ cuts-keep access k
 
 pub cuts_path : (cuts : Bool) (made : List Access) (m n : MachineState) → CutsAs cuts m → Path MachineStep m made n → CutsAs cuts n
 cuts_path cuts made m n e p =
-    ap (λ (k : Kept). k.cuts) (kept_path made m n p) ∙ (ap (λ (o : Bool × Bool). o.0) (options-after made (kept_in m.chip)) ∙ e)
-
--- which chip has automatic flow control
-pub flow_path : (made : List Access) (m n : MachineState) → Path MachineStep m made n → n.chip.auto_flow ≡ m.chip.auto_flow
-flow_path made m n p =
-    ap (λ (k : Kept). k.auto_flow) (kept_path made m n p) ∙ ap (λ (o : Bool × Bool). o.1) (options-after made (kept_in m.chip))
-
-pub flow_access : (m : MachineState) → (at_access m).chip.auto_flow ≡ m.chip.auto_flow
-flow_access m = ap (λ (k : Kept). k.auto_flow) (kept_access m)
+    ap cuts_in (kept_path made m n p) ∙ (cuts-after made (kept_in m.chip) ∙ e)
 
 pub kept-before_mark : (events : List Event) (c : ChipState) → kept_in (before_mark events c) ≡ kept_in c
 kept-before_mark [] c = refl

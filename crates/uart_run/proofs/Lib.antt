@@ -27,6 +27,9 @@ pub mod OutputLaws
 pub mod Configured
 pub mod ReadyKept
 pub mod Follows
+pub mod Unhindered
+pub mod StandsFor
+pub mod Asking
 pub mod Uncuts
 pub mod Runs
 pub mod ReadyTicks
@@ -34,3 +37,4 @@ pub mod Between
 pub mod Overruns
 pub mod ExactErrors
 pub mod Switched
+pub mod built

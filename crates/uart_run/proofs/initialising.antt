@@ -3,7 +3,9 @@ pub mod Presence
 pub mod FifoShown
 pub mod FifoSteps
 pub mod Inits
+pub mod Stored
 pub mod Initialised
 pub mod InitSucceeds
 pub mod SetUp
 pub mod InitWithSucceeds
+pub mod InitRoom

@@ -1,5 +1,4 @@
 -- What a loopback test comes to, and when it must succeed.
-pub mod KeptExchanges
 pub mod LoopBlocks
 pub mod LoopPhases
 pub mod LoopExchanges

@@ -3,3 +3,4 @@ pub mod Left
 pub mod Nearing
 pub mod WaitEnds
 pub mod Succeeds
+pub mod Timely

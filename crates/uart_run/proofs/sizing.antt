@@ -10,3 +10,4 @@ pub mod Finding
 pub mod Lacking
 pub mod Succeeding
 pub mod Enabling
+pub mod SessionEnds

@@ -27,7 +27,9 @@ pub record RunOf {S C A : Type 0} (Step : S → C → A → S → Type 0) (s : S
     Type 0 where
   pub links : List (LinkOf S C A)
   pub chain : ChainOf Step s links t
+  -- the calls are these
   pub calls_same : calls_of links ≡ calls
+  -- the answers are these
   pub answers_same : answers_of links ≡ answers
 
 -- each link is related in this way: its states, its call and its answer

@@ -7,6 +7,8 @@ pub mod Ready
 pub mod Progress
 pub mod Session
 pub mod Uncut
+pub mod Unhindered
 pub mod ReceivedErrors
 pub mod Overruns
 pub mod Sizes
+pub mod StandsFor

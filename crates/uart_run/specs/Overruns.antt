@@ -47,7 +47,9 @@ IsLost size characters marks =
 
 -- while the overrun flag is set, an arrival was dropped there among the characters that wait
 abbrev pub FlagTells : ReceiverState → Type 0
-FlagTells r = r.is_overrun ≡ true → IsLost r.size r.queue r.marks
+FlagTells r =
+    -- the overrun flag is set
+    r.is_overrun ≡ true → IsLost r.size r.queue r.marks
 
 -- the access takes no character and resets no FIFO: it reads another register than DATA, or writes another than FCR
 abbrev pub LeavesReceiver : Access → Type 0

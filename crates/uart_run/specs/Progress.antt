@@ -76,11 +76,18 @@ StaysUnheld setup m = IsUnheld m × ((m.chip.auto_flow && has_any setup.outputs.
 -- ticks come before each access, and the spin limit is at least n (t + 1): with a FIFO of 16 that is 17 (t + 1)
 pub record IsTimely (s : State) : Type 0 where
   pub ticked : IsTicked (machine_of s)
+  -- the spin limit is at least n (t + 1) for characters of t ticks, of which the transmitter holds at most n
   pub limit : most_held (transmitter_of s) * ((transmitter_of s).char_ticks + 1) ≤ (fields (inner_of s)).limit
 
 -- the driver does not check CTS before it sends
 abbrev pub IsUnchecked : State → Type 0
 IsUnchecked s = (fields (inner_of s)).config.check_cts_before_sending ≡ false
+
+-- the call is no `init` and no `init_with`, which alone may have the driver check CTS, or no longer check it
+abbrev pub KeepsChecks : Call → Type 0
+KeepsChecks (call.Init config) = ⊥
+KeepsChecks (call.InitWith config setup) = ⊥
+KeepsChecks other = Unit {0}
 
 -- the arithmetic accepts the configuration, and it has a divisor
 pub record HasDivisor (config : Config) : Type 0 where

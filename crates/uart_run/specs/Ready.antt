@@ -73,8 +73,11 @@ KeepsSize s other = Unit {0}
 -- DLAB and loopback are off, the chip's FIFO is on exactly if the driver takes it to be on, and the driver takes it for
 -- no larger than it is
 pub record Ready (s : State) : Type 0 where
+  -- DLAB is off
   pub dlab : is_dlab_set (latches_of s) ≡ false
+  -- loopback is off
   pub loopback : is_loopback (latches_of s) ≡ false
+  -- the chip's FIFO is on exactly if the driver takes it to be on
   pub fifo : (machine_of s).chip.fifo ≡ (fields (inner_of s)).fifo
   pub fits : BurstsFit s
 
@@ -107,21 +110,42 @@ is_level None = false
 -- interrupts as configured, MCR 0B, an empty transmitter, and the FIFO on exactly if a level is configured and the chip
 -- has one, which the driver knows
 pub record IsInitialised (config : Config) (t : State) : Type 0 where
+  -- the state is ready, if the driver takes the FIFOs for no larger than they are
   pub ready : BurstsFit t → Ready t
   pub unbroken : IsUnbroken t
   pub wired : IsWired t
   pub divisor_latch : DivisorOf config (Ok (divisor (latches_of t)))
+  -- LCR has the frame as configured, with DLAB off
   pub lcr : (latches_of t).lcr ≡ frame_bits config
+  -- MCR is 0B: DTR, RTS and OUT2 are on
   pub mcr : (latches_of t).mcr ≡ 11
+  -- those interrupts are enabled that are configured and that the chip has
   pub ier : (latches_of t).ier ≡ bit_and config.interrupts.0 ier_bits
+  -- the transmitter is empty
   pub is_empty : is_transmitter_empty (transmitter_of t).queue (transmitter_of t).shift_register ≡ true
+  -- the FIFO is on exactly if a level is configured and the chip has one
   pub fifo : (machine_of t).chip.fifo ≡ (is_level config.fifo_trigger_level && has_fifo (machine_of t).chip.model)
+  -- the driver knows whether the FIFO is on
   pub knows : (machine_of t).chip.fifo ≡ (fields (inner_of t)).fifo
 
--- an `init` finds the device, and this is the state after an `init` that succeeds
+-- promise: an `init` that succeeds leaves a state in which a session may begin, from any state of the chip, and finds
+--   the device
+-- with: Initialises.is_present, Initialises.leaves, IsInitialised.ready
+-- shown by: init_leaves_what_is_configured, init_clears_the_divisor_latch_access, presence
+-- refused: uart_16550/init_always_finds_no_device, uart_16550/init_turns_out2_off
+
+-- an `init` finds the device, and this is the state after an `init` that succeeds; the driver has the configuration
+-- then
 pub record Initialises (config : Config) (a : Answer) (t : State) : Type 0 where
   pub is_present : a ≢ InitRefused DeviceNotPresent
-  pub leaves : a ≡ Done → IsInitialised config t
+  -- after an `init` that returns Ok, from any state of the chip, a session may begin, with the registers as configured
+  pub leaves :
+      -- the call succeeded
+      a ≡ Done → IsInitialised config t
+  -- the driver has the configuration
+  pub stores :
+      -- the call succeeded
+      a ≡ Done → (fields (inner_of t)).config ≡ config
 
 -- ---- after a `set_frame`
 
@@ -154,16 +178,19 @@ pub record IsSetUp (setup : Setup) (config : Config) (t : State) : Type 0 where
   pub fifo : (machine_of t).chip.fifo ≡ (is_level config.fifo_trigger_level && has_fifo (machine_of t).chip.model)
   pub knows : (machine_of t).chip.fifo ≡ (fields (inner_of t)).fifo
 
--- an `init_with` finds the device, and this is the state after one that succeeds
+-- an `init_with` finds the device, and this is the state after one that succeeds; the driver has the configuration then
 pub record Arranges (setup : Setup) (config : Config) (a : Answer) (t : State) : Type 0 where
   pub is_present : a ≢ InitRefused DeviceNotPresent
   pub leaves : a ≡ Done → IsSetUp setup config t
+  pub stores : a ≡ Done → (fields (inner_of t)).config ≡ config
 
 -- ---- after a `set_frame_when_idle`
 
 -- this is the state after one that succeeds; if there is no divisor, the machine is as before
 pub record FramesWhenIdle (config : Config) (s : State) (a : Answer) (t : State) : Type 0 where
-  pub leaves : a ≡ Done → IsFramed config s t
+  pub leaves :
+      -- the call succeeded
+      a ≡ Done → IsFramed config s t
   pub refused : (e : InvalidDivisorError) → a ≡ FrameWhenIdleRefused (InvalidBaudRate e) → machine_of t ≡ machine_of s
 
 -- ---- after a `set_trigger_level`
@@ -171,7 +198,9 @@ pub record FramesWhenIdle (config : Config) (s : State) (a : Answer) (t : State)
 -- one that succeeds in a ready state sets the trigger level of the receiver; with the FIFOs off the machine is as
 -- before
 pub record Levels (level : FifoTriggerLevel) (s : State) (a : Answer) (t : State) : Type 0 where
-  pub leaves : Ready s → a ≡ Done → (machine_of t).chip.receiver.trigger ≡ level
+  pub leaves : Ready s →
+      -- the call succeeded
+      a ≡ Done → (machine_of t).chip.receiver.trigger ≡ level
   pub refused : a ≡ FifosOff → machine_of t ≡ machine_of s
 
 -- ---- after a `quiesce`
@@ -213,8 +242,12 @@ pub record IsAttached (low high : ℕ) (s t : State) : Type 0 where
 -- and leaves all latches as before; and in a ready state it is refused so wherever the divisor is 0
 pub record TakesPort (s : State) (a : Answer) (t : State) : Type 0 where
   pub leaves : (low high : ℕ) → a ≡ Latch low high → IsAttached low high s t
-  pub refused : a ≡ AttachRefused NoDivisor → (divisor (latches_of s) ≡ 0) × (latches_of t ≡ latches_of s)
-  pub refuses : Ready s → divisor (latches_of s) ≡ 0 → a ≡ AttachRefused NoDivisor
+  pub refused :
+      -- it was refused for want of a divisor
+      a ≡ AttachRefused NoDivisor → (divisor (latches_of s) ≡ 0) × (latches_of t ≡ latches_of s)
+  pub refuses : Ready s →
+      -- the divisor is 0
+      divisor (latches_of s) ≡ 0 → a ≡ AttachRefused NoDivisor
 
 -- ---- a `check_configured`
 
@@ -263,11 +296,18 @@ abbrev pub test_answer : (is_narrow : Bool) → Answer
 test_answer false = Done
 test_answer true = LoopbackRefused (UnexpectedLoopbackByte test_byte 2)
 
+-- promise: a loopback test succeeds or stalls, and nothing of it is on the wire after it succeeded
+-- with: IsTested.answers, IsTested.leaves, TestsUncut.answers
+-- shown by: loopback, passes-the-loopback-test, stalls-in-the-first-test-byte
+-- refused: uart_16550/loopback_is_left_before_the_byte_came_back
+
 -- a loopback test has this answer or stalls; if it does not stall, the transmitter is empty, and the wire has what was
 -- to be sent before it, and nothing else
 pub record IsTested (s : State) (a : Answer) (t : State) : Type 0 where
   pub answers : (a ≡ test_answer (is_narrow (machine_of s).chip)) ⊎ (a ≡ LoopbackRefused Stalled)
-  pub leaves : a ≡ test_answer (is_narrow (machine_of s).chip) → IsFlushed s t
+  pub leaves :
+      -- the test did not stall
+      a ≡ test_answer (is_narrow (machine_of s).chip) → IsFlushed s t
 
 -- ---- each call
 

@@ -29,7 +29,9 @@ pub record ServesWithErrors (s : State) (slots : ℕ) (a : Answer) (t : State) :
   pub items : List Received
   pub answered : a ≡ with_errors_answer items
   pub takes : min slots (waiting_len s) ≤ length items
-  pub exact : (machine_of s).chip.fifo ≡ true → ReceivedExactly (machine_of s) items (machine_of t)
+  pub exact :
+      -- the FIFO is on
+      (machine_of s).chip.fifo ≡ true → ReceivedExactly (machine_of s) items (machine_of t)
 
 -- the transmitter of a state
 abbrev pub transmitter_of : State → TransmitterState
@@ -38,6 +40,7 @@ transmitter_of s = (machine_of s).chip.transmitter
 -- the transmitter is empty, and all that was in it has been sent
 pub record IsFlushed (s t : State) : Type 0 where
   pub is_empty : is_transmitter_empty (transmitter_of t).queue (transmitter_of t).shift_register ≡ true
+  -- after a `flush` that returns Ok, everything is on the wire
   pub wire : (transmitter_of t).wire ≡ out (machine_of s)
 
 -- if there is a received byte, a `try_receive_byte` returns one; calls into slots take as many of the received bytes

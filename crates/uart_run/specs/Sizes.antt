@@ -29,12 +29,16 @@ size_in s = (transmitter_of s).size
 
 -- DLAB and loopback are off, as in a ready state
 pub record IsPlain (s : State) : Type 0 where
+  -- DLAB is off
   pub dlab : is_dlab_set (latches_of s) ≡ false
+  -- loopback is off
   pub loopback : is_loopback (latches_of s) ≡ false
 
--- and the chip has FIFOs, so their size may be found. It is so in a ready state with FIFOs that are on
+-- the chip has FIFOs, and DLAB and loopback are off, so the size may be found. It is so in a ready state with FIFOs
+-- that are on
 pub record MayFind (s : State) : Type 0 where
   pub plain : IsPlain s
+  -- the chip has FIFOs
   pub model : (machine_of s).chip.model ≡ Uart16550A
 
 -- ---- what it leaves
@@ -118,7 +122,9 @@ pub record IsEnabled (s : State) (on : Bool) (t : State) : Type 0 where
   pub answers : on ≡ (machine_of s).chip.has_size_switch
   pub size : size_in t ≡ enabled_size s
   pub flushed : IsFlushed s t
-  pub received : size_in t ≡ size_in s → LosesNone s t
+  pub received :
+      -- the size has not changed
+      size_in t ≡ size_in s → LosesNone s t
   pub latches : latches_of t ≡ latches_of s
   pub fifo : (machine_of t).chip.fifo ≡ true
   pub ready : BurstsFit t → Ready t

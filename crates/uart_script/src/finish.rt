@@ -44,6 +44,9 @@ fn status(error: PlayError) -> u8
 ///
 /// If this line cannot be written, that is ignored. Allocates no memory.
 pub fn finish<W: Output>(outcome: Result<(), PlayError>, writer: &mut W) -> u8
+    // promise: the exit status
+    // shown by: each_end_has_its_line_and_status
+    // refused: a_refusal_is_a_success, a_success_is_a_refusal
     ensures { result ≡ status_of outcome }
 {
     let Err(error) = outcome else {

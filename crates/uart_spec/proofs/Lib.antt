@@ -3,3 +3,4 @@ pub mod DivisorLemmas
 pub mod FieldLemmas
 pub mod NameLemmas
 pub mod NearestLemmas
+mod TimingLemmas

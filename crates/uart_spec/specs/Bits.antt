@@ -27,7 +27,11 @@ field lowest width value = value / 2 ^ lowest % 2 ^ width
 -- the eight bits are the same in both values, except those of a field
 abbrev pub SameOutside : (lowest width old new : ℕ) → Type 0
 SameOutside lowest width old new =
-    (place : ℕ) → place < 8 → (place < lowest) ⊎ (lowest + width ≤ place) → field place 1 new ≡ field place 1 old
+    (place : ℕ) →
+    -- it is one of the eight bits
+    place < 8 →
+    -- it is none of the field
+    (place < lowest) ⊎ (lowest + width ≤ place) → field place 1 new ≡ field place 1 old
 
 -- no byte has a bit that is not in the table of named bits
 abbrev pub NamesEachByte : List (List ℕ × ℕ) → Type 0

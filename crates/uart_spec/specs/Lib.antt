@@ -12,3 +12,4 @@ pub mod FifoSize
 pub mod Checked
 pub mod Layout
 pub mod Original
+pub mod Timing

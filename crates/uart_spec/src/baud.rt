@@ -27,9 +27,13 @@ pub const NUM_REGISTERS: usize = 8;
 /// assert_eq!(rt; calc_frequency(9_600, 12, None), 1_843_200);
 /// ```
 pub fn calc_frequency(baud_rate: u32, divisor: u32, prescaler_division_factor: Option<u32>) -> u32
+    // the rate is not 0
     requires baud_rate { 0 < baud_rate }
+    // the divisor is not 0
     requires divisor { 0 < divisor }
+    // the prescaler is one that a chip can have
     requires prescaler { prescaler prescaler_division_factor ≤ 15 }
+    // the frequency fits into 32 bits
     requires fits { frequency_of baud_rate divisor prescaler_division_factor < 2 ^ 32 }
     ensures { result ≡ frequency_of baud_rate divisor prescaler_division_factor }
 {
@@ -52,8 +56,11 @@ pub fn calc_baud_rate(
     divisor: u32,
     prescaler_division_factor: Option<u32>,
 ) -> Result<u32, NonIntegerBaudRateError>
+    // the clock is not 0
     requires frequency { 0 < frequency }
+    // the divisor is not 0
     requires divisor { 0 < divisor }
+    // the prescaler is one that a chip can have
     requires prescaler { prescaler prescaler_division_factor ≤ 15 }
     ensures { IsOnly (IsBaudRateAnswer frequency divisor prescaler_division_factor) result }
 {
@@ -86,8 +93,15 @@ pub fn calc_divisor(
     baud_rate: u32,
     prescaler_division_factor: Option<u32>,
 ) -> Result<u16, InvalidDivisorError>
+    // promise: divisor, baud rate and frequency solve one equation, and nothing is rounded
+    // with: calc_divisor, calc_baud_rate, calc_frequency
+    // shown by: baud_rate_arithmetic, refuses-baud-rates
+    // refused: rounds_to_the_nearest_divisor, forgets_the_prescaler
+    // the prescaler is one that a chip can have
     requires prescaler { prescaler prescaler_division_factor ≤ 15 }
+    // the clock is not 0
     requires frequency { 0 < frequency }
+    // the rate is not 0
     requires baud_rate { 0 < baud_rate }
     ensures { IsOnly (IsDivisorAnswer frequency baud_rate prescaler_division_factor) result }
 {

@@ -56,6 +56,11 @@ pub fn checked_frequency(
     divisor: u32,
     prescaler_division_factor: Option<u32>,
 ) -> Option<u32>
+    // proved: Forms that require nothing, for callers in Rust, whom nobody proves to meet what the
+    //   functions above require: the same answer if it is met, and otherwise an error that says
+    //   why; a frequency that does not fit into 32 bits is none
+    // on: `checked_frequency`, `checked_baud_rate`, `checked_divisor`, `accepted`,
+    //   `Config::checked_nearest`, `ConfigRegisterDump::checked_baud_rate`, `PSD::checked_set_pdf`
     ensures some { IfSome result (IsFrequency baud_rate divisor prescaler_division_factor) }
     ensures none { IfNone result (HasNoFrequency baud_rate divisor prescaler_division_factor) }
 {
@@ -117,6 +122,14 @@ pub fn checked_divisor(
     baud_rate: u32,
     prescaler_division_factor: Option<u32>,
 ) -> Result<u16, InvalidDivisorError>
+    // promise: a form `checked_..` returns what the other does if that is accepted, and otherwise
+    //   why it is not
+    // with: checked_divisor, checked_baud_rate, checked_frequency.none, checked_nearest,
+    //   accepted.err, checked_init, checked_set_frame
+    // shown by: checked_forms_return_what_the_others_do,
+    //   arithmetic_refuses_zeros_and_larger_factors
+    // refused: accepts_a_frequency_of_zero, checked_frequency_of_no_divisor,
+    //   checked_factors_below_fifteen, uart_16550/checked_set_frame_refuses_each_frame
     ensures { IsCheckedDivisor frequency baud_rate prescaler_division_factor result }
 {
     match accepted(frequency, baud_rate, prescaler_division_factor) {

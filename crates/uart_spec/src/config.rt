@@ -93,6 +93,11 @@ impl BaudRate {
     /// assert_eq!(rt; BaudRate::from_integer(9601).to_integer(), 9601);
     /// ```
     pub fn from_integer(value: u32) -> Self
+        // proved: A baud rate keeps its number when it is converted to an integer and back, and
+        //   becomes a case with a name if there is one. Orders are total and agree with equality,
+        //   and equal values hash equally
+        // on: `BaudRate::from_integer`, `to_integer`; the implementations of `Ord`, `PartialOrd`,
+        //   `Eq`, `Hash`
         ensures number { to_integer result ≡ value }
         ensures named { (rate : BaudRate) → IsNamed rate → to_integer rate ≡ value → result ≡ rate }
     {
@@ -198,6 +203,10 @@ pub struct Config {
 impl Config {
     /// 9,600 baud at the usual clock, eight data bits, no parity, one stop bit, FIFOs with a
     /// trigger level of fourteen, no interrupts, and no CTS check before sending.
+    ///
+    /// The level is that of the original crate. It takes the fewest interrupts, and leaves their
+    /// handler the least time: 3.1 ms at 9,600 baud, but 260 us at 115,200. There level 8 leaves
+    /// 781 us, for 131,072 interrupts a megabyte in place of 74,912 (`handler_budget`).
     pub const DEFAULT: Config = Config {
         interrupts: IER::NONE,
         frequency: CLK_FREQUENCY_HZ,
@@ -223,6 +232,10 @@ impl Config {
     /// assert!(rt; config.is_computable());
     /// ```
     pub fn is_computable(&self) -> bool
+        // proved: Which configurations the arithmetic accepts; what the default configuration and
+        //   the default setup are
+        // on: `Config::is_computable`, `Config::default`, `laws::default_config_is_this`,
+        //   `laws::default_setup_is_this`
         ensures { IsTrue result ↔ IsComputable self.now }
     {
         self.frequency != 0
@@ -263,6 +276,11 @@ impl Config {
     /// uart.init(config.nearest(20)?)?;
     /// ```
     pub fn nearest(self, per_mille: u32) -> Result<Config, NearestDivisorError>
+        // promise: the divisor whose rate is nearest, within a tolerance; if it is too far off,
+        //   each divisor is
+        // shown by: the_nearest_divisor, the_nearest_rate
+        // refused: nearest_rounds_down, nearest_rounds_up, nearest_is_nearest_in_frequency,
+        //   nearest_takes_what_is_far
         requires { IsComputable self }
         ensures answer { IsNearestAnswer self per_mille result }
         ensures computable { IfOk result IsComputable }

@@ -43,6 +43,8 @@ impl ConfigRegisterDump {
     /// assert_eq!(rt; shown.divisor(), 12);
     /// ```
     pub fn divisor(&self) -> u16
+        // proved: The divisor and the baud rate of a register dump, and how dumps are ordered
+        // on: `ConfigRegisterDump::divisor`, `baud_rate`, `laws::dump_fields_are_in_order`
         ensures { result ≡ divisor_of self.now }
     {
         256 * self.dlm as u16 + self.dll as u16

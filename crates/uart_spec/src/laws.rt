@@ -63,6 +63,10 @@ use crate::setup::FifoSize;
 
 /// The default value of each type.
 pub fn defaults_are_these()
+    // proved: The default of each type, the order of the cases of each enum and of the fields of
+    //   each record, that registers are compared as numbers, the values of the constants
+    // on: `laws::defaults_are_these`, `laws::cases_are_in_order`, `laws::fields_are_in_order`,
+    //   `laws::registers_are_in_order`, `laws::constants_are_these`
     ensures ier { (value : IER) → ⟦<IER as Default>⟧.is_default value → value.0 ≡ 0 }
     ensures isr { (value : ISR) → ⟦<ISR as Default>⟧.is_default value → value.0 ≡ 0 }
     ensures fcr { (value : FCR) → ⟦<FCR as Default>⟧.is_default value → value.0 ≡ 0 }
@@ -81,6 +85,7 @@ pub fn defaults_are_these()
         divisor ≡ Divisor1 }
     ensures baud_rate { (rate : BaudRate) →
         ⟦<BaudRate as Default>⟧.is_default rate → rate ≡ Baud9600 }
+    // if: it is the default configuration
     ensures config { (config : Config) →
         ⟦<Config as Default>⟧.is_default config → config ≡ DEFAULT }
     ensures baud_rate_error { (error : NonIntegerBaudRateError) →
@@ -130,6 +135,11 @@ pub fn cases_are_in_order()
 
 /// Structs are compared by their fields, in this order.
 pub fn fields_are_in_order()
+    // promise: orders are total and agree with equality; defaults and constants are these
+    // with: fields_are_in_order.config, cases_are_in_order.divisors, defaults_are_these.config,
+    //   constants_are_these.clock
+    // shown by: baud_rates, configuration
+    // refused: compares_by_number_alone, config_fields_in_another_order
     ensures config { (a b : Config) → ⟦<Config as Ord>⟧.cmp a b ≡ in_turn (
         ⟦<IER as Ord>⟧.cmp a.interrupts b.interrupts
         ∷ nat_cmp a.frequency b.frequency

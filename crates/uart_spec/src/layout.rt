@@ -114,6 +114,10 @@ pub enum InvalidLayoutError {
 ///
 /// `InvalidBaseAddress`, with the base port, if the last register would be beyond port 65535.
 pub fn check_ports(base: u16) -> Result<(), InvalidAddressError>
+    // proved: Which eight ports exist; how far apart, how wide and where registers in memory can
+    //   be, so that each has an address, no two overlap and each is aligned; each error says what
+    //   is wrong, and what is first is checked first
+    // on: `check_ports`, `check_spacing`, `check_layout`, `RegisterWidth::bytes`
     ensures ok { IfOk result (λ checked. ArePorts base) }
     ensures same { IfErr result (λ error. error ≡ InvalidBaseAddress base) }
     ensures beyond { IfErr result (λ error. 65535 < base + offsets.SPR) }
@@ -157,6 +161,11 @@ pub fn check_spacing(base: usize, stride: u8, last: u8) -> Result<NonZeroU8, Inv
 /// - Otherwise `StrideTooSmall` if the stride is less than the width.
 /// - Otherwise `MisalignedBase` if the base is not a multiple of the width.
 pub fn check_layout(base: usize, layout: RegisterLayout) -> Result<NonZeroU8, InvalidLayoutError>
+    // promise: registers in memory each have an address, none overlaps another, and each is
+    //   aligned; an error says what is wrong
+    // with: check_layout.ok, check_layout.err, check_spacing.ok, check_ports.ok
+    // shown by: layouts_are_tested, bases_are_tested, what_is_tested_first
+    // refused: layout_of_registers_that_overlap, layout_of_any_alignment, spacing_of_any_stride
     ensures same { IfOk result (λ distance. non_zero_u8_get distance ≡ layout.stride) }
     ensures ok { IfOk result (λ distance. IsLaidOut base layout) }
     ensures err { IfErr result (IsLayoutRefusal base layout) }

@@ -60,6 +60,17 @@ pub enum InitError {
 
 /// Returns the error of the original for one of the driver's initialisation, or `None` for a stall.
 pub fn init_error_of(error: errors::InitError) -> Option<InitError>
+    // promise: the errors of the original crate are the driver's without its stalls, and its dump
+    //   has the same registers
+    // with: init_error_of.some, init_error_of.none, loopback_error_of.some, loopback_error_of.none
+    // shown by: every_call, what_cannot_be_computed_is_an_error
+    // refused: a_stall_is_no_device, a_stalled_test_refused_a_byte,
+    //   original_baud_rate_forgets_the_prescaler
+    // proved: The errors of the original crate are those of the driver without its stalls: a case
+    //   of one is the same case of the other, and a stall is none. Its dump has the same registers,
+    //   its divisor, and its baud rate where that is a whole number
+    // on: `original::init_error_of`, `loopback_error_of`, the implementations of `From`;
+    //   `original::ConfigRegisterDump::divisor`, `baud_rate`
     ensures some { IfSome result (λ own. init_error own ≡ error) }
     ensures none { IfNone result (IsStalledInit error) }
 {

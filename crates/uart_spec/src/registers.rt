@@ -68,6 +68,10 @@ pub fn flag<F: Flags>(on: bool, bits: F) -> F
 /// This is a law that callers can cite. The function does nothing.
 #[tactic(auto, using(crate::proofs::NameLemmas::eight_names))]
 pub fn every_byte_is_a_value()
+    // promise: each named bit has its place, and each byte is a value of each register
+    // with: every_byte_is_a_value.lsr, masks_are_these
+    // shown by: status, offsets_of_the_registers
+    // refused: lsr_bit_misplaced, lcr_bit_misplaced
     ensures ier { NamesEachByte ⟦<IER as Flags>⟧.table }
     ensures isr { NamesEachByte ⟦<ISR as Flags>⟧.table }
     ensures fcr { NamesEachByte ⟦<FCR as Flags>⟧.table }
@@ -80,6 +84,9 @@ pub fn every_byte_is_a_value()
 
 /// The bits of each mask. This is a law that callers can cite. The function does nothing.
 pub fn masks_are_these()
+    // proved: Each named bit has its place, each mask joins its bits, and each of the 256 bytes is
+    //   a value of each register
+    // on: the eight `Flags` implementations, `registers::masks_are_these`, `every_byte_is_a_value`
     ensures fifos_enabled { ISR.FIFOS_ENABLED.0 ≡ ISR.FIFOS_ENABLED0.0 + ISR.FIFOS_ENABLED1.0 }
     ensures fifo_64_enabled { ISR.FIFO_64_ENABLED.0 ≡ ISR.DMA_TX_END.0 }
     ensures fifo_64_enable { FCR.FIFO_64_ENABLE.0 ≡ FCR._RESERVED0.0 }

@@ -12,6 +12,9 @@ use Rattle.uart_run.specs.Chains.{RunOf}
 use Rattle.uart_trace.specs.Run.{CallStep, IsRecorded, State, first_state}
 use Rattle.uart_trace.specs.declared.recorder.Recorder.{Recorder}
 
+-- proved: Each access is the device's, and the listener is told of it
+-- on: `Backend` of `Recorder`
+
 -- the device of a recorder, and its listener until that is taken
 abbrev pub device_of : {B L : Type 0} → Recorder B L → B
 device_of r = r.device

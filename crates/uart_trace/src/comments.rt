@@ -30,6 +30,10 @@ fn push_line(text: &mut Vec<u8>, line: &[u8]) -> Result<(), AllocError>
 /// Returns a script with an empty line in place of each that starts with `#`. So the other lines
 /// keep their numbers.
 pub fn without_comments(alloc: Global, script: &[u8]) -> Result<Vec<u8>, AllocError>
+    // promise: a comment line is a blank line, and no other byte of a script changes
+    // with: without_comments, plain
+    // shown by: play-comments
+    // refused: blank_lines_are_left_out
     ensures { IfOk result (λ text. text.items ≡ without_comments script.now) }
 {
     let mut text = Vec::new(alloc);

@@ -99,6 +99,13 @@ fn tell_script<L: Listener + Drop>(
 /// - `Refused`, with the first faulty line and what is wrong with it, if the text is not a script.
 /// - `OutOfMemory` if memory for the script or its machine could not be allocated.
 pub fn tell<L: Listener + Drop>(alloc: Global, text: &[u8], listener: L) -> Result<L, ScriptError>
+    // promise: a trace of a script has each call of its run, each access once and in order, and the
+    //   answer
+    // with: tell, trace.traced
+    // shown by: trace-comments, trace-byte-and-lines
+    // refused: an_access_is_left_out, a_read_is_told_twice
+    // proved: A text that is refused has this first fault
+    // on: `tell`, `trace`: `refused`
     ensures told { IfOk result (λ after. (plan : Plan) × IsScript text.now plan ×
         IsToldRun L.begins L.hears L.ends plan listener after) }
     ensures refused { (line : ℕ) (cause : Cause) → result ≡ Err (Refused line cause) →

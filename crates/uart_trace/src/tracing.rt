@@ -223,6 +223,10 @@ pub fn trace<R: Remarks + Drop, W: Output + Drop>(
     remarks: R,
     writer: W,
 ) -> Result<W, PlayError>
+    // proved: What is written, without its comments, is for each call of that run in turn its line
+    //   of the script, one line for each of its accesses, in order, and the line that was printed
+    //   for it; the line of `next` is a comment
+    // on: `trace`, in `IsTraced`
     ensures traced { IfOk result (λ after. (plan : Plan) × IsScript text.now plan ×
         IsTraced plan text.now output.now (W.contents writer) (W.contents after)) }
     ensures refused { (line : ℕ) (cause : Cause) → result ≡ Err (Refused line cause) →

@@ -4,8 +4,7 @@ ghost use Rattle.uart_ring_runs.specs.RingBytes.{AllTakeInTurn, to_send, to_take
 ghost use Rattle.uart_ring_runs.specs.RingRun.{IsOfRings, IsRingRunnable, RingLink, RingState, under};
 ghost use Rattle.uart_ring_runs.specs.RingSession.{AllWithinRingSession, RingConserves};
 ghost use Rattle.uart_run.specs.Chains.{answers_of, calls_of};
-ghost use Rattle.uart_run.specs.Ready.{BurstsFit, Ready};
-ghost use Rattle.uart_run.specs.ReceivedErrors.{under_terminal};
+ghost use Rattle.uart_run.specs.Ready.{Ready};
 ghost use Rattle.uart_run.specs.Wired.{IsWired};
 ghost use Rattle.uart_spec.specs.Config.{IsComputable};
 
@@ -15,6 +14,7 @@ use uart_chip::Device16550;
 use uart_ring::{RingError, Uart16550Ring};
 use uart_ring_runs::laws::init_leaves_ready;
 use uart_ring_runs::{RingAnswer, RingCall, run_ring};
+use uart_run::laws::smallest_size_fits;
 
 /// The capacity of each ring.
 const CAPACITY: usize = 256;
@@ -28,20 +28,21 @@ pub enum StartError {
     NoRings(RingError),
 }
 
-/// Initialises the driver, and puts it into rings. A session begins, with empty rings, and each
-/// call of the rings themselves goes on with it. The driver takes the FIFOs for no larger than they
-/// are, as one does that was told no size.
+/// Puts a driver over the chip, initialises it, and puts it into rings. A session begins, with
+/// empty rings, and each call of the rings themselves goes on with it. A new driver takes the FIFOs
+/// for 16, and each chip holds as many.
 pub fn start_rings(
     alloc: Global,
-    mut uart: Uart16550<Device16550>,
+    device: Device16550,
     config: Config,
 ) -> Result<Uart16550Ring<Device16550>, StartError>
     requires computable { IsComputable config }
-    requires fits { BurstsFit (under_terminal uart) }
     ensures begins { IfOk result (λ ring. Ready (under ring)) }
     ensures wired { IfOk result (λ ring. IsWired (under ring)) }
     ensures empty { IfOk result (λ ring. (to_send ring ≡ []) × (to_take ring ≡ [])) }
 {
+    smallest_size_fits();
+    let mut uart = Uart16550::new_with_backend(device);
     init_leaves_ready(&uart);
     if let Err(cause) = uart.init(config) {
         return Err(StartError::NoDevice(cause));
@@ -59,14 +60,14 @@ pub fn start_rings(
 /// end it, as an `init` does.
 pub fn run_from_init(
     alloc: Global,
-    uart: Uart16550<Device16550>,
+    device: Device16550,
     config: Config,
     calls: &[RingCall],
     answers: &mut [RingAnswer],
 ) -> Result<Uart16550Ring<Device16550>, StartError>
     requires computable { IsComputable config }
-    requires fits { BurstsFit (under_terminal uart) }
     requires runnable { All IsRingRunnable calls.now }
+    // there is a slot for each answer
     requires slots { length calls.now ≡ length answers.old }
     ensures { IfOk result (λ ring. (begins : RingState) × (links : List RingLink)
         × (to_send begins ≡ []) × (to_take begins ≡ []) × IsWired (under begins)
@@ -74,7 +75,7 @@ pub fn run_from_init(
         × (AllWithinRingSession begins links → RingConserves begins links ring)
         × (All IsOfRings calls.now → AllWithinRingSession begins links × AllTakeInTurn links)) }
 {
-    match start_rings(alloc, uart, config) {
+    match start_rings(alloc, device, config) {
         Ok(mut ring) => {
             run_ring(&mut ring, calls, answers);
             Ok(ring)

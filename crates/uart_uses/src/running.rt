@@ -1,25 +1,35 @@
 //! A caller of `uart_run`.
-ghost use Rattle.std.specs.Prelude.{◌≡◌, true, All, length};
+ghost use Rattle.std.specs.Prelude.{◌≡◌, ◌∷◌, [], All, IfSome, length};
 ghost use Rattle.uart_events.specs.Calls.{IsRunnable};
-ghost use Rattle.uart_run.specs.Ready.{BurstsFit, Ready};
+ghost use Rattle.uart_events.specs.declared.call.Answer.TheVariants.{Done};
+ghost use Rattle.uart_run.specs.Progress.{HasRoom, IsUnchecked};
+ghost use Rattle.uart_run.specs.Ready.{Ready};
+ghost use Rattle.uart_run.specs.Run.{machine_of};
 ghost use Rattle.uart_run.specs.Session.{IsWithinSession, overflows};
+ghost use Rattle.uart_run.specs.Unhindered.{IsUnhindered};
 ghost use Rattle.uart_spec.specs.Config.{IsComputable};
 
-use uart_16550::{Config, Uart16550Tty};
-use uart_calls::{Answer, Call};
+use arrayvec::ArrayVec;
+use uart_16550::{Config, Uart16550, Uart16550Tty};
+use uart_calls::{Answer, CALL_BYTES, Call};
 use uart_chip::Device16550;
+use uart_run::laws::{sessions_succeed, smallest_size_fits};
 use uart_run::run;
 
-/// Initialises the chip, and returns whether a session begins. The driver takes the FIFOs for no
-/// larger than they are, as one does that was told no size.
-pub fn begin_session(uart: &mut Uart16550Tty<Device16550>, config: Config) -> bool
+/// Puts a driver over the chip, under a terminal, and initialises it. If that succeeds, a session
+/// begins: a new driver takes the FIFOs for 16, and each chip holds as many.
+pub fn begin_session(device: Device16550, config: Config) -> Option<Uart16550Tty<Device16550>>
     requires computable { IsComputable config }
-    requires fits { BurstsFit uart.old }
-    ensures { result ≡ true → Ready uart.new }
+    ensures { IfSome result (λ terminal. Ready terminal) }
 {
+    smallest_size_fits();
+    let mut terminal = Uart16550Tty::from_inner(Uart16550::new_with_backend(device));
     let mut answers = [Answer::Done];
-    run(uart, &[Call::Init(config)], &mut answers);
-    matches!(&answers[0], Answer::Done)
+    run(&mut terminal, &[Call::Init(config)], &mut answers);
+    match &answers[0] {
+        Answer::Done => Some(terminal),
+        _ => None,
+    }
 }
 
 /// Makes calls in a session, with neither an `init` nor a loopback test among them. No data write
@@ -33,4 +43,23 @@ pub fn make_calls(uart: &mut Uart16550Tty<Device16550>, calls: &[Call], answers:
     ensures no_overflow { overflows uart.new ≡ overflows uart.old }
 {
     run(uart, calls, answers);
+}
+
+/// Sends a message in a session, waits until all of it is on the wire, and returns both answers.
+/// Neither call stalls, and another message may follow if the wire has room: ticks come, the spin
+/// limit is long enough, CTS is not checked, and the chip has no automatic flow control.
+pub fn send_message(
+    uart: &mut Uart16550Tty<Device16550>,
+    message: ArrayVec<u8, CALL_BYTES>,
+) -> [Answer; 2]
+    requires unhindered { IsUnhindered uart.old }
+    requires unchecked { IsUnchecked uart.old }
+    requires room { HasRoom (length message.items) (machine_of uart.old) }
+    ensures done { result ≡ Done ∷ Done ∷ [] }
+    ensures unhindered { IsUnhindered uart.new }
+{
+    sessions_succeed();
+    let mut answers = [Answer::Flag(false), Answer::Flag(false)];
+    run(uart, &[Call::SendExact(message), Call::Flush], &mut answers);
+    answers
 }

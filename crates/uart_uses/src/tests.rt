@@ -72,11 +72,16 @@ fn a_message_in_a_ring(rt: HostRuntime) -> Result<(), Fail> {
 
 #[test]
 fn rings_from_an_init(rt: HostRuntime) -> Result<(), Fail> {
-    let uart = Uart16550::new_with_backend(device::chip_that_receives(rt.alloc(), 0x41)?);
+    let machine = device::chip_that_receives(rt.alloc(), 0x41)?;
     let calls = [RingCall::Next, RingCall::ResumeTransmit];
     let mut answers = [RingAnswer::Count(1), RingAnswer::Count(1)];
-    smallest_size_fits();
-    let ran = ring_starting::run_from_init(rt.alloc(), uart, Config::DEFAULT, &calls, &mut answers);
+    let ran = ring_starting::run_from_init(
+        rt.alloc(),
+        machine,
+        Config::DEFAULT,
+        &calls,
+        &mut answers,
+    );
     assert!(rt; ran.is_ok());
     assert_equal(&rt, answers, [RingAnswer::Done, RingAnswer::Done]);
     Ok(())
@@ -179,10 +184,8 @@ fn calls_on_a_chip(rt: HostRuntime) -> Result<(), Fail> {
 #[test]
 fn calls_in_a_session(rt: HostRuntime) -> Result<(), Fail> {
     let machine = device::chip_that_receives(rt.alloc(), 0x41)?;
-    let mut terminal = Uart16550Tty::from_inner(Uart16550::new_with_backend(machine));
     let mut answers = [Answer::Done];
-    smallest_size_fits();
-    if running::begin_session(&mut terminal, Config::DEFAULT) {
+    if let Some(mut terminal) = running::begin_session(machine, Config::DEFAULT) {
         running::make_calls(&mut terminal, &[Call::FifoEnabled], &mut answers);
     }
     assert_equal(&rt, answers, [Answer::Flag(true)]);

@@ -76,7 +76,11 @@ abbrev pub NobodyWaitsForEver : Type 0
 NobodyWaitsForEver =
     (before later : List Event) (puts_off : Bool) (call : PortCall) (n : ℕ) (m : Clocked) →
     let here = after_events before m in
-    m.port.told.spare ≡ 0 → IsPort here.port → is_up (ticks n (happen call here.port.chip)) ≡ false →
+    -- no signal covers others at first
+    m.port.told.spare ≡ 0 → IsPort here.port →
+    -- the line is down at a moment of the call
+    is_up (ticks n (happen call here.port.chip)) ≡ false →
+    -- it is up later
     is_up (after_events later (after_event (Call puts_off call) here)).port.chip ≡ true →
     some_given (before ++ (Call puts_off call ∷ later ++ TimePasses ∷ [])) m ≡ true
 
@@ -84,7 +88,10 @@ NobodyWaitsForEver =
 -- soon as the time passes
 abbrev pub EachRiseIsGiven : Type 0
 EachRiseIsGiven =
-    (events : List Event) (m : Clocked) → IsTold m.port → is_up m.port.chip ≡ false →
+    (events : List Event) (m : Clocked) → IsTold m.port →
+    -- the line is down at first
+    is_up m.port.chip ≡ false →
+    -- it is up in the end
     is_up (after_events events m).port.chip ≡ true → some_given (events ++ TimePasses ∷ []) m ≡ true
 
 -- the guest writes DATA
@@ -103,15 +110,22 @@ ARiseIsGivenAtOnce =
 -- for good while input comes
 abbrev pub AFullFifoIsGiven : Type 0
 AFullFifoIsGiven =
-    (puts_off : Bool) (call : PortCall) (m : Clocked) → brings call m.port.chip ≡ true →
-    is_up (after call m.port).chip ≡ true → has_room (after call m.port).chip ≡ false →
+    (puts_off : Bool) (call : PortCall) (m : Clocked) →
+    -- the call brings input
+    brings call m.port.chip ≡ true →
+    -- the line is up when it ends
+    is_up (after call m.port).chip ≡ true →
+    -- no room is left then
+    has_room (after call m.port).chip ≡ false →
     is_given (Call puts_off call) m ≡ true
 
 -- what can wait is a signal for what time brings: right after the access the line was down (a write in loopback counts
 -- as such), and the time that passes in the call took it up
 abbrev pub WhatCanWaitIsTime : Type 0
 WhatCanWaitIsTime =
-    (call : PortCall) (p : PortState) → IsTold p → can_wait call (todo call p) ≡ true →
+    (call : PortCall) (p : PortState) → IsTold p →
+    -- the signal can wait
+    can_wait call (todo call p) ≡ true →
     (stays_up call (happen call p.chip) ≡ false) × (is_up (after call p).chip ≡ true)
 
 -- what is known of a port whose monitor has a clock: the monitor was told what is so, and owes a signal only while the

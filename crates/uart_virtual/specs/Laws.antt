@@ -46,15 +46,24 @@ SignalsAreUp = (call : PortCall) (p : PortState) → (todo call p).signal ≡ tr
 -- shows no interrupt, the guest is interrupted as soon as there is a cause
 abbrev pub EachRiseIsSignalled : Type 0
 EachRiseIsSignalled =
-    (calls : List PortCall) (p : PortState) → IsTold p → is_up p.chip ≡ false → is_up (after_all calls p).chip ≡ true →
+    (calls : List PortCall) (p : PortState) → IsTold p →
+    -- the line was down before the calls
+    is_up p.chip ≡ false →
+    -- it is up after them
+    is_up (after_all calls p).chip ≡ true →
     some_told (λ (t : Todo). t.signal) calls p ≡ true
 
 -- a line that was down at any moment of a call, and is up when the call ends, is signalled, unless an earlier signal
 -- covers that
 abbrev pub EachDipIsSignalled : Type 0
 EachDipIsSignalled =
-    (call : PortCall) (p : PortState) (n : ℕ) → IsPort p → is_up (ticks n (happen call p.chip)) ≡ false →
-    is_up (after call p).chip ≡ true → p.told.spare ≡ 0 → (todo call p).signal ≡ true
+    (call : PortCall) (p : PortState) (n : ℕ) → IsPort p →
+    -- the line was down at a moment of the call
+    is_up (ticks n (happen call p.chip)) ≡ false →
+    -- it is up when the call ends
+    is_up (after call p).chip ≡ true →
+    -- no earlier signal covers that
+    p.told.spare ≡ 0 → (todo call p).signal ≡ true
 
 -- the call signals, and this covers as many accesses of DATA more as a FIFO holds characters besides one, which are 15
 -- with FIFOs of 16: the guest moves data, and has looked since the last signal
@@ -73,7 +82,9 @@ IsCovered call p =
 -- covers at most as many accesses of DATA more as a FIFO holds characters besides one
 abbrev pub ASignalCovers : Type 0
 ASignalCovers =
-    (call : PortCall) (p : PortState) → (after call p).told.spare ≢ 0 →
+    (call : PortCall) (p : PortState) →
+    -- a signal covers accesses after the call
+    (after call p).told.spare ≢ 0 →
     (looks call ≡ false) × (IsCovering call p ⊎ IsCovered call p)
 
 -- none of these calls is a look of the guest
@@ -85,21 +96,34 @@ none_looks (call ∷ calls) = not (looks call) && none_looks calls
 -- falls and rises
 abbrev pub NoLookCoversNothing : Type 0
 NoLookCoversNothing =
-    (calls : List PortCall) (p : PortState) → none_looks calls ≡ true → p.told.has_looked ≡ false → p.told.spare ≡ 0 →
+    (calls : List PortCall) (p : PortState) →
+    -- no call reads ISR
+    none_looks calls ≡ true →
+    -- ISR was not read since the signal before
+    p.told.has_looked ≡ false →
+    -- no signal covers others at first
+    p.told.spare ≡ 0 →
     ((after_all calls p).told.has_looked ≡ false) × ((after_all calls p).told.spare ≡ 0)
 
 -- input that leaves no room is signalled, if the line is up when the call ends. So no guest is without a signal for
 -- good while input comes
 abbrev pub AFullFifoIsSignalled : Type 0
 AFullFifoIsSignalled =
-    (call : PortCall) (p : PortState) → brings call p.chip ≡ true → is_up (after call p).chip ≡ true →
+    (call : PortCall) (p : PortState) →
+    -- the call brings input
+    brings call p.chip ≡ true →
+    -- the line is up when it ends
+    is_up (after call p).chip ≡ true →
+    -- no room is left then
     has_room (after call p).chip ≡ false → (todo call p).signal ≡ true
 
 -- there are no other signals: the line was down before the call, or at a moment of it (a write in loopback counts as
 -- such a moment), or the call brings something and leaves no room
 abbrev pub NoOtherSignals : Type 0
 NoOtherSignals =
-    (call : PortCall) (p : PortState) → IsTold p → (todo call p).signal ≡ true →
+    (call : PortCall) (p : PortState) → IsTold p →
+    -- the call signals
+    (todo call p).signal ≡ true →
     (is_up p.chip ≡ false) ⊎ ((stays_up call (happen call p.chip) ≡ false) ⊎
     ((brings call p.chip ≡ true) × (has_room (after call p).chip ≡ false)))
 
@@ -108,8 +132,13 @@ NoOtherSignals =
 -- if there is no room between two calls, and later there is room and nothing waits, a call in between told of room
 abbrev pub RoomIsTold : Type 0
 RoomIsTold =
-    (calls : List PortCall) (p : PortState) → IsTold p → has_room p.chip ≡ false →
-    has_room (after_all calls p).chip ≡ true → is_empty (after_all calls p).chip ≡ true →
+    (calls : List PortCall) (p : PortState) → IsTold p →
+    -- there is no room before the calls
+    has_room p.chip ≡ false →
+    -- there is room after them
+    has_room (after_all calls p).chip ≡ true →
+    -- nothing waits then
+    is_empty (after_all calls p).chip ≡ true →
     some_told (λ (t : Todo). t.has_room) calls p ≡ true
 
 -- the guest reads DATA
@@ -121,19 +150,28 @@ reads_data _ = false
 -- leaves characters: so room that comes by a write of FCR or by the end of loopback is told at once
 abbrev pub RoomIsToldAtOnce : Type 0
 RoomIsToldAtOnce =
-    (call : PortCall) (p : PortState) → IsTold p → has_room p.chip ≡ false → has_room (after call p).chip ≡ true →
+    (call : PortCall) (p : PortState) → IsTold p →
+    -- there is no room before the call
+    has_room p.chip ≡ false →
+    -- there is room after it
+    has_room (after call p).chip ≡ true →
+    -- the call is no read of DATA that leaves characters
     (reads_data call ≡ false) ⊎ (is_empty (after call p).chip ≡ true) → (todo call p).has_room ≡ true
 
 -- room is told only if there was none since it was told last: what is told stays so as long as there is room
 abbrev pub RoomIsToldOnce : Type 0
 RoomIsToldOnce =
-    (call : PortCall) (p : PortState) → p.told.has_room ≡ true →
+    (call : PortCall) (p : PortState) →
+    -- room was told, and there has been some since
+    p.told.has_room ≡ true →
     ((todo call p).has_room ≡ false) × ((after call p).told.has_room ≡ has_room (after call p).chip)
 
 -- a call that receives fewer bytes than it was offered leaves no room
 abbrev pub RefusalLeavesNoRoom : Type 0
 RefusalLeavesNoRoom =
-    (bytes : List ℕ) (p : PortState) → receive_room p.chip < length bytes →
+    (bytes : List ℕ) (p : PortState) →
+    -- more bytes are offered than there is room for
+    receive_room p.chip < length bytes →
     has_room (after (Receive bytes) p).chip ≡ false
 
 -- a restored port tells of the room that it has, and signals if its line is up
@@ -187,14 +225,21 @@ FcrKeepsTheOutput =
 -- whether the bytes left it or a write of FCR discarded them
 abbrev pub AnEmptiedQueueInterrupts : Type 0
 AnEmptiedQueueInterrupts =
-    (call : PortCall) (p : PortState) → p.chip.transmitter.queue ≢ [] → (after call p).chip.transmitter.queue ≡ [] →
+    (call : PortCall) (p : PortState) →
+    -- the transmitter's queue held bytes before the call
+    p.chip.transmitter.queue ≢ [] →
+    -- it is empty after the call
+    (after call p).chip.transmitter.queue ≡ [] →
+    -- the guest has its interrupt enabled
     has_any (after call p).chip.latches.ier IER.THR_EMPTY.0 ≡ true → is_up (after call p).chip ≡ true
 
 -- what the host does not take comes back to the guest: if more bytes are to go out than the output has room for, LSR
 -- shows a transmitter that is not empty, and with one more a THR that is not empty
 abbrev pub ASlowHostShows : Type 0
 ASlowHostShows =
-    (p : PortState) → length p.chip.transmitter.wire ≤ WIRE_ROOM →
+    (p : PortState) →
+    -- the output holds no more than it has room for
+    length p.chip.transmitter.wire ≤ WIRE_ROOM →
     (WIRE_ROOM < length (out p.chip.transmitter) → has_any (line_status p.chip) LSR.TRANSMITTER_EMPTY.0 ≡ false) ×
     (WIRE_ROOM + 1 < length (out p.chip.transmitter) → has_any (line_status p.chip) LSR.THR_EMPTY.0 ≡ false)
 
@@ -209,7 +254,10 @@ HeldOnlyIfFull =
 -- while a character waits and the guest has its interrupt enabled, the line is up, whatever the trigger level
 abbrev pub WaitingInterrupts : Type 0
 WaitingInterrupts =
-    (c : ChipState) → IsStill c → has_any c.latches.ier IER.DATA_READY.0 ≡ true →
+    (c : ChipState) → IsStill c →
+    -- the guest has its interrupt enabled
+    has_any c.latches.ier IER.DATA_READY.0 ≡ true →
+    -- a character waits
     nat_lt 0 (length c.receiver.queue) ≡ true → is_up c ≡ true
 
 -- ---- moments within a call

@@ -269,6 +269,7 @@ IsUnmoved c = next_move (is_loopback c.latches) false c.transmitter ≡ None
 pub record IsStill (c : ChipState) : Type 0 where
   pub paced : IsPaced c
   pub unmoved : IsUnmoved c
+  -- a reception timeout is due, if characters wait in the FIFO
   pub due : c.receiver.timeout_ticks ≡ c.receiver.timeout_limit
 
 -- what is true of every port

@@ -26,6 +26,11 @@ pub struct Clock {
 impl Clock {
     /// Returns the clock of a port that is new, or restored: nothing is put off.
     pub fn new() -> Self
+        // proved: A new port is a chip after power-on, with FIFOs of its size, and the time of a
+        //   call, of which nothing was told; it is refused exactly if no FIFO holds so many
+        //   characters, and one of 16 never
+        // on: `VirtualPort::new`; `VirtualPortWith::try_new`, clauses `made`, `refused` and
+        //   `accepted`
         ensures { result.is_owed ≡ false }
     {
         Clock { is_owed: false }
@@ -46,6 +51,8 @@ impl Clock {
     /// it can wait: the register is DATA, and the line was up before. Returns whether that is so:
     /// then the time begins, after which the monitor calls [`Clock::pass_time`].
     pub fn after_read(&mut self, offset: u8, todo: &mut Todo) -> bool
+        // proved: Which signals can wait, what is left to be done, and what is owed
+        // on: `after_read`, `after_write`, `after_host` and `pass_time` of `Clock`
         ensures waits { result ≡ can_wait (Read offset) todo.old }
         ensures todo { todo.new ≡ todo_now result todo.old }
         ensures owed { self.new.is_owed ≡ owed_after self.old.is_owed result todo.old }

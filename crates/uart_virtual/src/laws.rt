@@ -17,6 +17,9 @@ ghost use Rattle.uart_virtual.specs.Laws.{ASlowHostShows, HeldOnlyIfFull, Waitin
 /// The level that each call tells is that of the line, and what a port keeps of what it told stays
 /// so.
 pub fn level_is_told()
+    // proved: Each call tells the level of the line, and what a port remembers of what it told
+    //   stays true
+    // on: `uart_virtual::laws::level_is_told`
     ensures level { LevelIsTold }
     ensures stays { ToldStays }
 {}
@@ -29,10 +32,30 @@ pub fn level_is_told()
 /// read ISR, and at most as many accesses of DATA as a FIFO holds characters besides one: 15 with
 /// FIFOs of 16. A guest that never reads ISR has none covered. There are no other signals.
 pub fn rises_are_signalled()
+    // promise: each rise of the line from call to call is signalled, and input that leaves no room;
+    //   nothing else but falls within a call
+    // with: rises_are_signalled.rise, rises_are_signalled.full, rises_are_signalled.others
+    // shown by: a_monitor_that_signals, a_top_up_is_signalled_when_it_fills_the_fifo
+    // refused: receive_polled_misses_a_rise
+    // promise: a fall at any moment of a call is signalled, or a signal covers it, and that only
+    //   after a read of ISR
+    // with: rises_are_signalled.dip, rises_are_signalled.covers, rises_are_signalled.blind
+    // shown by: a_burst_is_one_signal, a_guest_that_never_looks_is_signalled_each_time,
+    //   a_fall_while_time_passes_in_loopback_is_signalled
+    // promise: a signal covers as many accesses of DATA more as a FIFO holds characters, besides
+    //   one, so a burst that fills a FIFO of 64 is one signal
+    // with: rises_are_signalled.covers, rest_of
+    // shown by: a_burst_is_out_after_one_interrupt, a_burst_of_64_bytes_is_one_interrupt
+    // proved: Outside of loopback the line does not fall while time passes
+    // on: `uart_virtual::laws::rises_are_signalled`, clause `stays`
+    // if the line is down after a call and up after a later one, a call between has signalled
     ensures rise { EachRiseIsSignalled }
+    // a line that was down at any moment of a call, and is up at its end, is signalled, unless an
+    // earlier signal covers that
     ensures dip { EachDipIsSignalled }
     ensures covers { ASignalCovers }
     ensures blind { NoLookCoversNothing }
+    // input that leaves no room is signalled, if the line is up when the call ends
     ensures full { AFullFifoIsSignalled }
     ensures others { NoOtherSignals }
     ensures up { SignalsAreUp }
@@ -47,6 +70,18 @@ pub fn rises_are_signalled()
 /// room is. What can wait is a signal for what time brings. A signal is given only while the line
 /// is up, nothing is owed after it, and a clock adds none.
 pub fn nobody_waits_for_ever()
+    // promise: with a clock nobody waits for ever: what is put off comes when the time has passed,
+    //   and nothing else is put off
+    // with: nobody_waits_for_ever.comes, nobody_waits_for_ever.rise, nobody_waits_for_ever.full,
+    //   nobody_waits_for_ever.waits
+    // shown by: each_signal_is_given_or_put_off,
+    //   with_a_clock_no_handler_waits_for_ever_and_none_is_deaf
+    // refused: a_clock_forgets_what_is_owed, nobody_waits_though_no_time_passes,
+    //   a_clock_puts_a_rise_of_a_read_off
+    // proved: A signal is given only while the line is up, and then nothing is owed. A monitor
+    //   gives at most as many as its port asks for, and one that it owed before
+    // on: `uart_virtual::laws::nobody_waits_for_ever`, clauses `up`, `stays` and `most`
+    // with a clock, what is put off comes when the time has passed
     ensures comes { NobodyWaitsForEver }
     ensures rise { EachRiseIsGiven }
     ensures at_once { ARiseIsGivenAtOnce }
@@ -61,6 +96,13 @@ pub fn nobody_waits_for_ever()
 /// waits, and at once if another call than a read of DATA makes room. A restored port tells too. A
 /// call that refuses input leaves no room.
 pub fn room_is_told()
+    // promise: room is told after there was none: when nothing waits, and at once if a write makes
+    //   it
+    // with: room_is_told.room, room_is_told.at_once, room_is_told.told_once, room_is_told.refusal,
+    //   room_is_told.restored
+    // shown by: room_is_told_whichever_call_gives_it
+    // refused: room_only_if_empty
+    // if there is no room, and later there is and nothing waits, a call in between told of it
     ensures room { RoomIsTold }
     ensures at_once { RoomIsToldAtOnce }
     ensures told_once { RoomIsToldOnce }
@@ -73,6 +115,27 @@ pub fn room_is_told()
 /// as long as the transmitter's queue is empty. A queue that is emptied interrupts a guest that has
 /// this enabled, whether its bytes leave or are discarded. A host that takes nothing shows in LSR.
 pub fn bytes_go_out()
+    // promise: bytes go out in order, outside of loopback and unless FCR discards them; a slow host
+    //   shows in LSR; and no guest waits for time: a character interrupts at once, if that is
+    //   enabled
+    // with: bytes_go_out.out, bytes_go_out.slow, nothing_waits_for_time.waiting
+    // shown by: a_full_output_holds_the_guest_back
+    // refused: take_without_time, fewer_ticks
+    // promise: a queue that is emptied interrupts if the guest has enabled that, whether its bytes
+    //   leave or FCR discards them
+    // with: bytes_go_out.emptied
+    // shown by: a_queue_that_fcr_empties_interrupts
+    // refused: an_emptied_queue_is_silent, uart_c/port_is_silent_when_fcr_empties_a_queue
+    // proved: What the host took, followed by what the port still holds, is what the port held
+    //   before, followed by what the guest wrote: in order, and each byte once. The conditions are
+    //   those of `bytes_leave_in_order`. A byte that is written while LSR shows an empty THR meets
+    //   the last of these conditions
+    // on: `uart_virtual::laws::bytes_go_out`, clauses `out` and `taken`
+    // proved: A write of FCR discards nothing of the output while the transmitter's queue is empty.
+    //   If more than 64 bytes are to go out, LSR shows a transmitter that is not empty, and with
+    //   more than 65 a THR that is not
+    // on: `uart_virtual::laws::bytes_go_out`, clauses `fcr` and `slow`
+    // what the guest writes leaves in order, and each byte once
     ensures out { BytesGoOut }
     ensures taken { EmptyThrTakesAByte }
     ensures fcr { FcrKeepsTheOutput }

@@ -178,6 +178,9 @@ pub fn settle_ticks(size: FifoSize) -> u16
 /// Each call of a [`VirtualPortWith`] does this once or not at all, and takes no other time. So
 /// what a guest can make its monitor do in a call has this bound.
 pub fn settle<const FIFO: usize>(chip: &mut LiveChipWith<FIFO>) -> usize
+    // proved: The time of a call takes at most two jumps more than a FIFO holds characters, which
+    //   are 18 with FIFOs of 16
+    // on: `uart_virtual::settle`
     ensures after { chip.new ≡ settle chip.old }
     ensures most { result ≤ most_jumps (fifo_size FIFO) }
 {
@@ -420,6 +423,10 @@ fn is_quiet(offset: u8, value: u8) -> bool
 // Reads a register, and lets the time of a call pass.
 #[inline]
 fn read<const FIFO: usize>(chip: &mut LiveChipWith<FIFO>, offset: u8, told: &mut Told) -> Answer
+    // proved: Each call leaves exactly the port that `after` says, and returns exactly the `Todo`
+    //   of `todo`; a read returns what the chip's definitions answer, and input is received from
+    //   the front as far as there is room
+    // on: `read`, `write`, `receive`, `receive_one`, `set_lines` and `take_output` of `VirtualPort`
     requires offset { offset < NUM_REGISTERS }
     requires told { IsTold (record { chip = chip.old; told = told.old }) }
     requires still { IsStill chip.old }
@@ -623,6 +630,7 @@ impl<const FIFO: usize> VirtualPortWith<FIFO> {
     /// ```
     pub fn try_new(chip: Chip) -> Result<Self, ChipError>
         ensures made { IfOk result (λ made. made ≡ port.fresh (fifo_size FIFO) chip) }
+        // if: it is no size of a FIFO
         ensures refused { is_size FIFO ≡ false → result ≡ Err ChipError.BadFifo }
         ensures accepted { is_size FIFO ≡ true → IsOk result }
     {
@@ -664,6 +672,14 @@ impl<const FIFO: usize> VirtualPortWith<FIFO> {
     /// this read again and again.
     #[inline]
     pub fn read_clear_status(&mut self) -> Option<u8>
+        // proved: The short ways of what guests do most leave the port that `after` says, and what
+        //   `todo` says has to be done: a read of LSR that shows no error; a byte that meets an
+        //   idle transmitter and that the host takes at once; a byte of input, and a read of DATA,
+        //   while no interrupt is enabled; with the interrupt of received characters enabled, a
+        //   byte of input while none waits; a read of DATA that takes the last character. One that
+        //   refuses changes nothing
+        // on: `read_clear_status`, `passing`, `pass`, `receive_polled`, `read_polled`,
+        //   `receive_first` and `read_last` of `VirtualPort`
         ensures value { result ≡ clear_status self.old.chip }
         ensures read { is_some result ≡ true → self.new ≡ port.after (Read offsets.LSR) self.old }
         ensures todo { is_some result ≡ true →
@@ -899,6 +915,11 @@ impl<const FIFO: usize> VirtualPortWith<FIFO> {
     // waits takes no line down. So the chip is not asked for the line.
     #[inline]
     pub fn receive_first(&mut self, byte: u8) -> Option<Todo>
+        // promise: the short ways of a guest with interrupts do what the calls do for which they
+        //   stand
+        // with: receive_first.received, receive_first.todo, read_last.read, read_last.todo
+        // shown by: each_call_does_what_its_definition_says
+        // refused: a_first_byte_is_no_rise, a_last_read_takes_the_line_down
         ensures first { is_some result ≡ port.receives_first self.old }
         ensures received { is_some result ≡ true →
             self.new ≡ port.after (Receive (byte ∷ [])) self.old }
@@ -931,6 +952,8 @@ impl<const FIFO: usize> VirtualPortWith<FIFO> {
     /// let todo = port.receive_one(0, LSR::BREAK_INTERRUPT)?;
     /// ```
     pub fn receive_one(&mut self, byte: u8, errors: LSR) -> Result<Todo, InputError>
+        // proved: What is refused, and that it then changes nothing
+        // on: `receive_one` and `set_lines`, clause `refused`
         ensures accepted { IsWithin errors.0 LSR.CHARACTER_ERRORS.0 →
             IsOk result × (self.new ≡ port.after (ReceiveOne byte errors.0) self.old) }
         ensures todo { IsWithin errors.0 LSR.CHARACTER_ERRORS.0 →
@@ -984,6 +1007,8 @@ impl<const FIFO: usize> VirtualPortWith<FIFO> {
     /// ```
     #[inline]
     pub fn output(&self) -> &[u8]
+        // proved: The output is what was sent and not taken, in order
+        // on: `VirtualPort::output`
         ensures { result.now ≡ self.now.chip.transmitter.wire }
     {
         self.chip.wire()
@@ -1034,6 +1059,10 @@ impl<const FIFO: usize> VirtualPortWith<FIFO> {
     /// host.set_line(port.level());
     /// ```
     pub fn level(&self) -> bool
+        // proved: Of every port, whatever was done with it: its level is the level of the interrupt
+        //   line, and the level that the monitor was told; what it was told of room is so; and no
+        //   number of ticks changes the chip
+        // on: `VirtualPort::level`, clauses `level`, `told`, `still` and `time`
         ensures level { result ≡ port.is_up self.now.chip }
         ensures told { IsTold self.now }
         ensures still { port.IsStill self.now.chip }

@@ -32,6 +32,9 @@ pub struct Seen {
 impl Seen {
     /// Returns what is to be seen of these rings. Makes no access.
     pub fn of<B: Backend>(ring: &Uart16550Ring<B>) -> Self
+        // proved: What is seen of rings is how many bytes they hold to be taken and to be sent, for
+        //   how many more there is room, and whether the chip is stuck
+        // on: `Seen::of`
         ensures { IsSeenOf ring.now result }
     {
         Seen {
@@ -44,6 +47,9 @@ impl Seen {
 
     /// Returns whether this is there.
     pub fn has(&self, awaited: Awaited) -> bool
+        // proved: A received byte is there if one can be taken, room if there is some for a byte,
+        //   an empty ring if none waits
+        // on: `Seen::has`
         ensures { result ≡ has self.now awaited }
     {
         match awaited {
@@ -55,6 +61,8 @@ impl Seen {
 
     /// Returns whether to wait for this no longer: it is there, or does not come.
     pub fn ends_wait(&self, awaited: Awaited) -> bool
+        // proved: A wait ends if what is awaited is there, or if the chip is stuck
+        // on: `Seen::ends_wait`
         ensures { result ≡ ends_wait self.now awaited }
     {
         self.has(awaited) || self.is_stuck

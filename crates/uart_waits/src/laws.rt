@@ -8,6 +8,10 @@ ghost use Rattle.uart_waits.specs.Laws.{EachIsWokenOnce, NobodyIsForgotten};
 /// after a section has nothing to be woken for.
 #[tactic(auto, using(crate::proofs::Sections::waking))]
 pub fn no_wake_is_lost<W>()
+    // promise: who waits at shared rings is woken once, or has nothing to be woken for, in whatever
+    //   order sections come
+    // with: no_wake_is_lost.once, no_wake_is_lost.none_forgotten
+    // shown by: three_tasks_and_a_handler_lose_no_wake, two_readers_and_a_handler_lose_no_wake
     ensures once { EachIsWokenOnce W }
     ensures none_forgotten { NobodyIsForgotten W }
 {}

@@ -51,6 +51,8 @@ fn take_if_due<W>(place: &mut Option<Waiter<W>>, seen: Option<Seen>) -> Option<W
 impl<W> Waits<W> {
     /// Returns places in which nobody waits.
     pub fn new() -> Self
+        // proved: At first nobody waits
+        // on: `Waits::new`
         ensures receive { receive_of result ≡ None }
         ensures transmit { transmit_of result ≡ None }
     {
@@ -62,6 +64,9 @@ impl<W> Waits<W> {
 
     /// Puts a task into the place for what it awaits, and returns the one that was there.
     pub fn register(&mut self, waiter: Waiter<W>) -> Option<Waiter<W>>
+        // proved: A task that registers comes into the place for what it awaits, the one that was
+        //   there is returned, and the other place is as it was
+        // on: `Waits::register`
         ensures { Registers waiter result self.old self.new }
     {
         match waiter.awaited {
@@ -73,6 +78,9 @@ impl<W> Waits<W> {
     /// Takes those out whose turn it is: what they await is there, or does not come, since the chip
     /// is stuck or there are no rings.
     pub fn take_due(&mut self, seen: Option<Seen>) -> Due<W>
+        // proved: Those are taken out whose wait ends, or all if there are no rings; the others
+        //   stay
+        // on: `Waits::take_due`
         ensures { Takes seen result self.old self.new }
     {
         let receive = take_if_due(&mut self.receive, seen);

@@ -45,6 +45,10 @@ impl<B: Backend> Uart16550<B> {
     /// let rest = &bytes[sent..];
     /// ```
     pub fn send_burst(&mut self, buffer: &[u8], size: FifoSize) -> usize
+        // promise: a burst is as large as the transmitter FIFO, if the caller names its size
+        // with: send_burst.made, SendsBurst
+        // shown by: a_burst_is_as_large_as_the_fifo
+        // refused: send_burst_takes_each_chip_for_16
         ensures made { Made B.step (SendsBurst size buffer.now result) self.old self.new }
         ensures count { result ≤ length buffer.now }
     {
@@ -105,6 +109,11 @@ impl<B: Backend> Uart16550<B> {
     /// queue.drain(..sent);
     /// ```
     pub fn send_gathered(&mut self, urgent: Option<u8>, first: &[u8], second: &[u8]) -> usize
+        // promise: bytes in two parts, with an urgent one before them, are one burst
+        // with: send_gathered.made
+        // shown by: parts_are_one_burst
+        // refused: send_gathered_stops_where_the_parts_meet,
+        //   send_gathered_does_not_count_the_urgent_byte
         ensures made { Made B.step (Sends (option_to_list urgent ++ (first.now ++ second.now))
             result) self.old self.new }
         ensures count { result ≤ length (option_to_list urgent ++ (first.now ++ second.now)) }

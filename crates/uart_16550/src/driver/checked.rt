@@ -37,6 +37,11 @@ impl<B: Backend> Uart16550<B> {
     /// assert!(rt; matches!(refused, Err(InitError::InvalidBaudRate(_))));
     /// ```
     pub fn checked_init(&mut self, config: Config) -> Result<(), InitError>
+        // proved: A form for callers in Rust, whom nobody proves to have a computable
+        //   configuration: what the other does if it is one, and otherwise no access and no change,
+        //   with an error that says why there is no divisor
+        // on: `checked_init`, `checked_init_with`, `checked_set_frame`,
+        //   `checked_set_frame_when_idle`
         ensures { Did B.step (IfComputable config (λ cause. Err (init_error.InvalidBaudRate cause))
             result (Inits config result)) self.old self.new }
     {

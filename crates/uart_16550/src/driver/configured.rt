@@ -170,6 +170,13 @@ impl<B: Backend> Uart16550<B> {
     /// uart.check_configured(MCR::READY)?;
     /// ```
     pub fn check_configured(&mut self, outputs: MCR) -> Result<(), ConfigurationError>
+        // promise: a register that does not show what was written is an error, the first one found;
+        //   the latch is not read unless LCR shows that it is open
+        // with: check_configured, ChecksConfigured, OpensLatch
+        // shown by: the_chip_shows_what_was_written, a_check_while_data_wait,
+        //   that_do_not_keep_what_is_written
+        // refused: check_configured_tells_no_ignored_line,
+        //   check_configured_tells_the_outputs_first, check_configured_leaves_the_latch_open
         ensures { Made B.step (ChecksConfigured (fields self.old).config outputs.0 result)
             self.old self.new }
     {

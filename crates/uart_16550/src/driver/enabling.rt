@@ -43,6 +43,16 @@ impl<B: Backend> Uart16550<B> {
     /// }
     /// ```
     pub fn enable_64_byte_fifos(&mut self) -> Result<bool, FifoSizeError>
+        // promise: a 16750 is told to hold 64 characters, once its transmitter is empty and with no
+        //   interrupt meanwhile. The answer is what stays after a write of FCR without DLAB; LCR,
+        //   IER and the size of the driver are as before
+        // with: enable_64_byte_fifos, Enables64
+        // shown by: bit_5_of_isr_is_the_answer, the_frame_is_kept_with_one_stop_bit,
+        //   a_16750_holds_64, a_chip_that_leaves_64_again_holds_16,
+        //   a_chip_without_64_loses_nothing, a_16750_is_told_to_hold_64, bursts_of_64_go_out_whole
+        // refused: enable_64_byte_fifos_believes_a_chip_that_asks_for_no_dlab,
+        //   enable_64_byte_fifos_does_not_wait, enable_64_byte_fifos_leaves_dlab_set,
+        //   enable_64_byte_fifos_looks_too_early, enable_64_byte_fifos_leaves_interrupts_off
         ensures { Did B.step (Enables64 result) self.old self.new }
     {
         if !self.fifo_enabled {

@@ -68,6 +68,13 @@ impl<B: Backend> Uart16550<B> {
     /// })?;
     /// ```
     pub fn set_frame(&mut self, config: &Config) -> Result<(), InvalidDivisorError>
+        // promise: rate and frame are changed by four writes, a break and an output in what was
+        //   read of their register, and a port is taken as firmware left it; a refusal changes
+        //   nothing
+        // with: set_frame, set_break, set_modem_control, attach, switches_change_one_bit.rts
+        // shown by: calls_that_change_the_line, the_frame_alone_is_changed, ports_that_are_attached
+        // refused: set_frame_leaves_dlab, set_rts_clears_the_other_outputs,
+        //   attach_takes_a_port_in_loopback
         requires { IsComputable config.now }
         ensures { Did B.step (SetsFrame config.now result) self.old self.new }
     {
@@ -118,6 +125,10 @@ impl<B: Backend> Uart16550<B> {
     /// assert!(rt; uart.is_idle());
     /// ```
     pub fn is_idle(&mut self) -> bool
+        // promise: whether all is on the line is told, with the errors kept
+        // with: is_idle, ShowsIdle
+        // shown by: calls_that_change_the_line, is-idle
+        // refused: is_idle_looks_at_the_holding_register
         ensures { Made B.step (ShowsIdle result) self.old self.new }
     {
         self.read_lsr().contains(LSR::TRANSMITTER_EMPTY)
@@ -136,6 +147,10 @@ impl<B: Backend> Uart16550<B> {
     /// uart.set_break(true);
     /// ```
     pub fn set_break(&mut self, on: bool)
+        // proved: A break and one output are switched in what was read of their register, the other
+        //   bits stay, DLAB and the frame too; each write of MCR has loopback off
+        // on: `set_break`, `set_rts`, `set_dtr`, `set_modem_control`;
+        //   `laws::switches_change_one_bit`
         ensures { Made B.step (SetsBreak on) self.old self.new }
     {
         let switched = break_of(self.lcr(), on);
@@ -223,6 +238,11 @@ impl<B: Backend> Uart16550<B> {
     /// uart.send_bytes_exact(b"hello")?;
     /// ```
     pub fn attach(&mut self) -> Result<(DLL, DLM), AttachError>
+        // promise: a port whose divisor is 0 is not taken, and its refusal reads no ISR and leaves
+        //   the registers; one of whose divisor a single byte is 0 is taken
+        // with: attach, TakesPort.refused, TakesPort.refuses, IsAttached.is_set_up
+        // shown by: ports_that_are_attached, a_bus_of_zeros_is_not_attached, attaches
+        // refused: attach_takes_a_divisor_of_0, attach_refuses_a_divisor_of_256
         ensures { Did B.step (Attaches result) self.old self.new }
     {
         // LCR comes first, since its DLAB says what other offsets are: on later chips some of its

@@ -79,6 +79,10 @@ impl<B: Backend> Uart16550<B> {
     /// assert!(rt; uart.check_present());
     /// ```
     pub fn check_present(&mut self) -> bool
+        // proved: The presence check, and `init` access by access: the divisor, the frame, the FIFO
+        //   step, the drain, the wait. Each refusal with exactly what was accessed before it and
+        //   what the fields then are
+        // on: `check_present`, `init`
         ensures { Made B.step (ChecksPresence result) self.old self.new }
     {
         let old = self.read_register(offsets::SPR);
@@ -195,6 +199,10 @@ impl<B: Backend> Uart16550<B> {
     /// })?;
     /// ```
     pub fn init(&mut self, config: Config) -> Result<(), InitError>
+        // promise: `init` access by access, and each refusal with what it leaves
+        // shown by: init_makes_its_list, init_finds_no_device, init_stalls,
+        //   init_refuses_a_rate_without_divisor
+        // refused: init_always_finds_no_device, check_present_leaves_the_pattern
         requires { IsComputable config }
         ensures { Did B.step (Inits config result) self.old self.new }
     {

@@ -197,6 +197,10 @@ impl<B: Backend> Uart16550<B> {
     /// uart.test_loopback()?;
     /// ```
     pub fn test_loopback(&mut self) -> Result<(), LoopbackError>
+        // promise: the loopback test access by access, and each refusal with what it leaves
+        // shown by: the_first_wait_stalls, the_test_byte_is_refused, another_message_comes_back
+        // refused: loopback_stays_on_after_a_refusal, loopback_reports_ri_on_its_rising_edge,
+        //   loopback_leaves_another_ier
         ensures { Did B.step (TestsLoopback result) self.old self.new }
     {
         let mcr = self.mcr();

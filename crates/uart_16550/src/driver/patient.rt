@@ -51,6 +51,17 @@ impl<B: Backend> Uart16550<B> {
         bytes: &[u8],
         patience: &mut P,
     ) -> Result<(), StalledError>
+        // promise: a wait ends when its caller says so, who is asked once after each unsuccessful
+        //   poll, and no poll follows; it does as `send_bytes_exact` if the caller always keeps
+        //   waiting
+        // with: send_bytes_while.made, endless_patience_is_exact.sends
+        // shown by: a_caller_is_asked_after_each_check_that_fails,
+        //   no_check_follows_the_answer_to_wait_no_longer, the_spin_limit_ends_a_wait_too,
+        //   waits_in_time
+        // refused: send_bytes_while_checks_after_the_end, send_bytes_while_never_asks_at_first,
+        //   send_bytes_while_asks_twice
+        // a wait for room ends too when the caller says so, who is asked once after each failed
+        // check; no check follows the answer to wait no longer
         ensures made { MadeWhile P.answers B.step (λ said. SendsWhile bytes.now said result)
             patience.old patience.new self.old self.new }
         ensures done { IfErr result (λ e. e.done < length bytes.now) }
@@ -109,6 +120,16 @@ impl<B: Backend> Uart16550<B> {
         buffer: &mut [u8],
         patience: &mut P,
     ) -> Result<(), StalledError>
+        // promise: a wait for bytes ends when its caller says so, too: slots behind those that came
+        //   stay, and what the polls clear is saved
+        // with: receive_bytes_while.made, receive_bytes_while.rest,
+        //   endless_patience_is_exact.receives
+        // shown by: who_receives_is_asked_after_each_poll_that_fails,
+        //   no_poll_follows_the_answer_to_wait_no_longer, errors_that_the_polls_clear_are_saved,
+        //   waits_in_time_for_bytes
+        // refused: receive_bytes_while_polls_after_the_end,
+        //   receive_bytes_while_never_asks_at_first, receive_bytes_while_takes_what_came_for_all
+        // so does a wait for a byte, and no poll follows
         ensures made { MadeWhile P.answers B.step (λ said. ReceivesWhile (length buffer.old)
             (filled result buffer.new) said result) patience.old patience.new self.old self.new }
         ensures rest { IfErr result (λ e. drop e.done buffer.new ≡ drop e.done buffer.old) }

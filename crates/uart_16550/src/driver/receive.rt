@@ -50,6 +50,13 @@ impl<B: Backend> Uart16550<B> {
     /// uart.try_receive_byte().ok()
     /// ```
     pub fn try_receive_byte(&mut self) -> Result<u8, ByteReceiveError>
+        // promise: a byte is taken only after a look that showed one; slots behind the count stay
+        // with: try_receive_byte, receive_bytes.made, receive_bytes.rest
+        // shown by: slots_beyond_what_came_stay
+        // refused: try_receive_byte_does_not_look, receive_bytes_flips_a_bit
+        // proved: A byte is taken from DATA only after a look at LSR that showed data. Slots past
+        //   the count stay as they are
+        // on: `try_receive_byte`, `receive_bytes`, `receive_bytes_exact`, `Read::read`
         ensures { Made B.step (TryReceive result) self.old self.new }
     {
         self.ready_to_receive()?;
@@ -101,6 +108,10 @@ impl<B: Backend> Uart16550<B> {
     /// uart.try_receive_with_errors().ok()
     /// ```
     pub fn try_receive_with_errors(&mut self) -> Result<Received, ByteReceiveError>
+        // proved: A byte that is received with its errors has the error bits of the look at LSR
+        //   right before it, and these bits are saved for `lsr` too. Slots past the count stay as
+        //   they are
+        // on: `try_receive_with_errors`, `receive_with_errors`
         ensures { Made B.step (TryReceiveWithErrors result) self.old self.new }
     {
         // LSR shows the errors of the character that is the next to be read. So it is read first.
@@ -123,9 +134,10 @@ impl<B: Backend> Uart16550<B> {
     ///
     /// An overrun tells that a character was lost, and the FIFO decides on which side of the byte
     /// that it comes with. With the FIFO on, all that waited came before the lost one: it was lost
-    /// right behind the 15th or the 16th character from this byte on, which are bytes that the call
-    /// returns and then those that are still in the receiver. With the FIFO off, the further
-    /// character replaces the one that waits, so the lost one came before this byte.
+    /// right behind as many characters from this byte on as the FIFO holds, or one fewer, so with a
+    /// FIFO of 16 behind the 15th or the 16th. These are bytes that the call returns and then those
+    /// that are still in the receiver. With the FIFO off, the further character replaces the one
+    /// that waits, so the lost one came before this byte.
     ///
     /// Does not wait: reads LSR before each byte, and ends when it shows none. An empty slice makes
     /// no access. The error bits are saved for the next `lsr` too, and do not end the call.
@@ -206,6 +218,8 @@ impl<B: Backend> Uart16550<B> {
     /// }
     /// ```
     pub fn receive_bytes_exact(&mut self, buffer: &mut [u8]) -> Result<(), StalledError>
+        // each wait for a byte gives up after as many failed polls in a row as the spin limit, on
+        // every device
         ensures made { Made B.step (ReceivesExact (length buffer.old) (filled result buffer.new)
             result) self.old self.new }
         ensures rest { IfErr result (λ e. drop e.done buffer.new ≡ drop e.done buffer.old) }

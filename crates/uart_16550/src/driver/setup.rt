@@ -55,6 +55,12 @@ impl<B: Backend> Uart16550<B> {
     /// uart.set_trigger_level(FifoTriggerLevel::One)?;
     /// ```
     pub fn set_trigger_level(&mut self, level: FifoTriggerLevel) -> Result<(), FifosOffError>
+        // promise: the trigger level is changed without emptying a FIFO, and refused if the FIFOs
+        //   are off
+        // with: set_trigger_level, Levels.leaves
+        // shown by: the_trigger_level_alone_is_changed, trigger-level
+        // refused: uart_calls/perform_sets_the_lowest_level, set_trigger_level_resets_the_receiver,
+        //   set_trigger_level_says_nothing_of_fifos_that_are_off
         ensures { Did B.step (SetsTrigger level result) self.old self.new }
     {
         if !self.fifo_enabled {
@@ -89,6 +95,11 @@ impl<B: Backend> Uart16550<B> {
     /// })?;
     /// ```
     pub fn set_frame_when_idle(&mut self, config: &Config) -> Result<(), FrameError>
+        // promise: a frame is changed only once the transmitter is empty, if the caller wants that
+        // with: set_frame_when_idle, FramesWhenIdle.leaves
+        // shown by: a_frame_waits_for_an_empty_transmitter, frame-when-idle, frame-stalls
+        // refused: uart_calls/perform_does_not_wait_for_the_frame,
+        //   set_frame_when_idle_waits_for_room_alone, set_frame_when_idle_goes_on_after_a_stall
         requires { IsComputable config.now }
         ensures { Did B.step (SetsFrameWhenIdle config.now result) self.old self.new }
     {
@@ -149,6 +160,12 @@ impl<B: Backend> Uart16550<B> {
     /// uart.init_with(Config::DEFAULT, &setup)?;
     /// ```
     pub fn init_with(&mut self, config: Config, setup: &Setup) -> Result<(), InitError>
+        // promise: `init_with` access by access, as a caller asks for it: check, wait and outputs
+        // with: init_with, InitsWith, is_first
+        // shown by: an_initialisation_does_what_it_is_asked_for, init_with_other_waits,
+        //   waits-before-the-setup
+        // refused: init_with_turns_the_check_around, init_with_waits_last_and_never_first,
+        //   init_with_raises_all_outputs, uart_calls/perform_sets_up_by_default
         requires { IsComputable config }
         ensures { Did B.step (InitsWith setup.now config result) self.old self.new }
     {
@@ -242,6 +259,11 @@ impl<B: Backend> Uart16550<B> {
     /// uart.quiesce(MCR::from_bits_retain(0), FifoAction::Disable);
     /// ```
     pub fn quiesce(&mut self, outputs: MCR, fifos: FifoAction)
+        // promise: a port is left without interrupts, and put back as a dump of it shows
+        // with: quiesce, restore, Quiesces, Restores, IsRestored.ready
+        // shown by: a_port_is_left_and_taken_up_again, ports_are_put_back, leaves-and-puts-back
+        // refused: uart_calls/perform_restores_nothing, quiesce_keeps_an_interrupt,
+        //   restore_clears_the_scratch_register, restore_turns_the_fifos_around
         ensures { Did B.step (Quiesces outputs.0 fifos) self.old self.new }
     {
         self.config.interrupts = IER::from_bits_retain(0);

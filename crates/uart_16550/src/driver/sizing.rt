@@ -114,6 +114,14 @@ impl<B: Backend> Uart16550<B> {
     /// uart.set_fifo_size(size);
     /// ```
     pub fn find_fifo_size(&mut self) -> Result<FifoSize, FifoSizeError>
+        // promise: the size of the FIFOs is found in loopback: never more than came back, with
+        //   nothing on the line, and with MCR, IER and noted errors as before
+        // with: find_fifo_size, largest_up_to, IsLargestUpTo
+        // shown by: a_count_gives_the_largest_size_of_no_more,
+        //   the_size_of_the_fifos_is_found_in_loopback, a_flood_that_stalls_stays_inside,
+        //   bytes_and_errors_from_before
+        // refused: find_fifo_size_counts_one_more, find_fifo_size_keeps_its_overrun,
+        //   find_fifo_size_turns_the_fifos_off, uart_spec/largest_up_to_is_too_large
         ensures { Did B.step (FindsFifoSize result) self.old self.new }
     {
         if !self.fifo_enabled {

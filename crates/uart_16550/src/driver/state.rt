@@ -77,6 +77,9 @@ impl<B: Backend> Uart16550<B> {
     /// let state = uart.inner().state();
     /// ```
     pub fn state(&self) -> DriverState
+        // proved: What a driver keeps beside its backend, as a value, and a driver over any backend
+        //   that goes on from it
+        // on: `Uart16550::state`, `from_state`, `DriverState::new`
         ensures { fields_of result ≡ fields self.now }
     {
         DriverState {

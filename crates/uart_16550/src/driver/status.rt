@@ -26,6 +26,10 @@ impl<B: Backend> Uart16550<B> {
     /// assert_eq!(rt; uart.ier(), IER::THR_EMPTY);
     /// ```
     pub fn ier(&mut self) -> IER
+        // proved: Register reads, the connection check, interrupts that are enabled and disabled in
+        //   the chip and in the stored configuration, the divisor latch with LCR written back
+        // on: `ier`, `isr`, `lcr`, `mcr`, `spr`, `check_connected`, `ready_to_receive`,
+        //   `ready_to_send`, `enable_interrupts`, `disable_interrupts`, `dll_dlm`
         ensures { Made B.step (Only (Read offsets.IER result.0 ∷ [])) self.old self.new }
     {
         IER::from_bits_retain(self.read_register(offsets::IER))
@@ -90,6 +94,11 @@ impl<B: Backend> Uart16550<B> {
     /// assert!(rt; !uart.is_gone());
     /// ```
     pub fn is_gone(&mut self) -> bool
+        // promise: a chip that is gone is told from one that is there, by a read that changes
+        //   nothing
+        // with: is_gone, ShowsGone
+        // shown by: a_chip_that_is_gone_is_told
+        // refused: is_gone_looks_at_loopback_alone
         ensures { Made B.step (ShowsGone result) self.old self.new }
     {
         // MCR, and no other register: a read of DATA, LSR, MSR or ISR changes a chip that is there
@@ -111,6 +120,11 @@ impl<B: Backend> Uart16550<B> {
     /// assert_eq!(rt; uart.lsr(), shown.lsr);
     /// ```
     pub fn lsr(&mut self) -> LSR
+        // promise: what a read of LSR or MSR clears is saved until it is reported
+        // with: lsr, msr, config_register_dump
+        // shown by: a_dump_shows_what_was_saved_and_keeps_it, what_ff_showed_is_saved
+        // refused: ready_to_receive_saves_nothing, dump_empties_the_saved_bits,
+        //   lsr_leaves_an_overrun_saved
         ensures { Did B.step (TakesLsr result.0) self.old self.new }
     {
         let lsr = self.read_lsr().union(self.saved_lsr);
@@ -149,6 +163,9 @@ impl<B: Backend> Uart16550<B> {
     /// assert!(rt; uart.peek_modem().contains(MSR::CTS));
     /// ```
     pub fn peek_modem(&mut self) -> MSR
+        // proved: The modem lines as they are, with the changes saved; whether the transmitter is
+        //   empty, with the errors saved
+        // on: `peek_modem`, `is_idle`
         ensures { Made B.step (Only (Read offsets.MSR result.0 ∷ [])) self.old self.new }
     {
         self.read_msr()
@@ -186,6 +203,10 @@ impl<B: Backend> Uart16550<B> {
     /// uart.check_connected()?;
     /// ```
     pub fn check_connected(&mut self) -> Result<(), RemoteReadyToReceiveError>
+        // promise: the connection check, and the interrupts that are enabled
+        // with: check_connected, enable_interrupts, disable_interrupts
+        // shown by: modem, interrupts_are_enabled_and_disabled
+        // refused: check_connected_looks_at_cts_first, enable_interrupts_enables_another
         ensures { Made B.step (Connects result) self.old self.new }
     {
         let msr = self.read_msr();
@@ -259,6 +280,9 @@ impl<B: Backend> Uart16550<B> {
     /// uart.retrigger_interrupts();
     /// ```
     pub fn retrigger_interrupts(&mut self)
+        // promise: the interrupt line falls and rises again
+        // shown by: interrupts_and_raw_registers
+        // refused: retrigger_leaves_the_output_up
         ensures { Made B.step Retriggers self.old self.new }
     {
         let enabled = self.read_register(offsets::IER);
@@ -279,6 +303,9 @@ impl<B: Backend> Uart16550<B> {
     /// assert_eq!(rt; uart.dll_dlm(), (12, 0));
     /// ```
     pub fn dll_dlm(&mut self) -> (DLL, DLM)
+        // promise: the divisor latch is read, and LCR written back
+        // shown by: shows-the-divisor, plain_memory_shows_the_divisor
+        // refused: dll_dlm_leaves_dlab_set
         ensures { Made B.step (ReadsDivisor result.0 result.1) self.old self.new }
     {
         let lcr = self.read_register(offsets::LCR);

@@ -85,6 +85,7 @@ impl<B: Backend> Uart16550<B> {
     // A whole burst of 16, the size of most chips, is apart, since its length is known to the
     // compiler: it then counts no bytes.
     pub(super) fn write_burst(&mut self, bytes: &[u8]) -> usize
+        // there is a byte to write
         requires { 0 < length bytes.now }
         ensures made { Made B.step (Only (data_writes (take result bytes.now))) self.old self.new }
         ensures size { result ≡ burst_size (settings self.old) bytes.now }
@@ -117,6 +118,11 @@ impl<B: Backend> Uart16550<B> {
     /// let rest = &bytes[sent..];
     /// ```
     pub fn send_bytes(&mut self, buffer: &[u8]) -> usize
+        // promise: bytes are written only after a look that showed room: with the FIFO on as many
+        //   as it holds by the size that is set, else one
+        // with: send_bytes.made
+        // shown by: send_bytes_exact_that_checks_cts, waits-for-cts
+        // refused: send_bytes_bursts_without_fifo, ready_to_send_reads_dsr_for_cts
         ensures made { Made B.step (Sends buffer.now result) self.old self.new }
         ensures count { result ≤ length buffer.now }
     {
@@ -144,6 +150,11 @@ impl<B: Backend> Uart16550<B> {
     /// assert_eq!(rt; uart.try_send_byte(b'h'), Ok(()));
     /// ```
     pub fn try_send_byte(&mut self, byte: u8) -> Result<(), ByteSendError>
+        // proved: Bytes are written to DATA only after a look that showed an empty holding register
+        //   and, with CTS checking, the other end clear to send (or loopback): if the FIFO is on up
+        //   to as many as it holds by the size that is set, which is 16 at first, else one.
+        //   `send_bytes` of some bytes returns 0 only after a check that missed
+        // on: `try_send_byte`, `send_bytes`, `send_bytes_exact`, `Write::write`
         ensures { Made B.step (TrySends byte result) self.old self.new }
     {
         if self.send_bytes(&[byte]) == 0 {
@@ -233,6 +244,24 @@ impl<B: Backend> Uart16550<B> {
     /// }
     /// ```
     pub fn send_bytes_exact(&mut self, bytes: &[u8]) -> Result<(), StalledError>
+        // promise: each wait ends at the limit's number of unsuccessful polls in a row, and not
+        //   before
+        // with: send_bytes_exact.made, receive_bytes_exact.made
+        // shown by: polls, waits_end, long_slices_stall_after_many_bytes
+        // refused: send_bytes_exact_stalls_at_once, receive_bytes_exact_stalls_at_once,
+        //   wait_to_send_ends_a_poll_early
+        // promise: a stall tells how many bytes there were
+        // with: send_bytes_exact.done, receive_bytes_exact.rest
+        // shown by: stalls-after-a-byte, receive_bytes_exact
+        // refused: receive_bytes_exact_always_has_done_0, send_bytes_exact_begins_again
+        // proved: A wait ends at the spin limit's number of unsuccessful polls in a row, and not
+        //   before; progress starts the count again. `done` is how many bytes there were before
+        //   that (of `write_text` at most 2^64 - 1)
+        // on: `send_bytes_exact`, `receive_bytes_exact`, `Read::read`, `Write::write`,
+        //   `Write::flush`, `Uart16550Tty::write_text`; also the waits in `init`, `init_with`,
+        //   `set_frame_when_idle`, `test_loopback`, `find_fifo_size` and `enable_64_byte_fifos`
+        // each wait for room gives up after as many failed checks in a row as the spin limit, on
+        // every device
         ensures made { Made B.step (SendsExact bytes.now result) self.old self.new }
         ensures done { IfErr result (λ e. e.done < length bytes.now) }
     {
@@ -277,6 +306,13 @@ impl<B: Backend> Uart16550<B> {
     /// uart.flush_while(&mut deadline)?;
     /// ```
     pub fn flush_while<P: Patience>(&mut self, patience: &mut P) -> Result<(), StalledError>
+        // promise: a wait for an empty transmitter ends when its caller says so, too
+        // with: flush_while, endless_patience_is_exact.flushes
+        // shown by: who_flushes_is_asked_after_each_poll_that_fails,
+        //   errors_that_a_flush_clears_are_saved, waits_in_time_for_an_empty_transmitter
+        // refused: flush_while_waits_for_the_holding_register, flush_while_polls_after_the_end,
+        //   flush_while_never_asks_at_first
+        // so does a wait for an empty transmitter
         ensures { MadeWhile P.answers B.step (λ said. FlushesWhile said result)
             patience.old patience.new self.old self.new }
     {

@@ -81,6 +81,10 @@ fn device_at(table: &[u8], at: usize) -> Result<Option<PortDescription>, TableEr
 /// assert_eq!(rt; read_dbg2(&[]), Err(error));
 /// ```
 pub fn read_dbg2(bytes: &[u8]) -> Result<PortDescription, TableError>
+    // promise: a port of a table DBG2 is one of its devices, a serial port with the interface of a
+    //   16550
+    // with: read_dbg2.table, read_dbg2.port
+    // shown by: dbg2_says_the_first_16550
     ensures table { IfOk result (λ port. IsTable DBG2 bytes.now) }
     ensures port { IfOk result (SaysPort (table_of bytes.now)) }
 {

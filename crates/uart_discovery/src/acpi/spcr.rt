@@ -135,6 +135,11 @@ fn interrupt_of(table: &[u8]) -> Option<Interrupt>
 /// assert_eq!(rt; read_spcr(&[]), Err(error));
 /// ```
 pub fn read_spcr(bytes: &[u8]) -> Result<PortDescription, TableError>
+    // promise: a port of a table SPCR is the one that stands at the offsets of the format, in a
+    //   whole table whose sum is right; what is wrong is so, at the offset that is told
+    // with: read_spcr.table, read_spcr.port, read_spcr.err
+    // shown by: spcr_says_com1, spcr_says_each_baud_rate, spcr_says_what_is_wrong_and_where
+    // refused: a_table_with_another_sum_is_taken
     ensures table { IfOk result (λ port. IsTable SPCR bytes.now) }
     ensures port { IfOk result (SaysPort (table_of bytes.now)) }
     ensures err { IfErr result (IsFault bytes.now) }

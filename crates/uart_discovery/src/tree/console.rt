@@ -210,6 +210,12 @@ pub fn read_tree_node(
 /// assert_eq!(rt; found, Err(TreeError::Magic));
 /// ```
 pub fn read_device_tree(blob: &[u8], native: ByteOrder) -> Result<PortDescription, TreeError>
+    // promise: a port of a device tree is in memory, its registers a power of two apart, and a bus
+    //   moves an address only by a range that has it. That the port is the tree's only the tests
+    //   show, over the trees of emulated boards
+    // with: read_device_tree.memory, read_tree_node.memory, translated
+    // shown by: emulated_boards_say_their_ports, a_tree_says_a_port_behind_two_buses
+    // refused: a_bus_moves_an_address_behind_its_range
     ensures tree { IfOk result (λ port. IsBlob blob.now) }
     ensures memory { IfOk result (λ port. IsInMemory port) }
 {

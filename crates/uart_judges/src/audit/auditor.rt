@@ -132,6 +132,9 @@ pub type Findings = [Option<Finding>; 16];
 impl Auditor {
     /// Returns a judge that was given nothing.
     pub fn new() -> Self
+        // proved: What is known after a list of entries is what its definition, over the whole
+        //   list, says: after `new` of none, and after each `step` of one more
+        // on: `Auditor::new`, `Auditor::step`: `known`
         ensures { result ≡ known [] }
     {
         Auditor {
@@ -228,8 +231,17 @@ impl Auditor {
 
     /// Goes on by one entry of a recording, and returns the findings at it, each in its place.
     pub fn step(&mut self, entry: &Entry) -> Findings
+        // promise: the findings in a recording are exactly those that are defined
+        // with: step, severity
+        // shown by: each_kind_is_found_alone, no_cut_makes_a_fault
+        // refused: an_access_is_forgotten
+        // proved: The findings at an entry are exactly those that are defined, each in its place,
+        //   from what the entries before it show
+        // on: `Auditor::step`: `findings`
+        // if: the judge knows what these entries say
         ensures findings { (past : List Entry) → self.old ≡ known past →
             result ≡ findings_at entry.now past }
+        // if: the judge knows what these entries say
         ensures known { (past : List Entry) → self.old ≡ known past →
             self.new ≡ known (entry.now ∷ past) }
     {

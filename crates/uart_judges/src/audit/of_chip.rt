@@ -180,6 +180,9 @@ impl Auditor {
 impl ChipAuditor {
     /// Returns a judge that was given nothing.
     pub fn new() -> Self
+        // proved: The answers that a judge of the chip alone finds are, in order, those among the
+        //   findings of `Auditor::step` ([`OfChip`](specs/OfChip.antt))
+        // on: `ChipAuditor::new`, `ChipAuditor::step`
         ensures { result.seen ≡ spec.for_chip (known []) }
     {
         ChipAuditor {
@@ -191,8 +194,10 @@ impl ChipAuditor {
     /// contradicts, each in its place: of the findings of an [`Auditor`], those that are answers,
     /// in order.
     pub fn step(&mut self, entry: &Entry) -> Answers
+        // if: the judge knows what these entries say of the chip
         ensures answers { (past : List Entry) → self.old.seen ≡ spec.for_chip (known past) →
             spec.present result ≡ spec.answers_in (findings_at entry.now past) }
+        // if: the judge knows what these entries say of the chip
         ensures seen { (past : List Entry) → self.old.seen ≡ spec.for_chip (known past) →
             self.new.seen ≡ spec.for_chip (known (entry.now ∷ past)) }
     {

@@ -62,6 +62,8 @@ pub fn verify(
     limit: NonZeroU64,
     fifo_size: FifoSize,
 ) -> Result<Vec<u8>, VerifyError>
+    // proved: `verify` prints nothing if each list of a trace is one that its call makes, and else
+    //   the line of the first stray; a fault and too many bytes are refused
     ensures long { MOST_TRACE_BYTES < length bytes.now → result ≡ Err VerifyError.TooLong }
     ensures read { length bytes.now ≤ MOST_TRACE_BYTES → MatchResult result
         (λ line. IsVerified (new_driver (non_zero_u64_get limit) fifo_size) bytes.now line.items)

@@ -357,6 +357,8 @@ fn said_in(number: u64, line: &[u8]) -> Result<RecordingLine, Cause>
 ///
 /// What is wrong with the line.
 pub fn line_in(number: u64, line: &[u8]) -> Result<RecordingLine, RecordingFault>
+    // proved: A line means what [`says`](specs/RecordingLines.antt) has, or is refused for its
+    //   first cause
     ensures read { result ≡ says number line.now }
     ensures entry { IfOk result (HasEntry number) }
 {

@@ -122,6 +122,11 @@ impl<R: Read + Drop> Recording<R> {
     /// wrong with it.
     /// - `Unread` if the reader failed.
     pub fn next_entry(&mut self) -> Result<Option<Entry>, RecordingError>
+        // proved: The lines that are read are those of the reader's bytes, each once and in order,
+        //   in whatever pieces these come ([`IsNext`](specs/Streams.antt))
+        // on: `Recording::next_entry`
+        // proved: A fault has the number of the latest line
+        // on: `Recording::next_entry`
         ensures next { IsNext self.old.place (ahead self.old.window (R.remaining self.old.reader))
             result self.new.place (ahead self.new.window (R.remaining self.new.reader)) }
         ensures line { IfErr result (IsAtLine self.new.place.number) }

@@ -39,9 +39,16 @@ impl Replayer {
     /// The value of a read that was reported is then left out: what follows is compared as if it
     /// were not known.
     pub fn read(&mut self, offset: usize, value: u8) -> Option<Difference>
+        // promise: a read of a chip that is reported has no explanation under any schedule
+        // with: read.sound
+        // shown by: line_status, latches
+        // refused: reported_read_is_believed
+        // proved: Which rule is reported, and what is known after each access
+        // on: `Replayer::read`, clauses `exact` and `after`; `Replayer::write`
         ensures exact { result ≡ difference offset value self.old.known }
         ensures after { self.new.known ≡
             known_after self.old.known (seen_read (is_some result) offset value) }
+        // if: what is known is what these accesses say of such a chip
         ensures sound { IsSome result → (model : Chip) → (start : Start) → (seen : List Seen) →
             self.old.known ≡ known_from (spec.first_known model start) seen →
             NoneReturns model start seen offset value }
@@ -69,6 +76,8 @@ impl Replayer {
     ///
     /// [`read`]: Replayer::read
     pub fn reads(&mut self, offset: usize, value: u8, times: u64) -> Reported
+        // proved: Of equal reads in turn, the same of each
+        // on: `Replayer::reads`
         ensures exact { each_of times result ≡ differences times offset value self.old.known }
         ensures after { self.new.known ≡ known_reads times offset value self.old.known }
         ensures sound { (model : Chip) → (start : Start) → (seen : List Seen) →

@@ -111,6 +111,10 @@ pub fn judge<'a>(
     limit: NonZeroU64,
     fifo_size: FifoSize,
 ) -> Result<Option<Stray<'a>>, AllocError>
+    // promise: a trace is accepted exactly if the driver can make it, else its first stray is told
+    // with: judge.calls, judge.first
+    // shown by: no_call_runs_on_beyond_its_list
+    // refused: judge_accepts_what_strays, stray_is_one_access_early
     ensures calls { IfOk result (λ stray. IsNone stray ↔
         AreCalls (new_driver (non_zero_u64_get limit) fifo_size) fresh_fields trace.now) }
     ensures first { IfOk result (λ stray. IfSome stray

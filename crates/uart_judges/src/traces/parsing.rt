@@ -127,6 +127,9 @@ fn read_trace(alloc: Global, bytes: &[u8]) -> Result<Vec<Exchange>, TraceError>
 ///   without an answer is a fault of its own line.
 /// - `OutOfMemory` if memory could not be allocated.
 pub fn parse(alloc: Global, bytes: &[u8]) -> Result<Vec<Exchange>, TraceError>
+    // proved: What the bytes of a trace mean: its calls, each with its accesses, its answer, and
+    //   the numbers of their lines. `parse` returns them only if the bytes are that trace, and
+    //   refuses only with the first fault and its line; and a trace has no fault
     ensures read { MatchResult result (λ xs. IsTrace bytes.now xs.items)
         (Refuses (fault_of bytes.now)) }
     // no trace is refused

@@ -33,6 +33,9 @@ fn push_byte(out: &mut Vec<u8>, byte: u8) -> Result<(), AllocError>
 
 /// Appends an access as a trace has it, without the end of its line.
 pub fn push_access(out: &mut Vec<u8>, access: Access) -> Result<(), AllocError>
+    // proved: How an access is printed, and of a stray its line, what is in it, and what the driver
+    //   does there
+    // on: `push_access`, `push_stray`
     ensures { OnOk result (out.new.items ≡ out.old.items ++ access_text access) }
 {
     match access {

@@ -25,6 +25,11 @@ impl LiveChipWith<FIFO_SIZE> {
     /// ```
     #[tactic(auto, unfolding(crate::specs::Size::fifo_size))]
     pub fn data(&self) -> ChipData
+        // proved: A chip that is restored from its data equals the one that was saved; data are
+        //   refused exactly if they are not those of a live chip, or of a wire with room for more
+        //   than 64 bytes
+        // on: `LiveChip::data`; `from_data`, clauses `restored`, `refused`, `large` and `accepted`;
+        //   `sound::is_live`
         ensures data { chip_of result self.now.transmitter.wire ≡ self.now }
         ensures live { IsLive Sixteen self.now }
     {
@@ -48,7 +53,13 @@ impl LiveChipWith<FIFO_SIZE> {
     /// ```
     #[tactic(auto, unfolding(crate::specs::Size::fifo_size))]
     pub fn from_data(saved: &ChipData, wire: &[u8]) -> Result<Self, RestoreError>
+        // promise: a restored chip equals the saved one, and other data are refused
+        // with: from_data.restored, from_data.refused
+        // shown by: a_restored_chip_behaves_as_the_saved_one, only_data_of_a_live_chip_are_restored
+        // refused: any_data_is_restored, restored_with_an_empty_wire
         ensures restored { IfOk result (λ live. live ≡ chip_of saved.now wire.now) }
+        // if: the saved chip is not sound as a live chip is, or has something of a schedule, or
+        //   FIFOs of another size than 16
         ensures refused { (IsLive Sixteen (chip_of saved.now wire.now) → ⊥) →
             result ≡ Err RestoreError.BadData }
         ensures large { IsLive Sixteen (chip_of saved.now wire.now) →

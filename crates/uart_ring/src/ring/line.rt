@@ -32,6 +32,10 @@ impl<B: Backend> Uart16550Ring<B> {
     /// let lowered = ring.lower_line(4 * MAX_INTERRUPTS, MAX_UNFINISHED_ROUNDS);
     /// ```
     pub fn lower_line(&mut self, limit: usize, rounds: u32) -> Lowered
+        // proved: `lower_line` does what `try_handle` does, reads IER, and disables all interrupts;
+        //   it returns what was handled and what was enabled. `raise_line` enables what it is
+        //   given, unless the chip is stuck
+        // on: `lower_line`, `raise_line`
         ensures { RingDid B.step (LowersLine limit rounds result) self.old self.new }
     {
         let handled = self.try_handle(limit, rounds);

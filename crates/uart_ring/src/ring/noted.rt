@@ -91,6 +91,9 @@ impl<B: Backend> Uart16550Ring<B> {
         notes: &ErrorNotes<N>,
         slots: &mut [Received],
     ) -> Result<usize, UnnotedError>
+        // promise: bytes that are copied with notes beside the rings have the same errors, and stay
+        // shown by: bytes_are_copied_with_their_errors_and_stay
+        // refused: copy_with_notes_has_bytes_as_errors
         ensures count { IfOk result (λ count. count ≡ min (length slots.old)
             (length (ring_fields self.now).receive.items)) }
         ensures bytes { IfOk result (λ count. bytes_of (take count slots.new) ≡
@@ -98,6 +101,7 @@ impl<B: Backend> Uart16550Ring<B> {
         ensures errors { IfOk result (λ count. errors_of (take count slots.new) ≡
             take count (errors_among notes.now.noted.items self.now)) }
         ensures rest { IfOk result (λ count. drop count slots.new ≡ drop count slots.old) }
+        // if: the errors of all bytes in the ring are noted
         ensures noted { unnoted_among notes.now.noted.items self.now ≡ 0 → is_ok result ≡ true }
         ensures all_noted { IfOk result (λ count.
             unnoted_among notes.now.noted.items self.now ≡ 0) }
@@ -129,9 +133,10 @@ impl<B: Backend> Uart16550Ring<ErrorNotes<B>> {
     ///
     /// With the FIFO on, the parity error, the framing error and the break of a byte are exactly
     /// those of its character. An overrun tells that a character was lost, and on which side of the
-    /// byte: right behind the 15th or the 16th character from this byte on, counted through the
-    /// bytes of the receive ring and then those in the chip. Without a FIFO, a character that comes
-    /// between the look and the read of its byte replaces the one that was shown.
+    /// byte: right behind as many characters from this byte on as the FIFO holds, or one fewer, so
+    /// with a FIFO of 16 behind the 15th or the 16th. They are counted through the bytes of the
+    /// receive ring and then those in the chip. Without a FIFO, a character that comes between the
+    /// look and the read of its byte replaces the one that was shown.
     ///
     /// Over the software chip with its FIFO on this is proved, after any calls of the rings
     /// themselves. It begins with the first look at LSR since the notes were made or the receiver
@@ -158,6 +163,17 @@ impl<B: Backend> Uart16550Ring<ErrorNotes<B>> {
     /// }
     /// ```
     pub fn take_with_errors(&mut self, slots: &mut [Received]) -> Result<usize, UnnotedError>
+        // promise: a byte that is taken from the rings with its errors has what LSR has shown since
+        //   the byte before it was read, whoever looked; over the chip with the FIFO on these are
+        //   exactly those of its character, and an overrun tells behind which character one was
+        //   lost, after any calls of the rings themselves
+        // with: take_with_errors, NotesErrors.noted, noted_errors_are_exact,
+        //   init_leaves_notes_in_step, AreTheirs, IsLostBehind.older
+        // shown by: each_byte_has_the_errors_of_its_character, a_break_stands_at_its_byte,
+        //   an_overrun_stands_where_a_character_was_lost,
+        //   an_overrun_before_an_init_stands_at_no_byte_after_it
+        // refused: take_with_errors_takes_the_oldest_notes, a_note_is_of_the_last_look_alone,
+        //   a_note_has_an_overrun_of_before_a_reset
         ensures did { IfOk result (λ count. RingDid (NotesErrors B.step)
             (TakesBytes (length slots.old) (bytes_of (take count slots.new)))
             self.old self.new) }
@@ -166,6 +182,7 @@ impl<B: Backend> Uart16550Ring<ErrorNotes<B>> {
         ensures errors { IfOk result (λ count.
             errors_of (take count slots.new) ≡ take count (errors_in self.old)) }
         ensures rest { IfOk result (λ count. drop count slots.new ≡ drop count slots.old) }
+        // if: the errors of all bytes in the ring are noted
         ensures noted { unnoted_in self.old ≡ 0 → is_ok result ≡ true }
         ensures all_noted { IfOk result (λ count. unnoted_in self.old ≡ 0) }
         ensures refused { IfErr result (λ error.

@@ -172,6 +172,12 @@ impl<B: Backend> Uart16550Ring<B> {
     /// ring.adjust_rts(MARKS);
     /// ```
     pub fn adjust_rts(&mut self, marks: ReceiveMarks)
+        // promise: RTS goes off below the one mark and on from the other, and nothing else changes
+        // with: adjust_rts, ring_calls_lose_nothing.adjust_rts, ring_calls_leave_armed.adjust_rts,
+        //   RingConserves.wired
+        // shown by: rts_follows_the_room, marks_the_wrong_way_round
+        // refused: adjust_rts_holds_back_one_late, adjust_rts_holds_back_a_full_ring_alone,
+        //   adjust_rts_lets_a_full_ring_go_on, adjust_rts_never_lets_go_on
         ensures { RingDid B.step (AdjustsRts marks) self.old self.new }
     {
         if let Some(on) = self.may_send(marks) {
@@ -222,6 +228,13 @@ impl<B: Backend> Uart16550Ring<B> {
     /// ring.adjust_xoff(MARKS);
     /// ```
     pub fn adjust_xoff(&mut self, marks: ReceiveMarks) -> Option<u8>
+        // promise: XOFF is told once below the one mark, and XON once from the other on, before all
+        //   that waits, and no urgent byte is lost for it
+        // with: adjust_xoff, adjust_xoff_is_a_ring_call.loses_only,
+        //   adjust_xoff_is_a_ring_call.leaves_armed, RingConserves.in_line
+        // shown by: xoff_follows_the_room, xoff_waits_for_an_urgent_byte
+        // refused: adjust_xoff_replaces_an_urgent_byte, adjust_xoff_tells_nothing_but_xoff,
+        //   adjust_xoff_tells_the_same_again
         ensures { RingDid B.step (AdjustsXoff marks result) self.old self.new }
     {
         let on = self.may_send(marks)?;
@@ -271,6 +284,15 @@ impl<B: Backend> Uart16550Ring<B> {
     /// ring.obey_xoff();
     /// ```
     pub fn obey_xoff(&mut self) -> Option<u8>
+        // promise: the last XOFF or XON that came holds the transmit ring or releases it, each is
+        //   obeyed once, and no received byte is lost or moved for it
+        // with: obey_xoff, obey_xoff_is_a_ring_call.holds, obey_xoff_is_a_ring_call.loses_nothing,
+        //   obey_xoff_is_a_ring_call.leaves_armed
+        // shown by: an_xoff_of_the_other_end_is_obeyed,
+        //   a_character_is_obeyed_once_and_not_if_it_was_taken,
+        //   an_end_that_obeys_xoff_sends_nothing_meanwhile
+        // refused: obey_xoff_goes_on_at_xoff, obey_xoff_obeys_the_same_again,
+        //   obey_xoff_passes_over_what_came_before_the_last_burst
         ensures { RingDid B.step (ObeysXoff result) self.old self.new }
     {
         let told = self.last_told();

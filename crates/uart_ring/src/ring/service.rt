@@ -104,6 +104,9 @@ impl<B: Backend> Uart16550Ring<B> {
     /// let served = ring.service();
     /// ```
     pub fn service(&mut self) -> usize
+        // proved: If the receive ring is full, the DATA_READY interrupt is disabled and bytes stay
+        //   in the chip, until a `take` makes room
+        // on: `service`, `handle`, `take`, `is_paused`
         ensures did { RingDid B.step (Services result) self.old self.new }
         ensures count { result ≤ MAX_INTERRUPTS }
     {
@@ -136,6 +139,7 @@ impl<B: Backend> Uart16550Ring<B> {
     /// ring.retrigger();
     /// ```
     pub fn retrigger(&mut self)
+        // proved: `retrigger` reads IER, and writes 0 and then what it read
         ensures { RingDid B.step Retriggers self.old self.new }
     {
         self.uart.retrigger_interrupts();

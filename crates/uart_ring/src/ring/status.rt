@@ -81,6 +81,8 @@ impl<B: Backend> Uart16550Ring<B> {
     /// let dump = self.ring.config_register_dump();
     /// ```
     pub fn config_register_dump(&mut self) -> ConfigRegisterDump
+        // proved: `config_register_dump` reads all registers, as the driver's does, and then sends
+        //   bytes that wait, as `resume_transmit` does
         ensures { RingDid B.step (DumpsRegisters result) self.old self.new }
     {
         let dump = self.uart.config_register_dump();

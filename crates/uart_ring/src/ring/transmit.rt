@@ -115,6 +115,16 @@ impl<B: Backend> Uart16550Ring<B> {
     /// &message[count..]
     /// ```
     pub fn queue(&mut self, bytes: &[u8]) -> usize
+        // promise: `queue` and `take` move exactly as many bytes as there is room for, or as there
+        //   are
+        // with: queue.count, take.count, take.rest
+        // shown by: a_queue_without_room
+        // refused: queue_accepts_nothing
+        // proved: Which accesses a ring call makes, by the lists of the driver's own calls, what it
+        //   returns for them, and what is then in the rings: a byte leaves the transmit ring when
+        //   it was written to the chip, and what was received is taken in order
+        // on: `queue`, `resume_transmit`, `take`, `service`, `handle`, `retrigger`, `take_line`,
+        //   `take_modem`
         ensures did { RingDid B.step (Queues bytes.now result) self.old self.new }
         ensures count { result ≡ min (length bytes.now) (free (ring_fields self.old).transmit) }
     {
@@ -169,6 +179,11 @@ impl<B: Backend> Uart16550Ring<B> {
     /// ring.hold_transmit();
     /// ```
     pub fn hold_transmit(&mut self)
+        // promise: a held ring hands over the urgent byte alone, and a release leaves an interrupt
+        //   to come
+        // with: hold_transmit, release_transmit, ring_calls_leave_armed.release_transmit
+        // shown by: a_held_ring
+        // refused: a_held_ring_sends, release_transmit_holds_a_ring_with_bytes
         ensures { RingDid B.step Holds self.old self.new }
     {
         self.is_held = true;
@@ -261,6 +276,9 @@ impl<B: Backend> Uart16550Ring<B> {
     /// }
     /// ```
     pub fn take_low(&mut self) -> bool
+        // proved: `take_low` tells whether the transmit ring fell from above the low mark to the
+        //   mark or below since it was last called
+        // on: `take_low`, `set_low_mark`, and each call that sends or drops
         ensures { RingDid B.step (TakesLow result) self.old self.new }
     {
         let low = self.is_low;

@@ -35,8 +35,12 @@ use Rattle.uart_run.specs.Progress.{HasDivisor, IsTimely, HasRoom, left, IsUnhel
 use Rattle.uart_run.proofs.Latches.{Kept, kept_access}
 use Rattle.uart_chip.proofs.conservation.BlockLaws.{path_as}
 use Rattle.uart_run.proofs.Pieces.{then_parts, next_stages}
-use Rattle.uart_run.proofs.progress.Nearing.{RunsFree, free_runs, free-path, free-latch}
-use Rattle.uart_run.proofs.SilentLists.{IsSilent, silent_presence, silent_sets_fifo, silent_drains}
+use Rattle.uart_run.proofs.progress.Nearing.{RunsWith, free_runs, free-path, free-latch}
+use Rattle.uart_run.proofs.SilentLists.{is_no_data, silent}
+use Rattle.uart_run.proofs.built.Words.{Kinds, Built, all_pass, leaves_limit}
+use Rattle.uart_run.proofs.built.Init.{checks_presence, sets_fifo, drains_receiver}
+use Rattle.uart_run.proofs.built.SettingUp as built
+use Rattle.uart_run.proofs.built.SettingUp.{ChecksAndSets}
 use Rattle.uart_run.proofs.progress.WaitEnds.{no_stall-empty}
 use Rattle.uart_run.proofs.NeverSwitched.{begins_stay}
 use Rattle.uart_run.proofs.SizeKept.{left_ever}
@@ -48,7 +52,8 @@ use Rattle.uart_run.proofs.initialising.Inits.{begun}
 -- ---- up to the wait
 
 -- the divisor latch is written under DLAB, so nothing is sent
-pub free-line : (divisor frame : ℕ) (m n : MachineState) → RunsFree m → Path MachineStep m (line_writes divisor frame) n → RunsFree n
+pub free-line : {more : ℕ} (divisor frame : ℕ) (m n : MachineState) → RunsWith more m →
+    Path MachineStep m (line_writes divisor frame) n → RunsWith more n
 free-line divisor frame m n r (m₁, s₁, (m₂, s₂, (m₃, under, (m₄, latch, rest)))) =
     let a = free-path (Write offsets.LCR 0 ∷ Write offsets.IER 0 ∷ Write offsets.LCR LCR.DLAB.0 ∷ []) m m₃ r (refl, (refl, (refl, tt)))
     (m₁, s₁, (m₂, s₂, (m₃, under, refl))) in
@@ -60,70 +65,56 @@ free-line divisor frame m n r (m₁, s₁, (m₂, s₂, (m₃, under, (m₄, lat
     (refl, (refl, (refl, tt))) rest
 
 -- a list that sends nothing
-pub free-list : (s : Settings) (L : Language) (l : List Access) (m n : MachineState) → IsSilent s L → RunsFree m → L s l →
-    Path MachineStep m l n → RunsFree n
-free-list s L l m n silent r t path = free-path l m n r (silent l t) path
+pub free-list : {more : ℕ} {kinds : Kinds} {L : Language} → Built kinds L → all_pass is_no_data kinds.writes ≡ true → (s : Settings)
+    (l : List Access) (m n : MachineState) → RunsWith more m → L s l → Path MachineStep m l n → RunsWith more n
+free-list p all s l m n r t path = free-path l m n r (silent p all s l t) path
 
 -- the presence check, the line and the FIFO step
-abbrev SetsUp : Config → ℕ → Bool → Language
-SetsUp config divisor fifo =
-    Then (ChecksPresence true) (Then (Only (line_writes divisor (frame_bits config))) (SetsFifo config.fifo_trigger_level fifo))
-
-free-set_up : (config : Config) (divisor : ℕ) (fifo : Bool) (s : Settings) (l : List Access) (m n : MachineState) → RunsFree m →
-    SetsUp config divisor fifo s l → Path MachineStep m l n → RunsFree n
+free-set_up : {more : ℕ} (config : Config) (divisor : ℕ) (fifo : Bool) (s : Settings) (l : List Access) (m n : MachineState) →
+    RunsWith more m → ChecksAndSets config divisor fifo s l → Path MachineStep m l n → RunsWith more n
 free-set_up config divisor fifo s l m n r t path =
     let frame = frame_bits config in
     let level = config.fifo_trigger_level in
     let p = then_parts (ChecksPresence true) (Then (Only (line_writes divisor frame)) (SetsFifo level fifo)) s l m n t path in
     let q = then_parts (Only (line_writes divisor frame)) (SetsFifo level fifo) s p.back p.between n p.second p.after in
-    let a = free-list s (ChecksPresence true) p.front m p.between (silent_presence s) r p.first p.before in
+    let a = free-list (checks_presence true) refl s p.front m p.between r p.first p.before in
     let b = free-line divisor frame p.between q.between a
     (path_as p.between q.between q.front (line_writes divisor frame) q.first.is q.before) in
-    free-list s (SetsFifo level fifo) q.back q.between n (silent_sets_fifo s level fifo) b q.second q.after
+    free-list (sets_fifo level fifo) refl s q.back q.between n b q.second q.after
 
 -- the drain and MCR
-pub free-drained : (outputs : ℕ) (f mid : Fields) (l : List Access) (m n : MachineState) → RunsFree m →
-    Next (Plain DrainsReceiver) (Saving (Only (Write offsets.MCR outputs ∷ []))) f l mid → Path MachineStep m l n → RunsFree n
+pub free-drained : {more : ℕ} (outputs : ℕ) (f mid : Fields) (l : List Access) (m n : MachineState) → RunsWith more m →
+    Next (Plain DrainsReceiver) (Saving (Only (Write offsets.MCR outputs ∷ []))) f l mid → Path MachineStep m l n → RunsWith more n
 free-drained outputs f mid l m n r t path =
     let a = next_stages (Plain DrainsReceiver) (Saving (Only (Write offsets.MCR outputs ∷ []))) f mid l m n t path in
-    let b = free-list (settings_of f) DrainsReceiver a.parts.front m a.parts.between (silent_drains (settings_of f)) r
-    a.parts.first.0 a.parts.before in
+    let b = free-list drains_receiver refl (settings_of f) a.parts.front m a.parts.between r a.parts.first.0 a.parts.before in
     free-path (Write offsets.MCR outputs ∷ []) a.parts.between n b (refl, tt)
     (path_as a.parts.between n a.parts.back (Write offsets.MCR outputs ∷ []) a.parts.second.0.is a.parts.after)
 
 -- fields that are set make no access
-pub free-sets : (change : Fields → Fields) (H : Doing) (f after : Fields) (l : List Access) (m n : MachineState) →
+pub free-sets : {more : ℕ} (change : Fields → Fields) (H : Doing) (f after : Fields) (l : List Access) (m n : MachineState) →
     Next (Sets change) H f l after → Path MachineStep m l n →
-    ((mid : Fields) (back : List Access) → H mid back after → Path MachineStep m back n → RunsFree n) → RunsFree n
+    ((mid : Fields) (back : List Access) → H mid back after → Path MachineStep m back n → RunsWith more n) → RunsWith more n
 free-sets change H f after l m n t path next =
     let whole : l ≡ t.back = t.whole ∙ ap (λ zs. zs ++ t.back) t.first.0 in
     next t.mid t.back t.second (path_as m n l t.back whole path)
 
-free-begins : (config : Config) (divisor : ℕ) (fifo : Bool) (f mid : Fields) (l : List Access) (m n : MachineState) → RunsFree m →
-    Begins config divisor fifo f l mid → Path MachineStep m l n → RunsFree n
-free-begins config divisor fifo f mid l m n r t path =
-    free-sets (with_config config) (Next (Saving (SetsUp config divisor fifo)) known) f mid l m n t path set_up
+pub free-begins : {more : ℕ} (config : Config) (divisor : ℕ) (fifo : Bool) (f mid : Fields) (l : List Access) (m n : MachineState) →
+    RunsWith more m → Begins config divisor fifo f l mid → Path MachineStep m l n → RunsWith more n
+free-begins {more} config divisor fifo f mid l m n r t path =
+    free-sets (with_config config) (Next (Saving (ChecksAndSets config divisor fifo)) known) f mid l m n t path set_up
   where
     known : Doing
     known = Next (Sets (with_fifo fifo)) (Next (Plain DrainsReceiver) (Saving (Only (Write offsets.MCR raised_outputs ∷ []))))
 
-    set_up : (g : Fields) (k : List Access) → Next (Saving (SetsUp config divisor fifo)) known g k mid → Path MachineStep m k n → RunsFree n
+    set_up : (g : Fields) (k : List Access) → Next (Saving (ChecksAndSets config divisor fifo)) known g k mid → Path MachineStep m k n →
+        RunsWith more n
     set_up g k u p =
-        let a = next_stages (Saving (SetsUp config divisor fifo)) known g mid k m n u p in
+        let a = next_stages (Saving (ChecksAndSets config divisor fifo)) known g mid k m n u p in
         let b = free-set_up config divisor fifo (settings_of g) a.parts.front m a.parts.between r a.parts.first.0 a.parts.before in
         free-sets (with_fifo fifo) (Next (Plain DrainsReceiver) (Saving (Only (Write offsets.MCR raised_outputs ∷ [])))) a.mid mid
         a.parts.back a.parts.between n a.parts.second a.parts.after
         (λ h back w q. free-drained raised_outputs h mid back a.parts.between n b w q)
-
--- the limit stays
-limit-begins : (config : Config) (divisor : ℕ) (fifo : Bool) (f mid : Fields) (l : List Access) → Begins config divisor fifo f l mid →
-    mid.limit ≡ f.limit
-limit-begins config divisor fifo f mid l b =
-    let at : Fields → ℕ = λ g. g.limit in
-    let c = b.second in
-    let d = c.second in
-    let e = d.second in
-    ap at e.second.1 ∙ (ap at e.first.1 ∙ (ap at d.first.1 ∙ (ap at c.first.1 ∙ ap at b.first.1)))
 
 -- ---- a configuration with a divisor is not refused for its baud rate
 
@@ -152,7 +143,8 @@ no_stall-init s t config divisor fifo l w timely room does path =
     let n = a.parts.between in
     let b = free-begins config divisor fifo f a.mid a.parts.front (machine_of s) n
     (record { sound = w; ticked = timely.ticked; room = room }) a.parts.first a.parts.before in
-    let few : left n.chip.transmitter < a.mid.limit = rw (limit-begins config divisor fifo f a.mid a.parts.front a.parts.first)
+    let few : left n.chip.transmitter < a.mid.limit =
+    rw (leaves_limit (built.begins config divisor fifo) f a.parts.front a.mid a.parts.first)
     (few_left s a.parts.front n w timely
     (left_ever (machine_of s) a.parts.front (begins_stay config divisor fifo f a.parts.front a.mid a.parts.first)) a.parts.before) in
     let set = begun config divisor fifo f a.mid a.parts.front (machine_of s) n w a.parts.first a.parts.before in

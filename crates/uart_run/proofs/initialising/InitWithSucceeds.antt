@@ -8,7 +8,6 @@ use Rattle.uart_spec.specs.declared.errors.FrameError.TheVariants as frame_error
 use Rattle.uart_spec.specs.declared.errors.InitError.{InitError}
 use Rattle.uart_spec.specs.declared.errors.InitError.TheVariants.{InvalidBaudRate, DeviceNotPresent, Stalled}
 use Rattle.uart_spec.specs.declared.registers.offsets.TheConstants as offsets
-use Rattle.uart_spec.specs.declared.registers.line_status.TheConstants.LSR
 use Rattle.uart_spec.specs.declared.setup.Setup.{Setup}
 use Rattle.uart_spec.specs.Access.{Path}
 use Rattle.uart_spec.specs.declared.access.Access.{Access}
@@ -28,13 +27,16 @@ use Rattle.uart_chip.specs.Sound.{IsSound}
 use Rattle.uart_calls.specs.Meaning.{init_answer, frame_when_idle_answer}
 use Rattle.uart_run.specs.Run.{State, machine_of, CallStep}
 use Rattle.uart_run.specs.Progress.{HasDivisor, IsTimely, HasRoom, left, IsUnheld, StaysUnheld}
+use Rattle.uart_chip.proofs.lasting.Flows.{flow-path}
 use Rattle.uart_chip.proofs.conservation.BlockLaws.{path_as}
-use Rattle.uart_run.proofs.ListsInTurn.{all_only, all_then, all_few}
 use Rattle.uart_run.proofs.Pieces.{then_parts, next_stages}
 use Rattle.uart_run.proofs.progress.Nearing.{Runs, RunsFree, free_runs}
-use Rattle.uart_run.proofs.SilentLists.{IsSilent, silence, silent_asks, silent_presence, silent_sets_fifo}
+use Rattle.uart_run.proofs.built.Init as init_lists
+use Rattle.uart_run.proofs.built.SettingUp as built
+use Rattle.uart_run.proofs.built.Words.{leaves_limit}
 use Rattle.uart_run.proofs.progress.WaitEnds.{no_stall-empty}
-use Rattle.uart_run.proofs.NeverSwitched.{never_ever, unwritten, checks_never, looks_stay, sets_up_stays}
+use Rattle.uart_run.proofs.NeverSwitched.{never_ever, unwritten, never, looks_stay, sets_up_stays}
+use Rattle.uart_spec.specs.declared.registers.offsets.TheConstants as offsets
 use Rattle.uart_run.proofs.SizeKept.{left_ever}
 use Rattle.uart_run.proofs.progress.Succeeds.{few_left, runs, settings_at}
 use Rattle.uart_run.proofs.initialising.InitSucceeds.{free-line, free-list, free-drained, free-sets, no_refusal}
@@ -45,23 +47,8 @@ use Rattle.uart_chip.proofs.AutoFlow.{cleared_off}
 use Rattle.uart_chip.proofs.Bits.{has_and}
 use Rattle.uart_chip.proofs.McrBits.{flow_bit}
 use Rattle.uart_chip.proofs.soundness.Sounds.{sound_path}
-use Rattle.uart_run.proofs.Latches.{Kept, flow_path}
+use Rattle.uart_run.proofs.Latches.{Kept}
 use Rattle.uart_run.proofs.initialising.SetUp.{checks_if, placed}
-
--- ---- what comes before a wait
-
-silent_checks_if : (v : Settings) (asked : Bool) → IsSilent v (ChecksIf asked true)
-silent_checks_if v true = silent_presence v
-silent_checks_if v false = all_only silence v [] tt
-
-silent_waits_if : (v : Settings) (asked : Bool) → IsSilent v (WaitsIf asked true)
-silent_waits_if v true =
-    all_then silence v _ _ (all_few silence v _ (silent_asks v offsets.LSR LSR.TRANSMITTER_EMPTY.0 false))
-    (silent_asks v offsets.LSR LSR.TRANSMITTER_EMPTY.0 true)
-silent_waits_if v false = all_only silence v [] tt
-
-silent_looks : (v : Settings) (setup : Setup) → IsSilent v (Looks setup true)
-silent_looks v setup = all_then silence v _ _ (silent_checks_if v setup.checks_presence) (silent_waits_if v (is_first setup.wait))
 
 free-set : (setup : Setup) (config : Config) (divisor : ℕ) (fifo : Bool) (f mid : Fields) (l : List Access) (m n : MachineState) →
     RunsFree m → SetsUp setup config divisor fifo f l mid → Path MachineStep m l n → RunsFree n
@@ -74,18 +61,9 @@ free-set setup config divisor fifo f mid l m n r t path =
     let v = settings_of f in
     let p = then_parts (Only line) (SetsFifo level fifo) v a.parts.front m a.parts.between a.parts.first.0 a.parts.before in
     let b = free-line divisor (frame_bits config) m p.between r (path_as m p.between p.front line p.first.is p.before) in
-    let c = free-list v (SetsFifo level fifo) p.back p.between a.parts.between (silent_sets_fifo v level fifo) b p.second p.after in
+    let c = free-list (init_lists.sets_fifo level fifo) refl v p.back p.between a.parts.between b p.second p.after in
     free-sets (with_fifo fifo) (Next (Plain DrainsReceiver) (Saving (Only (Write offsets.MCR outputs ∷ [])))) a.mid mid a.parts.back
     a.parts.between n a.parts.second a.parts.after (λ h back w q. free-drained outputs h mid back a.parts.between n c w q)
-
--- the limit stays
-limit-set : (setup : Setup) (config : Config) (divisor : ℕ) (fifo : Bool) (f mid : Fields) (l : List Access) →
-    SetsUp setup config divisor fifo f l mid → mid.limit ≡ f.limit
-limit-set setup config divisor fifo f mid l t =
-    let at : Fields → ℕ = λ g. g.limit in
-    let c = t.second in
-    let d = c.second in
-    ap at d.second.1 ∙ (ap at d.first.1 ∙ (ap at c.first.1 ∙ ap at t.first.1))
 
 -- the bit of automatic flow control is not kept
 outputs_off : (f : Bool) (outputs : ℕ) → (f && has_any outputs MCR.AUTO_FLOW.0) ≡ false →
@@ -129,12 +107,12 @@ no_stall-first setup config s t l w timely unheld room does path =
         let v = settings_of mid in
         let asked = setup.checks_presence in
         let p = then_parts (ChecksIf asked true) (WaitsIf (is_first setup.wait) false) v back (machine_of s) (machine_of t) u.0 q in
-        let r = free-list v (ChecksIf asked true) p.front (machine_of s) p.between (silent_checks_if v asked)
+        let r = free-list (init_lists.checks_if asked true) refl v p.front (machine_of s) p.between
         (record { sound = w; ticked = timely.ticked; room = room }) p.first p.before in
+        let unwritten_first = unwritten p.front (never offsets.FCR (init_lists.checks_if asked true) refl v p.front p.first) in
         let few : left p.between.chip.transmitter < mid.limit =
         subst (λ (n : ℕ). left p.between.chip.transmitter < n) (sym (ap (λ (g : Fields). g.limit) same))
-        (few_left s p.front p.between w timely
-        (left_ever (machine_of s) p.front (unwritten p.front (checks_never v asked true p.front p.first))) p.before) in
+        (few_left s p.front p.between w timely (left_ever (machine_of s) p.front unwritten_first) p.before) in
         let scratched = checks_if v asked p.front (machine_of s) p.between p.first p.before in
         let still : IsUnheld p.between =
         ap (λ (k : Kept). k.auto_flow && has_any k.latches.mcr MCR.AUTO_FLOW.0) scratched.kept ∙ unheld in
@@ -160,13 +138,14 @@ no_stall-last setup config divisor fifo s t l w timely unheld room does path =
         let b = next_stages (Saving (Looks setup true)) rest mid (fields (inner_of t)) back m n u q in
         let c = next_stages (SetsUp setup config divisor fifo) (Saving (WaitsIf (is_last setup.wait) false)) b.mid (fields (inner_of t))
         b.parts.back b.parts.between n b.parts.second b.parts.after in
-        let first = free-list (settings_of mid) (Looks setup true) b.parts.front m b.parts.between (silent_looks (settings_of mid) setup)
+        let first = free-list (init_lists.looks_first setup true) refl (settings_of mid) b.parts.front m b.parts.between
         (record { sound = w; ticked = timely.ticked; room = room }) b.parts.first.0 b.parts.before in
         let set = free-set setup config divisor fifo b.mid c.mid c.parts.front b.parts.between c.parts.between first c.parts.first
         c.parts.before in
         let at : Fields → ℕ = λ g. g.limit in
         let limit : c.mid.limit ≡ (fields (inner_of s)).limit =
-        limit-set setup config divisor fifo b.mid c.mid c.parts.front c.parts.first ∙ (ap at b.parts.first.1 ∙ ap at same) in
+        leaves_limit (built.sets_up setup config divisor fifo) b.mid c.parts.front c.mid c.parts.first
+        ∙ (ap at b.parts.first.1 ∙ ap at same) in
         let few : left c.parts.between.chip.transmitter < c.mid.limit =
         subst (λ (n : ℕ). left c.parts.between.chip.transmitter < n) (sym limit)
         (few_left s (b.parts.front ++ c.parts.front) c.parts.between w timely
@@ -177,7 +156,7 @@ no_stall-last setup config divisor fifo s t l w timely unheld room does path =
         let begun = sound_path b.parts.front m b.parts.between w b.parts.before in
         let put = placed setup config divisor fifo b.mid c.mid c.parts.front b.parts.between c.parts.between begun c.parts.first
         c.parts.before in
-        let same = flow_path b.parts.front m b.parts.between b.parts.before in
+        let same = flow-path b.parts.front m b.parts.between b.parts.before in
         let written = outputs_off b.parts.between.chip.auto_flow setup.outputs.0
         (ap (λ (f : Bool). f && has_any setup.outputs.0 MCR.AUTO_FLOW.0) same ∙ unheld.1) in
         let off : IsUnheld c.parts.between = cleared_off c.parts.between.chip

@@ -32,8 +32,10 @@ use Rattle.uart_run.proofs.SizeKept.{fits_kept}
 use Rattle.uart_run.proofs.Wired.{wired_path}
 use Rattle.uart_run.proofs.Pieces.{then_parts, next_stages}
 use Rattle.uart_run.proofs.initialising.Presence.{never_absent}
-use Rattle.uart_run.proofs.KeptLists.{keeps_waits, kept_still}
+use Rattle.uart_run.proofs.KeptLists.{kept_still}
+use Rattle.uart_run.proofs.built.Receive.{waits_for}
 use Rattle.uart_run.proofs.EmptyTransmitter.{IsEmpty, empty_shown}
+use Rattle.uart_run.proofs.initialising.Stored.{init_stores}
 use Rattle.uart_run.proofs.initialising.Inits.{frame-dlab, frame-unbroken, set_up, Begun, begun, ended}
 
 -- ready by what the registers keep
@@ -82,7 +84,7 @@ still_begun : (config : Config) (d : ℕ) (on : Bool) (m n o : MachineState) (g 
     Begun config d on m n g → WaitsFor LSR.TRANSMITTER_EMPTY.0 empty (settings_of g) l → Path MachineStep n l o →
     kept_in o.chip ≡ kept_in n.chip
 still_begun config d on m n o g l empty b t p =
-    kept_still (settings_of g) (WaitsFor LSR.TRANSMITTER_EMPTY.0 empty) l n o (keeps_waits (settings_of g) LSR.TRANSMITTER_EMPTY.0 empty)
+    kept_still (waits_for LSR.TRANSMITTER_EMPTY.0 empty) refl (settings_of g) l n o
     (ap (λ (v : Kept). is_dlab_set v.latches) b.kept ∙ frame-dlab config) t p
 
 pub done : (config : Config) (d : ℕ) (on : Bool) (f : Fields) (l : List Access) (m : MachineState) (t : State) → IsSound m →
@@ -153,11 +155,12 @@ initialises s t config a w h = go h.outcome h.answered h.did.does
           is_present = λ r. absurd (cc);
           leaves = λ r. done config d on (fields (inner_of s)) h.did.list
               (machine_of s) t w of does h.did.path;
+          stores = λ r. init_stores config (fields (inner_of s)) (fields (inner_of t)) h.did.list (d, on, of, does);
         }
-    go (Err (InvalidBaudRate cause)) e does = record { is_present = λ r. absurd (cc); leaves = λ r. absurd (cc) }
+    go (Err (InvalidBaudRate cause)) e does = record { is_present = λ r. absurd (cc); leaves = λ r. absurd (cc); stores = λ r. absurd (cc) }
     go (Err DeviceNotPresent) e (d, of, does) =
         absurd (found config (fields (inner_of s)) (fields (inner_of t)) h.did.list (machine_of s) (machine_of t) does h.did.path)
-    go (Err Stalled) e does = record { is_present = λ r. absurd (cc); leaves = λ r. absurd (cc) }
+    go (Err Stalled) e does = record { is_present = λ r. absurd (cc); leaves = λ r. absurd (cc); stores = λ r. absurd (cc) }
 
 pub init_ready : (s t : State) (config : Config) (a : Answer) → IsSound (machine_of s) → CallStep s (call.Init config) a t → Ready s →
     Ready t

@@ -27,7 +27,8 @@ use Rattle.uart_run.proofs.Latches.{Kept, kept_in, kept_after, kept_list, kept_p
 use Rattle.uart_run.specs.Wired.{IsWiredChip}
 use Rattle.uart_run.proofs.Wired.{wired_control}
 use Rattle.uart_run.proofs.Pieces.{then_parts, next_stages}
-use Rattle.uart_run.proofs.KeptLists.{keeps_drains, kept_still}
+use Rattle.uart_run.proofs.KeptLists.{kept_still}
+use Rattle.uart_run.proofs.built.Init.{drains_receiver}
 use Rattle.uart_run.proofs.initialising.FifoSteps.{sets_fifo}
 use Rattle.uart_chip.proofs.lasting.Lasting.{AllSendNothing}
 use Rattle.uart_run.proofs.EmptyTransmitter.{IsEmpty, empty_path}
@@ -127,7 +128,7 @@ pub drained : (outputs : ℕ) (f after : Fields) (l : List Access) (m n : Machin
 drained outputs f after l m n dlab t p =
     let a = next_stages (Plain DrainsReceiver) (Saving (Only (Write offsets.MCR outputs ∷ []))) f after l m n t p in
     let same : kept_in a.parts.between.chip ≡ kept_in m.chip =
-    kept_still (settings_of f) DrainsReceiver a.parts.front m a.parts.between (keeps_drains (settings_of f)) dlab
+    kept_still drains_receiver refl (settings_of f) a.parts.front m a.parts.between dlab
     a.parts.first.0 a.parts.before in
     record {
       kept =

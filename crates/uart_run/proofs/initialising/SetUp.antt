@@ -39,8 +39,10 @@ use Rattle.uart_run.proofs.SizeKept.{fits_kept}
 use Rattle.uart_run.proofs.Latches.{Kept, kept_in, kept_after, kept_after-append, kept_list, kept_path}
 use Rattle.uart_run.proofs.ListsInTurn.{HoldsInTurn, HoldsOfAll, all_only, all_then, all_few, all_misses}
 use Rattle.uart_run.proofs.Pieces.{then_parts, next_stages}
-use Rattle.uart_run.proofs.SilentLists.{silent_sets_fifo, silent_drains}
+use Rattle.uart_run.proofs.SilentLists.{silent}
+use Rattle.uart_run.proofs.built.Init as built
 use Rattle.uart_run.proofs.EmptyTransmitter.{IsEmpty, wait_empties, empty_path, empty_lined}
+use Rattle.uart_run.proofs.initialising.Stored.{init_with_stores}
 use Rattle.uart_run.proofs.initialising.Presence.{never_absent}
 use Rattle.uart_run.proofs.initialising.FifoSteps.{sets_fifo}
 use Rattle.uart_run.proofs.initialising.Inits.{frame-dlab, frame-unbroken, set_up, checked, drained, ended}
@@ -159,9 +161,9 @@ placed setup config d on f after l m n w t p =
       empty = λ empty.
           empty_path (Write offsets.MCR outputs ∷ []) e.parts.between n (refl, tt) written
           (empty_path e.parts.front b.parts.between e.parts.between
-          (silent_drains (settings_of b.mid) e.parts.front e.parts.first.0) e.parts.before
+          (silent built.drains_receiver refl (settings_of b.mid) e.parts.front e.parts.first.0) e.parts.before
           (empty_path [] a.parts.between b.parts.between tt sets
-          (empty_path c.back c.between a.parts.between (silent_sets_fifo (settings_of f) level on c.back c.second) c.after
+          (empty_path c.back c.between a.parts.between (silent (built.sets_fifo level on) refl (settings_of f) c.back c.second) c.after
           (empty_lined d (frame_bits config) m c.between lined empty))));
     }
 
@@ -315,11 +317,12 @@ arranges s t config setup a w h = go h.outcome h.answered h.did.does
     go (Ok x) e (d, on, of, does) = record {
       is_present = λ r. absurd (cc);
       leaves = λ r. done setup config d on (fields (inner_of s)) h.did.list (machine_of s) t w of does h.did.path;
+      stores = λ r. init_with_stores setup config (fields (inner_of s)) (fields (inner_of t)) h.did.list (d, on, of, does);
     }
-    go (Err (InvalidBaudRate cause)) e does = record { is_present = λ r. absurd (cc); leaves = λ r. absurd (cc) }
+    go (Err (InvalidBaudRate cause)) e does = record { is_present = λ r. absurd (cc); leaves = λ r. absurd (cc); stores = λ r. absurd (cc) }
     go (Err DeviceNotPresent) e (d, of, does) =
         absurd (found setup config (fields (inner_of s)) (fields (inner_of t)) h.did.list (machine_of s) (machine_of t) does h.did.path)
-    go (Err Stalled) e does = record { is_present = λ r. absurd (cc); leaves = λ r. absurd (cc) }
+    go (Err Stalled) e does = record { is_present = λ r. absurd (cc); leaves = λ r. absurd (cc); stores = λ r. absurd (cc) }
 
 pub init_with_ready : (s t : State) (config : Config) (setup : Setup) (a : Answer) → IsSound (machine_of s) →
     CallStep s (call.InitWith config setup) a t → Ready s → Ready t

@@ -1,6 +1,6 @@
 -- The phases of a loopback test in loopback: the drain, the byte, the message.
 use Rattle.std.proofs.Common.{◌≡◌, ℕ, ◌≤◌, Bool, true, false, ◌==◌, inl, inr, List, [], ◌∷◌, ◌++◌, length, map}
-use Rattle.std.proofs.Common.{append-nil, Option, Some, None, Ok, refl, arith, sym, ◌∙◌, ap, subst, MatchBool}
+use Rattle.std.proofs.Common.{append-nil, Option, Some, None, Ok, refl, arith, sym, ◌∙◌, ap, MatchBool}
 use Rattle.std.proofs.lemmas.List.{nil_from_length}
 use Rattle.uart_spec.specs.declared.errors.ByteSendError.{ByteSendError}
 use Rattle.uart_spec.specs.declared.errors.ByteSendError.TheVariants.{NoCapacity, RemoteNotClearToSend}
@@ -12,10 +12,10 @@ use Rattle.uart_spec.specs.declared.registers.modem_control.TheConstants.MCR
 use Rattle.uart_spec.specs.Access.{Path}
 use Rattle.uart_spec.specs.declared.access.Access.{Access}
 use Rattle.uart_spec.specs.declared.access.Access.TheVariants.{Read}
-use Rattle.uart_16550.specs.Grammar.{Language, Settings, Only, Then, InOrder, FewMisses, Asks, Never}
-use Rattle.uart_16550.specs.Receive.{Miss, Awaited}
+use Rattle.uart_16550.specs.Grammar.{Language, Settings, Then, InOrder, Asks, Never}
+use Rattle.uart_16550.specs.Receive.{Awaited}
 use Rattle.uart_16550.specs.Transmit.{LinesAllow, SendRefused, Round, SendsAll}
-use Rattle.uart_16550.specs.Loopback.{test_byte, test_message, TakesOne, DrainsLoopback}
+use Rattle.uart_16550.specs.Loopback.{test_byte, test_message, DrainsLoopback}
 use Rattle.uart_16550.specs.Loopback.{SendsTestByte, Echo, WholeEchoes, EachEchoes, HasEchoedAll}
 use Rattle.uart_chip.specs.declared.receiver.Character.{Character}
 use Rattle.uart_chip.specs.declared.transmitter.Shifting.{Shifting}
@@ -26,7 +26,7 @@ use Rattle.uart_chip.specs.Machine.{MachineState, MachineStep}
 use Rattle.uart_chip.proofs.Bits.{has_one}
 use Rattle.uart_chip.proofs.conservation.Went.{Modes, IsIn, dlab-in}
 use Rattle.uart_run.proofs.EmptyTransmitter.{IsSent, sent_path}
-use Rattle.uart_run.proofs.SilentLists.{IsSilent, silence, silent_asks}
+use Rattle.uart_run.proofs.SilentLists.{silent}
 use Rattle.uart_chip.proofs.conservation.BlockLaws.{path_as, look_room}
 use Rattle.uart_run.proofs.CallBlocks.{Makes, most_in, makes_then, makes_reads, awaited_blocks}
 use Rattle.uart_run.proofs.CallBlocks.{round_blocks, sends_all_blocks, try_sends_blocks}
@@ -34,8 +34,9 @@ use Rattle.uart_run.proofs.CallKeeps.{one_fits, one_sent}
 use Rattle.uart_run.proofs.Served.{EndsDry, dry_empties}
 use Rattle.uart_run.proofs.Latches.{Kept, kept_in, kept_cut, kept_access, kept_list}
 use Rattle.uart_run.proofs.Pieces.{then_parts}
-use Rattle.uart_run.proofs.ListsInTurn.{all_only, all_then, all_few}
-use Rattle.uart_run.proofs.KeptLists.{AllKeep, keeping, keeps_miss, keeps_hit, kept_still}
+use Rattle.uart_run.proofs.KeptLists.{kept_still}
+use Rattle.uart_run.proofs.built.Loopback.{drains_loopback}
+use Rattle.uart_run.proofs.built.Transmit.{no_room}
 use Rattle.uart_chip.proofs.loopback.LoopAccesses.{IsLooped}
 use Rattle.uart_run.proofs.loopback.LoopBlocks.{IsIdle, CameBack, comes_back}
 
@@ -58,14 +59,6 @@ sent_idle : (x : Modes) (gone : List ℕ) (c : ChipState) → IsIn x c → IsSen
 sent_idle x gone c w s none = record { modes = w; line = rw (nil_from_length c.receiver.queue none, s.place, s.queue) refl; wire = s.wire }
 
 -- ---- the drain
-
-pub silent_takes_one : (s : Settings) → IsSilent s TakesOne
-silent_takes_one s l t =
-    all_then silence s (Asks offsets.LSR LSR.DATA_READY.0 true) (Only (Read offsets.DATA t.0 ∷ []))
-    (silent_asks s offsets.LSR LSR.DATA_READY.0 true) (all_only silence s (Read offsets.DATA t.0 ∷ []) (tt, tt)) l t.1
-
-pub keeps_takes_one : (s : Settings) → AllKeep s TakesOne
-keeps_takes_one s l t = keeps_hit s t.0 l t.1
 
 -- what the registers keep says the modes
 pub kept_in_modes : (x : Modes) (c d : ChipState) → kept_in d ≡ kept_in c → IsIn x c → IsIn x d
@@ -92,16 +85,14 @@ pub record IsReadyToTest (x : Modes) (gone : List ℕ) (s : Settings) (m : Machi
 pub drained : (x : Modes) (gone : List ℕ) (s : Settings) (l : List Access) (m n : MachineState) → IsEntered x gone s m →
     DrainsLoopback true s l → Path MachineStep m l n → IsReadyToTest x gone s n
 drained x gone s l m n e t path =
-    let keeps = all_then keeping s (FewMisses TakesOne) Miss (all_few keeping s TakesOne (keeps_takes_one s)) (keeps_miss s) in
-    let silent = all_then silence s (FewMisses TakesOne) Miss (all_few silence s TakesOne (silent_takes_one s))
-    (silent_asks s offsets.LSR LSR.DATA_READY.0 false) l t in
-    let kept = kept_still s (DrainsLoopback true) l m n keeps (dlab-in x m.chip e.modes ∙ e.looped.dlab) t path in
+    let kept = kept_still (drains_loopback true) refl s l m n (dlab-in x m.chip e.modes ∙ e.looped.dlab) t path in
     let dry : EndsDry s l = record { front = t.front; back = t.back; whole = t.whole; miss = t.second } in
     record {
       looped = e.looped;
       fifo = e.fifo;
       idle =
-          sent_idle x gone n.chip (kept_in_modes x m.chip n.chip kept e.modes) (sent_path gone l m n silent e.sent path)
+          sent_idle x gone n.chip (kept_in_modes x m.chip n.chip kept e.modes)
+          (sent_path gone l m n (silent (drains_loopback true) refl s l t) e.sent path)
           (dry_empties s m n l dry path);
     }
 
@@ -182,7 +173,7 @@ pub never_refused : (x : Modes) (gone : List ℕ) (s : Settings) (e : ByteSendEr
 never_refused x gone s NoCapacity l m n r t path = looked (path_as m n l (Read offsets.LSR t.answer ∷ []) t.is path)
   where
     sent : IsSent gone n.chip.transmitter
-    sent = sent_path gone l m n (silent_asks s offsets.LSR LSR.THR_EMPTY.0 false l t) (idle_sent x gone m.chip r.idle) path
+    sent = sent_path gone l m n (silent no_room refl s l t) (idle_sent x gone m.chip r.idle) path
 
     looked : Path MachineStep m (Read offsets.LSR t.answer ∷ []) n → ⊥
     looked (mid, step, same) =

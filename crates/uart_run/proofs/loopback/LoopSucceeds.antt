@@ -40,9 +40,10 @@ use Rattle.uart_run.proofs.loopback.LoopWaits.{Lives, lives-path, never_dry, nev
 use Rattle.uart_run.proofs.loopback.LoopTests.{tested, IsBegun, begun, looped_modes, in_loopback}
 use Rattle.uart_run.proofs.progress.Nearing.{RunsFree, free_runs, free-path}
 use Rattle.uart_run.proofs.progress.WaitEnds.{no_stall-empty}
-use Rattle.uart_run.proofs.NeverSwitched.{unwritten, enters_never}
+use Rattle.uart_run.proofs.NeverSwitched.{unwritten, does_never}
 use Rattle.uart_run.proofs.SizeKept.{left_ever, left_plain, left_fixed}
-use Rattle.uart_run.proofs.loopback.KeptExchanges.{keeps_begins, keeps_drained, keeps_byte, keeps_echoes}
+use Rattle.uart_run.proofs.built.Words.{leaves_limit}
+use Rattle.uart_run.proofs.built.Loopback.{enters_at, begins_test, drains_loopback, exchanges_byte, echoes}
 use Rattle.uart_run.proofs.progress.Succeeds.{few_left}
 use Rattle.uart_spec.specs.declared.registers.modem_control.TheConstants.MCR
 use Rattle.uart_spec.specs.Bits.{has_any}
@@ -114,7 +115,7 @@ no_stall-each : (x : Modes) (gone : List ℕ) (s : Settings) (l : List Access) (
 no_stall-each x gone s l m n v r (pairs, byte, rest, sent, t) path =
     let p = then_parts (InOrder Echo pairs) (EchoFails byte) s l m n t path in
     let a = each_exchanged x gone s pairs p.front m p.between r p.first p.before in
-    let leaves = left_plain m s (InOrder Echo pairs) p.front (keeps_echoes s pairs) p.first in
+    let leaves = left_plain m (echoes pairs) refl s p.front p.first in
     no_stall-echo x gone s byte p.back p.between n (lives-path s.limit p.front m p.between v leaves p.before) a.ready p.second p.after
 
 no_stall-message : (x : Modes) (gone : List ℕ) (s : Settings) (l : List Access) (m n : MachineState) → Lives s.limit m →
@@ -133,7 +134,7 @@ no_stall-exchange x gone s l m n v e (inl t) path = never_flooded x gone s l m n
 no_stall-exchange x gone s l m n v e (inr (inl t)) path =
     let p = then_parts (DrainsLoopback true) (ExchangesByte {T = Unit {0}} (Err Stalled)) s l m n t path in
     let r = drained x gone s p.front m p.between e p.first p.before in
-    let leaves = left_plain m s (DrainsLoopback true) p.front (keeps_drained s true) p.first in
+    let leaves = left_plain m (drains_loopback true) refl s p.front p.first in
     no_stall-byte x gone s p.back p.between n (lives-path s.limit p.front m p.between v leaves p.before) r p.second p.after
 no_stall-exchange x gone s l m n v e (inr (inr t)) path =
     let p = then_parts (DrainsLoopback true) (Then (ExchangesByte {T = Unit {0}} (Ok tt)) (ExchangesMessage {T = Unit {0}} (Err Stalled)))
@@ -142,17 +143,13 @@ no_stall-exchange x gone s l m n v e (inr (inr t)) path =
     let q = then_parts (ExchangesByte {T = Unit {0}} (Ok tt)) (ExchangesMessage {T = Unit {0}} (Err Stalled)) s p.back
     p.between n p.second p.after in
     let a = byte_exchanged x gone s test_byte q.front p.between q.between r q.first q.before in
-    let u = lives-path s.limit p.front m p.between v (left_plain m s (DrainsLoopback true) p.front (keeps_drained s true) p.first)
+    let u = lives-path s.limit p.front m p.between v (left_plain m (drains_loopback true) refl s p.front p.first)
     p.before in
-    let leaves = left_plain p.between s (ExchangesByte {T = Unit {0}} (Ok tt)) q.front (keeps_byte s {T = Unit {0}} (Ok tt)) q.first in
+    let leaves = left_plain p.between (exchanges_byte {T = Unit {0}} (Ok tt)) refl s q.front q.first in
     let w = lives-path s.limit q.front p.between q.between u leaves q.before in
     no_stall-message x gone s q.back q.between n w a.ready q.second q.after
 
 -- ---- the whole test
-
--- up to the exchange the limit stays
-limit-enters : (before : ℕ) (fifo : Bool) (f : Fields) (l : List Access) (mid : Fields) → Enters before fifo f l mid → mid.limit ≡ f.limit
-limit-enters before fifo f l mid t = let at : Fields → ℕ = λ g. g.limit in ap at t.second.1 ∙ ap at t.first.1
 
 no_stall-test : (cut : ℕ → ℕ) (gone : List ℕ) (mcr ier : ℕ) (f after : Fields) (l : List Access) (m n : MachineState) → Lives f.limit m →
     IsBegun cut gone m → Tests {T = Unit {0}} mcr ier (Err Stalled) f l after → Path MachineStep m l n → ⊥
@@ -163,9 +160,10 @@ no_stall-test cut gone mcr ier f after l m n v b (before, fifo, t) path =
     a.parts.before in
     let c = next_stages (Saving (Exchanges {T = Unit {0}} (Err Stalled))) (Leaves mcr ier before f.lsr) a.mid after a.parts.back
     a.parts.between n a.parts.second a.parts.after in
-    let entered = enters_never f.config.fifo_trigger_level before fifo f a.parts.front a.mid a.parts.first in
+    let entered = does_never offsets.LCR (enters_at f.config.fifo_trigger_level before fifo) refl f a.parts.front a.mid a.parts.first in
     let w = lives-path f.limit a.parts.front m a.parts.between v (left_fixed m a.parts.front entered (inr b.dlab)) a.parts.before in
-    let same : f.limit ≡ a.mid.limit = sym (limit-enters before fifo f a.parts.front a.mid a.parts.first) in
+    let same : f.limit ≡ a.mid.limit =
+    sym (leaves_limit (enters_at f.config.fifo_trigger_level before fifo) f a.parts.front a.mid a.parts.first) in
     no_stall-exchange (looped_modes m.chip.latches.lcr fifo cut) gone (settings_of a.mid) c.parts.front a.parts.between c.parts.between
     (subst (λ limit. Lives limit a.parts.between) same w) e c.parts.first.0 c.parts.before
 
@@ -204,8 +202,7 @@ test_succeeds s t a w ready timely unheld room h = go (tested s t a w ready h).a
             let plain : IsPlain s = record { dlab = ready.dlab; loopback = ready.loopback } in
             let b = begun s c.parts.between mcr ier c.parts.front w plain c.parts.first.0 c.parts.before in
             let v : Lives f.limit (machine_of s) = record { sound = w; ticked = timely.ticked; enough = timely.limit } in
-            let leaves = left_plain (machine_of s) (settings_of f) (BeginsTest mcr ier true) c.parts.front
-            (keeps_begins (settings_of f) mcr ier true) c.parts.first.0 in
+            let leaves = left_plain (machine_of s) (begins_test mcr ier true) refl (settings_of f) c.parts.front c.parts.first.0 in
             let u = lives-path f.limit c.parts.front (machine_of s) c.parts.between v leaves c.parts.before in
             let same : f.limit ≡ c.mid.limit = sym (ap (λ (g : Fields). g.limit) c.parts.first.1) in
             no_stall-test (cut_of (machine_of s).chip) (out (machine_of s).chip.transmitter) mcr ier c.mid (fields (inner_of t))

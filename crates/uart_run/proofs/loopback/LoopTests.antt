@@ -13,13 +13,11 @@ use Rattle.uart_spec.specs.declared.registers.modem_control.TheConstants.MCR
 use Rattle.uart_spec.specs.declared.registers.line_control.TheConstants.LCR
 use Rattle.uart_spec.specs.Access.{Path}
 use Rattle.uart_spec.specs.declared.access.Access.{Access}
-use Rattle.uart_spec.specs.declared.access.Access.TheVariants.{Read, Write}
-use Rattle.uart_16550.specs.Grammar.{Language, Settings, Only, Then}
+use Rattle.uart_spec.specs.declared.access.Access.TheVariants.{Read}
+use Rattle.uart_16550.specs.Grammar.{Settings, Only}
 use Rattle.uart_16550.specs.Transmit.{WaitsFor}
-use Rattle.uart_16550.specs.Driver.{Fields, Saving, Plain, Sets, Next, fields, settings_of, with_fifo}
-use Rattle.uart_16550.specs.Init.{SetsFifo}
-use Rattle.uart_spec.specs.Lines.{line_changes}
-use Rattle.uart_16550.specs.Loopback.{Exchanges, EntersAt, Enters, Leaves, BeginsTest, Tests, IsStalled, TestsLoopback, with_changes}
+use Rattle.uart_16550.specs.Driver.{Fields, Saving, Next, fields, settings_of}
+use Rattle.uart_16550.specs.Loopback.{Exchanges, EntersAt, Enters, Leaves, BeginsTest, Tests, IsStalled, TestsLoopback}
 use Rattle.uart_16550.specs.Tty.{inner_of}
 use Rattle.uart_events.specs.declared.call.Call.TheVariants as call
 use Rattle.uart_events.specs.declared.call.Answer.{Answer}
@@ -36,8 +34,8 @@ use Rattle.uart_run.specs.Ready.{Ready, is_narrow, test_answer, IsTested}
 use Rattle.uart_run.specs.Sizes.{IsPlain}
 use Rattle.uart_chip.proofs.conservation.Went.{Modes, IsIn}
 use Rattle.uart_run.proofs.EmptyTransmitter.{IsSent, sent_shown, shown_sent, wait_empties, sent_path}
-use Rattle.uart_run.proofs.ListsInTurn.{all_only, all_then}
-use Rattle.uart_run.proofs.SilentLists.{DoesSilently, silence, silent_sets_fifo, silent_next, silent_saving, silent_plain, silent_sets}
+use Rattle.uart_run.proofs.SilentLists.{does_silently}
+use Rattle.uart_run.proofs.built.Loopback.{enters_at, leaves}
 use Rattle.uart_chip.proofs.conservation.BlockLaws.{IsOpen, Stands}
 use Rattle.uart_run.proofs.CallBlocks.{Makes, most_in, makes_then, passed_silently, waits_blocks}
 use Rattle.uart_run.proofs.CallKeeps.{quiet_blocks}
@@ -87,15 +85,6 @@ begun s n mcr ier l sound r t path =
 
 -- ---- into the loopback
 
-enters_silently : (level : Option FifoTriggerLevel) (before : ℕ) (fifo : Bool) → DoesSilently (EntersAt level before fifo)
-enters_silently level before fifo f after l t =
-    let list = Read offsets.MSR before ∷ Write offsets.IER 0 ∷ Write offsets.MCR MCR.LOOP_BACK.0 ∷ [] in
-    let L : Language = Then (Only list) (SetsFifo level fifo) in
-    silent_next (Saving L) (Sets (with_fifo fifo))
-    (silent_saving L (λ s. all_then silence s (Only list) (SetsFifo level fifo) (all_only silence s list (tt, (refl, (refl, tt))))
-    (silent_sets_fifo s level fifo)))
-    (silent_sets (with_fifo fifo)) f after l t
-
 -- the modes of a loopback test under this LCR
 abbrev pub looped_modes : ℕ → Bool → (ℕ → ℕ) → Modes
 looped_modes lcr fifo cut = record { lcr = lcr; mcr = MCR.LOOP_BACK.0; fifo = fifo; cut = cut }
@@ -115,24 +104,8 @@ in_loopback cut gone level before fifo f after l m n b t path =
             fifo = ap (λ (k : Kept). k.fifo) e.kept;
             cut = ap kept_cut e.kept ∙ b.same_cut;
           };
-      sent = sent_path gone l m n (enters_silently level before fifo f after l t) b.sent path;
+      sent = sent_path gone l m n (does_silently (enters_at level before fifo) refl f l after t) b.sent path;
     }
-
--- ---- out of the loopback
-
-pub leaves_silently : (mcr ier before noted : ℕ) → DoesSilently (Leaves mcr ier before noted)
-leaves_silently mcr ier before noted f after l (now, t) =
-    silent_next _ _ (one _) (silent_next _ _ look (silent_next _ _ both (silent_sets (with_changes noted (line_changes before now)))))
-    f after l t
-  where
-    one : (value : ℕ) → DoesSilently (Saving (Only (Write offsets.MCR value ∷ [])))
-    one value = silent_saving _ (λ s. all_only silence s (Write offsets.MCR value ∷ []) (refl, tt))
-
-    look : DoesSilently (Plain (Only (Read offsets.MSR now ∷ [])))
-    look = silent_plain _ (λ s. all_only silence s (Read offsets.MSR now ∷ []) (tt, tt))
-
-    both : DoesSilently (Saving (Only (Write offsets.MCR mcr ∷ Write offsets.IER ier ∷ [])))
-    both = silent_saving _ (λ s. all_only silence s (Write offsets.MCR mcr ∷ Write offsets.IER ier ∷ []) (refl, (refl, tt)))
 
 -- ---- the test after its first wait
 
@@ -149,7 +122,8 @@ test_leads narrow cut gone mcr ier result f after l m n cuts b (before, fifo, t)
     let o = exchange_leads narrow x gone (settings_of a.mid) result c.parts.front a.parts.between c.parts.between cuts e
     c.parts.first.0 c.parts.before in
     let left : IsReadyToTest x gone (settings_of a.mid) c.parts.between → IsSent gone n.chip.transmitter =
-    λ r. sent_path gone c.parts.back c.parts.between n (leaves_silently mcr ier before f.lsr c.mid after c.parts.back c.parts.second)
+    λ r. sent_path gone c.parts.back c.parts.between n
+    (does_silently (leaves mcr ier before f.lsr) refl c.mid c.parts.back after c.parts.second)
     (idle_sent x gone c.parts.between.chip r.idle) c.parts.after in
     leads_on narrow _ _ result left o
 

@@ -32,7 +32,7 @@ use Rattle.uart_run.proofs.SizeKept.{fits_kept}
 use Rattle.uart_run.proofs.Latches.{Kept, kept_in, keep_write, kept_after, kept_list, kept_access, LeftBy}
 use Rattle.uart_run.proofs.Pieces.{then_parts, next_stages}
 use Rattle.uart_run.proofs.KeptLists.{kept_still}
-use Rattle.uart_run.proofs.loopback.KeptExchanges.{keeps_begins, keeps_exchanges}
+use Rattle.uart_run.proofs.built.Loopback.{begins_test, exchanges}
 use Rattle.uart_run.proofs.initialising.FifoSteps.{sets_fifo}
 use Rattle.uart_run.proofs.initialising.Initialised.{ready_by}
 
@@ -138,8 +138,8 @@ tests_ready result mcr ier f l m t w dlab no_loop (before, on, does) p fits =
     n a.parts.second a.parts.after in
     let e = entered f.config.fifo_trigger_level before on f a.mid a.parts.front m a.parts.between w dlab a.parts.first a.parts.before in
     joined a.parts.between b.parts.between b.mid b.parts.second.0 e.kept
-    (λ d. kept_still (settings_of a.mid) (Exchanges result) b.parts.front a.parts.between b.parts.between
-    (keeps_exchanges (settings_of a.mid) result) d b.parts.first.0 b.parts.before)
+    (λ d. kept_still (exchanges result) refl (settings_of a.mid) b.parts.front a.parts.between b.parts.between d
+    b.parts.first.0 b.parts.before)
     (left mcr ier before f.lsr b.mid after b.parts.back b.parts.between n b.parts.second b.parts.after)
     (ap (λ (g : Fields). g.fifo) b.parts.first.1 ∙ e.knows)
   where
@@ -161,15 +161,15 @@ tested_ready s t a w h ready = go h.did.does
 
     go : TestsLoopback h.outcome (fields (inner_of s)) h.did.list (fields (inner_of t)) → Ready t
     go (mcr, ier, inl (stalls, (begins, same))) =
-        let still = kept_still (settings_of (fields (inner_of s))) (BeginsTest mcr ier false) h.did.list (machine_of s) (machine_of t)
-        (keeps_begins (settings_of (fields (inner_of s))) mcr ier false) ready.dlab begins h.did.path in
+        let still = kept_still (begins_test mcr ier false) refl (settings_of (fields (inner_of s))) h.did.list (machine_of s)
+        (machine_of t) ready.dlab begins h.did.path in
         ready_by t (kept_in (machine_of s).chip) still ready.dlab ready.loopback (ap (λ (g : Fields). g.fifo) same ∙ sym ready.fifo)
         fits
     go (mcr, ier, inr does) =
         let v = settings_of (fields (inner_of s)) in
         let a = next_stages (Saving (BeginsTest mcr ier true)) (Tests mcr ier h.outcome) (fields (inner_of s)) (fields (inner_of t))
         h.did.list (machine_of s) (machine_of t) does h.did.path in
-        let still = kept_still v (BeginsTest mcr ier true) a.parts.front (machine_of s) a.parts.between (keeps_begins v mcr ier true)
+        let still = kept_still (begins_test mcr ier true) refl v a.parts.front (machine_of s) a.parts.between
         ready.dlab a.parts.first.0 a.parts.before in
         tests_ready h.outcome mcr ier a.mid a.parts.back a.parts.between t
         (sound_path a.parts.front (machine_of s) a.parts.between w a.parts.before)

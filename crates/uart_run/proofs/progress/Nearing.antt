@@ -166,10 +166,14 @@ runs-look m n line r s a = record {
 
 -- ---- with room on the wire, in whatever mode
 
-pub record RunsFree (m : MachineState) : Type 0 where
+-- with room for so much more
+pub record RunsWith (more : ℕ) (m : MachineState) : Type 0 where
   pub sound : IsSound m
   pub ticked : IsTicked m
-  pub room : HasRoom 0 m
+  pub room : HasRoom more m
+
+abbrev pub RunsFree : MachineState → Type 0
+RunsFree m = RunsWith 0 m
 
 -- nothing holds the transmitter off
 pub free_runs : (m : MachineState) → IsUnheld m → RunsFree m → Runs m
@@ -197,8 +201,8 @@ no_longer_lasts t = record {
         length (wire ++ (shift_bytes place ++ [])) ≤ length (wire ++ (shift_bytes place ++ queue))
     shorter wire place queue = simp length-append (omega arith)
 
-free-step : (m n : MachineState) (access : Access) → RunsFree m → MachineStep m access n →
-    NoLonger m.chip.transmitter n.chip.transmitter → RunsFree n
+free-step : {more : ℕ} (m n : MachineState) (access : Access) → RunsWith more m → MachineStep m access n →
+    NoLonger m.chip.transmitter n.chip.transmitter → RunsWith more n
 free-step m n access r s a = record {
   sound = sound_step m n access r.sound s;
   ticked = ticked-step m n access r.ticked s;
@@ -206,7 +210,8 @@ free-step m n access r s a = record {
 }
 
 -- some accesses that send nothing
-pub free-path : (made : List Access) (m n : MachineState) → RunsFree m → AllSendNothing made → Path MachineStep m made n → RunsFree n
+pub free-path : {more : ℕ} (made : List Access) (m n : MachineState) → RunsWith more m → AllSendNothing made → Path MachineStep m made n →
+    RunsWith more n
 free-path [] m n r q p = rw p r
 free-path (access ∷ made) m n r q p =
     let t = m.chip.transmitter in
@@ -215,8 +220,8 @@ free-path (access ∷ made) m n r q p =
     free-path made p.0 n (free-step m p.0 access r p.1 a) q.1 p.2
 
 -- and a write of the divisor latch, under DLAB
-pub free-latch : (m n : MachineState) (value : ℕ) → RunsFree m → is_dlab_set (at_access m).chip.latches ≡ true →
-    MachineStep m (Write offsets.DLL value) n → RunsFree n
+pub free-latch : {more : ℕ} (m n : MachineState) (value : ℕ) → RunsWith more m → is_dlab_set (at_access m).chip.latches ≡ true →
+    MachineStep m (Write offsets.DLL value) n → RunsWith more n
 free-latch m n value r on s =
     let t = m.chip.transmitter in
     let lasts = no_longer_lasts t in

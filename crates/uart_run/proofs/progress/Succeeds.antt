@@ -24,11 +24,11 @@ use Rattle.uart_run.specs.Progress.{IsTimely, IsUnchecked, IsUnheld, left, most_
 use Rattle.uart_spec.specs.Bits.{has_any}
 use Rattle.uart_spec.specs.declared.registers.modem_control.TheConstants.MCR
 use Rattle.uart_chip.proofs.conservation.Went.{Modes, IsIn}
-use Rattle.uart_run.proofs.Latches.{flow_path}
 use Rattle.uart_chip.proofs.soundness.Sounds.{sound_path}
 use Rattle.uart_run.proofs.progress.Left.{exceeds, left-most}
 use Rattle.uart_run.proofs.progress.Nearing.{Runs, ticked-path}
 use Rattle.uart_chip.proofs.lasting.Constants.{same_pace}
+use Rattle.uart_chip.proofs.lasting.Flows.{flow-path}
 use Rattle.uart_run.proofs.SizeKept.{LeavesSwitch, size_left, left_blocks}
 use Rattle.uart_chip.proofs.conservation.BlockLaws.{PassedBlocks, path_split, path_as}
 use Rattle.uart_run.proofs.CallBlocks.{Makes, most_in, passed_in_blocks, pieces_blocks, cut_whole}
@@ -45,7 +45,7 @@ settings_at s = settings_of (fields (inner_of s))
 unheld_in : (s : State) (n : MachineState) (x : Modes) → IsUnheld (machine_of s) → (made : List Access) →
     Path MachineStep (machine_of s) made n → IsIn x n.chip → x.mcr ≡ (machine_of s).chip.latches.mcr → IsUnheld n
 unheld_in s n x unheld made path modes same =
-    ap (λ (b : Bool). b && has_any n.chip.latches.mcr MCR.AUTO_FLOW.0) (flow_path made (machine_of s) n path)
+    ap (λ (b : Bool). b && has_any n.chip.latches.mcr MCR.AUTO_FLOW.0) (flow-path made (machine_of s) n path)
     ∙ (ap (λ (v : ℕ). (machine_of s).chip.auto_flow && has_any v MCR.AUTO_FLOW.0) (modes.mcr ∙ same) ∙ unheld)
 
 -- room for more is room

@@ -1,5 +1,5 @@
 -- What comes back of a flood is counted: as many as the receiver holds, and that tells the size of its FIFO.
-use Rattle.std.proofs.Common.{◌≡◌, ℕ, ◌+◌, ◌==◌, Bool, inl, inr, List, [], ◌++◌, length, Result, Ok, Err}
+use Rattle.std.proofs.Common.{◌≡◌, ℕ, ◌+◌, ◌==◌, inl, inr, List, [], ◌++◌, length, Result, Ok, Err}
 use Rattle.std.proofs.Common.{append-nil, false, refl, arith, sym, ◌∙◌, ap, subst, if◌then◌else◌}
 use Rattle.uart_spec.specs.FifoSize.{characters}
 use Rattle.uart_spec.specs.declared.setup.FifoSize.{FifoSize}
@@ -7,13 +7,10 @@ use Rattle.uart_spec.specs.declared.setup.FifoSize.TheVariants.{Sixteen, ThirtyT
 use Rattle.uart_spec.specs.declared.setup.FifoSize.TheVariants.{TwoHundredFiftySix}
 use Rattle.uart_spec.specs.declared.errors.FifoSizeError.{FifoSizeError}
 use Rattle.uart_spec.specs.declared.errors.FifoSizeError.TheVariants.{FifosOff, TooFew, Stalled}
-use Rattle.uart_spec.specs.declared.registers.offsets.TheConstants as offsets
 use Rattle.uart_spec.specs.declared.registers.line_status.TheConstants.LSR
 use Rattle.uart_spec.specs.Access.{Path}
 use Rattle.uart_spec.specs.declared.access.Access.{Access}
-use Rattle.uart_16550.specs.Grammar.{Settings, Times}
-use Rattle.uart_16550.specs.Receive.{Miss}
-use Rattle.uart_16550.specs.Loopback.{TakesOne}
+use Rattle.uart_16550.specs.Grammar.{Settings}
 use Rattle.uart_16550.specs.Sizing.{flood, TakesBack, Tells}
 use Rattle.uart_chip.specs.Transmitter.{room}
 use Rattle.uart_chip.specs.Machine.{MachineState, MachineStep}
@@ -23,23 +20,14 @@ use Rattle.uart_chip.proofs.loopback.Loops.{line_in, line-length}
 use Rattle.uart_chip.proofs.loopback.LoopAccesses.{IsLooped}
 use Rattle.uart_run.proofs.CallBlocks.{InBlocks, most_in, blocks_then, makes_look}
 use Rattle.uart_run.proofs.EmptyTransmitter.{sent_path}
-use Rattle.uart_run.proofs.ListsInTurn.{all_then, all_times}
 use Rattle.uart_run.proofs.Served.{EndsDry, dry_empties}
-use Rattle.uart_run.proofs.SilentLists.{IsSilent, silence, silent_asks}
+use Rattle.uart_run.proofs.SilentLists.{silent}
+use Rattle.uart_run.proofs.built.Sizing.{takes_back}
 use Rattle.uart_run.proofs.loopback.LoopBlocks.{loops_in_blocks}
-use Rattle.uart_run.proofs.loopback.LoopPhases.{silent_takes_one}
 use Rattle.uart_run.proofs.loopback.LoopWaits.{all_waits, takes_blocks}
 use Rattle.uart_run.proofs.sizing.Flooding.{IsFull}
 
 -- ---- the count
-
-silent_miss : (s : Settings) → IsSilent s Miss
-silent_miss s = silent_asks s offsets.LSR LSR.DATA_READY.0 false
-
-pub silent_takes_back : (s : Settings) (count : ℕ) → IsSilent s (TakesBack count)
-silent_takes_back s count l (inl t) = all_times silence s flood TakesOne (silent_takes_one s) l t.1
-silent_takes_back s count l (inr t) =
-    all_then silence s (Times count TakesOne) Miss (all_times silence s count TakesOne (silent_takes_one s)) (silent_miss s) l t.1
 
 module _ (x : Modes) (gone : List ℕ) (s : Settings) (i : IsLooped x) where
   -- what these accesses read, of all that is there
@@ -68,7 +56,7 @@ module _ (x : Modes) (gone : List ℕ) (s : Settings) (i : IsLooped x) where
       let all = taken l m n (a.0 ++ []) w (subst B (sym u.whole) blocks) path in
       let dry : EndsDry s l = record { front = u.front; back = u.back; whole = u.whole; miss = u.second } in
       let none = dry_empties s m n l dry path in
-      let left = all_waits gone n.chip (sent_path gone l m n (silent_takes_back s count l (inr t)) w.sent path) in
+      let left = all_waits gone n.chip (sent_path gone l m n (silent (takes_back count) refl s l (inr t)) w.sent path) in
       let long : length (a.0 ++ []) ≡ length a.0 = ap length (append-nil a.0) in
       omega (arith, all, long, none, left, a.1)
 

@@ -23,7 +23,7 @@ use Rattle.uart_spec.specs.declared.registers.offsets.TheConstants as offsets
 use Rattle.uart_spec.specs.Access.{Path}
 use Rattle.uart_spec.specs.declared.access.Access.{Access}
 use Rattle.uart_spec.specs.declared.access.Access.TheVariants.{Read, Write}
-use Rattle.uart_16550.specs.Grammar.{Settings, Only, Then}
+use Rattle.uart_16550.specs.Grammar.{Settings, Only}
 use Rattle.uart_16550.specs.Driver.{Fields, fields, settings_of}
 use Rattle.uart_16550.specs.Setup.{level_bits}
 use Rattle.uart_16550.specs.Sizing.{BeginsEnabling, opened, enabling_writes, Enabling, Enables64}
@@ -37,14 +37,14 @@ use Rattle.uart_chip.specs.Chip.{ChipState, word_length, is_dlab_set, interrupt,
 use Rattle.uart_chip.specs.Chip.{is_switching, switch, set_fifo, set_trigger, control, with_size, empty_queues, switched_size}
 use Rattle.uart_chip.specs.Chip.{reset_receiver, reset_transmitter}
 use Rattle.uart_chip.specs.Receiver.{clear}
-use Rattle.uart_chip.specs.Conserved.{out, waiting, kept}
+use Rattle.uart_chip.specs.Conserved.{out}
 use Rattle.uart_chip.specs.Machine.{MachineState, MachineStep, at_access}
 use Rattle.uart_chip.specs.Sound.{IsSound, IsSoundChip}
 use Rattle.uart_chip.proofs.Bits.{has_one, has_or, word_same}
 use Rattle.uart_chip.proofs.FifoBits.{size_shown}
 use Rattle.uart_chip.proofs.Switching.{lacking-keeps}
 use Rattle.uart_chip.proofs.lasting.FifoSizes.{same_size-access, switch-step}
-use Rattle.uart_chip.proofs.lasting.Lasting.{AllSendNothing, chip_lasts-before}
+use Rattle.uart_chip.proofs.lasting.Lasting.{chip_lasts-before}
 use Rattle.uart_chip.proofs.soundness.Sounds.{sound_access, sound_path, sound_write}
 use Rattle.uart_chip.proofs.conservation.Effects.{IsLevel}
 use Rattle.uart_chip.proofs.conservation.Sends.{sends-refl}
@@ -58,14 +58,14 @@ use Rattle.uart_chip.proofs.conservation.BlockLaws.{stands-after, passed_blocks-
 use Rattle.uart_chip.proofs.conservation.SessionLaws.{received_kept}
 use Rattle.uart_run.specs.Run.{State, machine_of}
 use Rattle.uart_run.specs.Progress.{IsTimely, HasRoom, IsUnheld}
-use Rattle.uart_run.specs.Ready.{Ready, BurstsFit}
+use Rattle.uart_run.specs.Ready.{Ready}
 use Rattle.uart_run.specs.Served.{transmitter_of}
-use Rattle.uart_run.specs.Sizes.{size_in, enabled_size, LosesNone, IsEnabled, IsStillAsBefore, Enables, EnablesOff}
-use Rattle.uart_run.proofs.EmptyTransmitter.{IsSent, sent_path, sent_shown, shown_sent, wait_empties}
+use Rattle.uart_run.specs.Sizes.{size_in, LosesNone, IsEnabled, IsStillAsBefore, Enables, EnablesOff}
+use Rattle.uart_run.proofs.EmptyTransmitter.{sent_path, sent_shown, shown_sent, wait_empties}
 use Rattle.uart_run.proofs.Latches.{Kept, kept_in, keep, keep_control, kept_after, kept_access, kept_step, kept_path, kept_list}
 use Rattle.uart_run.proofs.Pieces.{then_parts}
-use Rattle.uart_run.proofs.ListsInTurn.{all_only, all_then}
-use Rattle.uart_run.proofs.KeptLists.{AllKeep, keeping, keeps_waits, kept_still}
+use Rattle.uart_run.proofs.KeptLists.{kept_still}
+use Rattle.uart_run.proofs.built.Sizing.{begins_enabling}
 use Rattle.uart_run.proofs.NeverSwitched.{unwritten}
 use Rattle.uart_run.proofs.SizeKept.{size_left, left_ever, left_plain, fits_by}
 use Rattle.uart_run.proofs.CallBlocks.{Makes, most_in, makes_then, passed_silently, waits_blocks}
@@ -193,12 +193,6 @@ enabled_by : (lcr ier : ℕ) (level : FifoTriggerLevel) (on : Bool) (s : Setting
     (isr : ℕ) × (has isr ISR.FIFO_64_ENABLED.0 ≡ on) × (l ≡ enabling_list lcr ier level isr)
 enabled_by lcr ier level on s l t =
     (t.second.first.answer, t.second.first.shows, rw (t.whole, t.first.is, t.second.whole, t.second.first.is, t.second.second.is) refl)
-
-keeps_begins : (s : Settings) (lcr ier : ℕ) (empty : Bool) → AllKeep s (BeginsEnabling lcr ier empty)
-keeps_begins s lcr ier empty =
-    all_then keeping s (Only (Read offsets.LCR lcr ∷ Read offsets.IER ier ∷ [])) (WaitsFor LSR.TRANSMITTER_EMPTY.0 empty)
-    (all_only keeping s (Read offsets.LCR lcr ∷ Read offsets.IER ier ∷ []) (tt, (tt, tt)))
-    (keeps_waits s LSR.TRANSMITTER_EMPTY.0 empty)
 
 begins_blocks : (s : Settings) (lcr ier : ℕ) (empty : Bool) → Makes s (BeginsEnabling lcr ier empty) [] []
 begins_blocks s lcr ier empty l t =
@@ -522,10 +516,10 @@ module _ (s t : State) (sound : IsSound (machine_of s)) (ready : Ready s) (is_on
       let a = then_parts (BeginsEnabling lcr ier true) (Enabling lcr ier level on) v l m n does path in
       let reads = then_parts (Only (Read offsets.LCR lcr ∷ Read offsets.IER ier ∷ [])) (WaitsFor LSR.TRANSMITTER_EMPTY.0 true) v a.front m
       a.between a.first a.before in
-      let still = kept_still v (BeginsEnabling lcr ier true) a.front m a.between (keeps_begins v lcr ier true) ready.dlab a.first
+      let still = kept_still (begins_enabling lcr ier true) refl v a.front m a.between ready.dlab a.first
       a.before in
       let held = size_left a.front m a.between
-      (left_plain m v (BeginsEnabling lcr ier true) a.front (keeps_begins v lcr ier true) a.first) a.before in
+      (left_plain m (begins_enabling lcr ier true) refl v a.front a.first) a.before in
       let both = lcr_read v lcr ier true a.front m a.between ready.dlab a.first a.before in
       let switch = switch_path a.front m a.between a.before in
       let began = passed_begins lcr ier true a.front a.between a.first a.before in
@@ -568,8 +562,8 @@ module _ (s t : State) (sound : IsSound (machine_of s)) (ready : Ready s) (is_on
   stalled l (fifo, lcr, ier, (does, saved)) path =
       let m = machine_of s in
       let n = machine_of t in
-      let still = kept_still v (BeginsEnabling lcr ier false) l m n (keeps_begins v lcr ier false) ready.dlab does path in
-      let size = size_left l m n (left_plain m v (BeginsEnabling lcr ier false) l (keeps_begins v lcr ier false) does) path in
+      let still = kept_still (begins_enabling lcr ier false) refl v l m n ready.dlab does path in
+      let size = size_left l m n (left_plain m (begins_enabling lcr ier false) refl v l does) path in
       let began = passed_begins lcr ier false l n does path in
       record {
         sent = began.passed.went.sends.grows ∙ append-nil (out m);

@@ -1,5 +1,5 @@
 -- A `find_fifo_size` over a chip that has FIFOs: it finds the size or stalls, and puts everything back.
-use Rattle.std.proofs.Common.{◌≡◌, ◌⊎◌, ◌&&◌, ℕ, Bool, true, false, inl, inr, List, [], ◌∷◌, ◌++◌, append-nil, Ok, Err, Option, Some}
+use Rattle.std.proofs.Common.{◌≡◌, ◌⊎◌, ◌&&◌, ℕ, Bool, true, false, inl, inr, List, [], ◌∷◌, ◌++◌, append-nil, Ok, Err, Some}
 use Rattle.std.proofs.Common.{◌≢◌, ◌≤◌, ◌==◌, arith, refl, sym, ◌∙◌, ap, subst}
 use Rattle.std.proofs.lemmas.Grind.{common_steps}
 use Rattle.uart_spec.specs.declared.setup.FifoSize.{FifoSize}
@@ -14,8 +14,7 @@ use Rattle.uart_16550.specs.Grammar.{Settings, Only, Asks}
 use Rattle.uart_16550.specs.Driver.{Fields, Saving, Sets, fields, settings_of, with_fifo}
 use Rattle.uart_16550.specs.Init.{fifo_bits, SetsFifo}
 use Rattle.uart_16550.specs.Loopback.{test_byte, Leaves}
-use Rattle.uart_16550.specs.Setup.{level_of}
-use Rattle.uart_16550.specs.Sizing.{Measures, SwitchesFifo, Sizes, SizesInLoopback, FindsFifoSize}
+use Rattle.uart_16550.specs.Sizing.{SwitchesFifo, FindsFifoSize}
 use Rattle.uart_16550.specs.Tty.{inner_of}
 use Rattle.uart_events.specs.declared.event.Chip.{Chip}
 use Rattle.uart_events.specs.declared.event.Chip.TheVariants.{Uart16550A}
@@ -32,30 +31,28 @@ use Rattle.uart_run.specs.Served.{transmitter_of}
 use Rattle.uart_run.specs.Sizes.{size_in, MayFind, receiver_of, IsMeasured, SendsAtMostOne, FindsSize, FindsOff}
 use Rattle.uart_run.proofs.EmptyTransmitter.{IsSent, sent_path, shown_sent}
 use Rattle.uart_run.proofs.Latches.{Kept, kept_in, kept_access}
-use Rattle.uart_run.proofs.NeverSwitched.{NeverWrites, never_writes, all_never, fifo_never, enters_never, leaves_never, begins_never}
-use Rattle.uart_run.proofs.ListsInTurn.{HoldsOfDoing, does_next, does_sets, does_saving}
-use Rattle.uart_run.proofs.SizeKept.{leaves_finds, left_fixed, fits_after}
+use Rattle.uart_run.proofs.NeverSwitched.{does_never}
+use Rattle.uart_run.proofs.SizeKept.{leaves_size, left_fixed, fits_after}
 use Rattle.uart_run.proofs.Pieces.{then_parts, next_stages}
-use Rattle.uart_run.proofs.SilentLists.{DoesSilently, silent_next, silent_saving, silent_sets, silent_sets_fifo, silent_asks}
+use Rattle.uart_run.proofs.SilentLists.{silent, does_silently}
+use Rattle.uart_run.proofs.built.Words.{asks}
+use Rattle.uart_run.proofs.built.Init.{stepping}
+use Rattle.uart_run.proofs.built.Loopback.{leaves}
 use Rattle.uart_chip.proofs.lasting.Lasting.{AllSendNothing}
 use Rattle.uart_run.proofs.initialising.Initialised.{ready_by}
-use Rattle.uart_run.proofs.loopback.LoopTests.{looped_modes, leaves_silently}
+use Rattle.uart_run.proofs.loopback.LoopTests.{looped_modes}
 use Rattle.uart_run.proofs.loopback.TestedReady.{leaving}
 use Rattle.uart_run.proofs.loopback.TestedReady.{leaves_list}
 use Rattle.uart_run.proofs.sizing.Counting.{Found, told}
 use Rattle.uart_run.proofs.sizing.Filling.{AllAre}
 use Rattle.uart_run.proofs.sizing.Flooding.{IsFlooded, flooded_access}
 use Rattle.uart_run.proofs.sizing.Walking.{level_in, StallsFirst, Measured, found_by}
-use Rattle.uart_run.proofs.sizing.Measuring.{keeps_measures, FoundIn, TellsAll}
+use Rattle.uart_run.proofs.sizing.Measuring.{FoundIn, TellsAll}
+use Rattle.uart_run.proofs.built.Sizing.{finds_fifo_size, switches_fifo}
 use Rattle.uart_run.proofs.sizing.Remaining.{IsReset, AllCalm, reset_at, reset_path}
 use Rattle.uart_run.proofs.sizing.Staying.{SendsLast, last_path, last_out, emptied, reset_written}
 
 -- ---- the FIFO step and the way out of loopback
-
-pub switches_silently : (level : Option FifoTriggerLevel) (on : Bool) → DoesSilently (SwitchesFifo level on)
-switches_silently level on =
-    silent_next (Saving (SetsFifo level on)) (Sets (with_fifo on)) (silent_saving (SetsFifo level on) (λ s. silent_sets_fifo s level on))
-    (silent_sets (with_fifo on))
 
 -- the reset of FCR empties the queue
 reset_step : (level : FifoTriggerLevel) (x : Modes) (gone : List ℕ) (i : IsLooped x) (m n : MachineState) → IsFlooded x gone 0 m.chip →
@@ -79,32 +76,11 @@ reset_sends level on s x gone i l m n w model t path =
     let write = Write offsets.FCR (fifo_bits (Some level)) ∷ [] in
     let a = then_parts (Only write) (Asks offsets.ISR ISR.FIFOS_ENABLED.0 on) s l m n t path in
     let first = reset a.between (path_as m a.between a.front write a.first.is a.before) in
-    last_path gone (x.cut test_byte) a.back a.between n (silent_asks s offsets.ISR ISR.FIFOS_ENABLED.0 on a.back a.second) first a.after
+    last_path gone (x.cut test_byte) a.back a.between n (silent {kinds = stepping} (asks refl) refl s a.back a.second) first a.after
   where
     reset : (o : MachineState) → Path MachineStep m (Write offsets.FCR (fifo_bits (Some level)) ∷ []) o →
         SendsLast gone (x.cut test_byte) o.chip.transmitter
     reset o (mid, step, same) = rw same (reset_step level x gone i m mid w model step)
-
--- ---- no LCR is written, so the size stays while DLAB is off
-
-sizes_never : (level : Option FifoTriggerLevel) (found : Found) → HoldsOfDoing (NeverWrites offsets.LCR) (Sizes level found)
-sizes_never level found f l after (on, does) =
-    does_next (never_writes offsets.LCR) _ _
-    (does_saving (Measures found) (λ s. all_never offsets.LCR refl s (Measures found) (keeps_measures s found)))
-    (does_next (never_writes offsets.LCR) _ _ (does_saving (SetsFifo level on) (λ s. fifo_never s level on))
-    (does_sets (never_writes offsets.LCR) (with_fifo on))) f l after does
-
-in_loopback_never : (found : Found) (mcr ier : ℕ) → HoldsOfDoing (NeverWrites offsets.LCR) (SizesInLoopback found mcr ier)
-in_loopback_never found mcr ier f l after (before, on, does) =
-    let level = level_of true f.config.fifo_trigger_level in
-    does_next (never_writes offsets.LCR) _ _ (enters_never level before on)
-    (does_next (never_writes offsets.LCR) _ _ (sizes_never level found) (leaves_never mcr ier before f.lsr)) f l after does
-
-finds_never : (found : Found) → HoldsOfDoing (NeverWrites offsets.LCR) (FindsFifoSize found)
-finds_never found f l after (inl (off, is_off, none, same)) = rw none tt
-finds_never found f l after (inr (on, (mcr, ier, inl (stalls, does)))) = begins_never mcr ier false f l after does
-finds_never found f l after (inr (on, (mcr, ier, inr does))) =
-    does_next (never_writes offsets.LCR) _ _ (begins_never mcr ier true) (in_loopback_never found mcr ier) f l after does
 
 -- ---- what is sent in the end
 
@@ -150,10 +126,12 @@ ended : (level : FifoTriggerLevel) (on : Bool) (start : ℕ) (x : Modes) (gone :
 ended level on start x gone i size found mcr ier before noted f g after front back m o n model come w t p u q = go w
   where
     silent_back : AllSendNothing back
-    silent_back = leaves_silently mcr ier before noted g after back u
+    silent_back = does_silently (leaves mcr ier before noted) refl g back after u
 
     sent : IsSent gone m.chip.transmitter → IsSent gone n.chip.transmitter
-    sent v = sent_path gone back o n silent_back (sent_path gone front m o (switches_silently (Some level) on f g front t) v p) q
+    sent v =
+        sent_path gone back o n silent_back
+        (sent_path gone front m o (does_silently (switches_fifo (Some level) on) refl f front g t) v p) q
 
     remains : IsSent gone m.chip.transmitter → IsReset level start gone n.chip
     remains v =
@@ -245,8 +223,9 @@ module _ (s t : State) (sound : IsSound (machine_of s)) (may : MayFind s) (is_on
   pub finds_size : (found : Found) (l : List Access) → FindsFifoSize found (fields (inner_of s)) l (fields (inner_of t)) →
       Path MachineStep (machine_of s) l (machine_of t) → FindsSize s found t
   finds_size found l does path =
-      let leaves = left_fixed (machine_of s) l (finds_never found _ l _ does) (inr may.plain.dlab) in
-      finds found (fits_after s t l (leaves_finds found _ l _ does) leaves path) (found_by s t sound may.plain found l is_on does path)
+      let leaves = left_fixed (machine_of s) l (does_never offsets.LCR (finds_fifo_size found) refl _ l _ does) (inr may.plain.dlab) in
+      finds found (fits_after s t l (leaves_size (finds_fifo_size found) _ l _ does) leaves path)
+      (found_by s t sound may.plain found l is_on does path)
 
 -- with the FIFOs off nothing is done
 pub finds_off : (s t : State) (found : Found) (l : List Access) → (fields (inner_of s)).fifo ≡ false →

@@ -1,13 +1,12 @@
 -- The flood of `find_fifo_size` in loopback, and the wait after it: the receiver is full then.
-use Rattle.std.proofs.Common.{◌≡◌, ℕ, zero, suc, ◌+◌, ◌≤◌, Bool, true, false, List, [], ◌∷◌, ◌++◌, length, refl, arith}
+use Rattle.std.proofs.Common.{◌==◌, ◌≡◌, ℕ, zero, suc, ◌+◌, ◌≤◌, Bool, true, false, List, [], ◌∷◌, length, refl, arith}
 use Rattle.std.proofs.Common.{◌∙◌, ap}
 use Rattle.std.specs.List.{AllByRecursion}
 use Rattle.uart_spec.specs.Access.{Path}
 use Rattle.uart_spec.specs.declared.access.Access.{Access}
 use Rattle.uart_spec.specs.declared.access.Access.TheVariants.{Read, Write}
 use Rattle.uart_spec.specs.declared.registers.offsets.TheConstants as offsets
-use Rattle.uart_16550.specs.Grammar.{Settings, Only, Times, Asks}
-use Rattle.uart_16550.specs.Transmit.{WaitsFor}
+use Rattle.uart_16550.specs.Grammar.{Settings, Only, Times}
 use Rattle.uart_16550.specs.Loopback.{test_byte}
 use Rattle.uart_chip.specs.Transmitter as transmitter
 use Rattle.uart_chip.specs.Transmitter.{room, load, looped_byte}
@@ -20,7 +19,10 @@ use Rattle.uart_chip.proofs.conservation.Went.{Modes, IsIn, dlab-in, loopback-in
 use Rattle.uart_chip.proofs.conservation.BlockLaws.{path_as}
 use Rattle.uart_chip.proofs.loopback.LoopAccesses.{IsLooped}
 use Rattle.uart_run.proofs.EmptyTransmitter.{IsEmpty, IsSent, sent_shown}
-use Rattle.uart_run.proofs.ListsInTurn.{HoldsInTurn, HoldsOfAll, all_then, all_few, all_misses}
+use Rattle.uart_run.proofs.ListsInTurn.{HoldsOfAll}
+use Rattle.uart_run.proofs.built.Words.{Kinds, Built, all_pass, each_so}
+use Rattle.std.proofs.lemmas.Bool.{eqb-true, false≢true}
+use Rattle.uart_16550.specs.Grammar.{Language}
 use Rattle.uart_run.proofs.Pieces.{then_parts}
 use Rattle.uart_run.proofs.sizing.Filling.{Fills, fills_tick, fills_load}
 
@@ -125,23 +127,21 @@ abbrev IsLook : Access → Type 0
 IsLook (Read offset value) = offset ≡ offsets.LSR
 IsLook (Write offset value) = ⊥
 
+abbrev pub is_status : ℕ → Bool
+is_status register = register == offsets.LSR
+
+abbrev pub is_none : ℕ → Bool
+is_none register = false
+
 -- only looks at the line status
 abbrev pub AllLooks : List Access → Type 0
 AllLooks accesses = AllByRecursion IsLook accesses
 
-looks_append : (xs ys : List Access) → AllLooks xs → AllLooks ys → AllLooks (xs ++ ys)
-looks_append [] ys p q = q
-looks_append (x ∷ xs) ys p q = (p.0, looks_append xs ys p.1 q)
-
-looking : HoldsInTurn AllLooks
-looking = record { none = tt; append = looks_append }
-
-looks_asks : (s : Settings) (bits : ℕ) (outcome : Bool) → HoldsOfAll AllLooks s (Asks offsets.LSR bits outcome)
-looks_asks s bits outcome l t = rw t.is (refl, tt)
-
-pub looks_waits : (s : Settings) (bits : ℕ) (outcome : Bool) → HoldsOfAll AllLooks s (WaitsFor bits outcome)
-looks_waits s bits true = all_then looking s _ _ (all_few looking s _ (looks_asks s bits false)) (looks_asks s bits true)
-looks_waits s bits false = all_misses looking s _ (looks_asks s bits false)
+-- every list of a language is such that is built of reads of LSR
+pub all_look : {kinds : Kinds} {P : Language} → Built kinds P → all_pass is_status kinds.reads ≡ true →
+    all_pass is_none kinds.writes ≡ true → (s : Settings) → HoldsOfAll AllLooks s P
+all_look =
+    each_so IsLook is_status is_none (λ register answer is. eqb-true register offsets.LSR is) (λ register value is. absurd (false≢true is))
 
 pub flooded_looks : (x : Modes) (gone : List ℕ) (i : IsLooped x) (more : ℕ) (l : List Access) (m n : MachineState) → AllLooks l →
     IsFlooded x gone more m.chip → Path MachineStep m l n → IsFlooded x gone more n.chip

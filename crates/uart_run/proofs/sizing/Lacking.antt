@@ -1,5 +1,5 @@
 -- A `find_fifo_size` over a chip that has no FIFOs, by a driver that takes them to be on.
-use Rattle.std.proofs.Common.{◌≡◌, ◌⊎◌, ◌&&◌, ℕ, Bool, true, false, inl, inr, List, Err, Some, sym, ◌∙◌, ap}
+use Rattle.std.proofs.Common.{refl, ◌≡◌, ◌⊎◌, ◌&&◌, ℕ, Bool, true, false, inl, inr, List, Err, Some, sym, ◌∙◌, ap}
 use Rattle.uart_spec.specs.declared.errors.FifoSizeError.TheVariants.{TooFew, Stalled}
 use Rattle.uart_spec.specs.Access.{Path}
 use Rattle.uart_spec.specs.declared.access.Access.{Access}
@@ -19,9 +19,11 @@ use Rattle.uart_run.specs.Sizes.{size_in, IsPlain, FindsNone}
 use Rattle.uart_run.proofs.EmptyTransmitter.{IsSent, sent_path, shown_sent}
 use Rattle.uart_run.proofs.Latches.{Kept, kept_in}
 use Rattle.uart_run.proofs.initialising.Initialised.{ready_by}
-use Rattle.uart_run.proofs.loopback.LoopTests.{looped_modes, leaves_silently}
+use Rattle.uart_run.proofs.loopback.LoopTests.{looped_modes}
+use Rattle.uart_run.proofs.SilentLists.{does_silently}
+use Rattle.uart_run.proofs.built.Loopback.{leaves}
 use Rattle.uart_run.proofs.sizing.Counting.{Found, told_none}
-use Rattle.uart_run.proofs.sizing.Finding.{switches_silently}
+use Rattle.uart_run.proofs.built.Sizing.{switches_fifo}
 use Rattle.uart_run.proofs.sizing.Measuring.{FoundIn, TellsAll}
 use Rattle.uart_run.proofs.sizing.Walking.{level_in, StallsFirst, Measured, found_by}
 
@@ -35,8 +37,8 @@ module _ (s t : State) (sound : IsSound (machine_of s)) (plain : IsPlain s) (mod
   -- the transmitter stays empty
   flushed : (found : Found) (w : Measured found s t) → IsSent gone w.between.chip.transmitter → IsFlushed s t
   flushed found w v =
-      let silent_front = switches_silently (Some (level_in s)) w.again w.f w.g w.front w.switches in
-      let silent_back = leaves_silently w.mcr w.ier w.before w.noted w.g (fields (inner_of t)) w.back w.leaves in
+      let silent_front = does_silently (switches_fifo (Some (level_in s)) w.again) refl w.f w.front w.g w.switches in
+      let silent_back = does_silently (leaves w.mcr w.ier w.before w.noted) refl w.g w.back (fields (inner_of t)) w.leaves in
       let sent = sent_path gone w.back w.out_of (machine_of t) silent_back
       (sent_path gone w.front w.between w.out_of silent_front v w.first) w.second in
       record { is_empty = shown_sent gone (transmitter_of t) sent; wire = sent.wire }

@@ -1,16 +1,13 @@
 -- The measure of `find_fifo_size` in loopback: it finds the size of the FIFO, or a wait reached the limit.
-use Rattle.std.proofs.Common.{◌≡◌, ◌⊎◌, ℕ, Bool, true, false, inl, inr, List, [], ◌∷◌, Err, arith, sym, ◌∙◌, ap}
+use Rattle.std.proofs.Common.{refl, ◌≡◌, ◌⊎◌, ℕ, Bool, true, false, inl, inr, List, Err, arith, sym, ◌∙◌, ap}
 use Rattle.uart_spec.specs.declared.setup.FifoSize.{FifoSize}
 use Rattle.uart_spec.specs.declared.errors.FifoSizeError.TheVariants.{Stalled}
-use Rattle.uart_spec.specs.declared.registers.offsets.TheConstants as offsets
 use Rattle.uart_spec.specs.declared.registers.line_status.TheConstants.LSR
 use Rattle.uart_spec.specs.Access.{Path}
 use Rattle.uart_spec.specs.declared.access.Access.{Access}
-use Rattle.uart_spec.specs.declared.access.Access.TheVariants.{Write}
-use Rattle.uart_16550.specs.Grammar.{Settings, Only, Then, Times}
-use Rattle.uart_16550.specs.Receive.{Miss}
+use Rattle.uart_16550.specs.Grammar.{Settings, Then}
 use Rattle.uart_16550.specs.Transmit.{WaitsFor}
-use Rattle.uart_16550.specs.Loopback.{test_byte, TakesOne, DrainsLoopback}
+use Rattle.uart_16550.specs.Loopback.{DrainsLoopback}
 use Rattle.uart_16550.specs.Sizing.{flood, Floods, TakesBack, Tells, Measures}
 use Rattle.uart_chip.specs.Transmitter.{room}
 use Rattle.uart_chip.specs.Chip.{ChipState}
@@ -20,41 +17,19 @@ use Rattle.uart_chip.proofs.Sizes.{at_most_256, room_within}
 use Rattle.uart_chip.proofs.soundness.Sounds.{sound_path}
 use Rattle.uart_chip.proofs.conservation.Went.{Modes}
 use Rattle.uart_run.proofs.EmptyTransmitter.{IsSent, sent_path, wait_empties}
-use Rattle.uart_run.proofs.KeptLists.{AllKeep, keeping, keeps_data, keeps_miss, keeps_waits}
-use Rattle.uart_run.proofs.ListsInTurn.{all_only, all_then, all_times, all_misses}
+use Rattle.uart_run.proofs.built.Receive.{waits_for}
+use Rattle.uart_run.proofs.built.Sizing.{floods, takes_back}
 use Rattle.uart_run.proofs.SizeKept.{size_left, left_plain}
-use Rattle.uart_run.proofs.loopback.KeptExchanges.{keeps_drained}
+use Rattle.uart_run.proofs.built.Loopback.{drains_loopback}
 use Rattle.uart_run.proofs.Pieces.{then_parts}
-use Rattle.uart_run.proofs.SilentLists.{silence}
-use Rattle.uart_run.proofs.loopback.LoopPhases.{IsEntered, IsReadyToTest, drained, idle_sent, silent_takes_one, keeps_takes_one}
-use Rattle.uart_run.proofs.sizing.Flooding.{IsFlooded, flooded, flooded_looks, looks_waits, filled}
-use Rattle.uart_run.proofs.sizing.Counting.{Found, counted, silent_takes_back}
+use Rattle.uart_run.proofs.SilentLists.{silent}
+use Rattle.uart_run.proofs.loopback.LoopPhases.{IsEntered, IsReadyToTest, drained, idle_sent}
+use Rattle.uart_run.proofs.sizing.Flooding.{IsFlooded, flooded, flooded_looks, all_look, filled}
+use Rattle.uart_run.proofs.sizing.Counting.{Found, counted}
 
 -- both FIFOs of a sound chip have one size
 pub one_size : (c : ChipState) → IsSoundChip c → c.receiver.size ≡ c.transmitter.size
 one_size c w = w.sizes
-
--- ---- what the registers keep
-
-pub keeps_floods : (s : Settings) → AllKeep s Floods
-keeps_floods s =
-    all_times keeping s flood (Only (Write offsets.DATA test_byte ∷ []))
-    (all_only keeping s (Write offsets.DATA test_byte ∷ []) (keeps_data test_byte))
-
-keeps_takes_back : (s : Settings) (count : ℕ) → AllKeep s (TakesBack count)
-keeps_takes_back s count l (inl t) = all_times keeping s flood TakesOne (keeps_takes_one s) l t.1
-keeps_takes_back s count l (inr t) =
-    all_then keeping s (Times count TakesOne) Miss (all_times keeping s count TakesOne (keeps_takes_one s)) (keeps_miss s) l t.1
-
-pub keeps_measures : (s : Settings) (found : Found) → AllKeep s (Measures found)
-keeps_measures s found l (inl t) = all_misses keeping s TakesOne (keeps_takes_one s) l t.1
-keeps_measures s found l (inr (inl t)) =
-    all_then keeping s (DrainsLoopback true) _ (keeps_drained s true)
-    (all_then keeping s Floods _ (keeps_floods s) (keeps_waits s LSR.TRANSMITTER_EMPTY.0 false)) l t.1
-keeps_measures s found l (inr (inr (count, tells, t))) =
-    all_then keeping s (DrainsLoopback true) _ (keeps_drained s true)
-    (all_then keeping s Floods _ (keeps_floods s)
-    (all_then keeping s _ (TakesBack count) (keeps_waits s LSR.TRANSMITTER_EMPTY.0 true) (keeps_takes_back s count))) l t
 
 -- ---- what is found
 
@@ -97,13 +72,13 @@ module _ (x : Modes) (gone : List ℕ) (s : Settings) where
   pub measured : (answer found : Found) (l : List Access) (m n : MachineState) → TellsAll x.fifo m.chip.transmitter.size answer found →
       IsSound m → IsEntered x gone s m → Measures found s l → Path MachineStep m l n → FoundIn x gone answer found n
   measured answer found l m n told sound e (inl t) path =
-      inr (t.0, inl (sent_path gone l m n (all_misses silence s TakesOne (silent_takes_one s) l t.1) e.sent path))
+      inr (t.0, inl (sent_path gone l m n (silent (drains_loopback false) refl s l t.1) e.sent path))
   measured answer found l m n told sound e (inr (inl t)) path =
       let a = then_parts (DrainsLoopback true) (Then Floods (WaitsFor LSR.TRANSMITTER_EMPTY.0 false)) s l m n t.1 path in
       let r = drained x gone s a.front m a.between e a.first a.before in
       let b = then_parts Floods (WaitsFor LSR.TRANSMITTER_EMPTY.0 false) s a.back a.between n a.second a.after in
       let w = was_flooded b.front a.between b.between (sound_path a.front m a.between sound a.before) r b.first b.before in
-      let looks = looks_waits s LSR.TRANSMITTER_EMPTY.0 false b.back b.second in
+      let looks = all_look (waits_for LSR.TRANSMITTER_EMPTY.0 false) refl refl s b.back b.second in
       inr (t.0, inr (flooded_looks x gone r.looped 0 b.back b.between n looks w b.after))
   measured answer found l m n told sound e (inr (inr (count, tells, t))) path =
       let waits = Then (WaitsFor LSR.TRANSMITTER_EMPTY.0 true) (TakesBack count) in
@@ -113,20 +88,19 @@ module _ (x : Modes) (gone : List ℕ) (s : Settings) where
       let sound_a = sound_path a.front m a.between sound a.before in
       let w = was_flooded b.front a.between b.between sound_a r b.first b.before in
       let c = then_parts (WaitsFor LSR.TRANSMITTER_EMPTY.0 true) (TakesBack count) s b.back b.between n b.second b.after in
-      let looks = looks_waits s LSR.TRANSMITTER_EMPTY.0 true c.front c.first in
+      let looks = all_look (waits_for LSR.TRANSMITTER_EMPTY.0 true) refl refl s c.front c.first in
       let v = flooded_looks x gone r.looped 0 c.front b.between c.between looks w c.before in
       let sound_b = sound_path b.front a.between b.between sound_a b.before in
       let sound_c = sound_path c.front b.between c.between sound_b c.before in
       let full = filled x gone c.between sound_c v (wait_empties s c.front b.between c.between c.first c.before) in
       let all = counted x gone s r.looped count c.back c.between n full c.second c.after in
-      let size_a = size_left a.front m a.between (left_plain m s (DrainsLoopback true) a.front (keeps_drained s true) a.first) a.before in
-      let size_b = size_left b.front a.between b.between (left_plain a.between s Floods b.front (keeps_floods s) b.first) b.before in
-      let empties = left_plain b.between s (WaitsFor LSR.TRANSMITTER_EMPTY.0 true) c.front (keeps_waits s LSR.TRANSMITTER_EMPTY.0 true)
-      c.first in
+      let size_a = size_left a.front m a.between (left_plain m (drains_loopback true) refl s a.front a.first) a.before in
+      let size_b = size_left b.front a.between b.between (left_plain a.between floods refl s b.front b.first) b.before in
+      let empties = left_plain b.between (waits_for LSR.TRANSMITTER_EMPTY.0 true) refl s c.front c.first in
       let size_c = size_left c.front b.between c.between empties c.before in
       let size : c.between.chip.receiver.size ≡ m.chip.transmitter.size =
       one_size c.between.chip sound_c.chip ∙ (size_c ∙ (size_b ∙ size_a)) in
       inl (
         told count (all ∙ ap (room x.fifo) size) tells,
-        sent_path gone c.back c.between n (silent_takes_back s count c.back c.second) full.sent c.after,
+        sent_path gone c.back c.between n (silent (takes_back count) refl s c.back c.second) full.sent c.after,
       )

@@ -1,5 +1,5 @@
 -- Where ticks come before each access, the spin limit is long enough and the wire has room, a `find_fifo_size` does not stall.
-use Rattle.std.proofs.Common.{◌≡◌, ◌⊎◌, ℕ, Bool, true, false, inl, inr, List, Ok, Err, sym, ◌∙◌, ap, subst}
+use Rattle.std.proofs.Common.{refl, ◌≡◌, ◌⊎◌, ℕ, true, false, inl, inr, List, Ok, Err, sym, ◌∙◌, ap, subst}
 use Rattle.uart_spec.specs.declared.errors.FifoSizeError.TheVariants.{Stalled}
 use Rattle.uart_spec.specs.declared.registers.line_status.TheConstants.LSR
 use Rattle.uart_spec.specs.Access.{Path}
@@ -26,10 +26,13 @@ use Rattle.uart_run.proofs.loopback.LoopSucceeds.{no_stall-begin}
 use Rattle.uart_run.proofs.progress.Nearing.{Runs}
 use Rattle.uart_run.proofs.progress.WaitEnds.{no_stall-empty}
 use Rattle.uart_run.proofs.sizing.Counting.{Found}
-use Rattle.uart_run.proofs.NeverSwitched.{enters_never}
+use Rattle.uart_spec.specs.declared.registers.offsets.TheConstants as offsets
+use Rattle.uart_run.proofs.NeverSwitched.{does_never}
 use Rattle.uart_run.proofs.SizeKept.{left_plain, left_fixed}
-use Rattle.uart_run.proofs.loopback.KeptExchanges.{keeps_begins, keeps_drained}
-use Rattle.uart_run.proofs.sizing.Measuring.{keeps_floods, was_flooded}
+use Rattle.uart_run.proofs.built.Words.{leaves_limit}
+use Rattle.uart_run.proofs.built.Loopback.{begins_test, drains_loopback, enters_at}
+use Rattle.uart_run.proofs.built.Sizing.{floods}
+use Rattle.uart_run.proofs.sizing.Measuring.{was_flooded}
 use Rattle.uart_run.proofs.sizing.Walking.{level_on}
 use Rattle.uart_run.proofs.sizing.Finding.{finds_size}
 
@@ -48,11 +51,11 @@ no_stall-measure x gone s found l m n v e stalled (inr (inl t)) path =
     let waits = WaitsFor LSR.TRANSMITTER_EMPTY.0 false in
     let a = then_parts (DrainsLoopback true) (Then Floods waits) s l m n t.1 path in
     let r = drained x gone s a.front m a.between e a.first a.before in
-    let u = lives-path s.limit a.front m a.between v (left_plain m s (DrainsLoopback true) a.front (keeps_drained s true) a.first)
+    let u = lives-path s.limit a.front m a.between v (left_plain m (drains_loopback true) refl s a.front a.first)
     a.before in
     let b = then_parts Floods waits s a.back a.between n a.second a.after in
     let w = was_flooded x gone s b.front a.between b.between u.sound r b.first b.before in
-    let y = lives-path s.limit b.front a.between b.between u (left_plain a.between s Floods b.front (keeps_floods s) b.first) b.before in
+    let y = lives-path s.limit b.front a.between b.between u (left_plain a.between floods refl s b.front b.first) b.before in
     let runs : Runs b.between = record {
       sound = y.sound;
       ticked = y.ticked;
@@ -64,11 +67,6 @@ no_stall-measure x gone s found l m n v e stalled (inr (inr (count, tells, t))) 
 
 -- ---- the call
 
--- up to the measure the limit stays
-limit-enters : (before : ℕ) (on : Bool) (f : Fields) (l : List Access) (mid : Fields) → EntersAt (level_on f) before on f l mid →
-    mid.limit ≡ f.limit
-limit-enters before on f l mid t = let at : Fields → ℕ = λ g. g.limit in ap at t.second.1 ∙ ap at t.first.1
-
 no_stall-in_loop : (cut : ℕ → ℕ) (gone : List ℕ) (found : Found) (mcr ier : ℕ) (f after : Fields) (l : List Access) (m n : MachineState) →
     Lives f.limit m → IsBegun cut gone m → found ≡ Err Stalled → SizesInLoopback found mcr ier f l after → Path MachineStep m l n → ⊥
 no_stall-in_loop cut gone found mcr ier f after l m n v b stalled (before, on, does) path =
@@ -79,9 +77,9 @@ no_stall-in_loop cut gone found mcr ier f after l m n v b stalled (before, on, d
     let d = next_stages (Saving (Measures found)) (SwitchesFifo level c.parts.first.0) a.mid c.mid c.parts.front a.parts.between
     c.parts.between c.parts.first.1 c.parts.before in
     let i = in_loopback cut gone level before on f a.mid a.parts.front m a.parts.between b a.parts.first a.parts.before in
-    let entered = enters_never level before on f a.parts.front a.mid a.parts.first in
+    let entered = does_never offsets.LCR (enters_at level before on) refl f a.parts.front a.mid a.parts.first in
     let w = lives-path f.limit a.parts.front m a.parts.between v (left_fixed m a.parts.front entered (inr b.dlab)) a.parts.before in
-    let same : f.limit ≡ a.mid.limit = sym (limit-enters before on f a.parts.front a.mid a.parts.first) in
+    let same : f.limit ≡ a.mid.limit = sym (leaves_limit (enters_at level before on) f a.parts.front a.mid a.parts.first) in
     no_stall-measure (looped_modes m.chip.latches.lcr on cut) gone (settings_of a.mid) found d.parts.front a.parts.between d.parts.between
     (subst (λ limit. Lives limit a.parts.between) same w) i stalled d.parts.first.0 d.parts.before
 
@@ -98,8 +96,7 @@ module _ (s t : State) (sound : IsSound (machine_of s)) (plain : IsPlain s) (is_
       (machine_of t) does path in
       let b = begun s a.parts.between mcr ier a.parts.front sound plain a.parts.first.0 a.parts.before in
       let v : Lives f.limit (machine_of s) = record { sound = sound; ticked = timely.ticked; enough = timely.limit } in
-      let leaves = left_plain (machine_of s) (settings_of f) (BeginsTest mcr ier true) a.parts.front
-      (keeps_begins (settings_of f) mcr ier true) a.parts.first.0 in
+      let leaves = left_plain (machine_of s) (begins_test mcr ier true) refl (settings_of f) a.parts.front a.parts.first.0 in
       let u = lives-path f.limit a.parts.front (machine_of s) a.parts.between v leaves a.parts.before in
       let same : f.limit ≡ a.mid.limit = sym (ap (λ (g : Fields). g.limit) a.parts.first.1) in
       no_stall-in_loop (cut_of (machine_of s).chip) (out (machine_of s).chip.transmitter) found mcr ier a.mid (fields (inner_of t))

@@ -27,7 +27,7 @@ use Rattle.uart_chip.specs.Chip.{cut_of, is_dlab_set}
 use Rattle.uart_chip.specs.Machine.{MachineState, MachineStep}
 use Rattle.uart_chip.specs.Sound.{IsSound}
 use Rattle.uart_chip.proofs.soundness.Sounds.{sound_path}
-use Rattle.uart_run.proofs.NeverSwitched.{enters_never}
+use Rattle.uart_run.proofs.NeverSwitched.{does_never}
 use Rattle.uart_run.proofs.SizeKept.{size_left, left_plain, left_fixed}
 use Rattle.uart_chip.proofs.conservation.Went.{Modes, IsIn}
 use Rattle.uart_chip.proofs.conservation.BlockLaws.{IsOpen, Stands, path_as}
@@ -43,11 +43,12 @@ use Rattle.uart_run.proofs.Latches.{Kept, kept_in, kept_after, kept_list, kept_s
 use Rattle.uart_run.proofs.Pieces.{then_parts, next_stages}
 use Rattle.uart_run.proofs.initialising.FifoSteps.{sets_fifo}
 use Rattle.uart_run.proofs.loopback.LoopTests.{IsBegun, begun, looped_modes, in_loopback}
-use Rattle.uart_run.proofs.loopback.KeptExchanges.{keeps_begins}
+use Rattle.uart_run.proofs.built.Loopback.{begins_test, enters_at}
+use Rattle.uart_run.proofs.built.Sizing.{measures}
 use Rattle.uart_run.proofs.loopback.TestedReady.{entered, mcr_read, looped, restored, leaving, written_back}
 use Rattle.uart_run.proofs.loopback.TestedReady.{left}
 use Rattle.uart_run.proofs.sizing.Counting.{Found}
-use Rattle.uart_run.proofs.sizing.Measuring.{FoundIn, TellsAll, measured, keeps_measures}
+use Rattle.uart_run.proofs.sizing.Measuring.{FoundIn, TellsAll, measured}
 use Rattle.uart_run.proofs.sizing.Remaining.{come_path}
 use Rattle.uart_spec.specs.Bits.{IsWithin}
 
@@ -171,13 +172,13 @@ module _ (s t : State) (sound : IsSound (machine_of s)) (plain : IsPlain s) wher
       c.parts.between d.parts.second d.parts.after in
       let e = entered (level_on f) before on f a.mid a.parts.front m a.parts.between b.sound b.dlab a.parts.first a.parts.before in
       let i = in_loopback cut gone (level_on f) before on f a.mid a.parts.front m a.parts.between b a.parts.first a.parts.before in
-      let held = size_left a.parts.front m a.parts.between
-      (left_fixed m a.parts.front (enters_never (level_on f) before on f a.parts.front a.mid a.parts.first) (inr b.dlab)) a.parts.before in
+      let never = does_never offsets.LCR (enters_at (level_on f) before on) refl f a.parts.front a.mid a.parts.first in
+      let held = size_left a.parts.front m a.parts.between (left_fixed m a.parts.front never (inr b.dlab)) a.parts.before in
       let sound_a = sound_path a.parts.front m a.parts.between b.sound a.parts.before in
       let sound_d = sound_path d.parts.front a.parts.between d.parts.between sound_a d.parts.before in
       let dlab_a : is_dlab_set a.parts.between.chip.latches ≡ false = ap (λ (k : Kept). is_dlab_set k.latches) e.kept ∙ b.dlab in
-      let still = kept_still (settings_of a.mid) (Measures found) d.parts.front a.parts.between d.parts.between
-      (keeps_measures (settings_of a.mid) found) dlab_a d.parts.first.0 d.parts.before in
+      let still = kept_still (measures found) refl (settings_of a.mid) d.parts.front a.parts.between d.parts.between dlab_a
+      d.parts.first.0 d.parts.before in
       let model : d.parts.between.chip.model ≡ (machine_of s).chip.model =
       ap (λ (k : Kept). k.model) (still ∙ e.kept) ∙ ap (λ (k : Kept). k.model) kept in
       let come_a = come_path start a.parts.front m a.parts.between come a.parts.before in
@@ -236,7 +237,7 @@ module _ (s t : State) (sound : IsSound (machine_of s)) (plain : IsPlain s) wher
       inl (record {
         stalled = stalled;
         out = begins_out s n mcr ier false l sound plain begins path;
-        kept = kept_still v (BeginsTest mcr ier false) l m n (keeps_begins v mcr ier false) plain.dlab begins path;
+        kept = kept_still (begins_test mcr ier false) refl v l m n plain.dlab begins path;
         knows = ap (λ (g : Fields). g.fifo) same;
       })
   found_by found l is_on (inr (_, (mcr, ier, inr does))) path =
@@ -246,9 +247,9 @@ module _ (s t : State) (sound : IsSound (machine_of s)) (plain : IsPlain s) wher
       let n = machine_of t in
       let a = next_stages (Saving (BeginsTest mcr ier true)) (SizesInLoopback found mcr ier) f (fields (inner_of t)) l m n does path in
       let b = begun s a.parts.between mcr ier a.parts.front sound plain a.parts.first.0 a.parts.before in
-      let kept = kept_still v (BeginsTest mcr ier true) a.parts.front m a.parts.between (keeps_begins v mcr ier true) plain.dlab
+      let kept = kept_still (begins_test mcr ier true) refl v a.parts.front m a.parts.between plain.dlab
       a.parts.first.0 a.parts.before in
-      let begins = left_plain m v (BeginsTest mcr ier true) a.parts.front (keeps_begins v mcr ier true) a.parts.first.0 in
+      let begins = left_plain m (begins_test mcr ier true) refl v a.parts.front a.parts.first.0 in
       let held = size_left a.parts.front m a.parts.between begins a.parts.before in
       let is_mcr = mcr_read v mcr ier true a.parts.front m a.parts.between a.parts.first.0 a.parts.before in
       let is_ier = ier_read v mcr ier true a.parts.front m a.parts.between plain.dlab a.parts.first.0 a.parts.before in

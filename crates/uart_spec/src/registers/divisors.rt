@@ -191,8 +191,12 @@ pub enum Divisor {
 impl Divisor {
     /// Returns the divisor as a number, as it is written to the divisor latch.
     pub fn number(self) -> u16
+        // promise: `Divisor` names exactly the divisors of 115,200 that fit, each once
+        // shown by: baud_rates
+        // refused: divisor_with_another_number
         ensures value { result ≡ number self }
         ensures divides { IsDivisor result }
+        // if: it has the same number
         ensures once { (other : Divisor) → number other ≡ result → other ≡ self }
         ensures every { (n : ℕ) → IsDivisor n → (divisor : Divisor) × (number divisor ≡ n) }
     {

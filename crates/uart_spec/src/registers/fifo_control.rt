@@ -22,6 +22,11 @@ impl FCR {
 
     /// Returns the trigger level of the receiver FIFO.
     pub fn fifo_trigger_level(self) -> FifoTriggerLevel
+        // proved: Each field is its table of codes: a getter returns the case whose code is in its
+        //   bits, a setter changes its bits alone, and its getter returns what was set
+        // on: `FCR::fifo_trigger_level`, `set_fifo_trigger_level`, `LCR::word_length`,
+        //   `set_word_length`, `parity`, `set_parity`, `PSD::pdf`, `set_pdf`; `from_raw_bits` and
+        //   `to_raw_bits` of `FifoTriggerLevel`, `WordLength`, `Parity`
         ensures { IsOnly (HasTrigger 6 self.0) result }
     {
         FifoTriggerLevel::from_raw_bits(self.0 >> 6)

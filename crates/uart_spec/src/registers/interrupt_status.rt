@@ -16,6 +16,10 @@ pub struct ISR(pub(super) u8);
 impl ISR {
     /// Returns the pending interrupt. `None` if none is pending, or if its code is not known.
     pub fn interrupt_type(self) -> Option<InterruptType>
+        // proved: Which interrupt ISR shows, whether one is pending, whether the FIFO is on; which
+        //   bits of LSR are errors
+        // on: `ISR::interrupt_type`, `has_pending_interrupt`, `fifo_enabled`,
+        //   `InterruptType::from_bits`, `priority`, `LSR::has_error`
         ensures { IsOnlyIfAny (Identifies self.0) result }
     {
         InterruptType::from_bits(self.0)

@@ -21,6 +21,12 @@ impl LCR {
 
     /// Returns the register with this word length. No other bit changes.
     pub fn set_word_length(self, length: WordLength) -> Self
+        // promise: each field of a register is its table of codes, and a setter changes its bits
+        //   alone
+        // with: set_word_length.own, set_word_length.others, set_parity.own,
+        //   set_fifo_trigger_level.own
+        // shown by: fields, codes
+        // refused: wrong_parity_code, parity_clears_the_stop_bit
         ensures own { HasWordLength 0 result.0 length }
         ensures others { SameOutside 0 2 self.0 result.0 }
         ensures bits { result.0 ≡ bit_or (bit_and self.0 0xFC) (word_length_code length) }

@@ -21,6 +21,9 @@ impl MSR {
     /// Returns the changes of the lines since an earlier reading, as their bits: of RI only its
     /// trailing edge, from set to clear.
     pub fn changes_since(self, before: MSR) -> MSR
+        // proved: Which modem lines changed between two values of MSR, as the bits of these
+        //   changes: of RI only the trailing edge
+        // on: `MSR::changes_since`
         ensures { result.0 ≡ spec.line_changes before.0 self.0 }
     {
         let cts = flag(self.is_changed(before, MSR::CTS), MSR::DELTA_CTS);

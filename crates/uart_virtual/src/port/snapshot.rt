@@ -61,6 +61,9 @@ impl VirtualPortWith<FIFO_SIZE> {
     /// obey_signals(host, restored.todo);
     /// ```
     pub fn data(&self) -> ChipData
+        // promise: a port that was saved is restored, and what no port can be is refused
+        // with: data.saved, from_data.port, from_data.accepted
+        // shown by: a_restored_port_goes_on, data_of_no_port_are_refused
         ensures data { chip_of result self.now.chip.transmitter.wire ≡ self.now.chip }
         ensures saved { IsSaved result self.now.chip.transmitter.wire }
     {

@@ -6,7 +6,9 @@ use Rattle.uart_ring.proofs.Storms.{already_stuck, not_stuck}
 use Rattle.uart_ring.proofs.ring.Uart16550Ring.try_handle.Goals as goal
 
 pub returns-in-None : goal.returns-in-None
-returns-in-None g c = ring_among (λ l t. not_stuck _ _ _ _ l _ c.in-None.is t) c.handle_round.ensures
+returns-in-None g c =
+    let handled = rw c.max.ensures at c.handle_round.ensures in
+    ring_among (λ l t. not_stuck _ _ _ _ l _ c.in-None.is t) handled
 
 pub returns-in-Some : goal.returns-in-Some
 returns-in-Some g c =

@@ -1,0 +1,143 @@
+-- Calls of the driver that are no calls of a run make the lists of those for which they stand.
+use Rattle.std.proofs.Common.{◌≡◌, ◌<◌, ◌≤◌, ◌⊎◌, ℕ, Bool, true, false, List, [], ◌∷◌, length, take, min, Result, Ok, Err}
+use Rattle.std.proofs.Common.{inl, inr, refl, sym, ◌∙◌, ap, arith}
+use Rattle.std.proofs.lemmas.List.{append-nil, length-take, take-take}
+use Rattle.uart_spec.specs.Config.{IsComputable}
+use Rattle.uart_spec.specs.FifoSize.{characters}
+use Rattle.uart_spec.specs.declared.access.Access.{Access}
+use Rattle.uart_spec.specs.declared.config.Config.{Config}
+use Rattle.uart_spec.specs.declared.errors.ByteReceiveError.{ByteReceiveError}
+use Rattle.uart_spec.specs.declared.errors.InvalidDivisorError.{InvalidDivisorError}
+use Rattle.uart_spec.specs.declared.received.Received.{Received}
+use Rattle.uart_spec.specs.declared.setup.FifoSize.{FifoSize}
+use Rattle.uart_16550.specs.Bursts.{SendsBurst}
+use Rattle.uart_16550.specs.Checked.{IfComputable, IsRefusalOf}
+use Rattle.uart_16550.specs.Driver.{Did, Doing, Made, Saving, fields, settings_of}
+use Rattle.uart_16550.specs.Frame.{SetsFrame}
+use Rattle.uart_16550.specs.Init.{Inits}
+use Rattle.uart_16550.specs.Setup.{InitsWith, SetsFrameWhenIdle}
+use Rattle.uart_16550.specs.Grammar.{Settings, Language}
+use Rattle.uart_16550.specs.Receive.{TryReceiveWithErrors, ReceivesWithErrors}
+use Rattle.uart_16550.specs.Transmit.{Sends, burst_size}
+use Rattle.uart_16550.proofs.Doings.{did_among, did_made}
+use Rattle.uart_events.specs.declared.call.Call.{Call}
+use Rattle.uart_events.specs.declared.call.Call.TheVariants as call
+use Rattle.uart_events.specs.declared.call.Answer.{Answer}
+use Rattle.uart_calls.specs.Meaning.{frame_answer, frame_when_idle_answer, init_answer}
+use Rattle.uart_chip.specs.Machine.{MachineStep}
+use Rattle.uart_chip.proofs.Sizes.{at_least_16}
+use Rattle.uart_run.specs.StandsFor.{Driver, StandsFor, found_in, ReceivesOne, SendsParts, SendsFront, WritesBytes, ReadsControl, StandsIf}
+use Rattle.uart_run.specs.StandsFor.{ChecksInit, ChecksInitWith, ChecksFrame, ChecksFrameWhenIdle}
+
+-- ---- calls that send and receive
+
+one_slot : (s : Settings) (l : List Access) (result : Result Received ByteReceiveError) → TryReceiveWithErrors result s l →
+    ReceivesWithErrors 1 (found_in result) s l
+one_slot s l (Ok received) h =
+    inl (refl, record { front = l; back = []; whole = sym (append-nil l); first = h; second = record { is = refl } })
+one_slot s l (Err e) h =
+    inr (omega arith, record { front = []; back = l; whole = refl; first = record { is = refl }; second = h })
+
+pub receives_one : ReceivesOne
+receives_one d e result made = record {
+  outcome = found_in result;
+  answered = refl;
+  did = did_among (λ f l after h. (one_slot (settings_of f) l result h.0, h.1)) (did_made made);
+}
+
+pub sends_parts : SendsParts
+sends_parts d e bytes count made = record { outcome = count; answered = refl; did = did_made made }
+
+-- a burst of a size that is no larger than the driver's is one of the driver, of as many bytes
+front_sends : (s : Settings) (l : List Access) (size : FifoSize) (bytes : List ℕ) (k : ℕ) → characters size ≤ characters s.size →
+    SendsBurst size bytes k s l → Sends (take (characters size) bytes) k s l
+front_sends s l size bytes k fits sends = go s.fifo refl sends
+  where
+    n : ℕ
+    n = characters size
+
+    long : length (take n bytes) ≡ min n (length bytes)
+    long = length-take n bytes
+
+    go : (fifo : Bool) → s.fifo ≡ fifo → SendsBurst size bytes k s l → Sends (take n bytes) k s l
+    go fifo is (inl (none, nothing, made)) = inl (omega (arith, long, none), nothing, made)
+    go fifo is (inr (inl (some, nothing, miss))) =
+        let least = at_least_16 size in inr (inl (omega (arith, long, some, least), nothing, miss))
+    go true is (inr (inr (some, count, burst))) =
+        let least = at_least_16 size in
+        let whole : k ≡ min (length bytes) n = rw is at count in
+        let counts : k ≡ burst_size s (take n bytes) = rw (is, long) (omega (arith, whole, fits)) in
+        let few : k ≤ n = omega (arith, whole) in
+        inr (inr (omega (arith, long, some, least), counts, rw (take-take k n bytes few) burst))
+    go false is (inr (inr (some, count, burst))) =
+        let least = at_least_16 size in
+        let whole : k ≡ min (length bytes) 1 = rw is at count in
+        let counts : k ≡ burst_size s (take n bytes) = rw (is, long) (omega (arith, whole, least)) in
+        let few : k ≤ n = omega (arith, whole, least) in
+        inr (inr (omega (arith, long, some, least), counts, rw (take-take k n bytes few) burst))
+
+pub sends_front : SendsFront
+sends_front d e size bytes count fits made =
+    let did = did_made made in
+    record {
+      outcome = count;
+      answered = refl;
+      did = record {
+        list = did.list;
+        path = did.path;
+        does = (front_sends (settings_of (fields d)) did.list size bytes count fits did.does.0, did.does.1);
+      };
+    }
+
+pub writes_bytes : WritesBytes
+writes_bytes s t text spare result few made = record {
+  outcome = result;
+  answered = refl;
+  did = did_among (λ f l after h. ((few, h.0), h.1)) (did_made made);
+}
+
+-- ---- a call that reads
+
+pub reads_control : ReadsControl
+reads_control d e gone made =
+    let did = did_made made in
+    let asks = did.does.0 in (
+      asks.answer,
+      asks.shows,
+      record {
+        outcome = asks.answer;
+        answered = refl;
+        did = record { list = did.list; path = did.path; does = (record { is = asks.is }, did.does.1) };
+      },
+    )
+
+-- ---- calls that take each configuration
+
+stands_if : {R : Type 0} (config : Config) (refused : InvalidDivisorError → R) (result : R) (G : Doing) (c : Call) (a : Answer)
+    (d e : Driver) → (Did MachineStep G d e → StandsFor d c a e) → Did MachineStep (IfComputable config refused result G) d e →
+    StandsIf config d c a e
+stands_if config refused result G c a d e stands did = go did.does
+  where
+    go : IfComputable config refused result G (fields d) did.list (fields e) → StandsIf config d c a e
+    go (inl (computable, does)) = inl (computable, stands (record { list = did.list; path = did.path; does = does }))
+    go (inr (cause, is, same, none, after)) = inr (record { machine = rw none at did.path; driver = after })
+
+pub checks_init : ChecksInit
+checks_init d e config result did =
+    stands_if config _ result (Inits config result) (call.Init config) (init_answer result) d e
+    (λ done. record { outcome = result; answered = refl; did = done }) did
+
+pub checks_init_with : ChecksInitWith
+checks_init_with d e config setup result did =
+    stands_if config _ result (InitsWith setup config result) (call.InitWith config setup) (init_answer result) d e
+    (λ done. record { outcome = result; answered = refl; did = done }) did
+
+pub checks_frame : ChecksFrame
+checks_frame d e config result did =
+    stands_if config _ result (SetsFrame config result) (call.SetFrame config) (frame_answer result) d e
+    (λ done. record { outcome = result; answered = refl; did = done }) did
+
+pub checks_frame_when_idle : ChecksFrameWhenIdle
+checks_frame_when_idle d e config result did =
+    stands_if config _ result (SetsFrameWhenIdle config result) (call.SetFrameWhenIdle config) (frame_when_idle_answer result) d e
+    (λ done. record { outcome = result; answered = refl; did = done }) did
