@@ -153,6 +153,7 @@ calls! {
     uart_quiesce(uart: &mut Uart, outputs: MCR, fifos: FifoAction) { uart.quiesce(outputs, fifos) }
     uart_restore(uart: &mut Uart, dump: &ConfigRegisterDump) { uart.restore(dump) }
     size_characters(size: FifoSize) -> usize { size.characters() }
+    level_characters(level: FifoTriggerLevel, size: FifoSize) -> usize { level.characters(size) }
     size_largest_up_to(characters: usize) -> Option<FifoSize> { FifoSize::largest_up_to(characters) }
     design_ware_fifo_size_of(cpr: u32) -> Option<FifoSize> { backend::fifo_size_of(cpr) }
     uart_check_configured(uart: &mut Uart, outputs: MCR) -> Result<(), ConfigurationError> { uart.check_configured(outputs) }
@@ -335,6 +336,17 @@ calls! {
     read_device_tree(blob: &[u8], native: ByteOrder) -> Result<PortDescription, TreeError> { discovery::read_device_tree(blob, native) }
     read_tree_node(blob: &[u8], path: &[u8], native: ByteOrder) -> Result<PortDescription, TreeError> { discovery::read_tree_node(blob, path, native) }
     config_of(port: &PortDescription) -> Config { discovery::config_of(port) }
+    config_character_clocks(config: &Config) -> Result<u64, InvalidDivisorError> { config.character_clocks() }
+    config_handler_clocks(config: &Config, size: FifoSize) -> Result<u64, InvalidDivisorError> { config.handler_clocks(size) }
+    config_handler_budget(config: &Config, size: FifoSize, access: u64, before: u64) -> Result<Option<u64>, InvalidDivisorError> { config.handler_budget(size, access, before) }
+    config_characters_in(config: &Config, clocks: u64) -> Result<u64, InvalidDivisorError> { config.characters_in(clocks) }
+    config_drain_clocks(config: &Config, size: FifoSize) -> Result<u64, InvalidDivisorError> { config.drain_clocks(size) }
+    config_timeout_clocks(config: &Config) -> Result<u64, InvalidDivisorError> { config.timeout_clocks() }
+    config_spin_limit_for(config: &Config, size: FifoSize, access: u64) -> Result<Option<u64>, InvalidDivisorError> { config.spin_limit_for(size, access) }
+    config_nanoseconds_within(config: &Config, clocks: u64) -> Option<u64> { config.nanoseconds_within(clocks) }
+    config_nanoseconds_covering(config: &Config, clocks: u64) -> Option<u64> { config.nanoseconds_covering(clocks) }
+    config_clocks_within(config: &Config, nanoseconds: u64) -> Option<u64> { config.clocks_within(nanoseconds) }
+    config_clocks_covering(config: &Config, nanoseconds: u64) -> Option<u64> { config.clocks_covering(nanoseconds) }
     config_nearest(config: Config, per_mille: u32) -> Result<Config, NearestDivisorError> { config.nearest(per_mille) }
     config_checked_nearest(config: Config, per_mille: u32) -> Result<Config, NearestDivisorError> { config.checked_nearest(per_mille) }
     config_cmp(config: &Config, other: &Config) -> core::cmp::Ordering { config.cmp(other) }

@@ -155,7 +155,7 @@ calls! {
     serial_write(serial: &mut Console, offset: u8, value: u8) -> Result<(), Failed> { serial.write(offset, value) }
     serial_write_bytes(serial: &mut Console, offset: u8, values: &[u8]) -> Result<(), Failed> { serial.write_bytes(offset, values) }
     serial_set_bursts(serial: &mut Console, has_bursts: bool) -> Result<(), Failed> { serial.set_bursts(has_bursts) }
-    serial_set_clock(serial: &mut Console, has_clock: bool) { serial.set_clock(has_clock) }
+    serial_set_clock(serial: &mut Console, has_clock: bool) -> Result<(), Failed> { serial.set_clock(has_clock) }
     serial_is_timeout_to_come(serial: &Console) -> bool { serial.is_timeout_to_come() }
     serial_timeout_passed(serial: &mut Console) -> Result<(), Failed> { serial.timeout_passed() }
     serial_fifo_capacity(serial: &Console) -> usize { serial.fifo_capacity() }

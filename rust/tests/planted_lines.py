@@ -10,6 +10,10 @@ PORTS = 'rust/uart_16550/src/access/ports.rs'
 SERIAL = 'rust/uart_16550_chip/src/serial.rs'
 BYTES = 'rust/uart_16550_chip/src/serial/bytes.rs'
 SERDE = 'rust/uart_16550_chip/src/serial/serde.rs'
+EVENTS = 'rust/uart_16550_chip/src/serial/events.rs'
+BOTH = 'rust/uart_16550_vmm/src/events.rs'
+BUS = 'rust/uart_16550_vmm/src/bus.rs'
+COUNTERS = 'rust/uart_16550_vmm/src/counters.rs'
 AROUND = 'rust/uart_16550_vmm/src/linux.rs'
 INPUT = 'rust/uart_16550_vmm/src/input.rs'
 
@@ -25,8 +29,10 @@ STORE = '''    barrier();
 '''
 BARRIER = '    barrier();\n'
 
-# What is wrong, the file, the text, what stands in its place, and what finds it: the packages' tests, the thread sanitiser, or a look
-# at the assembly for a target that needs barriers.
+NOT_TIMEOUTS = 'if stringify!($event) != "timeout_to_come" { %s }'
+
+# What is wrong, the file, the text, what stands in its place, and what finds it: the packages' tests, the random machines of a monitor
+# alone, the thread sanitiser, or a look at the assembly for a target that needs barriers.
 NAMED = [
     ('the second of two due tasks is not woken', SHARED, 'for waiter in [due.receive, due.transmit].into_iter().flatten() {', 'if let Some(waiter) = [due.receive, due.transmit].into_iter().flatten().next() {', 'tests'),
     ('what was done before is not seen in the next call', EXCLUSIVE, 'Ordering::Acquire', 'Ordering::Relaxed', 'races'),
@@ -49,6 +55,18 @@ NAMED = [
     ('a clock puts off nothing after a read', SERIAL, 'Caller::Reader(offset) => self.clock.after_read(offset, &mut todo),', 'Caller::Reader(_) => false,', 'tests'),
     ('a clock puts off nothing after a write', SERIAL, 'Caller::Writer(offset) => self.clock.after_write(offset, &mut todo),', 'Caller::Writer(_) => false,', 'tests'),
     ('what is put off stays when the guest is interrupted', SERIAL, 'self.clock.is_owed &= level && !signal;', 'self.clock.is_owed &= level;', 'tests'),
+    ('the first of two is not told that an interrupt is put off', BOTH, 'self.0.$event($($argument)?);', NOT_TIMEOUTS % 'self.0.$event($($argument)?);', 'machines'),
+    ('the second of two is not told that an interrupt is put off', BOTH, 'self.1.$event($($argument)?);', NOT_TIMEOUTS % 'self.1.$event($($argument)?);', 'machines'),
+    ('what is shared is not told that an interrupt is put off', EVENTS, 'self.as_ref().$event($($argument)?);', NOT_TIMEOUTS % 'self.as_ref().$event($($argument)?);', 'machines'),
+    ('what is put off is not counted', COUNTERS, 'timeouts: timeout_to_come() if true;', 'timeouts: timeout_to_come() if false;', 'machines'),
+    ('a clock that stops forgets what it put off', SERIAL, '            Ok(())\n        } else {\n            self.timeout_passed()\n        }\n', '            Ok(())\n        } else {\n            Ok(())\n        }\n', 'machines'),
+    ('a device begins with the divisor 0', SERIAL, '        (DATA, DIVISOR_OF_9600),\n', '', 'machines'),
+    ('more input is read than there is room for', INPUT, 'self.read(&mut bytes[..room])?', 'self.read(&mut bytes)?', 'machines'),
+    ('string I/O is written byte by byte', BUS, 'Place::Ports if size == NonZeroUsize::MIN => self.write_register(Some(offset), data),\n', '', 'machines'),
+    ('a wide write of the divisor is string I/O', BUS, '(offset != DATA || self.has_latch())', 'offset != DATA', 'machines'),
+    ('each byte of a wide write is for the first port', BUS, 'self.write_register(offset.checked_add(index), &[*value]);', 'self.write_register(Some(offset), &[*value]);', 'machines'),
+    ('a wait of less than a millisecond is none', AROUND, 'limit.as_nanos().div_ceil(NANOSECONDS_IN_A_MILLISECOND)', '(limit.as_nanos() / NANOSECONDS_IN_A_MILLISECOND)', 'tests'),
+    ('a timer is not started', AROUND, '        let _ = self.start();\n', '', 'tests'),
     ('many bytes of one exit are offered one by one', SERIAL, 'if !is_held && self.port.output().len() == WIRE_ROOM {', 'if !is_held && !self.port.output().is_empty() {', 'tests'),
     ('an output that is held is asked for each byte', SERIAL, 'is_held = self.port.output().len() == WIRE_ROOM;', 'is_held = false;', 'tests'),
     ('of many bytes the last are not offered', SERIAL, 'result.and(self.offer_output())\n', 'result\n', 'tests'),
@@ -94,7 +112,11 @@ ELSEWHERE = [
 KNOWN = [
     (AROUND, 'const CLOSE_ON_EXEC: c_int = if IS_SPARC', '4194305', 'no test runs on SPARC'),
     (AROUND, '    0x4000', '16385', 'no test runs on SPARC'),
-    (INPUT, 'bytes: [0; CHUNK],', '1', 'bytes are written before they are read'),
+    (INPUT, 'let mut bytes = [0; MOST];', '1', 'bytes are written before they are read'),
+    (INPUT, 'const MOST: usize = 16;', '17', 'no device has room for more than 16'),
+    (AROUND, 'const NANOSECONDS_IN_A_MILLISECOND', None, 'a wait takes longer than it is asked for by more than this'),
+    (AROUND, 'Duration::from_nanos(1)', '2', 'a timer starts with any time that is not 0'),
+    (AROUND, '                seconds: 0,', '1', 'that a timer runs out again after a second is seen by who waits for a second'),
     (AROUND, 'const IS_SPARC', None, 'no test runs on SPARC'),
     (AROUND, 'const IS_MIPS', None, 'no test runs on MIPS'),
     (AROUND, '        }; 8];', None, 'it is no matter how many events are told at a time'),

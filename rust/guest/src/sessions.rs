@@ -30,6 +30,8 @@ const SOME: usize = 20_000;
 const SLOW: usize = 5;
 /// How many bytes fill the guest's buffers, so that it takes RTS down.
 const MANY: usize = 8192;
+/// The divisor that a device begins with: 9600 baud.
+const DIVISOR_OF_FIRMWARE: u16 = 12;
 const PASSWORD: &str = "geese";
 const PROMPT: &str = "guest# ";
 
@@ -45,6 +47,7 @@ pub fn named(name: &str, terminal: Terminal, folder: PathBuf) -> Option<Session>
         "whole" => Some(Box::pin(whole(terminal))),
         "resumed" => Some(Box::pin(resumed(terminal, folder))),
         "clocked" => Some(Box::pin(clocked(terminal))),
+        "found" => Some(Box::pin(found(terminal))),
         "measured" => Some(Box::pin(measured(terminal))),
         _ => None,
     }
@@ -212,6 +215,18 @@ async fn clocked(terminal: Terminal) -> Result<(), Failed> {
     println!("input while the kernel prints, a slow host, and each way at once, with a clock: ok");
     let lost = terminal.counts().lost;
     check(lost == 0, || format!("{lost} bytes of output are lost"))
+}
+
+/// The kernel takes over the baud rate that it finds at its first console, before it has a driver.
+async fn found(terminal: Terminal) -> Result<(), Failed> {
+    let divisor = |terminal: &Terminal| terminal.settings().divisor;
+    terminal.expect("Linux version").await;
+    check(divisor(&terminal) == DIVISOR_OF_FIRMWARE, || {
+        format!("the divisor is {}", divisor(&terminal))
+    })?;
+    terminal.expect("guest login: ").await;
+    println!("boot at the baud rate that is found: ok");
+    Ok(())
 }
 
 /// Goes on in a machine that was saved while it moved a megabyte each way.

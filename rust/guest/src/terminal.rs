@@ -131,6 +131,12 @@ impl Terminal {
         self.wire.lock().requests.push_back(request);
     }
 
+    /// Returns how the guest has set its port.
+    #[must_use]
+    pub fn settings(&self) -> Settings {
+        self.wire.lock().settings
+    }
+
     /// Returns what was counted so far.
     #[must_use]
     pub fn counts(&self) -> Counts {

@@ -11,7 +11,7 @@ use core::sync::atomic::{AtomicBool, Ordering};
 use core::task::{Context, Poll, RawWaker, RawWakerVTable, Waker};
 use machine::{End, end};
 use uart_16550::native::backend::X86Ports;
-use uart_16550::native::spec::registers::{IER, LSR};
+use uart_16550::native::spec::registers::{FifoTriggerLevel, IER, LSR};
 use uart_16550::native::{BaudRate, Config, Uart16550};
 use uart_16550::ring::{MAX_INTERRUPTS, Memory};
 use uart_16550::shared::{CriticalSection, Shared, SharedError};
@@ -68,8 +68,10 @@ fn start() {
     {
         end(End::NoRings)
     }
+    // Level 8 leaves the handler 781 microseconds at this rate, and the default level 260.
     let config = Config {
         baud_rate: BaudRate::Baud115200,
+        fifo_trigger_level: Some(FifoTriggerLevel::Eight),
         interrupts: IER::DATA_READY | IER::RECEIVER_LINE_STATUS,
         ..Config::DEFAULT
     };

@@ -307,9 +307,22 @@ impl<S: CriticalSection, B: Backend> Shared<S, B> {
             })
         });
         let (result, due) = entered.ok_or(SharedError::InUse)?;
-        for waiter in [due.receive, due.transmit].into_iter().flatten() {
-            waiter.waker.wake();
+        let _second = WakesAtTheEnd(due.transmit.map(|waiter| waiter.waker));
+        if let Some(first) = due.receive {
+            first.waker.wake();
         }
         result
+    }
+}
+
+// A task that is woken when this goes: behind the other one, or while the panic of that one's waker passes. Nobody else knows of the task
+// any more, so it would wait for ever.
+struct WakesAtTheEnd(Option<Waker>);
+
+impl Drop for WakesAtTheEnd {
+    fn drop(&mut self) {
+        if let Some(waker) = self.0.take() {
+            waker.wake();
+        }
     }
 }

@@ -803,6 +803,38 @@ fn two_tasks_whose_turn_comes_in_one_call_are_both_woken() {
     assert_eq!(pair.woken(), [1, 1]);
 }
 
+/// A waker that panics.
+struct Panics;
+
+impl Wake for Panics {
+    fn wake(self: Arc<Self>) {
+        panic!("on purpose");
+    }
+}
+
+/// Both tasks are due in one call, and the waker of the first or of the second one panics. Returns how often each other one was woken.
+fn woken_beside_a_panic(panics: usize) -> [usize; 2] {
+    let (port, cable, mut pair) = (Shared::new(Alone), Cable::default(), Pair::new());
+    start(&port, &cable);
+    pair.wakers[panics] = Waker::from(Arc::new(Panics));
+    both_wait(&port, &pair);
+    cable.chip().received.push_back(b'a');
+    cable.chip().send_all();
+    let call = std::panic::AssertUnwindSafe(|| handle(&port, &cable));
+    assert!(std::panic::catch_unwind(call).is_err());
+    // The rings go on, and nobody is woken twice.
+    let woken = pair.woken();
+    handle(&port, &cable);
+    assert_eq!(pair.woken(), [0, 0]);
+    woken
+}
+
+#[test]
+fn a_waker_that_panics_does_not_lose_the_wake_of_the_other_task() {
+    assert_eq!(woken_beside_a_panic(0), [0, 1]);
+    assert_eq!(woken_beside_a_panic(1), [1, 0]);
+}
+
 #[test]
 fn two_tasks_that_wait_when_the_rings_go_are_both_told() {
     let (port, cable, pair) = (Shared::new(Alone), Cable::default(), Pair::new());

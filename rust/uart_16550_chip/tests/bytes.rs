@@ -180,6 +180,10 @@ fn parts_are_refused_that_are_cut_short_or_unknown_or_not_there() {
 #[test]
 fn larger_fifos_are_refused() {
     assert_eq!(refusal(LARGER), BadState::UnknownPart { kind: 3 });
+    // Neither is one that says that its FIFOs are not needed. No writer makes it, and C refuses it with this reason.
+    let mut other = LARGER.to_vec();
+    other[172] = 0;
+    assert_eq!(refusal(&other), BadState::Value { offset: 172 });
 }
 
 /// What a later release may add, and an older one skips: a part that is not needed, and fields at the end of a part.

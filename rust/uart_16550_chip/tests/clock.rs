@@ -112,7 +112,7 @@ fn each_signal_is_given_or_put_off() {
             serial.write(FCR, 0x81).unwrap();
             serial.write(IER, 0x01).unwrap();
         }
-        devices[1].set_clock(true);
+        devices[1].set_clock(true).unwrap();
         let mut counts = [0, 0];
         // A signal that the device with a clock did not give, though the line is up since.
         let mut is_owed = false;
@@ -142,7 +142,7 @@ fn each_signal_is_given_or_put_off() {
 fn a_timeout_that_cannot_be_triggered_is_tried_again() {
     let (line, put_off) = (Line::default(), PutOff::default());
     let mut serial: Device = Serial::with_events(&line, &put_off, sink());
-    serial.set_clock(true);
+    serial.set_clock(true).unwrap();
     serial.write(FCR, 0x81).unwrap();
     serial.write(IER, 0x01).unwrap();
     serial.enqueue_raw_bytes(&[0; 12]).unwrap();
@@ -161,7 +161,7 @@ fn a_timeout_that_cannot_be_triggered_is_tried_again() {
 fn what_is_tried_again_is_not_put_off() {
     let (line, put_off) = (Line::default(), PutOff::default());
     let mut serial: Device = Serial::with_events(&line, &put_off, sink());
-    serial.set_clock(true);
+    serial.set_clock(true).unwrap();
     serial.write(FCR, 0x81).unwrap();
     serial.write(IER, 0x01).unwrap();
     line.is_broken.set(true);
@@ -179,7 +179,7 @@ fn what_is_tried_again_is_not_put_off() {
 fn what_a_write_brings_waits_too() {
     let (line, put_off) = (Line::default(), PutOff::default());
     let mut serial: Device = Serial::with_events(&line, &put_off, sink());
-    serial.set_clock(true);
+    serial.set_clock(true).unwrap();
     serial.write(FCR, 0x81).unwrap();
     // The guest enables the interrupt: that is no access of DATA.
     serial.write(IER, 0x02).unwrap();
@@ -200,12 +200,38 @@ fn what_a_write_brings_waits_too() {
     assert_eq!((line.count.get(), line.level.get()), (2, false));
 }
 
+/// A monitor that has no clock any more calls `timeout_passed` no more. So what is put off is told by the call that says so.
+#[test]
+fn a_clock_that_stops_loses_nothing() {
+    let (line, put_off) = (Line::default(), PutOff::default());
+    let mut serial: Device = Serial::with_events(&line, &put_off, sink());
+    serial.set_clock(true).unwrap();
+    serial.write(IER, 0x02).unwrap();
+    serial.read(ISR);
+    serial.write(DATA, b'x').unwrap();
+    assert_eq!((line.count.get(), serial.is_timeout_to_come()), (1, true));
+    // A clock that is there already changes nothing.
+    serial.set_clock(true).unwrap();
+    assert_eq!(line.count.get(), 1);
+    line.is_broken.set(true);
+    serial.set_clock(false).unwrap_err();
+    line.is_broken.set(false);
+    serial.set_clock(false).unwrap();
+    assert_eq!((line.count.get(), line.level.get()), (2, true));
+    serial.set_clock(false).unwrap();
+    assert_eq!(line.count.get(), 2);
+    // From now on nothing is put off.
+    serial.read(ISR);
+    serial.write(DATA, b'y').unwrap();
+    assert_eq!((line.count.get(), put_off.0.get()), (3, 1));
+}
+
 /// A read of DATA that brings a character with an error to the front raises the line. That is no timeout, and not put off.
 #[test]
 fn a_rise_in_a_read_of_data_is_signalled_at_once() {
     let (line, put_off) = (Line::default(), PutOff::default());
     let mut serial: Device = Serial::with_events(&line, &put_off, sink());
-    serial.set_clock(true);
+    serial.set_clock(true).unwrap();
     serial.write(FCR, 0x81).unwrap();
     serial.write(IER, 0x04).unwrap();
     serial.enqueue_raw_bytes(b"a").unwrap();
@@ -221,7 +247,7 @@ fn a_rise_in_a_read_of_data_is_signalled_at_once() {
 fn what_is_put_off_is_not_lost_with_a_state() {
     let (line, put_off) = (Line::default(), PutOff::default());
     let mut serial: Device = Serial::with_events(&line, &put_off, sink());
-    serial.set_clock(true);
+    serial.set_clock(true).unwrap();
     serial.write(FCR, 0x81).unwrap();
     serial.write(IER, 0x01).unwrap();
     serial.enqueue_raw_bytes(&[0; 12]).unwrap();

@@ -357,7 +357,7 @@ fn a_full_fifo_is_signalled() {
 /// A guest whose monitor has a clock. Time passes while the guest is in none of its handlers.
 fn clocked(fcr: u8, ier: u8, to_send: &[u8]) -> Guest {
     let mut guest = Guest::new(fcr, ier, to_send);
-    guest.serial.set_clock(true);
+    guest.serial.set_clock(true).unwrap();
     guest
 }
 

@@ -1,10 +1,14 @@
 //! The device at addresses of a guest.
 
 use std::fmt;
+use std::num::NonZeroUsize;
+use uart_16550_chip::registers::{LCR, offsets};
 use uart_16550_chip::serial::{Error, Output, Serial, SerialEvents, Trigger};
 
 /// Why an access of the guest failed.
 type Failure<T, W> = Error<<T as Trigger>::E, <W as Output>::Error>;
+
+const DATA: u64 = offsets::DATA as u64;
 
 /// Where the registers are.
 #[derive(Clone, Copy, Debug, PartialEq, Eq)]
@@ -43,8 +47,11 @@ pub struct BusSerial<T: Trigger, EV: SerialEvents, W: Output> {
 impl<T: Trigger, EV: SerialEvents, W: Output> BusSerial<T, EV, W> {
     /// Returns a device whose eight registers are at eight I/O ports, as COM1 at 3F8.
     ///
-    /// An access of several bytes is as many accesses of the one register, as `rep insb` and `rep outsb` make them, and as KVM
-    /// hands them over. No driver makes an access of 16 bits to these ports, and KVM shows it in the same way.
+    /// A guest may make many accesses of one port by one instruction, as `rep outsb`, and may access two or four ports at once, as `outw`.
+    /// KVM tells which it was: a monitor that reads `kvm_run` itself calls [`read_sized`](Self::read_sized) and
+    /// [`write_sized`](Self::write_sized). A bus that has only the bytes cannot tell. So [`read`](Self::read) and
+    /// [`write`](Self::write) take what guests do: two or four bytes are an access of as many ports, as when `outw` sets a divisor, unless
+    /// they are at DATA. All others are of the one port.
     pub fn at_ports(serial: Serial<T, EV, W>) -> Self {
         BusSerial {
             serial,
@@ -68,9 +75,43 @@ impl<T: Trigger, EV: SerialEvents, W: Output> BusSerial<T, EV, W> {
     /// The guest reads these bytes. A register beyond the eighth reads as 0.
     pub fn read(&mut self, offset: u64, data: &mut [u8]) {
         match self.place {
-            Place::Ports => data
-                .iter_mut()
-                .for_each(|byte| *byte = self.read_register(Some(offset))),
+            Place::Ports => self.read_sized(offset, self.likely_size(offset, data.len()), data),
+            Place::Memory { .. } => self.read_once(offset, data),
+        }
+    }
+
+    /// The guest reads these bytes in accesses of so many bytes each, `kvm_run.io.size` of KVM.
+    ///
+    /// At I/O ports each byte of an access is of the next register. In memory an access is to one register, as with [`read`](Self::read).
+    ///
+    /// # Examples
+    ///
+    /// ```
+    /// # use std::convert::Infallible;
+    /// # use std::num::NonZeroUsize;
+    /// # use uart_16550_vmm::uart_16550_chip::Serial;
+    /// # use uart_16550_vmm::{BusSerial, TriggerBy};
+    /// # let serial = Serial::new(TriggerBy(|| Ok::<(), Infallible>(())), Vec::new());
+    /// # let mut com1 = BusSerial::at_ports(serial);
+    /// // The guest reads LCR and MCR by `inw`.
+    /// let mut both = [0; 2];
+    /// com1.read_sized(3, NonZeroUsize::new(2).unwrap(), &mut both);
+    /// assert_eq!(both, [0x03, 0x08]);
+    /// ```
+    pub fn read_sized(&mut self, offset: u64, size: NonZeroUsize, data: &mut [u8]) {
+        for access in data.chunks_mut(size.get()) {
+            self.read_once(offset, access);
+        }
+    }
+
+    // The guest reads these bytes in one access.
+    fn read_once(&mut self, offset: u64, data: &mut [u8]) {
+        match self.place {
+            Place::Ports => {
+                for (index, byte) in (0..).zip(data) {
+                    *byte = self.read_register(offset.checked_add(index));
+                }
+            }
             Place::Memory { shift } => {
                 data.fill(0);
                 if let Some(first) = data.first_mut() {
@@ -83,18 +124,71 @@ impl<T: Trigger, EV: SerialEvents, W: Output> BusSerial<T, EV, W> {
     /// The guest writes these bytes. To a register beyond the eighth that does nothing.
     ///
     /// What goes wrong is not for the guest to know: [`take_failure`](Self::take_failure) returns it, and the events of the device count
-    /// it.
+    /// it. What the guest sends by `rep outsb` is offered to the output together.
     pub fn write(&mut self, offset: u64, data: &[u8]) {
         match self.place {
-            Place::Ports => data
-                .iter()
-                .for_each(|value| self.write_register(Some(offset), *value)),
+            Place::Ports => self.write_sized(offset, self.likely_size(offset, data.len()), data),
+            Place::Memory { .. } => self.write_once(offset, data),
+        }
+    }
+
+    /// The guest writes these bytes in accesses of so many bytes each, `kvm_run.io.size` of KVM.
+    ///
+    /// At I/O ports each byte of an access is for the next register. In memory an access is to one register, as with
+    /// [`write`](Self::write).
+    ///
+    /// # Examples
+    ///
+    /// ```
+    /// # use std::convert::Infallible;
+    /// # use std::num::NonZeroUsize;
+    /// # use uart_16550_vmm::uart_16550_chip::Serial;
+    /// # use uart_16550_vmm::{BusSerial, TriggerBy};
+    /// # let serial = Serial::new(TriggerBy(|| Ok::<(), Infallible>(())), Vec::new());
+    /// # let mut com1 = BusSerial::at_ports(serial);
+    /// // The guest sets DLAB, and then the divisor by `outw`.
+    /// com1.write(3, &[0x83]);
+    /// com1.write_sized(0, NonZeroUsize::new(2).unwrap(), &[0x01, 0x00]);
+    /// let latches = com1.serial().state().chip.latches;
+    /// assert_eq!((latches.dll, latches.dlm), (0x01, 0x00));
+    /// ```
+    pub fn write_sized(&mut self, offset: u64, size: NonZeroUsize, data: &[u8]) {
+        match self.place {
+            // String I/O: the device offers what is sent to its output once.
+            Place::Ports if size == NonZeroUsize::MIN => self.write_register(Some(offset), data),
+            _ => data
+                .chunks(size.get())
+                .for_each(|access| self.write_once(offset, access)),
+        }
+    }
+
+    // The guest writes these bytes in one access.
+    fn write_once(&mut self, offset: u64, data: &[u8]) {
+        match self.place {
+            Place::Ports => {
+                for (index, value) in (0..).zip(data) {
+                    self.write_register(offset.checked_add(index), &[*value]);
+                }
+            }
             Place::Memory { shift } => {
                 if let Some(value) = data.first() {
-                    self.write_register(register(offset, shift), *value);
+                    self.write_register(register(offset, shift), &[*value]);
                 }
             }
         }
+    }
+
+    // How many bytes an access of ports has, if only their number is known. String I/O is for DATA alone.
+    fn likely_size(&self, offset: u64, len: usize) -> NonZeroUsize {
+        let is_wide = matches!(len, 2 | 4) && (offset != DATA || self.has_latch());
+        NonZeroUsize::new(len)
+            .filter(|_| is_wide)
+            .unwrap_or(NonZeroUsize::MIN)
+    }
+
+    // Whether the divisor latch has the place of DATA.
+    fn has_latch(&self) -> bool {
+        self.serial.state().chip.latches.lcr.contains(LCR::DLAB)
     }
 
     fn read_register(&mut self, register: Option<u64>) -> u8 {
@@ -102,15 +196,23 @@ impl<T: Trigger, EV: SerialEvents, W: Output> BusSerial<T, EV, W> {
         register.map_or(0, |register| self.serial.read(register))
     }
 
-    fn write_register(&mut self, register: Option<u64>, value: u8) {
-        let register = register.and_then(|register| u8::try_from(register).ok());
-        if let Some(Err(failure)) = register.map(|register| self.serial.write(register, value)) {
+    // Writes these values to a register, one after the other.
+    fn write_register(&mut self, register: Option<u64>, values: &[u8]) {
+        let Some(register) = register.and_then(|register| u8::try_from(register).ok()) else {
+            return;
+        };
+        let written = match values {
+            // A byte that goes out has a short way.
+            [value] => self.serial.write(register, *value),
+            _ => self.serial.write_bytes(register, values),
+        };
+        if let Err(failure) = written {
             self.failure = Some(failure);
         }
     }
 
-    /// Returns why a write of the guest failed, the last that did since this was called. The device goes on in any case: an interrupt
-    /// that could not be triggered is tried again, and output that failed is lost.
+    /// Returns why a write of the guest failed, the last that did since this was called; of several values that were written together the
+    /// first. The device goes on in any case: an interrupt that could not be triggered is tried again, and output that failed is lost.
     pub fn take_failure(&mut self) -> Option<Failure<T, W>> {
         self.failure.take()
     }

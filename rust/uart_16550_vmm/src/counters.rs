@@ -1,7 +1,7 @@
 //! What a device did, counted.
 
 use std::sync::atomic::{AtomicU64, Ordering};
-use uart_16550_chip::SerialEvents;
+use uart_16550_chip::{SerialEvents, each_serial_event};
 
 /// The events that are counted: the name of each count, the method of `SerialEvents`, and what it counts.
 macro_rules! counted {
@@ -30,11 +30,14 @@ macro_rules! counted {
             }
         }
 
-        impl SerialEvents for Counters {
+        /// A function for each event that is counted.
+        mod counting {
+            use super::{Counters, Ordering};
+
             $(
-                fn $event(&self $(, $argument: $Type)?) {
+                pub(super) fn $event(counters: &Counters $(, $argument: $Type)?) {
                     if $is_counted {
-                        self.$name.fetch_add(1, Ordering::Relaxed);
+                        counters.$name.fetch_add(1, Ordering::Relaxed);
                     }
                 }
             )*
@@ -70,8 +73,25 @@ counted! {
     overflows: tx_overflow() if true;
     /// How many characters with errors came while there was no room.
     overruns: rx_overrun() if true;
+    /// How often an interrupt was put off until time passes.
+    timeouts: timeout_to_come() if true;
     /// How often the interrupt was triggered.
     triggers: triggered() if true;
     /// How often it could not be triggered. The device tries again.
     failed_triggers: trigger_failed() if true;
 }
+
+/// Each event of the list is counted. One that has no count above does not compile.
+macro_rules! each_is_counted {
+    ($($(#[$doc:meta])* fn $event:ident($($argument:ident: $Type:ty)?) $body:tt)*) => {
+        impl SerialEvents for Counters {
+            $(
+                fn $event(&self $(, $argument: $Type)?) {
+                    counting::$event(self $(, $argument)?);
+                }
+            )*
+        }
+    };
+}
+
+each_serial_event!(each_is_counted);

@@ -1,6 +1,6 @@
 //! Events for two.
 
-use uart_16550_chip::SerialEvents;
+use uart_16550_chip::{SerialEvents, each_serial_event};
 
 /// Tells two of each event, the first one first: counters, and what wakes the thread that has the input.
 #[derive(Clone, Copy, Debug, Default)]
@@ -11,9 +11,9 @@ pub struct Both<A, B>(
     pub B,
 );
 
-/// Each event is told to both.
+/// Each event of the list is told to both.
 macro_rules! told_to_both {
-    ($($event:ident($($argument:ident: $Type:ty)?);)*) => {
+    ($($(#[$doc:meta])* fn $event:ident($($argument:ident: $Type:ty)?) $body:tt)*) => {
         impl<A: SerialEvents, B: SerialEvents> SerialEvents for Both<A, B> {
             $(
                 fn $event(&self $(, $argument: $Type)?) {
@@ -25,15 +25,4 @@ macro_rules! told_to_both {
     };
 }
 
-told_to_both! {
-    buffer_read();
-    out_byte();
-    tx_lost_byte();
-    in_buffer_empty();
-    tx_held();
-    out_break(begins: bool);
-    tx_overflow();
-    rx_overrun();
-    triggered();
-    trigger_failed();
-}
+each_serial_event!(told_to_both);

@@ -3,12 +3,15 @@
 use std::io::{Error, ErrorKind, Read};
 use uart_16550_chip::serial::{Output, Serial, SerialEvents, Trigger};
 
-/// How many bytes are read from the host at a time.
-const CHUNK: usize = 256;
+/// For how many characters a device has room at most.
+const MOST: usize = 16;
 /// How often a read that a signal interrupted is tried.
 const TRIES: usize = 16;
 
-/// The host's input: a source that does not block, and what was read of it that the device has had no room for.
+/// The host's input: a source that does not block.
+///
+/// It reads no more than the device has room for, and keeps nothing: what waits is in the host. So a machine that is saved, and goes on in
+/// another process that has the same source, finds all of it there; and who types faster than the guest reads is held back.
 ///
 /// A monitor calls [`offer`](Self::offer) when the source may have input, and when the device tells of room. It is no error to call it at
 /// any other time.
@@ -32,10 +35,6 @@ const TRIES: usize = 16;
 #[derive(Debug)]
 pub struct Input<R> {
     source: R,
-    bytes: [u8; CHUNK],
-    /// Which of the bytes wait.
-    start: usize,
-    end: usize,
     is_at_end: bool,
 }
 
@@ -45,9 +44,6 @@ impl<R: Read> Input<R> {
     pub fn new(source: R) -> Self {
         Input {
             source,
-            bytes: [0; CHUNK],
-            start: 0,
-            end: 0,
             is_at_end: false,
         }
     }
@@ -58,57 +54,43 @@ impl<R: Read> Input<R> {
     ///
     /// # Errors
     ///
-    /// If the source cannot be read. What was read before is kept.
+    /// If the source cannot be read. What was read before is received.
     pub fn offer<T: Trigger, EV: SerialEvents, W: Output>(
         &mut self,
         serial: &mut Serial<T, EV, W>,
     ) -> Result<usize, Error> {
-        use uart_16550_chip::serial::Error as Refused;
-
+        let mut bytes = [0; MOST];
         let mut received = 0;
-        // The guest reads nothing meanwhile, so each round takes at least one of 16 places.
-        while serial.fifo_capacity() != 0 && self.has_some()? {
-            let waiting = self.bytes.get(self.start..self.end).unwrap_or_default();
-            let count = match serial.enqueue_raw_bytes(waiting) {
-                Ok(count) => count,
-                Err(Refused::Trigger(failed)) => failed.taken,
-                // There is room, so this does not come.
-                Err(_) => break,
-            };
+        // A source may have less than there is room for, and more behind that. The guest reads nothing meanwhile, so each round takes at
+        // least one of 16 places.
+        for _ in 0..MOST {
+            let room = serial.fifo_capacity().min(MOST);
+            if room == 0 {
+                break;
+            }
+            let count = self.read(&mut bytes[..room])?;
             if count == 0 {
                 break;
             }
-            self.start += count;
+            // There is room for all of them, and an interrupt that could not be triggered is owed.
+            let _ = serial.enqueue_raw_bytes(&bytes[..count]);
             received += count;
         }
         Ok(received)
     }
 
-    /// Returns how many bytes were read and wait for room.
-    pub fn waiting_len(&self) -> usize {
-        self.end - self.start
-    }
-
-    /// Returns whether the source has ended, and all of it was received.
+    /// Returns whether the source has ended. All of it was received then.
     pub fn is_at_end(&self) -> bool {
-        self.is_at_end && self.start == self.end
+        self.is_at_end
     }
 
-    /// Returns whether input waits, and reads some if none does.
-    fn has_some(&mut self) -> Result<bool, Error> {
-        if self.start == self.end {
-            (self.start, self.end) = (0, self.read()?);
-        }
-        Ok(self.start != self.end)
-    }
-
-    /// Reads what there is, and returns how many bytes that is.
-    fn read(&mut self) -> Result<usize, Error> {
+    /// Reads what there is, as far as there is room, and returns how many bytes that is.
+    fn read(&mut self, room: &mut [u8]) -> Result<usize, Error> {
         for _ in 0..TRIES {
-            match self.source.read(&mut self.bytes) {
+            match self.source.read(room) {
                 Ok(count) => {
                     self.is_at_end = count == 0;
-                    return Ok(count);
+                    return Ok(count.min(room.len()));
                 }
                 Err(cause) if cause.kind() == ErrorKind::WouldBlock => return Ok(0),
                 Err(cause) if cause.kind() == ErrorKind::Interrupted => {}

@@ -16,7 +16,7 @@ pub use counters::{Counters, Counts};
 pub use events::Both;
 pub use input::Input;
 #[cfg(target_os = "linux")]
-pub use linux::{Epoll, EventFd, Room};
+pub use linux::{Epoll, EventFd, Room, Timer};
 pub use lossy::Lossy;
 #[cfg(feature = "vm-superio")]
 pub use trigger::FromSuperio;

@@ -1,7 +1,7 @@
-//! Calls of Linux for which std has none, declared by hand: events, and a wait for several of them.
+//! Calls of Linux for which std has none, declared by hand: events, a timer, and a wait for several of them.
 #![allow(unsafe_code)]
 
-use std::ffi::{c_int, c_uint};
+use std::ffi::{c_int, c_long, c_uint};
 use std::fs::File;
 use std::io;
 use std::io::{ErrorKind, Read, Write};
@@ -14,6 +14,13 @@ unsafe extern "C" {
     fn epoll_create1(flags: c_int) -> c_int;
     fn epoll_ctl(epoll: c_int, operation: c_int, fd: c_int, event: *mut EpollEvent) -> c_int;
     fn epoll_wait(epoll: c_int, events: *mut EpollEvent, len: c_int, milliseconds: c_int) -> c_int;
+    fn timerfd_create(clock: c_int, flags: c_int) -> c_int;
+    fn timerfd_settime(
+        timer: c_int,
+        flags: c_int,
+        setting: *const TimerSetting,
+        before: *mut TimerSetting,
+    ) -> c_int;
 }
 
 const CLOSE_ON_EXEC: c_int = if IS_SPARC { 0x40_0000 } else { 0o2_000_000 };
@@ -37,6 +44,9 @@ const READABLE: u32 = 1;
 const WRITABLE: u32 = 4;
 /// An event comes once for each change, and not as long as a state lasts.
 const BY_EDGE: u32 = 1 << 31;
+const NANOSECONDS_IN_A_MILLISECOND: u128 = 1_000_000;
+/// The clock that nobody sets.
+const MONOTONIC: c_int = 1;
 
 // On this architecture alone the struct is packed, so that it has the layout that it has for processes of 32 bits.
 #[derive(Clone, Copy)]
@@ -45,6 +55,31 @@ const BY_EDGE: u32 = 1 << 31;
 struct EpollEvent {
     events: u32,
     token: u64,
+}
+
+// These have 64 bits for seconds though a `long` has 32.
+#[cfg(any(
+    target_arch = "riscv32",
+    all(target_arch = "x86_64", target_pointer_width = "32")
+))]
+type Seconds = i64;
+#[cfg(not(any(
+    target_arch = "riscv32",
+    all(target_arch = "x86_64", target_pointer_width = "32")
+)))]
+type Seconds = c_long;
+
+#[repr(C)]
+struct Time {
+    seconds: Seconds,
+    nanoseconds: c_long,
+}
+
+/// After how long a timer runs out, and after how long again and again.
+#[repr(C)]
+struct TimerSetting {
+    again: Time,
+    first: Time,
 }
 
 /// Returns what a call returned, or why it failed.
@@ -60,6 +95,14 @@ fn checked(result: c_int) -> io::Result<c_int> {
 fn owned(result: c_int) -> io::Result<OwnedFd> {
     // SAFETY: each caller passes the descriptor that a call made for it, which nothing else owns.
     checked(result).map(|fd| unsafe { OwnedFd::from_raw_fd(fd) })
+}
+
+/// Takes the count of an event or a timer, and returns whether there was one.
+fn taken(mut file: &File) -> io::Result<bool> {
+    match file.read_exact(&mut [0; 8]) {
+        Err(cause) if cause.kind() == ErrorKind::WouldBlock => Ok(false),
+        result => result.map(|()| true),
+    }
 }
 
 /// An eventfd. As the trigger of a device each signal is one edge: connect it to the guest's interrupt by an irqfd of KVM.
@@ -110,10 +153,7 @@ impl EventFd {
     ///
     /// If Linux refuses that.
     pub fn take(&self) -> io::Result<bool> {
-        match (&self.0).read_exact(&mut [0; 8]) {
-            Err(cause) if cause.kind() == ErrorKind::WouldBlock => Ok(false),
-            result => result.map(|()| true),
-        }
+        taken(&self.0)
     }
 
     /// Returns another descriptor of the same event.
@@ -168,7 +208,128 @@ impl SerialEvents for Room {
     }
 }
 
-/// Waits for several descriptors at a time: the terminal, the room, the end of the guest.
+/// A timer for a device whose monitor has a clock: as its events it starts when an interrupt is put off.
+///
+/// Call `Serial::set_clock(true)`, and `Serial::timeout_passed` when the timer has run out.
+///
+/// # Examples
+///
+/// ```
+/// use std::time::Duration;
+/// use uart_16550_vmm::uart_16550_chip::Serial;
+/// use uart_16550_vmm::{Epoll, EventFd, Timer};
+///
+/// // Four characters at 115,200 baud.
+/// let timer = Timer::new(Duration::from_micros(350))?;
+/// let epoll = Epoll::new()?;
+/// epoll.add(&timer)?;
+/// let interrupt = EventFd::new()?;
+/// let mut serial = Serial::with_events(interrupt.try_clone()?, timer.try_clone()?, Vec::new());
+/// serial.set_clock(true)?;
+///
+/// // The guest enables the interrupt for an empty transmitter, looks what it is called for, and sends a byte in its handler.
+/// serial.write(1, 0x02)?;
+/// assert!(interrupt.take()?);
+/// serial.read(2);
+/// serial.write(0, b'>')?;
+/// assert!(!interrupt.take()?);
+///
+/// // The handler returned, and waits.
+/// assert!(epoll.wait(Duration::from_secs(60))?);
+/// assert!(timer.take()?);
+/// serial.timeout_passed()?;
+/// assert!(interrupt.take()?);
+/// # Ok::<(), Box<dyn std::error::Error>>(())
+/// ```
+#[derive(Debug)]
+pub struct Timer {
+    file: File,
+    after: Duration,
+}
+
+impl Timer {
+    /// Returns a timer that does not run, and that runs out so long after it is started.
+    ///
+    /// # Errors
+    ///
+    /// If the process can have no more descriptors.
+    pub fn new(after: Duration) -> io::Result<Self> {
+        // SAFETY: no memory is passed.
+        let timer = unsafe { timerfd_create(MONOTONIC, CLOSE_ON_EXEC | NON_BLOCKING) };
+        owned(timer).map(|fd| Timer {
+            file: fd.into(),
+            after,
+        })
+    }
+
+    /// Starts the timer, anew if it runs.
+    ///
+    /// # Errors
+    ///
+    /// If Linux refuses that.
+    pub fn start(&self) -> io::Result<()> {
+        // A time of 0 would stop the timer.
+        let after = self.after.max(Duration::from_nanos(1));
+        let setting = TimerSetting {
+            again: Time {
+                seconds: 0,
+                nanoseconds: 0,
+            },
+            first: Time {
+                seconds: Seconds::try_from(after.as_secs()).unwrap_or(Seconds::MAX),
+                nanoseconds: after.subsec_nanos() as c_long,
+            },
+        };
+        // SAFETY: the kernel reads the setting that is passed, keeps no pointer to it, and writes none.
+        let started =
+            unsafe { timerfd_settime(self.file.as_raw_fd(), 0, &setting, std::ptr::null_mut()) };
+        checked(started).map(drop)
+    }
+
+    /// Returns whether the timer has run out since it was started. That is told once.
+    ///
+    /// # Errors
+    ///
+    /// If Linux refuses that.
+    pub fn take(&self) -> io::Result<bool> {
+        taken(&self.file)
+    }
+
+    /// Returns another descriptor of the same timer.
+    ///
+    /// # Errors
+    ///
+    /// If the process can have no more descriptors.
+    pub fn try_clone(&self) -> io::Result<Self> {
+        self.file.try_clone().map(|file| Timer {
+            file,
+            after: self.after,
+        })
+    }
+}
+
+impl SerialEvents for Timer {
+    fn buffer_read(&self) {}
+
+    fn out_byte(&self) {}
+
+    fn tx_lost_byte(&self) {}
+
+    fn in_buffer_empty(&self) {}
+
+    fn timeout_to_come(&self) {
+        // A timer that is there can be started.
+        let _ = self.start();
+    }
+}
+
+impl AsFd for Timer {
+    fn as_fd(&self) -> BorrowedFd<'_> {
+        self.file.as_fd()
+    }
+}
+
+/// Waits for several descriptors at a time: the terminal, the room, the timer, the end of the guest.
 ///
 /// An event comes once for each change. So who waits looks at everything after each event, and again until there is nothing more to be
 /// done: [`Input::offer`](crate::Input::offer) and `Serial::write_output` do that.
@@ -202,7 +363,8 @@ impl Epoll {
         checked(unsafe { epoll_ctl(self.0.as_raw_fd(), ADD, file, &mut event) }).map(drop)
     }
 
-    /// Waits until something changed, at most so long. Returns whether something may have: also after a signal, as a debugger sends them.
+    /// Waits until something changed, at most so long, and up to a millisecond longer. Returns whether something may have: also after a
+    /// signal, as a debugger sends them. For a shorter time wait for a [`Timer`].
     ///
     /// # Errors
     ///
@@ -212,7 +374,9 @@ impl Epoll {
             events: 0,
             token: 0,
         }; 8];
-        let milliseconds = c_int::try_from(limit.as_millis()).unwrap_or(c_int::MAX);
+        // Rounded up: less than a millisecond would be no wait at all, and who waits again and again would never sleep.
+        let milliseconds = limit.as_nanos().div_ceil(NANOSECONDS_IN_A_MILLISECOND);
+        let milliseconds = c_int::try_from(milliseconds).unwrap_or(c_int::MAX);
         // SAFETY: the kernel writes at most as many events as it is told that there is room for.
         let count = unsafe {
             epoll_wait(

@@ -51,21 +51,22 @@ impl<T: vm_superio::Trigger> Trigger for FromSuperio<T> {
     }
 }
 
+/// The events that are to be written are those of vm-superio. One that is added to them does not compile here, and one that may be left
+/// out, which has a body in the list, is none of vm-superio's.
 #[cfg(feature = "vm-superio")]
-impl<EV: vm_superio::serial::SerialEvents> uart_16550_chip::SerialEvents for FromSuperio<EV> {
-    fn buffer_read(&self) {
-        self.0.buffer_read();
-    }
-
-    fn out_byte(&self) {
-        self.0.out_byte();
-    }
-
-    fn tx_lost_byte(&self) {
-        self.0.tx_lost_byte();
-    }
-
-    fn in_buffer_empty(&self) {
-        self.0.in_buffer_empty();
-    }
+macro_rules! told_to_theirs {
+    ($($(#[$doc:meta])* fn $event:ident($($argument:ident: $Type:ty)?) $body:tt)*) => {
+        impl<EV: vm_superio::serial::SerialEvents> uart_16550_chip::SerialEvents for FromSuperio<EV> {
+            $(told_to_theirs!(one $event $body);)*
+        }
+    };
+    (one $event:ident ;) => {
+        fn $event(&self) {
+            self.0.$event();
+        }
+    };
+    (one $event:ident { $($body:tt)* }) => {};
 }
+
+#[cfg(feature = "vm-superio")]
+uart_16550_chip::each_serial_event!(told_to_theirs);

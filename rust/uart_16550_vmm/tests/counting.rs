@@ -1,11 +1,16 @@
 //! Counters, output that drops, and triggers and events of others.
 
+#![allow(
+    clippy::arc_with_non_send_sync,
+    reason = "whether an `Arc` passes events on is tried in one thread"
+)]
+
 use std::cell::{Cell, RefCell};
 use std::convert::Infallible;
 use std::rc::Rc;
 use std::sync::Arc;
 use uart_16550_chip::registers::LSR;
-use uart_16550_chip::{Output, Serial, SerialEvents, Trigger};
+use uart_16550_chip::{Output, Serial, SerialEvents, Trigger, each_serial_event};
 use uart_16550_vmm::{Both, Counters, Counts, Lossy, TriggerBy};
 
 /// A host that takes so many bytes, or fails.
@@ -31,67 +36,31 @@ impl Names {
     }
 }
 
-impl SerialEvents for Names {
-    fn buffer_read(&self) {
-        self.note("buffer_read");
-    }
-    fn out_byte(&self) {
-        self.note("out_byte");
-    }
-    fn tx_lost_byte(&self) {
-        self.note("tx_lost_byte");
-    }
-    fn in_buffer_empty(&self) {
-        self.note("in_buffer_empty");
-    }
-    fn tx_held(&self) {
-        self.note("tx_held");
-    }
-    fn out_break(&self, begins: bool) {
-        self.note(if begins { "break" } else { "end of break" });
-    }
-    fn tx_overflow(&self) {
-        self.note("tx_overflow");
-    }
-    fn rx_overrun(&self) {
-        self.note("rx_overrun");
-    }
-    fn triggered(&self) {
-        self.note("triggered");
-    }
-    fn trigger_failed(&self) {
-        self.note("trigger_failed");
-    }
+/// Each event of the trait: its name, and how it is told. A list by hand would lack what another one lacks.
+macro_rules! each_is_noted {
+    ($($(#[$doc:meta])* fn $event:ident($($argument:ident: $Type:ty)?) $body:tt)*) => {
+        impl SerialEvents for Names {
+            $(
+                fn $event(&self $(, $argument: $Type)?) {
+                    $(let _ = $argument;)?
+                    self.note(stringify!($event));
+                }
+            )*
+        }
+
+        const ALL: &[&str] = &[$(stringify!($event)),*];
+
+        /// Tells each event once.
+        fn tell_all(events: &impl SerialEvents) {
+            $(
+                $(let $argument: $Type = true;)?
+                events.$event($($argument)?);
+            )*
+        }
+    };
 }
 
-const ALL: [&str; 11] = [
-    "buffer_read",
-    "out_byte",
-    "tx_lost_byte",
-    "in_buffer_empty",
-    "tx_held",
-    "break",
-    "end of break",
-    "tx_overflow",
-    "rx_overrun",
-    "triggered",
-    "trigger_failed",
-];
-
-/// Tells each event once.
-fn tell_all(events: &impl SerialEvents) {
-    events.buffer_read();
-    events.out_byte();
-    events.tx_lost_byte();
-    events.in_buffer_empty();
-    events.tx_held();
-    events.out_break(true);
-    events.out_break(false);
-    events.tx_overflow();
-    events.rx_overrun();
-    events.triggered();
-    events.trigger_failed();
-}
+each_serial_event!(each_is_noted);
 
 #[test]
 fn each_event_is_told_to_both() {
@@ -99,6 +68,9 @@ fn each_event_is_told_to_both() {
     tell_all(&Both(one.clone(), other.clone()));
     assert_eq!(*one.0.borrow(), ALL);
     assert_eq!(*other.0.borrow(), ALL);
+    let shared = Names::default();
+    tell_all(&Arc::new(shared.clone()));
+    assert_eq!(*shared.0.borrow(), ALL);
 }
 
 /// The counts that are not 0, with their names.
@@ -112,12 +84,37 @@ fn named(counts: Counts) -> Vec<(&'static str, u64)> {
         ("breaks", counts.breaks),
         ("overflows", counts.overflows),
         ("overruns", counts.overruns),
+        ("timeouts", counts.timeouts),
         ("triggers", counts.triggers),
         ("failed_triggers", counts.failed_triggers),
     ]
     .into_iter()
     .filter(|(_, count)| *count != 0)
     .collect()
+}
+
+/// A break is told as it begins and as it ends.
+#[test]
+fn what_an_event_says_is_passed_on() {
+    #[derive(Clone, Default)]
+    struct Breaks(Rc<RefCell<Vec<bool>>>);
+
+    impl SerialEvents for Breaks {
+        fn buffer_read(&self) {}
+        fn out_byte(&self) {}
+        fn tx_lost_byte(&self) {}
+        fn in_buffer_empty(&self) {}
+        fn out_break(&self, begins: bool) {
+            self.0.borrow_mut().push(begins);
+        }
+    }
+
+    let (one, other) = (Breaks::default(), Breaks::default());
+    let both = Arc::new(Both(one.clone(), other.clone()));
+    both.out_break(true);
+    both.out_break(false);
+    assert_eq!(*one.0.borrow(), [true, false]);
+    assert_eq!(*other.0.borrow(), [true, false]);
 }
 
 #[test]
@@ -134,6 +131,7 @@ fn each_event_has_its_count() {
         (|counters| counters.out_break(true), "breaks"),
         (|counters| counters.tx_overflow(), "overflows"),
         (|counters| counters.rx_overrun(), "overruns"),
+        (|counters| counters.timeout_to_come(), "timeouts"),
         (|counters| counters.triggered(), "triggers"),
         (|counters| counters.trigger_failed(), "failed_triggers"),
     ] {
@@ -353,7 +351,7 @@ mod with_serde {
         }
 
         fn serialize_struct(self, name: &'static str, len: usize) -> Result<Self, Infallible> {
-            assert_eq!((name, len), ("Counts", 10));
+            assert_eq!((name, len), ("Counts", 11));
             Ok(self)
         }
     }
@@ -364,7 +362,7 @@ mod with_serde {
         tell_all(&counters);
         counters.triggered();
         let Ok(list) = counters.counts().serialize(ToList(Vec::new()));
-        assert_eq!(list.len(), 10);
+        assert_eq!(list.len(), 11);
         assert_eq!(list, named(counters.counts()));
     }
 }

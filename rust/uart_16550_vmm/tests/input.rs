@@ -4,13 +4,29 @@ use std::collections::VecDeque;
 use std::convert::Infallible;
 use std::io;
 use std::io::{ErrorKind, Read};
-use uart_16550_chip::{NoEvents, Serial, Trigger};
+use uart_16550_chip::{NoEvents, Serial, SerialState, Trigger};
 use uart_16550_vmm::{Input, TriggerBy};
 
 type Device<T> = Serial<T, NoEvents, Vec<u8>>;
 
-fn device() -> Device<impl Trigger<E = Infallible>> {
-    Serial::new(TriggerBy(|| Ok(())), Vec::new())
+/// A line that leads nowhere.
+#[derive(Debug)]
+struct Line;
+
+impl Trigger for Line {
+    type E = Infallible;
+
+    fn trigger(&self) -> Result<(), Infallible> {
+        Ok(())
+    }
+}
+
+fn device() -> Device<Line> {
+    Serial::new(Line, Vec::new())
+}
+
+fn restored(state: &SerialState) -> Device<Line> {
+    Serial::from_state(state, Line, NoEvents, Vec::new()).expect("a state of a device")
 }
 
 /// A source that answers each read as it is told, and then would block.
@@ -34,7 +50,6 @@ fn input_goes_on_as_there_is_room() {
     assert!(!input.is_at_end());
     let mut read = Vec::new();
     assert_eq!(input.offer(&mut serial).unwrap(), 16);
-    assert_eq!(input.waiting_len(), 240);
     assert_eq!(input.offer(&mut serial).unwrap(), 0);
     while serial.read(5) & 0x01 != 0 {
         read.push(serial.read(0));
@@ -42,7 +57,63 @@ fn input_goes_on_as_there_is_room() {
     }
     assert_eq!(read, typed);
     assert!(input.is_at_end());
-    assert_eq!(input.waiting_len(), 0);
+}
+
+/// A machine that is saved goes on with its port's state and the same host, and nothing else: all that the port has not got is there.
+#[test]
+fn nothing_is_kept_that_a_state_has_not_got() {
+    let typed: Vec<u8> = (0..200).collect();
+    for is_fifo_on in [0, 1] {
+        let mut serial = device();
+        serial.write(2, is_fifo_on).unwrap();
+        let mut source = &typed[..];
+        Input::new(&mut source).offer(&mut serial).unwrap();
+        let mut read = Vec::new();
+        while serial.read(5) & 0x01 != 0 {
+            let saved = SerialState::from_bytes(&serial.state().to_bytes()).unwrap();
+            serial = restored(&saved);
+            read.push(serial.read(0));
+            Input::new(&mut source).offer(&mut serial).unwrap();
+        }
+        assert_eq!(read, typed);
+    }
+}
+
+/// No more is asked for than there is room for.
+#[test]
+fn a_source_is_asked_for_no_more_than_there_is_room_for() {
+    /// Has always more, and notes how much is asked for.
+    struct Endless(Vec<usize>);
+
+    impl Read for Endless {
+        fn read(&mut self, room: &mut [u8]) -> io::Result<usize> {
+            self.0.push(room.len());
+            Ok(room.len().min(10))
+        }
+    }
+
+    let mut serial = device();
+    let mut source = Endless(Vec::new());
+    assert_eq!(Input::new(&mut source).offer(&mut serial).unwrap(), 1);
+    serial.write(2, 0x03).unwrap();
+    assert_eq!(Input::new(&mut source).offer(&mut serial).unwrap(), 16);
+    serial.read(0);
+    assert_eq!(Input::new(&mut source).offer(&mut serial).unwrap(), 1);
+    assert_eq!(source.0, [1, 16, 6, 1]);
+}
+
+/// One that says that it read more than that is not believed.
+#[test]
+fn a_source_that_lies_ends_no_monitor() {
+    struct Liar;
+
+    impl Read for Liar {
+        fn read(&mut self, _: &mut [u8]) -> io::Result<usize> {
+            Ok(1000)
+        }
+    }
+
+    assert_eq!(Input::new(Liar).offer(&mut device()).unwrap(), 1);
 }
 
 #[test]
@@ -51,7 +122,6 @@ fn in_loopback_nothing_is_read_from_the_host() {
     serial.write(4, 0x10).unwrap();
     let mut input = Input::new(&b"abc"[..]);
     assert_eq!(input.offer(&mut serial).unwrap(), 0);
-    assert_eq!(input.waiting_len(), 0);
     serial.write(4, 0).unwrap();
     assert_eq!(input.offer(&mut serial).unwrap(), 1);
     assert!(!input.is_at_end());

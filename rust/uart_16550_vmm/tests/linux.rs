@@ -6,10 +6,11 @@ use std::io::{Read, Write};
 use std::os::fd::{AsFd, AsRawFd};
 use std::os::unix::net::UnixStream;
 use std::os::unix::thread::{JoinHandleExt, RawPthread};
+use std::sync::Arc;
 use std::thread;
-use std::time::Duration;
+use std::time::{Duration, Instant};
 use uart_16550_chip::{Serial, SerialEvents, Trigger};
-use uart_16550_vmm::{Epoll, EventFd, Room};
+use uart_16550_vmm::{Both, Counters, Epoll, EventFd, Room, Timer};
 
 // How long a wait lasts at most whose event is due at once. A busy machine may take any time, so this is only there so that an event
 // which never comes ends the test.
@@ -45,6 +46,7 @@ fn room_signals_its_event_and_nothing_else_does() {
     room.out_byte();
     room.tx_lost_byte();
     room.tx_held();
+    room.timeout_to_come();
     room.triggered();
     assert!(!room.0.take().unwrap());
     room.in_buffer_empty();
@@ -68,6 +70,77 @@ fn a_wait_ends_with_a_change() {
     event.signal().unwrap();
     assert!(epoll.wait(SOON).unwrap());
     assert!(epoll.add(&event).is_err());
+}
+
+/// Less than a millisecond is rounded up: who waits so long again and again sleeps.
+#[test]
+fn a_short_wait_is_a_wait() {
+    let epoll = Epoll::new().unwrap();
+    for limit in [1, 350_000, 999_999, 1_000_001].map(Duration::from_nanos) {
+        let start = Instant::now();
+        assert!(!epoll.wait(limit).unwrap());
+        assert!(start.elapsed() >= limit, "{limit:?}");
+    }
+}
+
+#[test]
+fn a_timer_runs_out_once_for_each_start() {
+    let epoll = Epoll::new().unwrap();
+    for after in [Duration::ZERO, Duration::from_micros(350)] {
+        let timer = Timer::new(after).unwrap();
+        let events = timer.try_clone().unwrap();
+        epoll.add(&timer).unwrap();
+        while epoll.wait(Duration::ZERO).unwrap() {}
+        assert!(!timer.take().unwrap());
+        // Each of the two starts is told, and nothing else of a device starts it.
+        events.buffer_read();
+        events.out_byte();
+        events.in_buffer_empty();
+        events.tx_lost_byte();
+        assert!(!epoll.wait(Duration::from_millis(2)).unwrap());
+        for _start in 0..2 {
+            let start = Instant::now();
+            events.timeout_to_come();
+            assert!(epoll.wait(SOON).unwrap());
+            assert!(start.elapsed() >= after);
+            assert!(timer.take().unwrap());
+            assert!(!events.take().unwrap());
+        }
+    }
+    // One that is started again begins anew, and one of more seconds than there are can be started.
+    let timer = Timer::new(Duration::from_secs(600)).unwrap();
+    timer.start().unwrap();
+    timer.start().unwrap();
+    assert!(!timer.take().unwrap());
+    Timer::new(Duration::MAX).unwrap().start().unwrap();
+}
+
+/// A monitor with a clock, whose timer is one of two that are told: a guest whose handler returned too soon is interrupted again.
+#[test]
+fn a_guest_is_interrupted_when_the_timer_runs_out() {
+    let (timer, interrupt) = (
+        Timer::new(Duration::from_micros(350)).unwrap(),
+        EventFd::new().unwrap(),
+    );
+    let (room, epoll) = (EventFd::new().unwrap(), Epoll::new().unwrap());
+    epoll.add(&timer).unwrap();
+    let events = Both(
+        Room(room.try_clone().unwrap()),
+        Both(timer.try_clone().unwrap(), Arc::new(Counters::default())),
+    );
+    let mut serial = Serial::with_events(interrupt.try_clone().unwrap(), events, Vec::new());
+    serial.set_clock(true).unwrap();
+    serial.write(2, 0x81).unwrap();
+    serial.write(1, 0x01).unwrap();
+    serial.enqueue_raw_bytes(&[0; 12]).unwrap();
+    assert!(interrupt.take().unwrap());
+    (0..5).for_each(|_| _ = serial.read(0));
+    assert!(serial.is_timeout_to_come() && !interrupt.take().unwrap());
+    assert!(epoll.wait(SOON).unwrap());
+    assert!(timer.take().unwrap());
+    serial.timeout_passed().unwrap();
+    assert!(interrupt.take().unwrap());
+    assert_eq!(serial.events().1.1.counts().timeouts, 1);
 }
 
 unsafe extern "C" {

@@ -81,7 +81,7 @@ impl Device for Port {
     fn new(interrupt: Interrupt, wire: Wire) -> Self {
         let mut serial = Serial::with_events(Line(interrupt), Events(wire.clone()), wire);
         serial.set_lines(lines(true)).expect("nothing fails here");
-        serial.set_clock(has_clock());
+        serial.set_clock(has_clock()).expect("nothing fails here");
         Port(serial)
     }
 
@@ -137,7 +137,7 @@ impl Device for Port {
         let state = SerialState::from_bytes(state).map_err(|refused| refused.to_string())?;
         Serial::from_state(&state, Line(interrupt), Events(wire.clone()), wire)
             .map(|mut serial| {
-                serial.set_clock(has_clock());
+                serial.set_clock(has_clock()).expect("nothing fails here");
                 Port(serial)
             })
             .map_err(|refused| refused.to_string())

@@ -703,17 +703,6 @@ pub mod checked {}
 ///
 /// It uses `Language`, `Asks` of `crates/uart_16550/specs/Grammar.antt`.
 ///
-/// <span id="switched"></span>
-///
-/// # `switched`
-///
-/// A value with these bits set, or cleared.
-///
-/// ```text
-/// abbrev pub switched : (on : Bool) → (bits value : ℕ) → ℕ
-/// switched on bits value = if on then bit_or value bits else without 8 value bits
-/// ```
-///
 /// <span id="SetsBreak"></span>
 ///
 /// # `SetsBreak`
@@ -725,7 +714,7 @@ pub mod checked {}
 /// SetsBreak on = Modifies offsets.LCR (switched on LCR.SET_BREAK.0)
 /// ```
 ///
-/// It uses [`switched`](crate::proved::frame#switched); `Language`, `Modifies` of `crates/uart_16550/specs/Grammar.antt`.
+/// It uses `Language`, `Modifies` of `crates/uart_16550/specs/Grammar.antt`; `switched` of this file.
 ///
 /// <span id="SetsControl"></span>
 ///
@@ -751,8 +740,8 @@ pub mod checked {}
 /// SetsOutput output on = Modifies offsets.MCR (λ mcr. unlooped (switched on output mcr))
 /// ```
 ///
-/// It uses [`switched`](crate::proved::frame#switched); `Language`, `Modifies` of `crates/uart_16550/specs/Grammar.antt`; `unlooped` of this file.
-#[doc(alias("SetsFrame", "ShowsIdle", "switched", "SetsBreak", "SetsControl", "SetsOutput"))]
+/// It uses `Language`, `Modifies` of `crates/uart_16550/specs/Grammar.antt`; `unlooped`, `switched` of this file.
+#[doc(alias("SetsFrame", "ShowsIdle", "SetsBreak", "SetsControl", "SetsOutput"))]
 pub mod frame {}
 
 /// Taking a port as it was set up.

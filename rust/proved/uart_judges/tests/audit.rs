@@ -6,7 +6,7 @@ use proved_uart_judges::audit::{
 use proved_uart_judges::recording::{Entry, Happening};
 use uart_spec::access::Access::{self, Read, Write};
 use uart_spec::registers::LSR;
-use uart_spec::registers::offsets::{DATA, FCR, IER, ISR, LCR, LSR as STATUS};
+use uart_spec::registers::offsets::{DATA, FCR, IER, ISR, LCR, LSR as STATUS, MCR};
 
 /// Returns an entry without level and time.
 fn entry(happening: Happening) -> Entry {
@@ -52,6 +52,31 @@ fn as_many_bytes_as_fit() {
     let one = [Write(FCR, 0x00), Read(STATUS, 0x60), Write(DATA, b'a')];
     let two = one.into_iter().chain([Write(DATA, b'b')]).map(access);
     assert_eq!(found(two), [Finding::SentBeyondRoom { sent: 2, room: 1 }]);
+}
+
+// Interrupts are enabled, and OUT2 is clear: a driver that looks before it sends needs none of them.
+#[test]
+fn a_look_that_shows_room_is_in_place_of_an_interrupt() {
+    let set_up = [Write(LCR, 0x03), Write(MCR, 0x03), Write(IER, 0x02)];
+    let sent = |looks: bool, count| {
+        let look = looks.then_some(Read(STATUS, 0x60));
+        let bytes = std::iter::repeat_n(Write(DATA, b'a'), count);
+        let begun = [Write(FCR, 0x07), Read(ISR, 0xc1)]
+            .into_iter()
+            .chain(set_up);
+        found(begun.chain(look).chain(bytes).map(access))
+    };
+    assert_eq!(sent(true, 1), []);
+    assert_eq!(sent(true, 16), []);
+    assert_eq!(sent(false, 1), [Finding::InterruptsCutOff]);
+    // The others go out beside the first one, about which it is said.
+    assert_eq!(sent(false, 16), [Finding::InterruptsCutOff]);
+    let beyond = Finding::SentBeyondRoom { sent: 17, room: 16 };
+    assert_eq!(sent(true, 17), [beyond, Finding::InterruptsCutOff]);
+    let received = set_up
+        .into_iter()
+        .chain([Read(STATUS, 0x61), Read(DATA, b'a')]);
+    assert_eq!(found(received.map(access)), [Finding::InterruptsCutOff]);
 }
 
 #[test]

@@ -7,6 +7,7 @@ use bitflags::Flags;
 use std::alloc::Global;
 use uart_chip::controlling::ChipParts;
 use uart_chip::{ArrivalMark, BuildError, Chip, Event, Uart, arrivals, refusal};
+use uart_spec::FifoSize;
 use uart_spec::backend::Backend;
 use uart_spec::registers::{MCR, MSR, flag};
 
@@ -77,6 +78,25 @@ fn put_events(events: &mut Vec<Event>, moments: &[Moment], cable: &[u8], lines: 
     }
 }
 
+// Leaves this event alone in a list with room for it.
+fn put_alone(events: &mut Vec<Event>, event: Event) {
+    events.clear();
+    events.push(event).unwrap();
+}
+
+// Returns whether this event may happen at a cable, if so many characters may still come.
+fn may_happen(event: Event, to_come: usize) -> bool {
+    match event {
+        Event::Arrive { errors, .. } => errors == 0 && to_come > 0,
+        Event::Lines(inputs) => {
+            let inputs = MSR::from_bits_retain(inputs);
+            inputs.intersection(MSR::LINES) == inputs
+        }
+        Event::Mark => false,
+        _ => true,
+    }
+}
+
 impl CabledChip {
     /// Returns a chip after power-on, at a cable on which nothing has been sent yet.
     ///
@@ -108,10 +128,52 @@ impl CabledChip {
         wire_capacity: usize,
         arrivals: usize,
     ) -> Result<Self, BuildError> {
+        Self::new_sized(
+            alloc,
+            chip,
+            FifoSize::Sixteen,
+            char_ticks,
+            wire_capacity,
+            arrivals,
+            false,
+        )
+    }
+
+    /// Returns a chip as [`CabledChip::new`] does, whose FIFOs have this size, and which cuts each
+    /// character to the word length of LCR if `cuts` is set.
+    ///
+    /// The size is that from the start, and no access changes it. The four trigger levels are those
+    /// of a chip with FIFOs of this size. A 16450 has no FIFO, so the size changes nothing that it
+    /// does.
+    ///
+    /// # Errors
+    ///
+    /// Those of [`CabledChip::new`], in the same order.
+    ///
+    /// # Examples
+    ///
+    /// ```text
+    /// // As a 16750 that has been switched to 64.
+    /// let chip = Chip::Uart16550A;
+    /// let size = FifoSize::SixtyFour;
+    /// let machine = CabledChip::new_sized(rt.alloc(), chip, size, 4, 64, 64, false)?;
+    /// let mut uart = Uart16550::new_with_backend(machine.with_auto_flow());
+    /// uart.init(Config::DEFAULT)?;
+    /// ```
+    pub fn new_sized(
+        alloc: Global,
+        chip: Chip,
+        size: FifoSize,
+        char_ticks: u16,
+        wire_capacity: usize,
+        arrivals: usize,
+        cuts: bool,
+    ) -> Result<Self, BuildError> {
         if let Some(reason) = refusal(char_ticks, wire_capacity, &[]) {
             return Err(reason);
         }
-        let Ok(uart) = Uart::new(alloc, chip, char_ticks, wire_capacity, arrivals, false) else {
+        let Ok(uart) = Uart::new_sized(alloc, chip, size, char_ticks, wire_capacity, arrivals, cuts)
+        else {
             return Err(BuildError::OutOfMemory);
         };
         let Ok(events) = Vec::with_capacity(alloc, CALL_MOMENTS) else {
@@ -185,8 +247,53 @@ impl CabledChip {
         self.remaining -= arrivals(&self.events);
     }
 
-    // Returns the modem lines that this chip gives to the other end.
-    fn lines(&self) -> MSR {
+    // Lets all that is known of the schedule happen, and puts this event into it.
+    fn expect(&mut self, event: Event) {
+        self.settle();
+        self.cursor = 0;
+        put_alone(&mut self.events, event);
+        self.remaining -= arrivals(&self.events);
+    }
+
+    // Returns whether this event may happen, once all that is known of the schedule has.
+    fn may_happen(&self, event: Event) -> bool {
+        may_happen(event, self.remaining)
+    }
+
+    /// Lets all that is known of the schedule happen, and then this event, and returns true. An
+    /// `Access` lies ahead then: there the next register access takes place, without the tick that
+    /// passes elsewhere.
+    ///
+    /// This is for a cable that a program plays itself, from moment to moment. [`run_link`] brings
+    /// what has left the other end, from call to call.
+    ///
+    /// Returns false, and nothing happens, if the event cannot be at a cable: an arrival with
+    /// errors or behind the last one that the chip was made for, lines with bits outside of 0xf0,
+    /// and a `Mark`.
+    ///
+    /// # Examples
+    ///
+    /// ```text
+    /// chip.perform(Event::Ticks(1));
+    /// let arrives = chip.perform(Event::Arrive { byte, errors: 0 });
+    /// ```
+    ///
+    /// [`run_link`]: crate::run_link
+    pub fn perform(&mut self, event: Event) -> bool {
+        if !self.may_happen(event) {
+            return false;
+        }
+        self.expect(event);
+        match event {
+            Event::Access => {}
+            _ => self.settle(),
+        }
+        true
+    }
+
+    /// Returns the modem lines that this chip gives to the other end: its RTS is CTS there, and its
+    /// DTR is DSR and CD. In loopback its outputs are off.
+    pub fn lines(&self) -> MSR {
         if self.uart.is_loopback() {
             MSR::empty()
         } else {
@@ -207,6 +314,11 @@ impl CabledChip {
             return false;
         }
         self.remaining == self.uart.receiver().arrivals()
+    }
+
+    /// Returns the chip.
+    pub fn chip(&self) -> &Uart {
+        &self.uart
     }
 
     /// Returns the bytes that have left the chip, in order.

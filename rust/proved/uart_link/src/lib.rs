@@ -9,7 +9,7 @@
 #![allow(unused_imports, unused_labels, unused_parens, unused_braces, dead_code, clippy::all, clippy::pedantic, reason = "the text is that of the proved source, in the forms that Rattle has")]
 #![allow(rustdoc::broken_intra_doc_links)]
 
-const _: () = assert!(usize::BITS == 64, "what is not for users is for targets of 64 bits");
+const _: () = assert!(usize::BITS >= 32, "a script has up to 65,536 bytes");
 
 #[macro_use(format, format_fields, vec)]
 extern crate geesetrunk_kit as std;

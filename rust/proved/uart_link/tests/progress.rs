@@ -143,3 +143,24 @@ fn a_sender_that_does_not_go_on_leaves_what_waits() {
     let left = made(&mut link, Side::Left, &[], RingCall::ClearTransmit);
     assert_eq!(left, RingAnswer::Count(2));
 }
+
+// In the first part of the run bytes cross and come to rest. What was asked for there is not asked for again.
+#[test]
+fn the_next_part_of_a_run_takes_what_was_queued() {
+    let mut link = link(false);
+    let goes_on = |link: &mut Link| {
+        handled(link, Side::Left);
+    };
+    let queue = |link: &mut Link| {
+        let bytes = RingCall::Queue(listed(b"abc"));
+        made(link, Side::Left, &[Moment::Lines], bytes);
+    };
+    queue(&mut link);
+    assert_eq!(round(&mut link, goes_on), b"a");
+    // Two bytes of the first part are left, of which one is in the chip, and three are queued behind them: four wait, so five rounds are
+    // enough.
+    queue(&mut link);
+    for byte in [b"b", b"c", b"a", b"b", b"c"] {
+        assert_eq!(round(&mut link, goes_on), byte);
+    }
+}

@@ -58,11 +58,17 @@ pub mod size {}
 /// ```text
 /// pub record IsLive (fifos : FifoSize) (c : ChipState) : Type 0 where
 ///   pub whole : IsWhole (record { chip = c; ahead = [] })
+///   -- no arrival has a mark
 ///   pub no_marks : length c.receiver.marks ≡ 0
+///   -- none can be lost unnoticed
 ///   pub none_lost : c.receiver.is_unscheduled_lost ≡ false
+///   -- the wire has room for at most as much as a wire may have
 ///   pub room : c.transmitter.capacity ≤ MAX_WIRE_CAPACITY
+///   -- the FIFOs have this size
 ///   pub size : c.transmitter.size ≡ fifos
+///   -- flow control is left to the driver
 ///   pub flow : c.auto_flow ≡ false
+///   -- the chip has no switch of the size
 ///   pub switch : c.has_size_switch ≡ false
 /// ```
 ///

@@ -309,8 +309,9 @@ fn raise_each<B: Backend>(ports: &mut [LinePort<B>]) {
 /// Returns whether an interrupt was served at one of them; [`LinePort::handled`] tells what was
 /// handled at each, and which chip is stuck.
 ///
-/// Does not wait: makes at most 35 accesses for each interrupt of the limit and 11 more, at each
-/// port. With a larger `fifo_size` of the driver it is twice that size and 3 in place of the 35.
+/// Does not wait: makes at most 35 accesses for each interrupt of the limit, which is 6 if it is
+/// lower, and 11 more, at each port. With a larger `fifo_size` of the driver it is twice that size
+/// and 3 in place of the 35.
 ///
 /// # Examples
 ///

@@ -396,6 +396,7 @@ pub mod transmit {}
 /// ```text
 /// abbrev pub ClearsReceive : ℕ → RingDoing
 /// ClearsReceive count f l after =
+///     -- the result is how many bytes the receive ring had
 ///     (count ≡ length f.receive.items) × IfAny count EndsPause (without_taken count f) l after
 /// ```
 ///
@@ -554,11 +555,12 @@ pub mod handle {}
 ///
 /// ```text
 /// abbrev pub TriesToHandle : (limit rounds : ℕ) → Result Handled StuckError → RingDoing
-/// TriesToHandle limit rounds result f l after =
-///     MatchOption f.stuck (HandlesRound limit rounds result f l after) (λ error. StaysStuck result error f l after)
+/// TriesToHandle limit rounds result f l after = MatchOption f.stuck
+///     (HandlesRound (round_limit limit) rounds result f l after)
+///     (λ error. StaysStuck result error f l after)
 /// ```
 ///
-/// It uses `RingDoing` of `crates/uart_ring/specs/Ring.antt`; `HandlesRound`, `StaysStuck` of this file.
+/// It uses `RingDoing` of `crates/uart_ring/specs/Ring.antt`; `HandlesRound`, `round_limit`, `StaysStuck` of this file.
 ///
 /// <span id="Restarts"></span>
 ///

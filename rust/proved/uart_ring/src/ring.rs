@@ -460,7 +460,8 @@ impl<B: Backend> Uart16550Ring<B> {
     ///   interrupt. The rings have a `config_register_dump` of their own, which needs nothing;
     /// - `disable_interrupts` of `THR_EMPTY`;
     /// - `init`, `init_with`, `restore`, `quiesce` and `test_loopback`, which set the port up, test
-    ///   it or leave it.
+    ///   it or leave it, and `checked_init` and `checked_init_with`, which are an `init` and an
+    ///   `init_with`.
     ///
     /// After every other call the interrupt is still to come, if DLAB and loopback are off.
     ///

@@ -1,5 +1,4 @@
-//! Chips that work, under `try_handle`: none is declared stuck, and none that has more to do than a round serves. And how few rounds and
-//! interrupts are too few.
+//! Chips that work, under `try_handle`: none is declared stuck, whatever its limit is, and none that has more to do than a round serves.
 
 use geesetrunk_kit_of_rings::alloc::Global;
 use proved_uart_ring::{HandleEnd, StuckError, Uart16550Ring};
@@ -7,7 +6,7 @@ use uart_16550::Uart16550;
 use uart_16550::backend::Backend;
 use uart_live::{Chip, LiveChip, WIRE_ROOM};
 use uart_spec::Config;
-use uart_spec::registers::{IER, InterruptType, LSR, MSR};
+use uart_spec::registers::{IER, LSR, MSR};
 
 /// Pseudorandom numbers: xorshift.
 struct Random(u64);
@@ -173,22 +172,19 @@ fn status_news_one_at_a_time_are_not_enough() {
     }
 }
 
-/// With a limit of one no round ends with `Idle`, so a chip that works is declared stuck if two are pending at the last round.
+/// A round of a single interrupt never ends with `Idle`. So with such rounds two news at a time stop this chip.
 #[test]
-fn two_at_a_time_want_a_limit_above_one() {
-    assert_eq!(
-        status_news(1, 99, true, true),
-        Err(StuckError::Pending(InterruptType::ModemStatus))
-    );
-    for limit in [6, 32] {
+fn two_at_a_time_are_not_enough() {
+    for limit in [0, 1, 2, 6, 32] {
         assert_eq!(status_news(limit, 99, true, true), Ok(()), "{limit}");
     }
 }
 
-/// With a limit of one the last access of each round raises THR_EMPTY again, and CTS holds back what it is for.
+/// The last access of a round raises THR_EMPTY again, and CTS holds back what it is for. With rounds of a single interrupt that stops this
+/// chip.
 #[test]
-fn a_clear_cts_wants_a_limit_above_one() {
-    let held_back = |limit| {
+fn a_clear_cts_is_not_enough() {
+    let held_back = |limit| -> Result<(), StuckError> {
         let config = Config {
             check_cts_before_sending: true,
             ..all()
@@ -203,12 +199,39 @@ fn a_clear_cts_wants_a_limit_above_one() {
             Ok(())
         })
     };
-    assert_eq!(
-        held_back(1),
-        Err(StuckError::Pending(InterruptType::TransmitterHoldingRegisterEmpty))
-    );
-    for limit in [2, 6, 32] {
-        assert_eq!(held_back(limit), Ok(()));
+    for limit in [0, 1, 2, 6, 32] {
+        assert_eq!(held_back(limit), Ok(()), "{limit}");
+    }
+}
+
+/// How many of some runs stop a chip that works: all news come between the rounds, and however many, none while a round is served.
+fn stopped_runs(runs: u64, limit: usize) -> usize {
+    let stops = |seed: u64| {
+        let mut random = Random(seed.wrapping_mul(0x9e37_79b9_7f4a_7c15));
+        let mut ring = port(8, 1, 4, all());
+        let rounds = 1 + random.below(4) as u32;
+        (0..100).any(|_| {
+            for _ in 0..random.below(8) {
+                match random.below(5) {
+                    0 => drop(chip(&mut ring).arrive(0x55, LSR::PARITY_ERROR)),
+                    1 => drop(chip(&mut ring).set_lines(MSR::CTS)),
+                    2 => drop(chip(&mut ring).set_lines(MSR::empty())),
+                    3 => drop(ring.queue(b"byte")),
+                    _ => drop(ring.take(&mut [0; 2])),
+                }
+                ring.inner_mut().backend_mut().pass(random.below(32) as u16);
+            }
+            ring.try_handle(limit, rounds).is_err()
+        })
+    };
+    (1..=runs).filter(|&seed| stops(seed)).count()
+}
+
+/// While a round served no more than its limit, 320 of these 500 runs stopped a chip at a limit of 1, and 75 at 2.
+#[test]
+fn no_limit_stops_a_chip_that_works() {
+    for limit in 0..10 {
+        assert_eq!(stopped_runs(500, limit), 0, "{limit}");
     }
 }
 

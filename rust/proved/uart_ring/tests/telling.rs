@@ -296,35 +296,33 @@ fn a_storm_of_unknown_interrupts() {
 
 #[test]
 fn an_interrupt_that_does_not_go_away() {
-    // A round in which a byte moves is not counted. At the limit a look shows that none is left, so
-    // the chip is not stuck. Then one is.
+    // Each round serves six interrupts, though the limit is one. A round in which a byte moves is
+    // not counted. At the limit a look shows that none is left, so the chip is not stuck. Then one
+    // is.
+    let again = [Changed(IER, 0x01, 0x00), Write(IER, 0x01)];
+    let moves = [Read(ISR, DATA_READY), Received(b"A"), Read(LSR, 0x60)];
+    let moves_none = [Read(ISR, DATA_READY), Read(LSR, 0x60)];
     let steps = [
-        Read(ISR, DATA_READY),
-        Received(b"A"),
-        Read(LSR, 0x60),
-        Changed(IER, 0x01, 0x00),
-        Write(IER, 0x01),
-        Read(ISR, DATA_READY),
-        Read(LSR, 0x60),
-        Changed(IER, 0x01, 0x00),
-        Write(IER, 0x01),
-        Read(ISR, NONE),
-        Read(ISR, DATA_READY),
-        Read(LSR, 0x60),
-        Changed(IER, 0x01, 0x00),
-        Write(IER, 0x01),
-        Read(ISR, DATA_READY),
-        Changed(IER, 0x01, 0x00),
-    ];
+        &moves[..],
+        &moves_none.repeat(5),
+        &again,
+        &moves_none.repeat(6),
+        &again,
+        &[Read(ISR, NONE)],
+        &moves_none.repeat(6),
+        &again,
+        &[Read(ISR, DATA_READY), Changed(IER, 0x01, 0x00)],
+    ]
+    .concat();
     let answers = answers_in(&steps);
     let mut ring = rings(&answers, 32, 4);
-    let one = Handled {
-        served: 1,
+    let six = Handled {
+        served: 6,
         end: HandleEnd::Limit,
     };
     let stuck = StuckError::Pending(InterruptType::ReceivedDataReady);
-    assert_eq!(ring.try_handle(1, 0), Ok(one));
-    assert_eq!(ring.try_handle(1, 1), Ok(one));
+    assert_eq!(ring.try_handle(1, 0), Ok(six));
+    assert_eq!(ring.try_handle(1, 1), Ok(six));
     assert_eq!(ring.try_handle(1, 0), Err(stuck));
     assert_made(ring.inner().backend(), &steps);
 }

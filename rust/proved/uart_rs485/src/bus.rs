@@ -1,6 +1,6 @@
 //! The driver with its direction: what it holds, the constructor, and the calls that switch.
 
-use crate::direction::{Direction, DirectionLine};
+use crate::direction::Direction;
 use crate::errors::BusyError;
 use uart_16550::Uart16550;
 use uart_16550::backend::Backend;
@@ -32,8 +32,8 @@ use uart_spec::StalledError;
 ///
 /// Only calls of this type keep the direction, so it lends no driver that could write. For other
 /// calls, as `set_frame`, take the driver back by `into_inner`, and give it to `new` again. So set
-/// the size of the FIFOs, by `set_fifo_size`, before `new`. The direction is by software: leave
-/// flow control by the chip off, which would drive RTS itself.
+/// the size of the FIFOs, by `set_fifo_size`, before `new`. The direction is by software: where RTS
+/// is the line, flow control by the chip would drive it, so each switch turns that off.
 ///
 /// # Examples
 ///
@@ -115,16 +115,15 @@ impl<B: Backend> HalfDuplex<B> {
 
     // Switches the transceiver to send, or to receive.
     fn turn(&mut self, sends: bool) {
-        let on = self.direction.level(sends);
-        match self.direction.line {
-            DirectionLine::Rts => self.uart.set_rts(on),
-            DirectionLine::Dtr => self.uart.set_dtr(on),
-        }
+        let outputs = self.uart.mcr();
+        self.uart
+            .set_modem_control(self.direction.turned(sends, outputs));
         self.is_sending = sends;
     }
 
     /// Switches the transceiver to send: reads MCR, and writes it with the line so, as `set_rts` or
-    /// `set_dtr` of the driver do. From now on bytes may be sent.
+    /// `set_dtr` of the driver do. Where the line is RTS, flow control by the chip is off from then
+    /// on. From now on bytes may be sent.
     ///
     /// Does not wait. Before the first byte wait as long as the transceiver takes.
     ///
@@ -142,7 +141,7 @@ impl<B: Backend> HalfDuplex<B> {
     ///
     /// # Proved
     ///
-    /// - [Does as](crate::proved::bus#BusDid) [`Turns`](crate::proved::bus#Turns) `true`: the transceiver is switched: MCR is read, and written with the line as it is to be in this direction, without loopback, as by the driver's `set_rts` or `set_dtr`.
+    /// - [Does as](crate::proved::bus#BusDid) [`Turns`](crate::proved::bus#Turns) `true`: the transceiver is switched: MCR is read, and written with the line as it is to be in this direction, without loopback, and at RTS without automatic flow control.
     ///
     /// <details><summary>The clauses</summary>
     ///

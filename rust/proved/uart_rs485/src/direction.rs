@@ -46,6 +46,15 @@ impl Direction {
         }
     }
 
+    // Returns the bit by which the chip would drive the output itself: flow control by the chip
+    // drives RTS, by how many characters wait.
+    fn flow(self) -> MCR {
+        match self.line {
+            DirectionLine::Rts => MCR::AUTO_FLOW,
+            DirectionLine::Dtr => MCR::empty(),
+        }
+    }
+
     // Returns whether the bit of the output is set in this direction.
     pub(crate) fn level(self, sends: bool) -> bool {
         if sends {
@@ -55,7 +64,21 @@ impl Direction {
         }
     }
 
-    /// Returns these outputs with the line as it is to be while the transceiver receives.
+    // Returns these outputs with the line as it is to be in this direction.
+    pub(crate) fn turned(self, sends: bool, outputs: MCR) -> MCR {
+        let switched = if self.level(sends) {
+            outputs.union(self.bit())
+        } else {
+            outputs.difference(self.bit())
+        };
+        // A chip whose flow control is on clears RTS once its FIFO has as many characters as its
+        // trigger level. It would give the bus away in the middle of a message whose echo is not
+        // yet read. Firmware, or a driver before this one, may have left it on.
+        switched.difference(self.flow())
+    }
+
+    /// Returns these outputs with the line as it is to be while the transceiver receives: of RTS
+    /// without flow control by the chip, which would drive it.
     ///
     /// `init` raises RTS and DTR. On a bus with other ends that may send, initialise the chip with
     /// these outputs instead, by `init_with`: else this end may hold the bus until
@@ -78,24 +101,18 @@ impl Direction {
     ///
     /// # Proved
     ///
-    /// - `result.0` is [`switched`](uart_16550::proved::frame#switched) `(level self false) (bit_of self.line) outputs.0`: a value with these bits set, or cleared.
-    ///   - [`level`](crate::proved::directions#level): whether the bit of the output is set in a direction: to send, or to receive.
-    ///   - [`bit_of`](crate::proved::directions#bit_of): the bit of MCR of an output.
+    /// - `result.0` is [`turned`](crate::proved::directions#turned) `self false outputs.0`: these outputs with the line as it is to be in a direction, and not driven by the chip itself.
     ///
     /// <details><summary>The clauses</summary>
     ///
     /// [How to read them](uart_spec::proved):
     ///
     /// ```text
-    /// ensures { result.0 ≡ switched (level self false) (bit_of self.line) outputs.0 }
+    /// ensures { result.0 ≡ turned self false outputs.0 }
     /// ```
     ///
     /// </details>
     pub fn receiving(self, outputs: MCR) -> MCR {
-        if self.level(false) {
-            outputs.union(self.bit())
-        } else {
-            outputs.difference(self.bit())
-        }
+        self.turned(false, outputs)
     }
 }

@@ -6,29 +6,19 @@
 ///
 /// From `crates/uart_rs485/specs/Directions.antt`.
 ///
-/// <span id="bit_of"></span>
+/// <span id="turned"></span>
 ///
-/// # `bit_of`
+/// # `turned`
 ///
-/// The bit of MCR of an output.
-///
-/// ```text
-/// abbrev pub bit_of : DirectionLine → ℕ
-/// bit_of Rts = MCR.RTS.0
-/// bit_of Dtr = MCR.DTR.0
-/// ```
-///
-/// <span id="level"></span>
-///
-/// # `level`
-///
-/// Whether the bit of the output is set in a direction: to send, or to receive.
+/// These outputs with the line as it is to be in a direction, and not driven by the chip itself.
 ///
 /// ```text
-/// abbrev pub level : Direction → (sends : Bool) → Bool
-/// level d sends = if sends then d.sends_when_set else not d.sends_when_set
+/// abbrev pub turned : Direction → (sends : Bool) → (outputs : ℕ) → ℕ
+/// turned d sends outputs = without 8 (switched (level d sends) (bit_of d.line) outputs) (flow_of d.line)
 /// ```
-#[doc(alias("bit_of", "level"))]
+///
+/// It uses `switched` of `crates/uart_16550/specs/Frame.antt`; `level`, `bit_of`, `flow_of` of this file.
+#[doc(alias("turned"))]
 pub mod directions {}
 
 /// A driver at a bus: what it holds, and what each call does.
@@ -104,15 +94,15 @@ pub mod directions {}
 ///
 /// # `Turns`
 ///
-/// The transceiver is switched: MCR is read, and written with the line as it is to be in this direction, without loopback, as by the driver's `set_rts` or `set_dtr`.
+/// The transceiver is switched: MCR is read, and written with the line as it is to be in this direction, without loopback, and at RTS without automatic flow control.
 ///
 /// ```text
 /// abbrev pub Turns : (sends : Bool) → BusDoing
 /// Turns sends f =
-///     OnDriver (Saving (SetsOutput (bit_of f.direction.line) (level f.direction sends))) (with_sends sends) f
+///     OnDriver (Saving (Modifies offsets.MCR (λ mcr. unlooped (turned f.direction sends mcr)))) (with_sends sends) f
 /// ```
 ///
-/// It uses [`OnDriver`](crate::proved::bus#OnDriver), [`Saving`](uart_16550::proved::driver#Saving), [`SetsOutput`](uart_16550::proved::frame#SetsOutput), [`bit_of`](crate::proved::directions#bit_of), [`level`](crate::proved::directions#level); `BusDoing`, `with_sends` of this file.
+/// It uses [`OnDriver`](crate::proved::bus#OnDriver), [`Saving`](uart_16550::proved::driver#Saving), [`turned`](crate::proved::directions#turned); `BusDoing`, `with_sends` of this file; `Modifies` of `crates/uart_16550/specs/Grammar.antt`; `unlooped` of `crates/uart_16550/specs/Frame.antt`.
 ///
 /// <span id="TriesToFinish"></span>
 ///

@@ -61,10 +61,13 @@ fn run_call(uart: &mut Uart16550Tty<Device16550>, call: &Call) -> Answer {
 /// the wire. With characters of 5 or 6 bits it reports an unexpected byte instead of success.
 /// Every call preserves a ready state, whatever its answer is.
 ///
-/// If each access of the schedule has a tick before it, the spin limit is at least 17 (t + 1) for a
-/// character of t ticks, and the wire has room for all that is to be sent, then an `Init` and an
-/// `InitWith` with a divisor succeed, and in a ready state so do a `SetFrameWhenIdle` with one,
-/// `Attach`, `TestLoopback`, `Flush` and, without CTS checking, `SendExact`, `Write` and `Text`.
+/// If each access of the schedule has a tick before it, the spin limit is at least n (t + 1) for a
+/// character of t ticks and a transmitter that holds at most n, which is 17 with a FIFO of 16, and
+/// the wire has room for all that is to be sent, then an `Init` and an `InitWith` with a divisor
+/// succeed, and in a ready state so do a `SetFrameWhenIdle` with one, `Attach`, `TestLoopback`,
+/// `Flush` and, without CTS checking, `SendExact`, `Write` and `Text`. On a chip that has automatic
+/// flow control it is to be off, since the other end may hold such a chip off for ever: an `Init`
+/// turns it off, and an `InitWith` is not to turn it on.
 ///
 /// # Examples
 ///

@@ -213,6 +213,10 @@ pub struct Config {
 impl Config {
     /// 9,600 baud at the usual clock, eight data bits, no parity, one stop bit, FIFOs with a
     /// trigger level of fourteen, no interrupts, and no CTS check before sending.
+    ///
+    /// The level is that of the original crate. It takes the fewest interrupts, and leaves their
+    /// handler the least time: 3.1 ms at 9,600 baud, but 260 us at 115,200. There level 8 leaves
+    /// 781 us, for 131,072 interrupts a megabyte in place of 74,912 (`handler_budget`).
     pub const DEFAULT: Config = Config {
         interrupts: IER::NONE,
         frequency: CLK_FREQUENCY_HZ,

@@ -25,6 +25,7 @@ pub mod original;
 mod received;
 pub mod registers;
 mod setup;
+mod timing;
 
 pub use baud::{
     CLK_FREQUENCY_HZ, FIFO_SIZE, NUM_REGISTERS, calc_baud_rate, calc_divisor, calc_frequency,

@@ -90,7 +90,11 @@
 /// ```text
 /// abbrev pub SameOutside : (lowest width old new : ℕ) → Type 0
 /// SameOutside lowest width old new =
-///     (place : ℕ) → place < 8 → (place < lowest) ⊎ (lowest + width ≤ place) → field place 1 new ≡ field place 1 old
+///     (place : ℕ) →
+///     -- it is one of the eight bits
+///     place < 8 →
+///     -- it is none of the field
+///     (place < lowest) ⊎ (lowest + width ≤ place) → field place 1 new ≡ field place 1 old
 /// ```
 ///
 /// It uses [`field`](crate::proved::bits#field).
@@ -927,3 +931,161 @@ pub mod layout {}
 /// It uses [`IsCheckedRate`](crate::proved::checked#IsCheckedRate), [`divisor_of`](crate::proved::dump#divisor_of).
 #[doc(alias("init_error", "loopback_error", "IsStalledInit", "IsStalledTest", "driver_dump", "HasBaudRate"))]
 pub mod original {}
+
+/// How long a character takes on the line, and how late a handler may be for which characters wait: in clocks of the chip's input, so that nothing is rounded.
+///
+/// From `crates/uart_spec/specs/Timing.antt`.
+///
+/// <span id="IsCharacterAnswer"></span>
+///
+/// # `IsCharacterAnswer`
+///
+/// The time of a character, if there is a divisor for the baud rate; otherwise why there is none.
+///
+/// ```text
+/// abbrev pub IsCharacterAnswer : Config → Result ℕ InvalidDivisorError → Type 0
+/// IsCharacterAnswer config (Ok clocks) =
+///     (divisor : ℕ) × HasDivisor config (Ok divisor) × IsCharacterTime config clocks
+/// IsCharacterAnswer config (Err error) = HasDivisor config (Err error)
+/// ```
+///
+/// It uses `HasDivisor`, `IsCharacterTime` of this file.
+///
+/// <span id="characters_at"></span>
+///
+/// # `characters_at`
+///
+/// How many characters wait in a FIFO of this size when its trigger level is reached: the levels have the names that they have for 16; those of larger FIFOs are as the chips have them.
+///
+/// ```text
+/// abbrev pub characters_at : FifoSize → FifoTriggerLevel → ℕ
+/// characters_at Sixteen One = 1
+/// characters_at Sixteen Four = 4
+/// characters_at Sixteen Eight = 8
+/// characters_at Sixteen Fourteen = 14
+/// characters_at ThirtyTwo One = 8
+/// characters_at ThirtyTwo Four = 16
+/// characters_at ThirtyTwo Eight = 24
+/// characters_at ThirtyTwo Fourteen = 28
+/// characters_at SixtyFour One = 1
+/// characters_at SixtyFour Four = 16
+/// characters_at SixtyFour Eight = 32
+/// characters_at SixtyFour Fourteen = 56
+/// characters_at OneHundredTwentyEight One = 16
+/// characters_at OneHundredTwentyEight Four = 32
+/// characters_at OneHundredTwentyEight Eight = 112
+/// characters_at OneHundredTwentyEight Fourteen = 120
+/// characters_at TwoHundredFiftySix One = 1
+/// characters_at TwoHundredFiftySix Four = 64
+/// characters_at TwoHundredFiftySix Eight = 128
+/// characters_at TwoHundredFiftySix Fourteen = 254
+/// ```
+///
+/// <span id="IsHandlerAnswer"></span>
+///
+/// # `IsHandlerAnswer`
+///
+/// One clock less than the time in which the receiver fills up from there, and one more character comes.
+///
+/// ```text
+/// abbrev pub IsHandlerAnswer : Config → FifoSize → Result ℕ InvalidDivisorError → Type 0
+/// IsHandlerAnswer config size (Ok clocks) =
+///     (character : ℕ) × IsCharacterAnswer config (Ok character)
+///     × (clocks + 1 ≡ (spare_at size config.fifo_trigger_level + 1) * character)
+/// IsHandlerAnswer config size (Err error) = IsCharacterAnswer config (Err error)
+/// ```
+///
+/// It uses [`IsCharacterAnswer`](crate::proved::timing#IsCharacterAnswer); `spare_at` of this file.
+///
+/// <span id="IsHandlerBudget"></span>
+///
+/// # `IsHandlerBudget`
+///
+/// How late it may begin where an access takes e clocks, and the others at its line are served first: an access reads ISR, and the first byte is read four accesses later if a line error is told before it. It is in time if something is left, and no character comes while another one is read, by two accesses.
+///
+/// ```text
+/// abbrev pub IsHandlerBudget : Config → FifoSize → (e before : ℕ) → Result (Option ℕ) InvalidDivisorError → Type 0
+/// IsHandlerBudget config size e before (Ok (Some clocks)) =
+///     (character : ℕ) × IsCharacterAnswer config (Ok character) × (2 * e ≤ character)
+///     × (clocks + before + 4 * e + 1 ≡ (spare_at size config.fifo_trigger_level + 1) * character)
+/// IsHandlerBudget config size e before (Ok None) =
+///     (character : ℕ) × IsCharacterAnswer config (Ok character)
+///     × ((character < 2 * e) ⊎ ((spare_at size config.fifo_trigger_level + 1) * character < before + 4 * e + 1))
+/// IsHandlerBudget config size e before (Err error) = IsCharacterAnswer config (Err error)
+/// ```
+///
+/// It uses [`IsCharacterAnswer`](crate::proved::timing#IsCharacterAnswer); `spare_at` of this file.
+///
+/// <span id="IsCharactersAnswer"></span>
+///
+/// # `IsCharactersAnswer`
+///
+/// The most characters that end within so many clocks: one ends at once, and each other a character's time later.
+///
+/// ```text
+/// abbrev pub IsCharactersAnswer : Config → (clocks : ℕ) → Result ℕ InvalidDivisorError → Type 0
+/// IsCharactersAnswer config clocks (Ok count) =
+///     (character : ℕ) × IsCharacterAnswer config (Ok character) × (clocks < count * character)
+///     × (count * character ≤ clocks + character)
+/// IsCharactersAnswer config clocks (Err error) = IsCharacterAnswer config (Err error)
+/// ```
+///
+/// It uses [`IsCharacterAnswer`](crate::proved::timing#IsCharacterAnswer).
+///
+/// <span id="IsTimeOf"></span>
+///
+/// # `IsTimeOf`
+///
+/// The time of so many characters.
+///
+/// ```text
+/// abbrev pub IsTimeOf : Config → (count : ℕ) → Result ℕ InvalidDivisorError → Type 0
+/// IsTimeOf config count (Ok clocks) =
+///     (character : ℕ) × IsCharacterAnswer config (Ok character) × (clocks ≡ count * character)
+/// IsTimeOf config count (Err error) = IsCharacterAnswer config (Err error)
+/// ```
+///
+/// It uses [`IsCharacterAnswer`](crate::proved::timing#IsCharacterAnswer).
+///
+/// <span id="IsSpinLimit"></span>
+///
+/// # `IsSpinLimit`
+///
+/// The limit with which no wait for a full transmitter gives up, of a FIFO and the shift register, if each look takes at least e clocks. A character is so many looks, of which the last may begin before it ends; and one look more finds that the next character has begun.
+///
+/// ```text
+/// abbrev pub IsSpinLimit : Config → FifoSize → (e : ℕ) → Result (Option ℕ) InvalidDivisorError → Type 0
+/// IsSpinLimit config size e (Ok (Some limit)) =
+///     (character looks : ℕ) × IsCharacterAnswer config (Ok character) × (character ≤ looks * e)
+///     × (looks * e < character + e) × (limit ≡ (characters size + 1) * (looks + 1))
+/// IsSpinLimit config size e (Ok None) = e ≡ 0
+/// IsSpinLimit config size e (Err error) = IsCharacterAnswer config (Err error)
+/// ```
+///
+/// It uses [`IsCharacterAnswer`](crate::proved::timing#IsCharacterAnswer), [`characters`](crate::proved::fifo_size#characters).
+///
+/// <span id="IsWithin"></span>
+///
+/// # `IsWithin`
+///
+/// The whole part of value \* times / per, if there is one that fits into 64 bits.
+///
+/// ```text
+/// abbrev pub IsWithin : (value times per : ℕ) → Option ℕ → Type 0
+/// IsWithin value times per (Some whole) = (whole * per ≤ value * times) × (value * times < (whole + 1) * per)
+/// IsWithin value times per None = (per ≡ 0) ⊎ (2 ^ 64 * per ≤ value * times)
+/// ```
+///
+/// <span id="IsCovering"></span>
+///
+/// # `IsCovering`
+///
+/// The same rounded up.
+///
+/// ```text
+/// abbrev pub IsCovering : (value times per : ℕ) → Option ℕ → Type 0
+/// IsCovering value times per (Some whole) = (value * times ≤ whole * per) × (whole * per < value * times + per)
+/// IsCovering value times per None = (per ≡ 0) ⊎ ((2 ^ 64 - 1) * per < value * times)
+/// ```
+#[doc(alias("IsCharacterAnswer", "characters_at", "IsHandlerAnswer", "IsHandlerBudget", "IsCharactersAnswer", "IsTimeOf", "IsSpinLimit", "IsWithin", "IsCovering"))]
+pub mod timing {}

@@ -11,8 +11,8 @@ pub struct Received {
     /// Of `PARITY_ERROR`, `FRAMING_ERROR` and `BREAK_INTERRUPT` those of this byte; and
     /// `OVERRUN_ERROR` if the look before this byte reported that a character was lost.
     ///
-    /// With the FIFO on, all that waited then came before the lost one: it was lost right behind
-    /// the 15th or the 16th character from this byte on. With the FIFO off, it came before this
-    /// byte.
+    /// With the FIFO on, all that waited then came before the lost one: it was lost right behind as
+    /// many characters from this byte on as the FIFO holds, or one fewer, so with a FIFO of 16
+    /// behind the 15th or the 16th. With the FIFO off, it came before this byte.
     pub errors: LSR,
 }

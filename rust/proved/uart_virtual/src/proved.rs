@@ -216,10 +216,11 @@
 /// pub record IsStill (c : ChipState) : Type 0 where
 ///   pub paced : IsPaced c
 ///   pub unmoved : IsUnmoved c
+///   -- a reception timeout is due, if characters wait in the FIFO
 ///   pub due : c.receiver.timeout_ticks ≡ c.receiver.timeout_limit
 /// ```
 ///
-/// It uses `ChipState` of `crates/uart_chip/specs/Chip.antt`; `IsPaced`, `IsUnmoved` of this file.
+/// It uses [`characters`](uart_spec::proved::fifo_size#characters); `ChipState` of `crates/uart_chip/specs/Chip.antt`; `IsPaced`, `IsUnmoved` of this file.
 ///
 /// <span id="nothing_new"></span>
 ///

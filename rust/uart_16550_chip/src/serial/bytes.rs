@@ -27,6 +27,8 @@ const LENGTH_OFFSET: usize = 8;
 /// The kinds of parts.
 const CHIP: u8 = 1;
 const OUTPUT: u8 = 2;
+/// Of a chip with larger FIFOs, which no `Serial` is.
+const REST_OF_FIFOS: u8 = 3;
 
 /// How many bytes a version 1 has of a chip, how many were added to them, and how many the output has.
 const REGISTERS_LEN: usize = 77;
@@ -397,7 +399,7 @@ impl<'a> Reader<'a> {
             match (part.kind, part.is_needed) {
                 (CHIP, true) => chip = Some(part.body.chip()?),
                 (OUTPUT, true) => output = Some(part.body.bytes()?),
-                (CHIP | OUTPUT, false) => {
+                (CHIP | OUTPUT | REST_OF_FIFOS, false) => {
                     return Err(BadState::Value {
                         offset: part.offset + 1,
                     });

@@ -1,6 +1,6 @@
 //! The state of a device as plain data, and back.
 
-use super::connected_port;
+use super::port_after_firmware;
 use crate::{ArrayVec, Chip, ChipData, LiveChip, RestoreError, Restored, VirtualPort, WIRE_ROOM};
 use core::error;
 use core::fmt;
@@ -67,10 +67,10 @@ impl SerialState {
     }
 }
 
-/// The state of a device after power-on.
+/// The state of a device that [`Serial::new`](super::Serial::new) returns.
 impl Default for SerialState {
     fn default() -> Self {
-        Self::of_port(&connected_port())
+        Self::of_port(&port_after_firmware())
     }
 }
 

@@ -184,9 +184,10 @@ impl<B: Backend> Uart16550<B> {
     ///
     /// An overrun tells that a character was lost, and the FIFO decides on which side of the byte
     /// that it comes with. With the FIFO on, all that waited came before the lost one: it was lost
-    /// right behind the 15th or the 16th character from this byte on, which are bytes that the call
-    /// returns and then those that are still in the receiver. With the FIFO off, the further
-    /// character replaces the one that waits, so the lost one came before this byte.
+    /// right behind as many characters from this byte on as the FIFO holds, or one fewer, so with a
+    /// FIFO of 16 behind the 15th or the 16th. These are bytes that the call returns and then those
+    /// that are still in the receiver. With the FIFO off, the further character replaces the one
+    /// that waits, so the lost one came before this byte.
     ///
     /// Does not wait: reads LSR before each byte, and ends when it shows none. An empty slice makes
     /// no access. The error bits are saved for the next `lsr` too, and do not end the call.

@@ -118,9 +118,10 @@ impl<B: Backend> Uart16550Ring<ErrorNotes<B>> {
     ///
     /// With the FIFO on, the parity error, the framing error and the break of a byte are exactly
     /// those of its character. An overrun tells that a character was lost, and on which side of the
-    /// byte: right behind the 15th or the 16th character from this byte on, counted through the
-    /// bytes of the receive ring and then those in the chip. Without a FIFO, a character that comes
-    /// between the look and the read of its byte replaces the one that was shown.
+    /// byte: right behind as many characters from this byte on as the FIFO holds, or one fewer, so
+    /// with a FIFO of 16 behind the 15th or the 16th. They are counted through the bytes of the
+    /// receive ring and then those in the chip. Without a FIFO, a character that comes between the
+    /// look and the read of its byte replaces the one that was shown.
     ///
     /// Over the software chip with its FIFO on this is proved, after any calls of the rings
     /// themselves. It begins with the first look at LSR since the notes were made or the receiver

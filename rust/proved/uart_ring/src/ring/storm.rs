@@ -5,6 +5,11 @@ use bitflags::Flags;
 use uart_16550::backend::Backend;
 use uart_spec::registers::{IER, ISR, InterruptType};
 
+// A chip that works shows at most five interrupts in a row without a byte that moves and without
+// news from outside. After one more it has shown that none is pending, or news came. A round of
+// fewer tells nothing: one of a single interrupt never ends with `Idle`.
+const LEAST_LIMIT: usize = 6;
+
 /// Why a chip is stuck: what ISR still showed after as many rounds as the caller allows.
 #[cfg_attr(not(feature = "exhaustive"), non_exhaustive)]
 #[derive(Clone, Copy, Debug, PartialEq, Eq)]
@@ -131,13 +136,11 @@ impl<B: Backend> Uart16550Ring<B> {
     /// While the chip is stuck, the rings hand no byte to it, and each further call of `try_handle`
     /// serves nothing, writes 0 to IER again, and returns the same error. `restart` starts again.
     ///
-    /// Let the limit be at least 6. Then a chip that works leaves a round unfinished, without a
-    /// byte that moves, only if the rest arrives while the round is served: at least `limit - 5`
-    /// characters or changes of the modem lines. So it is never found stuck, unless as many come
-    /// in the course of each of `rounds` rounds in a row. With a lower limit it may be: a round of
-    /// one interrupt never ends with `Idle`, so `rounds` line errors or changes of modem lines in a
-    /// row count, however slowly they come, and one that is pending at the last look is enough
-    /// then. If `rounds` is 0 or 1, the first unfinished round is the last one.
+    /// A limit below 6 counts as 6: a chip that works may show 5 interrupts in a row without news
+    /// and without a byte that moves. So it leaves a round unfinished only if the rest arrives
+    /// while the round is served: at least `limit - 5` characters or changes of the modem lines,
+    /// and never none. It is never found stuck, unless as many come in the course of each of
+    /// `rounds` rounds in a row. If `rounds` is 0 or 1, the first unfinished round is the last one.
     ///
     /// As long as bytes move, the rounds end by themselves: a handler alone moves no more bytes
     /// than wait in the transmit ring and fit into the receive ring.
@@ -145,8 +148,9 @@ impl<B: Backend> Uart16550Ring<B> {
     /// A chip whose line stays high while ISR shows no interrupt is not found: its rounds end with
     /// `Idle`. DesignWare's busy detect is such a one.
     ///
-    /// Does not wait: makes at most 35 accesses for each interrupt of the limit, and 6 more. With a
-    /// larger `fifo_size` of the driver it is twice that size and 3 in place of the 35.
+    /// Does not wait: makes at most 35 accesses for each interrupt of the limit, which is 6 if it
+    /// is lower, and 6 more. With a larger `fifo_size` of the driver it is twice that size and 3 in
+    /// place of the 35.
     ///
     /// # Errors
     ///
@@ -191,7 +195,7 @@ impl<B: Backend> Uart16550Ring<B> {
     /// </details>
     pub fn try_handle(&mut self, limit: usize, rounds: u32) -> Result<Handled, StuckError> {
         match self.stuck {
-            None => self.handle_round(limit, rounds),
+            None => self.handle_round(limit.max(LEAST_LIMIT), rounds),
             Some(error) => {
                 // A `take` that ended a pause has enabled DATA_READY again, or another device on
                 // the line has interrupted.
