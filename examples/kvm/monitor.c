@@ -111,14 +111,20 @@ static void write_serial(uint8_t offset, uint8_t value)
     pthread_mutex_unlock(&lock);
 }
 
-/* ---- the host's thread */
+/*
+ * Has the port begin as firmware leaves it. There is none here, and a kernel that takes over the baud rate it finds, as Linux does with
+ * console=uart8250,io,0x3f8, divides by the divisor, which is 0 in a chip after power-on.
+ */
+static void set_as_firmware(void)
+{
+    enum { DIVISOR_OF_9600 = 12 };
+    write_serial(UART_OFFSET_LCR, UART_LCR_DLAB | UART_LCR_WORD_LENGTH);
+    write_serial(UART_OFFSET_DLL, DIVISOR_OF_9600);
+    write_serial(UART_OFFSET_LCR, UART_LCR_WORD_LENGTH);
+    write_serial(UART_OFFSET_MCR, UART_MCR_OUT_2_INT_ENABLE);
+}
 
-/* Input that was read and that the port had no room for yet. */
-struct input {
-    uint8_t bytes[4096];
-    size_t from, to;
-    bool is_over;
-};
+/* ---- the host's thread */
 
 /* Gives the host as much of the output as it takes now. The lock is taken. */
 static void give_output(void)
@@ -133,46 +139,46 @@ static void give_output(void)
     }
 }
 
-/* Gives the port as much of the input as it has room for. The rest waits until it tells of room. The lock is taken. */
-static void give_input(struct input *input)
+/*
+ * Reads as much input as the port has room for, and gives it to the port. What there is no room for stays in the host until the port tells
+ * of room: what a monitor keeps is in no snapshot of the port. Returns whether the input has ended. The lock is taken.
+ */
+static bool give_input(void)
 {
     struct uart_todo todo;
-    if (input->from == input->to)
-        return;
-    input->from += uart_port_receive(&port, input->bytes + input->from, input->to - input->from, &todo);
-    obey(&todo);
-}
-
-static void read_input(struct input *input)
-{
-    ssize_t count = read(STDIN_FILENO, input->bytes, sizeof input->bytes);
+    uint8_t bytes[UART_FIFO_SIZE];
+    size_t room = uart_chip_receive_room(&port.chip);
+    ssize_t count;
+    if (room == 0)
+        return false;
+    count = read(STDIN_FILENO, bytes, room < sizeof bytes ? room : sizeof bytes);
     if (count < 0 && errno != EAGAIN)
         fail("standard input");
-    input->is_over = count == 0;
-    input->from = 0;
-    input->to = count > 0 ? (size_t)count : 0;
+    if (count > 0) {
+        uart_port_receive(&port, bytes, (size_t)count, &todo);
+        obey(&todo);
+    }
+    return count == 0;
 }
 
 /* Passes on what comes, both ways, until the guest has ended and its output is out. */
 static void *be_host(void *unused)
 {
-    static struct input input;
     struct pollfd events[3] = { { .fd = news, .events = POLLIN }, { .events = POLLIN }, { .events = POLLOUT } };
     uint64_t count;
-    bool is_done = false;
+    bool is_over = false, is_done = false;
     while (!is_done) {
         pthread_mutex_lock(&lock);
-        events[1].fd = input.is_over || input.from < input.to ? -1 : STDIN_FILENO;
+        events[1].fd = is_over || uart_chip_receive_room(&port.chip) == 0 ? -1 : STDIN_FILENO;
         events[2].fd = ready > 0 ? STDOUT_FILENO : -1;
         pthread_mutex_unlock(&lock);
         if (poll(events, 3, -1) < 0 && errno != EINTR)
             fail("poll");
         if (events[0].revents && read(news, &count, sizeof count) < 0)
             fail("an event");
-        if (events[1].fd >= 0 && events[1].revents)
-            read_input(&input);
         pthread_mutex_lock(&lock);
-        give_input(&input);
+        if (events[1].fd >= 0 && events[1].revents)
+            is_over = give_input();
         if (events[2].fd >= 0 && events[2].revents)
             give_output();
         is_done = has_ended && ready == 0;
@@ -330,15 +336,24 @@ static void start_processor(int processor)
 }
 
 /* An access of a port. Nothing answers elsewhere than in the serial port, and the clock that is not there is never busy. */
-static void access_port(uint16_t number, bool is_write, uint8_t *bytes, size_t len)
+static void access_port(uint32_t number, bool is_write, uint8_t *byte)
 {
-    bool is_serial = number >= SERIAL_BASE && number < SERIAL_BASE + UART_NUM_REGISTERS && len == 1;
+    bool is_serial = number >= SERIAL_BASE && number < SERIAL_BASE + UART_NUM_REGISTERS;
     if (is_serial && is_write)
-        write_serial((uint8_t)(number - SERIAL_BASE), *bytes);
+        write_serial((uint8_t)(number - SERIAL_BASE), *byte);
     else if (is_serial)
-        *bytes = read_serial((uint8_t)(number - SERIAL_BASE));
+        *byte = read_serial((uint8_t)(number - SERIAL_BASE));
     else if (!is_write)
-        memset(bytes, number == CLOCK_DATA ? 0 : 0xff, len);
+        *byte = number == CLOCK_DATA ? 0 : 0xff;
+}
+
+/* Accesses that the guest made by one instruction. Each byte of one is of the next port, as when a word sets both bytes of a divisor. */
+static void access_ports(struct kvm_run *exit)
+{
+    uint8_t *bytes = (uint8_t *)exit + exit->io.data_offset;
+    for (uint32_t item = 0; item < exit->io.count; item++)
+        for (uint32_t byte = 0; byte < exit->io.size; byte++)
+            access_port(exit->io.port + byte, exit->io.direction == KVM_EXIT_IO_OUT, bytes++);
 }
 
 /* Lets the guest run until it resets the machine. */
@@ -349,9 +364,7 @@ static void run(int processor, struct kvm_run *exit)
             fail("KVM_RUN");
         switch (exit->exit_reason) {
         case KVM_EXIT_IO:
-            for (uint32_t item = 0; item < exit->io.count; item++)
-                access_port(exit->io.port, exit->io.direction == KVM_EXIT_IO_OUT,
-                            (uint8_t *)exit + exit->io.data_offset + item * exit->io.size, exit->io.size);
+            access_ports(exit);
             break;
         case KVM_EXIT_MMIO:
             memset(exit->mmio.data, 0xff, exit->mmio.is_write ? 0 : exit->mmio.len);
@@ -380,6 +393,7 @@ int main(int count, char **words)
     machine = make_machine(kvm);
     load_linux(words[1], words[2], words[3]);
     uart_port_new(&port, UART_16550A);
+    set_as_firmware();
     processor = CALL(machine, KVM_CREATE_VCPU, NUMBER(0));
     size = CALL(kvm, KVM_GET_VCPU_MMAP_SIZE, NULL);
     exit = mmap(NULL, (size_t)size, PROT_READ | PROT_WRITE, MAP_SHARED, processor, 0);

@@ -1,6 +1,7 @@
 // SPDX-License-Identifier: MIT OR GPL-2.0-only
 /*
- * A tty driver for Linux over the library: chips at I/O ports of a PC, as /dev/ttyP0, /dev/ttyP1 and so on.
+ * A tty driver for Linux over the library: chips at I/O ports of a PC, as /dev/ttyP0, /dev/ttyP1 and so on. This file is what all chips
+ * have in common. pnp.c, pci.c and ports.c find them, and call what tty.h says.
  *
  * serial_core of Linux does what all serial ports have in common, and calls the functions in `operations`. What these do to a chip they
  * do by calls of the library. It makes each access, through read_register and write_register: this file has no other.
@@ -17,7 +18,8 @@
 #include <linux/io.h>
 #include <linux/ioport.h>
 #include <linux/module.h>
-#include <linux/platform_device.h>
+#include <linux/mutex.h>
+#include <linux/pm.h>
 #include <linux/serial.h>
 #include <linux/serial_core.h>
 #include <linux/serial_reg.h>
@@ -31,13 +33,10 @@
 
 #define U16550_HAS_TYPES		/* linux/types.h */
 #include "u16550.h"
+#include "tty.h"
 
-#define MOST_PORTS 4
-#define FREQUENCY 1843200
 #define FIFO_SIZE 16
 #define TRIGGER_LEVEL 8			/* the other half takes what arrives until the handler comes */
-#define REGISTERS 8
-#define LAST_PORT 0xffff
 #define LARGEST_DIVISOR 0xffff
 
 /* How many interrupts one run of the handler serves, and how many characters it takes for one of them. */
@@ -48,24 +47,20 @@
 #define MOST_VAIN_RUNS 100
 
 /*
- * How often a timer looks at a chip whose interrupts come, and how many looks in a row may find one that nobody has announced. That may
- * be chance once: an interrupt was on its way.
+ * How often a timer looks at a chip that is to interrupt, and how many looks in a row may find an interrupt that nobody has announced. That
+ * may be chance once: an interrupt was on its way.
  */
 #define LOOK (HZ / 5)
 #define MOST_MISSED 5
+
+/* How many looks in a row have to find that the chip is gone. One alone may have met a bus that something else had disturbed. */
+#define LOOKS_IF_GONE 2
 
 /* The longest time that a console waits in a panic for the lock: a thousand tenths of a millisecond. */
 #define LOCK_TRIES 1000
 #define LOCK_TRY_MICROSECONDS 100
 
-static unsigned int ports[MOST_PORTS] = { 0x2f8 };
-static unsigned int irqs[MOST_PORTS] = { 3 };
-static int port_count = 1, irq_count = 1;
 static bool with_console;
-module_param_array(ports, uint, &port_count, 0444);
-MODULE_PARM_DESC(ports, "the first I/O port of each chip; none may belong to another driver");
-module_param_array(irqs, uint, &irq_count, 0444);
-MODULE_PARM_DESC(irqs, "the interrupt of each chip, which several may share, or 0: then a timer looks at the chip");
 module_param_named(console, with_console, bool, 0444);
 MODULE_PARM_DESC(console, "console=ttyP0 on the kernel's command line makes a port a console");
 
@@ -86,9 +81,12 @@ struct line {
 	const char *trouble, *detail;
 	char which[24];			/* the interrupt, for that */
 	unsigned int vain_runs;
-	struct timer_list timer;	/* looks at the chip, whether it interrupts or not */
+	struct timer_list timer;	/* looks at the chip, whether it interrupts or not, while something may depend on it */
+	struct timer_list idle_timer;	/* does so otherwise, and wakes no processor up for it */
 	unsigned int missed;		/* how many of its looks in a row have found an interrupt that did not come */
+	unsigned int gone;		/* how many of them have found no chip */
 	bool has_come;			/* an interrupt came since the last look */
+	bool comes;			/* one came since the port was opened, so its number is right */
 	bool is_polled;			/* the timer does what the interrupt should */
 	bool is_masked;			/* the chip is not to interrupt for now, so `enable` waits */
 	bool loops;			/* TIOCM_LOOP is set */
@@ -273,6 +271,9 @@ static void start_tx(struct uart_port *port)
 {
 	struct line *line = line_of(port);
 
+	/* A look comes soon after what is sent: the chip may be gone, or the interrupt may not come. */
+	if (line->is_open && !timer_pending(&line->timer))
+		mod_timer(&line->timer, jiffies + LOOK);
 	/* With THR_EMPTY enabled the handler is on its way. Otherwise a few bytes go out without any interrupt. */
 	if (!(line->interrupts & U16550_IER_THR_EMPTY))
 		send(line);
@@ -396,6 +397,24 @@ static void set_mctrl(struct uart_port *port, unsigned int mctrl)
 static void enable_ms(struct uart_port *port)
 {
 	enable(line_of(port), U16550_IER_MODEM_STATUS);
+}
+
+/* Kernel PPS takes the time of each change of DCD. So it wants that interrupt also with CLOCAL, and set_termios then leaves it enabled. */
+static void set_ldisc(struct uart_port *port, struct ktermios *termios)
+{
+	struct line *line = line_of(port);
+	unsigned long flags;
+
+	spin_lock_irqsave(&port->lock, flags);
+	if (termios->c_line == N_PPS)
+		port->flags |= UPF_HARDPPS_CD;
+	else
+		port->flags &= ~UPF_HARDPPS_CD;
+	if (line->is_open && UART_ENABLE_MS(port, termios->c_cflag))
+		enable(line, U16550_IER_MODEM_STATUS);
+	else
+		disable(line, U16550_IER_MODEM_STATUS);
+	spin_unlock_irqrestore(&port->lock, flags);
 }
 
 static void break_ctl(struct uart_port *port, int state)
@@ -536,16 +555,19 @@ static void let_fall(unsigned int irq)
 {
 	int index, sharing = 0;
 
-	for (index = 0; index < port_count; index++)
+	for (index = 0; index < MOST_PORTS; index++)
 		sharing += shares(&lines[index], irq);
 	if (sharing < 2)
 		return;
-	for (index = 0; index < port_count; index++) {
+	for (index = 0; index < MOST_PORTS; index++) {
 		if (shares(&lines[index], irq))
 			set_masked(&lines[index], true);
 	}
-	for (index = 0; index < port_count; index++)
-		set_masked(&lines[index], false);
+	/* Those of this interrupt alone. Others may be no ports any more, or another processor lets the line of theirs fall. */
+	for (index = 0; index < MOST_PORTS; index++) {
+		if (READ_ONCE(lines[index].is_masked) && lines[index].port.irq == irq)
+			set_masked(&lines[index], false);
+	}
 }
 
 static irqreturn_t handle(int irq, void *context)
@@ -560,26 +582,89 @@ static irqreturn_t handle(int irq, void *context)
 	return IRQ_RETVAL(served);
 }
 
-/* Whoever has named a wrong interrupt hears of it, and the port works, if slowly. */
+/* Whoever has named a wrong interrupt hears of it, and the port works, if slowly. Called with the lock, as all that is a part of a look. */
 static void judge_interrupt(struct line *line, bool has_found)
 {
-	if (xchg(&line->has_come, false))
+	if (xchg(&line->has_come, false)) {
 		line->missed = 0;
-	else if (has_found && ++line->missed == MOST_MISSED) {
+		line->comes = true;
+	} else if (has_found && ++line->missed == MOST_MISSED) {
 		line->is_polled = true;
 		snprintf(line->which, sizeof(line->which), "interrupt %u", line->port.irq);
 		report_later(line, "a timer looks at the port from now on, since its interrupt does not come", line->which);
 	}
 }
 
-static void look(struct timer_list *timer)
+/*
+ * Sends what waits for an interrupt, if the transmitter is empty. The chip interrupts for that once. The first look at ISR ends the
+ * interrupt, and that look may be somebody else's: a monitor of the firmware's, say. LSR goes on to show that the transmitter is empty.
+ * Returns whether something was sent.
+ */
+static bool send_what_waits(struct line *line)
 {
-	struct line *line = container_of(timer, struct line, timer);
-	bool has_found = run(line);
+	u32 sent = line->port.icount.tx;
 
+	if (line->interrupts & U16550_IER_THR_EMPTY)
+		send(line);
+	return line->port.icount.tx != sent;
+}
+
+/* Returns whether the chip is found to be gone just now. All that is sent would go nowhere then, and all writes would succeed. */
+static bool is_gone_now(struct line *line)
+{
+	u8 is_gone = 0;
+
+	failed(line, "is_gone", u16550_is_gone(&line->uart, &is_gone));
+	line->gone = is_gone ? min(line->gone + 1, LOOKS_IF_GONE + 1u) : 0;
+	return line->gone == LOOKS_IF_GONE;
+}
+
+/* Whether something may depend on the next look. Otherwise it wakes no processor up: the chip's interrupts do that, since they come. */
+static bool has_to_look(const struct line *line)
+{
+	return !line->comes || line->gone || (line->interrupts & U16550_IER_THR_EMPTY);
+}
+
+/* Has the next look come, unless the port was closed meanwhile. */
+static void look_again(struct line *line)
+{
+	if (!line->is_open)
+		return;
+	if (line->is_polled)
+		mod_timer(&line->timer, jiffies + uart_poll_timeout(&line->port));
+	else if (has_to_look(line))
+		mod_timer(&line->timer, jiffies + LOOK);
+	else if (!timer_pending(&line->timer))
+		mod_timer(&line->idle_timer, jiffies + LOOK);
+}
+
+/* The two timers may do this at once, on two processors. So all but the run, which takes the lock itself, is done with the lock. */
+static void look(struct line *line)
+{
+	bool has_found = run(line), is_gone;
+	unsigned long flags;
+
+	spin_lock_irqsave(&line->port.lock, flags);
+	has_found |= send_what_waits(line);
+	is_gone = is_gone_now(line);
 	if (!line->is_polled)
 		judge_interrupt(line, has_found);
-	mod_timer(timer, jiffies + (line->is_polled ? uart_poll_timeout(&line->port) : LOOK));
+	look_again(line);
+	spin_unlock_irqrestore(&line->port.lock, flags);
+	if (is_gone) {
+		report_later(line, "the chip is gone", "who uses the port is hung up");
+		tty_port_tty_hangup(&line->port.state->port, false);
+	}
+}
+
+static void look_in_time(struct timer_list *timer)
+{
+	look(container_of(timer, struct line, timer));
+}
+
+static void look_when_awake(struct timer_list *timer)
+{
+	look(container_of(timer, struct line, idle_timer));
 }
 
 /* ------------------------------------------------------------------ opening and closing */
@@ -589,8 +674,8 @@ static int set_up(struct line *line)
 {
 	struct u16550_setup setup = { 1, U16550_WAIT_NEVER, outputs_of(line->port.mctrl) };
 
-	line->interrupts = line->shown = line->vain_runs = line->missed = 0;
-	line->is_broken = line->has_come = line->is_masked = false;
+	line->interrupts = line->shown = line->vain_runs = line->missed = line->gone = 0;
+	line->is_broken = line->has_come = line->comes = line->is_masked = false;
 	line->is_polled = !line->port.irq;
 	return u16550_init_with(&line->uart, &line->config, &setup);
 }
@@ -631,12 +716,15 @@ static int startup(struct uart_port *port)
 		silence(port);
 		return error;
 	}
-	/* Not before: an I/O APIC forgets an edge that comes while nobody has asked for the interrupt. */
+	/*
+	 * Not before: an I/O APIC forgets an edge that comes while nobody has asked for the interrupt. The transmitter is empty, and interrupts
+	 * for that once, which shows whether the number is right.
+	 */
 	spin_lock_irqsave(&port->lock, flags);
 	line->is_open = true;
-	enable(line, U16550_IER_DATA_READY | U16550_IER_RECEIVER_LINE_STATUS);
-	spin_unlock_irqrestore(&port->lock, flags);
+	enable(line, U16550_IER_DATA_READY | U16550_IER_RECEIVER_LINE_STATUS | U16550_IER_THR_EMPTY);
 	mod_timer(&line->timer, jiffies + 1);
+	spin_unlock_irqrestore(&port->lock, flags);
 	return 0;
 }
 
@@ -648,6 +736,7 @@ static void shutdown(struct uart_port *port)
 	if (port->irq)
 		free_irq(port->irq, line);
 	timer_delete_sync(&line->timer);
+	timer_delete_sync(&line->idle_timer);
 }
 
 /* ------------------------------------------------------------------ baud rate, frame, and what the tty layer wants to know */
@@ -948,6 +1037,7 @@ static const struct uart_ops operations = {
 	.stop_rx = stop_rx,
 	.enable_ms = enable_ms,
 	.break_ctl = break_ctl,
+	.set_ldisc = set_ldisc,
 	.startup = startup,
 	.shutdown = shutdown,
 	.set_termios = set_termios,
@@ -1035,7 +1125,7 @@ static int console_setup(struct console *console, char *options)
 	int baud = 115200, bits = 8, parity = 'n', flow = 'n';
 	struct line *line;
 
-	if (console->index < 0 || console->index >= port_count)
+	if (console->index < 0 || console->index >= MOST_PORTS)
 		return -ENODEV;
 	line = &lines[console->index];
 	if (line->port.type == PORT_UNKNOWN)
@@ -1087,134 +1177,162 @@ static void restore_registers(struct line *line)
 }
 
 /* serial_core closes the chip of a port that is open, and sets it up again afterwards. */
-static int suspend(struct device *unused)
+static int suspend(struct device *device)
 {
-	int index;
+	struct uart_port *port = dev_get_drvdata(device);
 
-	for (index = 0; index < port_count; index++) {
-		struct line *line = &lines[index];
-
-		uart_suspend_port(&driver, &line->port);
-		if (line->is_open)
-			keep_registers(line);
-	}
+	uart_suspend_port(&driver, port);
+	if (line_of(port)->is_open)
+		keep_registers(line_of(port));
 	return 0;
 }
 
-static int resume(struct device *unused)
+static int resume(struct device *device)
 {
-	int index;
+	struct uart_port *port = dev_get_drvdata(device);
 
-	for (index = 0; index < port_count; index++) {
-		struct line *line = &lines[index];
-
-		if (line->is_open)
-			restore_registers(line);
-		uart_resume_port(&driver, &line->port);
-	}
+	if (line_of(port)->is_open)
+		restore_registers(line_of(port));
+	uart_resume_port(&driver, port);
 	return 0;
 }
 
-static DEFINE_SIMPLE_DEV_PM_OPS(sleep, suspend, resume);
+const struct dev_pm_ops u16550_tty_sleep = { SYSTEM_SLEEP_PM_OPS(suspend, resume) };
 
-/* The device that all ports belong to. It is there for sleep, and for what /sys shows. */
-static struct platform_driver platform_driver = {
-	.driver = {
-		.name = KBUILD_MODNAME,
-		.pm = pm_sleep_ptr(&sleep),
-	},
-};
+/* ------------------------------------------------------------------ ports that come and go */
 
-static struct platform_device *device;
+#define ANY_NUMBER (-1)
 
-/* ------------------------------------------------------------------ the module */
+/* To be held where `is_added` of any line is asked for, or changed. */
+static DEFINE_MUTEX(adding);
 
-static int add_line(int index)
+/* The line with this number, or the first one, that no device has. */
+static struct line *free_line(int number)
 {
-	struct line *line = &lines[index];
+	int index;
+
+	for (index = 0; index < MOST_PORTS; index++) {
+		if (!lines[index].is_added && (number == ANY_NUMBER || number == index))
+			return &lines[index];
+	}
+	return NULL;
+}
+
+static int add_line(struct line *line, struct device *device, const struct u16550_tty_chip *chip)
+{
 	int error;
 
-	snprintf(line->name, sizeof(line->name), "%s%d", driver.dev_name, index);
+	memset(line, 0, sizeof(*line));
+	snprintf(line->name, sizeof(line->name), "%s%d", driver.dev_name, (int)(line - lines));
 	spin_lock_init(&line->port.lock);
 	INIT_WORK(&line->report, report);
-	timer_setup(&line->timer, look, 0);
+	timer_setup(&line->timer, look_in_time, 0);
+	timer_setup(&line->idle_timer, look_when_awake, TIMER_DEFERRABLE);
 	line->port.ops = &operations;
-	line->port.line = index;
+	line->port.line = line - lines;
 	line->port.iotype = UPIO_PORT;
-	line->port.iobase = ports[index];
-	line->port.irq = irqs[index];
-	line->port.uartclk = FREQUENCY;
+	line->port.iobase = chip->base;
+	line->port.irq = chip->irq;
+	line->port.uartclk = chip->frequency;
 	line->port.fifosize = FIFO_SIZE;
 	line->port.flags = UPF_BOOT_AUTOCONF;
 	line->port.has_sysrq = IS_ENABLED(CONFIG_MAGIC_SYSRQ_SERIAL);
-	line->port.dev = &device->dev;
+	line->port.dev = device;
 	error = uart_add_one_port(&driver, &line->port);
 	line->is_added = !error;
 	return error;
 }
 
-static void remove_lines(void)
+static int add(struct device *device, int number, const struct u16550_tty_chip *chip)
 {
-	int index;
+	struct line *line;
+	int error = -ENOSPC;
 
-	for (index = 0; index < port_count; index++) {
-		if (!lines[index].is_added)
-			continue;
-		uart_remove_one_port(&driver, &lines[index].port);
-		flush_work(&lines[index].report);
-	}
+	mutex_lock(&adding);
+	line = free_line(number);
+	if (line)
+		error = add_line(line, device, chip);
+	mutex_unlock(&adding);
+	if (!error)
+		dev_set_drvdata(device, &line->port);
+	return error;
+}
+
+int u16550_tty_add(struct device *device, const struct u16550_tty_chip *chip)
+{
+	int error = add(device, ANY_NUMBER, chip);
+	struct uart_port *port;
+
+	if (error)
+		return error;
+	port = dev_get_drvdata(device);
+	if (port->type != PORT_UNKNOWN)
+		return 0;
+	u16550_tty_remove(device);
+	return -ENODEV;
+}
+
+int u16550_tty_add_named(struct device *device, int number, const struct u16550_tty_chip *chip)
+{
+	return add(device, number, chip);
+}
+
+void u16550_tty_remove(struct device *device)
+{
+	struct line *line = line_of(dev_get_drvdata(device));
+
+	uart_remove_one_port(&driver, &line->port);
+	flush_work(&line->report);
+	mutex_lock(&adding);
+	line->is_added = false;
+	mutex_unlock(&adding);
+}
+
+/* ------------------------------------------------------------------ the module */
+
+/* The user's ports are all that he wants of the board. A card has none of them before he names its numbers. */
+static int __init begin_devices(void)
+{
+	return u16550_tty_has_ports() ? u16550_tty_begin_ports() : u16550_tty_begin_pnp();
+}
+
+static void end_devices(void)
+{
+	if (u16550_tty_has_ports())
+		u16550_tty_end_ports();
+	else
+		u16550_tty_end_pnp();
 }
 
 static int __init begin(void)
 {
-	int error, index;
+	int error;
 
-	if (port_count != irq_count) {
-		pr_err("there are %d ports and %d interrupts\n", port_count, irq_count);
-		return -EINVAL;
-	}
-	for (index = 0; index < port_count; index++) {
-		if (!ports[index] || ports[index] > LAST_PORT - (REGISTERS - 1)) {
-			pr_err("there is no port %#x\n", ports[index]);
-			return -EINVAL;
-		}
-	}
-	error = platform_driver_register(&platform_driver);
-	if (error)
-		return error;
-	device = platform_device_register_simple(KBUILD_MODNAME, PLATFORM_DEVID_NONE, NULL, 0);
-	if (IS_ERR(device)) {
-		error = PTR_ERR(device);
-		goto without_device;
-	}
 	if (with_console)
 		driver.cons = &the_console;
 	error = uart_register_driver(&driver);
 	if (error)
-		goto without_driver;
-	for (index = 0; index < port_count; index++) {
-		error = add_line(index);
-		if (error)
-			goto without_lines;
-	}
+		return error;
+	error = begin_devices();
+	if (error)
+		goto without_devices;
+	error = u16550_tty_begin_pci();
+	if (error)
+		goto without_cards;
 	return 0;
 
-without_lines:
-	remove_lines();
+without_cards:
+	end_devices();
+without_devices:
 	uart_unregister_driver(&driver);
-without_driver:
-	platform_device_unregister(device);
-without_device:
-	platform_driver_unregister(&platform_driver);
 	return error;
 }
 
 static void __exit end(void)
 {
-	remove_lines();
+	u16550_tty_end_pci();
+	end_devices();
 	uart_unregister_driver(&driver);
-	platform_device_unregister(device);
-	platform_driver_unregister(&platform_driver);
 }
 
 module_init(begin);

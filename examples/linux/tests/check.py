@@ -5,8 +5,8 @@ Without --whole it makes the checks that take a minute together. Prints a line f
 line is 'N passed, M failed', and the status is 0 if nothing failed.
 
 The guest's ports are: one whose other end is here; two that are joined, one of which shares the interrupt of the first; one with modem
-lines, which lines.c gives it; and one for the guest's shell, which is a PCI card, since a PC has four others. Linux's own driver keeps this
-and one of the two that are joined.
+lines, which lines.c gives it; one for the guest's shell, which is a PCI card, since a PC has four others; and another card, which can be
+pulled out. Linux's own driver keeps that of the shell and one of the two that are joined.
 """
 import argparse
 import mmap
@@ -26,6 +26,9 @@ PORTS = "ports=0x2f8,0x3e8,0x3f8 irqs=3,3,4"
 NOBODYS = 0x2D8  # here is neither a chip nor a driver
 UNUSED_INTERRUPT = 6
 PATIENCE = 10  # seconds, of terminal.c
+CARD, CARD_IS, SLOT = "0000:00:04.0", "1b36 0002", "addr=4"  # how Linux names it, its numbers, and how the emulator names its slot
+KERNEL_PPS = 18  # of linux/tty.h
+PULSES = 4
 UNKNOWN, C16450, C16550A, CUSTOM_DIVISOR = 0, 2, 4, 0x30  # of linux/serial_core.h and linux/tty_flags.h
 TAKEN = ("0x2f8", "0x3e8", "0x3f8")  # Linux's own driver has these at first
 RTS, DTR, CTS, CARRIER, DSR = 4, 2, 0x20, 0x40, 0x100
@@ -33,6 +36,10 @@ CONNECTED = CTS | CARRIER | DSR
 # How much worse than Linux's own driver one may be, and in how many rounds what varies by a fifth from one to the next is compared.
 MOST = 1.1
 MOST_ROUNDS = 6
+# For how many seconds a port is idle, and how many interrupts of timers more than with Linux's own driver are chance then. A look in time
+# five times a second would be a hundred.
+IDLE = 20
+MOST_TICKS = 50
 
 
 class Modem:
@@ -75,6 +82,8 @@ class Modem:
 class Bench:
     """The guest with its ports, and what was found."""
 
+    CARD = "pci-serial,chardev=card,id=card"
+
     def __init__(self, work, kernel, initramfs, lines, whole, processors):
         self.whole, self.passed, self.failed, self.log = whole, 0, 0, ""
         os.makedirs(work, exist_ok=True)
@@ -87,9 +96,10 @@ class Bench:
                 ("other", f"socket,path={work}/joined,server=off", 0x2E8, 7),
                 ("modem", f"serial,path={self.modem.name}", 0x3F8, 4)):
             ports += ["-chardev", f"{chardev},id={name}", "-device", f"isa-serial,chardev={name},iobase={base:#x},irq={interrupt}"]
+        ports += ["-chardev", f"socket,path={work}/card,server=on,wait=off,id=card", "-device", f"{self.CARD},{SLOT}"]
         self.guest = Guest(work, kernel, initramfs, [*ports, "-D", self.trace], append=f"console={HERE},115200",
                            processors=processors, environment={**os.environ, **self.modem.environment, "LD_PRELOAD": lines})
-        self.here = Line(f"{work}/here")
+        self.here, self.card = Line(f"{work}/here"), Line(f"{work}/card")
         self.run = self.guest.run
         self.devices = {base: self.find(base) for base in TAKEN}
 
@@ -129,11 +139,12 @@ class Bench:
     def task(self, command):
         return Task(self.guest, command)
 
-    def transfer(self, device, send, receive, seconds=60):
+    def transfer(self, device, send, receive, seconds=60, line=None):
         """So many bytes each way at once. Returns whether all came at both ends, and what the guest says."""
-        self.here.drain(0.2)
+        line = line or self.here
+        line.drain(0.2)
         task = self.task(f"terminal transfer /dev/{device} {send} {receive} 1").ready()
-        came = self.here.exchange(stream(receive, RECEIVED), send, 10)
+        came = line.exchange(stream(receive, RECEIVED), send, 10)
         told = task.result(seconds)
         good = came == stream(send, SENT) and f"received {receive} of {receive}, wrong 0, overruns 0" in told
         return good and "lost in the tty layer 0" in told, f"{told}here came {len(came)}, right: {came == stream(send, SENT)}"
@@ -163,6 +174,136 @@ def insert_with(bench, ports):
 def insert_again(bench):
     bench.run("rmmod u16550_tty")
     bench.insert()
+
+
+def belongs_to_a_device(bench):
+    """Without parameters the module has the devices that firmware describes. They are unbound and bound while programs use their ports."""
+    told = insert_with(bench, "")
+    found = dict(re.findall(r"(ttyP\d): a chip at (0x\w+) with interrupt \d+ has passed", told))
+    port = next((name for name, base in found.items() if base == "0x2f8"), HERE)
+    good, moved = bench.transfer(port, 500, 500)
+    bench.judge("a port is found for each device that firmware describes", sorted(found.values()) == sorted(TAKEN) and good, told + moved)
+    way = f"echo {bench.devices['0x2f8']} > /sys/bus/pnp/drivers/u16550_tty"
+    task = bench.task(f"stty -F /dev/{port} raw -echo; echo ready; cat < /dev/{port}").ready()
+    told = bench.run(f"{way}/unbind; ls /dev/ttyP*")
+    ended = task.result()
+    bench.judge("unbound while a program receives: it is hung up, and the terminal and the region are gone",
+                "ended" in ended and f"/dev/{port}" not in told and "02f8-02ff" not in regions(bench), f"{told}{ended}{regions(bench)}")
+    told = bench.run(f"for n in $(seq 1 20); do {way}/bind; echo $n > /dev/{port}; {way}/unbind; done; {way}/bind; ls /dev/ttyP*")
+    good, moved = bench.transfer(port, 500, 500)
+    bench.judge("bound again, it is there again, and works", good and f"/dev/{port}" in told, told + moved)
+    insert_again(bench)
+
+
+def is_unbound(bench):
+    """The same with a port that the user has named: its device is one of the platform."""
+    way = "echo u16550_tty.1 > /sys/bus/platform/drivers/u16550_tty"
+    told = bench.run(f"{way}/unbind; ls /dev/ttyP*")
+    bench.judge("a port that was named is unbound, alone", f"/dev/{JOINED}" not in told and f"/dev/{HERE}" in told, told)
+    told = bench.run(f"{way}/bind; ls /dev/ttyP*")
+    bench.judge("it has the same number when it is bound again", f"/dev/{JOINED}" in told, told)
+    others = "/sys/bus/platform/devices/pcspkr"
+    told = bench.run(f"echo u16550_tty > {others}/driver_override; echo pcspkr > /sys/bus/platform/drivers/u16550_tty/bind; "
+                     f"[ -e {others}/driver ] && echo bound; ls /dev/ttyP*")
+    bench.judge("another device of the platform is refused", "bound" not in told and told.count("/dev/ttyP") == 3, told)
+
+
+def has_a_card(bench):
+    """A card is given to the module by its numbers, though it is switched off. Then it is pulled out, with both drivers."""
+    told = bench.run(f"echo {CARD} > /sys/bus/pci/drivers/serial/unbind; printf '\\0' | "
+                     f"dd of=/sys/bus/pci/devices/{CARD}/config bs=1 seek=4 conv=notrunc 2> /dev/null; "
+                     f"echo {CARD_IS} > /sys/bus/pci/drivers/u16550_tty/new_id; ls /sys/bus/pci/devices/{CARD}/tty")
+    terminal = (told.split() or [HERE])[0]
+    good, moved = bench.transfer(terminal, 500, 500, line=bench.card)
+    bench.judge("a card is had by its numbers, and is switched on", good and terminal.startswith("ttyP"), told + moved)
+    this = pull_out(bench, terminal)
+    bench.judge("when it is pulled out, its terminal is hung up and gone", this == ("write error: Input/output error", "ended", ""), this)
+    put_in(bench)
+    own = pull_out(bench, bench.run(f"ls /sys/bus/pci/devices/{CARD}/tty").strip())
+    # Its node stays, without a chip: it has made as many as the kernel's command line says.
+    bench.judge("so it is with Linux's own driver", own[:2] == this[:2], own)
+    put_in(bench)
+
+
+def put_in(bench):
+    """Puts the card in. Linux's own driver has it then, since it was there first."""
+    end = CLOCK.now() + PATIENCE
+    # The emulator still has one that was pulled out, until the guest has let it go.
+    while "rror" in bench.guest.tell_monitor(f"device_add {bench.CARD},{SLOT}") and CLOCK.now() < end:
+        time.sleep(0.1)
+    bench.run(f"n=0; until [ -e /sys/bus/pci/devices/{CARD}/tty ] || [ $n = 100 ]; do n=$((n+1)); usleep 100000; done")
+
+
+def pull_out(bench, terminal):
+    """Pulls the card out. Returns how a program that writes ended, how one that reads, and whether the terminal is there."""
+    bench.run(f"stty -F /dev/{terminal} raw -echo clocal 115200")
+    writer = bench.task(f"exec 5<> /dev/{terminal}; echo ready; "
+                        "for n in $(seq 1 100); do echo $n >&5 || break; usleep 100000; done").ready()
+    reader = bench.task(f"cat < /dev/{terminal}")
+    bench.guest.tell_monitor("device_del card")
+    wrote, read = (task.result(30).split("\n") for task in (writer, reader))
+    bench.run(f"n=0; while [ -e /sys/bus/pci/devices/{CARD} ] && [ $n != 100 ]; do n=$((n+1)); usleep 100000; done")
+    return wrote[1].removeprefix("sh: "), read[0].split()[0], bench.run(f"ls /dev/{terminal} 2> /dev/null").strip()
+
+
+def is_pulled_out(bench):
+    """The same with a card whose ports the user has named: the bus tells the module nothing."""
+    bench.run(f"echo {CARD} > /sys/bus/pci/drivers/serial/unbind")
+    base = int(bench.run(f"head -n 1 /sys/bus/pci/devices/{CARD}/resource").split()[0], 0)
+    told = insert_with(bench, f"ports={base:#x} irqs={bench.run(f'cat /sys/bus/pci/devices/{CARD}/irq').strip()}")
+    ended = pull_out(bench, HERE)
+    log = bench.take_log()
+    wanted = f"{HERE}: the chip is gone: who uses the port is hung up"
+    bench.judge("a card whose ports were named is pulled out: who uses it is hung up, and the kernel's log says so",
+                ended == ("write error: Input/output error", "ended", f"/dev/{HERE}") and wanted in log, f"{told}{ended}{log}")
+    bench.run(f"echo x > /dev/{HERE}")
+    bench.judge("and it cannot be used any more", bench.guest.status != 0)
+    bench.take_log()
+    # This is what is wanted here.
+    bench.log = bench.log.replace("init: there is no device", "")
+    put_in(bench)
+    insert_again(bench)
+
+
+def loses_interrupts(bench):
+    """Somebody else looks at ISR behind each byte that is sent, so that the transmitter's interrupt never comes."""
+    bench.run("insmod /modules/faults.ko fault=stolen symbol=u16550_tty:write_register")
+    good, told = bench.transfer(HERE, 5000, 0)
+    bench.run("rmmod faults")
+    bench.judge("all is sent, though no interrupt of the transmitter comes", good, told)
+    good, told = bench.transfer(HERE, 500, 500)
+    bench.judge("when they come again, the port goes on", good, told)
+
+
+def times_pulses(bench):
+    bench.run("insmod /modules/pps-ldisc.ko")
+    task = bench.task(f"terminal discipline /dev/{MODEM} {KERNEL_PPS}").ready()
+    for _ in range(PULSES):
+        for lines in CTS | DSR, CONNECTED:
+            bench.modem.put(lines)
+            time.sleep(0.3)
+    told = bench.run("cat /sys/class/pps/pps0/assert /sys/class/pps/pps0/clear; killall terminal")
+    told += task.result()
+    bench.judge("kernel PPS has the time of each pulse on DCD", re.findall(r"#(\d+)", told) == [str(PULSES)] * 2, told)
+
+
+def leaves_processors_asleep(bench):
+    """How often the timers of both processors interrupt in twenty seconds, with an idle port open. Not less than with none open."""
+    counts = {}
+    for device in OWN, HERE:
+        give(bench, device)
+        bench.run(f"stty -F /dev/{device} raw -echo 115200 clocal; sleep 1000 < /dev/{device} & echo $! > /tmp/keeper; sleep 1")
+        counts[device] = ticks(bench)
+        bench.run("kill $(cat /tmp/keeper)")
+    bench.judge(f"an idle port leaves processors asleep: {counts[HERE]} interrupts of their timers, with Linux's own driver {counts[OWN]}",
+                counts[HERE] <= counts[OWN] + MOST_TICKS)
+
+
+def ticks(bench):
+    count = "grep LOC: /proc/interrupts"
+    before, after = ([int(word) for word in line.split() if word.isdigit()]
+                     for line in bench.run(f"{count}; sleep {IDLE}; {count}", 4 * IDLE).strip().split("\n"))
+    return sum(after) - sum(before)
 
 
 def both_work(bench, device, size):
@@ -657,13 +798,15 @@ def writes_in_a_panic(bench):
                 came.count(b"in the middle of a call") == 2 and b" u16550_init_with+" in came and b" startup+" in came, came)
 
 
-QUICK = (takes_no_port_of_another, finds_chips, shares_an_interrupt, needs_no_interrupt, moves_a_port, finds_no_chip, is_another_chip,
-         has_a_divisor_of_its_own, loops_back, moves_bytes, sets_rates, changes_speed, has_modem_lines, waits_for_cts, sends_breaks,
-         marks_breaks, obeys_xoff, logs_in, is_a_console, gives_up_a_broken_chip, is_removed_while_busy, writes_in_a_panic)
-WHOLE = (takes_no_port_of_another, finds_chips, shares_an_interrupt, needs_no_interrupt, moves_a_port, finds_no_chip, is_another_chip,
-         has_a_divisor_of_its_own, loops_back, moves_bytes, sets_rates, opens_and_closes, changes_speed,
-         changes_speed_while_receiving, has_modem_lines, waits_for_cts, sends_breaks, marks_breaks, obeys_xoff, sends_xoff, hangs_up,
-         logs_in, moves_files, carries_ip, compares, debugs, is_a_console, gives_up_a_broken_chip, is_removed_while_busy, writes_in_a_panic)
+QUICK = (takes_no_port_of_another, finds_chips, belongs_to_a_device, is_unbound, has_a_card, is_pulled_out, shares_an_interrupt,
+         needs_no_interrupt, loses_interrupts, moves_a_port, finds_no_chip, is_another_chip, has_a_divisor_of_its_own, loops_back,
+         moves_bytes, sets_rates, changes_speed, has_modem_lines, times_pulses, waits_for_cts, sends_breaks, marks_breaks, obeys_xoff,
+         logs_in, is_a_console, gives_up_a_broken_chip, is_removed_while_busy, writes_in_a_panic)
+WHOLE = (takes_no_port_of_another, finds_chips, belongs_to_a_device, is_unbound, has_a_card, is_pulled_out, shares_an_interrupt,
+         needs_no_interrupt, loses_interrupts, moves_a_port, finds_no_chip, is_another_chip, has_a_divisor_of_its_own, loops_back,
+         moves_bytes, sets_rates, opens_and_closes, changes_speed, changes_speed_while_receiving, has_modem_lines, times_pulses,
+         waits_for_cts, sends_breaks, marks_breaks, obeys_xoff, sends_xoff, hangs_up, logs_in, moves_files, carries_ip, compares,
+         leaves_processors_asleep, debugs, is_a_console, gives_up_a_broken_chip, is_removed_while_busy, writes_in_a_panic)
 
 # Checks of a machine that sleeps have a guest of their own, with one processor: an emulated PC with two may wake up broken. When it wakes,
 # its firmware, SeaBIOS, starts the second processor, while its own memory is protected against writing. So it does not wait until that one

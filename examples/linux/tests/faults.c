@@ -1,9 +1,12 @@
 // SPDX-License-Identifier: MIT OR GPL-2.0-only
 /*
  * A module that makes faults in each access of u16550_tty to a chip, as long as it is there: fault=panic, a panic in the middle of a call of
- * the library; fault=stuck, a chip whose ISR shows an interrupt without a name for ever. fault=debugger makes none: it stops at an access in
- * the middle of a call, and talks through the port as kgdb would, by poll_put_char and poll_get_char. It ends with the first character.
+ * the library; fault=stuck, a chip whose ISR shows an interrupt without a name for ever; fault=stolen, with symbol=u16550_tty:write_register,
+ * somebody else who looks at ISR behind each byte that is sent, and so takes the transmitter's interrupt away. fault=debugger makes none: it
+ * stops at an access in the middle of a call, and talks through the port as kgdb would, by poll_put_char and poll_get_char. It ends with the
+ * first character.
  */
+#include <linux/io.h>
 #include <linux/kprobes.h>
 #include <linux/module.h>
 #include <linux/serial_core.h>
@@ -38,7 +41,7 @@ static void debug(struct uart_port *port)
 #endif
 }
 
-/* read_register is called with the context, and with the address of the register. */
+/* The functions are called with the context, and with the address of the register. */
 static int before(struct kretprobe_instance *call, struct pt_regs *registers)
 {
 	if (!strcmp(fault, "debugger") && !has_stopped) {
@@ -53,8 +56,12 @@ static int before(struct kretprobe_instance *call, struct pt_regs *registers)
 
 static int behind(struct kretprobe_instance *call, struct pt_regs *registers)
 {
-	if (!strcmp(fault, "stuck") && (*(unsigned long *)call->data & 7) == UART_IIR)
+	unsigned long address = *(unsigned long *)call->data;
+
+	if (!strcmp(fault, "stuck") && (address & 7) == UART_IIR)
 		regs_set_return_value(registers, UNKNOWN_INTERRUPT);
+	if (!strcmp(fault, "stolen") && (address & 7) == UART_TX)
+		inb(address + UART_IIR);
 	return 0;
 }
 

@@ -1,6 +1,5 @@
 """Linux in an emulator, the other ends of its serial ports, and what runs in it."""
 import glob
-import os
 import re
 import select
 import signal

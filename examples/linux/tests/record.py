@@ -22,7 +22,7 @@ import tty
 
 sys.dont_write_bytecode = True
 
-from guest import RECEIVED, SENT, Guest, Task, stream
+from guest import RECEIVED, Guest, Task, stream
 
 CONSOLE, MODEM = 0, 1
 NAMES = "ttyS0", "ttyS1"

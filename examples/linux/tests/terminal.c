@@ -13,6 +13,7 @@
  * loop DEVICE BYTES                      sends in the chip's loopback, and counts what comes
  * find DEVICE                            lets the driver find out which chip this is
  * chip DEVICE TYPE IRQ                   sets the type of the chip, as linux/serial_core.h has it, and the interrupt; 0 is none
+ * discipline DEVICE NUMBER               sets the line discipline, as 18 for kernel PPS, and keeps the port open until it is ended
  * set DEVICE NAME=NUMBER..               sets these of type, port, irq, flags and divisor, as setserial does, and prints all of them
  *
  * A transfer ends when nothing has moved for ten seconds, and it has looked for something as often as it does in so long: while the machine
@@ -324,6 +325,15 @@ static void set_chip(int port, int type, int irq)
     printf("chip: type %d, irq %d\n", type, irq);
 }
 
+static void keep_discipline(int port, int discipline)
+{
+    set_rate(port, TCSETS2, RATE, 0, CS8);
+    if (ioctl(port, TIOCSETD, &discipline))
+        fail("TIOCSETD");
+    ready(port);
+    pause();
+}
+
 /* Sets some fields of a port in one request, and prints what the port then has. */
 static void set_fields(int port, int count, char **fields)
 {
@@ -385,6 +395,8 @@ int main(int count, char **words)
         printf("find: %d\n", ioctl(open_port(words[2], O_NONBLOCK), TIOCSERCONFIG));
     else if (!strcmp(command, "chip") && count == 5)
         set_chip(open_port(words[2], O_NONBLOCK), atoi(more[0]), atoi(more[1]));
+    else if (!strcmp(command, "discipline") && count == 4)
+        keep_discipline(open_port(words[2], O_NONBLOCK), atoi(more[0]));
     else if (!strcmp(command, "set") && count >= 3)
         set_fields(open_port(words[2], O_NONBLOCK), count - 3, more);
     else {

@@ -1,6 +1,6 @@
 //! What a picture is made of: texts that fit, boxes, bars, and the marks under repeated accesses.
 
-use crate::moments::{Arrival, Seen, parts};
+use crate::moments::{Arrival, Happened, Seen, parts};
 use crate::repeats::{Place, Shown};
 use std::fmt::Display;
 
@@ -111,17 +111,23 @@ pub fn time(time: u64) -> String {
     }
 }
 
-// Returns an access: its register over its value, red if the audit warns of it.
-fn seen(seen: Seen, is_wrong: bool) -> String {
+// Returns an access: its register over its value, red if the audit warns of it, and yellow if it is the latest read. A letter says
+// whether it is a read or a write: not everybody tells the two colours apart.
+fn seen(seen: Seen, happened: &Happened) -> String {
     let (letter, _, value) = parts(seen.access);
     let class = match letter {
-        _ if is_wrong => "e",
+        _ if happened.is_wrong => "e",
+        _ if happened.is_latest => "a",
         'r' => "r",
         _ => "w",
     };
     rectangle(class, [1, 0, 24, 27])
         + &words("m s", 10, seen.register)
-        + &words("m", 22, format_args!("{value:02x}"))
+        + &words(
+            "m",
+            22,
+            format_args!("<tspan class=\"s\">{letter} </tspan>{value:02x}"),
+        )
         + "\n"
 }
 
@@ -149,7 +155,7 @@ fn mark(shown: &Shown) -> String {
 pub fn access(shown: &Shown) -> String {
     let happened = shown.moment.happened;
     match happened.access {
-        Some(access) => seen(access, happened.is_wrong) + &mark(shown),
+        Some(access) => seen(access, &happened) + &mark(shown),
         None => String::new(),
     }
 }
@@ -157,6 +163,7 @@ pub fn access(shown: &Shown) -> String {
 #[cfg(test)]
 mod tests {
     use super::*;
+    use uart_spec::access::Access;
 
     // How wide a text is, whose size is that of small letters unless it is said.
     fn width_of(text: &str) -> usize {
@@ -171,6 +178,21 @@ mod tests {
             .and_then(|rest| rest.split('<').next())
             .unwrap();
         words.chars().count() * size * LETTER / (10 * SIZE)
+    }
+
+    #[test]
+    fn an_access_has_its_letter() {
+        for (access, letter) in [(Access::Read(5, 0x60), 'r'), (Access::Write(5, 0x60), 'w')] {
+            let register = "LSR";
+            let wrong = Happened {
+                is_wrong: true,
+                ..Happened::default()
+            };
+            let drawn = seen(Seen { access, register }, &wrong);
+            assert!(drawn.contains(&format!(">{letter} </tspan>60<")), "{drawn}");
+        }
+        // A small letter and a small space beside two digits.
+        const { assert!((2 * SMALL + 2 * SIZE) * LETTER / (10 * SIZE) <= COLUMN - 2) };
     }
 
     #[test]

@@ -11,7 +11,7 @@ const FILE: Operand = Operand {
     help: "The file; standard input is read if it is - or left out",
 };
 
-// Of the commands that judge: the others print one document, and two of them would be none.
+// Of the commands that judge, count or show: the others print one document, and two of them would be none.
 const FILES: Operand = Operand {
     name: "FILE",
     count: Count::Any,
@@ -36,6 +36,12 @@ const JSON: Flag = Flag {
     help: "Prints each finding as a line of JSON, with its file, line, kind, name and text",
 };
 
+const JSON_ROWS: Flag = Flag {
+    name: "json",
+    value: None,
+    help: "Prints each rule as a line of JSON, and then what the theorems need",
+};
+
 const ALL: Flag = Flag {
     name: "all",
     value: None,
@@ -58,6 +64,24 @@ const HTML: Flag = Flag {
     name: "html",
     value: None,
     help: "Prints a page for a browser instead, which needs no network",
+};
+
+const ALLOW: Flag = Flag {
+    name: "allow",
+    value: Some("NAMES"),
+    help: "Accepts these findings, as out2-off,cts-ignored: they are counted, and no fault",
+};
+
+const BASELINE: Flag = Flag {
+    name: "baseline",
+    value: Some("FILE"),
+    help: "Accepts the findings that this file has, which --json has printed before",
+};
+
+const COLOR: Flag = Flag {
+    name: "color",
+    value: Some("WHEN"),
+    help: "Colours: auto, always or never [default: auto]",
 };
 
 const FORMAT: Flag = Flag {
@@ -114,6 +138,15 @@ const CHIP: Flag = Flag {
     help: "The chip, as a script names it: 16750 has FIFOs of 64, 16450 has none [default: 16550a]",
 };
 
+const LATENESS: &str = "\
+A handler is as late as its first access, a read of ISR, comes behind the rise of the
+interrupt line. In the time of a row no character is lost, without flow control, if
+  - each visit of the handler ends with Idle, and makes no more other accesses, which
+    are for no byte: one that only receives makes 5 to 12, and one that also fills the
+    transmitter up to 20 more than that takes bytes
+  - the receive ring has room for a whole FIFO when a visit begins
+  - interrupts are off for no longer, whatever else is called";
+
 const RECORDING: Operand = Operand {
     name: "FILE",
     count: Count::AtMostOne,
@@ -141,6 +174,13 @@ const SECOND: Operand = Operand {
     count: Count::One,
     help: "The second one",
 };
+
+const CENSUS: &str = "\
+It takes about a second, and no cable. The outputs of the chip are off meanwhile,
+what waits in its receiver is lost, and it is put back as it was, but for the trigger
+level. It needs root, and a kernel that is not locked down: --device and --judge do not.
+
+Each rule is seen to hold, differs, with what was read or counted, or cannot be seen.";
 
 const KINDS: &str = "\
 Kinds of logs:
@@ -173,8 +213,12 @@ pub enum Job {
     Stats,
     /// Compares two recordings.
     Diff,
-    /// Prints the shortest piece with a finding.
+    /// Prints the fewest lines with a finding.
     Shrink,
+    /// Says how late a handler may be.
+    Budget,
+    /// Asks a chip whether it does what is taken for granted, or judges a recording of that.
+    Census,
     /// Explains a name.
     Explain,
     /// Prints the completions of a shell.
@@ -200,7 +244,7 @@ recording may have any length.",
             name: "geesetrunk play",
             about: "Plays a script and prints its output, as uart_script does",
             operands: &[FILE],
-            flags: &[],
+            flags: &[COLOR],
             more: None,
         },
         Command {
@@ -208,7 +252,7 @@ recording may have any length.",
             name: "geesetrunk check",
             about: "Finds the first fault of a script, and says what is expected there",
             operands: &[FILES],
-            flags: &[],
+            flags: &[COLOR],
             more: None,
         },
         Command {
@@ -216,7 +260,7 @@ recording may have any length.",
             name: "geesetrunk trace",
             about: "Prints each register access with the value read or written, call by call",
             operands: &[FILE],
-            flags: &[],
+            flags: &[COLOR],
             more: None,
         },
         Command {
@@ -231,6 +275,7 @@ recording may have any length.",
                     help: "Prints a table for a terminal instead of a picture",
                 },
                 HTML,
+                COLOR,
                 Flag {
                     name: "recording",
                     value: None,
@@ -270,10 +315,16 @@ recording may have any length.",
                     help: "How long characters and lines are on the cable [default: 1]",
                 },
                 Flag {
+                    name: "bounds",
+                    value: None,
+                    help: "Says behind the rest how much room flow control needed",
+                },
+                Flag {
                     name: "picture",
                     value: None,
                     help: "Prints both timelines as one SVG picture instead",
                 },
+                COLOR,
             ],
             more: None,
         },
@@ -283,7 +334,8 @@ recording may have any length.",
             about: "Says what the driver of a recording does wrong",
             operands: &[FILES],
             flags: &[
-                ALL, JSON, SARIF, HTML, CLOCK, DIVISOR, FIFO, CHIP, FORMAT, BASE, STRIDE, PORT, IRQ,
+                ALL, ALLOW, BASELINE, JSON, SARIF, HTML, COLOR, CLOCK, DIVISOR, FIFO, CHIP, FORMAT,
+                BASE, STRIDE, PORT, IRQ,
             ],
             more: Some(KINDS),
         },
@@ -293,8 +345,8 @@ recording may have any length.",
             about: "Says where its chip answers as the one defined here never does",
             operands: &[FILES],
             flags: &[
-                ALL, SETTLED, JSON, SARIF, HTML, CLOCK, DIVISOR, FIFO, CHIP, FORMAT, BASE, STRIDE,
-                PORT, IRQ,
+                ALL, SETTLED, ALLOW, BASELINE, JSON, SARIF, HTML, COLOR, CLOCK, DIVISOR, FIFO,
+                CHIP, FORMAT, BASE, STRIDE, PORT, IRQ,
             ],
             more: Some(KINDS),
         },
@@ -316,8 +368,44 @@ recording may have any length.",
                 },
                 JSON,
                 SARIF,
+                COLOR,
             ],
             more: None,
+        },
+        Command {
+            job: Job::Census,
+            name: "geesetrunk census",
+            about: "Asks the chip at a port of this machine, in loopback, whether what is proved holds on it",
+            operands: &[Operand {
+                name: "PORT",
+                count: Count::AtMostOne,
+                help: "The chip's first port in hexadecimal digits, such as 2f8 or 0x2f8",
+            }],
+            flags: &[
+                Flag {
+                    name: "record",
+                    value: Some("FILE"),
+                    help: "Writes rows and recording to this file",
+                },
+                Flag {
+                    name: "judge",
+                    value: Some("FILE"),
+                    help: "Asks no port: makes the rows of such a recording anew",
+                },
+                JSON_ROWS,
+                Flag {
+                    name: "device",
+                    value: Some("FILE"),
+                    help: "The file with a byte for each port [default: /dev/port]",
+                },
+                Flag {
+                    name: "even-if-used",
+                    value: None,
+                    help: "Asks a port too that is a console, or that a process has open",
+                },
+                COLOR,
+            ],
+            more: Some(CENSUS),
         },
         Command {
             job: Job::Explain,
@@ -325,8 +413,8 @@ recording may have any length.",
             about: "Says what a finding or an error means, what it costs, and what to do",
             operands: &[Operand {
                 name: "NAME",
-                count: Count::AtMostOne,
-                help: "The name, as it stands in brackets behind a finding; without it all names are listed",
+                count: Count::Any,
+                help: "The names, as they stand in brackets behind findings; without one all are listed",
             }],
             flags: &[],
             more: None,
@@ -335,7 +423,7 @@ recording may have any length.",
             job: Job::Show,
             name: "geesetrunk show",
             about: "Shows a recording with registers and bits by name, or its bytes as text",
-            operands: &[RECORDING],
+            operands: &[FILES],
             flags: &[
                 Flag {
                     name: "register",
@@ -362,6 +450,7 @@ recording may have any length.",
                     value: None,
                     help: "The bytes that were sent and read, as text",
                 },
+                COLOR,
                 FORMAT,
                 BASE,
                 STRIDE,
@@ -375,7 +464,9 @@ recording may have any length.",
             name: "geesetrunk stats",
             about: "Says in numbers what happened in a recording, in all and from set-up to set-up",
             operands: &[FILES],
-            flags: &[CLOCK, DIVISOR, FIFO, CHIP, FORMAT, BASE, STRIDE, PORT, IRQ],
+            flags: &[
+                COLOR, CLOCK, DIVISOR, FIFO, CHIP, FORMAT, BASE, STRIDE, PORT, IRQ,
+            ],
             more: None,
         },
         Command {
@@ -383,13 +474,13 @@ recording may have any length.",
             name: "geesetrunk diff",
             about: "Says where two recordings differ in what they mean: times and polls do not count",
             operands: &[FIRST, SECOND],
-            flags: &[FORMAT, BASE, STRIDE, PORT],
+            flags: &[COLOR, FORMAT, BASE, STRIDE, PORT],
             more: None,
         },
         Command {
             job: Job::Shrink,
             name: "geesetrunk shrink",
-            about: "Prints the shortest piece of a recording in which the first warning is still found",
+            about: "Prints the fewest lines of a recording in which the first warning is still found",
             operands: &[RECORDING],
             flags: &[
                 Flag {
@@ -397,6 +488,7 @@ recording may have any length.",
                     value: Some("NAME"),
                     help: "What is to be found, instead of the first warning",
                 },
+                COLOR,
                 CLOCK,
                 DIVISOR,
                 FIFO,
@@ -414,8 +506,67 @@ recording may have any length.",
             name: "geesetrunk import",
             about: "Prints a log of another tool as a recording",
             operands: &[RECORDING],
-            flags: &[FORMAT, BASE, STRIDE, PORT, IRQ],
+            flags: &[COLOR, FORMAT, BASE, STRIDE, PORT, IRQ],
             more: Some(KINDS),
+        },
+        Command {
+            job: Job::Budget,
+            name: "geesetrunk budget",
+            about: "Says how late the handler of interrupts may be, so that no character is lost",
+            operands: &[],
+            flags: &[
+                Flag {
+                    name: "baud",
+                    value: Some("RATE"),
+                    help: "The baud rate [default: 115200]",
+                },
+                Flag {
+                    name: "frame",
+                    value: Some("FRAME"),
+                    help: "Data bits, parity and stop bits, as 7E2 or 5O1.5 [default: 8N1]",
+                },
+                Flag {
+                    name: "fifo",
+                    value: Some("N"),
+                    help: "The FIFO: off, or how many bytes it has room for [default: 16]",
+                },
+                Flag {
+                    name: "level",
+                    value: Some("N"),
+                    help: "Only this trigger level, in characters [default: a row for each]",
+                },
+                Flag {
+                    name: "access",
+                    value: Some("US"),
+                    help: "How long an access takes at most, in microseconds, as 0.25 [default: 1]",
+                },
+                Flag {
+                    name: "before",
+                    value: Some("US"),
+                    help: "How long the handler is at the other ports of a shared line before [default: 0]",
+                },
+                Flag {
+                    name: "latency",
+                    value: Some("US"),
+                    help: "How late the handler may begin: says which level to take for that",
+                },
+                Flag {
+                    name: "clock",
+                    value: Some("HZ"),
+                    help: "The rate of the chip's clock [default: 14745600]",
+                },
+                Flag {
+                    name: "ticks",
+                    value: Some("N"),
+                    help: "A character takes N ticks, as in a script: all times are in ticks",
+                },
+                Flag {
+                    name: "table",
+                    value: None,
+                    help: "Prints a table for documents, of usual baud rates and FIFOs, in microseconds",
+                },
+            ],
+            more: Some(LATENESS),
         },
         Command {
             job: Job::Completions,

@@ -5,18 +5,17 @@
 
 use crate::end::{End, Status};
 use crate::findings::counted;
-use crate::heap;
 use crate::import::Import;
-use crate::judging::Stop;
+use crate::judging::{Stop, is_of_use};
 use crate::log::Log;
 use crate::meaning::{Latch, words_of};
-use crate::piece::Piece;
+use crate::resets::{Entries, Next, Resets};
 use crate::streams::{Output, standard_output};
 use crate::text::STANDARD_INPUT;
 use std::cell::RefCell;
 use std::collections::VecDeque;
 use std::io::{self, Read, Write};
-use uart_judges::recording::{Entry, Happening, Recording};
+use uart_judges::recording::{Entry, Happening};
 use uart_spec::access::Access;
 use uart_spec::registers::offsets;
 
@@ -59,21 +58,24 @@ fn is_data(happening: Happening) -> bool {
 }
 
 // One of the two recordings.
-struct Side<R> {
-    recording: Recording<R>,
+struct Side<'a, R> {
+    entries: Entries<'a, R>,
     latch: Latch,
     last: Option<Item>,
     window: VecDeque<Item>,
+    // Whether anything was accessed, or arrived. Without that there is nothing to compare.
+    has_access: bool,
     is_at_end: bool,
 }
 
-impl<R: Read> Side<R> {
-    fn new(reader: R) -> Result<Self, Stop> {
+impl<'a, R: Read> Side<'a, R> {
+    fn new(reader: R, resets: &'a Resets) -> Result<Self, Stop> {
         Ok(Side {
-            recording: Recording::new(heap(), reader)?,
+            entries: Entries::new(reader, resets)?,
             latch: Latch::default(),
             last: None,
             window: VecDeque::new(),
+            has_access: false,
             is_at_end: false,
         })
     }
@@ -83,6 +85,7 @@ impl<R: Read> Side<R> {
         let is_dlab_set = self.latch.is_set();
         self.latch.action(entry);
         let happening = entry.happening;
+        self.has_access |= is_of_use(happening);
         if let Happening::Interrupt { .. } = happening {
             return;
         }
@@ -110,8 +113,10 @@ impl<R: Read> Side<R> {
     // Reads on until so many items are there, or no more come.
     fn fill(&mut self, count: usize) -> Result<(), Stop> {
         while self.window.len() < count && !self.is_at_end {
-            match self.recording.next_entry()? {
-                Some(entry) => self.push(&entry),
+            match self.entries.read_next()? {
+                Some(Next::Entry(entry)) => self.push(&entry),
+                Some(Next::Reset(_)) => self.latch = Latch::default(),
+                None if !self.has_access => return Err(Stop::NoAccess),
                 None => {
                     self.is_at_end = true;
                     self.window.extend(self.last.take());
@@ -165,8 +170,9 @@ fn compare(
     let of_left = |stop| Stopped(Which::Left, stop);
     let of_right = |stop| Stopped(Which::Right, stop);
     let unwritten = |cause| Stopped(Which::Left, Stop::Output(cause));
-    let mut left = Side::new(left).map_err(of_left)?;
-    let mut right = Side::new(right).map_err(of_right)?;
+    let (of_one, of_other) = (Resets::default(), Resets::default());
+    let mut left = Side::new(left, &of_one).map_err(of_left)?;
+    let mut right = Side::new(right, &of_other).map_err(of_right)?;
     let mut differences = 0;
     let mut before: Option<Item> = None;
     loop {
@@ -211,7 +217,7 @@ pub fn diff(files: [&str; 2], import: &Import) -> Result<(), End> {
     let mut left = Log::open(files[0], "diff", import, &output)?;
     let mut right = Log::open(files[1], "diff", import, &output)?;
     let mut out = |line: &str| writeln!(output.borrow_mut(), "{line}");
-    let outcome = compare(Piece::new(&mut left), Piece::new(&mut right), &mut out);
+    let outcome = compare(&mut left, &mut right, &mut out);
     let outcome = outcome.map_err(|Stopped(which, stop)| match which {
         Which::Left => left.ended(stop),
         Which::Right => right.ended(stop),
@@ -225,7 +231,8 @@ pub fn diff(files: [&str; 2], import: &Import) -> Result<(), End> {
             files[1]
         );
     }
-    drop((left, right));
+    left.close();
+    right.close();
     output.into_inner().finish().map_err(End::unwritten)?;
     match outcome? {
         0 => Ok(()),
@@ -253,7 +260,6 @@ mod tests {
             ("r 5 60\nw 0 41\n", "# a\nR 5 60 0 @17\ni 1\nw 0 41 1\n"),
             ("r 5 00\nx 9\nr 5 60\nw 0 41\n", "r 5 60\nw 0 41\n"),
             ("r 7 5a\nr 7 5a\n", "r 7 5a\nx 5\n"),
-            ("", "# nothing\n"),
         ] {
             assert_eq!(compared(left, right), (0, vec![]), "{left}");
         }
@@ -273,8 +279,15 @@ mod tests {
         let (count, lines) = compared("w 1 00\nw 3 03\n", "w 1 00\nw 2 07\nw 3 03\n");
         assert_eq!((count, lines.len()), (1, 2));
         assert!(lines[1].starts_with("+ 2 w FCR 07"));
-        assert_eq!(compared("w 0 41\n", "").0, 1);
         assert_eq!(compared("r 0 41\nr 0 41\n", "r 0 41\n").0, 1);
+    }
+
+    #[test]
+    fn an_empty_recording_is_refused() {
+        for (left, right) in [("", ""), ("w 0 41\n", "# nothing\n")] {
+            let outcome = compare(left.as_bytes(), right.as_bytes(), &mut |_| Ok(()));
+            assert!(matches!(outcome, Err(Stopped(_, Stop::NoAccess))));
+        }
     }
 
     #[test]

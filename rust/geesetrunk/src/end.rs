@@ -19,6 +19,8 @@ pub enum Status {
     OutOfMemory,
     /// There is no permission to open a device.
     NoPermission,
+    /// Somebody uses the port.
+    InUse,
     /// The reader of standard output is gone.
     BrokenPipe,
 }
@@ -27,12 +29,13 @@ pub enum Status {
 pub const STATUSES: &str = "\
 Exit status of each program:
   0  done
-  1  the script is refused, the trace strays, or something was found in the
-     recording: a line says where
+  1  the script is refused, the trace strays, something was found in the
+     recording, or no handler is in time: a line says where, or why
   2  the command line is wrong, a file or a port failed, an output cannot be
      written, or what was read is no trace or no recording
   3  out of memory
-  4  no permission to open the device of ports";
+  4  no permission to open the device of ports
+  5  the port is in use";
 
 impl Status {
     /// Returns the exit status.
@@ -42,6 +45,7 @@ impl Status {
             Status::Failed => 2,
             Status::OutOfMemory => 3,
             Status::NoPermission => 4,
+            Status::InUse => 5,
             // What a shell shows of a program that the signal SIGPIPE has ended: 128, and the number
             // of the signal. The standard library ignores that signal, and writes fail instead.
             Status::BrokenPipe => 128 + 13,

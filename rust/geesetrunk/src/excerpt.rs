@@ -1,17 +1,17 @@
 //! The timeline of a recording: its accesses up to a line, and what the audit warns of there.
 
-use crate::heap;
-use crate::judging::{DriverJudge, Stop};
+use crate::judging::{DriverJudge, Stop, is_of_use};
 use crate::kinds::Kind;
 use crate::known::Known;
 use crate::moments::{Arrival, Happened, Moment, Seen, parts, register_of};
 use crate::picture::picture_of_recording;
-use crate::piece::Piece;
+use crate::resets::{Entries, Next, Resets};
 use crate::table::table_of_recording;
 use crate::text::file_name;
+use crate::visits::Lateness;
 use std::collections::{BTreeSet, VecDeque};
 use std::io::Read;
-use uart_judges::recording::{Entry, Happening, Recording, RecordingError};
+use uart_judges::recording::{Entry, Happening, RecordingError};
 use uart_spec::access::Access;
 use uart_spec::registers::{LCR, offsets};
 
@@ -57,6 +57,8 @@ struct Warning {
 struct Watched {
     moment: Moment,
     warnings: Vec<Warning>,
+    // How late the character is that it reads.
+    read: Option<Lateness>,
 }
 
 // The last entries of a recording, as far as it is read.
@@ -64,6 +66,7 @@ struct Watch {
     driver: DriverJudge,
     is_dlab_set: bool,
     level: Option<bool>,
+    has_access: bool,
     most: usize,
     last: VecDeque<Watched>,
     // What the audit warns of in these entries, and finds behind them.
@@ -102,10 +105,18 @@ impl Watch {
             driver: DriverJudge::new(known),
             is_dlab_set: false,
             level: None,
+            has_access: false,
             most,
             last: VecDeque::new(),
             late: Vec::new(),
         }
+    }
+
+    // Begins anew: the chip was reset.
+    fn reset(&mut self) {
+        self.driver.reset();
+        self.is_dlab_set = false;
+        self.level = None;
     }
 
     // Returns an access with the name of its register.
@@ -148,6 +159,7 @@ impl Watch {
         };
         let warnings = self.found(entry);
         let is_wrong = !warnings.is_empty();
+        self.has_access |= is_of_use(entry.happening);
         match entry.happening {
             Happening::Access(access) => happened.access = Some(self.seen(access)),
             Happening::Arrive { byte, errors } => {
@@ -168,7 +180,12 @@ impl Watch {
         if self.last.len() == self.most {
             self.last.pop_front();
         }
-        self.last.push_back(Watched { moment, warnings });
+        let read = self.driver.read();
+        self.last.push_back(Watched {
+            moment,
+            warnings,
+            read,
+        });
         is_wrong
     }
 
@@ -178,11 +195,21 @@ impl Watch {
         found.chain(&self.late).copied()
     }
 
-    // Returns the last entries, of which these lines are wrong.
-    fn moments(&self, wrong: &BTreeSet<u64>) -> impl Iterator<Item = Moment> {
-        self.last.iter().map(|watched| {
+    // Returns the latest read of what waits, and its line.
+    fn latest(&self) -> Option<(Lateness, u64)> {
+        let reads = self.last.iter().map(|watched| {
+            let line = watched.moment.time;
+            watched.read.map(|lateness| (lateness, line))
+        });
+        reads.fold(None, Lateness::later)
+    }
+
+    // Returns the last entries, of which these lines are wrong, and this one reads latest.
+    fn moments(&self, wrong: &BTreeSet<u64>, latest: Option<u64>) -> impl Iterator<Item = Moment> {
+        self.last.iter().map(move |watched| {
             let mut moment = watched.moment;
             moment.happened.is_wrong = wrong.contains(&moment.time);
+            moment.happened.is_latest = latest == Some(moment.time);
             moment
         })
     }
@@ -190,7 +217,7 @@ impl Watch {
     // Reads on from this entry while it may be found that a line up to the last one is wrong, and
     // keeps what is found of those that are drawn. What cannot be read there is not drawn, and so it
     // is no error.
-    fn read_on<R: Read>(&mut self, entry: Entry, recording: &mut Recording<R>, last: u64) {
+    fn read_on<R: Read>(&mut self, entry: Entry, entries: &mut Entries<'_, R>, last: u64) {
         let first = self.last.front().map_or(0, |watched| watched.moment.time);
         let mut next = Some(entry);
         while let Some(entry) = next.filter(|_| self.driver.may_name_up_to(last)) {
@@ -199,7 +226,11 @@ impl Watch {
                     add(&mut self.late, warning);
                 }
             }
-            next = recording.next_entry().ok().flatten();
+            // Behind a reset nothing is found about a line before it.
+            next = match entries.read_next() {
+                Ok(Some(Next::Entry(entry))) => Some(entry),
+                Ok(Some(Next::Reset(_)) | None) | Err(_) => None,
+            };
         }
     }
 }
@@ -207,12 +238,20 @@ impl Watch {
 // Reads a recording up to the last line that is drawn. Returns whether that is its end.
 fn read_up_to<R: Read>(
     watch: &mut Watch,
-    recording: &mut Recording<R>,
+    entries: &mut Entries<'_, R>,
     last: Option<u64>,
 ) -> Result<bool, RecordingError> {
-    while let Some(entry) = recording.next_entry()? {
+    while let Some(next) = entries.read_next()? {
+        let entry = match next {
+            Next::Entry(entry) => entry,
+            Next::Reset(line) if last.is_some_and(|last| line > last) => return Ok(false),
+            Next::Reset(_) => {
+                watch.reset();
+                continue;
+            }
+        };
         if let Some(last) = last.filter(|&last| entry.line > last) {
-            watch.read_on(entry, recording, last);
+            watch.read_on(entry, entries, last);
             return Ok(false);
         }
         if watch.step(&entry) && last.is_none() {
@@ -239,9 +278,13 @@ fn title(file: &str, moments: &[Moment]) -> String {
 /// Why the recording was not read up to that line.
 pub fn timeline_of(excerpt: &Excerpt<'_>, reader: impl Read) -> Result<String, Stop> {
     let mut watch = Watch::new(excerpt.most, excerpt.known);
-    let mut recording = Recording::new(heap(), Piece::new(reader))?;
-    let is_end = read_up_to(&mut watch, &mut recording, excerpt.line)?;
-    let lines = recording.lines();
+    let resets = Resets::default();
+    let mut entries = Entries::new(reader, &resets)?;
+    let is_end = read_up_to(&mut watch, &mut entries, excerpt.line)?;
+    if is_end && !watch.has_access {
+        return Err(Stop::NoAccess);
+    }
+    let lines = entries.lines();
     if let Some(line) = excerpt.line.filter(|&line| is_end && line > lines) {
         return Err(Stop::NoLine { line, lines });
     }
@@ -252,8 +295,12 @@ pub fn timeline_of(excerpt: &Excerpt<'_>, reader: impl Read) -> Result<String, S
     let mut known = BTreeSet::new();
     found.retain(|warning| known.insert(warning.key()));
     let wrong: BTreeSet<_> = found.iter().map(|warning| warning.line).collect();
-    let moments: Vec<_> = watch.moments(&wrong).collect();
-    let lines: Vec<_> = found.iter().map(Warning::text).collect();
+    let latest = watch.latest();
+    let moments: Vec<_> = watch
+        .moments(&wrong, latest.map(|(_, line)| line))
+        .collect();
+    let latest = latest.map(|(lateness, line)| format!("line {line}: latest read, {lateness}"));
+    let lines: Vec<_> = found.iter().map(Warning::text).chain(latest).collect();
     Ok(match excerpt.form {
         Form::Table => table_of_recording(&moments, &lines),
         Form::Picture => {

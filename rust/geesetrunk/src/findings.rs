@@ -4,11 +4,12 @@
 //! For people a kind of finding is printed in full where it is found first. If it is found again, a
 //! line at the end says how often, and from which line to which. The option `--all` prints each.
 
+use crate::accepted::Accepted;
 use crate::end::{End, Status};
 use crate::heap;
 use crate::import::Import;
 use crate::json::Quoted;
-use crate::judging::{Found, Judge, Stop, judge_recording};
+use crate::judging::{Found, Judge, Judged, Stop, judge_recording};
 use crate::known::Known;
 use crate::log::Log;
 use crate::sarif::Sarif;
@@ -47,6 +48,8 @@ pub struct Judging<'a> {
     pub import: Import,
     /// What is known of the chip.
     pub known: Known,
+    /// The findings that are accepted: they are counted, and not printed.
+    pub accepted: &'a Accepted,
 }
 
 impl Judge {
@@ -93,8 +96,10 @@ struct Tallies {
 impl Tallies {
     // Counts a finding. Returns whether it is the first of its kind.
     fn count(&mut self, found: &Found) -> bool {
-        let name = found.kind.name();
-        let known = self.kinds.iter_mut().find(|tally| tally.name == name);
+        let (name, severity) = (found.kind.name(), found.kind.severity());
+        // In a log whose times begin late the same may be undecided first, and a warning then.
+        let mut kinds = self.kinds.iter_mut();
+        let known = kinds.find(|tally| tally.name == name && tally.severity == severity);
         if let Some(tally) = known {
             tally.times = tally.times.saturating_add(found.times);
             tally.last = found.line;
@@ -102,7 +107,7 @@ impl Tallies {
         }
         self.kinds.push(Tally {
             name,
-            severity: found.kind.severity(),
+            severity,
             times: found.times,
             first: found.line,
             last: found.line,
@@ -118,7 +123,7 @@ impl Tallies {
 
 fn paint_of(severity: &str) -> Paint {
     match severity {
-        "note" => Paint::Note,
+        "note" | "undecided" => Paint::Note,
         _ => Paint::Warning,
     }
 }
@@ -201,7 +206,13 @@ impl<W: Write> Listing<'_, W> {
     }
 
     // Prints how often each kind was found, and how much that is.
-    fn print_end(&mut self, judge: Judge, lines: u64, read_as: Option<String>) -> io::Result<()> {
+    fn print_end(
+        &mut self,
+        judge: Judge,
+        judged: Judged,
+        accepted: u64,
+        read_as: Option<String>,
+    ) -> io::Result<()> {
         let mut output = self.output.borrow_mut();
         let (Format::Lines(style) | Format::AllLines(style)) = self.format else {
             // The exit status says whether anything was found.
@@ -212,10 +223,23 @@ impl<W: Write> Listing<'_, W> {
                 writeln!(output, "{}", tally_line(self.file, tally, style))?;
             }
         }
-        let lines = counted(lines, "line");
+        let lines = counted(judged.lines, "line");
+        let has = judged.has;
         let total = counted(self.tallies.total(judge.counted()), judge.counted());
+        let undecided = match self.tallies.total("undecided") {
+            0 => String::new(),
+            count => format!(", {count} undecided"),
+        };
         let read_as = read_as.map_or(String::new(), |read_as| format!(" {read_as}"));
-        writeln!(output, "{}: {lines}{read_as}, {total}", self.file)
+        let accepted = match accepted {
+            0 => String::new(),
+            count => format!(", {count} accepted"),
+        };
+        writeln!(
+            output,
+            "{}: {lines}{read_as}, with {has}, {total}{undecided}{accepted}",
+            self.file
+        )
     }
 }
 
@@ -233,7 +257,9 @@ pub fn judged(file: &str, judging: &Judging<'_>) -> Result<(), End> {
         is_settled,
         import,
         known,
+        accepted,
     } = judging;
+    let mut left = accepted.of_file(file);
     let output = RefCell::new(Output::new(standard_output().map_err(End::unwritten)?));
     let mut log = Log::open(file, judge.name(), import, &output)?;
     let mut listing = Listing {
@@ -242,19 +268,24 @@ pub fn judged(file: &str, judging: &Judging<'_>) -> Result<(), End> {
         format: *format,
         tallies: Tallies::default(),
     };
-    let lines = judge_recording(*judge, known, &mut log, |found| {
+    let judged = judge_recording(*judge, known, &mut log, |found| {
         if *is_settled && found.kind.is_open() {
             return Ok(());
         }
-        listing.print(found)
+        left.new_of(found)
+            .map_or(Ok(()), |found| listing.print(&found))
     });
-    let count = lines.and_then(|lines| {
-        let ended = listing.print_end(*judge, lines, log.read_as());
+    let count = judged.and_then(|judged| {
+        let ended = listing.print_end(*judge, judged, left.accepted, log.read_as());
         ended.map_err(Stop::Output)?;
         Ok(listing.tallies.total(judge.counted()))
     });
     let count = count.map_err(|stop| log.ended(stop));
-    drop(log);
+    match format {
+        // The last line has what it was read as.
+        Format::Lines(_) | Format::AllLines(_) => drop(log),
+        Format::Json | Format::Sarif(_) => log.close(),
+    }
     // If the output cannot be written, nothing else is worth saying.
     output.into_inner().finish().map_err(End::unwritten)?;
     match count? {

@@ -3,6 +3,7 @@
 //! The judge of drivers is proved, and each of its warnings is a fault or what may be one. What is here is plain Rust beside it. A hint
 //! is a note: it is true of the recording, it costs no exit status, and it is said once, or once for each line that it is about.
 
+use crate::visits::{Lateness, Unknown, overrun_text};
 use std::fmt;
 use uart_judges::audit::Action;
 use uart_judges::recording::{Entry, Happening};
@@ -71,6 +72,8 @@ pub enum Hint {
     EndsInBreak,
     /// DTR and RTS were never set, and bytes were sent or received.
     OutputsNeverRaised,
+    /// LSR shows that a character was lost: how late the handler was, as far as that is told.
+    Overrun(Result<Lateness, Unknown>),
 }
 
 /// What the interrupt line is up for.
@@ -99,6 +102,7 @@ impl Hint {
             Hint::EndsInPoll { .. } => "ends-in-poll",
             Hint::EndsInBreak => "ends-in-break",
             Hint::OutputsNeverRaised => "dtr-rts-never-set",
+            Hint::Overrun(_) => "overrun-cause",
         }
     }
 
@@ -214,6 +218,7 @@ impl fmt::Display for Hint {
             Hint::OutputsNeverRaised => f.write_str(
                 "MCR bits 0 (DTR) and 1 (RTS) were never set: an end with flow control sends nothing, and a modem hangs up. Set both",
             ),
+            Hint::Overrun(overrun) => f.write_str(&overrun_text(&overrun)),
         }
     }
 }

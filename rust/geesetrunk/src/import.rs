@@ -6,6 +6,7 @@
 mod address;
 mod csv;
 mod detect;
+mod encoding;
 mod fields;
 mod json;
 mod kvm;
@@ -19,8 +20,11 @@ mod sigrok;
 mod words;
 
 pub use address::{MOST_STRIDE, Seen, Window};
+pub use detect::{Guess, Shown};
+pub use encoding::Encoding;
+pub use json::each_member;
 pub use printing::import;
-pub use reader::{Imported, Opened, open_log};
+pub use reader::{Imported, Opened, Unopened, open_log};
 pub use refusal::{Refusal, Refused};
 
 use std::fmt;
@@ -45,7 +49,7 @@ pub enum Kind {
 }
 
 impl Kind {
-    /// All kinds, in the order in which they are tried.
+    /// All kinds.
     pub const ALL: [Kind; 7] = [
         Kind::Kvm,
         Kind::Memory,
@@ -66,6 +70,14 @@ impl Kind {
             Kind::Json => "json",
             Kind::Sigrok => "sigrok",
             Kind::Words => "words",
+        }
+    }
+
+    /// Returns whether such a log usually has lines of other devices.
+    pub fn has_others(self) -> bool {
+        match self {
+            Kind::Kvm | Kind::Memory | Kind::Words => true,
+            Kind::Recording | Kind::Csv | Kind::Json | Kind::Sigrok => false,
         }
     }
 

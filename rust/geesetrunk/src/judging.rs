@@ -1,18 +1,20 @@
 //! Judges a recording, entry by entry, in constant memory.
 
-use crate::heap;
-use crate::hints::Hints;
-use crate::kinds::Kind;
+use crate::has::Has;
+use crate::hints::{Hint, Hints};
+use crate::kinds::{Kind, Lack};
 use crate::known::{Known, Scale};
-use crate::piece::Piece;
+use crate::resets::{Entries, Next, Resets};
+use crate::visits::{Lateness, Unknown, Visits};
 use geesetrunk_kit::alloc::AllocError;
 use std::io::{self, Read};
 use uart_judges::audit::{
     Answers, Auditor, ChipAuditor, Finding, Findings, MOST_UNREAD, Severity, Unread,
 };
-use uart_judges::recording::{Entry, Happening, Recording, RecordingError};
-use uart_judges::replay::{Difference, Replayer, Start};
+use uart_judges::recording::{Entry, Happening, RecordingError};
+use uart_judges::replay::{Difference, Replayer, Rule, Start};
 use uart_spec::access::Access;
+use uart_spec::registers::offsets;
 
 /// Who judges a recording.
 #[derive(Clone, Copy, Debug, PartialEq, Eq)]
@@ -152,10 +154,10 @@ impl<A: Steps> Default for Audited<A> {
 }
 
 impl Audited {
-    /// Returns one that knows this of the chip, and was given nothing.
-    fn knowing(known: &Known) -> Self {
+    // Returns one over a judge that was given nothing.
+    fn over(auditor: Auditor) -> Self {
         Audited {
-            auditor: known.auditor(),
+            auditor,
             last: None,
         }
     }
@@ -255,34 +257,71 @@ pub struct DriverJudge {
     usual: Audited,
     scaled: Option<(Audited, Scale)>,
     hints: Hints,
+    visits: Visits,
+    // How late the character is that the last entry reads.
+    read: Option<Lateness>,
+    has: Has,
 }
 
 impl DriverJudge {
     /// Returns a judge that knows this, and was given nothing.
     pub fn new(known: Known) -> Self {
-        let scaled = |clock| (Audited::knowing(&known), Scale::new(clock));
+        DriverJudge::beginning(known, known.auditor(), Has::default())
+    }
+
+    // Returns a judge that begins with this one of the driver, in a recording that has this.
+    fn beginning(known: Known, auditor: Auditor, has: Has) -> Self {
+        let scaled = |clock| (Audited::over(auditor), Scale::new(clock));
         DriverJudge {
-            usual: Audited::knowing(&known),
+            usual: Audited::over(auditor),
             scaled: known.clock.map(scaled),
             hints: Hints::default(),
+            visits: Visits::new(known),
+            read: None,
+            has,
             known,
         }
     }
 
+    /// Begins anew: the chip was reset. What an open latch or loopback is at the end is nothing there.
+    pub fn reset(&mut self) {
+        let has = Has {
+            resets: true,
+            ..self.has
+        };
+        *self = DriverJudge::beginning(self.known, self.known.auditor_after_reset(), has);
+    }
+
     /// Goes on by an entry, and tells what is found about the driver, with how many times in turn.
     pub fn step(&mut self, entry: &Entry, mut tell: impl FnMut(Kind, u64)) {
+        self.has.step(entry);
         if self.known.counts(entry) {
             self.audit(entry, &mut tell);
         }
         self.hints.step(entry, |hint| tell(Kind::Hint(hint), 1));
+        let shown = self.visits.step(entry, &self.usual.auditor.setup, self.has);
+        self.read = shown.read;
+        if let Some(overrun) = shown.overrun {
+            tell(Kind::Hint(Hint::Overrun(overrun)), 1);
+        }
+    }
+
+    /// Returns how late the character is that the last entry reads, if as many waited as the trigger level.
+    pub fn read(&self) -> Option<Lateness> {
+        self.read
+    }
+
+    /// Returns why it is not told how late characters are read, as far as the recording is read.
+    pub fn lack_of_lateness(&self) -> Option<Unknown> {
+        self.visits.lack()
     }
 
     fn audit(&mut self, entry: &Entry, tell: &mut impl FnMut(Kind, u64)) {
-        let known = self.known;
+        let (known, has) = (self.known, self.has);
         let mut tell_all = |findings: &[Option<Finding>], times, is_wanted: fn(Finding) -> bool| {
             let found = findings.iter().flatten().copied();
             for finding in found.filter(|finding| is_wanted(*finding)) {
-                if let Some(kind) = kind_of(&known, finding) {
+                if let Some(kind) = kind_of(&known, &has, finding) {
                     tell(kind, times);
                 }
             }
@@ -322,12 +361,15 @@ fn is_about_time(finding: Finding) -> bool {
     matches!(finding, Finding::LeftWithLineUp(_))
 }
 
-// Returns what is told of a finding about the driver, with what is known of the chip.
-fn kind_of(known: &Known, finding: Finding) -> Option<Kind> {
+// Returns what is told of a finding about the driver, with what is known of the chip, and what the log has.
+fn kind_of(known: &Known, has: &Has, finding: Finding) -> Option<Kind> {
     if finding.severity() == Severity::Answer {
         return None;
     }
     let finding = known.adapted(finding)?;
+    if let Some(lack) = Lack::of(&finding, has) {
+        return Some(Kind::Undecided(finding, lack));
+    }
     Some(match (finding, known.clock) {
         (Finding::SetUp(setup), Some(_)) => Kind::SetUp(setup, *known),
         _ => Kind::Finding(finding),
@@ -350,7 +392,14 @@ struct ChipJudge {
     // The time at the chip's own clock, if that is not the usual one.
     scale: Option<Scale>,
     replayer: Replayer,
+    // Whether the last read of ISR showed both bits of the FIFOs, and FCR was not written since.
+    has_fifo_bits: bool,
+    // Whether the recording has a reset: then it has all of them.
+    has_resets: bool,
 }
+
+// The bits of ISR that show whether the FIFOs are on.
+const FIFO_BITS: u8 = 0xc0;
 
 impl ChipJudge {
     fn new(known: &Known) -> Self {
@@ -360,8 +409,19 @@ impl ChipJudge {
             known: *known,
             audited,
             scale: known.clock.map(Scale::new),
+            // A reset leaves what the chip's maker chose, and not what the model has at power-on.
             replayer: Replayer::new(known.chip.model, Start::InUse),
+            has_fifo_bits: false,
+            has_resets: false,
         }
+    }
+
+    // Begins anew: the chip was reset.
+    fn reset(&mut self) {
+        let known = self.known;
+        *self = ChipJudge::new(&known);
+        self.audited.auditor.seen = known.auditor_after_reset();
+        self.has_resets = true;
     }
 
     // Follows an access, and tells what the chip could not have returned.
@@ -370,16 +430,29 @@ impl ChipJudge {
             Happening::Access(Access::Read(offset, answer)) => {
                 self.read(offset, answer, entry, found);
             }
-            Happening::Access(Access::Write(offset, value)) => self.replayer.write(offset, value),
+            Happening::Access(Access::Write(offset, value)) => {
+                self.has_fifo_bits &= offset != offsets::FCR;
+                self.replayer.write(offset, value);
+            }
             _ => {}
         }
     }
 
     fn read(&mut self, offset: usize, answer: u8, entry: &Entry, found: &mut Vec<Found>) {
         let (line, times) = (entry.line, entry.times);
+        let had_fifo_bits = self.has_fifo_bits;
+        if offset == offsets::ISR {
+            self.has_fifo_bits = answer & FIFO_BITS == FIFO_BITS;
+        }
+        // A chip that has shown that its FIFOs are on, and then shows that they are off, was reset with its machine, or is wrong: a log
+        // without resets does not say which.
+        let may_be_reset = !self.has_resets && had_fifo_bits && answer & FIFO_BITS == 0;
         let mut tell = |difference: Option<Difference>, times| {
             if let (Some(difference), 1..) = (difference, times) {
-                let kind = Kind::Difference(difference);
+                let kind = match difference.rule {
+                    Rule::FifoBits if may_be_reset => Kind::AfterReset(difference),
+                    _ => Kind::Difference(difference),
+                };
                 found.push(Found { line, kind, times });
             }
         };
@@ -449,6 +522,14 @@ impl OneJudge {
         })
     }
 
+    /// Begins anew: the chip was reset.
+    pub fn reset(&mut self) {
+        match &mut self.0 {
+            Which::Driver(driver) => driver.reset(),
+            Which::Chip(chip) => chip.reset(),
+        }
+    }
+
     /// Goes on by an entry, and takes down what is found at it.
     pub fn step(&mut self, entry: &Entry, found: &mut Vec<Found>) {
         match &mut self.0 {
@@ -460,60 +541,81 @@ impl OneJudge {
     }
 }
 
-// Reads a recording to its end, and tells what is found at each entry. Returns how many lines it has.
+/// A recording that was judged to its end.
+#[derive(Clone, Copy, Debug, PartialEq, Eq)]
+pub struct Judged {
+    /// How many lines it has.
+    pub lines: u64,
+    /// What it has beside accesses.
+    pub has: Has,
+}
+
+// Reads a recording to its end, and tells what is found at each entry.
 // It is one function for both judges, so that what reads a line is part of it. Without an access nothing was judged, which is not to
 // look as if nothing was found.
 fn judge_entries(
     reader: impl Read,
     tell: &mut impl FnMut(&Found) -> io::Result<()>,
-    step: &mut dyn FnMut(&Entry, &mut Vec<Found>),
-) -> Result<u64, Stop> {
-    let mut recording = Recording::new(heap(), Piece::new(reader))?;
+    step: &mut dyn FnMut(&Next, &mut Vec<Found>),
+) -> Result<Judged, Stop> {
+    let resets = Resets::default();
+    let mut entries = Entries::new(reader, &resets)?;
     let mut has_access = false;
+    let mut has = Has::default();
     let mut found = Vec::new();
     // More than are found at an entry.
     found.try_reserve(64).map_err(|_| Stop::OutOfMemory)?;
-    while let Some(entry) = recording.next_entry()? {
-        has_access |= matches!(entry.happening, Happening::Access(_));
-        step(&entry, &mut found);
+    while let Some(next) = entries.read_next()? {
+        match &next {
+            Next::Entry(entry) => {
+                has_access |= matches!(entry.happening, Happening::Access(_));
+                has.step(entry);
+            }
+            Next::Reset(_) => has.resets = true,
+        }
+        step(&next, &mut found);
         for found in found.drain(..) {
             tell(&found).map_err(Stop::Output)?;
         }
     }
     if has_access {
-        Ok(recording.lines())
+        let lines = entries.lines();
+        Ok(Judged { lines, has })
     } else {
         Err(Stop::NoAccess)
     }
 }
 
-/// Reads a recording to its end, and hands on each entry. Returns how many lines it has.
+/// Returns whether something is to be said of an entry by itself: it is an access, or a character that arrives. A log without any is
+/// refused by each command, since an empty answer looks as if nothing were wrong.
+pub fn is_of_use(happening: Happening) -> bool {
+    matches!(happening, Happening::Access(_) | Happening::Arrive { .. })
+}
+
+/// Reads a recording to its end, and hands on each entry and each reset. Returns how many lines it has.
 ///
 /// # Errors
 ///
 /// Why the recording was not read to its end, or what the entry is handed to returns.
 pub fn each_entry(
     reader: impl Read,
-    mut act: impl FnMut(&Entry) -> Result<(), Stop>,
+    mut act: impl FnMut(&Next) -> Result<(), Stop>,
 ) -> Result<u64, Stop> {
-    let mut recording = Recording::new(heap(), Piece::new(reader))?;
+    let resets = Resets::default();
+    let mut entries = Entries::new(reader, &resets)?;
     let mut has_access = false;
-    while let Some(entry) = recording.next_entry()? {
-        has_access |= matches!(
-            entry.happening,
-            Happening::Access(_) | Happening::Arrive { .. }
-        );
-        act(&entry)?;
+    while let Some(next) = entries.read_next()? {
+        has_access |= matches!(&next, Next::Entry(entry) if is_of_use(entry.happening));
+        act(&next)?;
     }
     if has_access {
-        Ok(recording.lines())
+        Ok(entries.lines())
     } else {
         Err(Stop::NoAccess)
     }
 }
 
-/// Judges a recording, and tells what is found as soon as it is found. Returns how many lines it
-/// has.
+/// Judges a recording, and tells what is found as soon as it is found. Returns how many lines it has, and what is in them.
 ///
 /// # Errors
 ///
@@ -523,21 +625,25 @@ pub fn judge_recording(
     known: &Known,
     reader: impl Read,
     mut tell: impl FnMut(&Found) -> io::Result<()>,
-) -> Result<u64, Stop> {
+) -> Result<Judged, Stop> {
     if judge == Judge::Replay {
         let mut chip = ChipJudge::new(known);
-        return judge_entries(reader, &mut tell, &mut |entry, found| {
-            chip.step(entry, found)
+        return judge_entries(reader, &mut tell, &mut |next, found| match next {
+            Next::Entry(entry) => chip.step(entry, found),
+            Next::Reset(_) => chip.reset(),
         });
     }
     let mut driver = DriverJudge::new(*known);
-    let lines = judge_entries(reader, &mut tell, &mut |entry, found| {
-        driver.step(entry, |kind, times| take_down(found, entry, kind, times));
+    let judged = judge_entries(reader, &mut tell, &mut |next, found| match next {
+        Next::Entry(entry) => {
+            driver.step(entry, |kind, times| take_down(found, entry, kind, times));
+        }
+        Next::Reset(_) => driver.reset(),
     })?;
     for kind in driver.end() {
-        let line = kind.line().unwrap_or(lines);
+        let line = kind.line().unwrap_or(judged.lines);
         let times = 1;
         tell(&Found { line, kind, times }).map_err(Stop::Output)?;
     }
-    Ok(lines)
+    Ok(judged)
 }

@@ -1,6 +1,7 @@
 //! The kinds of findings: what each is called, and what is printed for it. docs/AUDIT.md has a section
 //! for each name.
 
+use crate::has::Has;
 use crate::hints::Hint;
 use crate::known::Known;
 use std::fmt;
@@ -19,6 +20,44 @@ pub enum Kind {
     SetUp(Setup, Known),
     /// What a driver does, and may not mean.
     Hint(Hint),
+    /// What would be a warning, if the log had what decides it.
+    Undecided(Finding, Lack),
+    /// What would be a difference, if the log had the resets of the machine.
+    AfterReset(Difference),
+}
+
+/// What a log does not have, without which a finding is not decided.
+#[derive(Clone, Copy, Debug, PartialEq, Eq)]
+pub enum Lack {
+    /// Times.
+    Times,
+    /// Levels of the interrupt line.
+    Levels,
+}
+
+impl Lack {
+    /// Returns what is missing to decide a finding in a log that has this so far.
+    pub fn of(finding: &Finding, has: &Has) -> Option<Self> {
+        match finding {
+            // A driver that polls has interrupts enabled, too, and needs none. Only the line shows whether it waits for one.
+            Finding::InterruptsCutOff => (!has.levels).then_some(Lack::Levels),
+            Finding::FrameChangedWhileSending
+            | Finding::DivisorChangedWhileSending
+            | Finding::ResetWhileSending => (!has.times).then_some(Lack::Times),
+            _ => None,
+        }
+    }
+}
+
+impl fmt::Display for Lack {
+    fn fmt(&self, f: &mut fmt::Formatter<'_>) -> fmt::Result {
+        f.write_str(match self {
+            Lack::Times => "Only times would decide it, and this log has none",
+            Lack::Levels => {
+                "Only the level of the interrupt line would decide it, and this log has none"
+            }
+        })
+    }
 }
 
 impl Kind {
@@ -29,10 +68,12 @@ impl Kind {
             Kind::Difference(difference) => rule_name(difference.rule),
             Kind::SetUp(..) => "set-up",
             Kind::Hint(hint) => hint.name(),
+            Kind::Undecided(finding, _) => name_of(finding),
+            Kind::AfterReset(difference) => rule_name(difference.rule),
         }
     }
 
-    /// Returns whose fault it is: `note`, `warning` or `difference`.
+    /// Returns whose fault it is: `note`, `warning` or `difference`; or `undecided`, where the log does not show it.
     pub fn severity(&self) -> &'static str {
         match self {
             Kind::Finding(finding) => match finding.severity() {
@@ -42,6 +83,7 @@ impl Kind {
             },
             Kind::Difference(_) => "difference",
             Kind::SetUp(..) | Kind::Hint(_) => "note",
+            Kind::Undecided(..) | Kind::AfterReset(_) => "undecided",
         }
     }
 
@@ -348,6 +390,15 @@ impl fmt::Display for Kind {
             Kind::Difference(difference) => return write!(f, "{difference}"),
             Kind::SetUp(setup, known) => return write!(f, "set-up: {}", known.setup_text(setup)),
             Kind::Hint(hint) => return write!(f, "{hint}"),
+            Kind::Undecided(finding, lack) => {
+                return write!(f, "{}. {lack}", Kind::Finding(*finding));
+            }
+            Kind::AfterReset(difference) => {
+                return write!(
+                    f,
+                    "{difference}. A reset of the machine does the same, and no line of a log says it"
+                );
+            }
             Kind::Finding(finding) => finding,
         };
         match finding {

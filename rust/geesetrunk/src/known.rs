@@ -56,19 +56,25 @@ impl Default for Known {
 }
 
 impl Known {
+    /// Returns a judge of a driver that knows this of a chip that was reset: not what was set up at the beginning.
+    pub fn auditor_after_reset(&self) -> Auditor {
+        let mut auditor = Auditor::new();
+        let has_none = self.chip.model == Chip::Uart16450 || self.fifo == Some(Fifo::Off);
+        auditor.setup.has_fifo = has_none.then_some(false);
+        auditor
+    }
+
     /// Returns a judge of a driver that knows this, and was given nothing.
     pub fn auditor(&self) -> Auditor {
-        let mut auditor = Auditor::new();
+        let mut auditor = self.auditor_after_reset();
         if let Some(divisor) = self.divisor {
             let [low, high] = divisor.to_le_bytes();
             auditor.setup.divisor.low = Some(low);
             auditor.setup.divisor.high = Some(high);
         }
-        auditor.setup.has_fifo = match (self.chip.model, self.fifo) {
-            (Chip::Uart16450, _) | (_, Some(Fifo::Off)) => Some(false),
-            (_, Some(Fifo::Bytes(_))) => Some(true),
-            (_, None) => None,
-        };
+        if let (Chip::Uart16550A, Some(Fifo::Bytes(_))) = (self.chip.model, self.fifo) {
+            auditor.setup.has_fifo = Some(true);
+        }
         auditor
     }
 

@@ -3,10 +3,15 @@
 //! What is promised comes from the proved crates: how scripts are read and played, and the judges of
 //! traces and recordings. Here is what people look at: tables, pictures, faults explained, command
 //! lines, and how the programs end.
-#![forbid(unsafe_code)]
+// Of `closed` alone it is allowed.
+#![deny(unsafe_code)]
 #![deny(missing_docs)]
 
+pub mod accepted;
 pub mod boxes;
+pub mod budget;
+pub mod census;
+pub mod closed;
 pub mod command_line;
 pub mod commands;
 pub mod diff;
@@ -16,6 +21,7 @@ pub mod explain;
 pub mod fault;
 pub mod findings;
 pub mod grammar;
+pub mod has;
 pub mod hints;
 pub mod history;
 pub mod import;
@@ -23,6 +29,7 @@ pub mod json;
 pub mod judging;
 pub mod kinds;
 pub mod known;
+pub mod lateness;
 pub mod link;
 pub mod log;
 pub mod meaning;
@@ -33,11 +40,10 @@ pub mod options;
 pub mod page;
 pub mod picture;
 pub mod piece;
-// A page in a browser is made of this library too, and has no files of ports.
-#[cfg(unix)]
 pub mod port;
 pub mod refused_line;
 pub mod repeats;
+pub mod resets;
 pub mod ring_language;
 pub mod rings;
 pub mod sarif;
@@ -50,6 +56,7 @@ pub mod table;
 pub mod terminal;
 pub mod text;
 pub mod trace;
+pub mod visits;
 
 use geesetrunk_kit::alloc::Global;
 

@@ -1,5 +1,6 @@
 //! Two scripts, played at the two ends of a null-modem cable.
 
+mod bounds;
 mod cable;
 mod end;
 mod turns;
@@ -17,6 +18,7 @@ use crate::script::{kind_of, title};
 use crate::streams::{bytes_of, print};
 use crate::terminal::Style;
 use crate::text::{STANDARD_INPUT, lines, words};
+use bounds::{Bounded, bounds};
 use cable::{Cable, Cargo, Line};
 use geesetrunk_kit::Vec as List;
 use geesetrunk_kit::alloc::AllocError;
@@ -49,8 +51,19 @@ pub struct Link<'a> {
     pub files: [&'a str; 2],
     /// How many ticks it takes from one end to the other: from 1 to [`MOST_DELAY`].
     pub delay: u64,
-    /// Whether to draw a picture.
-    pub is_drawn: bool,
+    /// What to print.
+    pub output: LinkOutput,
+}
+
+/// What is printed of a run.
+#[derive(Clone, Copy, Debug, PartialEq, Eq)]
+pub enum LinkOutput {
+    /// What each call returned, and the last state of each chip.
+    Text,
+    /// The same, and how much room flow control needed.
+    TextWithBounds,
+    /// A picture.
+    Picture,
 }
 
 // The driver's backend at an end: the chip under the ticks of its script.
@@ -352,8 +365,18 @@ fn told(
         Ok::<_, AllocError>(History::new(&source.text, &output))
     };
     let histories = [history(0, &of_left)?, history(1, &of_right)?];
-    if !link.is_drawn {
-        return Ok(text_of(&ends, &histories));
+    if link.output != LinkOutput::Picture {
+        let mut text = text_of(&ends, &histories);
+        if link.output == LinkOutput::TextWithBounds {
+            let bounded = |side: usize| Bounded {
+                name: SIDES[side],
+                end: &ends[side],
+                history: &histories[side],
+            };
+            let bounds = bounds([bounded(0), bounded(1)], link.delay);
+            text.extend(bounds.map(|bound| format!("{bound}\n")));
+        }
+        return Ok(text);
     }
     let drawn = |side: usize, file: &str| DrawnEnd {
         title: format!("{}: {}", SIDES[side], title(file, scripts[side].plain())),
@@ -390,9 +413,13 @@ pub fn link(link: &Link<'_>) -> Result<(), End> {
 /// # Examples
 ///
 /// ```
-/// use geesetrunk::link::{Link, USUAL_DELAY, linked_in_turns};
+/// use geesetrunk::link::{Link, LinkOutput, USUAL_DELAY, linked_in_turns};
 ///
-/// let link = Link { files: ["left", "right"], delay: USUAL_DELAY, is_drawn: false };
+/// let link = Link {
+///     files: ["left", "right"],
+///     delay: USUAL_DELAY,
+///     output: LinkOutput::Text,
+/// };
 /// let left = b"chip 16550a 4 64\ninit 14 9600 nocts 00 8\nsend 41\nflush\n";
 /// let right = b"chip 16550a 4 64\ninit 14 9600 nocts 00 8\nreceive-exact 1\n";
 /// let text = linked_in_turns(&link, [left, right]).unwrap();

@@ -2,7 +2,7 @@
 
 use crate::end::End;
 use crate::findings::counted;
-use crate::import::{Import, Kind, Opened, Refused, open_log};
+use crate::import::{Import, Kind, Opened, Refused, Unopened, open_log};
 use crate::judging::Stop;
 use crate::refused_line::refused_line;
 use crate::streams::{Output, Watched};
@@ -46,7 +46,7 @@ impl Tail {
 }
 
 // Returns how many lines end in these bytes. Of so few bytes at a time a byte can hold the count: so many are counted at once.
-fn ends_in(bytes: &[u8]) -> u64 {
+pub(crate) fn ends_in(bytes: &[u8]) -> u64 {
     const AT_ONCE: usize = 128;
     let ends = |part: &[u8]| part.iter().map(|&byte| u8::from(byte == b'\n')).sum::<u8>();
     bytes
@@ -86,7 +86,7 @@ impl<'a> Log<'a> {
     pub fn over(file: &'a str, reader: impl Read + 'a, import: &Import) -> Result<Self, End> {
         Ok(Log {
             file,
-            opened: open_log(reader, import).map_err(|cause| End::unread(file, cause))?,
+            opened: open_log(reader, import).map_err(|cause| unopened(file, cause))?,
             tail: Tail::default(),
         })
     }
@@ -99,8 +99,29 @@ impl<'a> Log<'a> {
     /// Returns what a log of another kind was read as, for people, or `None` for a recording.
     pub fn read_as(&self) -> Option<String> {
         let kind = self.kind();
-        let of_chip = counted(self.opened.seen.borrow().of_chip, "line");
-        (kind != Kind::Recording).then(|| format!("read as {kind}, with {of_chip} of the chip"))
+        if kind == Kind::Recording {
+            return None;
+        }
+        let seen = self.opened.seen.borrow();
+        let guess = self.opened.guess.map_or(String::new(), |guess| {
+            format!(" (a guess, by {guess}; --format says it)")
+        });
+        let of_chip = counted(seen.of_chip, "line");
+        let left_out = match seen.left_out {
+            count @ 1.. if kind.has_others() => format!(", {count} left out"),
+            _ => String::new(),
+        };
+        Some(format!(
+            "read as {kind}{guess}, with {of_chip} of the chip{left_out}"
+        ))
+    }
+
+    /// Ends the reading. If the kind is only a guess, a line on standard error says so: what was printed has no place for it.
+    pub fn close(self) {
+        if let (Some(_), Some(read_as)) = (self.opened.guess, self.read_as()) {
+            // If standard error cannot be written, nobody is there to be told.
+            let _ = writeln!(io::stderr(), "{}: {read_as}", self.file);
+        }
     }
 
     /// Returns how a program ends that could not read it to its end.
@@ -131,6 +152,17 @@ impl<'a> Log<'a> {
             Stop::Output(cause) => End::unwritten(cause),
             Stop::OutOfMemory => End::out_of_memory(),
         }
+    }
+}
+
+// Returns how a program ends that cannot open a log.
+fn unopened(file: &str, cause: Unopened) -> End {
+    match cause {
+        Unopened::Unread(cause) => End::unread(file, cause),
+        Unopened::Encoded(encoding) => End::failed(format!("{file}: {encoding}")),
+        Unopened::Unsure(guess) => End::failed(format!(
+            "{file}: {guess} are accesses in words, which is too few for a guess. Say by --format what it is, as --format words"
+        )),
     }
 }
 

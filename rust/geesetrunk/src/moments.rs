@@ -56,6 +56,8 @@ pub struct Happened {
     pub access: Option<Seen>,
     /// Whether the audit of a recording warns of it.
     pub is_wrong: bool,
+    /// Whether it is the latest read of what waits. Only a recording says so.
+    pub is_latest: bool,
     /// The new level of the interrupt line. Only a recording says so.
     pub interrupt: Option<bool>,
 }

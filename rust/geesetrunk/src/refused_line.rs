@@ -204,7 +204,7 @@ fn unknown_word(line: &[u8], cause: &'static str) -> Refusal {
     } else if line.starts_with(b"chip ") {
         "a recording, which this is not: it is a script. timeline draws one without --recording, --line and --last"
     } else {
-        "r, w, x, a, m or i, or an event of QEMU's log; --format says another kind of log"
+        "r, w, x, a, m, i or z, or an event of QEMU's log; --format says another kind of log"
     };
     Refusal::at(line, line, cause, wants)
 }

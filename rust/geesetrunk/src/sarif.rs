@@ -14,7 +14,7 @@ pub struct Sarif {
 // Returns the level of a kind of finding, in the words of SARIF.
 fn level(kind: &str) -> &'static str {
     match kind {
-        "note" => "note",
+        "note" | "undecided" => "note",
         "warning" => "warning",
         _ => "error",
     }

@@ -6,6 +6,7 @@ use crate::judging::{Stop, each_entry};
 use crate::log::Log;
 use crate::meaning::{Latch, words_of};
 use crate::moments::{parts, register_of};
+use crate::resets::Next;
 use crate::streams::{Output, standard_output};
 use std::cell::RefCell;
 use std::io::{self, Write};
@@ -198,6 +199,18 @@ impl<W: Write> Shower<'_, W> {
         Ok(())
     }
 
+    // Shows that the chip was reset, unless only some registers or the bytes are shown.
+    fn reset(&mut self, line: u64) -> io::Result<()> {
+        self.latch = Latch::default();
+        let filter = self.filter;
+        let is_within = line >= filter.from && filter.to.is_none_or(|to| line <= to);
+        if filter.bytes || filter.writes || !filter.registers.is_empty() || !is_within {
+            return Ok(());
+        }
+        self.flush_row()?;
+        writeln!(self.output.borrow_mut(), "{line:>8}  z the chip was reset")
+    }
+
     fn flush_row(&mut self) -> io::Result<()> {
         match self.last.take() {
             Some(row) => writeln!(self.output.borrow_mut(), "{}", row.text(self.first_time)),
@@ -231,11 +244,17 @@ pub fn show(file: &str, import: &Import, filter: &Filter) -> Result<(), End> {
         text: Text::default(),
         has_driver: false,
     };
-    let outcome = each_entry(&mut log, |entry| shower.step(entry).map_err(Stop::Output));
+    let outcome = each_entry(&mut log, |next| {
+        let shown = match next {
+            Next::Entry(entry) => shower.step(entry),
+            Next::Reset(line) => shower.reset(*line),
+        };
+        shown.map_err(Stop::Output)
+    });
     let rest = shower.flush_row().and_then(|()| shower.flush_text());
     let outcome = outcome.and_then(|_| rest.map_err(Stop::Output));
     let outcome = outcome.map_err(|stop| log.ended(stop));
-    drop(log);
+    log.close();
     output.into_inner().finish().map_err(End::unwritten)?;
     outcome
 }

@@ -7,7 +7,9 @@ use crate::kinds::Kind;
 use crate::known::Known;
 use crate::log::Log;
 use crate::meaning::Latch;
+use crate::resets::Next;
 use crate::streams::{Output, standard_output};
+use crate::visits::Lateness;
 use std::cell::RefCell;
 use std::collections::VecDeque;
 use std::fmt::Write as _;
@@ -19,6 +21,9 @@ use uart_spec::registers::ISR;
 
 // The most characters that wait to be read, of which the time is kept: a chip holds seventeen.
 const MOST_WAITING: usize = 64;
+
+// The name of the row that says how late what waits was read.
+const LATEST: &str = "latest read";
 
 // The longest wait from an arrival to its read.
 #[derive(Clone, Copy, Debug, Default, PartialEq, Eq)]
@@ -46,6 +51,8 @@ pub struct Counts {
     first: Option<u64>,
     last: Option<u64>,
     longest: Option<Wait>,
+    // The latest read of what waits, and its line.
+    latest: Option<(Lateness, u64)>,
 }
 
 impl Counts {
@@ -70,6 +77,7 @@ impl Counts {
         self.first = self.first.or(part.first);
         self.last = part.last.or(self.last);
         self.longest = longer(self.longest, part.longest);
+        self.latest = Lateness::later(self.latest, part.latest);
     }
 
     fn rows(&self) -> Vec<(&'static str, String)> {
@@ -140,6 +148,9 @@ impl Counts {
             );
             rows.push(("longest wait from arrival to read", text));
         }
+        if let Some((lateness, line)) = self.latest {
+            rows.push((LATEST, format!("at line {line}, {lateness}")));
+        }
         rows
     }
 }
@@ -197,6 +208,18 @@ impl Counter {
         }
     }
 
+    fn next(&mut self, next: &Next) {
+        match next {
+            Next::Entry(entry) => self.step(entry),
+            Next::Reset(_) => {
+                self.driver.reset();
+                self.latch = Latch::default();
+                self.waiting.clear();
+                self.looked = None;
+            }
+        }
+    }
+
     fn step(&mut self, entry: &Entry) {
         let mut setup = None;
         let known = self.known;
@@ -211,6 +234,7 @@ impl Counter {
         }
         let action = self.latch.action(entry);
         let waited = self.waited(action, entry);
+        let read = self.driver.read().map(|lateness| (lateness, entry.line));
         let polled = self.polled(action, entry);
         let Some(phase) = self.phases.last_mut() else {
             return;
@@ -219,6 +243,7 @@ impl Counter {
         counts.first = counts.first.or(entry.time);
         counts.last = entry.time.or(counts.last);
         counts.longest = longer(counts.longest, waited);
+        counts.latest = Lateness::later(counts.latest, read);
         if let Some((polls, time)) = polled {
             counts.polls = counts.polls.saturating_add(polls);
             counts.polling = counts.polling.saturating_add(time);
@@ -312,6 +337,15 @@ impl Counter {
         }
         let mut text = format!("{file}: {lines} lines\n");
         write_rows(&mut text, &all);
+        if all.received > 0 && all.latest.is_none() {
+            let _ = match self.driver.lack_of_lateness() {
+                Some(lack) => writeln!(text, "  {LATEST}: how late it was is not known: {lack}"),
+                None => writeln!(
+                    text,
+                    "  {LATEST}: as many characters as the trigger level never waited, as far as it is told"
+                ),
+            };
+        }
         if self.phases.len() > 1 {
             for (index, phase) in self.phases.iter().enumerate() {
                 let end = self
@@ -344,8 +378,8 @@ pub fn stats(file: &str, import: &Import, known: &Known) -> Result<(), End> {
     let output = RefCell::new(Output::new(standard_output().map_err(End::unwritten)?));
     let mut log = Log::open(file, "stats", import, &output)?;
     let mut counter = Counter::new(*known);
-    let outcome = each_entry(&mut log, |entry| {
-        counter.step(entry);
+    let outcome = each_entry(&mut log, |next| {
+        counter.next(next);
         Ok(())
     });
     let outcome = outcome.and_then(|lines| {
@@ -354,7 +388,7 @@ pub fn stats(file: &str, import: &Import, known: &Known) -> Result<(), End> {
         written.map_err(Stop::Output)
     });
     let outcome = outcome.map_err(|stop| log.ended(stop));
-    drop(log);
+    log.close();
     output.into_inner().finish().map_err(End::unwritten)?;
     outcome
 }
@@ -365,8 +399,8 @@ mod tests {
 
     fn counted(recording: &str) -> String {
         let mut counter = Counter::new(Known::default());
-        let lines = each_entry(recording.as_bytes(), |entry| {
-            counter.step(entry);
+        let lines = each_entry(recording.as_bytes(), |next| {
+            counter.next(next);
             Ok(())
         });
         counter.text("a", lines.unwrap())

@@ -1,6 +1,7 @@
 //! Files and standard streams: how they are opened, and an output that is flushed before its program
 //! waits for more input.
 
+use crate::closed::{Stream, is_closed};
 use crate::end::End;
 use crate::terminal::Progress;
 use crate::text::STANDARD_INPUT;
@@ -23,12 +24,21 @@ fn file_of<T>(_: T) -> io::Result<File> {
     Err(io::ErrorKind::Unsupported.into())
 }
 
+// Returns an error if a stream was closed when the program began.
+fn check_open(stream: Stream) -> io::Result<()> {
+    if is_closed(stream) {
+        return Err(io::Error::other("it is closed"));
+    }
+    Ok(())
+}
+
 /// Returns the file of standard input.
 ///
 /// # Errors
 ///
-/// The error of the system.
+/// The error of the system, or that it was closed when the program began.
 pub fn standard_input() -> io::Result<File> {
+    check_open(Stream::Input)?;
     file_of(io::stdin())
 }
 
@@ -36,8 +46,9 @@ pub fn standard_input() -> io::Result<File> {
 ///
 /// # Errors
 ///
-/// The error of the system.
+/// The error of the system, or that it was closed when the program began.
 pub fn standard_output() -> io::Result<File> {
+    check_open(Stream::Output)?;
     file_of(io::stdout())
 }
 

@@ -136,7 +136,12 @@ fn row_of_recording(shown: &Shown) -> String {
         .interrupt
         .map_or("   ".into(), |level| format!("{:>3}", u8::from(level)));
     let warning = if happened.is_wrong { "  warning" } else { "" };
-    let row = format!("{line:>8}  {access}{arrives}{lines}  {level}{warning}");
+    let latest = if happened.is_latest {
+        "  latest read"
+    } else {
+        ""
+    };
+    let row = format!("{line:>8}  {access}{arrives}{lines}  {level}{latest}{warning}");
     format!("{}\n", row.trim_end())
 }
 

@@ -5,6 +5,7 @@ use std::env;
 use std::ffi::OsStr;
 use std::fmt;
 use std::io::{self, IsTerminal, Write};
+use std::sync::OnceLock;
 use std::time::{Duration, Instant};
 
 /// What a text is, which decides its colour.
@@ -35,6 +36,37 @@ impl Paint {
     }
 }
 
+/// When texts have colours.
+#[derive(Clone, Copy, Debug, PartialEq, Eq)]
+pub enum Colour {
+    /// On a terminal.
+    Auto,
+    /// Always, as for a pager or a log of a build.
+    Always,
+    /// Never.
+    Never,
+}
+
+impl Colour {
+    /// Returns what a word of the command line asks for.
+    pub fn named(name: &str) -> Option<Self> {
+        match name {
+            "auto" => Some(Colour::Auto),
+            "always" => Some(Colour::Always),
+            "never" => Some(Colour::Never),
+            _ => None,
+        }
+    }
+}
+
+// What the command line asks for. It is one for the process, as its streams are, and is said once, before anything is printed.
+static ASKED: OnceLock<Colour> = OnceLock::new();
+
+/// Says when texts have colours. What is said first stays.
+pub fn choose_colour(colour: Colour) {
+    ASKED.get_or_init(|| colour);
+}
+
 /// Whether texts have colours.
 #[derive(Clone, Copy, Debug, PartialEq, Eq)]
 pub struct Style {
@@ -48,14 +80,19 @@ impl Style {
     /// Texts with colours.
     pub const COLOURED: Self = Style { has_colours: true };
 
-    /// Returns the style for a stream: colours if it is a terminal, unless `NO_COLOR` is set to
+    /// Returns the style for a stream: what the command line asks for, or else colours if it is a terminal, unless `NO_COLOR` is set to
     /// something or the terminal is a `dumb` one.
     pub fn of(stream: &impl IsTerminal) -> Self {
         let variable = |name| env::var_os(name).unwrap_or_default();
-        let (no_color, term) = (variable("NO_COLOR"), variable("TERM"));
-        Style {
-            has_colours: stream.is_terminal() && wants_colours(&no_color, &term),
-        }
+        let has_colours = match ASKED.get().copied().unwrap_or(Colour::Auto) {
+            Colour::Always => true,
+            Colour::Never => false,
+            Colour::Auto => {
+                let (no_color, term) = (variable("NO_COLOR"), variable("TERM"));
+                stream.is_terminal() && wants_colours(&no_color, &term)
+            }
+        };
+        Style { has_colours }
     }
 
     /// Returns a text in its colour.
@@ -100,7 +137,7 @@ const CLEAR: &str = "\r\x1b[K";
 ///
 /// Nothing is shown of a file that is read in half a second.
 #[derive(Debug)]
-pub struct Progress<W> {
+pub struct Progress<W: Write> {
     out: Option<W>,
     label: String,
     total: Option<u64>,
@@ -172,6 +209,13 @@ impl<W: Write> Progress<W> {
     }
 }
 
+// However the work ends, what is printed next does not stand behind the line.
+impl<W: Write> Drop for Progress<W> {
+    fn drop(&mut self) {
+        self.clear();
+    }
+}
+
 #[cfg(test)]
 mod tests {
     use super::*;
@@ -204,6 +248,7 @@ mod tests {
             progress.done += *bytes as u64;
             progress.show(start + Duration::from_millis(*milliseconds));
         }
+        drop(progress);
         String::from_utf8(text).unwrap()
     }
 
@@ -216,13 +261,13 @@ mod tests {
     fn a_long_file_shows_its_progress_in_turn() {
         assert_eq!(
             shown(Some(200), &[(50, 600), (50, 650), (50, 700)]),
-            "\r\x1b[Ka: 25 %\r\x1b[Ka: 75 %"
+            "\r\x1b[Ka: 25 %\r\x1b[Ka: 75 %\r\x1b[K"
         );
     }
 
     #[test]
     fn a_pipe_shows_how_much_came() {
-        assert_eq!(shown(None, &[(3_500_000, 600)]), "\r\x1b[Ka: 3 MB");
+        assert_eq!(shown(None, &[(3_500_000, 600)]), "\r\x1b[Ka: 3 MB\r\x1b[K");
     }
 
     #[test]
@@ -233,6 +278,12 @@ mod tests {
         progress.clear();
         progress.show(start + PATIENCE);
         progress.clear();
+        drop(progress);
         assert_eq!(String::from_utf8(text).unwrap(), "\r\x1b[Ka: 0 %\r\x1b[K");
+    }
+
+    #[test]
+    fn a_line_that_is_left_is_taken_away_at_the_end() {
+        assert_eq!(shown(Some(4), &[(1, 600)]), "\r\x1b[Ka: 25 %\r\x1b[K");
     }
 }

@@ -30,7 +30,7 @@ fn wrong_command_lines_of_geesetrunk() {
         ),
         (
             "play a b",
-            "error: unexpected argument 'b' found\n\nUsage: geesetrunk play [FILE]\n",
+            "error: unexpected argument 'b' found\n\nUsage: geesetrunk play [OPTIONS] [FILE]\n",
         ),
         ("play --sing", "error: unexpected argument '--sing' found\n"),
         ("play -s", "error: unexpected argument '-s' found\n"),
@@ -284,7 +284,10 @@ fn a_kind_is_printed_once_and_counted() {
     assert!(lines[0].starts_with("-:3: warning: "), "{lines:?}");
     assert!(lines[1].starts_with("-:6: note: "), "{lines:?}");
     let tally = "-: warning: [read-from-divisor] 6 times, from line 3 to line 6";
-    assert_eq!(lines[2..], [tally, "-: 6 lines, 6 warnings"]);
+    assert_eq!(
+        lines[2..],
+        [tally, "-: 6 lines, with accesses alone, 6 warnings"]
+    );
 }
 
 #[test]
@@ -294,7 +297,10 @@ fn what_the_datasheet_leaves_open_can_be_left_out() {
     let (status, lines, _) = parts(&run(GEESETRUNK, &["replay", "--settled", file], b""));
     assert_eq!(
         (status, lines),
-        (0, format!("{file}: 14 lines, 0 differences\n"))
+        (
+            0,
+            format!("{file}: 14 lines, with accesses alone, 0 differences\n")
+        )
     );
 }
 
@@ -391,14 +397,19 @@ fn a_recording_without_an_access_is_not_judged() {
     ] {
         assert_judged(recording, 2, "", none);
     }
-    assert_judged("r 5 60\n", 0, "-: 1 line, 0 ", "");
+    assert_judged("r 5 60\n", 0, "-: 1 line, with accesses alone, 0 ", "");
 }
 
 // What was read is not in the piece. Its lines keep their numbers.
 #[test]
 fn a_piece_may_begin_with_a_repeat() {
-    assert_judged("x 3\nr 5 60\nx 2\n", 0, "-: 3 lines, 0 ", "");
-    assert_judged("x 3\nX 1\nr 5 60\nz\n", 2, "", "-:4:1: unknown word\nz\n^ ");
+    assert_judged(
+        "x 3\nr 5 60\nx 2\n",
+        0,
+        "-: 3 lines, with accesses alone, 0 ",
+        "",
+    );
+    assert_judged("x 3\nX 1\nr 5 60\nq\n", 2, "", "-:4:1: unknown word\nq\n^ ");
     assert_judged("w 0 41\nx 3\n", 2, "", "-:2:1: no read before it");
     let timeline = ["timeline", "--recording", "--text"];
     let (status, printed, told) = parts(&run(GEESETRUNK, &timeline, b"x 3\nr 5 60\n"));
@@ -413,5 +424,10 @@ fn lines_of_two_processes_are_not_judged_as_one_chip() {
     let told =
         "- cannot be read: line 3 is an access of process 14, and those before are of process 13.";
     assert_judged(&[of(13), of(13), of(14)].concat(), 2, "", told);
-    assert_judged(&[of(13), of(13)].concat(), 0, "-: 2 lines, 0 ", "");
+    assert_judged(
+        &[of(13), of(13)].concat(),
+        0,
+        "-: 2 lines, with times, 0 ",
+        "",
+    );
 }

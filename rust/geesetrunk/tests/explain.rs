@@ -93,9 +93,9 @@ impl Row {
     fn what(&self) -> String {
         let first = ["what happens", "what it says", "what it means"];
         let text: String = first.iter().map(|head| self.cell(head)).collect();
-        match self.cell("rule") {
+        match self.cell("registers") {
             "" => text,
-            rule => format!("{}: {rule}", self.cell("registers")),
+            registers => format!("{registers}: {text}"),
         }
     }
 
@@ -158,7 +158,18 @@ fn seen(name: &str) -> String {
     let first = (index + 1).saturating_sub(LINES - 1);
     let first = first.min(entries.len().saturating_sub(LINES));
     let mut text = String::new();
-    for (position, (entry, (head, bits))) in entries.iter().enumerate().skip(first).take(LINES) {
+    // Bytes that are written in turn say nothing without the look at LSR before them.
+    let shown = entries.iter().enumerate().skip(first).take(LINES);
+    let are_bytes = shown
+        .clone()
+        .all(|(_, (_, (head, _)))| head.starts_with("w DATA"));
+    let look = entries[..first]
+        .iter()
+        .rposition(|(_, (head, _))| head.starts_with("r LSR"));
+    let look = look
+        .filter(|_| are_bytes)
+        .map(|index| (index, &entries[index]));
+    for (position, (entry, (head, bits))) in look.into_iter().chain(shown) {
         let mark = if position == index { '>' } else { ' ' };
         let times = if entry.times == 1 {
             String::new()
@@ -167,6 +178,9 @@ fn seen(name: &str) -> String {
         };
         let line = format!("  {mark} {:>3}  {head}{times:<6} {bits}", entry.line);
         let _ = writeln!(text, "{}", line.trim_end());
+        if position + 1 < first {
+            text += "       ..\n";
+        }
     }
     text
 }

@@ -3,7 +3,7 @@
 mod common;
 
 use common::{EXAMPLES, GEESETRUNK, Random, assert_as_stored, parts, run, run_in};
-use geesetrunk::link::{Link, linked_in_turns};
+use geesetrunk::link::{Link, LinkOutput, linked_in_turns};
 use std::collections::HashMap;
 use std::fs;
 use std::path::{Path, PathBuf};
@@ -98,11 +98,11 @@ fn long_waits_end() {
 }
 
 // Returns what a link is without threads, as a page in a browser plays it.
-fn in_turns(files: [&str; 2], scripts: [&[u8]; 2], delay: u64, is_drawn: bool) -> String {
+fn in_turns(files: [&str; 2], scripts: [&[u8]; 2], delay: u64, output: LinkOutput) -> String {
     let link = Link {
         files,
         delay,
-        is_drawn,
+        output,
     };
     linked_in_turns(&link, scripts).unwrap()
 }
@@ -117,14 +117,18 @@ fn in_turns_it_is_the_same() {
                 .each_ref()
                 .map(|file| fs::read(folder.join(file)).unwrap());
             let files = files.each_ref().map(String::as_str);
-            for option in ["", "--picture"] {
+            for (option, output) in [
+                ("", LinkOutput::Text),
+                ("--bounds", LinkOutput::TextWithBounds),
+                ("--picture", LinkOutput::Picture),
+            ] {
                 let delayed = delay.to_string();
                 let words = ["--delay", &delayed, files[0], files[1], option];
                 let count = if option.is_empty() { 4 } else { 5 };
                 let (_, text, _) = run_link(&words[..count], b"");
                 let scripts = scripts.each_ref().map(Vec::as_slice);
                 assert_eq!(
-                    in_turns(files, scripts, delay, count == 5),
+                    in_turns(files, scripts, delay, output),
                     text,
                     "{name} {delay}"
                 );
@@ -149,7 +153,7 @@ fn long_waits_end_in_turns() {
         ["late.script", "-"],
         [late.as_bytes(), waits.as_bytes()],
         1,
-        false,
+        LinkOutput::Text,
     );
     assert_eq!(turns, text);
     assert!(text.contains("\nleft 2000"), "{text}");
@@ -253,7 +257,10 @@ fn what_is_sent_is_received_less_what_is_dropped() {
         assert_eq!(again.1, text);
         let scripts = [left.as_bytes(), right.as_bytes()];
         let ticks = delay.parse().unwrap();
-        assert_eq!(in_turns(["left.script", "-"], scripts, ticks, false), text);
+        assert_eq!(
+            in_turns(["left.script", "-"], scripts, ticks, LinkOutput::Text),
+            text
+        );
         let drawn = [&words[..], &["--picture"]].concat();
         let (status, picture, _) = parts(&run_in(&folder, GEESETRUNK, &drawn, right.as_bytes()));
         assert_eq!(status, 0);
@@ -283,6 +290,105 @@ fn a_delay_moves_what_arrives() {
     );
     // It goes there and back.
     assert_eq!(tick_of("21", "ok 4f4b") - tick_of("1", "ok 4f4b"), 40);
+}
+
+// ---- what flow control needs
+
+// Plays two scripts over a cable with this delay, and returns the marks of the right end and its bounds.
+fn bounded(name: &str, scripts: [&str; 2], delay: u64) -> (String, String) {
+    let folder = PathBuf::from(env!("CARGO_TARGET_TMPDIR"));
+    let left = format!("{name}.script");
+    fs::write(folder.join(&left), scripts[0]).unwrap();
+    let delay = delay.to_string();
+    let words = ["link", "--bounds", "--delay", &delay, &left, "-"];
+    let (status, text, errors) = parts(&run_in(&folder, GEESETRUNK, &words, scripts[1].as_bytes()));
+    assert_eq!(status, 0, "{errors}");
+    let (calls, bounds) = text.split_once("\nright marks ").unwrap();
+    let (marks, bounds) = bounds.split_once('\n').unwrap();
+    assert!(!calls.contains(" by "), "{calls}");
+    let bounds = bounds.lines().filter(|line| line.contains(" by "));
+    (
+        marks.to_owned(),
+        bounds.map(|line| format!("{line}\n")).collect(),
+    )
+}
+
+// A receiver that reads nothing: so much is lost as does not fit, and nothing before the bound.
+#[test]
+fn the_bound_of_the_chips_is_the_least_delay_with_a_loss() {
+    for (chip, level, size, held) in [
+        ("16750", "14", 64, 56),
+        ("16750", "8", 64, 32),
+        ("16950", "14", 128, 120),
+    ] {
+        for ticks in [2, 4, 10] {
+            let head = format!(
+                "chip {chip} {ticks} 400\nlimit 400\ninit {level} 9600 nocts 00 8\nset-modem-control 22\n"
+            );
+            let bytes = "41".repeat(64);
+            let left = format!(
+                "{head}next\ntick 300\nnext\nsend-exact {bytes}\nsend-exact {bytes}\nsend-exact {bytes}\n"
+            );
+            let right = format!("{head}next\ntick 4000\nnext\n");
+            // 2 d / t is then as many as the FIFO has room for beyond the level, one less, and one more.
+            let least = (size - held) * ticks / 2;
+            let is_lost = |delay: u64| {
+                let (marks, bounds) = bounded("auto", [&left, &right], delay);
+                let more = 2 * delay / ticks;
+                let needed = held + 1 + more;
+                let verdict = if needed <= size { "kept" } else { "not kept" };
+                let line = format!(
+                    "left to right by the chips: {held} + 1 + {more} = {needed}, FIFO {size}: {verdict}\n"
+                );
+                assert!(bounds.starts_with(&line), "{bounds}");
+                assert_eq!(needed > size, marks.contains('x'), "{bounds}{marks}");
+                marks.contains('x')
+            };
+            assert!(!is_lost(least - 1), "{chip} {level} {ticks}");
+            assert!(is_lost(least), "{chip} {level} {ticks}");
+        }
+    }
+}
+
+// The right end takes nothing, and tells XOFF with so high a mark. The left one holds its ring once it obeys.
+#[test]
+fn the_bound_of_xoff_is_by_what_comes_until_it_is_obeyed() {
+    let script = |init: &str, calls: &str| {
+        let rings = "chip 16550a 4 400\nlimit 200\nrings 64 64\n";
+        format!("{rings}init {init} 9600 nocts {calls}")
+    };
+    let serves = |calls: &str| format!("next\ntick 20\nnext\nhandle 8\n{calls}\n").repeat(30);
+    let bytes = "41".repeat(64);
+    let left = script(
+        "1",
+        &format!("0b 8\nqueue {bytes}\n{}", serves("obey-xoff\nhandle 8")),
+    );
+    for (mark, verdict) in [(40, "kept"), (10, "not kept")] {
+        let right = script(
+            "1",
+            &format!("0b 8\n{}", serves(&format!("adjust-xoff {mark} 64"))),
+        );
+        let (marks, bounds) = bounded(&format!("xoff-{mark}"), [&left, &right], 3);
+        assert!(!marks.contains('x'), "{marks}");
+        let (sum, compared) = bounds.split_once(" = ").unwrap();
+        let parts = sum.strip_prefix("left to right by XOFF: ").unwrap();
+        let parts: Vec<u32> = parts
+            .split(" + ")
+            .map(|part| part.parse().unwrap())
+            .collect();
+        let needed: u32 = parts.iter().sum();
+        assert_eq!(compared, format!("{needed}, mark {mark}: {verdict}\n"));
+        // No urgent byte, and one more in the transmitter than the FIFO holds.
+        assert_eq!(parts[2..], [0, 1]);
+        assert!(parts[0] > 0 && parts[1] > 0, "{bounds}");
+    }
+}
+
+#[test]
+fn a_picture_has_no_bounds() {
+    let (status, _, errors) = run_link(&["--picture", "--bounds", HELLO[0], HELLO[1]], b"");
+    let cause = "a picture has no bounds: leave one of the two out\n";
+    assert_eq!((status, errors.as_str()), (2, cause));
 }
 
 #[test]

@@ -46,7 +46,7 @@ fn an_imported_log_says_the_same() {
         ("seabios.ftrace", &["--irq", "4"]),
         ("opensbi.memory", &["--base", "0x10000000"]),
         ("table.csv", &["--port", "0x3f8"]),
-        ("monitor.words", &["--port", "0x3f8"]),
+        ("monitor.words", &["--port", "0x3f8", "--format", "words"]),
     ] {
         let bytes = log(name);
         let names = |output: &str| -> Vec<String> {
@@ -541,7 +541,7 @@ fn what_is_imported_is_what_was_written() {
                 }),
             ),
             (
-                vec!["--base", "0x9000"],
+                vec!["--base", "0x9000", "--format", "words"],
                 written(
                     &accesses,
                     "the machine begins\n",

@@ -31,8 +31,8 @@ fn broken_pipe() -> Stdio {
     let (reader, mut writer) = io::pipe().unwrap();
     drop(reader);
     for _ in 0..60_000 {
-        match writer.write(b"x") {
-            Ok(_) => thread::sleep(Duration::from_millis(1)),
+        match writer.write_all(b"x") {
+            Ok(()) => thread::sleep(Duration::from_millis(1)),
             Err(cause) => {
                 assert_eq!(cause.kind(), io::ErrorKind::BrokenPipe);
                 return writer.into();
@@ -106,6 +106,7 @@ fn a_full_disk_is_an_error() {
         ],
         &["timeline", "--recording", "recordings/uboot-x86.recording"],
         &["manual"],
+        &["budget"],
     ] {
         let child = started(GEESETRUNK, words, full());
         let output = child.wait_with_output().unwrap();
@@ -154,7 +155,7 @@ fn findings_of_a_recording_that_still_grows() {
     recording.write_all(b"w 7 5a\nr 7 00\n").unwrap();
     assert!(next().starts_with("-:4: difference: SCR reads 00"));
     drop(recording);
-    assert_eq!(next(), "-: 4 lines, 2 differences");
+    assert_eq!(next(), "-: 4 lines, with accesses alone, 2 differences");
     assert_eq!(child.wait().unwrap().code(), Some(1));
 }
 

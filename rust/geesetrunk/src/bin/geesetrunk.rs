@@ -2,6 +2,9 @@
 //! traces, for people: see `geesetrunk --help`.
 #![forbid(unsafe_code)]
 
+use geesetrunk::accepted::Accepted;
+use geesetrunk::budget::budget;
+use geesetrunk::census::{self, Request, Told};
 use geesetrunk::command_line::{Given, Reply, Shell, completions, manual_page, words};
 use geesetrunk::commands::{GEESETRUNK, Job};
 use geesetrunk::diff::diff;
@@ -11,18 +14,19 @@ use geesetrunk::explain::{explained, explanations};
 use geesetrunk::findings::{Format, Judging, judged, verified};
 use geesetrunk::import::import;
 use geesetrunk::judging::Judge;
-use geesetrunk::link::{Link, MOST_DELAY, USUAL_DELAY, link};
+use geesetrunk::link::{Link, LinkOutput, MOST_DELAY, USUAL_DELAY, link};
 use geesetrunk::log::Log;
 use geesetrunk::near::nearest;
 use geesetrunk::options::{import_of, known_of, number_in, value_of};
 use geesetrunk::page::print_page_of_log;
+use geesetrunk::port::base_in;
 use geesetrunk::sarif::Sarif;
 use geesetrunk::script::{Task, report};
 use geesetrunk::show::{Filter, REGISTERS, show};
 use geesetrunk::shrink::{Sought, shrink};
 use geesetrunk::stats::stats;
 use geesetrunk::streams::{Output, print, standard_output};
-use geesetrunk::terminal::Style;
+use geesetrunk::terminal::{Colour, Style, choose_colour};
 use geesetrunk::text::STANDARD_INPUT;
 use std::cell::RefCell;
 use std::io::{self, Write};
@@ -88,7 +92,9 @@ fn find(given: &Given, act: impl FnOnce(Format<'_>) -> Result<(), End>) -> Resul
 
 // Returns an error if a page is asked for, and something that it does not have.
 fn check_page(given: &Given) -> Result<(), End> {
-    let others = ["all", "settled", "json", "sarif", "text", "line", "last"];
+    let others = [
+        "all", "settled", "json", "sarif", "text", "line", "last", "allow", "baseline",
+    ];
     match others.into_iter().find(|other| given.has(other)) {
         Some(other) if given.has("html") => Err(End::failed(format!(
             "--html has a form of its own: leave --{other} out"
@@ -108,13 +114,27 @@ fn print_page(given: &Given, judge: Judge) -> Result<(), End> {
         is_settled: false,
         import: import_of(given)?,
         known: known_of(given)?,
+        accepted: &Accepted::default(),
     };
     print_page_of_log(file, &judging)
+}
+
+// Returns which findings are accepted.
+fn accepted_of(given: &Given) -> Result<Accepted, End> {
+    let mut accepted = Accepted::default();
+    if let Some(names) = given.value("allow") {
+        accepted.allow(names)?;
+    }
+    if let Some(file) = given.value("baseline") {
+        accepted.read_baseline(file)?;
+    }
+    Ok(accepted)
 }
 
 fn judge(given: &Given, judge: Judge) -> Result<(), End> {
     let (import, known) = (import_of(given)?, known_of(given)?);
     check_page(given)?;
+    let accepted = accepted_of(given)?;
     if given.has("html") {
         return print_page(given, judge);
     }
@@ -125,6 +145,7 @@ fn judge(given: &Given, judge: Judge) -> Result<(), End> {
             is_settled: given.has("settled"),
             import,
             known,
+            accepted: &accepted,
         };
         each(given, |file| judged(file, &judging))
     })
@@ -165,7 +186,7 @@ fn draw(given: &Given, file: &str, form: Form) -> Result<(), End> {
     let output = RefCell::new(Output::new(standard_output().map_err(End::unwritten)?));
     let mut log = Log::open(file, "timeline", &import, &output)?;
     let timeline = timeline_of(&excerpt, &mut log).map_err(|stop| log.ended(stop))?;
-    drop(log);
+    log.close();
     let mut output = output.into_inner();
     // The output keeps the cause of a failed write, and its end reports it.
     let _ = output.write_all(timeline.as_bytes());
@@ -217,11 +238,21 @@ fn play_link(given: &Given) -> Result<(), End> {
             return Err(End::failed(cause));
         }
     };
+    let output = match (given.has("picture"), given.has("bounds")) {
+        (false, false) => LinkOutput::Text,
+        (false, true) => LinkOutput::TextWithBounds,
+        (true, false) => LinkOutput::Picture,
+        (true, true) => {
+            return Err(End::failed(
+                "a picture has no bounds: leave one of the two out",
+            ));
+        }
+    };
     let operand = |index: usize| given.operands().get(index).map_or("", String::as_str);
     link(&Link {
         files: [operand(0), operand(1)],
         delay,
-        is_drawn: given.has("picture"),
+        output,
     })
 }
 
@@ -288,8 +319,17 @@ fn show_recording(given: &Given) -> Result<(), End> {
         to: value_of(given, "to", line, wants)?,
         bytes: given.has("bytes"),
     };
+    if filter.to.is_some_and(|to| to < filter.from) {
+        return Err(End::failed("--to is before --from: there is no such line"));
+    }
     let import = import_of(given)?;
-    each(given, |file| show(file, &import, &filter))
+    let are_several = given.operands().len() > 1;
+    each(given, |file| {
+        if are_several {
+            print(format!("{file}:\n").as_bytes())?;
+        }
+        show(file, &import, &filter)
+    })
 }
 
 fn compare(given: &Given) -> Result<(), End> {
@@ -306,25 +346,60 @@ fn shrink_recording(given: &Given) -> Result<(), End> {
     each(given, |file| shrink(file, &import, &sought))
 }
 
-// Explains a name, or lists all names.
+// Asks the chip at a port, or judges a recording of that.
+fn take_census(given: &Given) -> Result<(), End> {
+    let told = match given.has("json") {
+        true => Told::Json,
+        false => Told::Table,
+    };
+    let of_port = ["device", "record", "even-if-used"];
+    match (given.operands(), given.value("judge")) {
+        ([], None) => Err(End::failed(
+            "name a port, as 2f8, or a recording by --judge",
+        )),
+        ([_, ..], Some(_)) => Err(End::failed(
+            "--judge reads a recording and asks no port: leave the port out",
+        )),
+        ([], Some(file)) => match of_port.into_iter().find(|flag| given.has(flag)) {
+            Some(flag) => Err(End::failed(format!(
+                "--judge reads a recording and asks no port: leave --{flag} out"
+            ))),
+            None => census::judge(file, told),
+        },
+        ([port, ..], None) => {
+            let request = Request {
+                base: base_in(port)?,
+                device: given.value("device").unwrap_or("/dev/port"),
+                record: given.value("record"),
+                is_forced: given.has("even-if-used"),
+            };
+            census::ask(&request, told)
+        }
+    }
+}
+
+// Explains names, or lists all of them.
 fn explain(given: &Given) -> Result<(), End> {
-    let Some(name) = given.operands().first() else {
+    if given.operands().is_empty() {
         let width = explanations().map(|row| row.name.len()).max().unwrap_or(0);
         let rows: String = explanations()
             .map(|row| format!("{:width$}  {}\n", row.name, row.kind))
             .collect();
         return print(rows.as_bytes());
-    };
-    match explained(name) {
-        Ok(row) => print(row.to_string().as_bytes()),
-        Err(near) => {
+    }
+    // Nothing is explained if a name is none.
+    let mut texts = Vec::new();
+    for name in given.operands() {
+        let row = explained(name).map_err(|near| {
             let tip = near.map_or(String::new(), |near| format!(". A similar name is {near}"));
             let all = "geesetrunk explain lists all names";
-            Err(End::failed(format!(
+            End::failed(format!(
                 "no finding and no error is called '{name}'{tip}. {all}"
-            )))
-        }
+            ))
+        })?;
+        texts.push(row.to_string());
     }
+    print(texts.join("\n").as_bytes())
 }
 
 fn complete(given: &Given) -> Result<(), End> {
@@ -336,6 +411,10 @@ fn complete(given: &Given) -> Result<(), End> {
 }
 
 fn run(job: Job, given: &Given) -> Result<(), End> {
+    let wants = "auto, always or never";
+    if let Some(colour) = value_of(given, "color", Colour::named, wants)? {
+        choose_colour(colour);
+    }
     match job {
         Job::Report(task) => each(given, |file| report(task, file)),
         Job::Timeline => timeline(given),
@@ -353,7 +432,9 @@ fn run(job: Job, given: &Given) -> Result<(), End> {
         }
         Job::Diff => compare(given),
         Job::Shrink => shrink_recording(given),
+        Job::Census => take_census(given),
         Job::Explain => explain(given),
+        Job::Budget => print(budget(given)?.as_bytes()),
         Job::Completions => complete(given),
         Job::Manual => print(manual_page(&GEESETRUNK).as_bytes()),
     }

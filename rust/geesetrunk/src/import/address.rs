@@ -92,6 +92,8 @@ const MOST_GROUPS: usize = 6;
 pub struct Seen {
     /// How many of its lines are of the chip.
     pub of_chip: u64,
+    /// How many others say something, which is left out.
+    pub left_out: u64,
     // The first addresses of eight registers, each with how often it was accessed.
     others: Vec<(u64, u64)>,
 }

@@ -159,29 +159,41 @@ fn add<'a>(
     Ok(())
 }
 
+/// Takes each member of an object of JSON in a line: its name and its value. A text has no quotes, and what is escaped in it stays so.
+///
+/// # Errors
+///
+/// Where the line is no object, or why a member is refused.
+pub fn each_member<'a>(
+    line: &'a [u8],
+    mut take: impl FnMut(&'a [u8], &'a [u8]) -> Result<(), Refusal>,
+) -> Result<(), Refusal> {
+    let mut rest = Rest { line, rest: line };
+    rest.expect(b'{')?;
+    if rest.takes(b'}') {
+        return Ok(());
+    }
+    loop {
+        let name = rest.text()?;
+        rest.expect(b':')?;
+        take(name, rest.value()?)?;
+        if !rest.takes(b',') {
+            return rest.expect(b'}');
+        }
+    }
+}
+
 impl Format for Json {
     fn rewrite(&mut self, line: &[u8], out: &mut Vec<u8>) -> Result<(), Refusal> {
         // A list of objects has its brackets in lines of their own.
         if matches!(line.trim_ascii(), b"" | b"[" | b"]" | b"],") || line.starts_with(b"#") {
             return Ok(());
         }
-        let mut rest = Rest { line, rest: line };
         let mut fields = Fields::default();
-        rest.expect(b'{')?;
-        if !rest.takes(b'}') {
-            loop {
-                let name = rest.text()?;
-                rest.expect(b':')?;
-                let value = rest.value()?;
-                if let Some(role) = Role::named(name) {
-                    add(line, role, value, &mut fields)?;
-                }
-                if !rest.takes(b',') {
-                    break;
-                }
-            }
-            rest.expect(b'}')?;
-        }
+        each_member(line, |name, value| match Role::named(name) {
+            Some(role) => add(line, role, value, &mut fields),
+            None => Ok(()),
+        })?;
         if fields.is_other_event() {
             return Ok(());
         }

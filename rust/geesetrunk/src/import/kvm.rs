@@ -46,9 +46,14 @@ fn event_name(word: &[u8]) -> Option<&[u8]> {
     name.starts_with(b"kvm_").then_some(name)
 }
 
-/// Returns whether this is a line with an event of KVM, or one that ftrace begins with.
+/// Returns whether this is a line with an event of KVM.
 pub(super) fn is_line(line: &[u8]) -> bool {
-    line.starts_with(b"# tracer:") || words(line).any(|word| event_name(word).is_some())
+    words(line).any(|word| event_name(word).is_some())
+}
+
+/// Returns whether this is the comment that ftrace begins with.
+pub(super) fn is_tracer(line: &[u8]) -> bool {
+    line.starts_with(b"# tracer:")
 }
 
 // Returns whether events are missing here, by the words of ftrace and of perf.

@@ -2,42 +2,15 @@
 
 use super::{Import, Kind};
 use crate::end::End;
-use crate::judging::Stop;
+use crate::judging::{Stop, each_entry};
 use crate::log::Log;
+use crate::resets::Next;
 use crate::streams::{Output, standard_output};
 use std::cell::RefCell;
-use std::io::{self, BufRead, BufReader, Write};
-use uart_judges::recording::RecordingError;
+use std::io::Write;
 
-// How much is read at a time.
-const CHUNK: usize = 65_536;
-
-// Writes the lines that say something.
-fn write_lines(log: &mut Log<'_>, output: &RefCell<Output<impl Write>>) -> Result<(), Stop> {
-    let unread = |cause| Stop::Recording(RecordingError::Unread(cause));
-    let mut reader = BufReader::with_capacity(CHUNK, log);
-    let mut line = Vec::new();
-    let mut has_line = false;
-    loop {
-        line.clear();
-        if reader.read_until(b'\n', &mut line).map_err(unread)? == 0 {
-            break;
-        }
-        if line.trim_ascii().is_empty() {
-            continue;
-        }
-        has_line = true;
-        let written = output.borrow_mut().write_all(&line);
-        written.map_err(Stop::Output)?;
-    }
-    if has_line {
-        Ok(())
-    } else {
-        Err(Stop::NoAccess)
-    }
-}
-
-/// Prints the log of this name as a recording, without the lines that say nothing about the chip.
+/// Prints the log of this name as a recording, without the lines that say nothing about the chip. What the judges refuse is refused here
+/// too: each line that is printed was read as they read it.
 ///
 /// # Errors
 ///
@@ -46,15 +19,18 @@ pub fn import(file: &str, import: &Import) -> Result<(), End> {
     let output = RefCell::new(Output::new(standard_output().map_err(End::unwritten)?));
     let mut log = Log::open(file, "import", import, &output)?;
     let kind = log.kind();
-    let head = match kind {
-        Kind::Recording => Ok(()),
-        kind => writeln!(output.borrow_mut(), "# {file}, read as {kind}"),
-    };
-    let outcome = head
-        .map_err(|cause: io::Error| Stop::Output(cause))
-        .and_then(|()| write_lines(&mut log, &output));
+    let mut head = (kind != Kind::Recording).then(|| format!("# {file}, read as {kind}\n"));
+    let outcome = each_entry(&mut log, |next| {
+        let head = head.take().unwrap_or_default();
+        let mut output = output.borrow_mut();
+        let written = match next {
+            Next::Entry(entry) => writeln!(output, "{head}{entry}"),
+            Next::Reset(_) => writeln!(output, "{head}z"),
+        };
+        written.map_err(Stop::Output)
+    });
     let outcome = outcome.map_err(|stop| log.ended(stop));
-    drop(log);
+    log.close();
     output.into_inner().finish().map_err(End::unwritten)?;
-    outcome
+    outcome.map(|_| ())
 }

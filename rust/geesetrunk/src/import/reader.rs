@@ -1,10 +1,11 @@
 //! Opens a log, finds out its kind, and reads it as a recording.
 
 use super::csv::Csv;
-use super::detect::kind_of;
+use super::detect::{Detector, Guess, Shown};
+use super::encoding::Encoding;
 use super::json::Json;
 use super::kvm::Kvm;
-use super::plain::Plain;
+use super::plain::{self, Plain};
 use super::qemu::Memory;
 use super::refusal::{Refusal, Refused};
 use super::sigrok::Sigrok;
@@ -29,6 +30,7 @@ pub struct Imported<R> {
     rest: Vec<u8>,
     chunk: Vec<u8>,
     number: u64,
+    seen: Rc<RefCell<Seen>>,
     is_at_end: bool,
     // The lines of the recording, and how much of them was given.
     out: Vec<u8>,
@@ -38,13 +40,14 @@ pub struct Imported<R> {
 }
 
 impl<R: Read> Imported<R> {
-    fn new(reader: R, format: Box<dyn Format>) -> Self {
+    fn new(reader: R, format: Box<dyn Format>, seen: Rc<RefCell<Seen>>) -> Self {
         Imported {
             reader,
             format,
             rest: Vec::new(),
             chunk: vec![0; CHUNK],
             number: 0,
+            seen,
             is_at_end: false,
             out: Vec::new(),
             given: 0,
@@ -75,6 +78,9 @@ impl<R: Read> Imported<R> {
             self.out.truncate(before);
             self.failure = Some(Refused::new(self.number, line, refusal));
             return;
+        }
+        if self.out.len() == before && !line.is_empty() && !line.starts_with(b"#") {
+            self.seen.borrow_mut().left_out += 1;
         }
         self.out.push(b'\n');
     }
@@ -144,22 +150,39 @@ pub struct Opened<'a> {
     pub reader: Box<dyn Read + 'a>,
     /// Its kind.
     pub kind: Kind,
+    /// What its kind rests on, if that is only guessed.
+    pub guess: Option<Guess>,
     /// What was seen in it so far. Of a recording nothing is counted.
     pub seen: Rc<RefCell<Seen>>,
+}
+
+/// Why a log is not opened.
+#[derive(Debug)]
+pub enum Unopened {
+    /// Its reader failed.
+    Unread(io::Error),
+    /// It is no text, or in another encoding.
+    Encoded(Encoding),
+    /// Some lines are accesses in words, and too few for a guess.
+    Unsure(Guess),
+}
+
+impl From<io::Error> for Unopened {
+    fn from(cause: io::Error) -> Self {
+        Unopened::Unread(cause)
+    }
 }
 
 // What is read of a log before its kind is known.
 struct Head {
     bytes: Vec<u8>,
-    kind: Option<Kind>,
+    shown: Shown,
 }
 
 // Reads up to the first line that shows what it is.
 fn head_of(reader: &mut impl Read) -> io::Result<Head> {
-    let mut head = Head {
-        bytes: Vec::new(),
-        kind: None,
-    };
+    let mut bytes = Vec::new();
+    let mut detector = Detector::new();
     let mut looked = 0;
     let mut chunk = vec![0; CHUNK];
     loop {
@@ -168,12 +191,13 @@ fn head_of(reader: &mut impl Read) -> io::Result<Head> {
             Err(cause) if cause.kind() == ErrorKind::Interrupted => continue,
             Err(cause) => return Err(cause),
         };
-        head.bytes.extend_from_slice(&chunk[..count]);
-        if looked == 0 && head.bytes.starts_with(BYTE_ORDER_MARK) {
-            head.bytes.drain(..BYTE_ORDER_MARK.len());
+        bytes.extend_from_slice(&chunk[..count]);
+        if looked == 0 && bytes.starts_with(BYTE_ORDER_MARK) {
+            bytes.drain(..BYTE_ORDER_MARK.len());
         }
-        while head.kind.is_none() {
-            let rest = &head.bytes[looked..];
+        let mut is_decided = false;
+        while !is_decided {
+            let rest = &bytes[looked..];
             let end = rest.iter().position(|&byte| byte == b'\n');
             let line = match end {
                 Some(end) => &rest[..end],
@@ -181,11 +205,12 @@ fn head_of(reader: &mut impl Read) -> io::Result<Head> {
                 None if count == 0 && !rest.is_empty() => rest,
                 None => break,
             };
-            head.kind = kind_of(line.strip_suffix(b"\r").unwrap_or(line));
+            is_decided = detector.look_at(line);
             looked += end.map_or(rest.len(), |end| end + 1);
         }
-        if head.kind.is_some() || count == 0 || head.bytes.len() >= CHUNK {
-            return Ok(head);
+        if is_decided || count == 0 || bytes.len() >= CHUNK {
+            let shown = detector.shown();
+            return Ok(Head { bytes, shown });
         }
     }
 }
@@ -201,15 +226,24 @@ fn has_carriage_returns(bytes: &[u8]) -> bool {
 ///
 /// # Errors
 ///
-/// The error of the reader.
-pub fn open_log<'a>(mut reader: impl Read + 'a, import: &Import) -> io::Result<Opened<'a>> {
+/// The error of the reader, what the log is if it is no text, or what speaks for a guess that is too weak.
+pub fn open_log<'a>(mut reader: impl Read + 'a, import: &Import) -> Result<Opened<'a>, Unopened> {
     let head = head_of(&mut reader)?;
-    let kind = import.kind.or(head.kind).unwrap_or(Kind::Recording);
-    let has_time = head
+    if let Some(encoding) = Encoding::of(&head.bytes) {
+        return Err(Unopened::Encoded(encoding));
+    }
+    let (kind, guess) = match (import.kind, head.shown) {
+        (Some(kind), _) | (None, Shown::Exact(kind)) => (kind, None),
+        (None, Shown::Words(guess)) => (Kind::Words, Some(guess)),
+        (None, Shown::Unsure(guess)) => return Err(Unopened::Unsure(guess)),
+        (None, Shown::Nothing) => (Kind::Recording, None),
+    };
+    // A log of QEMU may have processors that are reset, wherever it was cut.
+    let is_rewritten = head
         .bytes
         .split(|&byte| byte == b'\n')
-        .any(|line| super::plain::without_time(line).0.is_some());
-    let is_as_is = kind == Kind::Recording && !has_carriage_returns(&head.bytes) && !has_time;
+        .any(|line| plain::without_time(line).0.is_some() || plain::is_of_qemu(line));
+    let is_as_is = kind == Kind::Recording && !has_carriage_returns(&head.bytes) && !is_rewritten;
     let seen = Rc::new(RefCell::new(Seen::default()));
     let whole = Cursor::new(head.bytes).chain(reader);
     let (window, counted) = (import.window, Rc::clone(&seen));
@@ -219,10 +253,11 @@ pub fn open_log<'a>(mut reader: impl Read + 'a, import: &Import) -> io::Result<O
             return Ok(Opened {
                 reader: Box::new(whole),
                 kind,
+                guess,
                 seen,
             });
         }
-        Kind::Recording => Box::new(Plain),
+        Kind::Recording => Box::new(Plain::default()),
         Kind::Memory => Box::new(Memory::new(window, counted)),
         Kind::Kvm => Box::new(Kvm::new(window, counted)),
         Kind::Csv => Box::new(Csv::new(window, counted)),
@@ -231,8 +266,9 @@ pub fn open_log<'a>(mut reader: impl Read + 'a, import: &Import) -> io::Result<O
         Kind::Words => Box::new(Words::new(window, counted)),
     };
     Ok(Opened {
-        reader: Box::new(Imported::new(whole, format)),
+        reader: Box::new(Imported::new(whole, format, Rc::clone(&seen))),
         kind,
+        guess,
         seen,
     })
 }
@@ -289,6 +325,41 @@ mod tests {
         log.extend(vec![b'r'; 300_000]);
         let (_, refused) = import(&log);
         assert_eq!(refused.unwrap_err().refusal.cause, "too long");
+    }
+
+    #[test]
+    fn lines_that_say_nothing_are_counted() {
+        let log = b"read addr=5 val=0x60\n\n# a\nbye\nwrite addr=0 val=41\nbye\n";
+        let mut opened = open_log(&log[..], &Import::default()).unwrap();
+        opened.reader.read_to_end(&mut Vec::new()).unwrap();
+        let seen = opened.seen.borrow();
+        assert_eq!((seen.of_chip, seen.left_out), (2, 2));
+    }
+
+    #[test]
+    fn what_is_no_text_is_named() {
+        for (log, encoding) in [
+            (&b"\x1f\x8b\x08\0"[..], Encoding::Gzip),
+            (b"\xff\xfer\0 \0", Encoding::Utf16),
+        ] {
+            let outcome = open_log(log, &Import::default()).err();
+            assert!(
+                matches!(outcome, Some(Unopened::Encoded(known)) if known == encoding),
+                "{outcome:?}"
+            );
+        }
+    }
+
+    #[test]
+    fn a_weak_guess_is_refused_unless_it_is_named() {
+        let log = b"hello\nread addr=5 val=0x60\nbye\n";
+        let outcome = open_log(&log[..], &Import::default()).err();
+        assert!(matches!(outcome, Some(Unopened::Unsure(_))), "{outcome:?}");
+        let named = Import {
+            kind: Some(Kind::Words),
+            ..Import::default()
+        };
+        assert!(open_log(&log[..], &named).is_ok());
     }
 
     #[test]

@@ -1,11 +1,13 @@
 //! What `sigrok-cli` prints of its decoders: `60-140 uart-1: 41`, with `--protocol-decoder-samplenum` or without.
 //!
-//! A serial decoder with `-A uart=rx-data` has the characters that arrive. Two parallel decoders at one clock have a bus: the first has
-//! the byte, and the second the offset in bits 0 to 2, and bit 3 set for a read. `sort -n` brings their lines together.
+//! A serial decoder with `-A uart=rx-data` has the characters that arrive. Its lines do not say in which direction a character goes: with
+//! `--protocol-decoder-ann-class` they do, as `uart-1: rx-data: 41`, and what goes out is left out. Two parallel decoders at one clock
+//! have a bus: the first has the byte, and the second the offset in bits 0 to 2, and bit 3 set for a read. `sort -n` brings their lines
+//! together.
 
 use super::address::Seen;
 use super::fields::{Fields, Space, Verb, Writer};
-use super::numbers::hexadecimal;
+use super::numbers::{decimal, hexadecimal};
 use super::refusal::Refusal;
 use super::{Format, Window};
 use std::cell::RefCell;
@@ -24,6 +26,8 @@ pub(super) struct Sigrok {
     writer: Writer,
     // The byte of the first parallel decoder that was read last, and its samples.
     byte: Option<(Vec<u8>, u64)>,
+    // The last sample of the last character without a direction.
+    character_end: u64,
 }
 
 // What a line has.
@@ -55,6 +59,23 @@ fn decoded_in(line: &[u8]) -> Option<Decoded<'_>> {
     })
 }
 
+// Returns the class of what a serial decoder says, if the line has it, and the text.
+fn class_in(text: &[u8]) -> (Option<&[u8]>, &[u8]) {
+    match text.windows(2).position(|pair| pair == b": ") {
+        Some(colon) => (Some(&text[..colon]), text[colon + 2..].trim_ascii()),
+        None => (None, text),
+    }
+}
+
+// Returns the first and the last sample of a line that has them.
+fn range_of(samples: &[u8]) -> Option<(u64, u64)> {
+    let hyphen = samples.iter().position(|&byte| byte == b'-')?;
+    Some((
+        decimal(&samples[..hyphen])?,
+        decimal(&samples[hyphen + 1..])?,
+    ))
+}
+
 /// Returns whether this is a line of a decoder.
 pub(super) fn is_line(line: &[u8]) -> bool {
     decoded_in(line).is_some()
@@ -66,7 +87,38 @@ impl Sigrok {
         Sigrok {
             writer: Writer::new(window, seen),
             byte: None,
+            character_end: 0,
         }
+    }
+
+    // Returns the byte of a character that arrives, or `None` for what else a serial decoder says. Two directions are two: what may be
+    // of either is refused.
+    fn arrived<'a>(
+        &mut self,
+        line: &[u8],
+        decoded: &Decoded<'a>,
+    ) -> Result<Option<(u64, &'a [u8])>, Refusal> {
+        const ONE_WAY: &str = "one direction: -A uart=rx-data, or --protocol-decoder-ann-class, which says it of each";
+        let (class, text) = class_in(decoded.text);
+        if class.is_some_and(|class| class != b"rx-data") {
+            return Ok(None);
+        }
+        if class.is_none() && decoded.text == b"Start bit" {
+            return Err(Refusal::at(line, decoded.text, "all annotations", ONE_WAY));
+        }
+        // Also bits, and what is wrong with a frame, are texts of this decoder.
+        if text.len() != BYTE_DIGITS {
+            return Ok(None);
+        }
+        if let (None, Some((first, last))) = (class, range_of(decoded.samples)) {
+            if first < self.character_end {
+                let cause = "two characters at once";
+                return Err(Refusal::at(line, decoded.samples, cause, ONE_WAY));
+            }
+            self.character_end = last;
+        }
+        let refused = || Refusal::at(line, decoded.text, "bad number", "a hexadecimal number");
+        Ok(Some((hexadecimal(text).ok_or_else(refused)?, text)))
     }
 }
 
@@ -83,13 +135,12 @@ impl Format for Sigrok {
         let refused = || Refusal::at(line, decoded.text, "bad number", "a hexadecimal number");
         let mut fields = Fields::default();
         match decoded.decoder {
-            // Also bits, and what is wrong with a frame, are texts of this decoder.
-            name if name.starts_with(b"uart-") && decoded.text.len() != BYTE_DIGITS => {
-                return Ok(());
-            }
             name if name.starts_with(b"uart-") => {
+                let Some(byte) = self.arrived(line, &decoded)? else {
+                    return Ok(());
+                };
                 fields.verb = Some(Verb::Arrive);
-                fields.value = Some((number.ok_or_else(refused)?, decoded.text));
+                fields.value = Some(byte);
             }
             b"parallel-1" => {
                 self.byte = Some((decoded.samples.to_vec(), number.ok_or_else(refused)?));
@@ -135,10 +186,29 @@ mod tests {
         let lines = [
             "60-140 uart-1: 41",
             "uart-1: 0D",
-            "uart-1: Stop bit",
+            "uart-1: Frame error",
             "uart-1: 1",
         ];
         assert_eq!(rewritten(&lines).unwrap(), "a 00 41\na 00 0d\n\n\n");
+    }
+
+    #[test]
+    fn two_directions_stay_two() {
+        let lines = [
+            "60-140 uart-1: rx-data: 41",
+            "80-160 uart-1: tx-data: 77",
+            "uart-1: tx-start: Start bit",
+            "150-230 uart-1: rx-data: 42",
+        ];
+        assert_eq!(rewritten(&lines).unwrap(), "a 00 41\n\n\na 00 42\n");
+        let refusal = rewritten(&["60-140 uart-1: 41", "80-160 uart-1: 77"]).unwrap_err();
+        assert_eq!(
+            (refusal.cause, refusal.column),
+            ("two characters at once", 1)
+        );
+        let refusal = rewritten(&["uart-1: Start bit"]).unwrap_err();
+        assert_eq!((refusal.cause, refusal.column), ("all annotations", 9));
+        assert!(refusal.wants.contains("-A uart=rx-data"));
     }
 
     #[test]

@@ -7,7 +7,8 @@
 //! ```
 //!
 //! A word says whether it is a read or a write. A number behind a name is what the name says; of numbers without a name the first is
-//! the register, and the second the byte. All are hexadecimal, with or without `0x`, as they are in a recording.
+//! the register, and the second the byte. All are hexadecimal, with or without `0x`, as they are in a recording. Without a name and
+//! without `0x` a number counts right behind the verb alone: in `read error 5 from 60` nothing is accessed.
 
 use super::address::Seen;
 use super::fields::{Fields, Role, Space, Verb, Writer};
@@ -62,6 +63,8 @@ fn fields_in(line: &[u8]) -> Result<Option<Fields<'_>>, Refusal> {
         ..Fields::default()
     };
     let mut role = None;
+    // Whether another word stands between the verb and what follows.
+    let mut is_apart = false;
     for word in words(rest) {
         if fields.verb.is_none() {
             fields.verb = Verb::named(word);
@@ -86,8 +89,12 @@ fn fields_in(line: &[u8]) -> Result<Option<Fields<'_>>, Refusal> {
                 let wants = "a hexadecimal number, with or without 0x";
                 return Err(Refusal::at(line, word, "bad number", wants));
             }
+            is_apart |= word.iter().any(u8::is_ascii_alphanumeric);
             continue;
         };
+        if taken.is_none() && is_apart && !has_prefix(word) {
+            continue;
+        }
         match taken {
             Some(Role::Address) => fields.address = Some((number, word)),
             Some(Role::Value) => fields.value = Some((number, word)),
@@ -112,6 +119,16 @@ fn place<'a>(number: u64, word: &'a [u8], fields: &mut Fields<'a>) {
     }
 }
 
+fn has_prefix(word: &[u8]) -> bool {
+    word.starts_with(b"0x") || word.starts_with(b"0X")
+}
+
+// Returns a byte of a line that no terminal should get. A tab parts words.
+fn control_in(line: &[u8]) -> Option<usize> {
+    line.iter()
+        .position(|byte| byte.is_ascii_control() && *byte != b'\t')
+}
+
 // Returns whether a line has what its verb needs.
 fn is_whole(fields: &Fields<'_>) -> bool {
     match fields.verb {
@@ -129,10 +146,17 @@ fn begins_with_verb(line: &[u8]) -> bool {
     words.next().is_some_and(|word| Verb::named(word).is_some())
 }
 
-/// Returns whether this line is an access, with all that it needs.
-pub(super) fn is_line(line: &[u8]) -> bool {
-    let is_access = |fields: &Fields<'_>| matches!(fields.verb, Some(Verb::Read | Verb::Write));
-    matches!(fields_in(line), Ok(Some(fields)) if is_access(&fields) && is_whole(&fields))
+/// Returns whether this line is an access beyond doubt: it has all that an access needs, and a name or `0x` says which number is the
+/// register and which the byte. Two bare numbers may be anything.
+pub(super) fn is_certain(line: &[u8]) -> bool {
+    let Ok(Some(fields)) = fields_in(line) else {
+        return false;
+    };
+    let is_access = matches!(fields.verb, Some(Verb::Read | Verb::Write)) && is_whole(&fields);
+    let is_named = words(line).any(|word| {
+        has_prefix(word) || matches!(Role::named(word), Some(Role::Address | Role::Value))
+    });
+    is_access && is_named && control_in(line).is_none()
 }
 
 impl Words {
@@ -159,6 +183,10 @@ impl Format for Words {
         let is_access = is_whole(&fields) || has_number && begins_with_verb(line);
         if !is_access {
             return Ok(());
+        }
+        if let Some(place) = control_in(line) {
+            let wants = format!("printable text, and not the byte {:02x}", line[place]);
+            return Err(Refusal::at(line, &line[place..], "bad byte", wants));
         }
         self.writer.write(Space::Any, line, &fields, out)
     }
@@ -201,6 +229,8 @@ mod tests {
             ("the guest has booted", ""),
             ("booted in 5 seconds", ""),
             ("write addr=0x70 val=0x41", ""),
+            ("sshd[33]: read error 5 from 60", ""),
+            ("cron[44]: write failed 2 07", ""),
         ] {
             let port = (line.contains("3f") || line.contains("0x70")).then_some(0x3f8);
             assert_eq!(rewritten(port, line).unwrap(), said, "{line}");
@@ -214,6 +244,7 @@ mod tests {
             ("r 9 60", "bad offset", 3),
             ("read addr=five val=0x60", "bad number", 11),
             ("w 0 0x141", "bad byte", 5),
+            ("r 5 \x07 60", "bad byte", 5),
         ] {
             let refusal = rewritten(None, line).unwrap_err();
             assert_eq!((refusal.cause, refusal.column), (cause, column), "{line}");

@@ -1,4 +1,7 @@
 //! One end of a cable: its chip, its clock, and what happens at it.
+//!
+//! The chip is the one of which it is proved what a cable carries. There a call finds the lines of the other end as they are when it
+//! begins. Here they come in the middle of calls too, some ticks after they have left.
 
 use super::cable::{Cargo, Ways};
 use crate::heap;
@@ -6,11 +9,12 @@ use crate::moments::{Arrival, Happened, Moment, Seen, register_of};
 use crate::repeats::{Merging, Shown};
 use geesetrunk_kit::alloc::AllocError;
 use std::convert::Infallible;
-use uart_chip::controlling::ChipParts;
+use uart_16550::backend::Backend;
 use uart_chip::{ArrivalMark, Event, Uart};
 use uart_language::Script;
+use uart_link::CabledChip;
 use uart_spec::access::Access;
-use uart_spec::registers::{LSR, MCR, MSR};
+use uart_spec::registers::LSR;
 
 /// When a call was made, and what happened meanwhile.
 #[derive(Clone, Copy, Debug, PartialEq, Eq)]
@@ -24,11 +28,11 @@ pub struct Span {
 /// An end of a cable.
 pub struct End {
     side: usize,
-    chip: Uart,
+    chip: CabledChip,
     time: u64,
-    // How many bytes have left the chip, and how many have arrived.
-    sent: usize,
-    arrived: usize,
+    // The ticks at which bytes have left the chip, and at which they have arrived.
+    sent: Vec<u64>,
+    arrived: Vec<u64>,
     // The modem lines that the other end was given last.
     given: u8,
     current: Moment,
@@ -39,17 +43,6 @@ pub struct End {
     spans: Vec<Span>,
 }
 
-// Returns the modem lines that a chip gives to the other end: RTS is CTS, and DTR is DSR and CD.
-// Automatic flow control may turn RTS off. In loopback a chip turns its outputs off.
-fn lines_from(chip: &Uart) -> MSR {
-    let mut lines = MSR::empty();
-    if !chip.is_loopback() {
-        lines.set(MSR::CTS, chip.rts_output());
-        lines.set(MSR::DSR | MSR::CD, chip.mcr().contains(MCR::DTR));
-    }
-    lines
-}
-
 impl End {
     /// Returns an end with the chip of a script, at which at most so many characters arrive.
     ///
@@ -57,7 +50,7 @@ impl End {
     ///
     /// `AllocError` if out of memory.
     pub fn new(side: usize, script: &Script, arrivals: usize) -> Result<Self, AllocError> {
-        let chip = Uart::new_sized(
+        let chip = CabledChip::new_sized(
             heap(),
             script.chip(),
             script.fifo_size(),
@@ -65,7 +58,9 @@ impl End {
             script.wire_capacity(),
             arrivals,
             script.cut(),
-        )?;
+        );
+        // A script has no chip that is refused, so memory is what is left.
+        let chip = chip.map_err(|_| AllocError)?;
         Ok(End {
             side,
             chip: match script.has_auto_flow() {
@@ -73,8 +68,8 @@ impl End {
                 false => chip,
             },
             time: 0,
-            sent: 0,
-            arrived: 0,
+            sent: Vec::new(),
+            arrived: Vec::new(),
             given: 0,
             current: Moment::default(),
             merging: Merging::default(),
@@ -96,12 +91,22 @@ impl End {
 
     /// Returns the chip.
     pub fn chip(&self) -> &Uart {
-        &self.chip
+        self.chip.chip()
     }
 
     /// Returns what became of each character that has left the other end.
     pub fn marks(&self, left_other: usize) -> impl Iterator<Item = ArrivalMark> {
-        (0..left_other).filter_map(|index| self.chip.receiver().mark(index))
+        (0..left_other).filter_map(|index| self.chip.mark(index))
+    }
+
+    /// Returns how many bytes have left the chip by this tick.
+    pub fn sent_by(&self, tick: u64) -> usize {
+        self.sent.partition_point(|&sent| sent <= tick)
+    }
+
+    /// Returns how many bytes have arrived by this tick.
+    pub fn arrived_by(&self, tick: u64) -> usize {
+        self.arrived.partition_point(|&arrived| arrived <= tick)
     }
 
     /// Returns the moments, and when each call was made.
@@ -110,8 +115,8 @@ impl End {
     }
 
     fn count(&mut self) {
-        self.current.held = self.chip.transmitter().held_len();
-        self.current.waiting = self.chip.receiver().waiting_len();
+        self.current.held = self.chip.held_len();
+        self.current.waiting = self.chip.waiting_len();
     }
 
     // Keeps the current moment if anything happened in it, and starts another.
@@ -164,9 +169,9 @@ impl End {
         self.close();
         self.time += 1;
         self.current.time = self.time;
-        self.chip.tick();
-        if let Some(&byte) = self.chip.transmitter().wire().get(self.sent) {
-            self.sent += 1;
+        self.chip.perform(Event::Ticks(1));
+        if let Some(&byte) = self.chip.wire().get(self.sent.len()) {
+            self.sent.push(self.time);
             self.current.happened.sent = Some(byte);
             ways.send(1 - self.side, self.time, Cargo::Byte(byte));
         }
@@ -190,9 +195,9 @@ impl End {
                 self.current.happened.arrival = Some(Arrival {
                     byte,
                     errors: LSR::empty(),
-                    number: self.arrived,
+                    number: self.arrived.len(),
                 });
-                self.arrived += 1;
+                self.arrived.push(self.time);
             }
             Cargo::Lines(lines) => {
                 if self.current.happened.lines.is_some() {
@@ -215,9 +220,15 @@ impl End {
         self.close();
     }
 
+    // The next access takes place now: its tick has passed. Returns whether DLAB is set.
+    fn reach_access(&mut self) -> bool {
+        self.chip.perform(Event::Access);
+        self.chip().is_dlab_set()
+    }
+
     /// Reads a register.
     pub fn read(&mut self, offset: u8) -> u8 {
-        let is_dlab_set = self.chip.is_dlab_set();
+        let is_dlab_set = self.reach_access();
         let value = self.chip.read(offset);
         self.note(Access::Read(offset.into(), value), is_dlab_set);
         value
@@ -225,14 +236,14 @@ impl End {
 
     /// Writes a register.
     pub fn write(&mut self, offset: u8, value: u8) {
-        let is_dlab_set = self.chip.is_dlab_set();
+        let is_dlab_set = self.reach_access();
         self.chip.write(offset, value);
         self.note(Access::Write(offset.into(), value), is_dlab_set);
     }
 
     /// Returns the modem lines that the other end is to be given, if they are others than before.
     pub fn new_lines(&mut self) -> Option<u8> {
-        let lines = lines_from(&self.chip).bits();
+        let lines = self.chip.lines().bits();
         let is_new = lines != self.given;
         self.given = lines;
         is_new.then_some(lines)

@@ -60,7 +60,7 @@ pub fn print_page_of_log(file: &str, judging: &Judging<'_>) -> Result<(), End> {
     let mut log = Log::over(file, &bytes[..], import)?;
     let mut is_wrong = false;
     let outcome = judge_recording(judging.judge, known, &mut log, |found| {
-        is_wrong |= found.kind.severity() != "note";
+        is_wrong |= matches!(found.kind.severity(), "warning" | "difference");
         Ok(())
     });
     outcome.map_err(|stop| log.ended(stop))?;

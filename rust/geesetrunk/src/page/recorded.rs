@@ -7,6 +7,7 @@ use crate::judging::{Found, Judge, Stop, each_entry, judge_recording};
 use crate::known::Known;
 use crate::log::Log;
 use crate::meaning::{Latch, words_of};
+use crate::resets::Next;
 use std::io;
 
 // The most findings, and the most entries, that are told. The others are counted.
@@ -39,17 +40,20 @@ impl Told {
     }
 }
 
-// Does something with a log of this name.
+// Does something with a log of this name. One that is not opened has nothing in the list of this name, and says why.
 fn with_log(
     name: &str,
     bytes: &[u8],
     import: &Import,
+    list: &str,
     act: impl FnOnce(&mut Log<'_>) -> String,
 ) -> String {
     match Log::over(name, bytes, import) {
         Ok(mut log) => act(&mut log),
-        // Bytes in memory can be read.
-        Err(_) => "null".into(),
+        Err(end) => {
+            let stop = Quoted(end.line().unwrap_or("out of memory")).to_string();
+            format!("{{\"kind\":\"unknown\",\"stop\":{stop},\"left\":0,\"{list}\":[]}}")
+        }
     }
 }
 
@@ -66,9 +70,11 @@ fn with_log(
 ///
 /// let found = findings("a.log", b"w 5 00\n", Judge::Audit, &Import::default(), &Known::default());
 /// assert!(found.contains(r#"[1,"note","lsr-written","#), "{found}");
+/// let found = findings("a.gz", b"\x1f\x8b\x08", Judge::Audit, &Import::default(), &Known::default());
+/// assert!(found.contains("it is compressed by gzip"), "{found}");
 /// ```
 pub fn findings(name: &str, bytes: &[u8], judge: Judge, import: &Import, known: &Known) -> String {
-    with_log(name, bytes, import, |log| {
+    with_log(name, bytes, import, "found", |log| {
         let mut told = Told::default();
         let mut tell = |found: &Found| -> io::Result<()> {
             let (kind, line, times) = (&found.kind, found.line, found.times);
@@ -87,9 +93,17 @@ pub fn findings(name: &str, bytes: &[u8], judge: Judge, import: &Import, known: 
 /// Returns what the lines of a log say, as an object of JSON. In its list `entries` each is a list: its line, its access, and its bits by
 /// their names.
 pub fn entries(name: &str, bytes: &[u8], import: &Import) -> String {
-    with_log(name, bytes, import, |log| {
+    with_log(name, bytes, import, "entries", |log| {
         let (mut told, mut latch) = (Told::default(), Latch::default());
-        let stop = each_entry(&mut *log, |entry| {
+        let stop = each_entry(&mut *log, |next| {
+            let entry = match next {
+                Next::Entry(entry) => entry,
+                Next::Reset(line) => {
+                    latch = Latch::default();
+                    told.push(|| format!("[{line},\"the chip was reset\",\"\"]"));
+                    return Ok(());
+                }
+            };
             let is_dlab_set = latch.is_set();
             latch.action(entry);
             told.push(|| {

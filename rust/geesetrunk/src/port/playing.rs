@@ -27,7 +27,7 @@ fn untraced(cause: io::Error) -> End {
 }
 
 // Returns how the program ends that cannot open the file of ports.
-fn unopened(cause: io::Error) -> End {
+pub(crate) fn unopened(cause: io::Error) -> End {
     match cause.kind() {
         ErrorKind::PermissionDenied => End::new(
             Status::NoPermission,

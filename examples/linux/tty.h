@@ -1,0 +1,61 @@
+/* SPDX-License-Identifier: MIT OR GPL-2.0-only */
+/* What the files of the module share: tty.c drives the chips that pnp.c, pci.c and ports.c find. */
+#ifndef U16550_TTY_H
+#define U16550_TTY_H
+
+#include <linux/device.h>
+#include <linux/pm.h>
+
+#define MOST_PORTS 8
+#define REGISTERS 8
+#define LAST_PORT 0xffff
+#define FREQUENCY 1843200		/* that of a PC */
+
+struct u16550_tty_chip {
+	unsigned long base;		/* its first I/O port */
+	unsigned int irq;		/* 0: a timer looks at the chip */
+	unsigned int frequency;		/* at its clock input */
+};
+
+/*
+ * Makes a terminal for the chip of a device, with the first number that is free. The device's driver data belong to it until it is removed.
+ * Returns 0 or an error: -ENODEV if the chip is not there, and then the device is left to another driver.
+ */
+int u16550_tty_add(struct device *device, const struct u16550_tty_chip *chip);
+
+/*
+ * The same with this number, for a chip that the user has named. If it is not there the terminal has no type, and `setserial` may move it
+ * to where one is.
+ */
+int u16550_tty_add_named(struct device *device, int number, const struct u16550_tty_chip *chip);
+
+/* Hangs up who uses the port of a device, and takes it away. */
+void u16550_tty_remove(struct device *device);
+
+/* For each driver of such devices. */
+extern const struct dev_pm_ops u16550_tty_sleep;
+
+/* Devices that firmware describes. A kernel without them has none. */
+#ifdef CONFIG_PNP
+int u16550_tty_begin_pnp(void);
+void u16550_tty_end_pnp(void);
+#else
+static inline int u16550_tty_begin_pnp(void) { return 0; }
+static inline void u16550_tty_end_pnp(void) { }
+#endif
+
+/* Cards whose numbers the user names. */
+#ifdef CONFIG_PCI
+int u16550_tty_begin_pci(void);
+void u16550_tty_end_pci(void);
+#else
+static inline int u16550_tty_begin_pci(void) { return 0; }
+static inline void u16550_tty_end_pci(void) { }
+#endif
+
+/* Devices that the user names. */
+bool u16550_tty_has_ports(void);
+int u16550_tty_begin_ports(void);
+void u16550_tty_end_ports(void);
+
+#endif
