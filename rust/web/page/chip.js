@@ -35,7 +35,8 @@ function transmitPath(state, about) {
     done.style.width = `${100 - (100 * left) / about.ticks}%`;
     shifting = make("div", { class: "shifting" }, done, make("span", {}, `${character(byte)} · ${counted(left, "tick")} → wire`));
   }
-  return make("div", { class: "path" }, make("span", {}, "transmit"), make("div", { class: "cells" }, ...row), shifting);
+  const said = `transmit: ${counted(held.length, "character")}${held.length ? `: ${held.map((byte) => character(parseInt(byte, 16))).join(" ")}` : ""}`;
+  return make("div", { class: "path" }, make("span", {}, "transmit"), make("div", { class: "cells", role: "img", "aria-label": said }, ...row), shifting);
 }
 
 function receivePath(state) {
@@ -47,7 +48,9 @@ function receivePath(state) {
   });
   if (state.fifo && state.waiting.length < state.trigger) row[state.trigger - 1].classList.add("trigger");
   const room = state.fifo ? `trigger at ${state.trigger}` : "no FIFO: room for 1";
-  return make("div", { class: "path" }, make("span", {}, "receive"), make("div", { class: "cells" }, ...row), make("span", {}, room));
+  const waiting = state.waiting.map(([byte, errors]) => character(byte) + (errors ? ` with ${namesOf("LSR", errors).join(", ")}` : ""));
+  const said = `receive: ${counted(waiting.length, "character")}${waiting.length ? `: ${waiting.join(" ")}` : ""}`;
+  return make("div", { class: "path" }, make("span", {}, "receive"), make("div", { class: "cells", role: "img", "aria-label": said }, ...row), make("span", {}, room));
 }
 
 // How many of the bytes that were sent are shown: the last ones.
@@ -112,7 +115,9 @@ function registers(state, old, accessed) {
     const name = register.toLowerCase();
     const bits = register === "ISR" ? interruptBits(state.isr, old.isr) : bitsOf(register, state[name], old[name]);
     const head = [make("b", {}, register), make("span", {}, hex(state[name]))];
-    return make("div", { class: classes("register", register === accessed && "accessed") }, ...head, ...bits);
+    const names = register === "ISR" ? [CAUSES[state.isr & 15] || ""] : namesOf(register, state[name]);
+    const said = `${register} ${hex(state[name])}: ${names.join(", ") || "no bit set"}${register === accessed ? ", accessed" : ""}`;
+    return make("div", { class: classes("register", register === accessed && "accessed"), role: "img", "aria-label": said }, ...head, ...bits);
   });
 }
 

@@ -6,18 +6,39 @@ class LinkTab {
     this.examples = examples;
     for (const name of Object.keys(examples)) element("links").append(new Option(name, name));
     element("links").onchange = () => this.take(element("links").value);
-    for (const id of ["left", "right", "delay"]) element(id).oninput = () => this.run();
+    for (const id of ["left", "right", "delay"]) {
+      element(id).oninput = () => {
+        element("links").value = "";
+        this.run();
+      };
+    }
   }
 
+  // Takes an example, or the first one if none has this name.
   take(name) {
-    const [left, right] = this.examples[name] || ["", ""];
-    element("links").value = name;
+    const known = own(this.examples, name) ? name : Object.keys(this.examples)[0];
+    const taken = this.takeScripts(...this.examples[known]);
+    element("links").value = known;
+    return taken;
+  }
+
+  takeScripts(left, right, delay) {
+    element("links").value = "";
     element("left").value = left;
     element("right").value = right;
+    if (delay) element("delay").value = delay;
     return this.run();
   }
 
+  // What an address has to say for what is shown.
+  fragment() {
+    const example = element("links").value;
+    if (example && element("delay").value === "1") return `link=${example}`;
+    return `left=${toBase64(element("left").value)}&right=${toBase64(element("right").value)}&delay=${element("delay").value}`;
+  }
+
   async run() {
+    remember("link", () => this.fragment());
     const left = bytesOf(element("left").value);
     const right = bytesOf(element("right").value);
     const both = new Uint8Array(left.length + right.length);

@@ -22,7 +22,9 @@ class LiveTab {
     element("anew").onclick = () => this.anew();
     for (const button of document.querySelectorAll("[data-ticks]")) button.onclick = () => this.act("live_ticks", [Number(button.dataset.ticks)]);
     for (const input of document.querySelectorAll(".input")) input.onchange = () => this.act("live_lines", [checkedBits(".input")], "the modem inputs change");
-    element("terminal").onkeydown = (event) => this.typed(event);
+    element("terminal").onclick = () => element("keyboard").focus();
+    element("keyboard").onkeydown = (event) => this.typed(event);
+    element("keyboard").oninput = () => this.written();
     setInterval(() => this.passes(), PERIOD);
   }
 
@@ -70,9 +72,20 @@ class LiveTab {
 
   typed(event) {
     const byte = event.key === "Enter" ? 13 : event.key.length === 1 ? event.key.charCodeAt(0) : 0;
-    if (!byte || byte > 255 || event.ctrlKey || event.metaKey || event.altKey) return;
+    if (event.ctrlKey || event.metaKey || event.altKey || !this.arrives(byte)) return;
     event.preventDefault();
+  }
+
+  // The keyboard of a phone tells of no key, and writes into the field.
+  written() {
+    for (const letter of element("keyboard").value) this.arrives(letter === "\n" ? 13 : letter.charCodeAt(0));
+    element("keyboard").value = "";
+  }
+
+  arrives(byte) {
+    if (!byte || byte > 255) return false;
     this.act("live_arrive", [byte, checkedBits(".error")], `${literally(byte)} arrives`);
+    return true;
   }
 
   // Lets time pass, and the handler come if the interrupt line is up. A slow page has no second one on its way.

@@ -3,18 +3,30 @@
 // What is shown where the address says nothing.
 const FIRST = "overrun";
 
+const tabButtons = () => [...document.querySelectorAll("[data-tab]")];
+
 function show(tab) {
-  for (const main of document.querySelectorAll("main")) main.classList.toggle("shown", main.id === tab);
-  for (const button of document.querySelectorAll("[data-tab]")) button.setAttribute("aria-selected", button.dataset.tab === tab);
+  for (const panel of document.querySelectorAll(".tab")) panel.classList.toggle("shown", panel.id === tab);
+  for (const button of tabButtons()) {
+    const isShown = button.dataset.tab === tab;
+    button.setAttribute("aria-selected", isShown);
+    // The tab key goes to the tab that is shown, and the arrows from there to the others.
+    button.tabIndex = isShown ? 0 : -1;
+  }
 }
 
-// Goes where an address says: `#example=NAME`, `#script=BASE64`, each with `&step=N`, `#link=NAME`, `#recording=NAME` or `#live`.
+// Goes where an address says: `#example=NAME`, `#script=BASE64`, each with `&step=N`, `#link=NAME`, `#left=BASE64&right=BASE64&delay=N`,
+// `#recording=NAME` or `#live`.
 async function follow(tabs, address) {
+  clearTimeout(remember.timer);
   const words = new Map(address.slice(1).split("&").map((word) => word.split(/=(.*)/s).slice(0, 2)));
   const step = words.has("step") ? Number(words.get("step")) - 1 : undefined;
   if (words.has("link")) {
     show("link");
     await tabs.link.take(words.get("link"));
+  } else if (words.has("left")) {
+    show("link");
+    await tabs.link.takeScripts(scriptIn(words.get("left")), scriptIn(words.get("right")), Number(words.get("delay")));
   } else if (words.has("recording")) {
     show("recording");
     await tabs.recording.take(words.get("recording"));
@@ -23,21 +35,21 @@ async function follow(tabs, address) {
     element("clock").checked = element("serves").checked = true;
     await tabs.live.anew();
     await tabs.live.act("live_start", [], "the driver sets the chip up");
-    element("terminal").focus();
+    element("keyboard").focus();
   } else if (words.has("script")) {
     show("script");
     await tabs.script.take(scriptIn(words.get("script")), step);
   } else {
     show("script");
     const name = words.get("example");
-    await tabs.script.takeExample(tabs.script.examples[name] === undefined ? FIRST : name, step);
+    await tabs.script.takeExample(own(tabs.script.examples, name) === undefined ? FIRST : name, step);
   }
 }
 
 // The script of an address. One that was cut off on its way is refused as a script, and not as an address.
 function scriptIn(text) {
   try {
-    return fromBase64(text);
+    return fromBase64(text || "");
   } catch {
     return "# the address has no script in base64";
   }
@@ -45,20 +57,20 @@ function scriptIn(text) {
 
 // A file that is dropped is a script if it begins as one.
 async function dropped(tabs, file) {
-  const bytes = new Uint8Array(await file.arrayBuffer());
-  const text = new TextDecoder().decode(bytes.subarray(0, 65537));
+  const text = new TextDecoder().decode(await file.slice(0, 65537).arrayBuffer());
   if (/^(#[^\n]*\n|\s*\n)*chip /.test(text)) {
     show("script");
     await tabs.script.take(text);
   } else {
     show("recording");
-    await tabs.recording.judge(file.name, bytes);
+    await tabs.recording.takeFile(file);
   }
 }
 
 function followKeys(script) {
   document.addEventListener("keydown", (event) => {
-    const isTyped = /^(TEXTAREA|INPUT|SELECT)$/.test(event.target.tagName) || !element("script").classList.contains("shown");
+    const isOfOther = /^(TEXTAREA|INPUT|SELECT)$/.test(event.target.tagName) || event.target.getAttribute("role") === "tab";
+    const isTyped = isOfOther || !element("script").classList.contains("shown");
     const where = { ArrowLeft: "back", ArrowRight: "on", Home: "first", End: "last" }[event.key];
     if (isTyped || !where || event.ctrlKey || event.metaKey || event.altKey) return;
     event.preventDefault();
@@ -66,14 +78,40 @@ function followKeys(script) {
   });
 }
 
+// What an address has to say for a tab.
+function fragmentOf(tabs, tab) {
+  if (tab === "script" || tab === "link") return tabs[tab].fragment();
+  const name = tab === "recording" && element("recordings").value;
+  return name ? `recording=${name}` : tab;
+}
+
+function openTab(tabs, tab) {
+  show(tab);
+  if (tab === "link" && !element("left").value) tabs.link.take();
+  if (tab === "recording" && !tabs.recording.found) tabs.recording.take();
+  if (tab === "live" && !tabs.live.state) tabs.live.anew();
+  if (tab === "script") tabs.script.drawTimeline();
+  clearTimeout(remember.timer);
+  setAddress("pushState", fragmentOf(tabs, tab));
+}
+
+// The arrows go from tab to tab, as in the pattern of the ARIA guide.
+function nextTab(buttons, button, key) {
+  const place = buttons.indexOf(button);
+  const last = buttons.length - 1;
+  return { ArrowRight: place === last ? 0 : place + 1, ArrowLeft: place === 0 ? last : place - 1, Home: 0, End: last }[key];
+}
+
 function listen(tabs) {
-  for (const button of document.querySelectorAll("[data-tab]")) {
-    button.onclick = () => {
-      show(button.dataset.tab);
-      if (button.dataset.tab === "link" && !element("left").value) tabs.link.take(Object.keys(tabs.link.examples)[0]);
-      if (button.dataset.tab === "recording" && !tabs.recording.found) tabs.recording.take("wrong-driver");
-      if (button.dataset.tab === "live" && !tabs.live.state) tabs.live.anew();
-      if (button.dataset.tab === "script") tabs.script.drawTimeline();
+  const buttons = tabButtons();
+  for (const button of buttons) {
+    button.onclick = () => openTab(tabs, button.dataset.tab);
+    button.onkeydown = (event) => {
+      const next = nextTab(buttons, button, event.key);
+      if (next === undefined || event.ctrlKey || event.metaKey || event.altKey) return;
+      event.preventDefault();
+      buttons[next].focus();
+      openTab(tabs, buttons[next].dataset.tab);
     };
   }
   followKeys(tabs.script);
@@ -103,7 +141,9 @@ function showGiven(given) {
     followKeys(script);
   } else {
     show("recording");
-    new RecordingTab(undefined, {}).judged(given.name, given.log, given);
+    const tab = new RecordingTab(undefined, {});
+    tab.given = given.log.split("\n");
+    tab.judged(given.name, tab.given.length, given);
   }
 }
 
@@ -115,12 +155,13 @@ async function begin() {
     return;
   }
   const module = await loadModule();
-  // The live chip has a worker of its own, which keeps its state: the other one may be stopped at any time.
+  // The live chip has a worker of its own, which keeps its state, and so has a recording, which keeps its log: that of the scripts may be
+  // stopped at any time.
   const latest = new Latest(new Runner(module));
   const tabs = {
     script: new ScriptTab(latest, data("examples-of-scripts")),
     link: new LinkTab(latest, data("examples-of-links")),
-    recording: new RecordingTab(latest, data("examples-of-recordings")),
+    recording: new RecordingTab(new Latest(new Runner(module)), data("examples-of-recordings")),
     live: new LiveTab(new Runner(module)),
   };
   listen(tabs);

@@ -64,6 +64,28 @@ make.inSvg = new Set(["rect", "text", "g", "line", "polygon", "title"]);
 // Takes the class names that are no empty words.
 const classes = (...names) => names.filter(Boolean).join(" ");
 
+// What an object has under a name of its own. An address may have any name, and each object has some that nobody gave it.
+const own = (object, name) => (Object.hasOwn(object, name) ? object[name] : undefined);
+
+// After so long without another change the address says what is shown: whoever reloads the page, or opens it later, sees the same.
+const ADDRESS_DELAY = 300;
+
+// Says in the address what is shown, if this tab is still shown then.
+function remember(tab, fragment) {
+  clearTimeout(remember.timer);
+  remember.timer = setTimeout(() => {
+    if (element(tab).classList.contains("shown")) setAddress("replaceState", fragment());
+  }, ADDRESS_DELAY);
+}
+
+function setAddress(how, fragment) {
+  try {
+    history[how](null, "", `${location.href.split("#")[0]}#${fragment}`);
+  } catch {
+    // A browser takes only so many changes in a time, and so long an address. Then it stays as it was.
+  }
+}
+
 // The JSON of an element of the page, or nothing.
 function data(id) {
   const found = element(id);

@@ -38,10 +38,24 @@ class Runner {
 
   // Calls a function of the module.
   ask(name, bytes, ...numbers) {
+    return this.post({ name, bytes, numbers });
+  }
+
+  // Loads a log behind options, for the calls about it. The file itself is handed over, and none of its bytes.
+  load(file, options) {
+    return this.post({ name: "load", file, options });
+  }
+
+  // The lines of that log from an index on, and what they say as a log of this kind.
+  lines(first, count, kind) {
+    return this.post({ name: "lines", first, count, kind });
+  }
+
+  post(message) {
     const number = this.number++;
     return new Promise((resolve, reject) => {
       this.waiting.set(number, { resolve, reject });
-      this.worker.postMessage({ number, name, bytes, numbers });
+      this.worker.postMessage({ number, ...message });
     });
   }
 

@@ -30,6 +30,13 @@ class ScriptTab {
     return this.run(step ?? 0);
   }
 
+  // What an address has to say for what is shown.
+  fragment() {
+    const example = element("examples").value;
+    const step = shown.step > 0 ? `&step=${shown.step + 1}` : "";
+    return `${example ? `example=${example}` : `script=${toBase64(element("source").value)}`}${step}`;
+  }
+
   takeExample(name, step) {
     const taken = this.take(this.examples[name], step);
     element("examples").value = name;
@@ -52,6 +59,8 @@ class ScriptTab {
   }
 
   explored(answer, text, step) {
+    // A page that the program printed shows one script alone.
+    if (this.latest) remember("script", () => this.fragment());
     const isRun = answer.steps !== undefined;
     document.body.classList.toggle("stale", !isRun);
     shown.lines = text.split("\n");
@@ -101,6 +110,8 @@ class ScriptTab {
         const mark = marks[arrivals++];
         answer = make("div", {}, make("span", { class: classes("mark", kindOfMark(mark)) }, mark), ` ${MARKS[mark] || ""}`);
       }
+      // On a narrow page the answers stand below the script, and say whose they are.
+      if (answer.textContent) answer.dataset.line = index + 1;
       answers.push(answer);
     });
     element("numbers").replaceChildren(...numbers);
@@ -123,6 +134,7 @@ class ScriptTab {
     const { run } = shown;
     if (!run) return;
     shown.step = Math.max(-1, Math.min(target, run.steps.length - 1));
+    if (this.latest) remember("script", () => this.fragment());
     const step = run.steps[shown.step];
     const before = shown.step > 0 ? run.steps[shown.step - 1].state : run.first;
     const place = step ? `· step ${shown.step + 1} of ${run.steps.length}, tick ${step.to}` : "· before the first step";

@@ -14,7 +14,7 @@ use geesetrunk::import::Import;
 use geesetrunk::json::Quoted;
 use geesetrunk::judging::Judge;
 use geesetrunk::known::Known;
-use geesetrunk::link::{Link, linked_in_turns};
+use geesetrunk::link::{Link, LinkOutput, linked_in_turns};
 use geesetrunk::options::options_in;
 use geesetrunk::page::{entries, explanations_of_all, explored, findings, played};
 use live::Live;
@@ -85,7 +85,10 @@ pub extern "C" fn link(left: usize, delay: u32, is_drawn: u32) -> u32 {
         let link = Link {
             files: ["left.script", "right.script"],
             delay: delay.into(),
-            is_drawn: is_drawn != 0,
+            output: match is_drawn {
+                0 => LinkOutput::Text,
+                _ => LinkOutput::Picture,
+            },
         };
         let (status, told) = match linked_in_turns(&link, scripts.into()) {
             Ok(text) => (DONE, text),

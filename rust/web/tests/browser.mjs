@@ -1,95 +1,18 @@
-// Tries the page in Chromium, from a file: node rust/web/tests/browser.mjs CHROMIUM PAGE RUN LOG [FOLDER]
+// Tries the page in a browser, from a file: node rust/web/tests/browser.mjs BROWSER PAGE RUN LOG [FOLDER]
 //
-// RUN and LOG are what `geesetrunk` prints for `timeline --html examples/overrun.script` and for `audit --html` of the wrong driver.
-// It speaks with the browser over a pipe, as a debugger does, and needs no package. Each check is a line 'what: ok' or 'what: failed', and
-// the last line is 'N passed, M failed'. With FOLDER it leaves pictures of the page there.
-import { spawn } from "node:child_process";
-import { mkdtempSync, rmSync, writeFileSync } from "node:fs";
+// BROWSER is Chromium, or Firefox if its name says so. RUN and LOG are what `geesetrunk` prints for `timeline --html examples/overrun.script`
+// and for `audit --html` of the wrong driver. No package of node is needed. Each check is a line 'what: ok' or 'what: failed', and the last
+// line is 'N passed, M failed'. With FOLDER it leaves pictures of the page there. MEGABYTES is how long the longest log is, unless it is 200.
+import { mkdtempSync, rmSync } from "node:fs";
 import { tmpdir } from "node:os";
-import { join, resolve } from "node:path";
-import { pathToFileURL } from "node:url";
+import { join } from "node:path";
+import { Chromium } from "./chromium.mjs";
+import { Firefox } from "./firefox.mjs";
 
-const [chromium, page, printedRun, printedLog, pictures] = process.argv.slice(2);
+const [program, page, printedRun, printedLog, pictures] = process.argv.slice(2);
 // A busy machine may take long. This is only there so that a browser which hangs comes to an end.
-const LONGEST = 300_000;
-
-class Browser {
-  constructor(profile) {
-    const words = ["--headless", "--no-sandbox", "--disable-gpu", "--hide-scrollbars", "--window-size=1600,1080", "--remote-debugging-pipe", `--user-data-dir=${profile}`];
-    this.process = spawn(chromium, words, { stdio: ["ignore", "ignore", "ignore", "pipe", "pipe"] });
-    this.number = 0;
-    this.waiting = new Map();
-    // Exceptions of the page, and what it asked the network for.
-    this.errors = [];
-    let text = "";
-    this.process.stdio[4].on("data", (data) => {
-      text += data;
-      for (let end; (end = text.indexOf("\0")) >= 0; text = text.slice(end + 1)) this.told(JSON.parse(text.slice(0, end)));
-    });
-  }
-
-  told(message) {
-    const { id, method, params } = message;
-    if (method === "Runtime.exceptionThrown") this.errors.push(params.exceptionDetails.exception?.description);
-    if (method === "Network.requestWillBeSent" && !/^(file|data|blob|about):/.test(params.request.url)) this.errors.push(`asked for ${params.request.url}`);
-    this.waiting.get(id)?.(message);
-    this.waiting.delete(id);
-  }
-
-  send(method, params = {}) {
-    const id = ++this.number;
-    return new Promise((done) => {
-      this.waiting.set(id, (message) => done(message.result ?? message));
-      this.process.stdio[3].write(`${JSON.stringify({ id, method, params, sessionId: this.session })}\0`);
-    });
-  }
-
-  async attach() {
-    const { targetId } = await this.send("Target.createTarget", { url: "about:blank" });
-    this.session = (await this.send("Target.attachToTarget", { targetId, flatten: true })).sessionId;
-    for (const domain of ["Page", "Runtime", "Network"]) await this.send(`${domain}.enable`);
-  }
-
-  // The value of an expression in the page.
-  async value(expression) {
-    const { result, exceptionDetails } = await this.send("Runtime.evaluate", { expression, returnByValue: true, awaitPromise: true });
-    if (exceptionDetails) this.errors.push(`${expression}: ${exceptionDetails.exception?.description}`);
-    return result?.value;
-  }
-
-  // Waits until an expression is true.
-  async until(expression) {
-    for (let tries = 0; tries < 600; tries++) {
-      if (await this.value(expression)) return true;
-      await new Promise((done) => setTimeout(done, 50));
-    }
-    return false;
-  }
-
-  async open(fragment, file = page) {
-    await this.send("Page.navigate", { url: "about:blank" });
-    await this.send("Page.navigate", { url: pathToFileURL(resolve(file)).href + fragment });
-    return this.until("document.body?.dataset.ready === 'true'");
-  }
-
-  async key(key, text) {
-    for (const type of ["keyDown", "keyUp"]) await this.send("Input.dispatchKeyEvent", { type, key, text: type === "keyDown" ? text : undefined });
-  }
-
-  async picture(name) {
-    if (!pictures) return;
-    const { data } = await this.send("Page.captureScreenshot");
-    writeFileSync(join(pictures, `${name}.png`), Buffer.from(data, "base64"));
-  }
-
-  drop(name, text) {
-    return this.value(`{
-      const transfer = new DataTransfer();
-      transfer.items.add(new File([${JSON.stringify(text)}], ${JSON.stringify(name)}));
-      document.dispatchEvent(new DragEvent("drop", { dataTransfer: transfer, cancelable: true }));
-    }`);
-  }
-}
+const LONGEST = 1_200_000;
+const MEGABYTES = Number(process.env.MEGABYTES ?? 200);
 
 const counts = { passed: 0, failed: 0 };
 
@@ -97,6 +20,14 @@ function holds(what, found, wanted = true) {
   const isSame = JSON.stringify(found) === JSON.stringify(wanted);
   counts[isSame ? "passed" : "failed"]++;
   console.log(isSame ? `${what}: ok` : `${what}: failed: ${JSON.stringify(found)}, and not ${JSON.stringify(wanted)}`);
+}
+
+// A window that is not active shows no focus, whatever has it, and takes no key for it: so it is in Firefox without a screen. Then what a
+// check needs the focus for is skipped by name.
+async function hasFocus(browser, what) {
+  const has = await browser.value("document.hasFocus()");
+  if (!has) console.log(`skipped ${what}: the window of this browser has no focus`);
+  return has;
 }
 
 async function scripts(browser) {
@@ -121,7 +52,7 @@ async function scripts(browser) {
   await browser.picture("overrun");
 
   await browser.value("document.querySelector('#source').focus(), document.querySelector('#source').setSelectionRange(0, 0)");
-  await browser.send("Input.insertText", { text: "x" });
+  await browser.insert("x");
   holds("a fault is said", await browser.until("document.querySelector('#fault').textContent.startsWith('line 1, column 1: ')"));
   await browser.picture("fault");
   await browser.drop("a.script", "chip 16550a 4 64\nlimit 200\ninit 14 9600 nocts 00 8\nsend 4869\nflush\n");
@@ -178,11 +109,11 @@ async function recordings(browser) {
   holds("warnings of the wrong driver", await browser.value("document.querySelector('#summary').textContent.includes('4 warnings of the driver')"));
   holds("a finding is explained", await browser.value("/what to do.*wait for LSR bit 5/.test(document.querySelector('.finding').textContent)"));
   await browser.value("document.querySelector('.finding details').open = true, document.querySelector('.finding .go').click()");
-  holds("its line is shown", await browser.value("document.querySelector('#log .current').dataset.line"), "25");
+  holds("its line is shown", await browser.until("document.querySelector('#log .current')?.dataset.line === '25'"));
   await browser.picture("recording");
   await browser.drop("qemu.log", "serial_write write addr 0x03 val 0x83\nserial_write write addr 0x00 val 0x00\nserial_write write addr 0x01 val 0x00\nserial_write write addr 0x03 val 0x03\n");
   holds("a log that is dropped is judged", await browser.until("/divisor-zero/.test(document.querySelector('#found').textContent)"));
-  holds("and its line marked", await browser.value("document.querySelectorAll('#log .warning').length"), 1);
+  holds("and its line marked", await browser.until("document.querySelectorAll('#log .warning').length === 1"));
   await browser.drop("kvm.log", "  qemu-1 [000] 1.000001: kvm_pio: pio_write at 0x3fb size 1 count 1 val 0x83\n  qemu-1 [000] 1.000002: kvm_pio: pio_read at 0x3fd size 1 count 1 val 0x60\n");
   holds("a log of another tool is read", await browser.until("document.querySelector('#summary').textContent.includes('kvm.log, read as kvm')"));
   const options = (text) => browser.value(`element("options").value = ${JSON.stringify(text)}, element("options").dispatchEvent(new Event("change"))`);
@@ -190,11 +121,91 @@ async function recordings(browser) {
   await options("--base");
   holds("an option that is refused", await browser.until("document.querySelector('#summary').textContent.includes('memory.log: a value is required')"));
   await options("--base 0x10000000");
-  holds("options say where the chip is", await browser.until("document.querySelectorAll('#log div')[1].textContent.includes('r LSR 60')"));
+  holds("options say where the chip is", await browser.until("document.querySelectorAll('#log div')[1]?.textContent.includes('r LSR 60')"));
   await options("");
+  await browser.drop("packed.log", "BZh91AY");
+  holds("what is no text is named", await browser.until("document.querySelector('#summary').textContent.includes('compressed by bzip2')"));
   await browser.drop("bad.recording", "# <img src=x onerror=window.bad=1>\nr 5 60\nw 3 <b>\n");
   holds("a line that is none is named", await browser.until("document.querySelector('#summary').textContent.includes('log:3:5')"));
   holds("what is dropped is no markup", await browser.value("[typeof window.bad, document.querySelectorAll('#log img, #summary b, #log b').length]"), ["undefined", 0]);
+}
+
+// Each line of a long log can be gone to, and a name in the address that nothing has is no fault.
+async function longRecordings(browser) {
+  await browser.open("#recording=wrong-driver");
+  const long = `w 2 07\n${"r 5 60\n".repeat(20000)}w 3 83\nw 0 00\nw 1 00\nw 3 03\n`;
+  await browser.drop("long.recording", long);
+  holds("a warning behind 20,000 lines is found", await browser.until("/divisor-zero/.test(document.querySelector('#found').textContent)"));
+  await browser.value("document.querySelector('.finding.warning .go').click()");
+  holds("and its line is drawn", await browser.until("document.querySelector('#log .current')?.textContent.includes('w 3 03')"));
+  holds("and what it says", await browser.value("document.querySelector('#log .current').lastChild.textContent.startsWith('w LCR 03')"));
+  holds("with a letter, and not a colour alone", await browser.value("document.querySelector('#log .current span').dataset.kind"), "W");
+  holds("a thousand lines are drawn at most", await browser.value("document.querySelectorAll('#log [data-line]').length"), 1000);
+  await browser.value("document.querySelector('#log button').click()");
+  holds("and those before them can be gone to", await browser.until("Number(document.querySelector('#log [data-line]').dataset.line) < 19005"));
+  for (const name of ["__proto__", "constructor", "nothing"]) {
+    holds(`#link=${name} shows an example`, await browser.open(`#link=${name}`) && (await browser.value("document.querySelector('#fault').textContent + document.querySelector('#links').value")), "hello");
+    await browser.open(`#recording=${name}`);
+    holds(`#recording=${name} shows an example`, await browser.until("document.querySelector('#summary').textContent.startsWith('wrong-driver, read as')"));
+    holds(`#example=${name} shows an example`, await browser.open(`#example=${name}`) && (await browser.value("document.querySelector('#examples').value")), "overrun");
+  }
+}
+
+// What is shown is in the address, and is there again after a reload.
+async function addresses(browser) {
+  await browser.open("#example=overrun");
+  const script = "chip 16550a 4 64\nlimit 200\ninit 14 9600 nocts 00 8\nsend 4b\n";
+  await browser.value(`element("source").value = ${JSON.stringify(script)}, element("source").dispatchEvent(new Event("input"))`);
+  holds("what is typed is in the address", await browser.until("location.hash.startsWith('#script=')"));
+  await browser.reload();
+  holds("and there after a reload", await browser.until(`document.body?.dataset.ready === "true" && element("source").value === ${JSON.stringify(script)}`));
+  await browser.value("element('tab-link').click()");
+  holds("a tab is in the address", await browser.value("location.hash"), "#link=hello");
+  await browser.value("element('left').value += '\\nlsr\\n', element('left').dispatchEvent(new Event('input'))");
+  holds("and what is typed in it", await browser.until("location.hash.startsWith('#left=')"));
+  await browser.reload();
+  holds("both ends are there after a reload", await browser.until("document.body?.dataset.ready === 'true' && /lsr/.test(element('left').value) && element('link').classList.contains('shown')"));
+  await browser.value("element('tab-recording').click()");
+  await browser.value("history.back()");
+  holds("back is the tab before", await browser.until("element('link').classList.contains('shown')"));
+}
+
+// The keyboard alone goes to each tab, and a reader is told what is shown.
+async function keyboard(browser) {
+  await browser.open("#example=overrun");
+  await browser.value("element('tab-script').focus()");
+  await browser.key("ArrowRight");
+  holds("the right arrow goes to the next tab", await browser.value("[document.activeElement.id, element('link').classList.contains('shown')]"), ["tab-link", true]);
+  await browser.key("End");
+  holds("End goes to the last one", await browser.value("[document.activeElement.id, document.querySelectorAll('[role=tab][tabindex=\"0\"]').length]"), ["tab-live", 1]);
+  await browser.key("ArrowRight");
+  holds("and behind it is the first", await browser.value("document.activeElement.id"), "tab-script");
+  holds("each tab names its panel", await browser.value("[...document.querySelectorAll('[role=tab]')].every((tab) => element(tab.getAttribute('aria-controls')).getAttribute('role') === 'tabpanel')"));
+  holds("the page has one main part", await browser.value("document.querySelectorAll('main').length"), 1);
+  holds("a queue is told in words", await browser.value("/^receive: \\d+ character/.test(document.querySelectorAll('#view .cells')[1].getAttribute('aria-label'))"));
+  await browser.value("element('source').focus()");
+  if (!(await hasFocus(browser, "that the editor shows its focus"))) return;
+  holds("the editor shows that it has the focus", await browser.value("getComputedStyle(document.querySelector('.editor')).outlineStyle"), "solid");
+}
+
+// 390 pixels are the width of a phone.
+async function phone(browser) {
+  await browser.resize(390, 844, true);
+  for (const fragment of ["#example=overrun-fifo&step=38", "#link=hello", "#recording=wrong-driver", "#live"]) {
+    await browser.open(fragment);
+    holds(`${fragment} is as wide as a phone`, await browser.value("document.documentElement.scrollWidth <= innerWidth && innerWidth <= 390"));
+    const outside = "[...document.querySelectorAll('.tab.shown .panel, .tab.shown input, .tab.shown button, .tab.shown select')].filter((one) => one.id !== 'keyboard' && one.getBoundingClientRect().right > innerWidth).length";
+    holds("nothing sticks out", await browser.value(outside), 0);
+    await browser.picture(`phone-${fragment.slice(1, 5)}`);
+  }
+  holds("a cell of a queue is wide enough for its byte", await browser.value("document.querySelector('#live-view .cell').getBoundingClientRect().width > 24"));
+  const clipped = "[...document.querySelectorAll('#live-view .bit')].filter((one) => one.scrollWidth > one.clientWidth).map((one) => one.textContent)";
+  holds("no name of a bit is cut off", await browser.value(clipped), []);
+  // What a keyboard of glass does: it writes into the field, and tells of no key.
+  await browser.value("element('terminal').click()");
+  await browser.insert("goose");
+  holds("what is typed on a phone comes back", await browser.until("element('terminal').textContent === 'goose'"));
+  await browser.resize(1600, 1080, false);
 }
 
 async function live(browser) {
@@ -232,16 +243,92 @@ async function network(browser) {
 async function look(browser) {
   await browser.open("#example=overrun-fifo&step=38");
   await browser.picture("overrun-fifo");
-  await browser.send("Emulation.setEmulatedMedia", { features: [{ name: "prefers-color-scheme", value: "dark" }] });
-  await browser.picture("dark");
-  await browser.send("Emulation.setEmulatedMedia", { features: [] });
-  await browser.send("Emulation.setDeviceMetricsOverride", { width: 700, height: 1200, deviceScaleFactor: 1, mobile: false });
+  await browser.dark(() => browser.picture("dark"));
+  await browser.resize(700, 1200, false);
   holds("a narrow window has no scroll bar", await browser.value("document.documentElement.scrollWidth <= innerWidth"));
   await browser.picture("narrow");
 }
 
+// A log of 200 MB is judged while the page answers, and its last line can be gone to. The page itself has none of its bytes.
+async function longestRecording(browser) {
+  await browser.open("#recording=wrong-driver");
+  await browser.value(`{
+    window.beats = 0;
+    window.isJudged = () => /^longest.recording, read as/.test(element("summary").textContent);
+    window.beat = setInterval(() => (window.beats += !window.isJudged()), 20);
+    const piece = new Blob(["r 5 60\\nw 0 41\\n".repeat(50000)]);
+    window.parts = ["w 2 07\\nw 4 0b\\n", ...Array(Math.ceil((${MEGABYTES} * 1e6) / piece.size)).fill(piece), "w 3 83\\nw 0 00\\nw 1 00\\nw 3 03\\n"];
+    0;
+  }`);
+  await browser.dropParts("longest.recording", "window.parts");
+  await browser.until("/longest.recording: it is judged/.test(element('summary').textContent)");
+  await browser.value("element('tab-live').click()");
+  holds("while it is judged another tab can be used", await browser.until("element('live').classList.contains('shown') && !window.isJudged()"));
+  await browser.value("element('tab-recording').click()");
+  holds(`a log of ${MEGABYTES} MB is judged`, await browser.until("window.isJudged()", 900));
+  holds("and the page has answered meanwhile", await browser.value("clearInterval(window.beat), window.beats > 20"));
+  holds("its last finding is there", await browser.until("/divisor-zero/.test(element('found').textContent)"));
+  await browser.value("[...document.querySelectorAll('.finding.warning')].find((one) => /divisor-zero/.test(one.textContent)).querySelector('.go').click()");
+  holds("and its line is drawn", await browser.until("document.querySelector('#log .current')?.textContent.includes('w 3 03')", 300));
+  holds("it is near the last one", await browser.value("Number(document.querySelector('#log .current').dataset.line) > 1e6 || document.querySelector('#log .current').nextSibling !== null"));
+  holds("the page keeps a thousand lines of it", await browser.value("document.querySelectorAll('#log [data-line]').length"), 1000);
+}
+
+// What a screen reader and a keyboard find: each control has a name and can be reached, what has the focus shows it, and texts can be told
+// from what is behind them. These are the rules of axe that this page could break.
+const FOUND = `(() => {
+  const isShown = (one) => one.getClientRects().length > 0 && getComputedStyle(one).visibility !== "hidden";
+  const named = (one) =>
+    one.getAttribute("aria-label") || [...(one.labels || [])].map((label) => label.textContent.trim()).join("") || one.getAttribute("title") || one.textContent.trim();
+  const told = (one) => one.tagName.toLowerCase() + (one.id ? "#" + one.id : "." + one.className) + " " + one.textContent.slice(0, 20);
+  const controls = [...document.querySelectorAll("button, input, select, textarea, summary, [tabindex]")].filter(isShown);
+  const ids = [...document.querySelectorAll("[id]")].map((one) => one.id);
+  const bad = (what, all) => all.map((one) => what + ": " + told(one));
+  const isFocused = (one) => {
+    one.focus({ focusVisible: true });
+    const around = [one, one.closest(".editor, .typing") || one].map((other) => getComputedStyle(other));
+    return document.activeElement !== one || around.some((style) => style.outlineStyle !== "none" || style.boxShadow !== "none");
+  };
+  const scrolls = [...document.querySelectorAll("*")].filter(
+    (one) => isShown(one) && /auto|scroll/.test(getComputedStyle(one).overflowY) && one.scrollHeight > one.clientHeight + 1 && one !== document.documentElement,
+  );
+  return [
+    ...bad("no name", controls.filter((one) => !named(one))),
+    ...bad("no focus shown", controls.filter((one) => document.hasFocus() && !one.disabled && one.tabIndex >= 0 && !isFocused(one))),
+    ...bad("scrolls, and no key gets there", scrolls.filter((one) => one.tabIndex < 0 && !one.querySelector("button, input, a[href], textarea"))),
+    ...ids.filter((id, index) => ids.indexOf(id) !== index).map((id) => "twice: " + id),
+    ...bad("names nothing", [...document.querySelectorAll("[aria-controls], [aria-labelledby]")].filter(
+      (one) => !document.getElementById(one.getAttribute("aria-controls") || one.getAttribute("aria-labelledby")),
+    )),
+    ...(document.documentElement.lang ? [] : ["no language"]),
+  ];
+})()`;
+
+async function accessible(browser) {
+  await hasFocus(browser, "that each control shows its focus");
+  for (const fragment of ["#example=overrun-fifo&step=38", "#link=hello", "#recording=wrong-driver", "#live"]) {
+    await browser.open(fragment);
+    await browser.until("![...document.querySelectorAll('.tab.shown [role=status]')].some((one) => /is judged/.test(one.textContent))");
+    holds(`${fragment}: names, focus and keys`, await browser.value(FOUND), []);
+  }
+}
+
+// From the address to a finding and its line, with keys alone.
+async function keysAlone(browser) {
+  await browser.open("#recording=wrong-driver");
+  await browser.until("document.querySelector('.finding .go') !== null");
+  await browser.value("element('tab-recording').focus()");
+  const isAt = "document.activeElement.matches('.finding.warning .go')";
+  for (let tries = 0; tries < 60 && !(await browser.value(isAt)); tries++) await browser.tab();
+  holds("the tab key comes to a finding", await browser.value(isAt));
+  if (!(await hasFocus(browser, "that the enter key shows the line of a finding"))) return;
+  await browser.key("Enter", "\r");
+  holds("and the enter key shows its line", await browser.until("document.querySelector('#log .current') !== null"));
+}
+
 const profile = mkdtempSync(join(tmpdir(), "page-"));
-const browser = new Browser(profile);
+const browser = new (/firefox/i.test(program) ? Firefox : Chromium)(program, profile);
+Object.assign(browser, { page, pictures });
 const late = setTimeout(() => {
   console.log("the browser does not answer");
   browser.process.kill();
@@ -254,6 +341,7 @@ browser.process.on("exit", () => {
   process.exit(counts.failed ? 1 : 0);
 });
 await browser.attach();
-for (const part of [scripts, longRuns, links, recordings, live, look, printed, network]) await part(browser);
+const parts = [scripts, longRuns, links, recordings, longRecordings, longestRecording, addresses, keyboard, keysAlone, accessible, live, look, phone, printed, network];
+for (const part of parts) await part(browser);
 counts.isDone = true;
-browser.send("Browser.close");
+browser.close();
