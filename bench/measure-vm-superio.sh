@@ -37,7 +37,7 @@ each() {
     first=$(count "$project" "$program" "$body" 1 "$@")
     last=$(count "$project" "$program" "$body" 257 "$@")
     echo "$body $first $last" |
-        awk -v project="$project" -v functions="$*" '{ printf "%-10s %-23s %7.2f  %s\n", project, $1, ($3 - $2) / 4096, functions }'
+        awk -v project="$project" -v functions="$*" '{ printf "%-10s %-31s %7.2f  %s\n", project, $1, ($3 - $2) / 4096, functions }'
 }
 
 # What both have.
@@ -52,6 +52,16 @@ count_all() {
     each "$1" inlined "$2byte-in-and-read" "inlined_$3byte_in_and_read"
 }
 
+# What a guest with interrupts does, as Linux: for each of 16 characters, or of 16 writes.
+count_interrupted() {
+    each "$1" interrupted fifo-in interrupted_receive interrupted_read
+    each "$1" interrupted fifo-out interrupted_write interrupted_read
+    each "$1" interrupted data-write-enabled interrupted_write
+    each "$1" interrupted isr interrupted_read
+    each "$1" interrupted ier interrupted_write
+    each "$1" interrupted mcr interrupted_write interrupted_read
+}
+
 cargo build --quiet --release --offline --manifest-path bench/chip/Cargo.toml --target-dir "$work/chip" ||
     fail "the programs of the chip cannot be built"
 count_all chip "" ""
@@ -62,6 +72,7 @@ each chip called interrupt-enabled called_is_interrupting
 each chip inlined interrupt inlined_interrupt
 count_all chip device- device_
 each chip called device-byte-in-and-read-enabled called_device_arrive called_device_read
+count_interrupted chip
 "$work/chip/release/triggers"
 
 [ -d /usr/share/cargo/registry/vm-superio-0.7.0 ] ||
@@ -72,6 +83,7 @@ cp bench/linux.rs "$work"
 (cd "$work/project" && cargo build --quiet --release --offline --target-dir "$work/vm-superio") ||
     fail "the programs of vm-superio cannot be built"
 count_all vm-superio "" ""
+count_interrupted vm-superio
 each vm-superio called save called_save
 each vm-superio called restore called_restore
 each vm-superio inlined save inlined_save

@@ -1,3 +1,5 @@
+/* SPDX-FileCopyrightText: 2025 Philipp Schuster, 2026 Geesetrunk */
+/* SPDX-License-Identifier: MIT OR Apache-2.0 */
 /*
  * u16550.c - a driver for serial chips of the 16550 family, with rings for interrupts. u16550.h says how it is used.
  *
@@ -3079,9 +3081,10 @@ uart_try_receive_with_errors(struct u16550_core_driver *uart)
  *
  * An overrun tells that a character was lost, and the FIFO decides on which side of the byte
  * that it comes with. With the FIFO on, all that waited came before the lost one: it was lost
- * right behind the 15th or the 16th character from this byte on, which are bytes that the call
- * returns and then those that are still in the receiver. With the FIFO off, the further
- * character replaces the one that waits, so the lost one came before this byte.
+ * right behind as many characters from this byte on as the FIFO holds, or one fewer, so with a
+ * FIFO of 16 behind the 15th or the 16th. These are bytes that the call returns and then those
+ * that are still in the receiver. With the FIFO off, the further character replaces the one
+ * that waits, so the lost one came before this byte.
  *
  * Does not wait: reads LSR before each byte, and ends when it shows none. An empty slice makes
  * no access. The error bits are saved for the next lsr too, and do not end the call.
@@ -5713,13 +5716,11 @@ uart_ring_handle_round(struct u16550_core_ring *ring, size_t limit, uint32_t rou
  * While the chip is stuck, the rings hand no byte to it, and each further call of try_handle
  * serves nothing, writes 0 to IER again, and returns the same error. restart starts again.
  *
- * Let the limit be at least 6. Then a chip that works leaves a round unfinished, without a
- * byte that moves, only if the rest arrives while the round is served: at least limit - 5
- * characters or changes of the modem lines. So it is never found stuck, unless as many come
- * in the course of each of rounds rounds in a row. With a lower limit it may be: a round of
- * one interrupt never ends with Idle, so rounds line errors or changes of modem lines in a
- * row count, however slowly they come, and one that is pending at the last look is enough
- * then. If rounds is 0 or 1, the first unfinished round is the last one.
+ * A limit below 6 counts as 6: a chip that works may show 5 interrupts in a row without news
+ * and without a byte that moves. So it leaves a round unfinished only if the rest arrives
+ * while the round is served: at least limit - 5 characters or changes of the modem lines,
+ * and never none. It is never found stuck, unless as many come in the course of each of
+ * rounds rounds in a row. If rounds is 0 or 1, the first unfinished round is the last one.
  *
  * As long as bytes move, the rounds end by themselves: a handler alone moves no more bytes
  * than wait in the transmit ring and fit into the receive ring.
@@ -5727,8 +5728,9 @@ uart_ring_handle_round(struct u16550_core_ring *ring, size_t limit, uint32_t rou
  * A chip whose line stays high while ISR shows no interrupt is not found: its rounds end with
  * Idle. DesignWare's busy detect is such a one.
  *
- * Does not wait: makes at most 35 accesses for each interrupt of the limit, and 6 more. With a
- * larger fifo_size of the driver it is twice that size and 3 in place of the 35.
+ * Does not wait: makes at most 35 accesses for each interrupt of the limit, which is 6 if it
+ * is lower, and 6 more. With a larger fifo_size of the driver it is twice that size and 3 in
+ * place of the 35.
  *
  * Errors
  *
@@ -5752,7 +5754,7 @@ uart_ring_try_handle(struct u16550_core_ring *ring, size_t limit, uint32_t round
         uart_disable_interrupts(&ring->uart, 255);
         return uart_bad_handled_or_stuck_error(error);
     }
-    return uart_ring_handle_round(ring, limit, rounds);
+    return uart_ring_handle_round(ring, 6 < limit ? limit : 6, rounds);
 }
 
 /*
@@ -6208,19 +6210,44 @@ static inline bool uart_direction_level(struct u16550_core_direction direction, 
     return sends ? direction.sends_when_set : !direction.sends_when_set;
 }
 
+/* Returns the bit of the output. */
+static inline uint8_t uart_direction_bit(struct u16550_core_direction direction)
+{
+    return direction.line == U16550_CORE_DIRECTION_LINE_RTS ? U16550_MCR_RTS : U16550_MCR_DTR;
+}
+
+/*
+ * Returns the bit by which the chip would drive the output itself: flow control by the chip
+ * drives RTS, by how many characters wait.
+ */
+static inline uint8_t uart_direction_flow(struct u16550_core_direction direction)
+{
+    return direction.line == U16550_CORE_DIRECTION_LINE_RTS ? U16550_MCR_AUTO_FLOW : 0;
+}
+
+/* Returns these outputs with the line as it is to be in this direction. */
+static inline uint8_t
+uart_direction_turned(struct u16550_core_direction direction, bool sends, uint8_t outputs)
+{
+    uint8_t mcr;
+    if (uart_direction_level(direction, sends))
+        mcr = outputs | uart_direction_bit(direction);
+    else
+        mcr = outputs & (uint8_t)~uart_direction_bit(direction);
+    return mcr & (uint8_t)~uart_direction_flow(direction);
+}
+
 /*
  * Switches the transceiver to send, or to receive.
  *
  * Proved: the transceiver is switched: MCR is read, and written with the line as it is to be
- * in this direction, without loopback, as by the driver's set_rts or set_dtr.
+ * in this direction, without loopback, and at RTS without automatic flow control.
  */
 static inline void uart_half_duplex_turn(struct u16550_core_half_duplex *half_duplex, bool sends)
 {
-    bool on = uart_direction_level(half_duplex->direction, sends);
-    if (half_duplex->direction.line == U16550_CORE_DIRECTION_LINE_RTS)
-        uart_set_rts(&half_duplex->uart, on);
-    else
-        uart_set_dtr(&half_duplex->uart, on);
+    uint8_t outputs = uart_mcr(&half_duplex->uart);
+    uint8_t direction_turned = uart_direction_turned(half_duplex->direction, sends, outputs);
+    uart_set_modem_control(&half_duplex->uart, direction_turned);
     half_duplex->is_sending = sends;
 }
 
@@ -6368,26 +6395,22 @@ uart_half_duplex_send_bytes_exact(struct u16550_core_half_duplex *half_duplex,
 
 /*
  * Switches the transceiver to send: reads MCR, and writes it with the line so, as set_rts or
- * set_dtr of the driver do. From now on bytes may be sent.
+ * set_dtr of the driver do. Where the line is RTS, flow control by the chip is off from then
+ * on. From now on bytes may be sent.
  *
  * Does not wait. Before the first byte wait as long as the transceiver takes.
  *
  * Proved: the transceiver is switched: MCR is read, and written with the line as it is to be
- * in this direction, without loopback, as by the driver's set_rts or set_dtr.
+ * in this direction, without loopback, and at RTS without automatic flow control.
  */
 static inline void uart_half_duplex_start_sending(struct u16550_core_half_duplex *half_duplex)
 {
     uart_half_duplex_turn(half_duplex, true);
 }
 
-/* Returns the bit of the output. */
-static inline uint8_t uart_direction_bit(struct u16550_core_direction direction)
-{
-    return direction.line == U16550_CORE_DIRECTION_LINE_RTS ? U16550_MCR_RTS : U16550_MCR_DTR;
-}
-
 /*
- * Returns these outputs with the line as it is to be while the transceiver receives.
+ * Returns these outputs with the line as it is to be while the transceiver receives: of RTS
+ * without flow control by the chip, which would drive it.
  *
  * init raises RTS and DTR. On a bus with other ends that may send, initialise the chip with
  * these outputs instead, by init_with: else this end may hold the bus until
@@ -6396,9 +6419,7 @@ static inline uint8_t uart_direction_bit(struct u16550_core_direction direction)
 static inline uint8_t
 uart_direction_receiving(struct u16550_core_direction direction, uint8_t outputs)
 {
-    if (uart_direction_level(direction, false))
-        return outputs | uart_direction_bit(direction);
-    return outputs & (uint8_t)~uart_direction_bit(direction);
+    return uart_direction_turned(direction, false, outputs);
 }
 
 /*

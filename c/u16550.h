@@ -1,3 +1,5 @@
+/* SPDX-FileCopyrightText: 2025 Philipp Schuster, 2026 Geesetrunk */
+/* SPDX-License-Identifier: MIT OR Apache-2.0 */
 /*
  * u16550.h - a driver for serial chips of the 16550 family, for kernels and firmware.
  *
@@ -269,7 +271,8 @@ struct u16550_difference {
 
 /*
  * A received byte, and the line errors that LSR showed with it. Parity, framing and break are of this byte. An overrun tells that
- * a character was lost: with the FIFO on right behind the 15th or the 16th character from this byte on, with the FIFO off before it.
+ * a character was lost: with the FIFO on right behind as many characters from this byte on as the FIFO holds, or one fewer, the 15th
+ * or the 16th with a FIFO of 16; with the FIFO off before this byte.
  */
 struct u16550_received {
     uint8_t byte;                       /* 0 for a break */
@@ -705,8 +708,8 @@ struct u16550_core_direction {
  *
  * Only calls of this type keep the direction, so it lends no driver that could write. For other
  * calls, as set_frame, take the driver back by into_inner, and give it to new again. So set
- * the size of the FIFOs, by set_fifo_size, before new. The direction is by software: leave
- * flow control by the chip off, which would drive RTS itself.
+ * the size of the FIFOs, by set_fifo_size, before new. The direction is by software: where RTS
+ * is the line, flow control by the chip would drive it, so each switch turns that off.
  */
 struct u16550_core_half_duplex {
     struct u16550_core_driver uart;
@@ -717,7 +720,8 @@ struct u16550_core_half_duplex {
 /*
  * The memory of a driver. What is in it is the library's: it is here so that a C compiler knows how much it is. Leave it alone. It may be
  * copied to another place between two calls, if only one of the copies is used from then on. One thread at a time may use a driver;
- * different drivers are independent.
+ * drivers of different chips are independent. Nothing refuses two drivers of one chip: a call of one that comes between the accesses of
+ * a call of the other loses bytes that were reported as sent, and stops rings.
  *
  * Set it to zero before a first driver is made in it, unless it is static, and so zero from the start. What was left in it
  * may look like a driver, or like a call that is not done.
@@ -1484,8 +1488,9 @@ int u16550_ring_handle(struct u16550 *uart, size_t limit, struct u16550_handled 
  * Handles the interrupt as u16550_ring_handle does, and ends a storm. If so many rounds in a row have ended with another end
  * than U16550_HANDLE_IDLE, and moved no byte between the rings and the chip, it reads ISR once more. If that still shows an
  * interrupt, the chip is stuck: the call writes 0 to IER, and returns an enum u16550_stuck_error. While the chip is stuck, each
- * further call writes 0 to IER again and returns the same, and the rings hand no byte to the chip. A limit of at least 6 keeps a
- * chip that works from it: see rust/uart_16550/INTERRUPTS.md. 100 rounds are 3,200 interrupts without a pause, if the limit is 32.
+ * further call writes 0 to IER again and returns the same, and the rings hand no byte to the chip. A limit below 6 counts as 6, so
+ * that a chip that works is not found stuck: see rust/uart_16550/INTERRUPTS.md. 100 rounds are 3,200 interrupts without a pause, if
+ * the limit is 32.
  */
 /*
  * Proved: a handle, whose round is counted, and after which the chip may be found stuck; or,

@@ -1,3 +1,5 @@
+/* SPDX-FileCopyrightText: 2025 Philipp Schuster, 2026 Geesetrunk */
+/* SPDX-License-Identifier: MIT OR Apache-2.0 */
 /*
  * uart_port.h - a 16550A or 16450 serial chip in software, and a serial port for virtual machine monitors over it.
  *

@@ -28,6 +28,9 @@ OUTSIDE = {"uart_kept_characters_keep": "a1.f1 >= 64", "uart_byte_queue_byte_at"
            "uart_byte_queue_receive_from": "a3 > a1.f0.f2 - a1.f2",
            "uart_receive": "a3 > a2.len() as u64 || a4 > a2.len() as u64 - a3"}
 HEAD_OF_C = """
+#include <stdbool.h>
+#include <stddef.h>
+#include <stdint.h>
 #include <string.h>
 
 uint8_t beside_byte(void);
@@ -49,6 +52,16 @@ void beside_raise(size_t port);
 
 enum { BESIDE_MOST = 512 };
 
+void beside_run(void);
+int main(void)
+{
+    beside_run();
+    return 0;
+}
+
+"""
+# What the driver calls: memory of the caller, the ports of a line, and a device.
+CALLED_BY_DRIVER = """
 static struct uart_maybe_vec_u8 uart_cells_in_memory(struct uart_memory *memory, uint8_t value, size_t count)
 {
     struct uart_maybe_vec_u8 made;
@@ -79,13 +92,6 @@ static void uart_line_ports_raise(struct uart_line_ports *ports, size_t port)
 {
     (void)ports;
     beside_raise(port);
-}
-
-void beside_run(void);
-int main(void)
-{
-    beside_run();
-    return 0;
 }
 
 static struct u16550_device beside_device(void)
@@ -129,12 +135,15 @@ def dictionary_of_mir(one):
 class Beside:
     """What compares the functions of a library. `compared` has their names, and `left` those that are not, with the reason."""
 
+    # Where in the C what is by hand begins, which nothing here calls; what stands in front of the C, and what it calls.
+    by_hand, before, called_by_it = BY_HAND, "", CALLED_BY_DRIVER
+
     def __init__(self, library):
         self.library, self.types = library, library.types
         self.translation = Translation(library.forest.program, NATIVES, library.forest.own)
         self.makers, self.showers, self.texts, self.calls = {}, {}, [], []
         self.compared, self.left = [], {}
-        called = {one.name for one in library.called()}
+        called = self.called()
         for key, written in library.functions.items():
             if written is None or written.name not in called or written.name in self.compared:
                 continue
@@ -146,6 +155,18 @@ class Beside:
         self.translation.translate()
         if self.translation.unknown:
             raise SystemExit(f"compare: not translated: {self.translation.unknown[:3]}")
+
+    def called(self):
+        """The names of the functions that the C has."""
+        return {one.name for one in self.library.called()}
+
+    def fields(self, of):
+        """The names and types of the members that a struct has in C."""
+        return self.types.fields(of)
+
+    def otherwise(self, found):
+        """How the side of the MIR makes and shows types of which the C has less, as `values.OF_MIR`. `found` are the numbers that are tried."""
+        return {}
 
     # Values on the side of C.
 
@@ -209,7 +230,7 @@ class Beside:
             made = self.made_at(of[1], f"{at}.bytes[i]")
             return f"beside_array(true);\nfor (size_t i = 0; i < {of[2]}; i++)\n {made}beside_array(false);\n"
         if word == "struct":
-            return "".join(self.made_at(one, f"{at}.{name}") for name, one in self.types.fields(of))
+            return "".join(self.made_at(one, f"{at}.{name}") for name, one in self.fields(of))
         raise Unknown(f"a value of a type that is {word}")
 
     def make_tagged(self, of, at):
@@ -276,7 +297,7 @@ class Beside:
         if word == "pointer":
             return self.shown_at(of[1], f"(*{at})") if of != "Ptr" and of[1] not in ("Ptr", "Unit") else ""
         if word == "struct":
-            return "".join(self.shown_at(one, f"{at}.{name}") for name, one in self.types.fields(of))
+            return "".join(self.shown_at(one, f"{at}.{name}") for name, one in self.fields(of))
         raise Unknown(f"a result of a type that is {word}")
 
     def is_error(self, of, at):
@@ -311,6 +332,10 @@ class Beside:
         shown = self.shown_at(inner, f"a{order}")
         return made, [passed], shown, of_rust, f"&raw mut a{order} as *mut u8", f"Value::show(&a{order}, &mut out);"
 
+    def known_argument(self, order, of, value):
+        """An argument that is one constant in each call, so that the C has no parameter for it."""
+        raise Unknown(f"the argument {order} is known")
+
     def slice_argument(self, order, of, least):
         item, can_change = of[2][0][1], of[2][0][2]
         name, rest = self.translation.rust(of_mir(of)), self.translation.rest(of_mir(of))
@@ -334,10 +359,16 @@ class Beside:
         function = forest.program.functions[name]
         locals_ = [forest.type(one["ty"], types) for one in function["locals"][: function["params"] + 1]]
         least = 1 if name.split("::")[-1] in NOT_EMPTY else 0
-        listing = [self.argument(order, of, least) for order, of in enumerate(locals_[1:], 1)]
-        passed = [one for argument in listing for one in argument[1]]
-        if len(passed) != len(written.parameters):
-            raise Unknown(f"{len(passed)} arguments, and {len(written.parameters)} parameters")
+        listing, flat = [], []
+        for order, of in enumerate(locals_[1:], 1):
+            known = self.library.known.get(key, {}).get(len(flat))
+            listing.append(self.argument(order, of, least) if known is None else self.known_argument(order, of, known))
+            flat += listing[-1][1]
+        if len(flat) != len(written.given):
+            raise Unknown(f"{len(flat)} arguments, and {len(written.given)} parameters")
+        passed = [one for one, parameter in zip(flat, written.given) if parameter in written.parameters]
+        if None in passed:
+            raise Unknown("an argument that the C cannot have")
         instance = self.translation.instance(name, of_mir(types), tuple(map(dictionary_of_mir, dictionaries)))
         call, result = f"{written.name}({', '.join(passed)})", locals_[0]
         number = len(self.calls)
@@ -360,7 +391,7 @@ class Beside:
         outside = OUTSIDE.get(written.name)
         of_case = f"|choices| unsafe {{ {made} if {outside} {{ Of::NoWord }} else {{ Of::Contract }} }}" if outside else "|_| Of::Contract"
         self.calls.append(
-            f'run.compare("{written.name}", With::{touches}, {of_case}, |choices| unsafe {{ called(beside_call_{number}) }}, '
+            f'run.compare("{written.name}", With::{touches}, &[], {of_case}, |choices| unsafe {{ called(beside_call_{number}) }}, '
             f"|choices| unsafe {{ {made} let result = crate::mir::{instance}({given}); let mut out = Vec::new(); "
             f"{of_result} {behind} out }});")
 
@@ -368,19 +399,18 @@ class Beside:
 
     def of_c(self, source):
         """The text of C: the functions without what is by hand, and what calls each."""
-        return source.partition(BY_HAND)[0] + HEAD_OF_C + "\n".join(self.texts)
+        return HEAD_OF_C + self.before + source.partition(self.by_hand)[0] + self.called_by_it + "\n".join(self.texts)
 
     def of_rust(self, source):
         """The texts of the files of Rust. Numbers that the C has are tried in each place of a number."""
-        written = map(int, re.findall(r"\b\d+\b", source))
-        found = sorted({at for one in written for at in (one - 1, one, one + 1) if 0 <= at < 1 << 64} | EDGES)
+        found = numbers(source)
         declared = "\n".join(f"fn beside_call_{number}();" for number in range(len(self.calls)))
-        calls, texts = "\n".join(self.calls), values.of_mir(self.translation)
+        calls, texts = "\n".join(self.calls), values.of_mir(self.translation, self.otherwise(found))
         root = (f'{HEAD_OF_RUST}use run::{{Choices, Of, Run, Value, With, called}};\nunsafe extern "C-unwind" {{ {declared} }}\n'
                 f"fn all(run: &mut Run) {{\n{calls}\n}}\n"
                 f'#[unsafe(no_mangle)]\nextern "C" fn beside_run() {{ run::run(all, {len(self.translation.places)}) }}\n')
-        numbers = f"pub const NUMBERS: [u64; {len(found)}] = {found};\n"
-        return {"lib.rs": root, "numbers.rs": numbers, "mir.rs": self.translation.module() + texts,
+        listed = f"pub const NUMBERS: [u64; {len(found)}] = {found};\n"
+        return {"lib.rs": root, "numbers.rs": listed, "mir.rs": self.translation.module() + texts,
                 "run.rs": RUN.read_text(encoding="utf-8") + (FOLDER / "compared" / "beside.rs").read_text(encoding="ascii")}
 
     def build(self, source, folder):
@@ -398,6 +428,12 @@ class Beside:
         told = compiled(["gcc", "-std=gnu99", "-O1", "-w", "-fexceptions", "-I", HEADER, text, folder / "libbeside.a", "-lpthread", "-ldl",
                          "-lm", "-o", program])
         return (None, told) if told else (program, "")
+
+
+def numbers(source):
+    """The numbers that are tried in each place of a number: those of the C, those next to them, and edges."""
+    written = map(int, re.findall(r"\b\d+\b", source))
+    return sorted({at for one in written for at in (one - 1, one, one + 1) if 0 <= at < 1 << 64} | EDGES)
 
 
 def compiled(words):

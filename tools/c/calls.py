@@ -15,7 +15,8 @@ returned."""
 HANDLE = """
 The memory of a driver. What is in it is the library's: it is here so that a C compiler knows how much it is. Leave it alone. It may be
 copied to another place between two calls, if only one of the copies is used from then on. One thread at a time may use a driver;
-different drivers are independent.
+drivers of different chips are independent. Nothing refuses two drivers of one chip: a call of one that comes between the accesses of
+a call of the other loses bytes that were reported as sent, and stops rings.
 
 Set it to zero before a first driver is made in it, unless it is static, and so zero from the start. What was left in it
 may look like a driver, or like a call that is not done."""
@@ -243,7 +244,8 @@ Which byte of a register of several bytes is the first in memory. The chip's eig
     ]),
     Struct("received", """
 A received byte, and the line errors that LSR showed with it. Parity, framing and break are of this byte. An overrun tells that
-a character was lost: with the FIFO on right behind the 15th or the 16th character from this byte on, with the FIFO off before it.""", [
+a character was lost: with the FIFO on right behind as many characters from this byte on as the FIFO holds, or one fewer, the 15th
+or the 16th with a FIFO of 16; with the FIFO off before this byte.""", [
         Field("uint8_t byte", "0 for a break"),
         Field("uint8_t errors", "as in LSR"),
     ]),
@@ -843,8 +845,9 @@ ever. But then the controller calls the handler for ever, unless somebody counts
 Handles the interrupt as u16550_ring_handle does, and ends a storm. If so many rounds in a row have ended with another end
 than U16550_HANDLE_IDLE, and moved no byte between the rings and the chip, it reads ISR once more. If that still shows an
 interrupt, the chip is stuck: the call writes 0 to IER, and returns an enum u16550_stuck_error. While the chip is stuck, each
-further call writes 0 to IER again and returns the same, and the rings hand no byte to the chip. A limit of at least 6 keeps a
-chip that works from it: see rust/uart_16550/INTERRUPTS.md. 100 rounds are 3,200 interrupts without a pause, if the limit is 32.""", [
+further call writes 0 to IER again and returns the same, and the rings hand no byte to the chip. A limit below 6 counts as 6, so
+that a chip that works is not found stuck: see rust/uart_16550/INTERRUPTS.md. 100 rounds are 3,200 interrupts without a pause, if
+the limit is 32.""", [
             Call("ring_try_handle", "struct u16550 *uart, size_t limit, uint32_t rounds, struct u16550_handled *handled", gives="handled",
                 encode="handled", error="StuckError", outcome="struct uart_handled_or_stuck_error"),
         ]),

@@ -36,7 +36,7 @@ IN_HEADER = (RING, DESIGN_WARE, NOTES, BUS)
 OF_TRAITS = re.compile(r"::embedded_io::|::DesignWareBackend::|::ErrorNotesBackend::|::drop_taken$")
 # What is by hand, in front of what is made of the table, and behind the first part of it.
 GUARDS, BY_HAND = ["guards"], ["bottom", "memory", "design_ware", "notes", "bus"]
-TOP = """/*
+TOP = f"""{header.LICENCE}/*
  * u16550.c - a driver for serial chips of the 16550 family, with rings for interrupts. u16550.h says how it is used.
  *
  * Made by tools/c/emit from the code that is proved. Do not edit. Names and comments are those of its source, and what is computed

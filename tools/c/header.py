@@ -6,6 +6,10 @@ import syntax as c
 # How far to the right the remarks of numbers and of fields begin, and how long a line is.
 NUMBER, FIELD, WIDTH = 33, 39, 128
 CONVENTION = "U16550_CALL "
+# What each file that users copy begins with. Without the folder of the repository nothing else tells what they may do with it.
+LICENCE = """/* SPDX-FileCopyrightText: 2025 Philipp Schuster, 2026 Geesetrunk */
+/* SPDX-License-Identifier: MIT OR Apache-2.0 */
+"""
 
 
 def comment(text):
@@ -104,12 +108,12 @@ def of_c(template, number, kept, proved):
     def told(call):
         lines = proved.get(call.name) or []
         return comment("\n".join(lines)) if lines else ""
-    return filled(template, number, "", kept, told)
+    return LICENCE + filled(template, number, "", kept, told)
 
 
 def of_rust(template, number):
     """The header of the library that is made of Rust."""
-    return filled(template, number, CONVENTION)
+    return LICENCE + filled(template, number, CONVENTION)
 
 
 def numbers_in_rust(version):

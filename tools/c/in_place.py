@@ -55,10 +55,8 @@ def expanded(statements, made):
         if isinstance(one, c.Return):
             out += [*set_parts(c.Var(made), one.value), c.Return(c.Var(made))]
             continue
-        if isinstance(one, c.If):
-            one.yes, one.no = expanded(one.yes, made), expanded(one.no, made)
-        elif c.lists(one) and returns([one]):
-            raise ValueError("a large struct is returned in a loop or a switch")
+        for body in c.lists(one):
+            body[:] = expanded(body, made)
         out.append(one)
     return out
 
@@ -69,7 +67,7 @@ def without_itself(statements):
     for one in statements:
         if isinstance(one, c.Set) and c.text(one.to) == c.text(one.value):
             continue
-        if isinstance(one, c.If):
-            one.yes, one.no = without_itself(one.yes), without_itself(one.no)
+        for body in c.lists(one):
+            body[:] = without_itself(body)
         out.append(one)
     return out

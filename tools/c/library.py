@@ -127,6 +127,13 @@ def is_constant(value):
     return isinstance(value, c.Word) and (value.of is c.BOOL or value.of.text().startswith("enum "))
 
 
+def is_known(value):
+    """Whether a value is such a constant, or a struct that is made of such."""
+    if isinstance(value, c.CallOf):
+        return value.is_pure and value.fields is not None and all(map(is_known, value.arguments))
+    return is_constant(value)
+
+
 def without_destructors(key):
     """A key without what says of types that nothing is to be done at their end: each crate says it by a name of its own."""
     return (*key[:2], tuple(one for one in key[2] if not one[0].endswith("::Destruct++none")))
@@ -159,6 +166,13 @@ class Library:
         self.short, self.apart, self.words = SHORT, "static", {}
         # Keys of one function by what they have in common, and the functions that only compute.
         self.same, self.quiet = {}, set()
+        # The members of structs that have one value for ever, by the struct and the name: that value, or None if nobody reads it. Writes of
+        # them go.
+        self.fixed = {}
+        # The calls that are made in the place of those which only pass on their arguments, and parameters that nothing reads any more.
+        self.passed_on, self.unread, self.instead = set(), {}, {}
+        # More structs that are made where they are returned.
+        self.large = set()
         # What is known of a function, by its name; and what stands in the place of its calls, if that is one value or one call.
         self.known, self.known_of, self.stands_for = known or {}, {}, {}
 
@@ -206,6 +220,7 @@ class Library:
             if is_public:
                 written.publish(self.exports[key[0]][1])
             self.put_known(body.statements, written, known)
+            self.put_members(body.statements)
             written.statements = in_place.run(passes.run(body.statements, body.result, self.with_names), self.is_large)
             # What is constant may be an argument that is known, of another call.
             if self.leave_out_known(written.statements, self.is_constant_call):
@@ -222,6 +237,15 @@ class Library:
                 passes.where_it_is(written.statements)
                 if all(passes.is_quiet(one, self.quiet) for one in written.statements):
                     self.quiet.add(written.name)
+            if self.fixed:
+                self.put_members(written.statements)
+                self.leave_out_unread(written)
+                passes.without_idle_arrays(written.statements)
+                written.statements = passes.refined(passes.without_quiet(written.statements, self.quiet), self.with_names)
+                if all(passes.is_quiet(one, self.quiet) for one in written.statements):
+                    self.quiet.add(written.name)
+                self.note_unread(written)
+                passes.narrow_counters(written.statements)
             passes.on_expressions(written.statements, self.with_register)
             name_variables(body, written)
             if self.registers:
@@ -255,8 +279,8 @@ class Library:
             facts = passes.Facts(written.statements)
             left = [order for order in range(len(written.parameters) + len(self.known.get(key, {}))) if order not in self.known.get(key, {})]
             for order, parameter, *values in zip(left, written.parameters, *calls.get(written.name, ())):
-                is_one = values and all(map(is_constant, values))
-                if is_one and len({one.name for one in values}) == 1 and facts.is_fixed(parameter):
+                is_one = values and all(map(is_known if self.fixed else is_constant, values))
+                if is_one and len(set(map(c.text, values))) == 1 and facts.is_fixed(parameter):
                     found.setdefault(key, {})[order] = values[0]
         return found
 
@@ -264,8 +288,9 @@ class Library:
         """What a comment says of parameters that are left out."""
         out = [""] if known else []
         for order, value in known.items():
-            prefix = self.types.plain_name(parameters[order].meaning).upper()
-            shown = value.name.removeprefix(f"{prefix}_").replace("_", " ").lower()
+            # Of a struct that is made of constants the last one says what it is.
+            word = value if isinstance(value, c.Word) else [one for one in value.fields.values() if isinstance(one, c.Word)][-1]
+            shown = word.name.removeprefix(word.of.text().removeprefix("enum ").upper() + "_").replace("_", " ").lower()
             out.append(f"The {parameters[order].name} is {shown} in each call, and so it is left out.")
         return out
 
@@ -280,6 +305,56 @@ class Library:
             passes.on_expressions(statements, change)
             written.parameters = [one for one in written.parameters if one not in constants]
             self.known_of[written.name] = known
+
+    def put_members(self, statements):
+        """Puts their values in the place of members that are known, and leaves out what is written to them."""
+        if not self.fixed:
+            return
+
+        def key_of(one):
+            return (one.base.of.text(), one.name) if isinstance(one, c.Field) else None
+
+        def change(one):
+            value = self.fixed.get(key_of(one))
+            return passes.simpler(value(one) if value else one)
+
+        for body in passes.every_list(statements):
+            out = []
+            for one in body:
+                if isinstance(one, c.Set) and key_of(one.to) in self.fixed:
+                    out += map(c.Do, passes.outer_calls(one.value))
+                else:
+                    out.append(one)
+            body[:] = out
+        passes.on_expressions(statements, change)
+
+    def leave_out_unread(self, written):
+        """Leaves out what is given for parameters that nothing reads, and puts in the place of a call what it only passes its arguments on
+        to, or the number that it is."""
+        def change(one):
+            if not isinstance(one, c.CallOf):
+                return one
+            left = [order for order in range(len(one.arguments)) if order not in self.unread.get(one.name, ())]
+            arguments = [one.arguments[order] for order in left]
+            if any(passes.outer_calls(each) for order, each in enumerate(one.arguments) if order not in left):
+                raise Unknown(f"a call of {one.name} with one that would be left out")
+            if one.name in self.instead:
+                value, parameters = self.instead[one.name]
+                return c.rebuilt(value, lambda part: arguments[parameters.index(part.variable)] if isinstance(part, c.Var) else part)
+            return dataclasses.replace(one, arguments=arguments, expects=tuple(one.expects[order] for order in left) if one.expects else ())
+
+        passes.on_expressions(written.statements, change)
+
+    def note_unread(self, written):
+        """Leaves out the parameters that nothing reads, and notes of a function whether another one stands in the place of its calls."""
+        reads = passes.Facts(written.statements).reads
+        gone = {order for order, one in enumerate(written.parameters) if not reads.get(one)}
+        if gone:
+            self.unread[written.name] = gone
+            written.parameters = [one for order, one in enumerate(written.parameters) if order not in gone]
+        value = passes.passed_on(written.statements, written.parameters)
+        if isinstance(value, c.Literal) or isinstance(value, c.CallOf) and value.name in self.passed_on:
+            self.instead[written.name] = value, list(written.parameters)
 
     def is_constant_call(self, call):
         """Whether a call stands for a constant, and has no argument that is known."""
@@ -298,8 +373,8 @@ class Library:
                 return one
             found = True
             for order, value in known.items():
-                if not isinstance(one.arguments[order], c.Word) or one.arguments[order].name != value.name:
-                    raise Unknown(f"a call of {one.name} without {value.name}")
+                if not is_known(one.arguments[order]) or c.text(one.arguments[order]) != c.text(value):
+                    raise Unknown(f"a call of {one.name} without {c.text(value)}")
             left = [order for order in range(len(one.arguments)) if order not in known]
             arguments = [one.arguments[order] for order in left]
             value, parameters = self.stands_for.get(one.name, (None, ()))
@@ -393,7 +468,7 @@ class Library:
 
     def is_large(self, of):
         """Whether a type of C is a large struct."""
-        structs = in_place.large(self.types.declarations, LARGE)
+        structs = in_place.large(self.types.declarations, LARGE | self.large)
         return isinstance(of, c.Named) and of.name.removeprefix("struct ") in structs
 
     def name_registers(self, written):

@@ -473,6 +473,8 @@ def remove_dead(statements):
             if isinstance(one, c.If) and isinstance(one.condition, c.Word):
                 changed = True
                 out += one.yes if one.condition.name == "true" else one.no
+                if c.leaves(out):
+                    return out
                 continue
             if isinstance(one, c.Switch) and isinstance(one.on, c.Word):
                 changed = True
@@ -511,6 +513,68 @@ def only_value(statements, parameters):
         return None
     read = [one.variable for one in inner if isinstance(one, c.Var)]
     return value if len(read) == len(parameters) and all(one in read for one in parameters) else None
+
+
+def without_idle_arrays(statements):
+    """Without what is written to the cells of arrays that nobody reads, and without copies of arrays that are only read, from structs that
+    are only read too."""
+    facts = Facts(statements)
+    written = {}
+    for one in c.all_statements(statements):
+        if isinstance(one, c.Set) and isinstance(one.to, c.Index) and is_start_of_array(one.to.pointer) and isinstance(one.to.pointer.base, c.Var):
+            if not facts.depends(one.value)[0]:
+                written.setdefault(one.to.pointer.base.variable, []).append(one)
+    mentioned = {}
+    for one in c.all_statements(statements):
+        for part in (part for whole in c.expressions(one) for part in c.every(whole)):
+            if isinstance(part, c.Var):
+                mentioned[part.variable] = mentioned.get(part.variable, 0) + 1
+    idle = {id(one) for variable, sets in written.items() if mentioned[variable] == len(sets) and not variable.is_parameter for one in sets}
+    copied = {}
+    for one in c.all_statements(statements):
+        if isinstance(one, c.Set) and isinstance(one.to, c.Var) and isinstance(one.value, c.Field) and isinstance(one.value.base, c.Var):
+            to, of = one.to.variable, one.value.base.variable
+            if is_only_read(statements, to) and is_only_read(statements, of) and facts.definitions.get(to) == facts.definitions.get(of) == 1:
+                copied[to] = one.value
+                idle.add(id(one))
+    for body in every_list(statements):
+        body[:] = [one for one in body if id(one) not in idle]
+    on_expressions(statements, lambda one: copied.get(one.variable, one) if isinstance(one, c.Var) else one)
+
+
+def is_only_read(statements, variable):
+    """Whether a struct is set as a whole, and otherwise read, or given to functions that only read it."""
+    if variable.is_parameter or not variable.of.text().startswith("struct "):
+        return False
+    for one in c.all_statements(statements):
+        if isinstance(one, c.Set) and not isinstance(one.to, c.Var) and any(isinstance(part, c.Var) and part.variable is variable for part in c.every(one.to)):
+            return False
+        for part in (part for whole in c.expressions(one) for part in c.every(whole)):
+            if isinstance(part, c.AddressOf) and root(part.place) is variable:
+                return False
+            if isinstance(part, c.CallOf) and part.name != "uart_same_bytes" and any(is_start_of_array(each) and root(each) is variable for each in part.arguments):
+                return False
+    return True
+
+
+def outer_calls(one):
+    """The calls of an expression that do something, each with those that are in its arguments."""
+    if isinstance(one, c.CallOf) and not one.is_pure:
+        return [one]
+    return [call for part in c.parts(one) for call in outer_calls(part)]
+
+
+def passed_on(statements, parameters):
+    """The only thing that a function does: a call that gets each parameter once, in its order, or a number that it returns; or None."""
+    one = statements[0] if len(statements) == 1 else None
+    value = one.value if isinstance(one, c.Return) else one.call if isinstance(one, c.Do) else None
+    if isinstance(value, c.Literal):
+        return value if not parameters else None
+    if not isinstance(value, c.CallOf):
+        return None
+    read = [part.variable for part in c.every(value) if isinstance(part, c.Var)]
+    has_call = any(isinstance(part, c.CallOf) for each in value.arguments for part in c.every(each))
+    return value if read == list(parameters) and not has_call else None
 
 
 # Values that are used once, where they are used.
@@ -909,6 +973,17 @@ def as_for(before, loop, behind):
                 return None
             return one, c.For(one, loop.condition, step, loop.body[:-1])
     return None
+
+
+def narrow_counters(statements):
+    """Counts up to a constant of 32 bits in 32 bits, if what is counted is only compared with it."""
+    for one in c.all_statements(statements):
+        if not (isinstance(one, c.For) and isinstance(one.condition, c.Binary) and one.condition.operator == "<" and isinstance(one.first.to, c.Var)):
+            continue
+        variable, limit = one.first.to.variable, one.condition.right
+        is_small = isinstance(limit, c.Word) or isinstance(limit, c.Literal) and limit.value < 1 << 32
+        if is_small and isinstance(variable.of, c.Number) and variable.of.text() == "uint64_t" and not mentions(one.body, variable):
+            variable.of = c.Number(32)
 
 
 def mentions(statements, variable):

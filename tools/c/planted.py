@@ -126,5 +126,78 @@ IN_TRANSLATOR_OF_PORT = [
     ("another case of a constant", "passes.py", "label.name == switch.on.name", "label.name != switch.on.name"),
 ]
 
-IN_C = {"driver": IN_DRIVER, "port": IN_PORT}
-IN_TRANSLATOR = {"driver": IN_TRANSLATOR_OF_DRIVER, "port": IN_TRANSLATOR_OF_PORT}
+# Of u16550_console.c.
+IN_CONSOLE = [
+    ("a burst of 15 of 16", "uart_write_data(found, 16);\n        return 16;", "uart_write_data(found, 16);\n        return 15;"),
+    ("a whole burst from 12 on", "bytes_len >= 16 ? bytes : NULL", "bytes_len >= 12 ? bytes : NULL"),
+    ("LSR forgets what was saved", "uart->saved_lsr |= lsr &", "uart->saved_lsr = lsr &"),
+    ("one poll more for room", "turn = 1; turn < U16550_CONSOLE_POLLS; turn++) {\n        if (uart_ready_to_send",
+     "turn = 1; turn <= U16550_CONSOLE_POLLS; turn++) {\n        if (uart_ready_to_send"),
+    ("one poll less for a bit", "turn = 0; turn < U16550_CONSOLE_POLLS; turn++) {\n        if ((uart_read_lsr(uart) & bits)",
+     "turn = 1; turn < U16550_CONSOLE_POLLS; turn++) {\n        if ((uart_read_lsr(uart) & bits)"),
+    ("the low byte of a divisor", "divisor % 256", "divisor % 255"),
+    ("the high byte of a divisor", "divisor / 256", "divisor / 128"),
+    ("the frame with DLAB set", "uart_device_write(UART_LCR, frame);", "uart_device_write(UART_LCR, frame | U16550_LCR_DLAB);"),
+    ("seven data bits", "return (lcr & 252) | 3;", "return (lcr & 252) | 2;"),
+    ("another trigger level", "{ true, U16550_CORE_FIFO_TRIGGER_LEVEL_FOURTEEN };", "{ true, U16550_CORE_FIFO_TRIGGER_LEVEL_EIGHT };"),
+    ("a drain of 16", "turn < 17", "turn < 16"),
+    ("an interrupt is on", "uart->saved_lsr = 0;\n    uart_device_write(UART_IER, 0);", "uart->saved_lsr = 0;\n    uart_device_write(UART_IER, 1);"),
+    ("the scratch register stays", "    uart_device_write(UART_SPR, old);\n", ""),
+    ("a byte of the loopback's message", "32, 119, 111, 114, 108,", "32, 119, 111, 115, 108,"),
+    ("loopback is not left", "    uart_device_write(UART_MCR, mcr);\n", "    uart_device_write(UART_MCR, mcr | U16550_MCR_LOOP_BACK);\n"),
+    ("errors of the loopback are kept", "    uart->saved_lsr = noted;\n", ""),
+    ("bytes from before the test stay", "    if (!uart_drain_received(uart))\n        return UART_LOOPBACK_ERROR_STALLED;\n", ""),
+    ("the last byte of the message may be any", "uart_echo_whole_bytes, 16))", "uart_echo_whole_bytes, 15))"),
+    ("a failed echo is one byte", "        if (!found.is_some) {\n            made.is_some = false;\n            return made;\n        }\n", ""),
+    ("an open latch is taken", "    if ((uart_device_read(UART_LCR) & U16550_LCR_DLAB) != 0)\n        return uart_bad",
+     "    if ((uart_device_read(UART_LCR) & U16550_LCR_SET_BREAK) != 0)\n        return uart_bad"),
+    ("half a divisor is none", "pair.first == 0 && pair.second == 0", "pair.first == 0 || pair.second == 0"),
+    ("the FIFO after an attach", "uart->fifo_enabled = uart_isr_fifo_enabled(uart_device_read(UART_ISR));", "uart_device_read(UART_ISR);"),
+    ("a character that is no text", "byte >= 32 && byte < 127", "byte >= 32 && byte < 128"),
+    ("a line end the other way round", "{ 13, 10, 0 }", "{ 10, 13, 0 }"),
+    ("bursts without a FIFO", "    if (uart->fifo_enabled)\n        return uart_send_bursts(", "    if (!uart->fifo_enabled)\n        return uart_send_bursts("),
+    ("the wrong error", "return U16550_CONSOLE_LOOPBACK_UNEXPECTED_MSG;", "return U16550_CONSOLE_LOOPBACK_UNEXPECTED_BYTE;"),
+    ("an error of attach that is another", "return U16550_CONSOLE_NO_DIVISOR;", "return U16550_CONSOLE_LOOPBACK;"),
+    ("no byte is a byte", "found.is_some ? found.value : -1", "found.is_some ? found.value : 0"),
+    ("all is sent", "stalled.is_error ? stalled.error : len", "stalled.is_error ? len : len"),
+    ("last words in loopback", "kept | U16550_MCR_DTR | U16550_MCR_RTS);", "kept | U16550_MCR_DTR);"),
+    ("last words without a FIFO", "    uart->fifo_enabled = true;\n", ""),
+]
+
+# Of the part of it that accesses registers in memory.
+IN_MEMORY = [
+    ("no barrier in front of an access", "        U16550_BARRIER();                                                   \\\n        UART_LOAD",
+     "        UART_LOAD"),
+    ("no barrier behind an access", "        UART_STORE(bits, store);                                            \\\n        U16550_BARRIER();",
+     "        UART_STORE(bits, store);"),
+    ("registers one beside the other", "(uintptr_t)((uintptr_t)offset * U16550_CONSOLE_STRIDE)", "(uintptr_t)offset"),
+    ("a register of 16 bits is one of 8", "#define UART_STORE_REGISTER uart_store_16", "#define UART_STORE_REGISTER(at, value) (*(uint8_t *)(at) = (value))"),
+]
+
+# Of what makes it.
+IN_TRANSLATOR_OF_CONSOLE = [
+    ("another level for ever", "console.py", "U16550_CORE_FIFO_TRIGGER_LEVEL_FOURTEEN", "U16550_CORE_FIFO_TRIGGER_LEVEL_EIGHT"),
+    ("CTS is checked", "console.py", '"check_cts_before_sending": "false"', '"check_cts_before_sending": "true"'),
+    ("FIFOs of 32", "console.py", '"U16550_CORE_FIFO_SIZE_SIXTEEN"', '"U16550_CORE_FIFO_SIZE_THIRTY_TWO"'),
+    ("an interrupt for ever", "console.py", '(config, "interrupts"): lambda one: c.Literal(0', '(config, "interrupts"): lambda one: c.Literal(1'),
+    ("a parity for ever", "console.py", '"U16550_CORE_PARITY_DISABLED"', '"U16550_CORE_PARITY_EVEN"'),
+    ("the branch that is never taken", "passes.py", 'out += one.yes if one.condition.name == "true"', 'out += one.yes if one.condition.name == "false"'),
+    ("an array that is read is not written", "passes.py", "mentioned[variable] == len(sets)", "mentioned[variable] >= len(sets)"),
+    ("a parameter that is read is left out", "library.py", "if not reads.get(one)}", "if reads.get(one)}"),
+    ("an argument that is left is left out", "library.py", "if order not in self.unread.get(one.name, ())]", "if order in self.unread.get(one.name, ())]"),
+    ("the arguments of an access change places", "library.py", "self.instead[written.name] = value, list(written.parameters)",
+     "self.instead[written.name] = value, written.parameters[::-1]"),
+    ("an access of an argument too many", "passes.py", "return value if read == list(parameters) and not has_call else None", "return value"),
+    ("a copy of what changes", "passes.py", "        if isinstance(one, c.Set) and not isinstance(one.to, c.Var) and any(", "        if False and any("),
+    ("a loop of a large struct ends early", "in_place.py", "out += [*set_parts(c.Var(made), one.value), c.Return(c.Var(made))]", "out += [c.Return(c.Var(made))]"),
+]
+
+# Of those in what makes a pair: the ones that leave the C as it is, since no function of the source needs yet what they take away, and why.
+# Once the C differs by one of them, that has to be found as the others are.
+NOT_NEEDED = {
+    "an access of an argument too many": "each function that only makes an access gives it each parameter once, and calls nothing for it",
+    "a copy of what changes": "only the message that a loopback test compares is a copy that goes, and no part of it or of its origin is set",
+}
+
+IN_C = {"driver": IN_DRIVER, "console": IN_CONSOLE, "port": IN_PORT}
+IN_TRANSLATOR = {"driver": IN_TRANSLATOR_OF_DRIVER, "console": IN_TRANSLATOR_OF_CONSOLE, "port": IN_TRANSLATOR_OF_PORT}

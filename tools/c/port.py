@@ -6,6 +6,7 @@ import sys
 import textwrap
 
 import names
+from header import LICENCE
 from kit import program_of
 from library import Library, Unknown
 from names import snake
@@ -54,7 +55,7 @@ INLINE = """/* For a function that is to stand in the place of its calls, unless
 READ, WRITTEN = "DATA IER ISR LCR MCR LSR MSR SPR".split(), "DATA IER FCR LCR MCR LSR MSR SPR".split()
 INCLUDE = ROOT / "crates" / EXPORTS / "include"
 GUARD = "UART_PORT_H"
-INTRODUCTION = """/*
+INTRODUCTION = f"""{LICENCE}/*
  * uart_port.h - a 16550A or 16450 serial chip in software, and a serial port for virtual machine monitors over it.
  *
  * Made by tools/c/emit from the code that is proved, and from the headers of the library that the kit builds. Do not edit.
@@ -72,7 +73,7 @@ INTRODUCTION = """/*
  * this is made from, which the C is compared with.
  */
 """
-TOP = """/*
+TOP = f"""{LICENCE}/*
  * uart_port.c - a 16550A or 16450 serial chip in software, and a serial port for monitors. uart_port.h says how it is used.
  *
  * Made by tools/c/emit from the code that is proved. Do not edit. Names and comments are those of its source, and what is computed

@@ -35,6 +35,8 @@ class Representation:
         self.forest, self.source, self.public = forest, source, public
         self.kinds, self.names, self.declarations, self.makers = {}, {}, [], {}
         self.in_header = set()
+        # The enums of which nobody reads more than which variant one is: in C they are plain.
+        self.bare = set()
 
     def put_into_header(self, of):
         """The names of this type, and of all that it is made of, begin as those of the header do."""
@@ -101,7 +103,7 @@ class Representation:
         if name.endswith("ErrResidual"):
             return Kind("wrapper", 0, parts[0][0])
         if shape == "Variants":
-            is_plain = all(self.is_unit(one) for part in parts for one in part)
+            is_plain = name in self.bare or all(self.is_unit(one) for part in parts for one in part)
             return Kind("enum") if is_plain else Kind("tagged")
         full = [order for order, one in enumerate(parts[0]) if not self.is_unit(one)]
         if not full:

@@ -9,12 +9,14 @@ use uart_16550_chip::registers::LSR;
 use uart_16550_chip::{Chip, LiveChip, NoEvents, Output, Serial, Trigger};
 
 pub const DATA_OFFSET: u8 = 0;
+pub const IER_OFFSET: u8 = 1;
+pub const ISR_OFFSET: u8 = 2;
+pub const MCR_OFFSET: u8 = 4;
 pub const LSR_OFFSET: u8 = 5;
 
 /// How many calls a round makes.
 pub const EACH: usize = 16;
 
-const IER_OFFSET: u8 = 1;
 const FCR_OFFSET: u8 = 2;
 const FIFO_ON: u8 = 0x01;
 /// How many bytes the wire has room for.

@@ -10,6 +10,9 @@ use vm_superio::serial::{Error, NoEvents, SerialState};
 use vm_superio::{Serial, Trigger};
 
 pub const DATA: u8 = 0;
+pub const IER: u8 = 1;
+pub const ISR: u8 = 2;
+pub const MCR: u8 = 4;
 pub const LSR: u8 = 5;
 
 /// How many calls a round makes.

@@ -4,6 +4,8 @@
  */
 #if defined(OF_PORT)
 #include "port.h"
+#elif defined(OF_CONSOLE)
+#include "console.h"
 #else
 #include "calls.h"
 #endif

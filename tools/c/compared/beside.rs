@@ -17,6 +17,15 @@ pub unsafe fn called(function: unsafe extern "C-unwind" fn()) -> Vec<u64> {
     }
 }
 
+impl Choices {
+    /// Returns choices of a value that is known, of which each is made: these, and the first one behind them.
+    pub fn known(path: &[u64]) -> Self {
+        let mut made = Self::new(Mode::All, 0);
+        made.path = path.iter().map(|choice| (*choice, choice + 1)).collect();
+        made
+    }
+}
+
 fn choices_of_case() -> &'static mut Choices {
     // SAFETY: `once` put the choices of the case there, which outlive it.
     unsafe { &mut *CASE.with_borrow(|case| case.choices) }

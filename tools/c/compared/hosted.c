@@ -4,6 +4,8 @@
 
 #if defined(OF_PORT)
 #include "port.h"
+#elif defined(OF_CONSOLE)
+#include "console.h"
 #else
 #include "calls.h"
 #endif
@@ -43,7 +45,7 @@ void __cyg_profile_func_enter(void *function, void *site)
     size_t place;
     void *call;
     (void)site;
-#if !defined(OF_PORT)
+#if !defined(OF_PORT) && !defined(OF_CONSOLE)
     if (!is_nested)
         first = 0;
     else if (first == 0)

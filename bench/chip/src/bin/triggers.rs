@@ -60,7 +60,7 @@ impl Device for Port {
 
 fn port(signals: Signals, has_clock: bool) -> Port {
     let mut serial = Serial::with_events(Line(signals.clone()), Events(signals), sink());
-    serial.set_clock(has_clock);
+    serial.set_clock(has_clock).expect("the trigger does not fail");
     Port(serial)
 }
 

@@ -1,0 +1,128 @@
+"""The pair u16550_console: a console over one chip at an address that is known when it is compiled."""
+import re
+import sys
+
+import names
+import syntax as c
+from driver import ROOT, text_of
+from header import LICENCE
+from kit import program_of
+from library import Library, Unknown
+from port import named_in
+from representation import OPTION
+from tree import DEVICE
+
+OWN = ("uart_spec", "uart_16550")
+# The struct of the driver, and its name in this pair.
+DRIVER, CONSOLE = "struct u16550_core_driver", "struct u16550_console"
+OF_DRIVER = "uart_16550::driver::Uart16550::"
+# The functions of the driver that the layer calls.
+CALLED = [*(OF_DRIVER + one for one in ("set_up", "attach", "test_loopback", "try_send_byte", "send_bytes_exact", "try_receive_byte",
+                                        "lsr", "set_modem_control", "send_singly")),
+          "uart_16550::tty::Uart16550Tty::write_raw_text"]
+# The members of the driver that one program has only one value of.
+SIXTEEN, LIMIT = "U16550_CORE_FIFO_SIZE_SIXTEEN", "U16550_CONSOLE_POLLS"
+CONFIG = {"check_cts_before_sending": "false", "extra_stop_bits": "false", "data_bits": "U16550_CORE_WORD_LENGTH_EIGHT_BITS",
+          "parity": "U16550_CORE_PARITY_DISABLED"}
+BITS = {"U16550_MCR_OUT_1": 4, "U16550_LCR_SET_BREAK": 64}
+TOP = f"""{LICENCE}/*
+ * u16550_console.c - a console over one 16550. u16550_console.h says how it is used.
+ *
+ * Made by tools/c/emit from the code that is proved. Do not edit. Names and comments are those of its source, and what is computed
+ * is taken from what the proofs are about. The functions at the end are by hand.
+ */
+#include "u16550_console.h"
+"""
+# The errors of which the layer tells only which one it is.
+BARE = ("uart_spec::errors::InitError", "uart_spec::errors::LoopbackError")
+# The structs that are made where they are returned, and not copied.
+LARGE = ("uart_bytes16",)
+# The members of the driver that a console has not.
+GONE = ("backend", "config", "fifo_size", "saved_msr", "spin_limit")
+
+
+def constant(name):
+    return lambda one: c.Word(name, one.of)
+
+
+def members(library):
+    """What is known of members: the value that each has for ever."""
+    level = next(one for one in library.forest.program.types if one.endswith("::FifoTriggerLevel"))
+
+    def some_level(one):
+        # The level that Config::DEFAULT has.
+        inner = c.Word("U16550_CORE_FIFO_TRIGGER_LEVEL_FOURTEEN", c.Named("enum u16550_core_fifo_trigger_level"))
+        return library.made(("Named", OPTION, (("Named", level, ()),)), 1, [("is_some", c.Word("true", c.BOOL)), ("value", inner)])
+
+    config = "struct u16550_core_config"
+    return {(DRIVER, "fifo_size"): constant(SIXTEEN), (DRIVER, "spin_limit"): constant(LIMIT),
+            (DRIVER, "backend"): constant("uart_chip"), (DRIVER, "config"): constant("uart_config"), (DRIVER, "saved_msr"): None,
+            **{(config, name): constant(value) for name, value in CONFIG.items()},
+            (config, "interrupts"): lambda one: c.Literal(0, one.of), (config, "fifo_trigger_level"): some_level}
+
+
+def made(folder):
+    """The texts of the header and of the source, and the library that was translated."""
+    known = {}
+    library = translated(folder, known)
+    while more := library.constants():
+        known = {key: known.get(key, {}) | more.get(key, {}) for key in known.keys() | more.keys()}
+        library = translated(folder, known)
+    text = driver_as_terminal(in_place_of_device(library.text()))
+    layer = text_of("layer_console.c")
+    text = called_by(text, layer)
+    struct = next(one for name, one in library.types.declarations if f"struct {name}" == DRIVER)
+    shown = re.sub(rf"(?m)^ *[^\n]*\b({'|'.join(GONE)});\n", "", struct[struct.index(DRIVER):])
+    # What the driver is made of, and a console has not, is not declared.
+    own = named_in([one for one in library.types.declarations if one[1] != struct], text + layer + shown)
+    if found := re.search(rf"\b(uart_config|uart_chip)\b|(->|\.)({'|'.join(GONE)})\b", re.sub(r"/\*[\s\S]*?\*/", "", text) + layer):
+        sys.exit(f"emit: {found[0]} is left out, and is read")
+    offsets = [f"    UART_{name} = {value}" for name, value in sorted(library.offsets.items(), key=lambda one: (one[1], one[0]))]
+    bits = [f"    {name} = {value:#04x}" for name, value in sorted((library.bits | BITS).items())]
+    numbers = "\n/* Where the registers are, and their bits. */\nenum {\n" + ",\n".join(offsets + bits) + "\n};\n"
+    device = text_of("layer_console_top.c").replace("ACCESSES\n", accesses())
+    source = "\n".join([TOP + numbers, device, "\n".join(own), text, layer])
+    files = {"u16550_console.h": LICENCE + text_of("console_h.h").replace("STRUCT\n", shown + "\n"), "u16550_console.c": source}
+    return {name: one.replace(DRIVER, CONSOLE) for name, one in files.items()}, library
+
+
+def accesses():
+    """How `u16550_new_mmio_wide` accesses registers: the barriers, and a load and a store between two of them."""
+    guards, memory = text_of("layer_guards.c"), text_of("layer_memory.c")
+    fence, ordered = guards.index("/* What is before this in the text"), memory.index("/*\n * Makes the processor finish")
+    end = "#endif\n"
+    return guards[fence:guards.index(end, fence) + len(end)] + "\n" + memory[ordered:memory.index("UART_WORD(8, ")]
+
+
+def in_place_of_device(text):
+    """A text in which the functions that reach the device are not given it: there is one."""
+    return text.replace("(&uart_chip, ", "(")
+
+
+def driver_as_terminal(text):
+    """A text in which a terminal, which is a driver and nothing else, is one."""
+    return re.sub(r"struct uart_tty \*tty\b", f"{DRIVER} *uart", text).replace("&tty->inner", "uart").replace("(tty, ", "(uart, ")
+
+
+def called_by(text, layer):
+    """A text without the functions whose calls have gone on the way."""
+    pattern = r"(?m)^(?:/\*(?:(?!\*/)[\s\S])*\*/\n)?static [\w *]*?[\n *](uart_\w+)\([^(){};]*\)\n\{\n[\s\S]*?^\}\n\n?"
+    while gone := [one for one in re.finditer(pattern, text) if len(re.findall(rf"\b{one[1]}\(", text + layer)) == 1]:
+        for one in reversed(gone):
+            text = text[:one.start()] + text[one.end():]
+    return text
+
+
+def translated(folder, known):
+    library = Library(program_of(OWN, folder, "./prove uart_16550"), names.Source(ROOT, OWN), {}, OWN, "U16550", known=known)
+    library.fixed = members(library)
+    library.types.bare = set(BARE)
+    library.large = set(LARGE)
+    library.passed_on = {"uart_device_read", "uart_device_write"}
+    library.types.put_into_header(("Named", OF_DRIVER.rsplit("::", 2)[0] + "::Uart16550", (DEVICE,)))
+    for name in CALLED:
+        try:
+            library.want(name)
+        except Unknown as cause:
+            sys.exit(f"emit: {name}: {cause}")
+    return library

@@ -1,0 +1,97 @@
+/* ---- the functions of the header, by hand: errors as numbers */
+
+int u16550_console_init(struct u16550_console *uart)
+{
+    switch (uart_set_up(uart, U16550_CONSOLE_DIVISOR)) {
+    case UART_INIT_ERROR_NONE:
+        return U16550_CONSOLE_OK;
+    case UART_INIT_ERROR_DEVICE_NOT_PRESENT:
+        return U16550_CONSOLE_DEVICE_NOT_PRESENT;
+    default:
+        return U16550_CONSOLE_INIT_STALLED;
+    }
+}
+
+int u16550_console_attach(struct u16550_console *uart)
+{
+    switch (uart_attach(uart).error) {
+    case UART_ATTACH_ERROR_NONE:
+        return U16550_CONSOLE_OK;
+    case UART_ATTACH_ERROR_DIVISOR_LATCH_OPEN:
+        return U16550_CONSOLE_DIVISOR_LATCH_OPEN;
+    case UART_ATTACH_ERROR_LOOPBACK:
+        return U16550_CONSOLE_LOOPBACK;
+    default:
+        return U16550_CONSOLE_NO_DIVISOR;
+    }
+}
+
+int u16550_console_test_loopback(struct u16550_console *uart)
+{
+    switch (uart_test_loopback(uart)) {
+    case UART_LOOPBACK_ERROR_NONE:
+        return U16550_CONSOLE_OK;
+    case UART_LOOPBACK_ERROR_SEND_ERROR:
+        return U16550_CONSOLE_LOOPBACK_NO_CAPACITY;
+    case UART_LOOPBACK_ERROR_UNEXPECTED_LOOPBACK_BYTE:
+        return U16550_CONSOLE_LOOPBACK_UNEXPECTED_BYTE;
+    case UART_LOOPBACK_ERROR_UNEXPECTED_LOOPBACK_MSG:
+        return U16550_CONSOLE_LOOPBACK_UNEXPECTED_MSG;
+    default:
+        return U16550_CONSOLE_LOOPBACK_STALLED;
+    }
+}
+
+int u16550_console_put(struct u16550_console *uart, uint8_t byte)
+{
+    return uart_send_singly(uart, &byte, 1).is_error ? U16550_CONSOLE_STALLED : U16550_CONSOLE_OK;
+}
+
+int u16550_console_try_put(struct u16550_console *uart, uint8_t byte)
+{
+    return uart_try_send_byte(uart, byte) == UART_BYTE_SEND_ERROR_NONE ? U16550_CONSOLE_OK : U16550_CONSOLE_NO_CAPACITY;
+}
+
+int u16550_console_get(struct u16550_console *uart)
+{
+    struct uart_maybe_u8 found = uart_try_receive_byte(uart);
+    return found.is_some ? found.value : -1;
+}
+
+size_t u16550_console_send(struct u16550_console *uart, const uint8_t *bytes, size_t len)
+{
+    struct uart_maybe_stalled_error stalled = uart_send_bytes_exact(uart, bytes, len);
+    return stalled.is_error ? stalled.error : len;
+}
+
+int u16550_console_write_text(struct u16550_console *uart, const char *text, size_t len)
+{
+    return uart_tty_write_raw_text(uart, (const uint8_t *)text, len).is_error ? U16550_CONSOLE_STALLED : U16550_CONSOLE_OK;
+}
+
+/* As u16550_emergency, which is by hand too. */
+int u16550_console_emergency(struct u16550_console *uart)
+{
+    const uint8_t no_text = U16550_LCR_DLAB | U16550_LCR_SET_BREAK;
+    uint8_t kept, lcr = uart_device_read(UART_LCR);
+    for (uint32_t writes = 0; writes < U16550_CONSOLE_POLLS && (lcr & no_text) != 0; writes++) {
+        uart_device_write(UART_LCR, (uint8_t)(lcr & ~no_text));
+        lcr = uart_device_read(UART_LCR);
+    }
+    if ((lcr & no_text) != 0)
+        return U16550_CONSOLE_DIVISOR_LATCH_OPEN;
+    uart_device_write(UART_IER, 0);
+    /* The other outputs stay: loopback and a flow control by the chip would hold text back. */
+    kept = uart_device_read(UART_MCR) & (U16550_MCR_OUT_1 | U16550_MCR_OUT_2_INT_ENABLE);
+    uart_set_modem_control(kept | U16550_MCR_DTR | U16550_MCR_RTS);
+    if ((uart_device_read(UART_MCR) & U16550_MCR_LOOP_BACK) != 0)
+        return U16550_CONSOLE_LOOPBACK;
+    uart->fifo_enabled = true;
+    uart->saved_lsr = 0;
+    return U16550_CONSOLE_OK;
+}
+
+uint8_t u16550_console_lsr(struct u16550_console *uart)
+{
+    return uart_lsr(uart);
+}
