@@ -1,4 +1,6 @@
 """What is by hand around the emitted packages: nothing there may change what the emitted code means."""
+import os
+import pathlib
 import re
 import tomllib
 
@@ -18,6 +20,10 @@ USES = {
     "rust/uart_16550": {**OF_KIT, "uart_spec": "uart_spec", "uart_driver": "uart_16550", "uart_design_ware": "uart_design_ware", "uart_rs485": "uart_rs485", "uart_ring": "uart_ring", "uart_waits": "uart_waits", "uart_discovery": "uart_discovery"},
     "rust/uart_16550_chip": {packages.KIT: packages.KIT, **{name: name for name in ("uart_spec", "uart_live", "uart_virtual")}},
 }
+# What would take the place of a file, a module or a package of ours in the users' packages, whose examples alone read another file.
+ELSEWHERE = re.compile(r"#!?\[\s*(path)\b|\b(include)\s*!|\bmod\s+(\w+)|\bas\s+(\w+)")
+# Which compiler is used. It is what the machine has.
+TOOLCHAIN = ["rust-toolchain", "rust-toolchain.toml"]
 ODD = re.compile(r"\b(macro_use|no_implicit_prelude|register_tool|no_core|extern\s+crate)\b|#!?\[\s*(path)\b|\b(feature)\s*\(")
 # Attributes that disable code by hand on some target, or let it be what Rust refuses.
 CONDITION = re.compile(r"#!?\[\s*(cfg|cfg_attr|allow|expect)\b\s*(\([^\n]*\))")
@@ -32,22 +38,25 @@ COMMON = {"version": packages.VERSION, "repository": packages.REPOSITORY, "homep
 SECTIONS = ["package", "lib", "features", "dependencies", "dev-dependencies"]
 # The workspace: stand-ins for five libraries, and profiles that change how fast a program is, and not what it does.
 WORKSPACE = ["workspace", "patch", "profile"]
-PROFILE = ["codegen-units", "debug", "incremental", "lto", "opt-level", "panic", "strip"]
+# What a profile inherits is cargo's own, or that of another profile here, of which the same is asked.
+PROFILE = ["codegen-units", "debug", "incremental", "inherits", "lto", "opt-level", "panic", "strip"]
 STAND_INS = {name: {"path": f"rust/uart_16550/tests/{name}"} for name in ("embedded-io", "embedded-io-async")}
 STAND_INS["serde"] = {"path": "rust/uart_16550_chip/tests/serde"}
 # Of a package beside these, which no emitted one is compiled with.
 STAND_INS |= {name: {"path": f"rust/uart_16550_vmm/tests/{name}"} for name in ("vm-superio", "vm-device")}
-# In .cargo/config.toml: that cargo asks no index.
+# In .cargo/config.toml: that cargo asks no index; and below a package that uses one of Debian's, that they are in place of the index.
 OFFLINE = {"net": {"offline": True}}
+OF_DEBIAN = {"source": {"crates-io": {"replace-with": "debian"}, "debian": {"directory": "/usr/share/cargo/registry"}}}
+WITH_DEBIAN = ["bench/vm-superio", "examples/census/vm-superio", "rust/guest/vm-superio", "rust/tests/from_vm_superio"]
 
 
 def files_of(root):
     """The files by hand by name, as text, or None for what is no plain file."""
     files = {}
     folders = [*UNDER, *OVER]
-    paths = [root / "Cargo.toml", *(root / ".cargo").rglob("*"), *(root / "rust/.cargo").rglob("*")]
+    paths = [root / "Cargo.toml", *of_cargo(root)]
     for folder in folders:
-        paths += [root / folder / "Cargo.toml", root / folder / "build.rs", *(root / folder / ".cargo").rglob("*")]
+        paths += [root / folder / "Cargo.toml", root / folder / "build.rs"]
         paths += (root / folder / "src").rglob("*")
     emitted = root / table.OUTPUT
     paths += [path for path in emitted.rglob("*") if is_around(path.relative_to(emitted))]
@@ -57,6 +66,14 @@ def files_of(root):
         elif path.is_file():
             files[str(path.relative_to(root))] = path.read_text(encoding="utf-8")
     return files
+
+
+def of_cargo(root):
+    """The files that tell cargo and rustup how to build, wherever they are: what is built in a folder or below it reads them."""
+    for at, folders, names_there in os.walk(root):
+        folders[:] = [one for one in folders if one not in (".git", "target", "out")]
+        here = pathlib.Path(at)
+        yield from (here / name for name in names_there if name in TOOLCHAIN or here.name == ".cargo")
 
 
 def is_around(path):
@@ -74,8 +91,10 @@ def causes(files):
     for name, text in files.items():
         if name.endswith("build.rs"):
             found.append(f"{name}: there")
-        if "/.cargo/" in f"/{name}" and read(text) != OFFLINE:
+        if "/.cargo/" in f"/{name}" and read(text) != (OF_DEBIAN if name.partition("/.cargo/")[0] in WITH_DEBIAN else OFFLINE):
             found.append(f"{name}: more than that cargo asks no index")
+        if name.rpartition("/")[2] in TOOLCHAIN:
+            found.append(f"{name}: another compiler than the machine has")
         if name.endswith(".rs"):
             found += code(name, text)
     found += by_hand(files) + below.causes(files)
@@ -88,6 +107,9 @@ def code(name, text):
     """What is wrong with a file of code by hand: it may not reach what is in no interface, nor what requires something and tests nothing."""
     text, found = re.sub(r"(?m)//.*$", "", text), []
     is_under = any(name.startswith(f"{folder}/") for folder in UNDER)
+    for folder in OVER:
+        if name.startswith(f"{folder}/"):
+            found += elsewhere(name, text, USES[folder])
     odd = ODD.search(text)
     if odd and name.startswith(f"{table.OUTPUT}/"):
         found.append(f"{name}: `{odd[1] or odd[2] or odd[3]}`")
@@ -98,6 +120,15 @@ def code(name, text):
         if guard.reason == table.INSIDE and re.search(rf"\b{function}\b", text):
             found.append(f"{name}: `{function}`, which requires something and tests nothing")
     return found
+
+
+def elsewhere(name, text, uses):
+    """What in a file of a users' package takes the place of a file of it, or of a package that it uses."""
+    for path, include, module, other in ELSEWHERE.findall(text):
+        if path or include:
+            yield f"{name}: `{path or include}`, another file in place of one of the package"
+        elif (module or other) in uses:
+            yield f"{name}: `{module or other}`, the name of a package, for something else"
 
 
 def by_hand(files):

@@ -17,49 +17,98 @@ FORMS = [
     (
         "the largest `NonZeroUsize`",
         "use std::num::NonZeroUsize;\nfn f() -> u64 {\n    NonZeroUsize::MAX.get() as u64\n}",
-        "a limit of `NonZeroUsize`",
+        "`MAX`, which is neither ours nor listed",
     ),
     (
         "`usize::try_from`",
         "fn f(x: u64) -> bool {\n    usize::try_from(x).is_ok()\n}",
-        "`try_from`, which may be of a `usize`",
+        "`try_from`, which is neither ours nor listed",
     ),
     (
         "`try_into` a `usize`",
         "fn f(x: u64) -> Option<usize> {\n    x.try_into().ok()\n}",
-        "`try_into`, which may be of a `usize`",
+        "`try_into`, which is neither ours nor listed",
     ),
     (
         "`count_zeros` of a `usize`",
         "fn f(x: usize) -> u32 {\n    x.count_zeros()\n}",
-        "`count_zeros`, which may be of a `usize`",
+        "`count_zeros`, which is neither ours nor listed",
     ),
     (
         "the zeros in front of a `usize`, counted",
         "fn f(x: usize) -> u32 {\n    x.leading_zeros()\n}",
-        "`leading_zeros`, which may be of a `usize`",
+        "`leading_zeros`, which is neither ours nor listed",
     ),
     (
         "the zeros at the end of a `usize`, counted",
         "fn f(x: usize) -> u32 {\n    x.trailing_zeros()\n}",
-        "`trailing_zeros`, which may be of a `usize`",
+        "`trailing_zeros`, which is neither ours nor listed",
     ),
     (
         "the bytes of a `usize` the other way round",
         "fn f(x: usize) -> usize {\n    x.swap_bytes()\n}",
-        "`swap_bytes`, which may be of a `usize`",
+        "`swap_bytes`, which is neither ours nor listed",
     ),
     (
         "`to_le_bytes` of a `usize`",
         "fn f(x: usize) -> u8 {\n    x.to_le_bytes()[7]\n}",
-        "`to_le_bytes`, which may be of a `usize`",
+        "`to_le_bytes`, which is neither ours nor listed",
     ),
     (
         "`parse::<usize>`",
         "fn f(x: &str) -> bool {\n    x.parse::<usize>().is_ok()\n}",
-        "`parse`, which may be of a `usize`",
+        "`parse`, which is neither ours nor listed",
     ),
-    ("`.sum()` of `usize`", "fn f(x: &[usize]) -> usize {\n    x.iter().sum()\n}", "`sum`, which may be of a `usize`"),
+    ("`.sum()` of `usize`", "fn f(x: &[usize]) -> usize {\n    x.iter().sum()\n}", "`sum`, which is neither ours nor listed"),
+    (
+        "a call of a `usize` as a value",
+        "fn f(x: Option<usize>) -> Option<u32> {\n    x.map(usize::count_zeros)\n}",
+        "`count_zeros`, which is neither ours nor listed",
+    ),
+    (
+        "`usize::from_str_radix`",
+        "fn f(x: &str) -> bool {\n    usize::from_str_radix(x, 16).is_ok()\n}",
+        "`from_str_radix`, which is neither ours nor listed",
+    ),
+    (
+        "`usize::wrapping_mul` as a value",
+        "fn f(x: &[usize]) -> usize {\n    x.iter().copied().fold(1, usize::wrapping_mul)\n}",
+        "`wrapping_mul`, which is neither ours nor listed",
+    ),
+    (
+        "`size_of_val`",
+        "fn f(x: Option<&usize>) -> Option<usize> {\n    x.map(size_of_val)\n}",
+        "`size_of_val`, which depends on the target",
+    ),
+    ("`!` of a local", "fn f(x: u8) -> usize {\n    let y = usize::from(x);\n    !y\n}", "`!` of what may be a `usize`"),
+    ("`not` of a `usize`", "fn f(x: usize) -> usize {\n    x.not()\n}", "`not`, which is neither ours nor listed"),
+    ("`!` of a value of any type", "fn f<T: Not>(x: T) -> T {\n    !x\n}", "`!` of what may be a `usize`"),
+    ("`>>` of a `usize`", "fn f(x: usize) -> usize {\n    x >> 33\n}", "`x >> 33` is not listed with its type"),
+    *(
+        (
+            f"`{call}`, which is what the order of bytes is",
+            f"fn f(x: {taken}) -> {given} {{\n    {call}(x)\n}}",
+            f"`{call.partition('::')[2]}`, which is neither ours nor listed",
+        )
+        for call, taken, given in (
+            ("u32::from_ne_bytes", "[u8; 4]", "u32"),
+            ("u16::to_ne_bytes", "u16", "[u8; 2]"),
+            ("u16::to_be", "u16", "u16"),
+            ("u16::from_be", "u16", "u16"),
+            ("u16::to_le", "u16", "u16"),
+            ("u16::from_le", "u16", "u16"),
+        )
+    ),
+    (
+        "`from_ne_bytes` behind another name of a number",
+        "type W = u32;\nfn f(x: [u8; 4]) -> W {\n    W::from_ne_bytes(x)\n}",
+        "`from_ne_bytes`, which is neither ours nor listed",
+    ),
+    (
+        "an address in a text",
+        "fn f(x: &u8) -> u8 {\n    format_args!(\"{:p}\", x);\n    3\n}",
+        "an address in a text",
+    ),
     (
         "`as Self` in an `impl` for `usize`",
         "trait T {\n    fn f(x: u64) -> Self;\n}\nimpl T for usize {\n    fn f(x: u64) -> Self {\n        x as Self\n    }\n}",
@@ -82,7 +131,8 @@ FORMS = [
     ),
 ]
 
-KIT_ROOT = "rust/kit/src/lib.rs"
+KIT_ROOT, ARRAY = "rust/kit/src/lib.rs", "rust/kit/src/array.rs"
+USERS = "rust/uart_16550/src/lib.rs"
 REGISTERS = "rust/proved/uart_spec/src/registers/by_hand.rs"
 AROUND = [
     (
@@ -143,6 +193,61 @@ AROUND = [
         "cfg!(unix) || self.0 & other.0 == other.0",
         "the macro `cfg`",
     ),
+    *(
+        (f"{what} in the kit", ARRAY, "        self.len += 1;", f"        {code}\n        self.len += 1;", cause)
+        for what, code, cause in (
+            ("`usize::BITS`", "if usize::BITS == 32 { return; }", "`usize::BITS`"),
+            ("`usize::MAX`", "if usize::MAX == 0xffff_ffff { return; }", "`usize::MAX`"),
+            ("`size_of`", "if size_of::<usize>() == 4 { return; }", "`size_of`, which depends on the target"),
+            ("`mem::size_of`", "if core::mem::size_of::<usize>() == 4 { return; }", "`mem::size_of`"),
+            ("a call of a `usize`", "if self.len.count_zeros() == 3 { return; }", "the method `count_zeros`"),
+            ("the order of bytes", "if u16::from_ne_bytes([0, 1]) == 1 { return; }", "`u16::from_ne_bytes`"),
+            ("the name of a type", 'if core::any::type_name::<T>() == "u8" { return; }', "`core::any`"),
+            ("the place of a call", "if core::panic::Location::caller().line() == 4 { return; }", "`core::panic`"),
+            ("a clock", "let _ = std::time::Instant::now();", "`std::time`"),
+            ("the end of the program", "std::process::exit(3);", "`std::process`"),
+            ("whether a thread panics", "if std::thread::panicking() { return; }", "`std::thread`"),
+        )
+    ),
+    (
+        "a cell in the kit that is filled once",
+        ARRAY,
+        "use core::ops::Deref;",
+        "use core::cell::OnceCell;\nuse core::ops::Deref;",
+        "`cell::OnceCell`",
+    ),
+    (
+        "a number in the kit under the name of another one",
+        ARRAY,
+        "use core::ops::Deref;",
+        "use core::{ops::Deref, primitive::u16 as u8};",
+        "`core::primitive`",
+    ),
+    (
+        "a register that is compared with a number",
+        REGISTERS,
+        "MSR PSD }",
+        "MSR PSD }\nimpl PartialEq<u8> for LSR {\n}",
+        "a comparison of a type with another one",
+    ),
+    ("`#[path]` in the users' package", USERS, "mod access;", '#[path = "other.rs"]\nmod access;', "`path`, another file"),
+    ("`include!` in the users' package", USERS, "mod access;", 'include!("other.rs");\nmod access;', "`include`, another file"),
+    (
+        "a module under the name of a package",
+        USERS,
+        "mod access;",
+        "mod uart_driver;\nmod access;",
+        "`uart_driver`, the name of a package",
+    ),
+    (
+        "another module under the name of a package",
+        USERS,
+        "mod access;",
+        "use self::access as uart_driver;\nmod access;",
+        "`uart_driver`, the name of a package",
+    ),
+    ("another compiler", "rust-toolchain.toml", "", '[toolchain]\nchannel = "nightly"\n', "another compiler than the machine has"),
+    ("flags of the compiler", "rust/uart_16550_c/.cargo/config.toml", "", "[build]\nrustflags = []\n", "more than that cargo asks"),
     (
         "a condition on a method of the kit",
         "rust/kit/src/bits.rs",

@@ -3,6 +3,7 @@ change what emitted code means without a change of that code: by a macro of the 
 before the one of a trait, by a file that is somewhere else. So it keeps to rules like those of the code that is emitted."""
 import re
 
+import foreign
 import table
 from tokens import Refused, tokens
 
@@ -27,6 +28,50 @@ unsafe static async asm include include_str include_bytes env option_env cfg_att
 no_mangle link_section link_name export_name macro_use no_implicit_prelude
 """.split()
 ATOMIC = re.compile(r"Atomic\w*")
+# What it names by a path of core, of the real std, of the real alloc or of `embedded_io`, by the module, the type or the trait in front.
+# Beside these are its own names and those of the emitted code, and nothing else: so nothing that tells where code runs, or on what.
+PATHS = {
+    "core": "cell cmp convert error fmt format_args marker mem num ops slice str".split(),
+    "std": "io path".split(),
+    "heap": "collections string vec".split(),
+    "alloc": "AllocError AllocFailed Global boxed vec".split(),
+    "bitflags": "Flags Iter IterNames Names".split(),
+    "geesetrunk_kit": "alloc cmp convert error fmt format_fields mem num".split(),
+    "cell": ["Cell"],
+    "marker": ["PhantomData"],
+    "ops": "BitAnd BitAndAssign BitOr BitOrAssign BitXor BitXorAssign Deref DerefMut Not Sub SubAssign".split(),
+    "slice": ["Iter"],
+    "str": ["from_utf8"],
+    "error": ["Error"],
+    "fmt": "Arguments Binary Debug Display Error Formatter LowerHex Octal Result UpperHex Write write".split(),
+    "io": "Error ErrorKind Read Result Write".split(),
+    "path": ["Path"],
+    "collections": "TryReserveError VecDeque vec_deque".split(),
+    "vec_deque": ["Iter"],
+    "string": ["String"],
+    "vec": ["Vec"],
+    "boxed": ["Box"],
+    "embedded_io": "Error ErrorKind ErrorType Read ReadReady Write WriteReady".split(),
+    "u8": ["MAX"],
+    **{name: ["new"] for name in ("Cell", "VecDeque", "String")},
+    "Vec": "from new with_capacity".split(),
+    "ErrorKind": "OutOfMemory Other TimedOut".split(),
+    **{name: ["fmt"] for name in ("Debug", "Display")},
+    **{name: [call] for name, call in (("Read", "read"), ("ReadReady", "read_ready"), ("WriteReady", "write_ready"))},
+    "Write": "flush write".split(),
+}
+# What only one file names: which order of bytes the target has, which is what its constant is.
+OF_ONE_FILE = {"rust/proved/uart_spec/src/by_hand/layout.rs": ["u16 :: from_ne_bytes"]}
+# The methods of core that it calls beside those of emitted code.
+METHODS = """
+debug_tuple encode_utf8 expect fill flatten get_mut into_boxed_slice saturating_sub split_at_mut to_str unwrap_or_default
+""".split()
+# Those of the emitted code.
+OF_EMITTED = "data fifo_size held_len is_interrupting level output send_bytes_exact waiting_len wire".split()
+# What stands in front of a path of our own, or of one that begins with `::` and so with the name of a library.
+OF_PATHS = ["crate", "self", "super", "Self", ">", "{", ",", "("]
+# Types of the language, whose functions are the target's. None is a name of its own.
+PRIMITIVES = "bool char f32 f64 i8 i16 i32 i64 i128 isize str u8 u16 u32 u64 u128 usize".split()
 # Attributes, but for derives and conditions.
 # The last ones are what a macro is given, where it stands in the text and is looked at.
 ATTRIBUTES = ["must_use", "inline", "inline ( always )", "macro_export", "doc ( hidden )", "$ says : meta", "$ says"]
@@ -99,11 +144,14 @@ sub_assign mul_assign bitand_assign bitor_assign bitxor_assign next into_iter fr
 
 def causes(files):
     """What is wrong with these files, by name, of the kits and of the modules by hand."""
-    found = []
+    found, declared = [], set()
+    for name, text in files.items():
+        if name.endswith(".rs") and is_below(name):
+            declared |= {*re.findall(r"\b(?:struct|enum|trait|type|mod|fn|const) (\w+)", text)}
     for name, text in files.items():
         if name.endswith(".rs") and is_below(name):
             try:
-                found += [f"{name}: {cause}" for cause in File(name, text).causes()]
+                found += [f"{name}: {cause}" for cause in File(name, text).causes(declared)]
             except Refused as cause:
                 line = "" if cause.at is None else f":{text.count(chr(10), 0, cause.at) + 1}"
                 found.append(f"{name}{line}: {cause.cause}")
@@ -113,6 +161,11 @@ def causes(files):
 def is_below(name):
     """Whether emitted code is compiled with a file of this name."""
     return any(name.startswith(f"{folder}/src/") for folder in KITS) or name.startswith(f"{table.OUTPUT}/")
+
+
+def is_of_others(head, declared):
+    """Whether a path with this head may lead out of these files and of the emitted code: a library, a module or a type of it."""
+    return head in PRIMITIVES or head in PATHS or not (head in declared or head in OF_PATHS)
 
 
 class File:
@@ -126,6 +179,9 @@ class File:
 
     def word(self, at):
         return self.words[at] if 0 <= at < len(self.words) else ""
+
+    def kind(self, at):
+        return self.code[at].kind if 0 <= at < len(self.code) else ""
 
     def text(self, start, end):
         return " ".join(self.words[start:end])
@@ -143,11 +199,12 @@ class File:
         """The index of the next sign of this kind."""
         return next((here for here in range(at, len(self.words)) if self.words[here] == sign), len(self.words))
 
-    def causes(self):
-        """What is wrong. A module of tests is compiled for tests alone, so it is free."""
+    def causes(self, declared):
+        """What is wrong, where these names are declared. A module of tests is compiled for tests alone, so it is free."""
         if self.is_test:
             return []
-        return [*self.of_words(), *self.of_macros(), *self.of_attributes(), *self.of_root(), *self.of_traits(), *self.of_types()]
+        found = [*self.of_words(), *self.of_names(declared), *self.of_macros(), *self.of_attributes()]
+        return [*found, *self.of_root(), *self.of_traits(), *self.of_types()]
 
     def of_words(self):
         for at, token in enumerate(self.code):
@@ -155,6 +212,40 @@ class File:
                 yield f"the word `{token.text}`"
             if token.text == "*" and self.word(at - 1) == "::":
                 yield "all names of a module"
+
+    def of_names(self, declared):
+        """Names of core and of libraries that are not listed, called, imported or given as a value."""
+        declared, at = declared | self.of_ours(), 0
+        while at < len(self.words):
+            word, before = self.words[at], self.word(at - 1)
+            if word == "#" and self.word(at + 1) in ("[", "!"):
+                at = self.closing(at + 1 + (self.word(at + 1) == "!"))
+            elif word == "use" and self.kind(at) == "word":
+                end = self.behind(at, ";")
+                of_others = [one for one in foreign.imports(self, at + 1, end) if is_of_others(one.behind, declared)]
+                yield from (f"`{one.behind}::{one.word}`" for one in of_others if one.word not in PATHS.get(one.behind, []))
+                at = end
+            elif self.kind(at) == "word" and before == "::" and self.is_of_others(at - 2, declared):
+                is_listed = word in PATHS.get(self.word(at - 2), []) or self.text(at - 2, at + 1) in OF_ONE_FILE.get(self.name, [])
+                yield from [] if is_listed else [f"`{self.word(at - 2)}::{word}`"]
+            elif self.kind(at) == "word" and before == "." and self.word(at + 1) in ("(", "::"):
+                known = word in declared or word in foreign.METHODS or word in METHODS or word in OF_EMITTED
+                yield from [] if known else [f"the method `{word}`"]
+            elif word in foreign.PRELUDE and word != "drop":
+                yield f"`{word}`, which depends on the target"
+            at += 1
+
+    def of_ours(self):
+        """The names of the emitted code that this file imports, and its parameters that are types."""
+        found = {word for word in self.words if re.fullmatch("[A-Z]", word)}
+        for at in range(len(self.words)):
+            if self.words[at] == "use" and self.word(at + 1) in ("crate", "super"):
+                found |= {word for word in self.words[at : self.behind(at, ";")] if re.match(r"\w", word)}
+        return found
+
+    def is_of_others(self, at, declared):
+        """Whether the path whose head is at this index may lead out. What macros are given for types is looked at where they are."""
+        return self.word(at - 1) != "$" and is_of_others(self.word(at), declared)
 
     def of_macros(self):
         own = [self.word(at + 2) for at in range(len(self.words)) if self.word(at) == "macro_rules"]
@@ -227,6 +318,8 @@ class File:
                 inside = [self.word(here + 1) for here in range(start, self.closing(start)) if self.words[here] == "fn"]
                 yield from (f"`{one}` of a type, which Rust takes for the one of a trait" for one in inside if one in OF_CORE)
             elif self.folder == table.OUTPUT:
+                if re.search(r"\bPartial(Eq|Ord) <", self.text(at, start)):
+                    yield "a comparison of a type with another one"
                 traits = self.traits_of(at, start)
                 yield from (f"the trait `{trait}` for a type" for trait in traits if trait not in IMPLEMENTED)
 

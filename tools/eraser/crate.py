@@ -12,6 +12,7 @@ import threading
 
 import documentation
 import examples
+import foreign
 import guards
 import names
 import packages
@@ -322,10 +323,12 @@ def check_meaning(files, allow):
     # What ships has no names of the others.
     shipped = [file for file in files if file.ships]
     narrow = [file for file in files if file.has_narrow_targets]
-    counts = {True: widths.names(shipped), False: widths.names(narrow)}
+    kinds = {True: widths.names(shipped), False: widths.names(narrow)}
+    known = {True: foreign.names(shipped, allow.SHIPS), False: foreign.names(narrow, allow.CRATES)}
     for file in narrow:
         try:
-            widths.check(file, counts[file.ships])
+            widths.check(file, kinds[file.ships])
+            foreign.check(file, known[file.ships])
         except Refused as cause:
             causes.append(refusal(file.name, file.text, cause))
     if causes:

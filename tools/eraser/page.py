@@ -2,6 +2,7 @@
 import re
 
 import attacks
+import foreign
 import table
 
 NAME = "tools/eraser/README.md"
@@ -55,6 +56,8 @@ def blocks():
                 ["macros: " + ", ".join(code(f"{name}!") for name in table.MACROS)],
                 ["attributes: " + ", ".join(map(code, table.ATTRIBUTES))],
                 ["derives: " + ", ".join(map(code, table.DERIVES))],
+                ["of core, of the kit and of libraries, methods: " + ", ".join(map(code, foreign.METHODS))],
+                ["of these, by a path: " + ", ".join(code(f"{head}::{name}") for head, names in foreign.PATHS.items() for name in names)],
             ],
         ),
     }

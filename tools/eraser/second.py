@@ -327,7 +327,8 @@ class Reader:
                 self.refuse()
 
     def refuse(self):
-        line = self.made[min(self.here, len(self.made) - 1)].line
+        # a file may end too early, or have no token at all
+        line = self.made[min(self.here, len(self.made) - 1)].line if self.made else 1
         shown = " ".join(one.text for one in self.made[self.here : self.here + 8])
         wanted = " ".join(one.text for one in self.left[self.at : self.at + 8])
         raise Refused(f"line {line}: `{shown}` is emitted, and the source has `{wanted}`")

@@ -39,7 +39,7 @@ RULES = [
 # 64 bits.
 SHIPS = "uart_spec uart_16550 uart_design_ware uart_rs485 uart_ring uart_waits uart_discovery uart_events uart_chip uart_live uart_virtual".split()
 OF_PROGRAMS = "uart_calls uart_run uart_ring_runs uart_link uart_language uart_play uart_judges uart_trace uart_port uart_machine".split()
-OF_THE_PAGE = "uart_calls uart_run uart_ring_runs uart_language uart_play uart_judges uart_trace uart_port".split()
+OF_THE_PAGE = "uart_calls uart_run uart_ring_runs uart_link uart_language uart_play uart_judges uart_trace uart_port".split()
 CRATES = SHIPS + OF_PROGRAMS
 OUTPUT = "rust/proved"
 
@@ -53,7 +53,7 @@ MAKE_RINGS = ["uart_ring", "uart_link", "uart_machine"]
 OF_TESTS = {
     "uart_16550": ["uart_calls", "uart_chip"],
     "uart_ring": ["uart_calls", "uart_live"],
-    "uart_rs485": ["uart_calls", "uart_live"],
+    "uart_rs485": ["uart_calls", "uart_chip", "uart_live"],
     "uart_machine": ["uart_16550", "uart_ring", "uart_spec"],
 }
 
@@ -614,8 +614,9 @@ MACROS = ["matches", "unreachable", "format_args", "format_fields", "format", "v
 ATTRIBUTES = ["inline", "must_use", "default", "automatically_derived"]
 INLINES = ["inline", "inline ( always )", "inline ( never )"]
 DERIVES = ["Clone", "Copy", "Debug", "PartialEq", "Eq", "PartialOrd", "Ord", "Hash", "Default"]
-# Casts to `usize`, which has 64 bits in Rattle: the function, and what is cast. All are from `u8` or `u16`, but for those of the language:
-# a divisor is a `u32`, and what a script says is no more than the bound that the same function asks for.
+# Casts to `usize`, which has 64 bits in Rattle: the function, and what is cast. All are from `u8` or `u16`, but for those of discovery and
+# of the language. Lengths, offsets, numbers of cells and a divisor are `u32`, which 32 bits hold too. What a script says is no more than
+# the bound that the same function asks for.
 CASTS = {
     "uart_spec::layout::check_ports": ["base"],
     "uart_spec::layout::check_spacing": ["last", "stride"],

@@ -23,6 +23,7 @@ ROOT = pathlib.Path(__file__).resolve().parent.parent.parent
 sys.path.append(str(ROOT / "tools" / "eraser" / "mir"))
 
 import interface  # noqa: E402
+import listed  # noqa: E402
 import planted  # noqa: E402
 
 # Forms behind the code of uart_spec/src/backend.rt that are accepted, so that the refusals below have their own causes.
@@ -40,6 +41,11 @@ ACCEPTED = [
     "pub trait T {\n    fn f(&self) -> u8;\n}",
     "pub struct S;\nimpl S {\n    fn g(&self) -> bool {\n        matches!(1, 1..=3)\n    }\n}",
     "#[inline(always)]\nfn f() -> u8 {\n    3\n}",
+    "fn f(x: bool) -> bool {\n    !x\n}",
+    "fn f(x: &[u8]) -> bool {\n    !x.is_empty()\n}",
+    "fn f(x: Option<u16>) -> Option<u32> {\n    x.map(u32::from)\n}",
+    "use std::num::NonZeroUsize;\nfn f(x: usize) -> Option<NonZeroUsize> {\n    NonZeroUsize::new(x)\n}",
+    "fn f(x: Vec<Vec<u8>>) -> Option<Option<u8>> {\n    Some(x.first()?.first().copied())\n}",
 ]
 
 # A form behind the code of the same file, and the cause.
@@ -569,11 +575,11 @@ class Tests:
             told.edits(file)
         self.count(not list(told.causes()), f"comments at calls: {list(told.causes())}")
         place = next(iter(told.cites))
-        for words, shares in (("", False), ("some words", True)):
-            one = told.definitions.known[place]._replace(words=words, shares=shares)
+        for comment, shares in (("", False), ("some words", True)):
+            one = told.definitions.known[place]._replace(words=comment, shares=shares)
             with changed(told.definitions.known, place, one):
                 found = list(told.causes())
-                self.count(len(found) == 1 and found[0].endswith("has no comment of its own"), f"{place}: {words!r}, {shares}: {found}")
+                self.count(len(found) == 1 and found[0].endswith("has no comment of its own"), f"{place}: {comment!r}, {shares}: {found}")
 
     def around(self, edits):
         for name, is_checked in (
@@ -599,6 +605,9 @@ class Tests:
             source, text = self.texts[name.replace(".rs", ".rt")], self.there[name].decode()
             found = second.differences(name.replace(".rs", ".rt"), source, text.replace(old, new, 1))
             self.count(old in text and found and cause in found[0], f"second reader: {name}: {old!r} to {new!r}: {found}, and not: {cause}")
+        for emitted in ("", "// nothing but a comment\n"):
+            found = second.differences("one/src/a.rt", "fn go() -> u8 {\n    2\n}\n", emitted)
+            self.count(found and "line 1: `` is emitted" in found[0], f"second reader: a file without a token: {found}")
         found = second.differences("one/src/lib.rt", HIDDEN_END, "fn go() -> u8 {\n    2\n}\nfn other() -> u8 {\n    1\n}\n")
         self.count(found and "hides where a clause ends" in found[0], f"second reader: a comment in a clause: {found}")
 
@@ -612,6 +621,16 @@ class Tests:
             self.count(one.old in text and bool(found) == one.is_read, f"{one.name}: the second reader: {found}")
         names = [name for name, _ in attacks.table()]
         self.count(len(names) == len(set(names)), "two attacks with one name")
+
+    def in_packages(self):
+        """Each crate that ships is compared with its MIR."""
+        self.count(not listed.in_no_package(table.SHIPS), f"packages of the comparison: {listed.in_no_package(table.SHIPS)}")
+        found = listed.in_no_package([*table.SHIPS, "uart_new"])
+        self.count(found == ["uart_new"], f"a crate in no package: {found}")
+        crates, features, own = listed.PACKAGES["uart_16550"]
+        with changed(listed.PACKAGES, "uart_16550", (crates, features, [one for one in own if one != "uart_rs485"])):
+            found = listed.in_no_package(table.SHIPS)
+            self.count(found == ["uart_rs485"], f"a crate that is taken out of its package: {found}")
 
     def exported(self):
         """What a crate exports beside its library: nothing more, and nothing less."""
@@ -704,6 +723,7 @@ def run():
     tests.forms([one[1:] for one in attacks.FORMS])
     tests.around([one[1:] for one in attacks.AROUND])
     tests.planted()
+    tests.in_packages()
     tests.exported()
     tests.tables()
     print(f"{tests.passed} passed, {tests.failed} failed")

@@ -1,9 +1,13 @@
 """Refuses arithmetic on `usize` that 32 bits do not hold: in Rattle it has 64, and in Rust those of the target.
 
-No tool knows the types here. So each product, each shift and each sum that saturates is listed, with the type that it has.
+No tool knows the types here. So each product, each shift and each sum that saturates is listed, with the type that it has. What `!` is of
+has to be declared with another type, or is listed too. `foreign.py` is about the names.
 """
+import collections
+import functools
 import re
 
+import foreign
 from words import KEYWORDS
 
 # What is multiplied, shifted or added: the file, the words around the sign or the call, and why no target makes a difference.
@@ -33,13 +37,30 @@ LISTED = {
     "uart_spec/src/dump.rt": {"256 * self": U16},
     "uart_spec/src/original.rt": {"256 * self": U16},
     "uart_spec/src/checked.rt": {"TICKS_PER_BIT * (": U32, "ticks . checked_mul": U32, "? . checked_mul": U32},
+    "uart_spec/src/timing.rt": {
+        "2 * config": U64,
+        "8 * (": U64,
+        ") * divisor": U64,
+        "u64 * halves": U64,
+        ") * character": U64,
+        ") . checked_mul": U64,
+        ") * times": U64,
+        "whole . checked_add": U64,
+        "before_clocks . saturating_add": U64,
+        "4 * access_clocks": U64,
+        "4 * self": U64,
+        "frequency . saturating_sub": U32,
+        "most . checked_sub": U64,
+        ") * self": U64,
+        ") * (": U64,
+    },
     "uart_spec/src/layout.rt": {
         "8 * self": "of u8",
         "base . checked_add": "of u16, or an address: what does not fit is refused",
         "usize * stride": OF_ADDRESSES,
     },
-    "uart_spec/src/registers/fifo_control.rt": {") << 6": "of u8"},
-    "uart_spec/src/registers/line_control.rt": {") << 3": "of u8"},
+    "uart_spec/src/registers/fifo_control.rt": {") << 6": U8, "0 >> 6": U8},
+    "uart_spec/src/registers/line_control.rt": {") << 3": U8, "0 >> 3": U8},
     "uart_16550/src/driver/configured.rt": {"256 * dlm": U16},
     "uart_16550/src/mmio.rt": {
         "SPR * stride": OF_ADDRESSES,
@@ -95,44 +116,55 @@ LISTED = {
     "uart_judges/src/recording/fields.rt": {"seconds * SECOND": U64, "microseconds * MICROSECOND": U64},
     "uart_port/src/noted.rt": {"port . saturating_sub": U16},
 }
-CALLS = re.compile(r"(checked|saturating|wrapping|overflowing)_\w+|pow|abs_diff|isqrt|next_multiple_of|div_ceil|midpoint|rotate_\w+")
-# Calls whose result depends on how many bits a number has, or whose type is that of what it is given to.
-OF_WIDTH = re.compile(
-    r"(count|leading|trailing)_(zeros|ones)|(swap|reverse)_(bytes|bits)|(to|from)_(le|be|ne)(_bytes)?|try_from|try_into|parse|sum|product"
-    r"|ilog(2|10)?|next_power_of_two|unbounded_sh[lr]|cast_signed|carrying_\w+|borrowing_\w+|strict_\w+"
-)
-# The numbers that have as many bits everywhere: `u16::from_le_bytes` has one meaning.
-NAMED = ["u8", "u16", "u32", "u64"]
 # A parameter of a type that is a number, which is no other name for its type.
 A_CONSTANT = re.compile(r"\bconst \w+ : usize\b")
 # Functions of slices, queues and iterators that give a `usize`.
 COUNTS = ["len", "count", "capacity", "position"]
+# What `!` may be of: a `bool`, or bits of a number that has as many everywhere.
+BITS = ["bool", "u8", "u16", "u32", "u64"]
+# Values whose type is not written, of which `!` is taken: the file, and the names. Each is a `bool`.
+NEGATED = {
+    "uart_ring/src/ring/transmit.rt": ["is_empty"],
+    "uart_chip/src/controlling.rt": ["is_full"],
+    "uart_virtual/src/port.rt": ["signal"],
+    "uart_judges/src/audit/findings.rt": ["is_set"],
+    "uart_judges/src/audit/history.rt": ["is_up"],
+}
+
+# The names that are declared as `usize`, and those that are declared with a type of BITS.
+Kinds = collections.namedtuple("Kinds", "counts bits")
 
 
-def check(file, counts):
-    """`counts` has the names that are declared as `usize`, in any file."""
+def check(file, kinds):
+    """`kinds` has the names that are declared, in any file that this one may name."""
+    check_forms(file)
+    for at in negations(file):
+        if not is_of_bits(file, at + 1, kinds):
+            file.refuse("`!` of what may be a `usize`", at)
+
+
+@functools.lru_cache(maxsize=None)
+def check_forms(file):
+    """Refuses the forms that one looks at in one file alone."""
     for at, token in enumerate(file.code):
-        word, before, after = token.text, file.word(at - 1), file.word(at + 1)
+        word, after = token.text, file.word(at + 1)
         if word == "isize" or token.kind == "number" and word.endswith("isize"):
             file.refuse("`isize`", at)
         if word == "as" and after == "_":
             file.refuse("`as _`", at)
         if word == "type" and "usize" in A_CONSTANT.sub("", file.words(at, file.semicolon(at))).split():
             file.refuse("another name for `usize`", at)
-        if before == "::" and word in ("MAX", "MIN", "BITS") and file.word(at - 2) == ">":
-            file.refuse("a limit of a type in brackets", at)
         if word == "as" and after == "Self":
             file.refuse("`as Self`, which may be `usize`", at)
-        if word == "NonZeroUsize" and after == "::" and file.word(at + 2) != "new":
-            file.refuse("a limit of `NonZeroUsize`", at)
-        is_of_named = before == "::" and file.word(at - 2) in NAMED
-        if before in (".", "::") and after in ("(", "::") and token.kind == "word" and OF_WIDTH.fullmatch(word) and not is_of_named:
-            file.refuse(f"`{word}`, which may be of a `usize`", at)
-        if word == "!" and not is_value(file, at - 1) and is_count(file, at + 1, counts):
-            file.refuse("`!` of a `usize`", at)
         site = operation(file, at)
         if site and site not in LISTED.get(file.name, {}) and not is_small(site):
             file.refuse(f"`{site}` is not listed with its type", at)
+
+
+@functools.lru_cache(maxsize=None)
+def negations(file):
+    """Where `!` is an operation: it stands behind no value, as that of a macro does, and behind no `#`."""
+    return [at for at, token in enumerate(file.code) if token.text == "!" and file.word(at - 1) != "#" and not is_value(file, at - 1)]
 
 
 def is_value(file, at):
@@ -140,33 +172,54 @@ def is_value(file, at):
     return file.kind(at) == "number" or file.kind(at) == "word" and file.word(at) not in KEYWORDS or file.word(at) in (")", "]", "}")
 
 
-def is_count(file, at, counts):
-    """Whether the value that begins here is a number with the suffix `usize`, or ends in a name that is one of a `usize`."""
-    if file.kind(at) == "number":
-        return True
-    last = ""
+def is_of_bits(file, at, kinds):
+    """Whether the value that begins here is no `usize`, by the last of its names: one that is declared or listed, or a method of core."""
+    first, last = at, ""
     while file.kind(at) == "word" and file.word(at) not in KEYWORDS or file.word(at) in (".", "::", "(", "[", "&", "*"):
         if file.word(at) in ("(", "["):
             if not last:
-                return is_count(file, at + 1, counts)
+                return is_of_bits(file, at + 1, kinds)
             at = file.closing(at)
         elif file.kind(at) == "word":
             last = file.word(at)
         at += 1
-    return last in counts
+    if last in kinds.counts:
+        return False
+    if at == first + 1 and last.islower() and file.word(at) != "!":
+        return is_parameter_of_bits(file, first) or last in NEGATED.get(file.name, [])
+    return last in foreign.TRUTHS or last in kinds.bits and last not in foreign.OF_ANY_TYPE
+
+
+def is_parameter_of_bits(file, at):
+    """Whether the name at this index is a parameter of its function with a type of BITS, and no `let` gives it to something else."""
+    form = next((form for form in file.forms if form.start < at < form.close), None)
+    if form is None:
+        return False
+    is_declared = re.search(rf"\b{file.word(at)} : ({'|'.join(BITS)})\b", file.words(form.start, form.behind))
+    return bool(is_declared) and not re.search(rf"\blet (mut )?{file.word(at)}\b", file.words(form.body, at))
 
 
 def names(files):
-    """The names that are declared as `usize`: parameters, fields, constants, and functions with this result."""
-    found = set(COUNTS)
-    for file in files:
-        for at in range(len(file.code)):
-            if file.words(at + 1, at + 3) == ": usize" and file.kind(at) == "word":
-                found.add(file.word(at))
-            if file.word(at) == "fn":
-                parameters = file.behind_generics(at + 2)
-                if file.word(parameters) == "(" and file.begins(file.closing(parameters) + 1, "-> usize"):
-                    found.add(file.word(at + 1))
+    """The names that are declared as `usize` or as bits in these files: parameters, fields, constants, and functions with this result."""
+    return Kinds(*(set().union(*ones) for ones in zip(Kinds(set(COUNTS), set()), *map(declared, files))))
+
+
+@functools.lru_cache(maxsize=None)
+def declared(file):
+    """Those that one file declares."""
+    found = Kinds(set(), set())
+    for at in range(len(file.code)):
+        name, kind = file.word(at), ""
+        if file.kind(at) == "word" and file.word(at + 1) == ":":
+            kind = file.word(at + 2)
+        elif name == "fn":
+            parameters = file.behind_generics(at + 2)
+            close = file.closing(parameters) if file.word(parameters) == "(" else parameters
+            name, kind = file.word(at + 1), file.word(close + 2) if file.word(close + 1) == "->" else ""
+        if kind == "usize":
+            found.counts.add(name)
+        elif kind in BITS:
+            found.bits.add(name)
     return found
 
 
@@ -175,13 +228,28 @@ def operation(file, at):
     word, after = file.word(at), file.word(at + 1)
     if file.kind(at) == "word":
         is_call = file.word(at - 1) in (".", "::") and after in ("(", "::")
-        return file.words(at - 2, at + 1) if is_call and CALLS.fullmatch(word) else None
+        return file.words(at - 2, at + 1) if is_call and foreign.AT_A_SITE.fullmatch(word) else None
     if file.kind(at) != "sign" or not is_value(file, at - 1):
         return None
     if word in ("*", "*="):
         return file.words(at - 1, at + 2)
-    is_shift = word == "<" and after in ("<", "<=") and file.code[at].end == file.code[at + 1].start
+    is_pair = word in ("<", ">") and after in (word, f"{word}=") and file.code[at].end == file.code[at + 1].start
+    is_shift = is_pair and (word == "<" or not closes_brackets(file, at))
     return f"{file.word(at - 1)} {word}{after} {file.word(at + 2)}" if is_shift else None
+
+
+def closes_brackets(file, at):
+    """Whether the two signs `>` at this index close the brackets of types. A shift has a value behind it, and no `Name<Name<` in front."""
+    if file.word(at + 1) == ">=" or file.kind(at + 2) == "number":
+        return False
+    if file.kind(at + 2) == "word" and file.word(at + 2) not in KEYWORDS or file.word(at + 2) in ("&", "*", "!", "-", "["):
+        return False
+    depth, here = 2, at
+    while depth and here and file.word(here - 1) not in ("&&", "||", "==", "!=", "<=", ">=", ";", "{", "}"):
+        here -= 1
+        depth += {">": 1, "<": -1}.get(file.word(here), 0)
+    is_of_type = re.search("[a-z]", file.word(here - 1)) or file.word(here - 1) == "::"
+    return depth == 0 and bool(is_of_type)
 
 
 def is_small(site):

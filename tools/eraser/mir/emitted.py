@@ -16,6 +16,9 @@ OWNER = re.compile(r"(?:^|\n)(impl|(?:pub(?:\([^)]*\))? )?trait)\b([^{;]*)\{")
 CONSTANT = re.compile(r"\n( *)((?:pub(?:\([^)]*\))? )?)const (\w+)\s*:\s*([^=;]+?)\s*[=;]")
 # A constant that stands in a list of parameters begins nothing.
 BEGINS = re.compile(r"\b(?:fn|struct|enum|union|static) \w|(?<!<)(?<!, )\bconst [A-Z_]\w*\s*:")
+# A constant that is a number.
+VALUED = re.compile(r"\bconst (\w+)\s*:[^=;]+=\s*(\w+);")
+CHARACTER = re.compile(r"\bb?'([^\\'])'")
 NUMBER = re.compile(r"\b(0x[0-9a-fA-F_]+|0b[01_]+|\d[\d_]*)(?:_?[ui](?:8|16|32|64|size))?\b")
 
 
@@ -64,6 +67,8 @@ class Emitted:
 
     def __init__(self, folder):
         self.modules, self.types, self.functions, self.constants, self.numbers = {}, [], [], [], set()
+        # The numbers of the constants of each name.
+        self.values = {}
         # How many functions, types and constants each file begins, whatever is read of them; and what is read and left out.
         self.begun, self.read_constants, self.left = {}, collections.Counter(), collections.Counter()
         for file in sorted(folder.rglob("*.rs")):
@@ -71,6 +76,12 @@ class Emitted:
             if parts and "by_hand" not in parts:
                 self.modules[file] = "::".join(parts)
                 self.read(file, "::".join(parts))
+
+    @staticmethod
+    def numbers_in(text):
+        """The numbers in a text, and the characters."""
+        found = {int(one[1].replace("_", ""), 0) for one in NUMBER.finditer(text)}
+        return found | {ord(one) for one in CHARACTER.findall(text)}
 
     def leave_out(self, patterns):
         """Forgets what has one of these patterns in its path: it is not compared."""
@@ -90,7 +101,9 @@ class Emitted:
     def read(self, file, module):
         text = blank(file.read_text(encoding="ascii"))
         self.begun[file] = len(BEGINS.findall(text))
-        self.numbers |= {int(found[1].replace("_", ""), 0) for found in NUMBER.finditer(text)}
+        self.numbers |= self.numbers_in(text)
+        for found in VALUED.finditer(text):
+            self.values.setdefault(found[1], set()).update(self.numbers_in(found[2]))
         for found in TYPE.finditer(text):
             self.types.append(read_type(found, text, file, module))
         owners = [(found.start(), closing(text, found.end() - 1), found) for found in OWNER.finditer(text)]

@@ -2,10 +2,28 @@
 
 An entry that is not needed is a failure, so that none outlives its reason.
 """
+import pathlib
+import re
+
+
+CRATES = (pathlib.Path(__file__).resolve().parents[3] / "crates.txt").read_text(encoding="utf-8")
+
+
+def crates_of(section):
+    """The crates below this heading of crates.txt. Each uses those above it."""
+    text = CRATES.partition(f"# == {section} ==\n")[2].partition("# == ")[0]
+    return re.findall(r"(?m)^(\w+)", text)
+
+
+def below(crate):
+    """The crates of this repository that a crate uses: its line has those below them too."""
+    line = re.search(rf"(?m)^{crate}\b[^:#\n]*:(.*)$", CRATES)
+    return [used for used in (line[1].split() if line else []) if re.search(rf"(?m)^{used}\b[^:#\n]*:", CRATES)]
+
 
 # The packages: the crates of each, which have the MIR, the features that are compiled, and which of the crates are compared there.
-OF_DRIVER = ["uart_spec", "uart_16550", "uart_design_ware", "uart_ring", "uart_waits"]
-OF_CHIP = ["uart_spec", "uart_events", "uart_chip", "uart_live", "uart_virtual"]
+OF_DRIVER = crates_of("What ships")
+OF_CHIP = ["uart_spec", *crates_of("What models the hardware")]
 PACKAGES = {
     "uart_16550": (OF_DRIVER, ["alloc"], OF_DRIVER),
     "uart_16550_chip": (OF_CHIP, [], OF_CHIP),
@@ -26,6 +44,12 @@ UNCOMPARED = {
 UNCOMPARED_IN = {
     "uart_16550_chip": {r"^uart_events::call::": "calls as data, which scripts are made of: scripts that are played by both sides compare it"},
 }
+
+
+def in_no_package(crates):
+    """The crates of these that are in no package."""
+    inside = {name for _, _, own in PACKAGES.values() for name in own}
+    return [name for name in crates if name not in inside]
 
 
 def uncompared(package):
@@ -52,6 +76,15 @@ DIFFER = {
     r"::(dump|original)::ConfigRegisterDumpDebug::fmt": SHOWS_REGISTER,
 }
 
+# What an emitted body has more often than its MIR: a pattern of what is said, and why.
+COUNTED = {
+    r"^uart_discovery::pci::card_of: .* the number (6966|7168) 3 times, and the MIR 1 times": "of a maker, which the MIR asks for once",
+    r"^uart_judges::audit::findings::spoils_rate: .* the number [23] 1 times": "of three in a row, which are a range in the MIR",
+    r"^uart_judges::audit::unread::Unread::second: .* the number 1 1 times": "a place that is known, which is part of a path in the MIR",
+    r"VerifyErrorFromTraceError::from: .* the number 0 1 times": "the name of a field",
+    r"^uart_spec::registers::divisors::Divisor::discriminant: .* a cast to 16 bits 1 times": "a cast of an enum, whose cases the MIR looks at",
+}
+
 # Emitted functions that no case compares or reaches: a pattern of the name and of the cause that the program gives, and why.
 SCHEDULED = "of a chip under a schedule: nothing that is compared calls it"
 BY_SWITCH = "the size switch of a 16750, which no live chip has: rust/proved/uart_chip/tests/size_switch.rs tries it"
@@ -64,7 +97,7 @@ SKIPPED = {
     r"^uart_chip::(characters::CharactersFifoCharacter|chip::UartChipParts)::(can_)?resize: generic": BY_SWITCH,
     r"^uart_chip::(receiver::Receiver|transmitter::Transmitter)::resize: generic": BY_SWITCH,
     r"^uart_live::fixed::FixedFifoFifo::(can_)?resize: generic": BY_SWITCH,
-    r"^uart_(16550|design_ware|ring)::.*Debug::fmt .*: printed and generic": "prints a backend, which the MIR's formatter does not know",
+    r"^uart_(16550|design_ware|ring|rs485)::.*Debug::fmt .*: printed and generic": "prints a backend, which the MIR's formatter does not know",
     r"^uart_ring::shown::\w+Debug::fmt: printed or generic": "prints rings over whatever backend: rust/uart_16550/tests/traits.rs has what is shown",
     r"^uart_ring::line::handle_line: generic": "over ports that its caller has: rust/uart_16550/tests/shared_line.rs calls it",
 }
@@ -75,14 +108,17 @@ NOT_IN_MIR = {}
 # Functions of the MIR that are not emitted: a pattern of the name, and why.
 NOT_EMITTED = {
     r"::fn::": "a closure: of the function that has it",
+    r"^uart_discovery::.*is_16550\+FnOnce::call_once$": "a function that is given as a closure: of the function itself",
     r"Hash::hash$": "derived in both: the MIR has no hasher of Rust's std",
-    r"^uart_(16550|design_ware|ring)::.*Debug::fmt$": "prints a backend",
+    r"^uart_(16550|design_ware|ring|rs485)::.*Debug::fmt$": "prints a backend",
     r"^uart_chip::fifo::Fifo::is_empty\+decl$": "the declaration of a method that has a body",
 }
 
 # Places of the MIR that no input reaches: a pattern of the function, the number of the place and what it is, and why.
 OF_ORIGINS = "each character of a live chip has the same origin"
 IN_JUMPS = "time passes for a live chip in jumps, which end where something happens"
+OF_TREE = "places of a tree, which was read up to there, and whose sums 64 bits hold"
+READ_BEFORE = "a node that the function has read to its end before, without a fault"
 BY_DRIVER = "automatic flow control, which no live chip has: scripts that are played by both sides compare it"
 NOT_REACHED = {
     r"(PartialEq::eq|PartialOrd::partial_cmp|Ord::cmp) \d+ case \d+(\|\d+)*$": "another variant: their numbers were compared before",
@@ -105,6 +141,16 @@ NOT_REACHED = {
     r"^uart_chip::controlling::(fifo_flags [123] (if|else)|is_switching [13] if|switch_size 1 if)$": BY_SWITCH,
     r"^uart_chip::(receiver::Receiver|transmitter::Transmitter)::resize 0 entry$": BY_SWITCH,
     r"^uart_live::fixed::FixedFifoFifo::(can_)?resize 0 entry$": BY_SWITCH,
+    r"^uart_discovery::tree::blob::Tree::token (4|9|11|13|19|23|25|27) case 1$": OF_TREE,
+    r"^uart_discovery::tree::blob::part 6 case 1$|^uart_discovery::tree::address::cells_at 6 case 1$": OF_TREE,
+    r"^uart_discovery::tree::node::child 8 case 1$": OF_TREE,
+    r"^uart_discovery::tree::node::child 13 case 1$": "nodes in each other that are more than 32 bits count",
+    r"^uart_discovery::tree::blob::be32 (5 if|8 else)$": "a part of four bytes, which has four",
+    r"^uart_discovery::tree::console::interrupt_of 8 case 0$": "a part of four bytes, which has four",
+    r"^uart_discovery::tree::blob::Tree::new 10 case 1$": "a field of a header of which a later one was read",
+    r"^uart_discovery::tree::console::(byte_order_of 6|console_path 10) case 1$": READ_BEFORE,
+    r"^uart_discovery::tree::console::(resolve 8|console_path 4) case 1$": "a path that was found, which has a last node",
+    r"^uart_discovery::tree::address::address_of (14 else|(18|20) case 1)$": "steps that no path of so many nodes has",
     r"^uart_virtual::port::VirtualPortWith::try_new 2 case 1$": "a number that no FIFO holds, which is not among NUMBERS: "
     "the test `no_fifo_holds_another_number` has some",
 }
@@ -161,9 +207,45 @@ CONTRACTS = {
 # When a call breaks the contract of a function that only proved callers reach, as the code above: Rust need not panic, and the MIR, which
 # tests no index, would read or write what is not there. By the path that the eraser gives.
 OUTSIDE = {
+    **{f"uart_discovery::bytes::le{8 * count}": f"a1.saturating_add({count}) > a0.len()" for count in (2, 4, 8)},
+    **{f"uart_discovery::pci::{name}": "a0.len() < 64" for name in ("class_of", "card_in", "distance", "base_of", "pin_of")},
+    **{f"uart_discovery::acpi::spcr::{name}": "a0.len() < 80" for name in ("precise_rate", "rate_of", "clock_of", "interrupt_of")},
+    "uart_discovery::acpi::address::registers_at": "a1.saturating_add(12) > a0.len()",
+    "uart_discovery::acpi::dbg2::device_at": "a1.saturating_add(22) > a0.len()",
     "uart_ring::queue::ByteQueue::front_slices": "a1 > a0.len()",
     "uart_ring::queue::ByteQueue::receive_from": "a2 > a0.capacity() - a0.len()",
     "uart_ring::queue::receive": "a2 > a1.len() || a3 > a1.len() - a2",
+}
+
+# What arguments are made by, where bytes at random say nothing: a pattern of the name, and for each argument the Rust text over those before
+# it, or None. The functions are in run/inputs_of_CRATE.rs.
+TABLE, HEADER, WORD, BLOB, NAME = (f"crate::run::{name}(choices)" for name in ("table", "header", "word", "blob", "name"))
+PLACE, NODE = "crate::run::place(choices, a0.len())", "4 * choices.pick(160)"
+INPUTS = {
+    r"^uart_discovery::tree::console::is_16550$": [WORD],
+    # of numbers alone
+    r"^uart_discovery::.*::(is_16550|rate_of_code|access_width|(hexadecimal|decimal)_digit|card_of|sum|aligned|translated)$": [],
+    r"^uart_discovery::acpi::table::checked_table$": [TABLE, "crate::run::signature(choices)"],
+    r"^uart_discovery::(acpi::(address::registers_at|dbg2::device_at)|bytes::le\d\d)$": [TABLE, PLACE],
+    r"^uart_discovery::acpi::|^uart_discovery::bytes::": [TABLE],
+    r"^uart_discovery::pci::": [HEADER],
+    r"^uart_discovery::command_line::(read_\w+|part_count)$": ["crate::run::command_line(choices)"],
+    r"^uart_discovery::command_line::part$": ["crate::run::command_line(choices)", "choices.pick(7)"],
+    r"^uart_discovery::command_line::at_most$": ["choices.pick(7)", "crate::run::command_line(choices)"],
+    r"^uart_discovery::command_line::base_of$": [None, WORD],
+    r"^uart_discovery::(command_line|numbers)::": [WORD],
+    r"^uart_discovery::tree::blob::(be32|field)$": [BLOB, PLACE],
+    r"^uart_discovery::tree::blob::(part|text_at)$": [BLOB, PLACE, PLACE],
+    r"^uart_discovery::tree::blob::Tree::token$": [None, NODE],
+    r"^uart_discovery::tree::blob::Tree::new$": [BLOB],
+    r"^uart_discovery::tree::address::cells_at$": [BLOB, PLACE, "choices.pick(4)"],
+    r"^uart_discovery::tree::address::on_bus_above$": [None, NODE, NODE],
+    r"^uart_discovery::tree::console::read_tree_node$": [BLOB, "crate::run::path(choices)"],
+    r"^uart_discovery::tree::console::read_device_tree$": [BLOB],
+    r"^uart_discovery::tree::console::resolve$|^uart_discovery::tree::path::nodes_on$": [None, "crate::run::path(choices)"],
+    r"^uart_discovery::tree::node::is_named$": [NAME, NAME],
+    r"^uart_discovery::tree::node::child$": [None, NODE, "crate::run::path(choices)"],
+    r"^uart_discovery::tree::": [None, NODE, NAME],
 }
 
 # What a function adds or multiplies of type `usize`, as Rust code of type `u128` over its arguments: a pattern of the name, the code, and why
@@ -171,7 +253,13 @@ OUTSIDE = {
 LAST_ADDRESS = "u128::from({}.get() as u64) + 7 * u128::from({})"
 REFUSED = "the address of the last register: `new` refuses it if no `usize` of the target has it"
 CHECKED = "the address of the last register: it is refused if no `usize` of the target has it"
+IN_TREE = "a place in a tree: it is refused if no `usize` of the target has it"
 MOST = {
+    r"^uart_discovery::tree::blob::sum$": ("a0 as u128 + a1 as u128", IN_TREE),
+    r"^uart_discovery::tree::blob::aligned$": ("a0 as u128 + 3", IN_TREE),
+    r"^uart_discovery::tree::blob::Tree::token$": (
+        "field(a0.structure, a1.saturating_add(4)).map_or(0, |length| a1 as u128 + length as u128 + 15)", IN_TREE
+    ),
     r"^uart_spec::layout::check_spacing$": ("u128::from(a0 as u64) + u128::from(a2) * u128::from(a1)", CHECKED),
     r"^uart_spec::layout::check_layout$": ("u128::from(a0 as u64) + 7 * u128::from(a1.stride)", CHECKED),
     r"mmio::MmioBackend::new$|MmioBackend\+M::new_mmio(_from_address)?$": (LAST_ADDRESS.format("a0", "a1"), REFUSED),

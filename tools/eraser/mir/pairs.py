@@ -7,7 +7,7 @@ import listed
 import natives
 import witness
 from translate import Unknown
-from values import without_lifetimes
+from values import BY_HAND, without_lifetimes
 
 DEVICE = "crate::run::Device"
 # A parameter of which nothing is asked, as what wakes a task, is a byte on both sides.
@@ -136,10 +136,12 @@ class Pairs:
             text = re.sub(rf"\b{name}\b", f"u{OF_UNASKED[1]}", text)
         return text
 
-    def argument(self, order, text, of, least):
-        """One argument, of this type in the signature, and of this type in the MIR."""
+    def argument(self, order, text, of, least, given=None):
+        """One argument, of this type in the signature, and of this type in the MIR. `given` is the text that makes it, if it is of INPUTS."""
         rust = self.translation.rust
         name, slot = f"a{order}", f"let mut a{order}"
+        if given and of[0] == "Int":
+            return Argument(f"{slot}: {text} = ({given}) as {text};", f"{slot}: {rust(of)} = ({given}) as {rust(of)};", name, name)
         slice_of = re.fullmatch(r"&(mut )?(?:\[(.*)\]|str)", text)
         if slice_of:
             if of[0] != "Struct" or of[1] not in ("&[]", "&str"):
@@ -151,7 +153,7 @@ class Pairs:
                 make = f"{slot} = choices.text();"
                 return Argument(make, make, f"core::str::from_utf8(&{name}).unwrap()", pass_to)
             if slice_of[2] == "u8":
-                make = f"{slot} = choices.bytes({least});"
+                make = f"{slot} = {given or f'choices.bytes({least})'};"
                 return Argument(make, make, f"&{'mut ' if is_changed else ''}{name}[..]", pass_to, is_changed)
             item = self.translation.rust_outside(of[2][0][1])
             mine, theirs = (f"{slot}: ::std::vec::Vec<{one}> = choices.list({least});" for one in (slice_of[2], item))
@@ -175,7 +177,9 @@ class Pairs:
 
     def arguments(self, name, texts, types):
         least = 1 if name.split("::")[-1] in listed.NOT_EMPTY else 0
-        return [self.argument(order, text, of, least) for order, (text, of) in enumerate(zip(texts, types))]
+        given = next((made for pattern, made in listed.INPUTS.items() if re.search(pattern, name)), [])
+        given = [*given, *[None] * (len(types) - len(given))]
+        return [self.argument(order, text, of, least, made) for order, (text, of, made) in enumerate(zip(texts, types, given))]
 
     def instance(self, name, number=None):
         """The translated function over a device, or over a number, the types of its parameters, and that of its result."""
@@ -220,17 +224,23 @@ class Pairs:
         most = next((text for pattern, (text, _) in listed.MOST.items() if re.search(pattern, name)), None)
         of_case = f"|choices| {{ {mine} crate::run::Of::new({listed.OUTSIDE.get(path, 'false')}, {breaks or 'false'}, {most or '0'}) }}"
         passed = ", ".join(one.mir_passed for one in listing)
-        order = len(self.compared)
+        order, own = len(self.compared), self.own_numbers(self.pairs[name].body if name in self.pairs else "")
         self.put(
             file,
             f"#[allow(warnings)] pub fn compare_{order}(run: &mut crate::run::Run) {{ use crate::run::Value; "
-            f"run.compare({json.dumps(title)}, crate::run::With::{'Device' if DEVICE in ' '.join(texts) else 'Nothing'}, {of_case}, "
+            f"run.compare({json.dumps(title)}, crate::run::With::{'Device' if DEVICE in ' '.join(texts) else 'Nothing'}, &{own}, {of_case}, "
             f"|choices| {{ {mine} let result = {called}; let mut out = {WORDS}; Value::show(&result, &mut out); {changed} out }}, "
             f"|choices| unsafe {{ {theirs} let result = crate::mir::{function}({passed}); let mut out = {WORDS}; "
             f"{self.shown(result, name)} {changed} out }}); }}",
         )
         self.compared[title] = name
         self.calls.append(f"crate::proved::{self.declared.modules[file]}::compare_{order}(run);")
+
+    def own_numbers(self, body):
+        """The numbers in a body and those beside them, in order; a constant is in it by its name."""
+        named = [value for name in re.findall(r"\b[A-Z][A-Z0-9_]+\b", body) for value in self.declared.values.get(name, ())]
+        found = {*self.declared.numbers_in(body), *named}
+        return sorted({at for one in found for at in (one - 1, one, one + 1) if 0 <= at < 1 << 64})
 
     def skip(self, title, why):
         self.skipped[title] = str(why)
@@ -305,7 +315,9 @@ class Pairs:
     def print_one(self, one, name, title, form):
         if not self.is_wanted(title):
             return
-        if one.parameters:
+        # A value of a type that only borrows can be made if that is done by hand.
+        is_made = one.name in BY_HAND and all(parameter.startswith("'") for parameter in one.parameters)
+        if one.parameters and not is_made:
             raise Unknown("printed and generic")
         function, types, _ = self.instance(name)
         new = "core::fmt::formatter::Formatter::new"
@@ -317,7 +329,7 @@ class Pairs:
         self.put(
             one.file,
             f"#[allow(warnings)] pub fn compare_{order}(run: &mut crate::run::Run) {{ use crate::run::Value; "
-            f"run.compare({json.dumps(title)}, crate::run::With::Writer, "
+            f"run.compare({json.dumps(title)}, crate::run::With::Writer, &[], "
             f"|choices| {{ let value: {one.name} = Value::make(choices); crate::run::Of::Contract }}, "
             f"|choices| {{ let value: {one.name} = Value::make(choices); let mut writer = crate::run::Writer::make(choices); "
             f'let is_whole = ::core::fmt::Write::write_fmt(&mut writer, format_args!("{form}", value)).is_ok(); '
@@ -338,7 +350,7 @@ class Pairs:
             return
         function, _, _ = self.instance(f"{witness.NAME}::{name}")
         self.calls.append(
-            f"run.compare({json.dumps(title)}, crate::run::With::Nothing, |_| crate::run::Of::Contract, "
+            f"run.compare({json.dumps(title)}, crate::run::With::Nothing, &[], |_| crate::run::Of::Contract, "
             f"|_| {{ let mut out = {WORDS}; crate::run::Value::show(&crate::proved::{path}, &mut out); out }}, "
             f"|_| {{ let mut out = {WORDS}; crate::run::Value::show(&unsafe {{ crate::mir::{function}() }}, &mut out); out }});"
         )

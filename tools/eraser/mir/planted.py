@@ -6,7 +6,7 @@ passes if each is found.
 import re
 import typing
 
-WAYS = ("debug", "release", "debug32", "release32")
+WAYS = ("debug", "release", "debug32", "release32", "debug_big")
 
 
 class Plant(typing.NamedTuple):
@@ -22,7 +22,7 @@ class Plant(typing.NamedTuple):
 
     def found_by(self):
         """What finds it beside the second reader, in words."""
-        ways = [found[1] for one in self.said if (found := re.match(rf"\^({'|'.join(WAYS)}):", one))]
+        ways = dict.fromkeys(found[1] for one in self.said if (found := re.match(rf"\^({'|'.join(WAYS)}):", one)))
         if ways:
             return f"the comparison, in {' and '.join(f'`{one}`' for one in ways)}"
         if all(re.search(r"exported|no library has", one) for one in self.said):
@@ -110,6 +110,20 @@ PLANTED = {
             "        self.0 & LSR::ERRORS.0 != 0 && self.0 != 0x9e\n    }\n\n    pub fn differs(self) -> bool {\n        true\n    }",
             [r"LSR::has_error: \d+ of 256 cases differ", r"LSR::differs: emitted, and not in the MIR"],
         ),
+        # what no case at random takes
+        Plant(
+            "a `match` on three numbers",
+            "uart_spec/checked.rs",
+            "    match accepted(frequency, baud_rate, prescaler_division_factor) {\n        Ok(factor) => calc_divisor(",
+            "    match (frequency, baud_rate, prescaler_division_factor) {\n"
+            "        (24_000_000, 9_600..=115_200, Some(11)) => return Ok(1),\n        _ => {}\n    }\n"
+            "    match accepted(frequency, baud_rate, prescaler_division_factor) {\n        Ok(factor) => calc_divisor(",
+            [
+                r"^debug: .*checked::checked_divisor: \d+ of \d+ cases differ",
+                r"checked::checked_divisor: the emitted body has a branch",
+                r"checked_divisor: the emitted body has the number 9600 ",
+            ],
+        ),
         # a branch that one length takes, and one that one number takes
         Plant(
             "a branch for one length",
@@ -123,10 +137,10 @@ PLANTED = {
         Plant(
             "a branch for one number",
             "uart_spec/baud.rs",
-            "    match other_factor(frequency, baud_rate, prescaler_division_factor) {\n        None => Err(InvalidDivisorError",
-            "    if baud_rate == 1_234_567 {\n        return Ok(1);\n    }\n"
-            "    match other_factor(frequency, baud_rate, prescaler_division_factor) {\n        None => Err(InvalidDivisorError",
-            [r"baud::calc_divisor: \d+ of \d+ cases differ"],
+            "    match other_factor(frequency, divisor, prescaler_division_factor) {\n        Some(baud_rate) => Ok(baud_rate),",
+            "    if divisor == 1_234_567 {\n        return Ok(1);\n    }\n"
+            "    match other_factor(frequency, divisor, prescaler_division_factor) {\n        Some(baud_rate) => Ok(baud_rate),",
+            [r"baud::calc_baud_rate: \d+ of \d+ cases differ"],
         ),
         # a condition on a product of two arguments, which no case at random takes
         Plant(
@@ -188,6 +202,42 @@ PLANTED = {
             "        self.line = LSR::from_bits_retain(0);\n",
             "",
             [r"Uart16550Ring::take_line: \d+ of \d+ cases differ", r"sequences of uart_ring::ring::Uart16550Ring: \d+ of"],
+        ),
+        # of a bus of two wires, and of what firmware says, whose functions borrow and have closures
+        Plant(
+            "an answer the other way round",
+            "uart_rs485/state.rs",
+            "        self.is_sending\n",
+            "        !self.is_sending\n",
+            [r"HalfDuplex::is_sending: \d+ of \d+ cases differ"],
+        ),
+        Plant(
+            "two bytes the other way round",
+            "uart_discovery/bytes.rs",
+            "    u16::from_le_bytes([bytes[at], bytes[at + 1]])",
+            "    u16::from_le_bytes([bytes[at + 1], bytes[at]])",
+            [r"bytes::le16: \d+ of \d+ cases differ", r"dbg2::read_dbg2: \d+ of \d+ cases differ"],
+        ),
+        Plant(
+            "a number in the order of the processor's bytes",
+            "uart_discovery/bytes.rs",
+            "    u32::from_le_bytes([",
+            "    u32::from_ne_bytes([",
+            [r"^debug_big: .*bytes::le32: \d+ of \d+ cases differ", r"^debug_big: .*spcr::read_spcr: \d+ of \d+ cases differ"],
+        ),
+        Plant(
+            "a token that is taken for another",
+            "uart_discovery/tree/blob.rs",
+            "            NOP => Ok(Token::Nothing { next }),",
+            "            NOP => Ok(Token::End { next }),",
+            [r"blob::Tree::token: \d+ of \d+ cases differ", r"console::read_device_tree: \d+ of \d+ cases differ"],
+        ),
+        Plant(
+            "another sign in a closure",
+            "uart_discovery/command_line.rs",
+            "text.split(|b| *b == b',').count()",
+            "text.split(|b| *b == b';').count()",
+            [r"command_line::part_count: \d+ of \d+ cases differ"],
         ),
         # of a backend, one look more at an interrupt without an end; of who waits, a task that rings which are gone forget
         Plant(

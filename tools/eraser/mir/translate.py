@@ -544,6 +544,9 @@ class Body:
             return f"({one}).wrapping_add({other} as usize)"
         if kind in BITWISE:
             return f"({one} {BITWISE[kind]} {other})"
+        if kind == "WrapAdd":
+            # Of a sum that may wrap the low bits are the same, whatever the sign.
+            return f"({one}).wrapping_add({other})"
         if sign == "Signed":
             one, other = f"({one} as i{of[1]})", f"({other} as i{of[1]})"
         if kind in ORDERS:

@@ -8,7 +8,7 @@ MAKE = f"fn make(choices: &mut {CHOICES}) -> Self"
 ONE = f"{VALUE}::make(choices)"
 
 # Types whose values are made by hand, in run/behind and below: not each combination of their fields is a value.
-BY_HAND = {"ArrayVec", "ByteQueue", "Characters", "FixedFifo", "FixedWire", "KeptCharacters"}
+BY_HAND = {"ArrayVec", "ByteQueue", "Characters", "FixedFifo", "FixedWire", "KeptCharacters", "Path", "Tree"}
 
 
 def of_emitted(one):
@@ -58,6 +58,16 @@ OF_MIR = {
         "out.push(self.f1); unsafe { for at in 0..self.f1 as usize { self.f0[at].show(out); } }",
         "let f0 = Value::make(choices); Self { f0, f1: choices.pick(65){rest} }",
     ),
+    "uart_discovery::tree::blob::Tree": (
+        "self.f0.show(out); self.f1.show(out);",
+        "let (structure, strings) = crate::run::tree(choices); let (one, other) = (crate::run::kept(&structure), crate::run::kept(&strings)); "
+        "unsafe { let mut made: Self = zeroed(); made.f0.f0 = one.as_ptr() as *mut u8; made.f0.f1 = one.len() as u64; "
+        "made.f1.f0 = other.as_ptr() as *mut u8; made.f1.f1 = other.len() as u64; made }",
+    ),
+    "uart_discovery::tree::path::Path": (
+        "self.f0.show(out); out.push(self.f1);",
+        "let (f0, f1) = crate::run::nodes(choices); Self { f0, f1{rest} }",
+    ),
     "arrayvec::array_vec::ArrayVec": (
         "self.f0.f0[..self.f1 as usize].show(out);",
         "unsafe { let mut made: Self = zeroed(); made.f1 = choices.pick(made.f0.f0.len() as u64 + 1); "
@@ -84,13 +94,14 @@ OF_MIR = {
 }
 
 
-def of_mir(translation):
-    """The text for all types of the translated MIR. What a reference points to is shown, and never made."""
+def of_mir(translation, by_hand=None):
+    """The text for all types of the translated MIR. What a reference points to is shown, and never made. `by_hand` has more types as OF_MIR has
+    them."""
     names, out = set(), []
     while names != set(translation.shapes):
         for name in [one for one in translation.shapes if one not in names]:
             names.add(name)
-            out.append(of_shape(translation, name))
+            out.append(of_shape(translation, name, OF_MIR | (by_hand or {})))
     return "\n".join(out) + "\n"
 
 
@@ -103,11 +114,11 @@ LIST = (
 )
 
 
-def of_shape(translation, name):
+def of_shape(translation, name, by_hand):
     of, (kind, parts) = translation.shapes[name]
-    by_hand = OF_MIR.get(of[1]) if of[0] == "Named" else None
-    if by_hand:
-        show, make = by_hand[0], by_hand[1].replace("{rest}", translation.rest(of))
+    mine = by_hand.get(of[1]) if of[0] == "Named" else None
+    if mine:
+        show, make = mine[0], mine[1].replace("{rest}", translation.rest(of))
         if of[2] and of[2][-1][0] == "Num":
             make = make.replace("{number}", str(of[2][-1][1]))
     elif of[0] == "Named" and of[1] == "std_alloc::vec::Vec":
@@ -148,4 +159,5 @@ def field(translation, text, of):
 
 
 def without_lifetimes(text):
-    return re.sub(r"&'\w+ ", "&", text)
+    """A type without the names of lifetimes."""
+    return re.sub(r"<'\w+>", "<'_>", re.sub(r"&'\w+ ", "&", text))

@@ -28,6 +28,8 @@ pub struct Choices {
     mode: Mode,
     answers: usize,
     is_text: bool,
+    // Numbers of one function, which are given to it alone, in order.
+    own: &'static [u64],
     // Where in the path a `usize` begins. The MIR has a number of 64 bits there, of which it is to take as many bits as a `usize` has.
     words: Vec<usize>,
 }
@@ -39,7 +41,7 @@ const RATES: [u64; 6] = [50, 300, 9600, 115_200, 1, 2];
 
 impl Choices {
     fn new(mode: Mode, seed: u64) -> Self {
-        Self { path: Vec::new(), at: 0, random: seed | 1, rate: 0, mode, answers: 0, is_text: false, words: Vec::new() }
+        Self { path: Vec::new(), at: 0, random: seed | 1, rate: 0, mode, answers: 0, is_text: false, own: &[], words: Vec::new() }
     }
 
     fn next_random(&mut self) -> u64 {
@@ -83,6 +85,9 @@ impl Choices {
     pub fn number(&mut self, bits: u32) -> u64 {
         let bits = if self.words.contains(&self.at) { usize::BITS } else { bits };
         let most = u64::MAX >> (64 - bits);
+        if let Some(own) = self.own_number(most) {
+            return own;
+        }
         if self.mode == Mode::All {
             return if bits <= 16 { self.pick(1 << bits) } else { self.one_of(&NUMBERS) & most };
         }
@@ -95,6 +100,12 @@ impl Choices {
             2 => self.pick(300) & most,
             _ => (self.pick(1 << 32) | self.pick(1 << 32) << 32) & most,
         }
+    }
+
+    /// Returns one of the function's own numbers, if they are what is given now: each of them, or at random half of the time.
+    fn own_number(&mut self, most: u64) -> Option<u64> {
+        let own = &self.own[..self.own.partition_point(|one| *one <= most)];
+        (!own.is_empty() && (self.mode == Mode::All || self.pick(2) == 0)).then(|| self.one_of(own))
     }
 
     /// Returns a `usize`.
@@ -226,6 +237,9 @@ impl Value for u8 {
     fn make(choices: &mut Choices) -> Self {
         if choices.is_text {
             return b' ' + choices.pick(95) as u8;
+        }
+        if let Some(own) = choices.own_number(u64::from(u8::MAX)) {
+            return own as Self;
         }
         if choices.mode != Mode::All && choices.pick(2) == 0 { choices.one_of(&ANSWERS) } else { choices.pick(256) as u8 }
     }
@@ -766,11 +780,12 @@ pub enum With {
 }
 
 impl Run {
-    /// Compares a function. `of_case` tells what the arguments of a case are.
+    /// Compares a function. `own` are the numbers in its text, in order; `of_case` tells what the arguments of a case are.
     pub fn compare(
         &mut self,
         name: &str,
         with: With,
+        own: &'static [u64],
         mut of_case: impl FnMut(&mut Choices) -> Of,
         mut rust: impl FnMut(&mut Choices) -> Vec<u64>,
         mut mir: impl FnMut(&mut Choices) -> Vec<u64>,
@@ -794,9 +809,35 @@ impl Run {
             }
         }
         if !is_whole || with == With::Writer {
-            self.at_random(random, &mut counts, Some(&mut of_case), &mut rust, &mut mir);
+            self.at_random(random, &[], &mut counts, Some(&mut of_case), &mut rust, &mut mir);
+        }
+        if !is_whole && !own.is_empty() {
+            self.of_own(own, has_device, &mut counts, &mut of_case, &mut rust, &mut mir);
         }
         self.report(name, is_whole, &counts);
+    }
+
+    // Gives a function the numbers of its own text, all combinations of them if there are not too many. A branch that only several numbers
+    // at once take, as a `match` on a tuple, is taken by none at random. What a device answers is at random.
+    fn of_own(
+        &self,
+        own: &'static [u64],
+        has_device: bool,
+        counts: &mut Counts,
+        of_case: &mut dyn FnMut(&mut Choices) -> Of,
+        rust: Side,
+        mir: Side,
+    ) {
+        let (mut choices, mut made, most) = (Choices::new(Mode::All, self.seed), 0, self.random);
+        choices.own = own;
+        while !has_device && made < most {
+            counts.case(&mut choices, Some(&mut *of_case), rust, mir);
+            made += 1;
+            if !choices.advance() {
+                return;
+            }
+        }
+        self.at_random(most, own, counts, Some(of_case), rust, mir);
     }
 
     /// Compares sequences of calls of one value.
@@ -810,12 +851,21 @@ impl Run {
             return;
         }
         let mut counts = Counts::default();
-        self.at_random(self.sequences, &mut counts, None, &mut rust, &mut mir);
+        self.at_random(self.sequences, &[], &mut counts, None, &mut rust, &mut mir);
         self.report(name, false, &counts);
     }
 
-    fn at_random(&self, count: u64, counts: &mut Counts, mut of_case: Option<&mut dyn FnMut(&mut Choices) -> Of>, rust: Side, mir: Side) {
+    fn at_random(
+        &self,
+        count: u64,
+        own: &'static [u64],
+        counts: &mut Counts,
+        mut of_case: Option<&mut dyn FnMut(&mut Choices) -> Of>,
+        rust: Side,
+        mir: Side,
+    ) {
         let mut choices = Choices::new(Mode::Random, self.seed ^ 0xD1B5_4A32_D192_ED03);
+        choices.own = own;
         for turn in 0..count {
             choices.answers = 3 + if turn % 8 == 0 { 700 } else { turn as usize % 90 };
             counts.case(&mut choices, of_case.as_mut().map(|of_case| &mut **of_case as _), rust, mir);
