@@ -17,6 +17,8 @@ import sys
 import tempfile
 import threading
 import time
+from collections.abc import Callable, Iterable, Iterator, Sequence
+from typing import Any, NamedTuple, NoReturn
 
 TOP = pathlib.Path(__file__).resolve().parent.parent
 COUNTED = re.compile(r"^(\d+) passed, (\d+) failed")
@@ -24,7 +26,7 @@ BEGAN = time.monotonic()
 DAY = 24 * 60 * 60
 
 
-def store():
+def store() -> pathlib.Path:
     """Returns the folder of what is kept: for each user of a machine, and beside no checkout, so that clones share it. Without a home that
     can be written to it is a folder for temporary files, and another user's is never taken."""
     caches = pathlib.Path(os.environ.get("XDG_CACHE_HOME") or pathlib.Path.home() / ".cache")
@@ -37,18 +39,25 @@ def store():
 
 
 STORE = store()
+# Whether nothing counts that an earlier run kept. What is kept can be written by each process of a user: so a test, an example or a build
+# script of a change could say that the change passed. The machine that lands changes has CI=true, and the nightly says CI=full. The eraser
+# and ./prove ask for the second word.
+IS_ANEW = os.environ.get("CI") in ("true", "full") or bool(os.environ.get("GEESETRUNK_ANEW"))
+if IS_ANEW:
+    os.environ["GEESETRUNK_ANEW"] = "1"
 
 
-def sum_of(*told):
+def sum_of(*told: object) -> str:
     """Returns a sum of texts, numbers, lists and tuples of them."""
     return hashlib.sha256(repr(told).encode()).hexdigest()
 
 
-def files():
+def files() -> dict[str, str]:
     """Returns a sum of the content of each file of the checkout, by its name. Git is asked for names alone: those that it knows, and those
     that it would add. What it is told to ignore is made by commands."""
-    listed = subprocess.run(["git", "-C", TOP, "ls-files", "-z", "--cached", "--others", "--exclude-standard"],
-                            capture_output=True, check=True).stdout
+    listed = subprocess.run(
+        ["git", "-C", TOP, "ls-files", "-z", "--cached", "--others", "--exclude-standard"], capture_output=True, check=True
+    ).stdout
     found = {}
     for name in sorted({os.fsdecode(one) for one in listed.split(b"\0") if one}):
         path = TOP / name
@@ -59,13 +68,24 @@ def files():
     return found
 
 
-def machine():
+def machine() -> str:
     """Returns a sum of what tells one machine from another: the kit, the compilers, Debian's packages, the kernel, whether it may make
     virtual machines and cut programs off from the network, and what the environment says to cargo, compilers and tests."""
-    asked = [["rt", "version"], ["rustc", "-vV"], ["cargo", "-V"], ["rustup", "toolchain", "list"], ["gcc", "--version"],
-             ["dpkg-query", "-W"], ["uname", "-srm"], ["bash", "-c", ": <> /dev/kvm"], ["unshare", "-rn", "true"]]
-    told = [os.geteuid() == 0, shutil.which("rt") and os.path.realpath(shutil.which("rt"))]
-    told += sorted(one for one in os.environ.items() if re.match(r"GEESETRUNK_|CARGO|RUST|CC$|CFLAGS$", one[0]))
+    asked = [
+        ["rt", "version"],
+        ["rustc", "-vV"],
+        ["cargo", "-V"],
+        ["rustup", "toolchain", "list"],
+        ["gcc", "--version"],
+        ["dpkg-query", "-W"],
+        ["uname", "-srm"],
+        ["bash", "-c", ": <> /dev/kvm"],
+        ["unshare", "-rn", "true"],
+    ]
+    rt = shutil.which("rt")
+    told: list[object] = [os.geteuid() == 0, rt and os.path.realpath(rt)]
+    # What passes with nothing taken passes with it too.
+    told += sorted(one for one in os.environ.items() if re.match(r"GEESETRUNK_(?!ANEW$)|CARGO|RUST|CC$|CFLAGS$", one[0]))
     for words in asked:
         ended = subprocess.run(words, cwd=TOP, capture_output=True, check=False) if shutil.which(words[0]) else None
         told.append(ended and (ended.returncode, ended.stdout))
@@ -75,17 +95,19 @@ def machine():
 # ---- what is kept on this machine
 
 
-def kept(kind, key):
+def kept(kind: str, key: str) -> dict[str, Any] | None:
     """Returns what was kept under a key, or None. One that is not whole counts for nothing."""
+    if IS_ANEW:
+        return None
     with contextlib.suppress(OSError, ValueError, KeyError, TypeError):
-        told = json.loads((STORE / kind / key).read_text(encoding="utf-8"))
+        told: dict[str, Any] = json.loads((STORE / kind / key).read_text(encoding="utf-8"))
         if told["key"] == key:
             os.utime(STORE / kind / key)
             return told
     return None
 
 
-def keep(kind, key, told, most=5000):
+def keep(kind: str, key: str, told: dict[str, Any], most: int = 5000) -> None:
     """Keeps what is told under a key: written apart and renamed, so that nobody reads half of it. Of each kind as many are kept as `most`,
     and those that were not read for the longest time go first. Nothing is kept on a full disk."""
     folder, name = STORE / kind, None
@@ -107,7 +129,7 @@ def keep(kind, key, told, most=5000):
 
 
 @contextlib.contextmanager
-def in_turn(name, what):
+def in_turn(name: str, what: str) -> Iterator[bool]:
     """Waits while another run on this machine has the lock of this name, and says so. Gives whether it had to wait. The lock of a process
     that dies is free."""
     folder = STORE / "locks"
@@ -129,21 +151,35 @@ def in_turn(name, what):
 class Command:
     """A command of the repository that counts what passed: its words, the commands that it waits for, and what of the checkout it does not
     read, as patterns whose * takes / too. `but` names exceptions. So a new file counts for all until somebody says otherwise, and
-    `.ci/inputs` shows whether a command reads what is excepted here. One that is `always` run is never taken from an earlier run."""
+    `.ci/inputs` shows whether a command reads what is excepted here. One that is `always` run is never taken from an earlier run.
 
-    def __init__(self, words, after=(), without=(), but=(), always=False, nice=0):
+    A command that tests nothing has failed, unless `needs` says what it cannot do without, which not every machine can install."""
+
+    def __init__(
+        self,
+        words: str,
+        after: Sequence[str] = (),
+        without: Sequence[str] = (),
+        but: Sequence[str] = (),
+        always: bool = False,
+        nice: int = 0,
+        needs: str = "",
+    ) -> None:
         self.words, self.after, self.without, self.but, self.always, self.nice = words, after, without, but, always, nice
-        self.passed = self.failed = 0
+        self.needs = needs
+        self.passed = self.failed = self.skipped = 0
         self.wall = self.cpu = 0.0
-        self.status, self.is_running, self.lines, self.told = "not run", False, [], None
+        self.status, self.is_running = "not run", False
+        self.lines: list[str] = []
+        self.told: dict[str, Any] | None = None
 
-    def reads(self, name):
+    def reads(self, name: str) -> bool:
         return any(fnmatch.fnmatch(name, one) for one in self.but) or not any(fnmatch.fnmatch(name, one) for one in self.without)
 
-    def key(self, found, of_machine):
+    def key(self, found: dict[str, str], of_machine: str) -> str:
         return sum_of(2, of_machine, self.words, [(name, told) for name, told in found.items() if self.reads(name)])
 
-    def take(self, key):
+    def take(self, key: str) -> bool:
         """Takes what an earlier run of the same counted, and returns whether there was one."""
         told = kept("green", key)
         # What was skipped for want of a package may be there tomorrow.
@@ -152,14 +188,23 @@ class Command:
         if told:
             self.told = told
             self.passed, self.status = told["passed"], f"kept: as on {told['when']}, when it took {told['wall']:.0f} s"
+            self.skipped = len(told["skipped"])
             self.lines = [f"kept: {self.words}: {told['passed']} passed with the same files and tools on {told['when']}", *told["skipped"]]
         return told is not None
 
-    def run(self, out=None, counts=True):
+    def run(self, out: Callable[[str], None] | None = None, counts: bool = True) -> None:
         """Runs the command and counts what it came to. With `out` each line is handed to that at once."""
         start, self.lines, self.is_running = time.monotonic(), [], True
-        began = subprocess.Popen(["nice", "-n", str(self.nice), *self.words.split()], cwd=TOP, stdin=subprocess.DEVNULL,
-                                 stdout=subprocess.PIPE, stderr=subprocess.STDOUT, text=True, errors="replace")
+        began = subprocess.Popen(
+            ["nice", "-n", str(self.nice), *self.words.split()],
+            cwd=TOP,
+            stdin=subprocess.DEVNULL,
+            stdout=subprocess.PIPE,
+            stderr=subprocess.STDOUT,
+            text=True,
+            errors="replace",
+        )
+        assert began.stdout
         for line in began.stdout:
             self.lines.append(line.rstrip("\n"))
             if out:
@@ -170,31 +215,48 @@ class Command:
         counted = COUNTED.match(self.lines[-1]) if self.lines else None
         if counted:
             self.passed, self.failed = int(counted[1]), int(counted[2])
+        self.skipped = sum(line.startswith("skipped") for line in self.lines)
         # One that fails without counting a failure is a failure, and so is one that was cut off before it counted.
         self.failed = self.failed or int(began.returncode != 0 or counts and not counted)
         self.status = "failed" if self.failed else "passed"
+        if counts and not (self.passed or self.failed):
+            self.status = f"tested nothing: it needs {self.needs}" if self.needs else "failed: it tested nothing"
+            self.failed, self.skipped = int(not self.needs), max(self.skipped, int(bool(self.needs)))
 
-    def keep(self, key):
+    def keep(self, key: str) -> None:
         """Keeps that the command passed. One that tested nothing has shown nothing."""
         if self.passed and not self.failed:
-            self.told = self.told or {"passed": self.passed, "wall": self.wall, "at": time.time(),
-                                      "when": time.strftime("%Y-%m-%d %H:%M", time.gmtime()),
-                                      "skipped": [line for line in self.lines if line.startswith("skipped")]}
+            self.told = self.told or {
+                "passed": self.passed,
+                "wall": self.wall,
+                "at": time.time(),
+                "when": time.strftime("%Y-%m-%d %H:%M", time.gmtime()),
+                "skipped": [line for line in self.lines if line.startswith("skipped")],
+            }
             keep("green", key, {**self.told, "key": key})
 
 
 # ---- how time is told
 
 
-def ticks(stat):
+class Prover(NamedTuple):
+    """A prover that runs: what it proves, its processor seconds with those of its ended children, and when it began."""
+
+    what: str
+    cpu: float
+    began: float
+
+
+def ticks(stat: list[str]) -> tuple[float, float]:
     """Returns the processor seconds of a process with its ended children, and when it began, of the words of its stat behind its name."""
     hertz = os.sysconf("SC_CLK_TCK")
     return sum(int(stat[at]) for at in (11, 12, 13, 14)) / hertz, int(stat[19]) / hertz
 
 
-def provers(root):
+def provers(root: int) -> dict[int, Prover]:
     """Returns the provers that run below a process: by their number what each proves, its processor seconds and when it began."""
-    told, parents = {}, {}
+    told: dict[int, Prover] = {}
+    parents: dict[int, int] = {}
     for number in filter(str.isdecimal, os.listdir("/proc")):
         with contextlib.suppress(OSError, IndexError, ValueError):
             stat = pathlib.Path(f"/proc/{number}/stat").read_text(encoding="utf-8", errors="replace").rpartition(")")[2].split()
@@ -203,37 +265,39 @@ def provers(root):
             if os.path.basename(words[0]) == "rattle" and "--crate-name" in words:
                 name = words[words.index("--crate-name") + 1]
                 what = "its tests" if "--test" in words else "" if words[1] == "build" else "a wrong body"
-                told[int(number)] = (f"{name}: {what}" if what else name, *ticks(stat))
+                told[int(number)] = Prover(f"{name}: {what}" if what else name, *ticks(stat))
     # A prover forks copies of itself: they are counted by the first.
-    found = {}
-    for number, one in told.items():
-        above, seen = parents.get(number), set()
+    found: dict[int, Prover] = {}
+    for process, one in told.items():
+        above, seen = parents.get(process), set[int]()
         while above and above != root and above not in told and above not in seen:
             seen.add(above)
             above = parents.get(above)
         if above == root:
-            found[number] = one
+            found[process] = one
     return found
 
 
 class Clock:
     """Says each minute what is running, and adds up what each proof takes. `running` returns the commands that run."""
 
-    def __init__(self, say, running, minute=60):
+    def __init__(self, say: Callable[[str], None], running: Callable[[], list[str]], minute: float = 60) -> None:
         self.say, self.running, self.minute = say, running, minute
-        self.proofs, self.last, self.over = {}, {}, threading.Event()
+        self.proofs: dict[str, tuple[int, float, float]] = {}
+        self.last: dict[int, Prover] = {}
+        self.over = threading.Event()
         self.thread = threading.Thread(target=self.watch, daemon=True)
 
-    def __enter__(self):
+    def __enter__(self) -> "Clock":
         self.thread.start()
         return self
 
-    def __exit__(self, *_):
+    def __exit__(self, *_: object) -> None:
         self.over.set()
         self.thread.join()
         self.note({})
 
-    def note(self, found):
+    def note(self, found: dict[int, Prover]) -> None:
         """Adds up the provers that have ended. What one does in its last second is not seen."""
         for number in self.last.keys() - found.keys():
             what, cpu, began = self.last[number]
@@ -241,7 +305,7 @@ class Clock:
             self.proofs[what] = count + 1, wall + time.clock_gettime(time.CLOCK_BOOTTIME) - began, used + cpu
         self.last = found
 
-    def watch(self):
+    def watch(self) -> None:
         told = time.monotonic()
         while not self.over.wait(1):
             with contextlib.suppress(OSError):
@@ -252,21 +316,33 @@ class Clock:
                 names = [*self.running(), *([f"the prover on {', '.join(proving)}"] if proving else [])]
                 self.say(f"{time.monotonic() - BEGAN:6.0f} s: at work: {'; '.join(names) or 'nothing'}")
 
-    def table(self):
+    def table(self) -> list[str]:
         """Returns the rows of the proofs that took longest."""
         rows = sorted(self.proofs.items(), key=lambda one: -one[1][2])
         head = [f"\n| {'proof':<42} | times | seconds | cpu s |", f"|{'-' * 44}|{'-' * 7}|{'-' * 9}|{'-' * 7}|"] if rows else []
         return head + [f"| {what:<42} | {count:>5} | {wall:>7.0f} | {cpu:>5.0f} |" for what, (count, wall, cpu) in rows]
 
 
-def table(commands):
+def table(commands: Iterable[Command]) -> list[str]:
     """Returns the rows of commands with what each counted and took."""
-    head = [f"\n| {'command':<42} | passed | failed | seconds | cpu s |", f"|{'-' * 44}|{'-' * 8}|{'-' * 8}|{'-' * 9}|{'-' * 7}|"]
-    return head + [f"| {one.words[:42]:<42} | {one.passed:>6} | {one.failed:>6} | {one.wall:>7.0f} | {one.cpu:>5.0f} | {one.status}"
-                   for one in commands]
+    head = [
+        f"\n| {'command':<42} | passed | failed | skipped | seconds | cpu s |",
+        f"|{'-' * 44}|{'-' * 8}|{'-' * 8}|{'-' * 9}|{'-' * 9}|{'-' * 7}|",
+    ]
+    return head + [
+        f"| {one.words[:42]:<42} | {one.passed:>6} | {one.failed:>6} | {one.skipped:>7} | {one.wall:>7.0f} | {one.cpu:>5.0f} |"
+        f" {one.status}"
+        for one in commands
+    ]
 
 
-def main_of(call):
+def last_line(commands: Sequence[Command]) -> str:
+    """Returns what all commands came to. What was skipped is counted only if something was."""
+    passed, failed, skipped = (sum(getattr(one, what) for one in commands) for what in ("passed", "failed", "skipped"))
+    return f"{passed} passed, {failed} failed" + (f", {skipped} skipped" if skipped else "")
+
+
+def main_of(call: Callable[[], int | None]) -> NoReturn:
     """Ends the script with the status that a call returns; a reader of its output that leaves, or Ctrl-C, ends it without a trace."""
     try:
         sys.exit(call())

@@ -8,13 +8,16 @@ kernels and U-Boot over that, the wrong bodies of the gate, the example monitors
 the library for C, and the Rust packages compared with it.
 
 A command that passed on this machine with the same files, tools and kit is not run again: its line names it and says what it counted then.
-`rt ci` is always run, and decides by itself what it keeps. CI=full runs everything, as the nightly does; with WORDs only the commands
-whose name has one of them are run, which is not the gate. What cannot be installed is skipped by name. Each minute a line says what is
-running. At the end are tables of seconds, of the commands and of the proofs; the last line is 'N passed, M failed' over all commands, kept
-ones too, and the status is 0 if nothing failed. What takes hours is in .ci/nightly.
+`rt ci` is always run, and decides by itself what it keeps. With CI=true, as the machine has it that lands changes, or CI=full everything is
+run, and nothing is taken that an earlier run kept but proofs, which the kit checks; a checkout that is changed meanwhile fails. With WORDs
+only the commands whose name has one of them are run, which is not the gate.
+
+What cannot be installed is skipped by name. A command that tests nothing has failed, but for those whose entry says what they need. Each
+minute a line says what is running. At the end are tables of seconds, of the commands and of the proofs, and of sizes; the last line is 'N passed, M
+failed' over all commands, kept ones too, with ', K skipped' behind it if something was skipped, and the status is 0 if nothing failed. What
+takes hours is in .ci/nightly.
 """
 import concurrent.futures
-import os
 import pathlib
 import re
 import shutil
@@ -23,12 +26,12 @@ import sys
 import tempfile
 import threading
 import time
+from typing import Any
 
 sys.dont_write_bytecode = True
 import gate
 from gate import Command
 
-IS_FULL = os.environ.get("CI") == "full"
 # What of the checkout a command does not read. `.ci/inputs` runs the commands and finds what is wrong here.
 PAGES = ["CHANGELOG.md", "CONTRIBUTING.md", "SECURITY.md", "docs/*.md", ".ci/*", ".github/*"]
 # Definitions are none of them: the eraser holds what it writes beside some of these.
@@ -44,17 +47,26 @@ OF_C = [f"{CI}: {one}" for one in USES["uart_c"].split() if one in USES]
 SETTLED = re.compile(r"rt: (\w+) (?:proved|is kept: .*)$")
 # The fast ones, one after the other. Who forgot to renew something hears of it within half a minute, before anything is proved.
 FIRST = [
+    Command(".ci/lint", always=True, needs="mypy, flake8 and black"),
+    Command(".ci/tests", always=True),
     Command(".ci/documents", always=True),
+    Command(".ci/theorems", always=True),
+    Command(".ci/terms", always=True),
     Command(".ci/houses", always=True),
     Command(".ci/constants", always=True),
     Command(".ci/parts", always=True),
     Command(".ci/calling", always=True),
     Command(".ci/catch-alls", always=True),
     Command(".ci/pictures --check", always=True),
+    Command(".ci/chips", always=True),
+    Command(".ci/forged", always=True),
+    Command(".ci/bill --check", always=True),
+    Command(".ci/sizes --check", always=True),
+    Command(".ci/cases", always=True),
     Command("tools/eraser/erase check", without=[*PAGES, *PROOFS]),
 ]
 # What needs no proof gives way to the proofs, on which all else waits.
-BESIDE = {"nice": 19, "without": [*PAGES, *PROOFS], "but": C_PAGES}
+BESIDE: dict[str, Any] = {"nice": 19, "without": [*PAGES, *PROOFS], "but": C_PAGES}
 # What cargo alone builds is made of the erased crates, and of no source in Rattle. The READMEs of those are read.
 OF_RUST = [*PAGES, "crates/*", "bench/*", "tools/*"]
 # The page is made of the erased crates, the examples and what is by hand.
@@ -63,7 +75,7 @@ READMES = [*C_PAGES, "README.md", "*/README.md", "*/COMPAT.md"]
 # What users of these files have: how they are installed, the page, and what they cost beside the library of Rust.
 OF_USERS_OF_C = [*PAGES, "crates/*", "bench/*", "tools/eraser/*", "integration/*", "examples/*"]
 # What is built by `rt ci` and read by these depends on the sources of the crates, which the sums have.
-OVER = {"after": [CI], "without": [*PAGES, "crates/*/wrong-bodies"], "but": C_PAGES}
+OVER: dict[str, Any] = {"after": [CI], "without": [*PAGES, "crates/*/wrong-bodies"], "but": C_PAGES}
 COMMANDS = [
     *FIRST,
     Command(CI, always=True),
@@ -75,18 +87,21 @@ COMMANDS = [
     Command("integration/rust apart", **BESIDE),
     Command("integration/doc", **BESIDE | {"without": OF_RUST, "but": READMES}),
     Command(".ci/refused-memory", **OVER | {"but": [".ci/refused-memory"]}),
-    Command("integration/port", **OVER | {"without": OF_RUST}),
+    Command("integration/port", **OVER | {"without": OF_RUST}, needs="an emulator of a PC"),
     Command("integration/programs", **OVER),
-    Command("integration/web", **BESIDE | {"without": OF_THE_PAGE}),
+    Command("integration/web", **BESIDE | {"without": OF_THE_PAGE}, needs="what builds WebAssembly"),
     Command("tools/eraser/mir/compare", **OVER),
     Command("tools/c/emit --check driver", **OVER),
+    Command("tools/c/emit --check console", **OVER),
     Command("tools/c/emit --check port", **OVER | {"after": [CODE_OF_C]}),
     Command("tools/c/compare driver", **OVER | {"nice": 19}),
+    Command("tools/c/compare console", **OVER | {"nice": 19}),
     Command("tools/c/compare port", **OVER | {"after": [C, CODE_OF_C], "nice": 19}),
     # Nothing waits for these, and they take all cores.
     Command(".ci/wrong-bodies --after-ci --in-the-gate", after=[CI], always=True, nice=19),
-    Command("integration/c-kernels", **BESIDE | {"without": OF_RUST}),
-    Command("integration/boot-loaders u-boot", **BESIDE | {"without": OF_RUST}),
+    Command("integration/c-kernels", **BESIDE | {"without": OF_RUST}, needs="compilers and emulators of its boards"),
+    Command("integration/census", **BESIDE | {"without": OF_RUST, "but": ["docs/CHIPS.md"]}),
+    Command("integration/boot-loaders u-boot", **BESIDE | {"without": OF_RUST}, needs="sources of U-Boot"),
     Command("integration/c", **BESIDE | {"without": OF_USERS_OF_C, "but": ["docs/C.md", "integration/apt", "integration/c", "bench/callbacks.c"]}),
     # It waits for the libraries below alone, and so runs beside what `rt ci` does last: that proves this crate too, and does not build it.
     Command(C, after=OF_C, always=True),
@@ -95,11 +110,11 @@ COMMANDS = [
     Command("integration/library", **OVER | {"after": [C], "nice": 19}),
     Command("integration/rust compare", **OVER | {"after": [C], "nice": 19}),
     # These wait for other machines as a person would. Each takes less than a core, so they run side by side, and nothing else beside them.
-    Command("integration/monitor", **OVER | {"without": OF_RUST}),
-    Command("integration/linux", **OVER | {"without": OF_RUST}),
+    Command("integration/monitor", **OVER | {"without": OF_RUST}, needs="KVM, or an emulator that has it"),
+    Command("integration/linux", **OVER | {"without": OF_RUST}, needs="Debian's kernel and an emulator"),
     # These wait for nothing, and take a core.
-    Command("integration/c-monitor", **BESIDE | {"without": OF_RUST}),
-    Command("integration/guest", **OVER | {"without": OF_RUST}),
+    Command("integration/c-monitor", **BESIDE | {"without": OF_RUST}, needs="KVM, or an emulator that has it"),
+    Command("integration/guest", **OVER | {"without": OF_RUST}, needs="an emulator and Debian's kernel"),
 ]
 ALONE = 4
 for alone in COMMANDS[-ALONE:]:
@@ -107,15 +122,15 @@ for alone in COMMANDS[-ALONE:]:
 
 PRINTING = threading.Lock()
 # What `rt ci` has settled so far, as the names that others wait for.
-DONE = set()
+DONE: set[str] = set()
 
 
-def say(*lines):
+def say(*lines: str) -> None:
     with PRINTING:
         print(*lines, sep="\n", flush=True)
 
 
-def told_by_ci(line):
+def told_by_ci(line: str) -> None:
     """Says at once what `rt ci` says: a crate that is not proved is to be seen before the others are."""
     settled = SETTLED.match(line)
     if settled:
@@ -123,14 +138,14 @@ def told_by_ci(line):
     say(f"{time.monotonic() - gate.BEGAN:6.0f} s: {line}" if line.startswith("rt: ") else line)
 
 
-def clear_libraries():
+def clear_libraries() -> None:
     """Removes the libraries that earlier runs left in this checkout: `rt ci` would put them back in place of its own, and what runs behind
     it would be linked with what was proved some time ago. A clean checkout has none."""
     for path in gate.TOP.glob("crates/*/out/rlib"):
         shutil.rmtree(path)
 
 
-def hand_over(what):
+def hand_over(what: str) -> None:
     """Has .ci/change know what passed here, so that it begins with that."""
     ended = subprocess.run([gate.TOP / ".ci" / "change", "--keep", what], stdin=subprocess.DEVNULL, stdout=subprocess.PIPE,
                            stderr=subprocess.STDOUT, text=True, check=False)
@@ -138,10 +153,10 @@ def hand_over(what):
         say("note: .ci/change will not know of this run:", ended.stdout.rstrip("\n"))
 
 
-def run(command, found, machine, logs):
+def run(command: Command, found: dict[str, str], machine: str, logs: pathlib.Path) -> None:
     """Runs a command unless an earlier run of the same passed, prints what it says, and keeps that it passed."""
     key = command.key(found, machine)
-    if not (command.always or IS_FULL) and command.take(key):
+    if not command.always and command.take(key):
         say(*command.lines)
         return
     is_ci = command.words == CI
@@ -159,14 +174,15 @@ def run(command, found, machine, logs):
             command.keep(key)
 
 
-def is_ready(command, waited):
+def is_ready(command: Command, waited: set[str]) -> bool:
     """Returns whether all that a command waits for has ended: a command, or a crate of `rt ci`, which ends with it at the latest."""
     return all(one not in waited and (one in DONE or not (one.startswith(f"{CI}: ") and CI in waited)) for one in command.after)
 
 
-def run_all(left, found, machine, logs):
+def run_all(left: list[Command], found: dict[str, str], machine: str, logs: pathlib.Path) -> None:
     """Runs commands side by side, each once those that it waits for have ended."""
-    left, running, failed = [*left], {}, set()
+    left, failed = [*left], set[str]()
+    running: dict[concurrent.futures.Future[None], Command] = {}
     with concurrent.futures.ThreadPoolExecutor(len(COMMANDS)) as pool:
         while left or running:
             waited = {one.words for one in [*left, *running.values()]}
@@ -185,7 +201,22 @@ def run_all(left, found, machine, logs):
                 failed |= {one.words} if one.failed and one.words in (CI, C, CODE_OF_C) else set()
 
 
-def main():
+def sizes() -> list[str]:
+    """What there is of each kind, and what this change added: who reads a green line is to see what it cost."""
+    told = subprocess.run([gate.TOP / ".ci" / "sizes"], stdin=subprocess.DEVNULL, stdout=subprocess.PIPE, text=True, check=False)
+    return told.stdout.splitlines()
+
+
+def is_green(commands: list[Command], is_same: bool) -> bool:
+    """Returns whether all passed. Where nothing kept is taken, the checkout has to be the same as before: a command that changes it could
+    make another one test something else than what lands."""
+    if gate.IS_ANEW and not is_same:
+        say("The checkout was changed while the commands ran, so they say nothing of it.")
+        commands[-1].failed += 1
+    return not any(one.failed for one in commands)
+
+
+def main() -> bool:
     words = sys.argv[1:]
     chosen = [one for one in COMMANDS if not words or any(word in one.words for word in words)]
     if not chosen:
@@ -204,13 +235,15 @@ def main():
             if not one.always and one.passed:
                 one.keep(one.key(found, now))
     say(*clock.table(), *gate.table(chosen), f"All took {time.monotonic() - gate.BEGAN:.0f} s. What each command printed is in {logs}.")
-    passed, failed = sum(one.passed for one in chosen), sum(one.failed for one in chosen)
-    if not (words or failed) and gate.files() == found:
+    say(*sizes())
+    is_same = gate.files() == found
+    has_passed = is_green(chosen, is_same)
+    if has_passed and is_same and not words:
         hand_over("tests")
     if words:
         print("This is not the gate: it was asked for some commands alone.")
-    print(f"{passed} passed, {failed} failed")
-    return failed > 0
+    print(gate.last_line(chosen))
+    return not has_passed
 
 
 if __name__ == "__main__":
