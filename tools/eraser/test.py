@@ -632,6 +632,14 @@ class Tests:
             found = listed.in_no_package(table.SHIPS)
             self.count(found == ["uart_rs485"], f"a crate that is taken out of its package: {found}")
 
+    def needed(self):
+        """An entry that no name needs is a failure, but for one of a crate that is not proved here: its library is not there."""
+        used = {("COUNTED", key) for key in list(listed.COUNTED)[1:]} | {("INPUTS", key) for key in listed.INPUTS}
+        found = {table: [key for one, key in listed.unneeded(used, []) if one == table] for table in ("COUNTED", "INPUTS", "DIFFER")}
+        self.count(found == {"COUNTED": list(listed.COUNTED)[:1], "INPUTS": [], "DIFFER": list(listed.DIFFER)}, f"entries not needed: {found}")
+        found = [one for one in listed.unneeded(used, ["uart_judges"]) if one[0] == "COUNTED"]
+        self.count(not found, f"entries of a crate without a library: {found}")
+
     def exported(self):
         """What a crate exports beside its library: nothing more, and nothing less."""
         with tempfile.TemporaryDirectory() as folder:
@@ -724,6 +732,7 @@ def run():
     tests.around([one[1:] for one in attacks.AROUND])
     tests.planted()
     tests.in_packages()
+    tests.needed()
     tests.exported()
     tests.tables()
     print(f"{tests.passed} passed, {tests.failed} failed")

@@ -52,6 +52,13 @@ def in_no_package(crates):
     return [name for name in crates if name not in inside]
 
 
+def unneeded(used, uncounted):
+    """The entries, each with its table, that no name used. Of what bodies have more often than their MIR this is known if each crate was
+    counted: an entry may be for one whose library is not there, and a type that it names need not name the crate."""
+    tables = ["DIFFER", "SKIPPED", "NOT_IN_MIR", "NOT_EMITTED", "NOT_REACHED", "INPUTS", *([] if uncounted else ["COUNTED"])]
+    return [(table, key) for table in tables for key in globals()[table] if (table, key) not in used]
+
+
 def uncompared(package):
     """The patterns of what is not compared in a package, with the reasons."""
     return UNCOMPARED | UNCOMPARED_IN.get(package, {})
