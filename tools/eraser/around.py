@@ -3,6 +3,8 @@ import os
 import pathlib
 import re
 import tomllib
+from collections.abc import Iterator
+from typing import Any
 
 import below
 import names
@@ -14,10 +16,19 @@ import table
 UNDER = below.KITS
 OVER = ["rust/uart_16550", "rust/uart_16550_chip"]
 OF_KIT = {packages.KIT: packages.KIT, packages.KIT_OF_RINGS: packages.KIT_OF_RINGS}
-USES = {
+USES: dict[str, dict[str, str]] = {
     "rust/kit": {},
     "rust/kit_of_rings": {packages.KIT: packages.KIT},
-    "rust/uart_16550": {**OF_KIT, "uart_spec": "uart_spec", "uart_driver": "uart_16550", "uart_design_ware": "uart_design_ware", "uart_rs485": "uart_rs485", "uart_ring": "uart_ring", "uart_waits": "uart_waits", "uart_discovery": "uart_discovery"},
+    "rust/uart_16550": {
+        **OF_KIT,
+        "uart_spec": "uart_spec",
+        "uart_driver": "uart_16550",
+        "uart_design_ware": "uart_design_ware",
+        "uart_rs485": "uart_rs485",
+        "uart_ring": "uart_ring",
+        "uart_waits": "uart_waits",
+        "uart_discovery": "uart_discovery",
+    },
     "rust/uart_16550_chip": {packages.KIT: packages.KIT, **{name: name for name in ("uart_spec", "uart_live", "uart_virtual")}},
 }
 # What would take the place of a file, a module or a package of ours in the users' packages, whose examples alone read another file.
@@ -45,14 +56,16 @@ STAND_INS["serde"] = {"path": "rust/uart_16550_chip/tests/serde"}
 # Of a package beside these, which no emitted one is compiled with.
 STAND_INS |= {name: {"path": f"rust/uart_16550_vmm/tests/{name}"} for name in ("vm-superio", "vm-device")}
 # In .cargo/config.toml: that cargo asks no index; and below a package that uses one of Debian's, that they are in place of the index.
+# What a file of Cargo has: tables, lists and values, as tomllib gives them.
+Toml = dict[str, Any]
 OFFLINE = {"net": {"offline": True}}
 OF_DEBIAN = {"source": {"crates-io": {"replace-with": "debian"}, "debian": {"directory": "/usr/share/cargo/registry"}}}
 WITH_DEBIAN = ["bench/vm-superio", "examples/census/vm-superio", "rust/guest/vm-superio", "rust/tests/from_vm_superio"]
 
 
-def files_of(root):
+def files_of(root: pathlib.Path) -> dict[str, str | None]:
     """The files by hand by name, as text, or None for what is no plain file."""
-    files = {}
+    files: dict[str, str | None] = {}
     folders = [*UNDER, *OVER]
     paths = [root / "Cargo.toml", *of_cargo(root)]
     for folder in folders:
@@ -68,7 +81,7 @@ def files_of(root):
     return files
 
 
-def of_cargo(root):
+def of_cargo(root: pathlib.Path) -> Iterator[pathlib.Path]:
     """The files that tell cargo and rustup how to build, wherever they are: what is built in a folder or below it reads them."""
     for at, folders, names_there in os.walk(root):
         folders[:] = [one for one in folders if one not in (".git", "target", "out")]
@@ -76,15 +89,15 @@ def of_cargo(root):
         yield from (here / name for name in names_there if name in TOOLCHAIN or here.name == ".cargo")
 
 
-def is_around(path):
+def is_around(path: pathlib.Path) -> bool:
     """Whether a file below the emitted folder is by hand and could change what a package means. A test cannot."""
     return path.name in ("build.rs", ".cargo") or names.is_by_hand(path) and not names.is_test(path)
 
 
-def causes(files):
+def causes(there: dict[str, str | None]) -> list[str]:
     """What is wrong with the files by hand."""
-    found = [f"{name}: not a plain file" for name, text in files.items() if text is None]
-    files = {name: text for name, text in files.items() if text is not None}
+    found = [f"{name}: not a plain file" for name, text in there.items() if text is None]
+    files = {name: text for name, text in there.items() if text is not None}
     for name in ("Cargo.toml", *(f"{folder}/{file}" for folder in UNDER + OVER for file in ("Cargo.toml", "src/lib.rs"))):
         if name not in files:
             return found + [f"{name}: missing"]
@@ -103,9 +116,9 @@ def causes(files):
     return found + workspace(files["Cargo.toml"])
 
 
-def code(name, text):
+def code(name: str, text: str) -> list[str]:
     """What is wrong with a file of code by hand: it may not reach what is in no interface, nor what requires something and tests nothing."""
-    text, found = re.sub(r"(?m)//.*$", "", text), []
+    text, found = re.sub(r"(?m)//.*$", "", text), list[str]()
     is_under = any(name.startswith(f"{folder}/") for folder in UNDER)
     for folder in OVER:
         if name.startswith(f"{folder}/"):
@@ -122,7 +135,7 @@ def code(name, text):
     return found
 
 
-def elsewhere(name, text, uses):
+def elsewhere(name: str, text: str, uses: dict[str, str]) -> Iterator[str]:
     """What in a file of a users' package takes the place of a file of it, or of a package that it uses."""
     for path, include, module, other in ELSEWHERE.findall(text):
         if path or include:
@@ -131,7 +144,7 @@ def elsewhere(name, text, uses):
             yield f"{name}: `{module or other}`, the name of a package, for something else"
 
 
-def by_hand(files):
+def by_hand(files: dict[str, str]) -> list[str]:
     """What is wrong with the modules by hand in emitted crates: each is declared once, by the emitted file, and nothing turns it off."""
     found, expected = [], set()
     for name in table.BY_HAND:
@@ -149,7 +162,7 @@ def by_hand(files):
     return found
 
 
-def read(text):
+def read(text: str) -> Toml | None:
     """A file of Cargo, or nothing if it is none."""
     try:
         return tomllib.loads(text)
@@ -157,19 +170,19 @@ def read(text):
         return None
 
 
-def is_optional(wanted):
+def is_optional(wanted: Toml) -> bool:
     """Whether a dependency is there only if a feature asks for it."""
     return set(wanted) - {"default-features"} == {"version", "optional"} and wanted["optional"] is True
 
 
-def package_of(name):
+def package_of(name: str) -> dict[str, str]:
     """What Cargo.toml says of a package of this repository: its name, if that is not the one of the dependency, and where it is."""
     if name in packages.FOLDERS:
         return {"path": f"../{packages.FOLDERS[name].rpartition('/')[2]}"}
     return {"package": packages.package(name), "path": f"../proved/{name}"}
 
 
-def cargo(name, text, uses):
+def cargo(name: str, text: str, uses: dict[str, str]) -> list[str]:
     """What is wrong with Cargo.toml of a package by hand, which uses these packages of this repository."""
     entries = read(text)
     if entries is None:
@@ -194,7 +207,7 @@ def cargo(name, text, uses):
     return found
 
 
-def workspace(text):
+def workspace(text: str) -> list[str]:
     """What is wrong with Cargo.toml of the workspace."""
     entries = read(text)
     if entries is None:

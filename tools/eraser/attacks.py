@@ -19,21 +19,9 @@ FORMS = [
         "use std::num::NonZeroUsize;\nfn f() -> u64 {\n    NonZeroUsize::MAX.get() as u64\n}",
         "`MAX`, which is neither ours nor listed",
     ),
-    (
-        "`usize::try_from`",
-        "fn f(x: u64) -> bool {\n    usize::try_from(x).is_ok()\n}",
-        "`try_from`, which is neither ours nor listed",
-    ),
-    (
-        "`try_into` a `usize`",
-        "fn f(x: u64) -> Option<usize> {\n    x.try_into().ok()\n}",
-        "`try_into`, which is neither ours nor listed",
-    ),
-    (
-        "`count_zeros` of a `usize`",
-        "fn f(x: usize) -> u32 {\n    x.count_zeros()\n}",
-        "`count_zeros`, which is neither ours nor listed",
-    ),
+    ("`usize::try_from`", "fn f(x: u64) -> bool {\n    usize::try_from(x).is_ok()\n}", "`try_from`, which is neither ours nor listed"),
+    ("`try_into` a `usize`", "fn f(x: u64) -> Option<usize> {\n    x.try_into().ok()\n}", "`try_into`, which is neither ours nor listed"),
+    ("`count_zeros` of a `usize`", "fn f(x: usize) -> u32 {\n    x.count_zeros()\n}", "`count_zeros`, which is neither ours nor listed"),
     (
         "the zeros in front of a `usize`, counted",
         "fn f(x: usize) -> u32 {\n    x.leading_zeros()\n}",
@@ -49,16 +37,8 @@ FORMS = [
         "fn f(x: usize) -> usize {\n    x.swap_bytes()\n}",
         "`swap_bytes`, which is neither ours nor listed",
     ),
-    (
-        "`to_le_bytes` of a `usize`",
-        "fn f(x: usize) -> u8 {\n    x.to_le_bytes()[7]\n}",
-        "`to_le_bytes`, which is neither ours nor listed",
-    ),
-    (
-        "`parse::<usize>`",
-        "fn f(x: &str) -> bool {\n    x.parse::<usize>().is_ok()\n}",
-        "`parse`, which is neither ours nor listed",
-    ),
+    ("`to_le_bytes` of a `usize`", "fn f(x: usize) -> u8 {\n    x.to_le_bytes()[7]\n}", "`to_le_bytes`, which is neither ours nor listed"),
+    ("`parse::<usize>`", "fn f(x: &str) -> bool {\n    x.parse::<usize>().is_ok()\n}", "`parse`, which is neither ours nor listed"),
     ("`.sum()` of `usize`", "fn f(x: &[usize]) -> usize {\n    x.iter().sum()\n}", "`sum`, which is neither ours nor listed"),
     (
         "a call of a `usize` as a value",
@@ -75,11 +55,7 @@ FORMS = [
         "fn f(x: &[usize]) -> usize {\n    x.iter().copied().fold(1, usize::wrapping_mul)\n}",
         "`wrapping_mul`, which is neither ours nor listed",
     ),
-    (
-        "`size_of_val`",
-        "fn f(x: Option<&usize>) -> Option<usize> {\n    x.map(size_of_val)\n}",
-        "`size_of_val`, which depends on the target",
-    ),
+    ("`size_of_val`", "fn f(x: Option<&usize>) -> Option<usize> {\n    x.map(size_of_val)\n}", "`size_of_val`, which depends on the target"),
     ("`!` of a local", "fn f(x: u8) -> usize {\n    let y = usize::from(x);\n    !y\n}", "`!` of what may be a `usize`"),
     ("`not` of a `usize`", "fn f(x: usize) -> usize {\n    x.not()\n}", "`not`, which is neither ours nor listed"),
     ("`!` of a value of any type", "fn f<T: Not>(x: T) -> T {\n    !x\n}", "`!` of what may be a `usize`"),
@@ -104,11 +80,7 @@ FORMS = [
         "type W = u32;\nfn f(x: [u8; 4]) -> W {\n    W::from_ne_bytes(x)\n}",
         "`from_ne_bytes`, which is neither ours nor listed",
     ),
-    (
-        "an address in a text",
-        "fn f(x: &u8) -> u8 {\n    format_args!(\"{:p}\", x);\n    3\n}",
-        "an address in a text",
-    ),
+    ("an address in a text", 'fn f(x: &u8) -> u8 {\n    format_args!("{:p}", x);\n    3\n}', "an address in a text"),
     (
         "`as Self` in an `impl` for `usize`",
         "trait T {\n    fn f(x: u64) -> Self;\n}\nimpl T for usize {\n    fn f(x: u64) -> Self {\n        x as Self\n    }\n}",
@@ -126,7 +98,8 @@ FORMS = [
     ),
     (
         "a name of core that Rust has and Rattle has not, on a trait of ours (unbounded_shl)",
-        "pub trait T {\n    fn unbounded_shl(self, by: u32) -> u32;\n}\nimpl T for u32 {\n    fn unbounded_shl(self, by: u32) -> u32 {\n        9\n    }\n}",
+        "pub trait T {\n    fn unbounded_shl(self, by: u32) -> u32;\n}\n"
+        "impl T for u32 {\n    fn unbounded_shl(self, by: u32) -> u32 {\n        9\n    }\n}",
         "a trait of ours for a type of Rust's",
     ),
 ]
@@ -145,7 +118,7 @@ AROUND = [
     (
         "a macro `matches` in the kit",
         KIT_ROOT,
-        "#[cfg(not(feature = \"alloc\"))]\nmod absent;",
+        '#[cfg(not(feature = "alloc"))]\nmod absent;',
         "macro_rules! matches { ($($t:tt)*) => { true }; }\nmod absent;",
         "a macro `matches`",
     ),
@@ -170,15 +143,9 @@ AROUND = [
         "extern crate other as heap;",
         "`extern crate other as heap`, which it does not have",
     ),
-    ("`#[path]` in the kit", KIT_ROOT, "mod bits;", "#[path = \"other.rs\"]\nmod bits;", "the attribute `path"),
-    ("`include!` in the kit", KIT_ROOT, "mod bits;", "include!(\"other.rs\");\nmod bits;", "the word `include`"),
-    (
-        "`include!` beside the registers",
-        REGISTERS,
-        "MSR PSD }",
-        "MSR PSD }\ninclude!(\"more.rs\");",
-        "the word `include`",
-    ),
+    ("`#[path]` in the kit", KIT_ROOT, "mod bits;", '#[path = "other.rs"]\nmod bits;', "the attribute `path"),
+    ("`include!` in the kit", KIT_ROOT, "mod bits;", 'include!("other.rs");\nmod bits;', "the word `include`"),
+    ("`include!` beside the registers", REGISTERS, "MSR PSD }", 'MSR PSD }\ninclude!("more.rs");', "the word `include`"),
     (
         "`cfg!` in the kit",
         "rust/kit/src/bits.rs",
@@ -186,13 +153,7 @@ AROUND = [
         "cfg!(unix) || self.bits() == Self::Bits::EMPTY",
         "the macro `cfg`",
     ),
-    (
-        "`cfg!` beside the registers",
-        REGISTERS,
-        "self.0 & other.0 == other.0",
-        "cfg!(unix) || self.0 & other.0 == other.0",
-        "the macro `cfg`",
-    ),
+    ("`cfg!` beside the registers", REGISTERS, "self.0 & other.0 == other.0", "cfg!(unix) || self.0 & other.0 == other.0", "the macro `cfg`"),
     *(
         (f"{what} in the kit", ARRAY, "        self.len += 1;", f"        {code}\n        self.len += 1;", cause)
         for what, code, cause in (
@@ -209,13 +170,7 @@ AROUND = [
             ("whether a thread panics", "if std::thread::panicking() { return; }", "`std::thread`"),
         )
     ),
-    (
-        "a cell in the kit that is filled once",
-        ARRAY,
-        "use core::ops::Deref;",
-        "use core::cell::OnceCell;\nuse core::ops::Deref;",
-        "`cell::OnceCell`",
-    ),
+    ("a cell in the kit that is filled once", ARRAY, "use core::ops::Deref;", "use core::cell::OnceCell;\nuse core::ops::Deref;", "`cell::OnceCell`"),
     (
         "a number in the kit under the name of another one",
         ARRAY,
@@ -232,13 +187,7 @@ AROUND = [
     ),
     ("`#[path]` in the users' package", USERS, "mod access;", '#[path = "other.rs"]\nmod access;', "`path`, another file"),
     ("`include!` in the users' package", USERS, "mod access;", 'include!("other.rs");\nmod access;', "`include`, another file"),
-    (
-        "a module under the name of a package",
-        USERS,
-        "mod access;",
-        "mod uart_driver;\nmod access;",
-        "`uart_driver`, the name of a package",
-    ),
+    ("a module under the name of a package", USERS, "mod access;", "mod uart_driver;\nmod access;", "`uart_driver`, the name of a package"),
     (
         "another module under the name of a package",
         USERS,
@@ -269,20 +218,8 @@ AROUND = [
         "            pub const fn clone(&self) -> Self { Self(0) }\n            /// Returns the byte.\n",
         "`clone` of a type",
     ),
-    (
-        "`Drop` for a register",
-        REGISTERS,
-        "MSR PSD }",
-        "MSR PSD }\nimpl Drop for PSD {\n    fn drop(&mut self) {}\n}",
-        "the trait `Drop`",
-    ),
-    (
-        "`Deref` for a register",
-        REGISTERS,
-        "MSR PSD }",
-        "MSR PSD }\nimpl core::ops::Deref for PSD {\n}",
-        "the trait `Deref`",
-    ),
+    ("`Drop` for a register", REGISTERS, "MSR PSD }", "MSR PSD }\nimpl Drop for PSD {\n    fn drop(&mut self) {}\n}", "the trait `Drop`"),
+    ("`Deref` for a register", REGISTERS, "MSR PSD }", "MSR PSD }\nimpl core::ops::Deref for PSD {\n}", "the trait `Deref`"),
     (
         "a `static` counter in the kit",
         "rust/kit/src/array.rs",
@@ -297,13 +234,7 @@ AROUND = [
         "use core::fmt;\nuse core::sync::atomic::AtomicU8;",
         "the word `AtomicU8`",
     ),
-    (
-        "all names of a module in the kit",
-        "rust/kit/src/array.rs",
-        "use core::ops::Deref;",
-        "use core::ops::*;",
-        "all names of a module",
-    ),
+    ("all names of a module in the kit", "rust/kit/src/array.rs", "use core::ops::Deref;", "use core::ops::*;", "all names of a module"),
     (
         "another package under the name of `uart_spec`",
         "rust/uart_16550/Cargo.toml",
@@ -335,7 +266,7 @@ AROUND = [
 ]
 
 
-def table():
+def table() -> list[tuple[str, str]]:
     """Each attack with what finds it."""
     rows = [(name, OF_ERASER) for name, _, _ in FORMS] + [(name, OF_CHECK) for name, *_ in AROUND]
     return rows + [(one.name, f"{OF_READER}; {one.found_by()}" if one.is_read else one.found_by()) for one in planted.every()]

@@ -2,6 +2,7 @@
 change what emitted code means without a change of that code: by a macro of the same name as one of Rust's, by a method that Rust finds
 before the one of a trait, by a file that is somewhere else. So it keeps to rules like those of the code that is emitted."""
 import re
+from collections.abc import Iterator
 
 import foreign
 import table
@@ -122,7 +123,7 @@ FLAGS = """
 flags bits from_bits_retain empty all from_bits from_bits_truncate from_name contains_unknown_bits is_empty is_all intersects contains insert
 remove toggle set clear truncate intersection union difference symmetric_difference complement iter iter_names
 """.split()
-TRAITS = {
+TRAITS: dict[str, list[str]] = {
     "Bits": [],
     "Flags": FLAGS,
     "CollectWith": ["collect_with"],
@@ -142,7 +143,7 @@ sub_assign mul_assign bitand_assign bitor_assign bitxor_assign next into_iter fr
 """.split()
 
 
-def causes(files):
+def causes(files: dict[str, str]) -> list[str]:
     """What is wrong with these files, by name, of the kits and of the modules by hand."""
     found, declared = [], set()
     for name, text in files.items():
@@ -158,12 +159,12 @@ def causes(files):
     return found
 
 
-def is_below(name):
+def is_below(name: str) -> bool:
     """Whether emitted code is compiled with a file of this name."""
     return any(name.startswith(f"{folder}/src/") for folder in KITS) or name.startswith(f"{table.OUTPUT}/")
 
 
-def is_of_others(head, declared):
+def is_of_others(head: str, declared: set[str]) -> bool:
     """Whether a path with this head may lead out of these files and of the emitted code: a library, a module or a type of it."""
     return head in PRIMITIVES or head in PATHS or not (head in declared or head in OF_PATHS)
 
@@ -171,22 +172,22 @@ def is_of_others(head, declared):
 class File:
     """The tokens of a file."""
 
-    def __init__(self, name, text):
+    def __init__(self, name: str, text: str) -> None:
         self.name, self.code = name, tokens(text, False)[0]
         self.words = [token.text for token in self.code]
         self.folder = next(folder for folder in CONDITIONS if name.startswith(f"{folder}/"))
         self.is_test = name.endswith("/tests.rs")
 
-    def word(self, at):
+    def word(self, at: int) -> str:
         return self.words[at] if 0 <= at < len(self.words) else ""
 
-    def kind(self, at):
+    def kind(self, at: int) -> str:
         return self.code[at].kind if 0 <= at < len(self.code) else ""
 
-    def text(self, start, end):
+    def text(self, start: int, end: int) -> str:
         return " ".join(self.words[start:end])
 
-    def closing(self, at):
+    def closing(self, at: int) -> int:
         """The index of the bracket that closes the one at this index."""
         depth = 0
         for here in range(at, len(self.words)):
@@ -195,25 +196,25 @@ class File:
                 return here
         raise Refused("a bracket that is not closed", self.code[at].start)
 
-    def behind(self, at, sign):
+    def behind(self, at: int, sign: str) -> int:
         """The index of the next sign of this kind."""
         return next((here for here in range(at, len(self.words)) if self.words[here] == sign), len(self.words))
 
-    def causes(self, declared):
+    def causes(self, declared: set[str]) -> list[str]:
         """What is wrong, where these names are declared. A module of tests is compiled for tests alone, so it is free."""
         if self.is_test:
             return []
         found = [*self.of_words(), *self.of_names(declared), *self.of_macros(), *self.of_attributes()]
         return [*found, *self.of_root(), *self.of_traits(), *self.of_types()]
 
-    def of_words(self):
+    def of_words(self) -> Iterator[str]:
         for at, token in enumerate(self.code):
             if token.kind == "word" and (token.text in WORDS or ATOMIC.fullmatch(token.text)):
                 yield f"the word `{token.text}`"
             if token.text == "*" and self.word(at - 1) == "::":
                 yield "all names of a module"
 
-    def of_names(self, declared):
+    def of_names(self, declared: set[str]) -> Iterator[str]:
         """Names of core and of libraries that are not listed, called, imported or given as a value."""
         declared, at = declared | self.of_ours(), 0
         while at < len(self.words):
@@ -235,7 +236,7 @@ class File:
                 yield f"`{word}`, which depends on the target"
             at += 1
 
-    def of_ours(self):
+    def of_ours(self) -> set[str]:
         """The names of the emitted code that this file imports, and its parameters that are types."""
         found = {word for word in self.words if re.fullmatch("[A-Z]", word)}
         for at in range(len(self.words)):
@@ -243,11 +244,11 @@ class File:
                 found |= {word for word in self.words[at : self.behind(at, ";")] if re.match(r"\w", word)}
         return found
 
-    def is_of_others(self, at, declared):
+    def is_of_others(self, at: int, declared: set[str]) -> bool:
         """Whether the path whose head is at this index may lead out. What macros are given for types is looked at where they are."""
         return self.word(at - 1) != "$" and is_of_others(self.word(at), declared)
 
-    def of_macros(self):
+    def of_macros(self) -> Iterator[str]:
         own = [self.word(at + 2) for at in range(len(self.words)) if self.word(at) == "macro_rules"]
         for name in own:
             if name in OF_RUST and name not in EXPORTED.get(self.name, []):
@@ -261,7 +262,7 @@ class File:
             if is_call and token.text not in CALLED + own:
                 yield f"the macro `{token.text}`"
 
-    def of_attributes(self):
+    def of_attributes(self) -> Iterator[str]:
         inner = []
         for at in range(len(self.words)):
             if self.words[at] != "#" or self.word(at + 1) not in ("[", "!"):
@@ -280,7 +281,7 @@ class File:
         if inner != (INNER if self.name in ROOTS else []):
             yield f"other attributes of the file than it may have: {', '.join(inner)}"
 
-    def of_root(self):
+    def of_root(self) -> Iterator[str]:
         """What is wrong with the modules and the libraries that a file names."""
         found = []
         for at in range(len(self.words)):
@@ -298,7 +299,7 @@ class File:
         yield from (f"`{one}`, which it does not have" for one in found if one not in wanted)
         yield from (f"`{one}`: missing" for one in wanted if one not in found)
 
-    def of_traits(self):
+    def of_traits(self) -> Iterator[str]:
         for at in range(len(self.words)):
             if self.words[at] != "trait" or self.code[at].kind != "word":
                 continue
@@ -309,7 +310,7 @@ class File:
             else:
                 yield from (f"`{one}` of the trait `{name}`" for one in inside if one not in TRAITS[name])
 
-    def of_types(self):
+    def of_types(self) -> Iterator[str]:
         for at in range(len(self.words)):
             if self.words[at] != "impl" or self.word(at - 1) not in ("", "}", ";", "{", "]", "("):
                 continue
@@ -323,7 +324,7 @@ class File:
                 traits = self.traits_of(at, start)
                 yield from (f"the trait `{trait}` for a type" for trait in traits if trait not in IMPLEMENTED)
 
-    def traits_of(self, at, start):
+    def traits_of(self, at: int, start: int) -> list[str]:
         """The trait of an implementation, or if a parameter of a macro stands for it, all that the macro is given for types and traits."""
         trait = self.trait_of(at, start)
         if self.word(self.words.index(trait, at) - 1) != "$":
@@ -333,7 +334,7 @@ class File:
         given = [here for call in calls for here in range(call, self.closing(call)) if self.word(here - 1) != "$"]
         return [self.word(here) for here in given if self.word(here)[0].isupper()]
 
-    def trait_of(self, at, start):
+    def trait_of(self, at: int, start: int) -> str:
         """The name of the trait of an implementation, without its path and parameters."""
         head = self.words[at + 1 : start]
         head = head[: head.index("for")]
@@ -347,4 +348,3 @@ class File:
         if "<" in head:
             head = head[: head.index("<")]
         return head[-1]
-

@@ -13,6 +13,7 @@ import types
 import crate
 import table
 import words
+from tokens import Refused
 
 RUNNER = re.compile(r"(interpreter|checked|native): |run=")
 FOLDER = pathlib.Path(__file__).resolve().parent / "corpus"
@@ -35,13 +36,13 @@ TABLE = types.SimpleNamespace(
 )
 
 
-def rust(texts):
+def rust(texts: dict[str, str]) -> dict[str, str]:
     """The modules and `main` in Rust."""
     files = [crate.read(f"corpus/src/{name}", text, TABLE) for name, text in texts.items() if name != "main.rt"]
     for file in files:
         try:
             words.check(file)
-        except crate.Refused as cause:
+        except Refused as cause:
             raise crate.Failed(crate.refusal(file.name, file.text, cause)) from cause
     done = {file.name.split("/")[-1].replace(".rt", ".rs"): crate.erase(file) for file in files}
     main = texts["main.rt"].replace("#![tactic(auto)]\n", "")
@@ -50,10 +51,10 @@ def rust(texts):
     return done
 
 
-def run():
+def run() -> bool:
     texts = {path.stem + ".rt": path.read_text(encoding="ascii") for path in sorted(FOLDER.glob("*.rattle"))}
-    with tempfile.TemporaryDirectory() as folder:
-        folder = pathlib.Path(folder)
+    with tempfile.TemporaryDirectory() as made:
+        folder = pathlib.Path(made)
         for name, text in rust(texts).items():
             (folder / name).write_text(text, encoding="ascii")
         if shutil.which("rustc") is None:

@@ -9,6 +9,7 @@ import re
 import shutil
 import subprocess
 import threading
+from collections.abc import Callable
 
 import documentation
 import examples
@@ -20,7 +21,7 @@ import promises
 import table
 import widths
 import words
-from items import File
+from items import Dropped, Edit, File, Tables
 from tokens import Refused, check_letters, tokens
 
 LIST_TEXT = """# What the eraser dropped: rule, item, what. Made by `tools/eraser/erase emit`.
@@ -34,7 +35,7 @@ class Failed(Exception):
     """The causes why nothing was emitted, one for each line."""
 
 
-def no_links(root, path):
+def no_links(root: pathlib.Path, path: pathlib.Path) -> None:
     """Refuses a path below the root that leads over a link."""
     while path != root:
         if path.is_symlink():
@@ -42,7 +43,7 @@ def no_links(root, path):
         path = path.parent
 
 
-def sources(root, crates):
+def sources(root: pathlib.Path, crates: list[str]) -> dict[str, bytes]:
     """The sources of the crates by name, as `uart_spec/src/lib.rt`, with their bytes."""
     found = {}
     for crate in crates:
@@ -60,24 +61,24 @@ def sources(root, crates):
     return found
 
 
-def kit():
+def kit() -> str:
     if shutil.which("rt") is None:
         raise Failed("rt: not there")
     return subprocess.run(["rt", "version"], check=True, capture_output=True, text=True).stdout.strip()
 
 
-def kept_folder():
+def kept_folder() -> pathlib.Path:
     """Where what `rt expand` printed is kept, for each user of the machine."""
     home = os.environ.get("XDG_CACHE_HOME") or os.path.expanduser("~/.cache")
     return pathlib.Path(home) / "geesetrunk" / "expanded"
 
 
 @functools.lru_cache(maxsize=None)
-def macros(root, crate):
+def macros(root: pathlib.Path, crate: str) -> bytes:
     """What could change the meaning of a macro's name in a crate, beside the file and the kit: its line of crates.txt, which names the
     libraries, and each line of its sources, and of those of the crates below it, that speaks of a macro."""
     lines = (root / "crates.txt").read_text(encoding="utf-8").splitlines()
-    uses = {re.match(r"\w+", line)[0]: line for line in lines if re.match(r"\w", line)}
+    uses = {words[0]: line for line in lines if (words := re.findall(r"^\w+", line))}
     found = [crate]
     for name in found:
         found += [one for one in re.findall(r"\w+", uses[name]) if one in uses and one not in found]
@@ -88,15 +89,15 @@ def macros(root, crate):
     return repr(told).encode()
 
 
-def kit_files():
+def kit_files() -> bytes:
     """What tells one kit from another: its name, and the size and time of the compiler and of the library with the macro."""
-    rt = pathlib.Path(shutil.which("rt")).resolve()
+    rt = pathlib.Path(shutil.which("rt") or "rt").resolve()
     top = rt.parent.parent
     paths = [rt, rt.parent / "rattle", top / "KIT-ID", *sorted((top / "rlibs" / "thiserror.rlib").rglob("*"))]
     return repr([(str(path), path.stat().st_size, path.stat().st_mtime_ns) for path in paths if path.exists()]).encode()
 
 
-def expanded(root, name):
+def expanded(root: pathlib.Path, name: str) -> bytes:
     """The source of a file with the implementations of thiserror written out. What was made of the same file by the same kit is taken from
     where it is kept, unless GEESETRUNK_ANEW is set."""
     crate, file = name.split("/", 1)
@@ -111,9 +112,7 @@ def expanded(root, name):
                 return text
         except (OSError, UnicodeDecodeError):
             pass
-    done = subprocess.run(
-        ["rt", "expand", "--file", file], cwd=root / "crates" / crate, capture_output=True, timeout=600, check=False
-    )
+    done = subprocess.run(["rt", "expand", "--file", file], cwd=root / "crates" / crate, capture_output=True, timeout=600, check=False)
     if done.returncode != 0:
         raise Failed(f"crates/{name}: rt expand failed: {done.stderr.decode()[-300:]}")
     try:
@@ -126,23 +125,23 @@ def expanded(root, name):
     return done.stdout
 
 
-def module_of(name):
+def module_of(name: str) -> str:
     """`uart_spec/src/registers/bits.rt` is `uart_spec::registers::bits`."""
     parts = name[: -len(".rt")].split("/")
     parts.remove("src")
     return "::".join(parts[:1] if parts[1:] == ["lib"] else parts)
 
 
-def target_of(name):
+def target_of(name: str) -> str:
     return f"{name[:-len('.rt')]}.rs"
 
 
-def is_read(name):
+def is_read(name: str) -> bool:
     """Whether a source is more than tests or laws."""
     return not re.search(r"/src/tests(\.rt$|/)|/laws\.rt$", name)
 
 
-def text_of(name, data):
+def text_of(name: str, data: bytes) -> str:
     if b"\r" in data:
         raise Failed(f"crates/{name}: a carriage return")
     try:
@@ -151,7 +150,7 @@ def text_of(name, data):
         raise Failed(f"crates/{name}: {cause}") from cause
 
 
-def read(name, text, allow=table):
+def read(name: str, text: str, allow: Tables = table) -> File:
     """A file's items. A refusal names the file and the line."""
     try:
         return File(name, module_of(name), text, allow)
@@ -159,12 +158,12 @@ def read(name, text, allow=table):
         raise Failed(refusal(name, text, cause)) from cause
 
 
-def refusal(name, text, cause):
+def refusal(name: str, text: str, cause: Refused) -> str:
     line = "" if cause.at is None else f":{text.count(chr(10), 0, cause.at) + 1}"
     return f"crates/{name}{line}: refused: {cause.cause}"
 
 
-def is_inside(one, other):
+def is_inside(one: Edit, other: Edit) -> bool:
     """Whether an edit is inside another one, with which it goes."""
     if one is other or other.start == other.end:
         return False
@@ -173,7 +172,7 @@ def is_inside(one, other):
     return other.start <= one.start and one.end <= other.end
 
 
-def apply(file):
+def apply(file: File) -> tuple[str, list[str]]:
     """The text with its edits, and its tokens as they are to be."""
     out, expected, at = [], [], 0
     edits = sorted(dict.fromkeys(file.edits), key=lambda edit: (edit.start, edit.end))
@@ -197,7 +196,7 @@ def apply(file):
     return "".join(out) + file.text[at:], expected
 
 
-def tidy(text):
+def tidy(text: str) -> str:
     """No blank lines at the ends of braces and of the file, and no two in a row."""
     text = re.sub(r"(///[^\n]*\n)\n+(?= *[A-Za-z])", r"\1", text)
     text = re.sub(r"[ ]+(?=\n)", "", text)
@@ -207,7 +206,7 @@ def tidy(text):
     return text.strip("\n") + "\n"
 
 
-def erase(file, told=None):
+def erase(file: File, told: promises.Promises | None = None) -> str:
     """The Rust text of a file, with the sections that `told` has for it."""
     try:
         file.edits += documentation.edits(file)
@@ -224,14 +223,16 @@ def erase(file, told=None):
     return text
 
 
-def emitted(root, allow=table, expand=expanded, kit_of=kit):
+def emitted(
+    root: pathlib.Path, allow: Tables = table, expand: Callable[[pathlib.Path, str], bytes] = expanded, kit_of: Callable[[], str] = kit
+) -> dict[str, bytes]:
     """All files of the emitted folder by name, with their bytes."""
     found = {name: data for name, data in sources(root, allow.CRATES).items() if is_read(name)}
     to_expand = [name for name in found if b"use thiserror::Error" in found[name]]
     with concurrent.futures.ThreadPoolExecutor(4) as pool:
         version = pool.submit(kit_of)
-        texts = dict(zip(to_expand, pool.map(lambda name: expand(root, name), to_expand)))
-        texts = {name: text_of(name, texts.get(name, data)) for name, data in found.items()}
+        in_full = dict(zip(to_expand, pool.map(lambda name: expand(root, name), to_expand)))
+        texts = {name: text_of(name, in_full.get(name, data)) for name, data in found.items()}
         for name, data in found.items():
             text_of(name, data)
         crates = packages.Crates((root / "crates.txt").read_text(encoding="utf-8"))
@@ -243,7 +244,7 @@ def emitted(root, allow=table, expand=expanded, kit_of=kit):
     return {name: text.encode("utf-8") for name, text in files.items()}
 
 
-def pages(told, crates, allow):
+def pages(told: promises.Promises, crates: packages.Crates, allow: Tables) -> dict[str, str]:
     """The pages of definitions by name, once all sections are there: a file `proved.rs` of each crate of which a section names one."""
     causes = list(told.causes())
     if causes:
@@ -257,7 +258,7 @@ def pages(told, crates, allow):
     return {name: text for name, text in made.items() if text}
 
 
-def files_of(texts, crates, told, allow=table):
+def files_of(texts: dict[str, str], crates: packages.Crates, told: promises.Promises, allow: Tables = table) -> tuple[dict[str, str], str]:
     """The Rust files and the list of what was dropped, of sources by name."""
     causes, read_files = [], []
     for name, text in texts.items():
@@ -273,7 +274,7 @@ def files_of(texts, crates, told, allow=table):
     if causes:
         raise Failed("\n".join(causes))
     check_whole(read_files, texts, allow)
-    files, dropped = {}, collections.Counter()
+    files, dropped = dict[str, str](), collections.Counter[Dropped]()
     for name in allow.CRATES:
         files[f"{name}/Cargo.toml"] = packages.manifest(name, crates)
         if name in examples.SHARED:
@@ -292,7 +293,7 @@ def files_of(texts, crates, told, allow=table):
     return files, LIST_TEXT + "".join(sorted(lines))
 
 
-def check_whole(files, texts, allow=table):
+def check_whole(files: list[File], texts: dict[str, str], allow: Tables = table) -> None:
     """What is to be looked at over all files."""
     functions = [function for file in files for function in file.functions]
     paths = collections.Counter(function.path for function in functions)
@@ -317,7 +318,7 @@ def check_whole(files, texts, allow=table):
     check_traits(files, allow)
 
 
-def check_meaning(files, allow):
+def check_meaning(files: list[File], allow: Tables) -> None:
     """Names and numbers that mean one thing in Rattle and another in the emitted crate."""
     causes = names.causes(files, allow) + guards.causes(files, allow)
     # What ships has no names of the others.
@@ -335,7 +336,7 @@ def check_meaning(files, allow):
         raise Failed("\n".join(causes))
 
 
-def check_traits(files, allow):
+def check_traits(files: list[File], allow: Tables) -> None:
     """What has an invariant has no field that others can set, and what a method of a trait requires is tested in each implementation."""
     shipped = [file for file in files if file.ships]
     for file in shipped:
@@ -356,7 +357,7 @@ def check_traits(files, allow):
             raise Failed(f"{function.path}: {cause}")
 
 
-def manifest(version, found, files, allow):
+def manifest(version: str, found: dict[str, bytes], files: dict[str, str], allow: Tables) -> str:
     lines = [f"kit {version}\n"]
     for name, data in sorted(found.items()):
         lines.append(f"{hashlib.sha256(data).hexdigest()}  crates/{name}\n")
@@ -365,7 +366,7 @@ def manifest(version, found, files, allow):
     return MANIFEST_TEXT + "".join(lines)
 
 
-def compare(files, found, odd):
+def compare(files: dict[str, bytes], found: dict[str, bytes], odd: list[str]) -> list[str]:
     """What differs between the files that are expected and those that are there."""
     causes = [f"{name}: not a plain file" for name in odd]
     for name in sorted(files.keys() | found.keys()):
@@ -378,7 +379,7 @@ def compare(files, found, odd):
     return causes
 
 
-def there(folder):
+def there(folder: pathlib.Path) -> tuple[dict[str, bytes], list[str]]:
     """The files of a folder by name, with their bytes, and what is no plain file. What is by hand is left out."""
     found, odd = {}, []
     for path in sorted(folder.rglob("*")):

@@ -5,15 +5,8 @@
 
 FORMS = [
     # A comment in a clause: in Rattle the brace in it does not count, so that another function is the real one.
-    (
-        "fn go() -> u8\n    ensures { result ≡ 1 {- } }\n{\n    2\n}\n"
-        "fn other() -> u8\n    ensures { 3 ≡ 3 { -} }\n{\n    1\n}",
-        "`{-` in a clause",
-    ),
-    (
-        "pub struct S;\nimpl S {\n    ghost a = { 4 {- } };\n    const SIZE: u64 = 7;\n    ghost b = { { -} };\n}",
-        "`{-` in a clause",
-    ),
+    ("fn go() -> u8\n    ensures { result ≡ 1 {- } }\n{\n    2\n}\n" "fn other() -> u8\n    ensures { 3 ≡ 3 { -} }\n{\n    1\n}", "`{-` in a clause"),
+    ("pub struct S;\nimpl S {\n    ghost a = { 4 {- } };\n    const SIZE: u64 = 7;\n    ghost b = { { -} };\n}", "`{-` in a clause"),
     ("ghost use a.b.{- c};\nconst SIZE: u64 = 7;\nghost use a.b.{d -};", "`{-` in a clause"),
     ("ghost use a.b.{c -};", "`-}` in a clause"),
     ("fn f(x: u8) -> u8\n    ensures { a ≡ { b } }\n{\n    x\n}", "braces in a clause that are no record's"),
@@ -28,10 +21,7 @@ FORMS = [
     ("pub trait circular_buffer {}", "`circular_buffer`, the name of a crate, for something else"),
     # A range with no end behind a word that Rust does not take for a list: it ends in an overflow, and in Rattle at the last number.
     # An own method with the name of one that is by hand in the type: Rust calls the one by hand.
-    (
-        "pub trait T {\n    fn symmetric_difference(&self) -> u8;\n}",
-        "`symmetric_difference`, by hand in a type and of a trait",
-    ),
+    ("pub trait T {\n    fn symmetric_difference(&self) -> u8;\n}", "`symmetric_difference`, by hand in a type and of a trait"),
     # `usize` has 64 bits in Rattle.
     ("type W = usize;\nfn f(x: u32) -> W {\n    x as W\n}", "another name for `usize`"),
     ("pub trait T {\n    type W = usize;\n}", "another name for `usize`"),
@@ -67,13 +57,16 @@ FORMS = [
     ("use std::fmt::*;", "`*`, which is neither ours nor listed"),
     ("use std::num::{NonZeroU8, NonZeroU16};", "`NonZeroU16`, which is neither ours nor listed"),
     ("use std::num::NonZeroU64 as N;\nfn f() -> u32 {\n    N::BITS\n}", "`BITS`, which is neither ours nor listed"),
-    (
-        "pub struct S;\nimpl S {\n    pub fn parse(&self) -> u8 {\n        3\n    }\n}",
-        "`parse`, a function of a type, which core's numbers have too",
-    ),
+    ("pub struct S;\nimpl S {\n    pub fn parse(&self) -> u8 {\n        3\n    }\n}", "`parse`, a function of a type, which core's numbers have too"),
     # A trait of ours for a type of Rust's: Rust takes the method of core that has the same name.
-    ("pub trait T {\n    fn first(&self) -> u8;\n}\nimpl T for [u8] {\n    fn first(&self) -> u8 {\n        9\n    }\n}", "a trait of ours for a type of Rust's"),
-    ("pub trait T {\n    fn get(&self) -> u8;\n}\nimpl<X> T for X {\n    fn get(&self) -> u8 {\n        9\n    }\n}", "a trait of ours for a type of Rust's"),
+    (
+        "pub trait T {\n    fn first(&self) -> u8;\n}\nimpl T for [u8] {\n    fn first(&self) -> u8 {\n        9\n    }\n}",
+        "a trait of ours for a type of Rust's",
+    ),
+    (
+        "pub trait T {\n    fn get(&self) -> u8;\n}\nimpl<X> T for X {\n    fn get(&self) -> u8 {\n        9\n    }\n}",
+        "a trait of ours for a type of Rust's",
+    ),
     # Documentation that rustdoc runs as a test.
     ("/// Text.\n///\n///     assert!(false);\nfn f(x: u8) -> u8 {\n    x\n}", "documentation that is indented, which is code"),
     ("/// ~~~\n/// assert!(false);\n/// ~~~\nfn f(x: u8) -> u8 {\n    x\n}", "a fence of another form"),
@@ -83,10 +76,7 @@ FORMS = [
     # What a guard is for, under other definitions.
     ("ghost use Rattle.uart_spec.specs.Mine.{◌≤◌};", "signs of clauses that are not std's"),
     # What a public trait promises, and nothing proves of its users' implementations.
-    (
-        "pub trait T {\n    fn f(&self) -> u8\n        ensures low { result < 8 };\n}",
-        "T::f promises what PROMISES does not have",
-    ),
+    ("pub trait T {\n    fn f(&self) -> u8\n        ensures low { result < 8 };\n}", "T::f promises what PROMISES does not have"),
 ]
 
 SOURCES = [

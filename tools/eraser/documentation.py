@@ -1,15 +1,16 @@
 """The documentation of an emitted file: examples that compile in Rust, and what a guard panics for."""
 import re
+from collections.abc import Iterator
 
 import examples
 import hiding
-from items import Edit
-from tokens import Refused
+from items import Edit, File
+from tokens import Refused, Token
 
 FENCE = re.compile(r"(//[/!]) ```(.*)$")
 
 
-def edits(file):
+def edits(file: File) -> list[Edit]:
     """The edits of a file's documentation."""
     refused = hiding.in_documentation(file.comments)
     if refused:
@@ -18,21 +19,21 @@ def edits(file):
     for comments, path in blocks(file):
         found += example(file, comments, path)
         guard = file.table.GUARDS.get(path)
-        if guard and guard.panics:
+        if guard and guard.panics and path:
             found.append(panics(file, comments, path, guard.panics))
     return found
 
 
-def continues(file, last, comment):
+def continues(file: File, last: Token, comment: Token) -> bool:
     """Whether a comment is the next line of the same documentation."""
     return not file.text[last.end : comment.start].strip() and comment.text[:3] == last.text[:3]
 
 
-def blocks(file):
+def blocks(file: File) -> Iterator[tuple[list[Token], str | None]]:
     """Each run of lines of documentation, with the path of the item that it is about."""
     places = sorted(file.places)
-    block = []
-    for comment in [one for one in file.comments if re.match(r"//[/!]( |$)", one.text)] + [None]:
+    block: list[Token] = []
+    for comment in [*(one for one in file.comments if re.match(r"//[/!]( |$)", one.text)), None]:
         if block and (comment is None or not continues(file, block[-1], comment)):
             item = next((path for start, path in places if start > block[0].start), None)
             between = next((start for start, _ in places if start > block[0].start), None)
@@ -44,7 +45,7 @@ def blocks(file):
             block.append(comment)
 
 
-def example(file, comments, path):
+def example(file: File, comments: list[Token], path: str | None) -> list[Edit]:
     """Hidden lines around each example, and the calls of its assertions without the handle. An example of what no user names is a text."""
     found, inside = [], False
     crate = file.name.split("/")[0]
@@ -80,7 +81,7 @@ def example(file, comments, path):
     return found
 
 
-def panics(file, comments, path, text):
+def panics(file: File, comments: list[Token], path: str, text: str) -> Edit:
     """A section Panics, before the examples or at the end."""
     if any(re.match(r"/// # Panics", comment.text) for comment in comments):
         raise Refused("a section Panics in the source", comments[0].start)

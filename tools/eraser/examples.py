@@ -5,11 +5,14 @@ body of a function that has the rings.
 """
 
 import re
+from collections.abc import Sequence
 
 # A file beside Cargo.toml that the examples of a package include. In it and in hidden lines, `facade` stands for the package of the users.
 SHARED_NAME = "examples.rs"
 HEAD = "// What the examples of the documentation share. Each includes this file; the crate itself does not.\n"
-FOR_DRIVER = HEAD + """\
+FOR_DRIVER = (
+    HEAD
+    + """\
 #[allow(unused_imports)]
 use core::fmt::Write as _;
 #[allow(unused_imports)]
@@ -69,10 +72,13 @@ impl ByteAccess for Device {
 #[allow(dead_code)]
 type Outcome<T = ()> = Result<T, Box<dyn std::error::Error>>;
 """
+)
+# The hidden lines before and behind an example.
+Example = tuple[list[str], list[str]]
 INCLUDE = ['# include!(concat!(env!("CARGO_MANIFEST_DIR"), "/examples.rs"));', "# fn main() {}"]
 
 
-def compiles(parameters, result="()", value=False, items=()):
+def compiles(parameters: str, result: str = "()", value: bool = False, items: Sequence[str] = ()) -> Example:
     """An example that is the body of a function with these parameters. It compiles; it is not called."""
     before = INCLUDE + [f"# {line}" for line in items]
     before.append(f"# fn example({parameters}) -> Outcome<{result}> {{")
@@ -81,7 +87,7 @@ def compiles(parameters, result="()", value=False, items=()):
     return before, ["# Ok(()) }"]
 
 
-def runs(*lines):
+def runs(*lines: str) -> Example:
     """An example that runs, behind these hidden lines."""
     return [f"# {line}" for line in lines], []
 
@@ -90,11 +96,7 @@ UART = "uart: &mut Uart16550<Device>"
 TTY = "terminal: &mut Uart16550Tty<Device>"
 RING = "ring: &mut ring::Uart16550Ring<Device>"
 NOTING_RING = "ring: &mut ring::Uart16550Ring<ring::ErrorNotes<Device>>"
-PORT = [
-    "use facade::ring::{self, *};",
-    "struct Port { ring: Uart16550Ring<Device>, overruns: u32 }",
-    "impl Port {",
-]
+PORT = ["use facade::ring::{self, *};", "struct Port { ring: Uart16550Ring<Device>, overruns: u32 }", "impl Port {"]
 LINE = ["use facade::ring::{self, *};", "const MAX_UNFINISHED_ROUNDS: u32 = 100;"]
 
 SPEC = "use facade::native::{*, spec::*};"
@@ -114,13 +116,10 @@ DESIGN_WARE = [*REGISTERS, "let mut uart = DesignWare::new(registers, NonZeroU64
 
 
 # What an example of the rings may name, and how it is hidden before it.
-OF_RINGS = {
-    "MARKS": "const MARKS: ring::ReceiveMarks = ring::ReceiveMarks { hold: 48, release: 64 };",
-    "XOFF": "const XOFF: u8 = 0x13;",
-}
+OF_RINGS = {"MARKS": "const MARKS: ring::ReceiveMarks = ring::ReceiveMarks { hold: 48, release: 64 };", "XOFF": "const XOFF: u8 = 0x13;"}
 
 
-def of_rings(path, text):
+def of_rings(path: str | None, text: str) -> Example | None:
     """An example of a call of the rings that has no entry: the body of a function that has the rings, and what the example names."""
     if not re.fullmatch(r"uart_ring::ring::(?:\w+::)?Uart16550Ring::\w+", path or ""):
         return None
@@ -131,12 +130,12 @@ def of_rings(path, text):
 BUS = "bus: &mut HalfDuplex<Device>"
 
 
-def at_bus(parameters):
+def at_bus(parameters: str) -> Example:
     """An example that is the body of a function with a driver at a bus."""
     return compiles(parameters, items=["use facade::rs485::*;"])
 
 
-def in_port():
+def in_port() -> Example:
     """An example that is the body of a method of a port."""
     return INCLUDE + [f"# {line}" for line in PORT] + ["# fn example(&mut self) {"], ["# } }"]
 
@@ -167,7 +166,10 @@ EXAMPLES = {
     "uart_16550::driver::setup::Uart16550::init_with": compiles(UART),
     "uart_16550::driver::setup::Uart16550::quiesce": compiles(UART),
     "uart_16550::driver::setup::Uart16550::restore": compiles(UART),
-    **{f"uart_16550::driver::checked::Uart16550::checked_{name}": compiles(UART) for name in ("init", "init_with", "set_frame", "set_frame_when_idle")},
+    **{
+        f"uart_16550::driver::checked::Uart16550::checked_{name}": compiles(UART)
+        for name in ("init", "init_with", "set_frame", "set_frame_when_idle")
+    },
     "uart_16550::driver::init::Uart16550::check_present": compiles(UART),
     "uart_16550::driver::init::Uart16550::init": compiles(UART),
     "uart_16550::driver::loopback::Uart16550::test_loopback": compiles(UART),
@@ -179,8 +181,7 @@ EXAMPLES = {
     "uart_16550::driver::receive::Uart16550::try_receive_with_errors": compiles(UART, "Option<Received>", True),
     "uart_16550::driver::receive::Uart16550::receive_with_errors": compiles(UART + ", mut slots: [Received; 4]"),
     "uart_16550::driver::receive::Uart16550::receive_bytes_exact": (
-        INCLUDE
-        + ["# enum PortError { NoAnswer { received: usize } }", f"# fn example({UART}, answer: &mut [u8]) -> Result<(), PortError> {{"],
+        INCLUDE + ["# enum PortError { NoAnswer { received: usize } }", f"# fn example({UART}, answer: &mut [u8]) -> Result<(), PortError> {{"],
         ["# Ok(()) }"],
     ),
     "uart_16550::driver::state::Uart16550::from_state": compiles(
@@ -190,8 +191,7 @@ EXAMPLES = {
     "uart_16550::driver::status::Uart16550::ier": compiles(UART),
     "uart_16550::driver::status::Uart16550::is_gone": compiles(UART),
     "uart_16550::driver::status::Uart16550::isr": (
-        INCLUDE
-        + ["# struct Port { uart: Uart16550<Device> }", "# impl Port {", "# fn example(&mut self) -> Option<InterruptType> {"],
+        INCLUDE + ["# struct Port { uart: Uart16550<Device> }", "# impl Port {", "# fn example(&mut self) -> Option<InterruptType> {"],
         ["# } }"],
     ),
     "uart_16550::driver::status::Uart16550::check_connected": compiles(UART),
@@ -207,8 +207,7 @@ EXAMPLES = {
     "uart_16550::driver::burst::Uart16550::send_gathered": compiles(UART + ", queue: &mut std::collections::VecDeque<u8>"),
     "uart_16550::driver::transmit::Uart16550::try_send_byte": compiles(UART),
     "uart_16550::driver::transmit::Uart16550::send_bytes_exact": (
-        INCLUDE
-        + ["# enum PortError { NotSent { sent: usize } }", f"# fn example({UART}, question: &[u8]) -> Result<(), PortError> {{"],
+        INCLUDE + ["# enum PortError { NotSent { sent: usize } }", f"# fn example({UART}, question: &[u8]) -> Result<(), PortError> {{"],
         ["# Ok(()) }"],
     ),
     "uart_16550::driver::patient::Uart16550::send_bytes_while": compiles(UART + ", mut deadline: impl Patience"),
@@ -291,8 +290,7 @@ EXAMPLES = {
     "uart_spec::setup::FifoSize": runs(SPEC),
     "uart_spec::setup::FifoSize::largest_up_to": runs(SPEC),
     "uart_design_ware::state::DesignWare": compiles(
-        "registers: DesignWareMemory",
-        items=["use facade::native::backend::{DesignWare, DesignWareMemory};"],
+        "registers: DesignWareMemory", items=["use facade::native::backend::{DesignWare, DesignWareMemory};"]
     ),
     "uart_design_ware::parameters::fifo_size_of": runs("use facade::native::FifoSize;", "use facade::native::backend::fifo_size_of;"),
     "uart_design_ware::state::DesignWare::new": runs(*REGISTERS),
@@ -337,8 +335,7 @@ EXAMPLES = {
     "uart_ring::ring::status::Uart16550Ring::config_register_dump": in_port(),
     "uart_ring::ring::transmit::Uart16550Ring::resume_transmit": in_port(),
     "uart_ring::ring::transmit::Uart16550Ring::queue": (
-        INCLUDE
-        + ["# use facade::ring;", f"# fn example<'a>({RING}, message: &'a [u8]) -> &'a [u8] {{"],
+        INCLUDE + ["# use facade::ring;", f"# fn example<'a>({RING}, message: &'a [u8]) -> &'a [u8] {{"],
         ["# }"],
     ),
     "uart_ring::ring::Uart16550Ring": (
@@ -379,13 +376,9 @@ EXAMPLES = {
     "uart_ring::ring::line::Uart16550Ring::raise_line": compiles(RING + ", lowered: Lowered", items=LINE),
     "uart_ring::line::handle_line": compiles("mut ports: impl LinePorts", items=LINE),
     "uart_ring::line::handle_ports": compiles("mut ports: [LinePort<Device>; 2]", items=LINE),
-    "uart_ring::line::LinePort::new": compiles(
-        "console: Uart16550Ring<Device>, modem: Uart16550Ring<Device>", items=LINE
-    ),
+    "uart_ring::line::LinePort::new": compiles("console: Uart16550Ring<Device>, modem: Uart16550Ring<Device>", items=LINE),
     "uart_ring::line::LinePort::handled": (
-        INCLUDE
-        + [f"# {line}" for line in LINE]
-        + ["# fn example(ports: &[LinePort<Device>]) -> Result<(), StuckError> {"],
+        INCLUDE + [f"# {line}" for line in LINE] + ["# fn example(ports: &[LinePort<Device>]) -> Result<(), StuckError> {"],
         ["# Ok(()) }"],
     ),
     "uart_ring::line::LinePort::lower": compiles("mut port: LinePort<Device>", items=LINE),
@@ -408,7 +401,9 @@ for register in ("lcr", "mcr", "lsr", "msr", "spr"):
 
 
 # The examples of the chip.
-FOR_CHIP = HEAD + """\
+FOR_CHIP = (
+    HEAD
+    + """\
 #[allow(unused_imports)]
 use facade::registers::{LSR, MSR, offsets};
 #[allow(unused_imports)]
@@ -443,12 +438,13 @@ fn obey_signals(host: &mut Host, todo: Todo) {
     host.set_line(todo.level);
 }
 """
+)
 CHIP = "chip: &mut LiveChip"
 PORT_OF_GUEST = "port: &mut VirtualPort"
 HOST = "host: &mut Host"
 
 
-def in_monitor(parameters, result=None):
+def in_monitor(parameters: str, result: str | None = None) -> Example:
     """An example that is the body of a function of a monitor, with these parameters. It compiles; it is not called."""
     end = f" -> {result} {{" if result else " {"
     return INCLUDE + [f"# fn example({parameters}){end}"], ["# }"]
@@ -500,11 +496,11 @@ SHARED = {
 }
 
 
-def named(crate, text):
+def named(crate: str, text: str) -> str:
     """A hidden line or a shared file, with the name of the package of the users."""
     return text.replace("facade::", f"{SHARED[crate][1]}::")
 
 
-def shared(crate):
+def shared(crate: str) -> str:
     """The file that the examples of a crate include."""
     return named(crate, SHARED[crate][2])

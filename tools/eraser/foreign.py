@@ -4,11 +4,14 @@ In Rattle `usize` has 64 bits and numbers lie in memory from their low byte on. 
 Rust, whatever type it is of. A name that is neither here nor declared in the sources is refused, whether it is called or given as a value.
 `widths.py` is about what is done with a `usize`.
 """
-import collections
 import functools
 import re
+from collections.abc import Iterator
+from typing import NamedTuple, Protocol
 
 import words
+from items import File
+from tokens import Token
 
 # Methods, whatever they are of: slices, texts, options, results, iterators, queues, lists, registers, writers, numbers.
 METHODS = """
@@ -71,15 +74,40 @@ OF_CORE = re.compile(
 # An address in a text.
 ADDRESS = re.compile(r"\{[^{}]*:[^{}]*p\}")
 
+
 # What the sources declare: types with their parameters, modules, functions of a type, functions of a module, and cases and constants.
-Names = collections.namedtuple("Names", "types modules methods functions others")
+class Names(NamedTuple):
+    types: set[str]
+    modules: set[str]
+    methods: set[str]
+    functions: set[str]
+    others: set[str]
+
+
 # A name that is used: what it is behind, as `.` or the head of a path; what it is, and where.
-Mention = collections.namedtuple("Mention", "behind word at")
+class Mention(NamedTuple):
+    behind: str
+    word: str
+    at: int
+
+
+# The words of a file, of the sources or by hand.
+class Words(Protocol):
+    def word(self, at: int) -> str:
+        ...
+
+    def kind(self, at: int) -> str:
+        ...
+
+    def closing(self, at: int) -> int:
+        ...
+
+
 # Behind nothing: a function that is called by its name alone.
 CALL = ""
 
 
-def check(file, known):
+def check(file: File, known: Names) -> None:
     """Refuses a name that is neither listed nor declared. `known` is what is declared in the files that this one may name."""
     for form in file.forms:
         if form.owner and OF_CORE.fullmatch(form.path.split("::")[-1]):
@@ -94,7 +122,7 @@ def check(file, known):
             file.refuse("an address in a text", at)
 
 
-def is_known(behind, word, known):
+def is_known(behind: str, word: str, known: Names) -> bool:
     if behind == CALL:
         return word in known.functions
     if behind == ".":
@@ -106,14 +134,14 @@ def is_known(behind, word, known):
     return word in PATHS.get(behind, [])
 
 
-def names(files, crates):
+def names(files: list[File], crates: list[str]) -> Names:
     """What these files declare, whose crates have these names."""
     of_language = Names({"Self"}, {"self", "super", "crate", *crates}, set(), set(), set())
     return Names(*(set().union(*ones) for ones in zip(of_language, *map(declared, files))))
 
 
 @functools.lru_cache(maxsize=None)
-def declared(file):
+def declared(file: File) -> Names:
     """What one file declares."""
     types, others = {*file.types, *file.traits}, set()
     for at in range(len(file.code)):
@@ -130,11 +158,11 @@ def declared(file):
             others |= cases(file, file.behind_generics(at + 2))
     kept = [function for function in file.functions if function.kept]
     # a file that no module declares is refused elsewhere
-    modules = {re.search(r"(\w+)\.rt$", one)[1] for one in (*file.modules, file.name)}
+    modules = {one.rpartition("/")[2].removesuffix(".rt") for one in (*file.modules, file.name)}
     return Names(types, modules, {one.name for one in kept if one.owner}, {one.name for one in kept if not one.owner}, others)
 
 
-def parameters(file, at):
+def parameters(file: File, at: int) -> set[str]:
     """The names of the parameters in the brackets at this index, if there are any."""
     found, depth = set(), 0
     for here in range(at, file.behind_generics(at)):
@@ -144,7 +172,7 @@ def parameters(file, at):
     return found
 
 
-def cases(file, at):
+def cases(file: File, at: int) -> set[str]:
     """The cases of the enum whose brace is at this index."""
     found, end = set(), file.closing(at)
     at += 1
@@ -159,10 +187,10 @@ def cases(file, at):
 
 
 @functools.lru_cache(maxsize=None)
-def mentions(file):
+def mentions(file: File) -> list[Mention]:
     """The names that are used in the code of a file that is kept."""
     gone = words.Spans((edit.start, edit.end) for edit in file.edits if edit.rule not in words.REWRITES and edit.end > edit.start)
-    found, at = [], 0
+    found, at = list[Mention](), 0
     while at < len(file.code):
         token = file.code[at]
         if token.start in gone or token.kind != "word":
@@ -177,7 +205,7 @@ def mentions(file):
     return found
 
 
-def mention(file, at, token):
+def mention(file: File, at: int, token: Token) -> Iterator[Mention]:
     """The name at this index as it is used, if it is a method, part of a path, or a function that is called."""
     before, after = file.word(at - 1), file.word(at + 1)
     if before == "." and after in ("(", "::"):
@@ -190,7 +218,7 @@ def mention(file, at, token):
             yield Mention(CALL, token.text, at)
 
 
-def imports(file, at, end, head=""):
+def imports(file: Words, at: int, end: int, head: str = "") -> Iterator[Mention]:
     """What a `use` names, behind which module, between these indices."""
     while at < end:
         if file.word(at) == "{":

@@ -4,6 +4,10 @@ A guard is tied to the words of its clauses (table.py). Here each word of a clau
 """
 import pathlib
 import re
+from collections.abc import Iterator
+
+from items import File, Tables
+from table import Guard
 
 ROOT = pathlib.Path(__file__).resolve().parent.parent.parent
 
@@ -58,11 +62,7 @@ MEANINGS = {
         "pub record IsTold (p : PortState) : Type 0 where pub line : p.told.line ≡ is_up p.chip "
         "pub room : p.told.has_room ≡ (has_room p.chip && (p.told.has_room || is_empty p.chip))",
     ),
-    "NUM_REGISTERS": (
-        "Rattle.uart_spec.specs.declared.baud.TheConstants",
-        "uart_spec/src/baud.rt",
-        "pub const NUM_REGISTERS: usize = 8;",
-    ),
+    "NUM_REGISTERS": ("Rattle.uart_spec.specs.declared.baud.TheConstants", "uart_spec/src/baud.rt", "pub const NUM_REGISTERS: usize = 8;"),
 }
 
 # What a public trait promises of each implementation, which in Rust nobody proves. The code may rely on nothing else: `step` and the like
@@ -94,19 +94,16 @@ PROMISES = {
         "ensures did { lowers limit rounds port result self.old self.new }",
         "ensures number { number self.new ≡ number self.old }",
     ],
-    "uart_ring::line::LinePorts::raise": [
-        "ensures did { raises port self.old self.new }",
-        "ensures number { number self.new ≡ number self.old }",
-    ],
+    "uart_ring::line::LinePorts::raise": ["ensures did { raises port self.old self.new }", "ensures number { number self.new ≡ number self.old }"],
     "uart_16550::embedded_io::Write::flush": ["ensures { flushes self.old result self.new }"],
     "uart_16550::embedded_io::ReadReady::read_ready": ["ensures { answers_read self.old result self.new }"],
     "uart_16550::embedded_io::WriteReady::write_ready": ["ensures { answers_write self.old result self.new }"],
 }
 
 
-def causes(files, allow, root=ROOT):
+def causes(files: list[File], allow: Tables, root: pathlib.Path = ROOT) -> list[str]:
     """What is wrong with the clauses of these files."""
-    found, used = [], set()
+    found, used = list[str](), set[str]()
     for file in files:
         words = tested_words(file, allow)
         used |= {part for word in words for part in word.split(".")} & MEANINGS.keys()
@@ -120,31 +117,31 @@ def causes(files, allow, root=ROOT):
     return found
 
 
-def is_tested(path, allow):
+def is_tested(path: str, allow: Tables) -> bool:
     """Whether a function tests what it requires: by a test of its own, or by that of a function that it calls, and so on. Functions that come
     back to one another test nothing."""
-    seen = set()
-    while path is not None and path not in seen:
+    seen: set[str] = set()
+    while path not in seen:
         seen.add(path)
-        guard = allow.GUARDS.get(path)
-        if guard is None or guard.test:
-            return guard is not None
+        guard: Guard | None = allow.GUARDS.get(path)
+        if guard is None or guard.test or guard.tested_by is None:
+            return bool(guard and guard.test)
         path = guard.tested_by
     return False
 
 
-def is_defined(name, text):
+def is_defined(name: str, text: str) -> bool:
     """Whether a word is defined in this file as the table says."""
     return MEANINGS[name][2] in definitions(text)
 
 
-def definitions(text):
+def definitions(text: str) -> set[str]:
     """The parts of a text between empty lines, without comments and line ends; and each of its lines."""
     lines = [line for line in text.split("\n") if not re.match(r"\s*(--|//)", line)]
     return {" ".join(part.split()) for part in "\n".join(lines).split("\n\n")} | set(lines)
 
 
-def tested_words(file, allow):
+def tested_words(file: File, allow: Tables) -> set[str]:
     """The names in the clauses of this file that Rust code tests, as `prescaler` or `spec.prescaler`."""
     clauses = []
     for function in file.functions:
@@ -154,14 +151,14 @@ def tested_words(file, allow):
     return set(re.findall(r"(?<![\w.])[A-Za-z_]\w*(?:\.\w+)*", " ".join(clauses)))
 
 
-def meanings(file, words):
+def meanings(file: File, words: set[str]) -> Iterator[str]:
     """Why the words of tested clauses may mean something else in this file."""
-    lists, modules, own = {}, {}, set()
+    lists, modules, own = dict[str, list[str]](), dict[str, str](), set[str]()
     for token in file.code:
-        if token.kind == "ghost":
-            own.add(re.match(r"ghost (\w+)", token.text)[1])
-        if token.kind == "ghost use":
-            path, listed, name = re.match(r"ghost use ([\w.]+?)(?:\.\{([^}]*)\}| as (\w+))?;", token.text).groups()
+        if token.kind == "ghost" and (defined := re.match(r"ghost (\w+)", token.text)):
+            own.add(defined[1])
+        if token.kind == "ghost use" and (used := re.match(r"ghost use ([\w.]+?)(?:\.\{([^}]*)\}| as (\w+))?;", token.text)):
+            path, listed, name = used.groups()
             for one in listed.split(",") if listed else []:
                 lists.setdefault(one.strip(), []).append(path)
             modules[name or path.split(".")[-1]] = path
@@ -178,17 +175,17 @@ def meanings(file, words):
             yield f"`{name}`, a word of a guard, is from {', '.join(places) or 'nowhere'}"
 
 
-def promises(file):
+def promises(file: File) -> list[str]:
     """What public traits of this file promise and the table does not say."""
-    at, found = 0, []
+    at, found = 0, list[str]()
     while at < len(file.code):
         if file.words(at, at + 2) != "pub trait" or file.kind(at) != "word":
             at += 1
             continue
-        trait, method, opened = file.word(at + 2), None, at
+        trait, method, opened = file.word(at + 2), "", at
         while file.word(opened) != "{":
             opened += 1
-        close, stated = file.closing(opened), {}
+        close, stated = file.closing(opened), dict[str, list[str]]()
         for one in range(opened, close):
             if file.word(one) == "fn":
                 method = f"{file.module}::{trait}::{file.word(one + 1)}"

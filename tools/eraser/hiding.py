@@ -1,6 +1,12 @@
 """What could hide code from one of two readers: comments and braces in a clause, signs of clauses with another meaning, and documentation
 of which rustdoc makes a test. Each function gives the cause for which a text is refused, or nothing."""
+from __future__ import annotations
+
 import re
+from typing import TYPE_CHECKING
+
+if TYPE_CHECKING:
+    from tokens import Token
 
 # Where a comment of ANTT begins and ends.
 COMMENT = re.compile(r"\{-|-\}|--")
@@ -18,13 +24,13 @@ OTHER_FENCE = re.compile(r"```|~~~")
 INDENTED = re.compile(r"//[/!] {4}")
 
 
-def comment(text):
+def comment(text: str) -> str | None:
     """Why a clause or a ghost item is refused for a comment: a brace in it does not count in Rattle, and would end the clause here."""
     found = COMMENT.search(text)
     return f"`{found[0]}` in a clause" if found else None
 
 
-def braces(text):
+def braces(text: str) -> str | None:
     """Why a clause or a ghost item is refused for its braces."""
     text = LEVEL.sub("", text)
     for at, letter in enumerate(text):
@@ -33,7 +39,7 @@ def braces(text):
     return None
 
 
-def is_record(before):
+def is_record(before: str) -> bool:
     """Whether braces behind this text are those of `record`, `record NAME`, `record (..)` or `record (..).NAME`."""
     before = re.sub(r"(?<=\))(\.\w+)+$", "", before)
     if not before.endswith(")"):
@@ -46,14 +52,14 @@ def is_record(before):
     return False
 
 
-def in_ghost_use(text):
+def in_ghost_use(text: str) -> str | None:
     """Why a `ghost use` is refused. A guard is for the words of a clause, whose signs mean what std says."""
     if "◌" in text and not text.startswith(SIGNS_OF_STD):
         return "signs of clauses that are not std's"
     return None
 
 
-def in_documentation(comments):
+def in_documentation(comments: list[Token]) -> tuple[Token, str] | None:
     """The comment that is refused and why: a fence of another form than `documentation` knows, or text that is indented as code is."""
     inside, last = False, ""
     for comment in comments:

@@ -3,28 +3,66 @@
 An item is read whole: attributes, visibility, and all that belongs to it. So nothing of a dropped
 item can be left in front of the next one, and each function is known by its whole path.
 """
-import collections
+from __future__ import annotations
+
 import re
+import types
+from typing import NamedTuple, NoReturn
 
 import table
 import words
 from tokens import Refused, tokens
 
+# What the eraser knows: `table`, or that with other entries.
+Tables = types.ModuleType | types.SimpleNamespace
+
+
 # An edit of the text from `start` to `end`. The tokens in it become those of `text`.
-Edit = collections.namedtuple("Edit", "rule start end text")
+class Edit(NamedTuple):
+    rule: str
+    start: int
+    end: int
+    text: str
+
+
 # What was dropped, for the committed list.
-Dropped = collections.namedtuple("Dropped", "rule item what")
+class Dropped(NamedTuple):
+    rule: str
+    item: str
+    what: str
+
+
 # A function: its path and name, whether it is kept, what it is in, what it requires, whether it is a method.
-Function = collections.namedtuple("Function", "path name kept owner requires is_method")
+class Function(NamedTuple):
+    path: str
+    name: str
+    kept: bool
+    owner: str | None
+    requires: list[str]
+    is_method: bool
+
+
 # Where the parts of a function are: indices of tokens.
-Form = collections.namedtuple(
-    "Form",
-    "path visibility owner first start generics behind body close clauses requires has_body is_lemma is_method",
-)
-FORMATTER = re.compile(
-    r"fn (\w+) < (\w+) : ((?:std :: )?)fmt :: Write > "
-    r"\( & self , f : & mut \3fmt :: Formatter < \2 > \) -> "
-)
+class Form(NamedTuple):
+    path: str
+    visibility: str
+    owner: str | None
+    first: int
+    start: int
+    generics: tuple[int, int]
+    behind: int
+    body: int
+    close: int
+    clauses: list[str]
+    requires: list[str]
+    has_body: bool
+    is_lemma: bool
+    is_method: bool
+
+
+# The attributes of an item: the name of each, and its first and last token.
+Attributes = list[tuple[str, int, int]]
+FORMATTER = re.compile(r"fn (\w+) < (\w+) : ((?:std :: )?)fmt :: Write > " r"\( & self , f : & mut \3fmt :: Formatter < \2 > \) -> ")
 
 OPENING = {"(": ")", "[": "]", "{": "}"}
 ITEMS = ("fn", "impl", "mod", "trait", "struct", "enum", "use", "pub", "const", "type")
@@ -33,16 +71,23 @@ VISIBILITIES = ("pub", "pub ( crate )", "pub ( super )")
 BEFORE_CAST = ("(", "[", "{", ",", ";", "*", "+", "=", "if", "match")
 
 
+def match(pattern: str, text: str) -> re.Match[str]:
+    """What a text begins with, that is of a form that `tokens` knows."""
+    found = re.match(pattern, text)
+    assert found
+    return found
+
+
 class File:
     """The items of one file. `module` is its path, as `uart_spec::registers::bits`."""
 
-    def __init__(self, name, module, text, allow=table):
+    def __init__(self, name: str, module: str, text: str, allow: Tables = table) -> None:
         self.name, self.module, self.text, self.table = name, module, text, allow
         self.code, self.comments = tokens(text)
-        self.edits, self.dropped, self.functions = [], [], []
-        self.places, self.forms = [], []
-        self.modules, self.types, self.traits = [], [], []
-        self.models, self.open_types = [], []
+        self.edits, self.dropped, self.functions = list[Edit](), list[Dropped](), list[Function]()
+        self.places, self.forms = list[tuple[int, str]](), list[Form]()
+        self.modules, self.types, self.traits = list[str](), list[str](), list[str]()
+        self.models, self.open_types = list[str](), list[str]()
         self.ships = name.split("/")[0] in allow.SHIPS
         # Whether it is also compiled for targets where `usize` has 32 bits.
         self.has_narrow_targets = self.ships or name.split("/")[0] in allow.OF_THE_PAGE
@@ -54,29 +99,29 @@ class File:
 
     # Tokens.
 
-    def word(self, at):
+    def word(self, at: int) -> str:
         return self.code[at].text if 0 <= at < len(self.code) else ""
 
-    def kind(self, at):
+    def kind(self, at: int) -> str:
         return self.code[at].kind if 0 <= at < len(self.code) else ""
 
-    def next_code(self, offset):
+    def next_code(self, offset: int) -> int | None:
         """Where the next token begins."""
         return next((token.start for token in self.code if token.start >= offset), None)
 
-    def words(self, start, end):
+    def words(self, start: int, end: int) -> str:
         return " ".join(token.text for token in self.code[start:end])
 
-    def begins(self, at, text):
+    def begins(self, at: int, text: str) -> bool:
         return self.words(at, at + len(text.split())) == text
 
-    def refuse(self, cause, at=None):
+    def refuse(self, cause: str, at: int | None = None) -> NoReturn:
         at = self.at if at is None else at
         raise Refused(cause, self.code[min(at, len(self.code) - 1)].start if self.code else None)
 
-    def closing(self, at):
+    def closing(self, at: int) -> int:
         """The index of the bracket that closes the one at this index."""
-        open_ones = []
+        open_ones: list[str] = []
         for here in range(at, len(self.code)):
             if self.kind(here) != "sign":
                 continue
@@ -90,7 +135,7 @@ class File:
                     return here
         self.refuse("a bracket that is not closed", at)
 
-    def behind_generics(self, at):
+    def behind_generics(self, at: int) -> int:
         """The index behind `<..>` at this index, or the index itself."""
         if self.word(at) != "<":
             return at
@@ -103,14 +148,14 @@ class File:
 
     # Edits.
 
-    def change(self, rule, first, last, text):
+    def change(self, rule: str, first: int, last: int, text: str) -> None:
         """The tokens from `first` to `last` become this text."""
         self.edits.append(Edit(rule, self.code[first].start, self.code[last].end, text))
 
-    def insert(self, rule, at, text):
+    def insert(self, rule: str, at: int, text: str) -> None:
         self.edits.append(Edit(rule, at, at, text))
 
-    def drop(self, rule, first, last, item, what="", comments=True):
+    def drop(self, rule: str, first: int, last: int, item: str, what: str = "", comments: bool = True) -> None:
         """Drops whole lines: an item with the comments above it, or an attribute without them."""
         start, end = self.code[first].start, self.code[last].end
         before = self.code[first - 1].end if first > 0 else 0
@@ -132,7 +177,7 @@ class File:
 
     # Items.
 
-    def inner_attributes(self):
+    def inner_attributes(self) -> None:
         while self.begins(self.at, "# ! ["):
             close = self.closing(self.at + 2)
             if self.word(self.at + 3) != "tactic":
@@ -140,7 +185,7 @@ class File:
             self.drop("tactic", self.at, close, self.module, comments=False)
             self.at = close + 1
 
-    def items(self, end, path, owner):
+    def items(self, end: int, path: str, owner: str | None) -> None:
         """Reads items up to this index. `owner` is what they are in, or None.
 
         It is `trait NAME`, `impl TYPE` or `impl TRAIT for TYPE`.
@@ -148,7 +193,7 @@ class File:
         while self.at < end:
             self.item(end, path, owner)
 
-    def item(self, end, path, owner):
+    def item(self, end: int, path: str, owner: str | None) -> None:
         first = self.at
         attributes = []
         while self.begins(self.at, "# ["):
@@ -178,15 +223,14 @@ class File:
             if attributes or visibility not in ("", "pub"):
                 self.refuse("something in front of a ghost item that would be left behind", first)
             kind, text = self.code[self.at].kind, self.code[self.at].text
-            name = re.match(r"ghost (?:use )?([\w.]+)", text)[1]
-            self.drop(kind, first, self.at, path, name)
+            self.drop(kind, first, self.at, path, match(r"ghost (?:use )?([\w.]+)", text)[1])
             self.at += 1
         elif word in reads:
             reads[word](first, attributes, visibility, path, owner, end)
         else:
             self.refuse(f"an item that begins with `{word}`")
 
-    def attribute(self, attributes, names):
+    def attribute(self, attributes: Attributes, names: tuple[str, ...]) -> None:
         """Keeps, changes or refuses the attributes of an item that is kept."""
         for name, first, close in attributes:
             if name == "tactic":
@@ -198,7 +242,7 @@ class File:
             elif name in ("must_use", "default", "automatically_derived") and close != first + 3:
                 self.refuse(f"a `{name}` of another form", first)
 
-    def semicolon(self, at):
+    def semicolon(self, at: int) -> int:
         """The index of the semicolon that ends an item."""
         while self.word(at) != ";" or self.kind(at) != "sign":
             if at >= len(self.code):
@@ -206,7 +250,7 @@ class File:
             at = self.closing(at) + 1 if self.word(at) in OPENING else at + 1
         return at
 
-    def use(self, first, attributes, visibility, path, owner, end):
+    def use(self, first: int, attributes: Attributes, visibility: str, path: str, owner: str | None, end: int) -> None:
         close = self.semicolon(self.at)
         if attributes or owner:
             self.refuse("an attribute of a `use`, or a `use` inside an item", first)
@@ -221,7 +265,7 @@ class File:
             self.insert("writer", self.code[close].end, "\nuse std::fmt::Write as _;")
         self.at = close + 1
 
-    def mod(self, first, attributes, visibility, path, owner, end):
+    def mod(self, first: int, attributes: Attributes, visibility: str, path: str, owner: str | None, end: int) -> None:
         name = self.word(self.at + 1)
         if self.word(self.at + 2) != ";" or owner:
             self.refuse("a module with a body")
@@ -238,25 +282,25 @@ class File:
             self.modules.append(file)
         self.at = close + 1
 
-    def file_of(self, module):
+    def file_of(self, module: str) -> str:
         """The file of a module that this file declares."""
         folder = self.name.rsplit("/", 1)[0]
         stem = self.name.rsplit("/", 1)[1][: -len(".rt")]
         return f"{folder}/{module}.rt" if stem == "lib" else f"{folder}/{stem}/{module}.rt"
 
-    def constant(self, first, attributes, visibility, path, owner, end):
+    def constant(self, first: int, attributes: Attributes, visibility: str, path: str, owner: str | None, end: int) -> None:
         if self.word(self.at) == "const" and self.word(self.at + 1) == "fn":
             self.refuse("a `const fn` of the source")
         self.attribute(attributes, ())
         self.at = self.semicolon(self.at) + 1
 
-    def number(self, at):
+    def number(self, at: int) -> int:
         try:
             return number(self.word(at))
         except ValueError:
             self.refuse("a number that is not whole", at)
 
-    def derive(self, attributes, is_register):
+    def derive(self, attributes: Attributes, is_register: bool) -> None:
         for name, first, close in attributes:
             if name != "derive":
                 continue
@@ -276,7 +320,7 @@ class File:
                 self.change(rule, first, close, f"#[derive({', '.join(kept)})]")
                 self.dropped.append(Dropped(rule, self.module, ", ".join(one for one in listed if one not in kept)))
 
-    def data(self, first, attributes, visibility, path, owner, end):
+    def data(self, first: int, attributes: Attributes, visibility: str, path: str, owner: str | None, end: int) -> None:
         if owner:
             self.refuse("a type inside an item")
         name = self.word(self.at + 1)
@@ -307,13 +351,13 @@ class File:
             self.models.append(name)
         self.at = close + 1
 
-    def fields(self, at, end, path):
+    def fields(self, at: int, end: int, path: str) -> None:
         """The fields of a struct or the cases of an enum: ghost fields are dropped, and attributes are known ones."""
         while at < end:
             if self.kind(at) == "ghost":
                 if self.word(at - 1) not in ("{", ",") and self.kind(at - 1) != "ghost":
                     self.refuse("something in front of a ghost field", at)
-                self.drop("ghost", at, at, path, re.match(r"ghost (\w+)", self.word(at))[1])
+                self.drop("ghost", at, at, path, match(r"ghost (\w+)", self.word(at))[1])
             elif self.kind(at) in ("clause", "ghost use"):
                 self.refuse("a clause in a type", at)
             elif self.begins(at, "# ["):
@@ -326,7 +370,7 @@ class File:
                 at = self.closing(at)
             at += 1
 
-    def bounds(self, first, end):
+    def bounds(self, first: int, end: int) -> None:
         """Drops `Drop` from the bounds between two indices."""
         for at in range(first, end):
             if self.word(at) != "Drop":
@@ -340,7 +384,7 @@ class File:
                 self.refuse("a bound `Drop` of another form", at)
             self.dropped.append(Dropped("drop", self.module, f"bound of {self.word(at - 2)}"))
 
-    def where(self, at):
+    def where(self, at: int) -> int:
         """The index behind a `where` and its conditions, which are all `NAME: Drop`. It is dropped by the caller."""
         at += 1
         while self.kind(at) == "word":
@@ -350,7 +394,7 @@ class File:
             at += 4 if self.word(at + 3) == "," else 3
         return at
 
-    def trait(self, first, attributes, visibility, path, owner, end):
+    def trait(self, first: int, attributes: Attributes, visibility: str, path: str, owner: str | None, end: int) -> None:
         if owner:
             self.refuse("a trait inside an item")
         self.attribute(attributes, ())
@@ -367,7 +411,7 @@ class File:
         self.items(close, f"{path}::{name}", f"trait {name}")
         self.at = close + 1
 
-    def implementation(self, first, attributes, visibility, path, owner, end):
+    def implementation(self, first: int, attributes: Attributes, visibility: str, path: str, owner: str | None, end: int) -> None:
         if owner or visibility:
             self.refuse("an `impl` inside an item")
         self.attribute(attributes, ("automatically_derived",))
@@ -392,7 +436,7 @@ class File:
             self.items(close, f"{path}::{name}", kind)
         self.at = close + 1
 
-    def implemented(self, path):
+    def implemented(self, path: str) -> tuple[str | None, str, int]:
         """The trait of an `impl` or None, its type, and the index of its brace."""
         head = self.behind_generics(self.at + 1)
         self.empty_generics(self.at + 1, head)
@@ -417,14 +461,14 @@ class File:
             self.refuse("an `impl` of another form", at)
         return trait, name, at
 
-    def empty_generics(self, first, end):
+    def empty_generics(self, first: int, end: int) -> None:
         if end == first + 2:
             self.edits.append(Edit("empty", self.code[first].start, self.code[first + 1].end, ""))
             self.dropped.append(Dropped("empty", self.module, "<>"))
 
     # Functions.
 
-    def function(self, first, attributes, visibility, path, owner, end):
+    def function(self, first: int, attributes: Attributes, visibility: str, path: str, owner: str | None, end: int) -> None:
         name = self.word(self.at + 1)
         form = self.form(first, f"{path}::{name}", visibility, owner, end)
         self.places.append((self.code[first].start, form.path))
@@ -440,7 +484,7 @@ class File:
             self.guard(form)
         self.at = form.close + 1
 
-    def form(self, first, path, visibility, owner, end):
+    def form(self, first: int, path: str, visibility: str, owner: str | None, end: int) -> Form:
         """Where the parts of a function are."""
         start = self.at
         generics = self.behind_generics(start + 2)
@@ -482,7 +526,7 @@ class File:
             is_method=re.match(r"(& ('\w+ )?)?(mut )?self\b", first_parameter) is not None,
         )
 
-    def lemma(self, form, attributes):
+    def lemma(self, form: Form, attributes: Attributes) -> None:
         if form.owner:
             self.refuse("a lemma in an item", form.start)
         if any(name != "tactic" for name, _, _ in attributes):
@@ -493,7 +537,7 @@ class File:
         self.functions.append(Function(form.path, name, False, None, [], False))
         self.drop("lemma", form.first, form.close, form.path, f"{len(form.clauses)} clauses")
 
-    def signature(self, form):
+    def signature(self, form: Form) -> None:
         text = self.words(form.start, form.behind)
         found = FORMATTER.match(text)
         if text.startswith("fn fmt <") and not found:
@@ -508,16 +552,16 @@ class File:
         if form.path in self.table.CONSTANT:
             self.insert("const", self.code[form.start].start, "const ")
 
-    def contract(self, form):
+    def contract(self, form: Form) -> None:
         """Drops what is between the signature and the body."""
         if form.body == form.behind:
             return
         start, end = self.code[form.behind - 1].end, self.code[form.body].start
         self.edits.append(Edit("clause", start, end, " " if form.has_body else ""))
-        heads = [re.match(r"(requires|ensures\*?)( \w+)?", one)[0] for one in form.clauses]
+        heads = [match(r"(requires|ensures\*?)( \w+)?", one)[0] for one in form.clauses]
         self.dropped.append(Dropped("clause" if heads else "drop", form.path, ", ".join(heads)))
 
-    def body(self, form):
+    def body(self, form: Form) -> None:
         """Refuses what a body may not have."""
         for at in range(form.body + 1, form.close):
             if self.kind(at) in ("clause", "ghost", "ghost use"):
@@ -527,7 +571,7 @@ class File:
             if self.has_narrow_targets and self.word(at) == "as" and self.word(at + 1) == "usize":
                 self.cast(at, form.path)
 
-    def guard(self, form):
+    def guard(self, form: Form) -> None:
         """The test of what a function requires, or the reason why it has none. What does not ship is called by proved code alone."""
         if not self.ships:
             return
@@ -556,11 +600,11 @@ class File:
             self.refuse(f"{form.path} has neither a test nor a reason", form.start)
         if guard.test:
             line = self.text.rfind("\n", 0, self.code[form.body].start) + 1
-            indent = re.compile(" *").match(self.text, line)[0] + "    "
+            indent = match(" *", self.text[line:])[0] + "    "
             lines = [f"\n{indent}{one}" for one in guard.test.split("\n")]
             self.insert("guard", self.code[form.body].end, "".join(lines))
 
-    def cast(self, at, whole):
+    def cast(self, at: int, whole: str) -> None:
         """A cast to `usize` is one of those that are listed for this function."""
         for what in self.table.CASTS.get(whole, []):
             count = len(what.split())
@@ -570,7 +614,7 @@ class File:
 
     # What allocates.
 
-    def allocating(self):
+    def allocating(self) -> None:
         """A method that is given an allocator is the one of the kit, and a list or a text is too: the file has a `use` of what it names."""
         dropped = words.Spans((edit.start, edit.end) for edit in self.edits if edit.end > edit.start)
         used = set()
@@ -588,14 +632,14 @@ class File:
             start = self.text.find("\n", inner[-1]) + 1 if inner else 0
             self.insert("lists", start, "\n" * bool(inner) + f"use std::{{{', '.join(sorted(used))}}};\n")
 
-    def by_hand(self):
+    def by_hand(self) -> None:
         """Declares the module by hand of this file, behind all else."""
         declared = self.table.BY_HAND.get(self.name)
         if declared:
             self.insert("by hand", len(self.text), f"\n{declared}\n")
 
 
-def number(text):
+def number(text: str) -> int:
     """The value of a number without its suffix. Raises `ValueError` if it is no whole number."""
     digits = re.sub(r"(?<=[0-9a-fA-F])_?[ui](8|16|32|64|128|size)$", "", text)
     return int(digits.replace("_", ""), 0)

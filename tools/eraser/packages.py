@@ -1,8 +1,9 @@
 """The package of each emitted crate: its Cargo.toml, and what its root begins with."""
-import re
+from collections.abc import Iterator
 
 import examples
 import table
+from items import match
 
 VERSION = "0.9.0"
 # Where the repository is, and its pages: the one place to set it, beside the manifests by hand, which `erase check` compares with it. Nobody
@@ -22,16 +23,13 @@ WHY = "the text is that of the proved source, in the forms that Rattle has"
 
 
 # What a package says of its targets that is not for users, by whether it is also for the page.
-WIDTHS = {
-    False: 'usize::BITS == 64, "what is not for users is for targets of 64 bits"',
-    True: 'usize::BITS >= 32, "a script has up to 65,536 bytes"',
-}
+WIDTHS = {False: 'usize::BITS == 64, "what is not for users is for targets of 64 bits"', True: 'usize::BITS >= 32, "a script has up to 65,536 bytes"'}
 
 
 class Crates:
     """What crates.txt says: which crates each one uses, and what it is."""
 
-    def __init__(self, text):
+    def __init__(self, text: str) -> None:
         self.uses, self.about, about = {}, {}, ""
         for line in text.splitlines():
             if line.startswith("#"):
@@ -41,26 +39,26 @@ class Crates:
                 self.uses[head.split()[0]], self.about[head.split()[0]] = used.split(), about
 
 
-def package(crate):
+def package(crate: str) -> str:
     return f"geesetrunk-proved-{crate}"
 
 
-def libraries(crate, uses):
+def libraries(crate: str, uses: list[str]) -> Iterator[tuple[str, str]]:
     """The libraries that a crate uses, each with the package that has it."""
     for name in ["std", *(one for one in table.LIBRARIES if one in uses)]:
         yield name, KIT_OF_RINGS if crate == table.OF_RINGS and name == "std" else KIT
 
 
-def dependency(name, **entries):
+def dependency(name: str, **entries: str) -> str:
     inside = ", ".join(f"{key} = {value}" for key, value in entries.items())
     return f"{name} = {{ {inside} }}\n"
 
 
-def quoted(text):
+def quoted(text: str) -> str:
     return f'"{text}"'
 
 
-def manifest(crate, crates):
+def manifest(crate: str, crates: Crates) -> str:
     """Cargo.toml of a crate."""
     uses, ships = crates.uses[crate], crate in table.SHIPS
     has_io = crate in table.EMBEDDED_IO
@@ -83,7 +81,7 @@ def manifest(crate, crates):
     return text + for_tests(crate)
 
 
-def for_registries(crate):
+def for_registries(crate: str) -> str:
     """What the pages of registries show of a package that is published, and what is in it. Its tests are not: what they are compiled with is
     left out of what is published."""
     text = f'repository = "{REPOSITORY}"\nhomepage = "{HOMEPAGE}"\ndocumentation = "https://docs.rs/{package(crate)}"\n'
@@ -91,7 +89,7 @@ def for_registries(crate):
     return text + f'include = ["/src", {quoted("/" + examples.SHARED_NAME) + ", " if crate in examples.SHARED else ""}"/LICENSE-*"]\n'
 
 
-def features(crate, uses):
+def features(crate: str, uses: list[str]) -> str:
     """The features of a crate."""
     lines = []
     if crate in table.EMBEDDED_IO:
@@ -102,7 +100,7 @@ def features(crate, uses):
     return "".join(["\n[features]\n", *lines]) if lines else ""
 
 
-def for_tests(crate):
+def for_tests(crate: str) -> str:
     """What the examples and the tests of a crate are compiled with. Without a version, cargo leaves it out of what is published."""
     found = []
     if crate in examples.SHARED:
@@ -116,12 +114,12 @@ def for_tests(crate):
     return head + "".join(found) if found else ""
 
 
-def root(crate, crates, text):
+def root(crate: str, crates: Crates, text: str) -> str:
     """The root of a crate, of which the eraser left this: attributes and libraries stand behind its documentation."""
-    found = re.match(r"(?://![^\n]*\n)*", text)
+    documentation = match(r"(?://![^\n]*\n)*", text)[0]
     lines = ["#![no_std]", "#![forbid(unsafe_code)]", f'#![allow({ALLOWED}, reason = "{WHY}")]', "#![allow(rustdoc::broken_intra_doc_links)]", ""]
     if crate not in table.SHIPS:
         lines += [f"const _: () = assert!({WIDTHS[crate in table.OF_THE_PAGE]});", ""]
     for name, of in libraries(crate, crates.uses[crate]):
         lines += [f"#[macro_use({MACROS[of]})]"] * (name == "std") + [f"extern crate {of.replace('-', '_')} as {name};"]
-    return found[0] + "\n".join(lines) + "\n\n" + text[found.end() :].lstrip("\n")
+    return documentation + "\n".join(lines) + "\n\n" + text[len(documentation) :].lstrip("\n")

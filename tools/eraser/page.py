@@ -1,5 +1,6 @@
 """The tables of tools/eraser/README.md, which are the tables of the program."""
 import re
+from collections.abc import Iterable, Sequence
 
 import attacks
 import foreign
@@ -9,19 +10,19 @@ NAME = "tools/eraser/README.md"
 BLOCK = re.compile(r"(<!-- eraser: ([a-z ]+) -->\n).*?(?=<!-- end -->\n)", re.DOTALL)
 
 
-def rows(head, lines):
+def rows(head: list[str], lines: Iterable[Sequence[str]]) -> str:
     return "".join(f"| {' | '.join(line)} |\n" for line in [head, ["---"] * len(head), *lines])
 
 
-def code(text):
+def code(text: str) -> str:
     return f"`{text}`"
 
 
-def last(path, count):
+def last(path: str, count: int) -> str:
     return "::".join(path.split("::")[-count:])
 
 
-def guard(path, entry):
+def guard(path: str, entry: table.Guard) -> list[str]:
     """A row for a function that requires something."""
     tests = "tests it, and panics" if entry.test else "no test"
     if entry.tested_by:
@@ -30,12 +31,12 @@ def guard(path, entry):
     return [code(last(path, 2)), clauses, tests, entry.reason or ""]
 
 
-def blocks():
-    constant = {}
+def blocks() -> dict[str, str]:
+    of_types: dict[str, list[str]] = {}
     for path in table.CONSTANT:
-        constant.setdefault(path.split("::")[-2], []).append(path.split("::")[-1])
-    constant = [[code(name), ", ".join(map(code, sorted(names)))] for name, names in constant.items()]
-    by_hand = {}
+        of_types.setdefault(path.split("::")[-2], []).append(path.split("::")[-1])
+    constant = [[code(name), ", ".join(map(code, sorted(names)))] for name, names in of_types.items()]
+    by_hand: dict[str, list[str]] = {}
     for name in table.BY_HAND:
         by_hand.setdefault(name.split("/")[0], []).append(name.split("/src/")[1].replace(".rt", ".rs"))
     return {
@@ -63,7 +64,7 @@ def blocks():
     }
 
 
-def written(text):
+def written(text: str) -> str:
     """The page with its tables written anew."""
     made = blocks()
     return BLOCK.sub(lambda found: found[1] + made[found[2]], text)

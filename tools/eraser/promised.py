@@ -3,6 +3,7 @@
 The clauses are those of a function of the crate `one`, whose file names these definitions.
 """
 import definitions
+import items
 import promises
 
 WORDS = {
@@ -55,8 +56,14 @@ SAID = [
     (["ensures { result ≡ filled }"], ["- Returns `filled`."]),
     (["ensures { result ≡ self.filled }"], ["- Returns `self.filled`."]),
     # what stands for a definition is of a whole clause, about this call
-    (["ensures made { Made B.step (Sends b.now result) self.old self.new }"], ["- *made*: [makes accesses as] [`Sends`] `b.now result`: bytes are sent."]),
-    (["ensures { Made B.step Sends a.old a.new }"], ["- [`Made`] `B.step Sends a.old a.new`: the list that was made.", "  - [`Sends`]: bytes are sent."]),
+    (
+        ["ensures made { Made B.step (Sends b.now result) self.old self.new }"],
+        ["- *made*: [makes accesses as] [`Sends`] `b.now result`: bytes are sent."],
+    ),
+    (
+        ["ensures { Made B.step Sends a.old a.new }"],
+        ["- [`Made`] `B.step Sends a.old a.new`: the list that was made.", "  - [`Sends`]: bytes are sent."],
+    ),
     (["ensures { IsOnly (IsSmall 3) result }"], ["- [Returns the one value for which] [`IsSmall`] `3`: it is small."]),
     (["ensures { IsOnly (IsSmall 3) other }"], ["- [`IsOnly`] `(IsSmall 3) other`: the one.", "  - [`IsSmall`]: it is small."]),
     (["ensures { IfErr result (IsSmall 3) }"], ["- If it returns `Err`, for its value [`IsSmall`] `3`: it is small."]),
@@ -80,24 +87,19 @@ SAID = [
 ]
 
 
-def section(clauses, owner=None):
+def section(clauses: list[str], owner: str | None = None) -> list[str]:
     """The section of a call with these clauses, one of whose parameters is called `filled`."""
     known = {}
     for name, words in WORDS.items():
         place = ("two", "Other", name)
         known[place] = definitions.Definition(place, words, False, f"abbrev pub {name} : ℕ", 1, [])
     places = {name: place for place in known for name in [place[2]] if name != "filled"}
-    return promises.section(Form(clauses, owner), promises.Clauses("one", places, {}, known))
+    # What a section asks of a function; the rest is of any.
+    form = items.Form("", "pub", owner, 0, 0, (0, 0), 0, 0, 0, clauses, [], True, False, False)
+    return promises.section(form, promises.Clauses("one", places, {}, known))
 
 
-class Form:
-    """A function, as far as its section asks."""
-
-    def __init__(self, clauses, owner):
-        self.clauses, self.owner = clauses, owner
-
-
-def shown(lines):
+def shown(lines: list[str]) -> list[str]:
     """The lines of a section between its heading and the clauses, with the texts of links."""
     end = lines.index("<details><summary>The clauses</summary>")
     return [promises.LINKED.sub(r"[\1]", line) for line in lines[3 : end - 1]]

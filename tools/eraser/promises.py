@@ -3,11 +3,14 @@
 A section says each clause once: in words where its form is one of those below, and else as its code. What a definition means is said by the
 comment above it in `crates/*/specs`, letter by letter. All clauses stand beneath as they are in the source, word by word.
 """
+import pathlib
 import re
+from collections.abc import Iterator
 
 import definitions
 import table
-from items import Edit
+from definitions import Place
+from items import Edit, File, Form, match
 
 # The package whose pages say how a section is read. All others use it.
 GUIDES = "uart_spec"
@@ -56,7 +59,7 @@ CLOSING = {"(": ")", "[": "]", "{": "}"}
 # ---- the form of a clause
 
 
-def parts(code, sign):
+def parts(code: str, sign: str) -> list[str]:
     """The parts of a code between this sign, outside of brackets. Behind a `λ` there is none."""
     depth, found, at = 0, [], 0
     for i, letter in enumerate(code):
@@ -69,17 +72,17 @@ def parts(code, sign):
     return [*found, code[at:].strip()]
 
 
-def is_in_brackets(code):
+def is_in_brackets(code: str) -> bool:
     return code.startswith("(") and code.endswith(")") and closing(code, 0) == len(code) - 1
 
 
-def inside(code):
+def inside(code: str) -> str:
     """A code without the brackets around it, if they are not those of a tuple."""
     is_grouped = is_in_brackets(code) and len(parts(code[1:-1], ",")) == 1
     return inside(code[1:-1].strip()) if is_grouped else code
 
 
-def closing(code, at):
+def closing(code: str, at: int) -> int | None:
     """The offset of the bracket that closes the one at this offset, or nothing."""
     depth = 0
     for i in range(at, len(code)):
@@ -89,7 +92,7 @@ def closing(code, at):
     return None
 
 
-def applied(code):
+def applied(code: str) -> list[str] | None:
     """A function and its arguments, or nothing for what is no application of a name."""
     found, at = [], 0
     while at < len(code):
@@ -97,8 +100,7 @@ def applied(code):
             end = closing(code, at)
             if end is None:
                 return None
-            field = re.compile(r"(\.\w+)*").match(code, end + 1)
-            end = field.end()
+            end = end + 1 + len(match(r"(\.\w+)*", code[end + 1 :])[0])
         else:
             word = PATH.match(code, at) or NUMBER.match(code, at)
             end = word.end() if word else None
@@ -112,31 +114,31 @@ def applied(code):
 # ---- Markdown
 
 
-def plain(words):
+def plain(words: str) -> str:
     """The words of a comment as Markdown: signs outside of code mean nothing."""
     return ESCAPED.sub(lambda found: found[1] or "\\" + found[2], words)
 
 
-def own(definition):
+def own(definition: definitions.Definition) -> str:
     """The words of a definition, without the name of the call that they begin with."""
     return plain(re.sub(r"^`\w+`(, `\w+`)*: ", "", definition.words))
 
 
-def module(name):
+def module(name: str) -> str:
     return re.sub(r"(?<=[a-z0-9])(?=[A-Z])", "_", name).lower()
 
 
-def link(place, crate, words=None):
+def link(place: Place, crate: str, words: str | None = None) -> str:
     """A link to the page of a definition."""
     of = "crate" if place[0] == crate else place[0]
     return f"[{words or f'`{place[2]}`'}]({of}::proved::{module(place[1])}#{place[2]})"
 
 
-def shown(code):
+def shown(code: str) -> str:
     return f"`{code}`"
 
 
-def sentence(text):
+def sentence(text: str) -> str:
     """A text whose first word has a capital, also where it is a link."""
     return re.sub(r"\[?[a-z]", lambda found: found[0].upper(), text, count=1) if re.match(r"\[?[a-z]", text) else text
 
@@ -144,17 +146,17 @@ def sentence(text):
 class Clauses:
     """The clauses of one function. `places` and `modules` are what its file names; names that it binds are none of them."""
 
-    def __init__(self, crate, places, modules, known):
+    def __init__(self, crate: str, places: dict[str, Place], modules: dict[str, tuple[str, str]], known: dict[Place, definitions.Definition]) -> None:
         self.crate, self.places, self.modules, self.known = crate, places, modules, known
         # What was cited so far, and of what the words were said so far.
-        self.cites, self.said = [], set()
+        self.cites, self.said = list[Place](), set[Place]()
         # Of the clause that is read: the names that mean definitions, what it cites, and how a text ends that ends with a definition.
-        self.here, self.waiting, self.ends = {}, [], {}
+        self.here, self.waiting, self.ends = dict[str, Place](), list[Place](), dict[Place, str]()
 
-    def cited(self, code):
+    def cited(self, code: str) -> list[Place]:
         return definitions.cited(code, self.here, self.modules, self.known)
 
-    def read(self, code):
+    def read(self, code: str) -> tuple[str, list[Place]]:
         """A clause as a sentence, and the definitions that it cites and whose words are to be said."""
         bound = {name for group in BINDER.findall(code) for name in " ".join(group).split()}
         self.here = {name: place for name, place in self.places.items() if name not in bound}
@@ -165,21 +167,21 @@ class Clauses:
         self.said.update(waiting)
         return text, waiting
 
-    def line(self, code):
+    def line(self, code: str) -> tuple[str, list[str]]:
         """What a function promises, and the lines about what this cites."""
         text, waiting = self.read(code)
         last = next((place for place in waiting if text.endswith(self.ends.get(place, "\n"))), None)
         text += f": {own(self.known[last])}" if last else ""
         return text, [f"{link(place, self.crate)}: {own(self.known[place])}" for place in waiting if place != last]
 
-    def condition(self, code):
+    def condition(self, code: str) -> str:
         """What a function requires, with the words of what it cites in brackets."""
         text, waiting = self.read(code)
         return " ".join([text, *(f"({own(self.known[place])})" for place in waiting)])
 
     # The parts of a clause. What they cite is put into `waiting`.
 
-    def statement(self, code):
+    def statement(self, code: str) -> str:
         *premises, last = parts(code, "→")
         names = [name for one in premises if BOUND.fullmatch(one) for group in BINDER.findall(one) for name in group[0].split()]
         premises = [one for one in premises if not BOUND.fullmatch(one)]
@@ -189,7 +191,7 @@ class Clauses:
         when += self.when(premises)
         return when + (f"it is not so that {self.premise(last)}" if is_denied else self.conclusion(last))
 
-    def when(self, premises):
+    def when(self, premises: list[str]) -> str:
         """How a sentence with these premises begins."""
         if not premises:
             return ""
@@ -198,7 +200,7 @@ class Clauses:
             return f"unless {self.premise(denied[0])}: "
         return f"if {', and '.join(map(self.premise, premises))}: "
 
-    def premise(self, code):
+    def premise(self, code: str) -> str:
         code = inside(code)
         if code in RETURNED:
             return RETURNED[code]
@@ -216,7 +218,7 @@ class Clauses:
             return f"it returns {self.term(sides[1])}"
         return self.term(code)
 
-    def conclusion(self, code):
+    def conclusion(self, code: str) -> str:
         code = inside(code)
         if code.startswith("sem 𝓛 (Lends "):
             return LENDS
@@ -234,7 +236,7 @@ class Clauses:
         found = applied(code)
         return self.application(code, found) if found else self.term(code)
 
-    def equal(self, code, left, right):
+    def equal(self, code: str, left: str, right: str) -> str:
         stays, becomes = STAYS.fullmatch(code), BECOMES.fullmatch(left)
         if stays:
             return "nothing changes" if stays[1] == "self" else f"`{stays[1]}` stays as it was"
@@ -248,7 +250,7 @@ class Clauses:
             return f"`{left}` is {self.term(right)}"
         return self.code(code)
 
-    def application(self, code, found):
+    def application(self, code: str, found: list[str]) -> str:
         """A fact of a name with a meaning of its own, or of any other."""
         head, *arguments = found
         name = head.split(".")[-1]
@@ -267,7 +269,7 @@ class Clauses:
             return self.of_result("Ok" if head == "IfOk" else "Err", head, arguments[1])
         return self.term(code)
 
-    def of_result(self, case, head, code):
+    def of_result(self, case: str, head: str, code: str) -> str:
         """What holds of a result of this case."""
         found = PROPERTY.fullmatch(code)
         if found:
@@ -276,13 +278,13 @@ class Clauses:
             return f"if it returns `{case}`: {self.conclusion(code)}"
         return f"if it returns `{case}`, for its value {self.term(inside(code))}"
 
-    def term(self, code):
+    def term(self, code: str) -> str:
         """A value or a fact: a definition and what it is applied to, or else the code."""
         found = applied(code)
         if found and len(found) == 2 and found[0] in ("Ok", "Err", "Some") and self.applies(inside(found[1])):
             return f"{shown(found[0])} of {self.term(inside(found[1]))}"
-        place = found and next(iter(self.cited(found[0])), None)
-        if not place or found[0].count(".") > 1 or not found[0].endswith(place[2]):
+        place = next(iter(self.cited(found[0])), None) if found else None
+        if not found or not place or found[0].count(".") > 1 or not found[0].endswith(place[2]):
             return self.code(code)
         self.waiting += [place, *self.cited(" ".join(found[1:]))]
         arguments = " ".join(found[1:])
@@ -291,12 +293,12 @@ class Clauses:
         self.ends[place] = text
         return text
 
-    def applies(self, code):
+    def applies(self, code: str) -> bool:
         """Whether a code is a definition that is applied to something."""
         found = applied(code)
-        return found and len(found) > 1 and bool(self.cited(found[0]))
+        return found is not None and len(found) > 1 and bool(self.cited(found[0]))
 
-    def code(self, code):
+    def code(self, code: str) -> str:
         """A code, or where it is if it is long."""
         self.waiting += self.cited(code)
         return shown(code) if len(code) <= LONG_CODE else "what the clause beneath says"
@@ -305,17 +307,17 @@ class Clauses:
 class Promises:
     """The sections of all files, and what they cite."""
 
-    def __init__(self, root, crates):
+    def __init__(self, root: pathlib.Path, crates: list[str]) -> None:
         self.definitions = definitions.read(root, tuple(crates))
-        self.cites = {}
+        self.cites = dict[Place, str]()
 
-    def edits(self, file):
+    def edits(self, file: File) -> list[Edit]:
         """The sections of a file."""
         crate = file.name.split("/")[0]
         if not file.ships or crate in table.HIDDEN_IN:
             return []
         places, modules = definitions.imported(file.text)
-        hidden = {re.match(r"ghost (\w+)", token.text)[1] for token in file.code if token.kind == "ghost"}
+        hidden = {match(r"ghost (\w+)", token.text)[1] for token in file.code if token.kind == "ghost"}
         places = {name: place for name, place in places.items() if name not in hidden}
         found = []
         for form, indent, at in functions(file):
@@ -329,17 +331,17 @@ class Promises:
             found.append(Edit("promise", at, at, text))
         return found
 
-    def causes(self):
+    def causes(self) -> Iterator[str]:
         """What reads badly at a call: a comment that is not about the one definition that the call cites."""
         for place, path in self.cites.items():
             one = self.definitions.known[place]
             if one.shares or not one.words:
                 yield f"{definitions.path_of(place)}:{one.line}: a clause of {path} cites `{place[2]}`, which has no comment of its own"
 
-    def page(self, crate, about):
+    def page(self, crate: str, about: str) -> str:
         """The file `proved.rs` of a crate, of which is said what it is: a module for each file of specs/, with what clauses cite of it; or
         nothing."""
-        members = {}
+        members: dict[str, list[definitions.Definition]] = {}
         for place, one in self.definitions.known.items():
             if place in self.cites and place[0] == crate:
                 members.setdefault(place[1], []).append(one)
@@ -356,7 +358,7 @@ class Promises:
             text.append(f"pub mod {module(name)} {{}}")
         return "\n".join(text) + "\n"
 
-    def module(self, crate, name, found):
+    def module(self, crate: str, name: str, found: list[definitions.Definition]) -> list[str]:
         """The lines of the page of a file of specs/."""
         lines = [plain(self.definitions.headings[crate, name]), "", f"From `{definitions.path_of((crate, name))}`."]
         for one in found:
@@ -366,10 +368,10 @@ class Promises:
                 lines += ["", f"It uses {self.uses(one, crate)}."]
         return lines
 
-    def uses(self, definition, crate):
+    def uses(self, definition: definitions.Definition, crate: str) -> str:
         """The names that a definition uses: links, and then those that have no page, by file."""
         linked = [link(place, crate) for place in definition.uses if place in self.cites]
-        files = {}
+        files: dict[str, list[str]] = {}
         for place in definition.uses:
             if place not in self.cites:
                 file = "this file" if place[:2] == definition.place[:2] else f"`{definitions.path_of(place)}`"
@@ -377,7 +379,7 @@ class Promises:
         return "; ".join([", ".join(linked)] * bool(linked) + [f"{', '.join(names)} of {file}" for file, names in files.items()])
 
 
-def functions(file):
+def functions(file: File) -> Iterator[tuple[Form, str, int]]:
     """Each public function with clauses and documentation: its form, its indent, and where its documentation ends. What is in an `impl` of
     a trait has the documentation of the trait."""
     for form in file.forms:
@@ -391,7 +393,7 @@ def functions(file):
             yield form, file.text[line:first], at
 
 
-def behind_documentation(text, at):
+def behind_documentation(text: str, at: int) -> int | None:
     """Where the documentation ends that is above a line, or above comments that are above it; nothing if there is none."""
     while at > 0:
         above = text.rfind("\n", 0, at - 1) + 1
@@ -404,11 +406,13 @@ def behind_documentation(text, at):
     return None
 
 
-def section(form, clauses):
+def section(form: Form, clauses: Clauses) -> list[str]:
     """The lines of a section."""
     requires, ensures = [], []
     for one in form.clauses:
-        kind, name, code = CLAUSE.fullmatch(one).groups()
+        found = CLAUSE.fullmatch(one)
+        assert found
+        kind, name, code = found.groups()
         if kind == "requires":
             requires.append(clauses.condition(code))
             continue

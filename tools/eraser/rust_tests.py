@@ -3,6 +3,7 @@
 Tests are not trusted, so this works on text: clauses and ghost items are taken out, and the words of REPLACED become others. A word that
 nothing replaces is an error of rustc.
 """
+import pathlib
 import re
 
 import crate
@@ -52,7 +53,7 @@ use geesetrunk_kit::Vec;
 """
 
 
-def erased(name, text):
+def erased(name: str, text: str) -> str:
     """A source of tests as Rust."""
     of = name.split("/")[0]
     code, _ = tokens.tokens(text, strict=False)
@@ -73,7 +74,7 @@ def erased(name, text):
     return re.sub(r"\n{3,}", "\n\n", PRELUDE + text) + (START_ERROR if "enum StartError" in text else "")
 
 
-def emitted(root):
+def emitted(root: pathlib.Path) -> dict[str, bytes]:
     """The files of the erased tests by name, with their bytes."""
     files = {}
     for name, data in crate.sources(root, CRATES).items():

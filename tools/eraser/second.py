@@ -8,6 +8,7 @@ import dataclasses
 import functools
 import pathlib
 import re
+from collections.abc import Callable
 
 PAGE = pathlib.Path(__file__).resolve().parent / "ERASURE.md"
 # A brace in a comment or in a text of ANTT is none, so no clause has either.
@@ -43,17 +44,17 @@ class Token:
     line: int
     kind: str = ""
 
-    def __eq__(self, other):
+    def __eq__(self, other: object) -> bool:
         return self.text == (other.text if isinstance(other, Token) else other)
 
 
 class Scanner:
     """Reads the tokens of a text, letter by letter. Comments of Rust are none."""
 
-    def __init__(self, text, has_clauses):
+    def __init__(self, text: str, has_clauses: bool) -> None:
         self.text, self.at, self.line, self.has_clauses = text, 0, 1, has_clauses
 
-    def tokens(self):
+    def tokens(self) -> list[Token]:
         found = []
         while self.at < len(self.text):
             letter = self.text[self.at]
@@ -72,21 +73,21 @@ class Scanner:
                     found.append(Token(word, line))
         return found
 
-    def begins(self, text):
+    def begins(self, text: str) -> bool:
         return self.text.startswith(text, self.at)
 
-    def upto(self, mark):
+    def upto(self, mark: str) -> str:
         """The text from here to this mark, or to the end."""
         end = self.text.find(mark, self.at)
         return self.text[self.at : end if end >= 0 else len(self.text)]
 
-    def skip(self, count):
+    def skip(self, count: int) -> str:
         taken = self.text[self.at : self.at + count]
         self.line += taken.count("\n")
         self.at += count
         return taken
 
-    def one(self):
+    def one(self) -> str:
         """The token that begins here."""
         letter, more = self.text[self.at], self.text[self.at + 1 : self.at + 2]
         if letter == '"' or letter == "b" and more == '"':
@@ -102,21 +103,21 @@ class Scanner:
             raise Refused(f"line {self.line}: the letter {ascii(letter)} outside of a clause")
         return self.skip(next((len(sign) for sign in SIGNS if self.begins(sign)), 1))
 
-    def is_point(self, first, at):
+    def is_point(self, first: str, at: int) -> bool:
         """Whether a point is part of a number."""
         return first.isdigit() and self.text[at] == "." and self.text[at + 1 : at + 2].isdigit()
 
-    def is_lifetime(self):
+    def is_lifetime(self) -> bool:
         """Whether the quote here begins a lifetime, and not a character."""
         return is_of_word(self.text[self.at + 1]) and self.text[self.at + 2 : self.at + 3] != "'"
 
-    def quoted(self, mark):
+    def quoted(self, mark: str) -> str:
         end = self.text.index(mark, self.at) + 1
         while self.text[end] != mark:
             end += 2 if self.text[end] == "\\" else 1
         return self.skip(end + 1 - self.at)
 
-    def contract(self, word):
+    def contract(self, word: str) -> str:
         """The rest of a clause or of a ghost item."""
         start = self.at
         if word == "ghost" and re.compile(r"\s+use\b").match(self.text, self.at):
@@ -134,7 +135,7 @@ class Scanner:
             raise Refused(f"line {self.line}: a comment or a brace in a text hides where a clause ends")
         return inside
 
-    def braces(self):
+    def braces(self) -> None:
         """Goes behind the braces that are next: nothing but a head is in front of them."""
         if not re.fullmatch(r"\*?\s*(\w+\s*)?[:=]?\s*(by\s*)?", self.upto("{")):
             raise Refused(f"line {self.line}: a clause of no known head")
@@ -148,11 +149,11 @@ class Scanner:
                 return
 
 
-def is_of_word(letter):
+def is_of_word(letter: str) -> bool:
     return letter.isascii() and (letter.isalnum() or letter == "_")
 
 
-def closing(tokens, at):
+def closing(tokens: list[Token], at: int) -> int:
     """The index of the bracket that closes the one at this index."""
     wanted = []
     for here in range(at, len(tokens)):
@@ -166,22 +167,22 @@ def closing(tokens, at):
     raise Refused(f"line {tokens[at].line}: a bracket that is not closed")
 
 
-def begins(tokens, at, words):
+def begins(tokens: list[Token], at: int, words: str) -> bool:
     """Whether these words, with a space between two, stand here."""
-    words = words.split()
-    return [one.text for one in tokens[at : at + len(words)]] == words
+    wanted = words.split()
+    return [one.text for one in tokens[at : at + len(wanted)]] == wanted
 
 
 class Source:
     """What is left of a source by the rules of the page that only drop. `bodies` has the indices that are inside of a function's body, and
     `required` those of the brace of a function that requires something."""
 
-    def __init__(self, name, text):
+    def __init__(self, name: str, text: str) -> None:
         self.tokens, self.has_errors_by_hand = Scanner(text, True).tokens(), name in ERRORS
-        self.left, self.bodies, self.required = [], set(), set()
+        self.left, self.bodies, self.required = list[Token](), set[int](), set[int]()
         self.items(0, len(self.tokens))
 
-    def keep(self, first, end, is_body=False):
+    def keep(self, first: int, end: int, is_body: bool = False) -> None:
         for at in range(first, end):
             if is_body and self.tokens[at].kind:
                 raise Refused(f"line {self.tokens[at].line}: a clause in a body")
@@ -189,7 +190,7 @@ class Source:
                 self.bodies.add(len(self.left))
             self.left.append(self.tokens[at])
 
-    def items(self, at, end):
+    def items(self, at: int, end: int) -> None:
         """Goes over items: what is in braces of an `impl`, a `trait`, a type or a file."""
         while at < end:
             behind = self.dropped(at, end)
@@ -200,7 +201,7 @@ class Source:
                 behind = at + 1
             at = behind
 
-    def dropped(self, at, end):
+    def dropped(self, at: int, end: int) -> int:
         """The index behind what is dropped here, or this index."""
         tokens = self.tokens
         if tokens[at].kind == "ghost":
@@ -223,10 +224,10 @@ class Source:
             return self.error(at)
         return self.lemma(at) or at
 
-    def semicolon(self, at):
+    def semicolon(self, at: int) -> int:
         return next(here for here in range(at, len(self.tokens)) if self.tokens[here] == ";")
 
-    def implementation(self, at):
+    def implementation(self, at: int) -> int:
         """The index behind a model, or this index."""
         opened = next(here for here in range(at, len(self.tokens)) if self.tokens[here] == "{")
         head = " ".join(one.text for one in self.tokens[at:opened])
@@ -234,12 +235,12 @@ class Source:
         is_model = re.match(r"impl (< .* > )?Model for ", head) and all(one.kind == "ghost" for one in inside)
         return closing(self.tokens, opened) + 1 if is_model else at
 
-    def error(self, at):
+    def error(self, at: int) -> int:
         """The index behind an empty implementation of `Error` here, with the attribute that the kit writes in front; or this index."""
         found = re.match(EMPTY_ERROR, " ".join(one.text for one in self.tokens[at : at + MOST]))
         return at + len(found[0].split()) if found else at
 
-    def lemma(self, at):
+    def lemma(self, at: int) -> int | None:
         """The index behind a function that takes nothing, returns nothing, does nothing and ensures something; or None."""
         at += self.tokens[at] == "pub"
         if self.tokens[at] != "fn" or not begins(self.tokens, at + 2, "( )"):
@@ -250,7 +251,7 @@ class Source:
             at += 1
         return at + 2 if count and begins(self.tokens, at, "{ }") else None
 
-    def function(self, at):
+    def function(self, at: int) -> int:
         """Goes over a function: its signature, its clauses, and its body, of which nothing is dropped."""
         tokens, here = self.tokens, at
         while not tokens[here].kind and tokens[here].text not in ("{", ";"):
@@ -290,9 +291,9 @@ FORMATTER = re.compile(r"fn (\w+) < (\w+) : ((?:std :: )?fmt) :: Write > \( & se
 
 
 @functools.lru_cache(maxsize=None)
-def guards():
+def guards() -> list[tuple[str, ...]]:
     """The guards of the page, each as its tokens."""
-    text = re.search(r"```text\n(.*?)```", PAGE.read_text(encoding="ascii"), re.DOTALL)[1]
+    text = re.findall(r"```text\n(.*?)```", PAGE.read_text(encoding="ascii"), re.DOTALL)[0]
     found, start = [], 0
     tokens = [one.text for one in Scanner(text, False).tokens()]
     for at, one in enumerate(tokens):
@@ -305,20 +306,20 @@ def guards():
 class Reader:
     """The source beside the emitted file."""
 
-    def __init__(self, name, source, emitted):
+    def __init__(self, name: str, source: str, emitted: str) -> None:
         self.source = Source(name, source)
         self.left, self.made = self.source.left, Scanner(emitted, False).tokens()
         self.is_root = name.endswith("/src/lib.rt")
         self.is_register = "/src/registers/" in name
         self.at = self.here = 0
 
-    def word(self, ahead=0):
+    def word(self, ahead: int = 0) -> str:
         return self.left[self.at + ahead].text if self.at + ahead < len(self.left) else ""
 
-    def emitted(self, ahead=0):
+    def emitted(self, ahead: int = 0) -> str:
         return self.made[self.here + ahead].text if self.here + ahead < len(self.made) else ""
 
-    def read(self):
+    def read(self) -> None:
         """Raises `Refused` at the first token that no rule allows."""
         while self.at < len(self.left) or self.here < len(self.made):
             if self.at in self.source.bodies:
@@ -326,20 +327,20 @@ class Reader:
             elif not self.outside():
                 self.refuse()
 
-    def refuse(self):
+    def refuse(self) -> None:
         # a file may end too early, or have no token at all
         line = self.made[min(self.here, len(self.made) - 1)].line if self.made else 1
         shown = " ".join(one.text for one in self.made[self.here : self.here + 8])
         wanted = " ".join(one.text for one in self.left[self.at : self.at + 8])
         raise Refused(f"line {line}: `{shown}` is emitted, and the source has `{wanted}`")
 
-    def step(self):
+    def step(self) -> None:
         if self.word() != self.emitted():
             self.refuse()
         self.at += 1
         self.here += 1
 
-    def body(self):
+    def body(self) -> None:
         """One token of a body: the guard behind its brace, a method with an allocator, or the same token."""
         if self.at in self.source.required and self.emitted() == "{":
             self.step()
@@ -354,23 +355,23 @@ class Reader:
             return
         self.step()
 
-    def guard(self):
+    def guard(self) -> int:
         """How many tokens the guard here has: none, if the body begins."""
         longest = max(map(len, guards()))
         stands = tuple(one.text for one in self.made[self.here : self.here + longest])
         return next((len(one) for one in guards() if stands[: len(one)] == one), 0)
 
-    def outside(self):
+    def outside(self) -> bool:
         """One step outside of bodies. Returns whether a rule allows it."""
         return self.of_drop() or self.of_derive() or self.of_formatter() or self.of_gain() or self.of_const() or self.same()
 
-    def same(self):
+    def same(self) -> bool:
         if self.word() != self.emitted() or not self.word():
             return False
         self.step()
         return True
 
-    def of_drop(self):
+    def of_drop(self) -> bool:
         """`Drop` in a bound, a `where` of such bounds alone, and `<>`."""
         if self.word() in ("+", ":") and self.word(1) == "Drop" and self.word(2) in (",", ">", "+", "="):
             self.at += 2
@@ -387,7 +388,7 @@ class Reader:
             return True
         return False
 
-    def of_derive(self):
+    def of_derive(self) -> bool:
         """The derives without `Drop`, and those of a register without `Debug`."""
         if not begins(self.left, self.at, "# [ derive ("):
             return False
@@ -406,7 +407,7 @@ class Reader:
         self.at, self.here = end + 1, close + 1
         return True
 
-    def of_formatter(self):
+    def of_formatter(self) -> bool:
         """`fmt` over a writer, which in Rust is over none."""
         found = FORMATTER.match(" ".join(one.text for one in self.left[self.at : self.at + MOST]))
         if not found:
@@ -418,7 +419,7 @@ class Reader:
         self.here += len(wanted.split())
         return True
 
-    def of_gain(self):
+    def of_gain(self) -> bool:
         """What an emitted file may have more. What the source has too is the source's."""
         # A space inside of a token, as in a string, would count for one between two.
         text = " ".join(one.text.replace(" ", "_") for one in self.made[self.here : self.here + MOST])
@@ -428,14 +429,14 @@ class Reader:
         self.here += len(found[0].split())
         return True
 
-    def of_const(self):
+    def of_const(self) -> bool:
         if self.emitted() == "const" and self.emitted(1) == "fn" and self.word() == "fn":
             self.here += 1
             return True
         return False
 
 
-def differences(name, source, emitted):
+def differences(name: str, source: str, emitted: str) -> list[str]:
     """The first token that no rule of the page allows, as a cause, or nothing."""
     try:
         Reader(name, source, emitted).read()
@@ -444,13 +445,13 @@ def differences(name, source, emitted):
     return []
 
 
-def of_page(name, emitted):
+def of_page(name: str, emitted: str) -> list[str]:
     """What a page of definitions has beside empty modules."""
     text = " ".join(one.text for one in Scanner(emitted, False).tokens())
     return [] if EMPTY_MODULES.fullmatch(text) else [f"{name}: second reader: more than empty modules"]
 
 
-def read_all(root, crates, expanded):
+def read_all(root: pathlib.Path, crates: list[str], expanded: Callable[[pathlib.Path, str], bytes]) -> tuple[int, list[str]]:
     """Reads each source beside its emitted file. Returns how many there are, and what no rule allows. `expanded` gives what the kit prints
     of a source that uses macros of errors."""
     count, causes = 0, []

@@ -1,5 +1,5 @@
 """What the eraser knows of the crates. tools/eraser/README.md shows these tables."""
-import collections
+from typing import NamedTuple
 
 from examples import EXAMPLES  # noqa: F401
 
@@ -156,9 +156,16 @@ uart_design_ware::state::DesignWare::fault
 uart_design_ware::state::DesignWare::registers_mut
 """.split()
 
+
 # A guard: the clauses that it is for, word by word; the test that the function begins with, or None; the path of the function that it
 # calls and that tests the same, or None; what its documentation says under Panics, or None; the reason if there is no test.
-Guard = collections.namedtuple("Guard", "clauses test tested_by panics reason", defaults=(None, None, None, None))
+class Guard(NamedTuple):
+    clauses: list[str]
+    test: str | None = None
+    tested_by: str | None = None
+    panics: str | None = None
+    reason: str | None = None
+
 
 REGISTER_OFFSET = ["requires { register_offset < NUM_REGISTERS }"]
 COMPUTABLE = ["requires { IsComputable config }"]
@@ -222,8 +229,7 @@ GUARDS = {
         panics="If the frequency or the baud rate is 0, or if the prescaler division factor is above 15.",
     ),
     "uart_spec::baud::other_factor": Guard(
-        ["requires factor { 0 < factor }", "requires prescaler { prescaler prescaler_division_factor ≤ 15 }"],
-        reason=INSIDE,
+        ["requires factor { 0 < factor }", "requires prescaler { prescaler prescaler_division_factor ≤ 15 }"], reason=INSIDE
     ),
     "uart_spec::baud::whole_quotient": Guard(["requires { 0 < divisor }"], reason=INSIDE),
     "uart_spec::baud::ticks_of": Guard(["requires prescaler { prescaler prescaler_division_factor ≤ 15 }"], reason=INSIDE),
@@ -237,21 +243,13 @@ GUARDS = {
         reason=INSIDE,
     ),
     "uart_spec::config::Config::nearest": Guard(
-        ["requires { IsComputable self }"],
-        test='assert!(self.is_computable(), "a configuration that is not computable");',
-        panics=NOT_COMPUTABLE,
+        ["requires { IsComputable self }"], test='assert!(self.is_computable(), "a configuration that is not computable");', panics=NOT_COMPUTABLE
     ),
     "uart_spec::registers::prescaler_division::PSD::set_pdf": Guard(
-        ["requires { pdf ≤ 15 }"],
-        test='assert!(pdf <= 15, "a prescaler division factor above 15");',
-        panics="If the factor is above 15.",
+        ["requires { pdf ≤ 15 }"], test='assert!(pdf <= 15, "a prescaler division factor above 15");', panics="If the factor is above 15."
     ),
     "uart_16550::driver::Uart16550::read_register": Guard(
-        [
-            "requires low { offset < NUM_REGISTERS }",
-            "requires not_lsr { offset ≢ offsets.LSR }",
-            "requires not_msr { offset ≢ offsets.MSR }",
-        ],
+        ["requires low { offset < NUM_REGISTERS }", "requires not_lsr { offset ≢ offsets.LSR }", "requires not_msr { offset ≢ offsets.MSR }"],
         reason=INSIDE,
     ),
     "uart_16550::driver::Uart16550::read_plain": Guard(["requires { offset < NUM_REGISTERS }"], reason=INSIDE),
@@ -271,10 +269,7 @@ GUARDS = {
         panics=NOT_COMPUTABLE + " No access was made then.",
         reason="before the first access; a test here would be the second",
     ),
-    "uart_16550::driver::init::Uart16550::set_up": Guard(
-        ["requires { DivisorOf config (Ok divisor) }"],
-        reason=INSIDE,
-    ),
+    "uart_16550::driver::init::Uart16550::set_up": Guard(["requires { DivisorOf config (Ok divisor) }"], reason=INSIDE),
     "uart_16550::driver::setup::Uart16550::set_frame_when_idle": Guard(
         ["requires { IsComputable config.now }"],
         tested_by="uart_spec::baud::calc_divisor",
@@ -287,15 +282,9 @@ GUARDS = {
         panics=NOT_COMPUTABLE + " No access was made then.",
         reason="before the first access; a test here would be the second",
     ),
-    "uart_16550::driver::setup::Uart16550::set_up_with": Guard(
-        ["requires { DivisorOf config (Ok divisor) }"],
-        reason=INSIDE,
-    ),
+    "uart_16550::driver::setup::Uart16550::set_up_with": Guard(["requires { DivisorOf config (Ok divisor) }"], reason=INSIDE),
     "uart_spec::dump::ConfigRegisterDump::baud_rate": Guard(
-        [
-            "requires frequency { 0 < config.now.frequency }",
-            "requires prescaler { prescaler config.now.prescaler_division_factor ≤ 15 }",
-        ],
+        ["requires frequency { 0 < config.now.frequency }", "requires prescaler { prescaler config.now.prescaler_division_factor ≤ 15 }"],
         tested_by="uart_spec::baud::calc_baud_rate",
         panics="If the divisor is not 0, and the frequency is 0 or the prescaler division factor is above 15.",
         reason="the divisor 0 is refused before",
@@ -311,32 +300,19 @@ GUARDS = {
     .is_ok(),
     "the baud rate is not a whole number"
 );""",
-        panics="If that is not a whole number, and if it cannot be computed: if the divisor or the frequency is 0, or the factor\n"
-        "above 15.",
+        panics="If that is not a whole number, and if it cannot be computed: if the divisor or the frequency is 0, or the factor\n" "above 15.",
     ),
     "uart_ring::queue::ByteQueue::drop_front": Guard(["requires { count ≤ length self.old.items }"], reason=INSIDE),
     "uart_ring::queue::ByteQueue::byte_at": Guard(["requires { place < length self.now.items }"], reason=INSIDE),
     "uart_ring::queue::ByteQueue::front_slices": Guard(["requires { count ≤ length self.now.items }"], reason=INSIDE),
-    "uart_ring::queue::ByteQueue::receive_from": Guard(
-        ["requires { length self.old.items + slots ≤ self.old.capacity }"], reason=INSIDE
-    ),
-    "uart_ring::queue::cell_behind": Guard(
-        ["requires cell { cell ≤ cells }", "requires count { count ≤ cells }"], reason=IN_FILE
-    ),
+    "uart_ring::queue::ByteQueue::receive_from": Guard(["requires { length self.old.items + slots ≤ self.old.capacity }"], reason=INSIDE),
+    "uart_ring::queue::cell_behind": Guard(["requires cell { cell ≤ cells }", "requires count { count ≤ cells }"], reason=IN_FILE),
     "uart_ring::queue::copy": Guard(["requires { place ≤ length slots.old }"], reason=IN_FILE),
     "uart_ring::queue::receive": Guard(["requires { place + slots ≤ length cells.old }"], reason=IN_FILE),
-    "uart_ring::ring::noted::Uart16550Ring::drop_taken": Guard(
-        ["requires { count ≤ length (ring_fields self.old).receive.items }"], reason=INSIDE
-    ),
-    "uart_ring::ring::noted::copy_with_errors": Guard(
-        ["requires { length bytes.now.items ≤ length noted.now.items }"], reason=IN_FILE
-    ),
-    "uart_ring::ring::transmit::Uart16550Ring::drop_queued": Guard(
-        ["requires { count ≤ length self.old.transmit.items }"], reason=IN_FILE
-    ),
-    "uart_ring::ring::transmit::Uart16550Ring::drop_sent": Guard(
-        ["requires { count ≤ length (sendable (ring_fields self.old)) }"], reason=IN_FILE
-    ),
+    "uart_ring::ring::noted::Uart16550Ring::drop_taken": Guard(["requires { count ≤ length (ring_fields self.old).receive.items }"], reason=INSIDE),
+    "uart_ring::ring::noted::copy_with_errors": Guard(["requires { length bytes.now.items ≤ length noted.now.items }"], reason=IN_FILE),
+    "uart_ring::ring::transmit::Uart16550Ring::drop_queued": Guard(["requires { count ≤ length self.old.transmit.items }"], reason=IN_FILE),
+    "uart_ring::ring::transmit::Uart16550Ring::drop_sent": Guard(["requires { count ≤ length (sendable (ring_fields self.old)) }"], reason=IN_FILE),
     "uart_ring::line::LinePorts::lower": Guard(LINE_PORT, reason=NO_BODY),
     "uart_ring::line::LinePorts::raise": Guard(LINE_PORT, reason=NO_BODY),
     "uart_16550::pio::PioBackend::port": Guard(REGISTER_OFFSET, test=EIGHT, reason="private, but reached by `Backend::read` and `Backend::write`"),
@@ -400,17 +376,11 @@ CLAUSES = {
         "requires switch { self.now.has_size_switch ≡ false }",
     ],
     "chip::Uart::arrive": ["requires { self.old.receiver.arrived < length self.old.receiver.marks }"],
-    "chip::Uart::perform": [
-        "requires { self.old.receiver.arrived + arrivals (event ∷ []) ≤ length self.old.receiver.marks }"
-    ],
+    "chip::Uart::perform": ["requires { self.old.receiver.arrived + arrivals (event ∷ []) ≤ length self.old.receiver.marks }"],
     "fifo::fill": ["requires { Q.items queue.old ≡ [] }"],
     "fifo::items_of": ["requires { Q.size_of queue.now ≡ Sixteen }"],
     "receiver::Receiver::new": [TICKS, "requires empty { Q.items queue ≡ [] }"],
-    "receiver::Receiver::from_data": [
-        TICKS,
-        "requires empty { Q.items queue ≡ [] }",
-        "requires size { Q.size_of queue ≡ Sixteen }",
-    ],
+    "receiver::Receiver::from_data": [TICKS, "requires empty { Q.items queue ≡ [] }", "requires size { Q.size_of queue ≡ Sixteen }"],
     "receiver::Receiver::data": ["requires { self.now.size ≡ Sixteen }"],
     "receiver::Receiver::arrive": ["requires { self.old.arrived < length self.old.marks }"],
     "receiver::Receiver::resize": RESIZABLE,
@@ -423,28 +393,21 @@ CLAUSES = {
     "transmitter::Transmitter::data": ["requires { self.now.size ≡ Sixteen }"],
     "transmitter::Transmitter::resize": RESIZABLE,
     "receiving::enter": ["requires { (is_unscheduled new.origin || R.is_scheduled) ≡ true }"],
-    "wire::send": [
-        "requires empty { W.sent wire.old ≡ [] }",
-        "requires room { length bytes.now ≤ W.most wire.old }",
-    ],
+    "wire::send": ["requires empty { W.sent wire.old ≡ [] }", "requires room { length bytes.now ≤ W.most wire.old }"],
 }
 
 GUARDS |= {
     **{f"uart_chip::{path}": Guard(clauses, reason=HIDDEN_INSIDE) for path, clauses in CLAUSES.items()},
     "uart_live::fixed::FixedWire::new": Guard(["requires { capacity ≤ WIRE_ROOM }"], reason=HIDDEN_INSIDE),
     "uart_live::fixed::FixedFifo::new": Guard(["requires { characters (fifo_size FIFO) ≡ FIFO }"], reason=HIDDEN_INSIDE),
-    "uart_chip::fifo::Fifo::push": Guard(
-        ["requires { length (items self.old) < characters (size_of self.old) }"], reason=NO_BODY
-    ),
+    "uart_chip::fifo::Fifo::push": Guard(["requires { length (items self.old) < characters (size_of self.old) }"], reason=NO_BODY),
     "uart_chip::fifo::Fifo::resize": Guard(["requires { characters size ≤ characters SixtyFour }"], reason=NO_BODY),
     "uart_chip::wire::Wire::push": Guard(["requires { length (sent self.old) < most self.old }"], reason=NO_BODY),
     "uart_chip::controlling::ChipParts::resize": Guard(["requires { characters size ≤ characters SixtyFour }"], reason=NO_BODY),
     "uart_chip::transmitting::TransmitterParts::put": Guard(
         ["requires { length (state self.old).queue < characters (state self.old).size }"], reason=NO_BODY
     ),
-    "uart_chip::receiving::replace": Guard(
-        ["requires { (is_unscheduled new.origin || R.is_scheduled) ≡ true }"], reason=INSIDE
-    ),
+    "uart_chip::receiving::replace": Guard(["requires { (is_unscheduled new.origin || R.is_scheduled) ≡ true }"], reason=INSIDE),
     "uart_chip::receiving::ReceiverParts::put": Guard(
         [
             "requires room { length (state self.old).queue < characters (state self.old).size }",
@@ -452,9 +415,7 @@ GUARDS |= {
         ],
         reason=NO_BODY,
     ),
-    "uart_chip::receiving::ReceiverParts::set_unscheduled_lost": Guard(
-        ["requires { (not on || is_scheduled) ≡ true }"], reason=NO_BODY
-    ),
+    "uart_chip::receiving::ReceiverParts::set_unscheduled_lost": Guard(["requires { (not on || is_scheduled) ≡ true }"], reason=NO_BODY),
     "uart_chip::transmitting::TransmitterParts::send": Guard(
         ["requires { length (state self.old).wire < (state self.old).capacity }"], reason=NO_BODY
     ),
@@ -482,9 +443,7 @@ GUARDS |= {
 GUARDS["uart_design_ware::kept::KeptCharacters::keep"] = Guard(["requires { length self.old < KEPT }"], reason=INSIDE)
 for access in ("load", "store"):
     GUARDS[f"uart_design_ware::state::DesignWare::{access}"] = Guard(
-        OFFSET,
-        test='assert!(offset < 8, "no register has this offset");',
-        reason="private, but reached by `Backend::read` and `Backend::write`",
+        OFFSET, test='assert!(offset < 8, "no register has this offset");', reason="private, but reached by `Backend::read` and `Backend::write`"
     )
 for caller, access in (
     ("read_plain", "state::DesignWare::load"),
@@ -503,9 +462,7 @@ GUARDS["uart_chip::sending::send_at_once"] = Guard(
     test='assert!(sends_at_once(parts), "the transmitter is not idle");',
     reason="in no interface, but reached by `LiveChipWith::send_at_once`",
 )
-GUARDS["uart_chip::chip::Uart::send_at_once"] = Guard(
-    [SENDS_AT_ONCE], tested_by="uart_chip::sending::send_at_once", reason="it does nothing else"
-)
+GUARDS["uart_chip::chip::Uart::send_at_once"] = Guard([SENDS_AT_ONCE], tested_by="uart_chip::sending::send_at_once", reason="it does nothing else")
 GUARDS["uart_live::live::LiveChipWith::send_at_once"] = Guard(
     [SENDS_AT_ONCE],
     tested_by="uart_chip::chip::Uart::send_at_once",
@@ -524,9 +481,7 @@ GUARDS["uart_virtual::port::nothing_new"] = Guard(
     ["requires told { IsTold (record { chip = chip.now; told = told }) }", "requires paced { IsPaced chip.now }"], reason=IN_FILE
 )
 for name in ("finish_unmoved", "finish_read"):
-    GUARDS[f"uart_virtual::port::{name}"] = Guard(
-        ["requires paced { IsPaced chip.old }", "requires unmoved { IsUnmoved chip.old }"], reason=IN_FILE
-    )
+    GUARDS[f"uart_virtual::port::{name}"] = Guard(["requires paced { IsPaced chip.old }", "requires unmoved { IsUnmoved chip.old }"], reason=IN_FILE)
 GUARDS["uart_virtual::port::send"] = Guard(
     [
         "requires live { IsLive (fifo_size FIFO) chip.old }",
@@ -536,28 +491,20 @@ GUARDS["uart_virtual::port::send"] = Guard(
     ],
     reason=IN_FILE,
 )
-GUARDS["uart_virtual::port::take"] = Guard(
-    ["requires told { IsTold (record { chip = chip.old; told = told.old }) }", STILL], reason=IN_FILE
-)
+GUARDS["uart_virtual::port::take"] = Guard(["requires told { IsTold (record { chip = chip.old; told = told.old }) }", STILL], reason=IN_FILE)
 # The access that a guest makes most often is looked for first, and needs no test.
 for access, first in (("read", "LSR"), ("write", "DATA")):
     GUARDS[f"uart_chip::controlling::{access}_register"] = Guard(
-        OFFSET,
-        test='assert!(offset < 8, "no register has this offset");',
-        reason=f"private, but reached by `LiveChipWith::{access}`",
+        OFFSET, test='assert!(offset < 8, "no register has this offset");', reason=f"private, but reached by `LiveChipWith::{access}`"
     )
     GUARDS[f"uart_chip::controlling::{access}"] = Guard(
         OFFSET, tested_by=f"uart_chip::controlling::{access}_register", reason=f"of each offset but that of {first}"
     )
-    GUARDS[f"uart_chip::chip::Uart::{access}"] = Guard(
-        OFFSET, tested_by=f"uart_chip::controlling::{access}", reason="it does nothing else"
-    )
+    GUARDS[f"uart_chip::chip::Uart::{access}"] = Guard(OFFSET, tested_by=f"uart_chip::controlling::{access}", reason="it does nothing else")
     GUARDS[f"uart_live::live::LiveChipWith::{access}"] = Guard(
         OFFSET, tested_by=f"uart_chip::chip::Uart::{access}", panics="If the offset is 8 or more.", reason="it does nothing else"
     )
-GUARDS["uart_virtual::port::write_and_raise"] = Guard(
-    OFFSET, tested_by="uart_live::live::LiveChipWith::write", reason="before it changes anything"
-)
+GUARDS["uart_virtual::port::write_and_raise"] = Guard(OFFSET, tested_by="uart_live::live::LiveChipWith::write", reason="before it changes anything")
 # Each write that is no byte for an idle transmitter is slow.
 GUARDS["uart_virtual::port::write_slowly"] = Guard(
     ["requires offset { offset < NUM_REGISTERS }", STILL],
@@ -570,11 +517,7 @@ GUARDS["uart_virtual::port::write"] = Guard(
     reason="of each offset but that of DATA; the chip of a port is always still",
 )
 GUARDS["uart_virtual::port::read"] = Guard(
-    [
-        "requires offset { offset < NUM_REGISTERS }",
-        "requires told { IsTold (record { chip = chip.old; told = told.old }) }",
-        STILL,
-    ],
+    ["requires offset { offset < NUM_REGISTERS }", "requires told { IsTold (record { chip = chip.old; told = told.old }) }", STILL],
     tested_by="uart_live::live::LiveChipWith::read",
     reason="of the offset; what holds of a port always does",
 )
@@ -584,7 +527,7 @@ for access in ("read", "write"):
     )
 
 # Methods of an own trait that require something, in the implementations: the function that they call and that tests it.
-IMPLEMENTED = {
+IMPLEMENTED: dict[str, str | None] = {
     **{f"uart_16550::pio::PioBackend::{name}": "uart_16550::pio::PioBackend::port" for name in ("read", "write")},
     **{f"uart_16550::mmio::MmioBackend::{name}": "uart_16550::mmio::MmioBackend::address" for name in ("read", "write")},
     **{f"uart_design_ware::serving::DesignWare::{name}": f"uart_design_ware::serving::DesignWare::{name}_meant" for name in ("read", "write")},

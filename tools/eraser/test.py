@@ -6,6 +6,8 @@ import contextlib
 import pathlib
 import sys
 import tempfile
+from collections.abc import Callable, Iterable, Iterator
+from typing import TypeVar
 
 import around
 import attacks
@@ -18,6 +20,7 @@ import promises
 import second
 import table
 import words
+from tokens import Refused
 
 ROOT = pathlib.Path(__file__).resolve().parent.parent.parent
 sys.path.append(str(ROOT / "tools" / "eraser" / "mir"))
@@ -25,6 +28,9 @@ sys.path.append(str(ROOT / "tools" / "eraser" / "mir"))
 import interface  # noqa: E402
 import listed  # noqa: E402
 import planted  # noqa: E402
+
+Key = TypeVar("Key")
+Entry = TypeVar("Entry")
 
 # Forms behind the code of uart_spec/src/backend.rt that are accepted, so that the refusals below have their own causes.
 ACCEPTED = [
@@ -55,7 +61,7 @@ FORMS = [
     ("fn f(x: u8) -> u8\n    ensures { a /* } { */ }\n{\n    x\n}", "`/*` in a clause"),
     ("fn f(x: u8) -> u8\n    ensures { a -- b }\n{\n    x\n}", "`--` in a clause"),
     ("fn f(x: u8) -> u8\n    ensures { a // b }\n{\n    x\n}", "`//` in a clause"),
-    ('fn f(x: u8) -> u8\n    ensures { "} {" }\n{\n    x\n}', "`\"` in a clause"),
+    ('fn f(x: u8) -> u8\n    ensures { "} {" }\n{\n    x\n}', '`"` in a clause'),
     ("fn f(x: u8) -> u8\n    ensures { '}' }\n{\n    x\n}", "`'` in a clause"),
     ("fn f(x: u8) -> u8\n    ensures { \\a. a }\n{\n    x\n}", "`\\` in a clause"),
     ("fn f(x: u8) -> u8\n    ensures { a } fn g() { b }\n{\n    x\n}", "a function without a body"),
@@ -110,14 +116,8 @@ FORMS = [
     ("#[allow(unused)]\nuse crate::registers::IER;", "an attribute of a `use`"),
     # names that Rust could take for others
     # lemmas and models
-    (
-        "struct S {\n    pub x: u8,\n    ghost in_range: { x ≤ 3 },\n}",
-        "S has an invariant and a field that others can set",
-    ),
-    (
-        "struct S {\n    pub(crate) x: u8,\n}\nimpl Model for S {\n    ghost view = { a };\n}",
-        "S has an invariant and a field",
-    ),
+    ("struct S {\n    pub x: u8,\n    ghost in_range: { x ≤ 3 },\n}", "S has an invariant and a field that others can set"),
+    ("struct S {\n    pub(crate) x: u8,\n}\nimpl Model for S {\n    ghost view = { a };\n}", "S has an invariant and a field"),
     ("impl Model for Other {\n    ghost view = { a };\n}", "a model of Other, which is a type of another file"),
     ("struct S;\nimpl S {\n    fn law()\n        ensures { a }\n    {}\n}", "a lemma in an item"),
     ("pub trait T {\n    fn law()\n        ensures { a }\n    {}\n}", "a lemma in an item"),
@@ -126,28 +126,12 @@ FORMS = [
     ("fn f<B>(x: B) -> B\nwhere\n    B: Drop,\n    B: Copy,\n{\n    x\n}", "a `where` of more than `Drop`"),
     ("fn f<B>(x: B) -> B\nwhere\n    B: Copy\n    ensures { a }\n{\n    x\n}", "a `where` of more than `Drop`"),
     ("fn f<B: Drop + Copy>(x: B) -> B {\n    x\n}", "a bound `Drop` of another form"),
-    (
-        "struct S;\nimpl fmt::Display for S {\n    fn fmt<W: Other>(&self, f: &mut F<W>) -> u8 {\n"
-        "        3\n    }\n}",
-        "a `fmt` of another form",
-    ),
-    (
-        "struct S;\nimpl Drop for S {\n    fn drop(self) {\n        let S = self;\n    }\n}",
-        "the word `Drop`",
-    ),
+    ("struct S;\nimpl fmt::Display for S {\n    fn fmt<W: Other>(&self, f: &mut F<W>) -> u8 {\n" "        3\n    }\n}", "a `fmt` of another form"),
+    ("struct S;\nimpl Drop for S {\n    fn drop(self) {\n        let S = self;\n    }\n}", "the word `Drop`"),
     # guards
-    (
-        "pub fn f(x: u8) -> u8\n    requires { x ≤ 3 }\n{\n    x\n}",
-        "backend::f requires other things than its guard is for: requires { x ≤ 3 }",
-    ),
-    (
-        "fn f(x: u8) -> u8\n    requires { x ≤ 3 }\n{\n    x\n}",
-        "backend::f requires other things than its guard is for",
-    ),
-    (
-        "pub trait T {\n    fn f(&self, x: u8) -> u8\n        requires { x ≤ 3 }\n    {\n        x\n    }\n}",
-        "backend::T::f requires other things",
-    ),
+    ("pub fn f(x: u8) -> u8\n    requires { x ≤ 3 }\n{\n    x\n}", "backend::f requires other things than its guard is for: requires { x ≤ 3 }"),
+    ("fn f(x: u8) -> u8\n    requires { x ≤ 3 }\n{\n    x\n}", "backend::f requires other things than its guard is for"),
+    ("pub trait T {\n    fn f(&self, x: u8) -> u8\n        requires { x ≤ 3 }\n    {\n        x\n    }\n}", "backend::T::f requires other things"),
     (
         "pub struct S;\nimpl Backend for S {\n    fn read(&mut self, x: u8) -> u8 {\n        x\n    }\n\n"
         "    fn write(&mut self, x: u8, y: u8) {\n        return;\n    }\n}",
@@ -186,19 +170,9 @@ FORMS = [
 
 # An edit of a source, and the cause.
 SOURCES = [
-    (
-        "uart_spec/src/registers/prescaler_division.rt",
-        "requires { pdf ≤ 15 }",
-        "requires { pdf ≤ 31 }",
-        "set_pdf requires other things",
-    ),
+    ("uart_spec/src/registers/prescaler_division.rt", "requires { pdf ≤ 15 }", "requires { pdf ≤ 31 }", "set_pdf requires other things"),
     ("uart_spec/src/registers/prescaler_division.rt", "        requires { pdf ≤ 15 }\n", "", "for: nothing"),
-    (
-        "uart_spec/src/baud.rt",
-        "requires divisor { 0 < divisor }",
-        "requires divisor { 1 < divisor }",
-        "calc_frequency requires other things",
-    ),
+    ("uart_spec/src/baud.rt", "requires divisor { 0 < divisor }", "requires divisor { 1 < divisor }", "calc_frequency requires other things"),
     ("uart_spec/src/baud.rt", "pub fn calc_divisor(", "pub fn calc_divisors(", "calc_divisors requires other things"),
     ("uart_spec/src/baud.rt", "\nfn other_factor(", "\npub fn other_factor(", "other_factor can be reached"),
     # What is in the page has targets of 32 bits too.
@@ -213,33 +187,18 @@ SOURCES = [
         "MmioBackend::read does not call uart_16550::mmio::MmioBackend::address",
     ),
     ("uart_16550/src/pio.rt", "    fn port(&self", "    fn ports(&self", "PioBackend::ports requires other things"),
-    (
-        "uart_16550/src/driver.rt",
-        "    pub(crate) fn read_plain",
-        "    pub fn read_plain",
-        "read_plain can be reached",
-    ),
+    ("uart_16550/src/driver.rt", "    pub(crate) fn read_plain", "    pub fn read_plain", "read_plain can be reached"),
     ("uart_spec/src/lib.rt", "mod config;\n", "", "config.rt: no module declares it"),
     ("uart_spec/src/lib.rt", "mod config;\n", "mod config;\nmod extra;\n", "extra.rt: declared, and not there"),
     ("uart_spec/src/lib.rt", "#![tactic(auto)]", "#![no_std]", "an inner attribute other than tactic"),
-    (
-        "uart_spec/src/config.rt",
-        "    pub fn to_integer(self)",
-        "    pub fn as_integer(self)",
-        "BaudRate::to_integer: listed, and there are 0 of it",
-    ),
+    ("uart_spec/src/config.rt", "    pub fn to_integer(self)", "    pub fn as_integer(self)", "BaudRate::to_integer: listed, and there are 0 of it"),
     (
         "uart_spec/src/backend.rt",
         "        ensures { step self.old (Write register_offset value) self.new };\n}",
         "        ensures { a } fn hidden(&mut self);\n}",
         "a function without a body or a semicolon",
     ),
-    (
-        "uart_spec/src/backend.rt",
-        "    ghost step: {",
-        "    ghost use a.b; ghost step: {",
-        "something else on the line",
-    ),
+    ("uart_spec/src/backend.rt", "    ghost step: {", "    ghost use a.b; ghost step: {", "something else on the line"),
     (
         "uart_spec/src/dump.rt",
         "/// # Errors\n    ///\n    /// `NonInteger",
@@ -289,7 +248,7 @@ KIT_ROOT = "rust/kit/src/lib.rs"
 AROUND = [
     (LAYOUT, "impl ByteOrder {", "macro_rules! f { () => {} }\n#[macro_use]\nmod more {}\nimpl ByteOrder {", "`macro_use`"),
     (LAYOUT, "impl ByteOrder {", "extern crate std as core;\nimpl ByteOrder {", "`extern crate`"),
-    (LAYOUT, "impl ByteOrder {", "#[path = \"other.rs\"]\nmod more;\nimpl ByteOrder {", "`path`"),
+    (LAYOUT, "impl ByteOrder {", '#[path = "other.rs"]\nmod more;\nimpl ByteOrder {', "`path`"),
     (LAYOUT, "impl ByteOrder {", "#[cfg(unix)]\nimpl ByteOrder {", "`cfg`"),
     (LAYOUT, "impl ByteOrder {", "#[cfg_attr(all(), cfg(unix))]\nimpl ByteOrder {", "`cfg_attr`"),
     (LAYOUT, "impl ByteOrder {", "fn f() { other_factor() }\nimpl ByteOrder {", "`other_factor`, which requires"),
@@ -314,26 +273,46 @@ AROUND = [
     ("rust/kit/Cargo.toml", "[features]\n", '[lib]\npath = "src/other.rs"\n[features]\n', "`path` of the library"),
     ("rust/kit/Cargo.toml", "[package]\n", '[package]\nbuild = "src/x.rs"\n', "`build` of the package"),
     ("rust/uart_16550/Cargo.toml", "[dependencies]\n", '[dependencies]\nbitflags = "2"\n', "the dependency bitflags"),
-    ("rust/uart_16550/Cargo.toml", '"../proved/uart_ring", version = "=0.9.0"', '"../proved/uart_ring"', "the dependency uart_ring is of any version"),
-    ("rust/uart_16550/Cargo.toml", "[dependencies]\n", "[patch.crates-io]\n[dependencies]\n", "the section [patch]"),
     (
         "rust/uart_16550/Cargo.toml",
-        "[dependencies]\n",
-        "[target.'cfg(unix)'.dependencies]\nx = \"1\"\n[dependencies]\n",
-        "the section [target]",
+        '"../proved/uart_ring", version = "=0.9.0"',
+        '"../proved/uart_ring"',
+        "the dependency uart_ring is of any version",
     ),
+    ("rust/uart_16550/Cargo.toml", "[dependencies]\n", "[patch.crates-io]\n[dependencies]\n", "the section [patch]"),
+    ("rust/uart_16550/Cargo.toml", "[dependencies]\n", "[target.'cfg(unix)'.dependencies]\nx = \"1\"\n[dependencies]\n", "the section [target]"),
     ("rust/uart_16550/Cargo.toml", "[package]\n", 'cargo-features = ["x"]\n[package]\n', "the section [cargo-features]"),
     ("rust/uart_16550/Cargo.toml", "[lib]\n", "[lib\n", "cannot be read"),
     # what the emitted code is compiled with: with those of attacks.py
     (KIT_ROOT, "#![forbid(unsafe_code)]\n", "", "other attributes of the file"),
-    ("rust/kit/src/bits.rs", "    fn clear(&mut self)", "    fn eq(&self, _: &Self) -> bool {\n        true\n    }\n\n    fn clear(&mut self)", "`eq` of the trait `Flags`"),
+    (
+        "rust/kit/src/bits.rs",
+        "    fn clear(&mut self)",
+        "    fn eq(&self, _: &Self) -> bool {\n        true\n    }\n\n    fn clear(&mut self)",
+        "`eq` of the trait `Flags`",
+    ),
     ("rust/kit/src/bits.rs", "pub trait Bits:", "pub trait More {}\n\npub trait Bits:", "a trait `More`"),
-    ("rust/kit/src/array.rs", "    pub const fn is_full", "    pub fn eq(&self, _: &Self) -> bool {\n        true\n    }\n\n    pub const fn is_full", "`eq` of a type"),
+    (
+        "rust/kit/src/array.rs",
+        "    pub const fn is_full",
+        "    pub fn eq(&self, _: &Self) -> bool {\n        true\n    }\n\n    pub const fn is_full",
+        "`eq` of a type",
+    ),
     ("rust/kit_of_rings/src/memory.rs", "#[cfg(test)]\nmod tests;", "mod tests;", "tests that are compiled for users"),
-    ("rust/kit_of_rings/src/lib.rs", "pub use memory::{Vec, filled};", "pub use memory::{Vec, filled};\npub use other::fmt;", "`pub use other :: fmt`"),
+    (
+        "rust/kit_of_rings/src/lib.rs",
+        "pub use memory::{Vec, filled};",
+        "pub use memory::{Vec, filled};\npub use other::fmt;",
+        "`pub use other :: fmt`",
+    ),
     (LAYOUT, "impl ByteOrder {", "pub trait More {}\nimpl ByteOrder {", "a trait `More`"),
     ("rust/uart_16550/Cargo.toml", '"../proved/uart_ring", version', '"../other", version', "the dependency uart_ring is another package"),
-    ("rust/kit/Cargo.toml", "[features]\n", '[dependencies]\nx = { path = "../x", version = "=0.9.0" }\n[features]\n', "the dependency x is another package"),
+    (
+        "rust/kit/Cargo.toml",
+        "[features]\n",
+        '[dependencies]\nx = { path = "../x", version = "=0.9.0" }\n[features]\n',
+        "the dependency x is another package",
+    ),
 ]
 
 # An edit of an emitted file, and the first tokens that the second reader takes for no source's.
@@ -439,7 +418,12 @@ EXPORTED = [
 
 # Edits of the sources of the chip, and the cause.
 CHIP_SOURCES = [
-    ("uart_live/src/fixed.rt", "pub struct FixedFifo<T, const FIFO: usize>", "pub struct FixedFifo<T: Drop + Copy, const FIFO: usize>", "a bound `Drop` of another form"),
+    (
+        "uart_live/src/fixed.rt",
+        "pub struct FixedFifo<T, const FIFO: usize>",
+        "pub struct FixedFifo<T: Drop + Copy, const FIFO: usize>",
+        "a bound `Drop` of another form",
+    ),
     ("uart_chip/src/fifo.rt", "< characters (size_of self.old) }", "≤ characters (size_of self.old) }", "Fifo::push requires other things"),
     ("uart_live/src/fixed.rt", "requires { capacity ≤ WIRE_ROOM }", "", "FixedWire::new requires other things"),
     ("uart_chip/src/lib.rt", "mod wire;", "mod wire;\nmod extra;", "extra.rt: declared, and not there"),
@@ -454,7 +438,7 @@ CHIP_SOURCES = [
 class Tests:
     """The sources as they are, what is emitted of them, and the counts."""
 
-    def __init__(self):
+    def __init__(self) -> None:
         self.passed, self.failed = 0, 0
         found = crate.sources(ROOT, table.CRATES)
         wanted = {name: data for name, data in found.items() if crate.is_read(name)}
@@ -462,13 +446,13 @@ class Tests:
         self.read = {name: crate.read(name, text) for name, text in self.texts.items()}
         self.there, _ = crate.there(ROOT / table.OUTPUT)
 
-    def count(self, holds, what):
+    def count(self, holds: object, what: str) -> None:
         self.passed += bool(holds)
         self.failed += not holds
         if not holds:
             print(f"FAILED: {what}")
 
-    def refused(self, name, text):
+    def refused(self, name: str, text: str) -> str:
         """The cause for which this text of a source is refused, or nothing."""
         try:
             file = crate.read(name, text)
@@ -477,60 +461,63 @@ class Tests:
             crate.erase(crate.read(name, text))
         except crate.Failed as causes:
             return str(causes)
-        except crate.Refused as cause:
+        except Refused as cause:
             return crate.refusal(name, text, cause)
         return ""
 
-    def accepted(self):
+    def accepted(self) -> None:
         name = "uart_spec/src/backend.rt"
         for form in ACCEPTED:
             cause = self.refused(name, f"{self.texts[name]}\n{form}\n")
             self.count(cause == "", f"refused: {form!r}: {cause}")
 
-    def forms(self, forms, name="uart_spec/src/backend.rt"):
+    def forms(self, forms: Iterable[tuple[str, str]], name: str = "uart_spec/src/backend.rt") -> None:
         for form, cause in forms:
             found = self.refused(name, f"{self.texts[name]}\n{form}\n")
             self.count(cause in found, f"{form!r}: {found or 'accepted'}, and not: {cause}")
 
-    def defined(self):
+    def defined(self) -> None:
         for name, old, new in deceptions.DEFINED:
             text = (ROOT / "crates" / guards.MEANINGS[name][1]).read_text(encoding="utf-8")
             self.count(guards.is_defined(name, text), f"{name}: defined otherwise")
             is_seen = text.count(old) == 1 and not guards.is_defined(name, text.replace(old, new))
             self.count(is_seen, f"{name}: {old!r} to {new!r}: accepted")
 
-    def sources(self, edits):
+    def sources(self, edits: Iterable[tuple[str, str, str, str]]) -> None:
         for name, old, new, cause in edits:
             text = self.texts[name]
             found = self.refused(name, text.replace(old, new, 1)) if old in text else "no such text"
             self.count(cause in found if cause else not found, f"{name}: {old!r} to {new!r}: {found or 'accepted'}, and not: {cause}")
 
-    def bytes(self):
+    def emitted(self) -> None:
         for name, old, new in BYTES:
             text = self.there[name].decode()
             causes = self.compared(name, text.replace(old, new, 1).encode())
             self.count(old in text and causes == [f"{name}: not what the sources give: run tools/eraser/erase emit"], f"{name}: {old!r}: {causes}")
 
-    def compared(self, name, data):
+    def compared(self, name: str, data: bytes) -> list[str]:
         return crate.compare(self.there, {**self.there, name: data}, [])
 
-    def files(self):
+    def files(self) -> None:
         """Files more and less, and what is no plain file."""
         self.count(self.compared("uart_spec/more.rs", b"") == ["uart_spec/more.rs: not expected"], "a file more")
         less = {name: data for name, data in self.there.items() if name != "uart_spec/src/baud.rs"}
         self.count(crate.compare(self.there, less, []) == ["uart_spec/src/baud.rs: missing"], "a file less")
-        with tempfile.TemporaryDirectory() as folder:
-            folder = pathlib.Path(folder)
+        with tempfile.TemporaryDirectory() as made:
+            folder = pathlib.Path(made)
             (folder / "link.rs").symlink_to("/dev/null")
             self.count(crate.there(folder) == ({}, ["link.rs"]), "a symlink in the emitted folder")
             source = folder / "crates" / "one" / "src"
             source.mkdir(parents=True)
-            for name, make, cause in (
-                ("link.rt", lambda path: path.symlink_to("/dev/null"), "crates/one/src/link.rt: a symlink"),
-                ("a.txt", lambda path: path.write_bytes(b""), "crates/one/src/a.txt: not a source"),
-                ("A.rt", lambda path: path.write_bytes(b""), "crates/one/src/A.rt: not a source"),
+            for name, cause in (
+                ("link.rt", "crates/one/src/link.rt: a symlink"),
+                ("a.txt", "crates/one/src/a.txt: not a source"),
+                ("A.rt", "crates/one/src/A.rt: not a source"),
             ):
-                make(source / name)
+                if name == "link.rt":
+                    (source / name).symlink_to("/dev/null")
+                else:
+                    (source / name).write_bytes(b"")
                 self.count(failure(lambda: crate.sources(folder, ["one"])) == cause, cause)
                 (source / name).unlink()
             (folder / "linked").symlink_to(folder / "crates")
@@ -539,7 +526,7 @@ class Tests:
         self.count(failure(lambda: crate.text_of("a.rt", b"a\r\n")) == "crates/a.rt: a carriage return", "a carriage return")
         self.count("invalid" in failure(lambda: crate.text_of("a.rt", b"\xff")), "no UTF-8")
 
-    def manifests(self):
+    def manifests(self) -> None:
         """Cargo.toml and the root of a crate, from a line of crates.txt."""
         crates = packages.Crates("# one\nuart_live: uart_chip bitflags thiserror\n# two\nuart_play: uart_live arrayvec\n")
         shipped, ours = packages.manifest("uart_live", crates), packages.manifest("uart_play", crates)
@@ -561,7 +548,7 @@ class Tests:
         root = packages.root("uart_play", crates, "//! A text.\n\nmod a;\n")
         self.count(root.startswith("//! A text.\n#![no_std]\n#![forbid(unsafe_code)]\n") and root.endswith("\n\nmod a;\n"), root)
 
-    def promises(self):
+    def promises(self) -> None:
         """What the sections of calls say, and what is refused there."""
         for clauses, expected in promised.SAID:
             lines = promised.section(clauses)
@@ -581,7 +568,7 @@ class Tests:
                 found = list(told.causes())
                 self.count(len(found) == 1 and found[0].endswith("has no comment of its own"), f"{place}: {comment!r}, {shares}: {found}")
 
-    def around(self, edits):
+    def around(self, edits: Iterable[tuple[str, str, str, str]]) -> None:
         for name, is_checked in (
             ("uart_ring/src/by_hand.rs", True),
             ("uart_ring/tests/calls.rs", False),
@@ -593,11 +580,11 @@ class Tests:
         by_hand = around.files_of(ROOT)
         self.count(around.causes(by_hand) == [], f"around: {around.causes(by_hand)}")
         for name, old, new, cause in edits:
-            text = by_hand.get(name, "")
+            text = by_hand.get(name) or ""
             found = around.causes({**by_hand, name: text.replace(old, new, 1) if old else new})
             self.count(old in text and any(cause in one for one in found), f"{name}: {old!r} to {new!r}: {found}")
 
-    def second(self, edits):
+    def second(self, edits: Iterable[tuple[str, str, str, str]]) -> None:
         """What the second reader finds in an emitted file, and that it reads no clause whose end is hidden."""
         count, causes = second.read_all(ROOT, table.CRATES, crate.expanded)
         self.count(count > 0 and not causes, f"second reader: {causes}")
@@ -611,7 +598,7 @@ class Tests:
         found = second.differences("one/src/lib.rt", HIDDEN_END, "fn go() -> u8 {\n    2\n}\nfn other() -> u8 {\n    1\n}\n")
         self.count(found and "hides where a clause ends" in found[0], f"second reader: a comment in a clause: {found}")
 
-    def planted(self):
+    def planted(self) -> None:
         """The second reader finds what is planted in emitted text to test the comparison, but for what only the other can find."""
         for one in planted.every():
             crate_name, _, path = one.file.partition("/")
@@ -622,7 +609,7 @@ class Tests:
         names = [name for name, _ in attacks.table()]
         self.count(len(names) == len(set(names)), "two attacks with one name")
 
-    def in_packages(self):
+    def in_packages(self) -> None:
         """Each crate that ships is compared with its MIR."""
         self.count(not listed.in_no_package(table.SHIPS), f"packages of the comparison: {listed.in_no_package(table.SHIPS)}")
         found = listed.in_no_package([*table.SHIPS, "uart_new"])
@@ -632,15 +619,15 @@ class Tests:
             found = listed.in_no_package(table.SHIPS)
             self.count(found == ["uart_rs485"], f"a crate that is taken out of its package: {found}")
 
-    def needed(self):
+    def needed(self) -> None:
         """An entry that no name needs is a failure, but for one of a crate that is not proved here: its library is not there."""
         used = {("COUNTED", key) for key in list(listed.COUNTED)[1:]} | {("INPUTS", key) for key in listed.INPUTS}
         found = {table: [key for one, key in listed.unneeded(used, []) if one == table] for table in ("COUNTED", "INPUTS", "DIFFER")}
         self.count(found == {"COUNTED": list(listed.COUNTED)[:1], "INPUTS": [], "DIFFER": list(listed.DIFFER)}, f"entries not needed: {found}")
-        found = [one for one in listed.unneeded(used, ["uart_judges"]) if one[0] == "COUNTED"]
-        self.count(not found, f"entries of a crate without a library: {found}")
+        counted = [one for one in listed.unneeded(used, ["uart_judges"]) if one[0] == "COUNTED"]
+        self.count(not counted, f"entries of a crate without a library: {counted}")
 
-    def exported(self):
+    def exported(self) -> None:
         """What a crate exports beside its library: nothing more, and nothing less."""
         with tempfile.TemporaryDirectory() as folder:
             emitted, library = (pathlib.Path(folder) / name for name in ("emitted", "library"))
@@ -653,7 +640,7 @@ class Tests:
                 holds = any(cause in one for one in found) if cause else not found
                 self.count(old in EMITTED_CRATE and holds, f"exported: {old!r} to {new!r}: {found}, and not: {cause}")
 
-    def tables(self):
+    def tables(self) -> None:
         """Entries of the table that nothing in the sources has, or that say too little."""
         guard = table.GUARDS["uart_spec::backend::Backend::read"]
         for what, name, value, cause in (
@@ -686,7 +673,7 @@ TESTED_BY_ITSELF = "uart_virtual::port::read"
 
 
 @contextlib.contextmanager
-def changed(entries, name, value):
+def changed(entries: dict[Key, Entry], name: Key, value: Entry) -> Iterator[None]:
     """The table with another entry."""
     old = entries.get(name)
     entries[name] = value
@@ -699,7 +686,7 @@ def changed(entries, name, value):
             entries[name] = old
 
 
-def failure(call):
+def failure(call: Callable[[], object]) -> str:
     try:
         call()
     except crate.Failed as causes:
@@ -707,11 +694,11 @@ def failure(call):
     return ""
 
 
-def is_expanded(data):
+def is_expanded(data: bytes) -> bool:
     return b"use thiserror::Error" in data
 
 
-def run():
+def run() -> bool:
     tests = Tests()
     tests.accepted()
     tests.forms(FORMS)
@@ -721,7 +708,7 @@ def run():
     tests.forms(deceptions.OF_PROGRAMS, "uart_run/src/running.rt")
     tests.sources(deceptions.SOURCES)
     tests.defined()
-    tests.bytes()
+    tests.emitted()
     tests.files()
     tests.sources(CHIP_SOURCES)
     tests.manifests()

@@ -1,17 +1,22 @@
 """The tokens of a source in Rattle or Rust. A clause or a ghost item is one token."""
-import collections
 import re
 import unicodedata
+from typing import NamedTuple
 
 import hiding
 
-Token = collections.namedtuple("Token", "kind text start end")
+
+class Token(NamedTuple):
+    kind: str
+    text: str
+    start: int
+    end: int
 
 
 class Refused(Exception):
     """What the eraser does not know. `at` is the offset in the text, or None."""
 
-    def __init__(self, cause, at=None):
+    def __init__(self, cause: str, at: int | None = None) -> None:
         super().__init__(cause)
         self.cause = cause
         self.at = at
@@ -43,7 +48,7 @@ TEXT = re.compile(r'"[a-zA-Z :=]*"')
 PRIME = re.compile(r"(?<=\w)'(?!\w)")
 
 
-def closing_brace(text, start):
+def closing_brace(text: str, start: int) -> int:
     """The offset behind the braces that open at `start`."""
     depth = 0
     for at in range(start, len(text)):
@@ -53,7 +58,7 @@ def closing_brace(text, start):
     raise Refused("braces of a clause that are not closed", start)
 
 
-def check_clause(text, start, ghost):
+def check_clause(text: str, start: int, ghost: bool) -> None:
     """Refuses a clause with anything that code or a comment could be made of."""
     inner = PRIME.sub("", TEXT.sub("", text))
     if ghost:
@@ -71,12 +76,12 @@ def check_clause(text, start, ghost):
     refuse(hiding.braces(text), start)
 
 
-def refuse(cause, start):
+def refuse(cause: str | None, start: int) -> None:
     if cause:
         raise Refused(cause, start)
 
 
-def clause(text, start, word, strict=True):
+def clause(text: str, start: int, word: str, strict: bool = True) -> Token:
     """The token of a clause or a ghost item that begins with `word` at `start`."""
     if word != "ghost":
         head = re.compile(r"(requires|ensures)\*?(?: [a-z_0-9]+)? \{").match(text, start)
@@ -108,28 +113,28 @@ def clause(text, start, word, strict=True):
     return Token("ghost", text[start : end + 1], start, end + 1)
 
 
-def check_letters(text):
+def check_letters(text: str) -> None:
     """Refuses control characters, and what is not ASCII outside of clauses is refused by `tokens`."""
     for found in ODD.finditer(text):
         if unicodedata.category(found[0]) in ("Cc", "Cf", "Zl", "Zp", "Co", "Cn", "Cs"):
             raise Refused(f"the character {ascii(found[0])}", found.start())
 
 
-def tokens(text, clauses=True, strict=True, signs=False):
+def tokens(text: str, clauses: bool = True, strict: bool = True, signs: bool = False) -> tuple[list[Token], list[Token]]:
     """The tokens of a text, comments apart: (code, comments).
 
     If not strict, a string may have several lines, and a clause anything: for the sources of tests. With signs, documentation may have the
     signs of clauses.
     """
     check_letters(text)
-    code, comments, at = [], [], 0
+    code, comments, at = list[Token](), list[Token](), 0
     while at < len(text):
         found = not strict and STRING.match(text, at) or TOKEN.match(text, at)
         if text[at] in "/*" and text[at : at + 2] in ("/*", "*/"):
             raise Refused("a block comment", at)
         if not found or text[at] in "brc" and RAW.match(text, at):
             raise Refused(f"no token: {ascii(text[at:at + 12])}", at)
-        token = Token(found.lastgroup, found[0], at, found.end())
+        token = Token(found.lastgroup or "", found[0], at, found.end())
         is_told = signs and token.text.startswith("///")
         if not all(letter.isascii() or is_told and letter in LETTERS for letter in token.text):
             raise Refused(f"not ASCII: {ascii(token.text[:40])}", at)

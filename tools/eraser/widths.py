@@ -3,11 +3,12 @@
 No tool knows the types here. So each product, each shift and each sum that saturates is listed, with the type that it has. What `!` is of
 has to be declared with another type, or is listed too. `foreign.py` is about the names.
 """
-import collections
 import functools
 import re
+from typing import NamedTuple
 
 import foreign
+from items import File
 from words import KEYWORDS
 
 # What is multiplied, shifted or added: the file, the words around the sign or the call, and why no target makes a difference.
@@ -28,12 +29,7 @@ LISTED = {
         "2 * product": U64,
         "frequency * (": U64,
     },
-    "uart_spec/src/config.rt": {
-        "ticks * divisor": U64,
-        "1000 * exact": U64,
-        "u64 * exact": U64,
-        "exact . abs_diff": U64,
-    },
+    "uart_spec/src/config.rt": {"ticks * divisor": U64, "1000 * exact": U64, "u64 * exact": U64, "exact . abs_diff": U64},
     "uart_spec/src/dump.rt": {"256 * self": U16},
     "uart_spec/src/original.rt": {"256 * self": U16},
     "uart_spec/src/checked.rt": {"TICKS_PER_BIT * (": U32, "ticks . checked_mul": U32, "? . checked_mul": U32},
@@ -62,11 +58,7 @@ LISTED = {
     "uart_spec/src/registers/fifo_control.rt": {") << 6": U8, "0 >> 6": U8},
     "uart_spec/src/registers/line_control.rt": {") << 3": U8, "0 >> 3": U8},
     "uart_16550/src/driver/configured.rt": {"256 * dlm": U16},
-    "uart_16550/src/mmio.rt": {
-        "SPR * stride": OF_ADDRESSES,
-        ") . checked_add": OF_ADDRESSES,
-        "usize * self": OF_ADDRESSES,
-    },
+    "uart_16550/src/mmio.rt": {"SPR * stride": OF_ADDRESSES, ") . checked_add": OF_ADDRESSES, "usize * self": OF_ADDRESSES},
     "uart_16550/src/pio.rt": {"base . checked_add": U16},
     "uart_16550/src/tty.rt": {"done . saturating_add": OF_A_SLICE},
     "uart_design_ware/src/parameters.rt": {"16 * mode": U16},
@@ -99,18 +91,9 @@ LISTED = {
     "uart_language/src/numbers.rt": {"value * 10": U64},
     "uart_judges/src/audit/findings.rt": {"sent . saturating_add": U64, ") * 256": U16, "now . saturating_sub": U64},
     "uart_judges/src/audit/frequent.rt": {"waiting . saturating_sub": U8},
-    "uart_judges/src/audit/history.rt": {
-        "left . saturating_add": U64,
-        "waiting . saturating_add": U8,
-        "waiting . saturating_sub": U8,
-    },
+    "uart_judges/src/audit/history.rt": {"left . saturating_add": U64, "waiting . saturating_add": U8, "waiting . saturating_sub": U8},
     "uart_judges/src/audit/of_chip.rt": {"waiting . saturating_sub": U8},
-    "uart_judges/src/audit/step.rt": {
-        ") * 256": U64,
-        ") * CHARACTER_TIME": U64,
-        "CHARACTER_TIME * held": U64,
-        "now . saturating_sub": U64,
-    },
+    "uart_judges/src/audit/step.rt": {") * 256": U64, ") * CHARACTER_TIME": U64, "CHARACTER_TIME * held": U64, "now . saturating_sub": U64},
     "uart_judges/src/audit/unread.rt": {"count . saturating_sub": AT_MOST},
     "uart_judges/src/findings/verifying.rt": {"64 * 1024": "2^26, the most bytes of a trace", "1024 * 1024": "a part of the same"},
     "uart_judges/src/recording/fields.rt": {"seconds * SECOND": U64, "microseconds * MICROSECOND": U64},
@@ -131,11 +114,14 @@ NEGATED = {
     "uart_judges/src/audit/history.rt": ["is_up"],
 }
 
+
 # The names that are declared as `usize`, and those that are declared with a type of BITS.
-Kinds = collections.namedtuple("Kinds", "counts bits")
+class Kinds(NamedTuple):
+    counts: set[str]
+    bits: set[str]
 
 
-def check(file, kinds):
+def check(file: File, kinds: Kinds) -> None:
     """`kinds` has the names that are declared, in any file that this one may name."""
     check_forms(file)
     for at in negations(file):
@@ -144,7 +130,7 @@ def check(file, kinds):
 
 
 @functools.lru_cache(maxsize=None)
-def check_forms(file):
+def check_forms(file: File) -> None:
     """Refuses the forms that one looks at in one file alone."""
     for at, token in enumerate(file.code):
         word, after = token.text, file.word(at + 1)
@@ -162,17 +148,17 @@ def check_forms(file):
 
 
 @functools.lru_cache(maxsize=None)
-def negations(file):
+def negations(file: File) -> list[int]:
     """Where `!` is an operation: it stands behind no value, as that of a macro does, and behind no `#`."""
     return [at for at, token in enumerate(file.code) if token.text == "!" and file.word(at - 1) != "#" and not is_value(file, at - 1)]
 
 
-def is_value(file, at):
+def is_value(file: File, at: int) -> bool:
     """Whether a value can end here, so that a sign behind it stands between two values."""
     return file.kind(at) == "number" or file.kind(at) == "word" and file.word(at) not in KEYWORDS or file.word(at) in (")", "]", "}")
 
 
-def is_of_bits(file, at, kinds):
+def is_of_bits(file: File, at: int, kinds: Kinds) -> bool:
     """Whether the value that begins here is no `usize`, by the last of its names: one that is declared or listed, or a method of core."""
     first, last = at, ""
     while file.kind(at) == "word" and file.word(at) not in KEYWORDS or file.word(at) in (".", "::", "(", "[", "&", "*"):
@@ -190,7 +176,7 @@ def is_of_bits(file, at, kinds):
     return last in foreign.TRUTHS or last in kinds.bits and last not in foreign.OF_ANY_TYPE
 
 
-def is_parameter_of_bits(file, at):
+def is_parameter_of_bits(file: File, at: int) -> bool:
     """Whether the name at this index is a parameter of its function with a type of BITS, and no `let` gives it to something else."""
     form = next((form for form in file.forms if form.start < at < form.close), None)
     if form is None:
@@ -199,13 +185,14 @@ def is_parameter_of_bits(file, at):
     return bool(is_declared) and not re.search(rf"\blet (mut )?{file.word(at)}\b", file.words(form.body, at))
 
 
-def names(files):
+def names(files: list[File]) -> Kinds:
     """The names that are declared as `usize` or as bits in these files: parameters, fields, constants, and functions with this result."""
-    return Kinds(*(set().union(*ones) for ones in zip(Kinds(set(COUNTS), set()), *map(declared, files))))
+    ones = [declared(file) for file in files]
+    return Kinds({*COUNTS}.union(*(one.counts for one in ones)), set[str]().union(*(one.bits for one in ones)))
 
 
 @functools.lru_cache(maxsize=None)
-def declared(file):
+def declared(file: File) -> Kinds:
     """Those that one file declares."""
     found = Kinds(set(), set())
     for at in range(len(file.code)):
@@ -223,7 +210,7 @@ def declared(file):
     return found
 
 
-def operation(file, at):
+def operation(file: File, at: int) -> str | None:
     """The product, shift or call at this index as it is listed, or nothing."""
     word, after = file.word(at), file.word(at + 1)
     if file.kind(at) == "word":
@@ -238,7 +225,7 @@ def operation(file, at):
     return f"{file.word(at - 1)} {word}{after} {file.word(at + 2)}" if is_shift else None
 
 
-def closes_brackets(file, at):
+def closes_brackets(file: File, at: int) -> bool:
     """Whether the two signs `>` at this index close the brackets of types. A shift has a value behind it, and no `Name<Name<` in front."""
     if file.word(at + 1) == ">=" or file.kind(at + 2) == "number":
         return False
@@ -252,7 +239,7 @@ def closes_brackets(file, at):
     return depth == 0 and bool(is_of_type)
 
 
-def is_small(site):
+def is_small(site: str) -> bool:
     """Whether both sides are numbers, and the result is no more than 65,535."""
     found = re.fullmatch(r"([0-9][0-9_]*) (\*|<<) ([0-9][0-9_]*)", site)
     if not found:

@@ -1,6 +1,13 @@
 """Refuses, in the code of a file that is left, words and macros that the table does not let through, and a `usize` of 64 bits."""
+from __future__ import annotations
+
 import bisect
 import re
+from collections.abc import Iterable
+from typing import TYPE_CHECKING
+
+if TYPE_CHECKING:
+    from items import File
 
 # Rules that keep what they rewrite as code.
 REWRITES = ("allocator",)
@@ -14,8 +21,8 @@ pub ref return static struct super trait try type typeof union unsafe unsized us
 class Spans:
     """Parts of a text, of which one tells quickly whether an offset is in any."""
 
-    def __init__(self, spans):
-        self.starts, self.ends = [], []
+    def __init__(self, spans: Iterable[tuple[int, int]]) -> None:
+        self.starts, self.ends = list[int](), list[int]()
         for start, end in sorted(spans):
             if self.ends and start <= self.ends[-1]:
                 self.ends[-1] = max(self.ends[-1], end)
@@ -23,12 +30,12 @@ class Spans:
                 self.starts.append(start)
                 self.ends.append(end)
 
-    def __contains__(self, offset):
+    def __contains__(self, offset: int) -> bool:
         at = bisect.bisect_right(self.starts, offset) - 1
         return at >= 0 and offset < self.ends[at]
 
 
-def check(file):
+def check(file: File) -> None:
     gone = Spans((edit.start, edit.end) for edit in file.edits if edit.rule not in REWRITES and edit.end > edit.start)
     for at, token in enumerate(file.code):
         word, before, after = token.text, file.word(at - 1), file.word(at + 1)
@@ -50,7 +57,7 @@ def check(file):
             file.refuse(f"the macro `{word}`", at)
 
 
-def check_number(file, at):
+def check_number(file: File, at: int) -> None:
     """A number above 65,535 is none of `usize`: it is a constant of another type, or it is listed."""
     if file.number(at) <= 0xFFFF or file.word(at) in file.table.LARGE.get(file.name, []):
         return
