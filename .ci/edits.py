@@ -43,8 +43,7 @@ ERROR = re.compile(r"^(?:\./)?(src|specs|proofs)/([^\s:]+):\d+:\d+: error: ?(.*(
 NAMES = re.compile(r"has no field|is not in scope|has no `|was not admitted")
 UNREAD = re.compile(r"is not in scope|has no field|is no name|operand is missing|expected the end|cannot continue")
 LIMIT = re.compile(
-    r"antt ran out of (stack|the (steps|memory) that the check of one declaration may)"
-    r"|(outgrew the memory|stopped at the step) limit \("
+    r"antt ran out of (stack|the (steps|memory) that the check of one declaration may)" r"|(outgrew the memory|stopped at the step) limit \("
 )
 
 
@@ -381,9 +380,7 @@ def together(left: Sequence[Edit], most: int) -> list[Edit]:
     return [*batch.values()] or [*left[:1]]
 
 
-def in_batches(
-    prover: Prover, left: list[Edit], is_narrow: bool, settle: Callable[[Edit, str], None], seconds: dict[Edit, float]
-) -> list[Edit]:
+def in_batches(prover: Prover, left: list[Edit], is_narrow: bool, settle: Callable[[Edit, str], None], seconds: dict[Edit, float]) -> list[Edit]:
     """Tries edits that are each in the body of a function, many in one check: of these functions and what they call, or of the whole crate.
     Settles those that are refused, and returns those that are to be tried alone."""
     say, crate, most = prover.say, prover.crate, BATCH

@@ -325,13 +325,9 @@ class Clock:
 
 def table(commands: Iterable[Command]) -> list[str]:
     """Returns the rows of commands with what each counted and took."""
-    head = [
-        f"\n| {'command':<42} | passed | failed | skipped | seconds | cpu s |",
-        f"|{'-' * 44}|{'-' * 8}|{'-' * 8}|{'-' * 9}|{'-' * 9}|{'-' * 7}|",
-    ]
+    head = [f"\n| {'command':<42} | passed | failed | skipped | seconds | cpu s |", f"|{'-' * 44}|{'-' * 8}|{'-' * 8}|{'-' * 9}|{'-' * 9}|{'-' * 7}|"]
     return head + [
-        f"| {one.words[:42]:<42} | {one.passed:>6} | {one.failed:>6} | {one.skipped:>7} | {one.wall:>7.0f} | {one.cpu:>5.0f} |"
-        f" {one.status}"
+        f"| {one.words[:42]:<42} | {one.passed:>6} | {one.failed:>6} | {one.skipped:>7} | {one.wall:>7.0f} | {one.cpu:>5.0f} |" f" {one.status}"
         for one in commands
     ]
 

@@ -40,8 +40,7 @@ SUMS = re.compile(rb"(sum|checked|needs|over|carries|incremental|free|free-alone
 # Files of a proof that is written by hand, in the folder of its function.
 ANSWERS = {"Answers.antt", "Invariants.antt", "Proof.antt"}
 PROVED_LINE = re.compile(
-    r"^(by-macro: .*|\w+ \S+: proved|logic \S+: libraries=.*|(statements|library|crate) \w+: modules .*|so far: .*" r"|logic=proved .*)\n",
-    re.M,
+    r"^(by-macro: .*|\w+ \S+: proved|logic \S+: libraries=.*|(statements|library|crate) \w+: modules .*|so far: .*" r"|logic=proved .*)\n", re.M
 )
 
 
@@ -248,13 +247,7 @@ def work_of(crate: Crate) -> Iterator[str]:
 
 
 def prove(
-    crate: Crate,
-    made: Made,
-    work: str | None = None,
-    rlib: str | None = None,
-    cwd: str | None = None,
-    jobs: int = 2,
-    only: Sequence[str] = (),
+    crate: Crate, made: Made, work: str | None = None, rlib: str | None = None, cwd: str | None = None, jobs: int = 2, only: Sequence[str] = ()
 ) -> tuple[int, str, float]:
     """Runs the prover on a crate, over the libraries that `made` names and what earlier checks kept in a folder, if one is given, and
     builds the library if a place for it is given. With `only` it proves no more than these functions and what they call. Returns the

@@ -102,8 +102,9 @@ def without(comment: str) -> str:
 def tests() -> dict[str, list[str]]:
     """Where each test, script and session is."""
     found: dict[str, list[str]] = {}
-    listed_files = subprocess.run(["git", "-C", str(TOP), "ls-files", "crates", "rust", "examples", "integration", "tools"],
-                                  capture_output=True, text=True, check=True)
+    listed_files = subprocess.run(
+        ["git", "-C", str(TOP), "ls-files", "crates", "rust", "examples", "integration", "tools"], capture_output=True, text=True, check=True
+    )
     for path in listed_files.stdout.split("\n"):
         name = path.rsplit("/", 1)[-1]
         if name.endswith((".script", ".session")):

@@ -26,7 +26,7 @@ import sys
 import tempfile
 import threading
 import time
-from typing import Any
+from collections.abc import Sequence
 
 sys.dont_write_bytecode = True
 import gate
@@ -65,8 +65,6 @@ FIRST = [
     Command(".ci/cases", always=True),
     Command("tools/eraser/erase check", without=[*PAGES, *PROOFS]),
 ]
-# What needs no proof gives way to the proofs, on which all else waits.
-BESIDE: dict[str, Any] = {"nice": 19, "without": [*PAGES, *PROOFS], "but": C_PAGES}
 # What cargo alone builds is made of the erased crates, and of no source in Rattle. The READMEs of those are read.
 OF_RUST = [*PAGES, "crates/*", "bench/*", "tools/*"]
 # The page is made of the erased crates, the examples and what is by hand.
@@ -74,47 +72,64 @@ OF_THE_PAGE = [*PAGES, *PROOFS, "crates/*", "bench/*", "tools/*", "c/*"]
 READMES = [*C_PAGES, "README.md", "*/README.md", "*/COMPAT.md"]
 # What users of these files have: how they are installed, the page, and what they cost beside the library of Rust.
 OF_USERS_OF_C = [*PAGES, "crates/*", "bench/*", "tools/eraser/*", "integration/*", "examples/*"]
-# What is built by `rt ci` and read by these depends on the sources of the crates, which the sums have.
-OVER: dict[str, Any] = {"after": [CI], "without": [*PAGES, "crates/*/wrong-bodies"], "but": C_PAGES}
+
+
+def beside(words: str, without: Sequence[str] = (*PAGES, *PROOFS), but: Sequence[str] = C_PAGES, needs: str = "") -> Command:
+    """A command that needs no proof: it gives way to the proofs, on which all else waits."""
+    return Command(words, without=without, but=but, nice=19, needs=needs)
+
+
+def over(
+    words: str,
+    after: Sequence[str] = (CI,),
+    without: Sequence[str] = (*PAGES, "crates/*/wrong-bodies"),
+    but: Sequence[str] = C_PAGES,
+    nice: int = 0,
+    needs: str = "",
+) -> Command:
+    """A command over what `rt ci` builds: that depends on the sources of the crates, which the sums have."""
+    return Command(words, after, without, but, nice=nice, needs=needs)
+
+
 COMMANDS = [
     *FIRST,
     Command(CI, always=True),
-    Command("tools/eraser/erase test", **BESIDE),
-    Command("tools/eraser/erase corpus", **BESIDE),
-    Command("integration/readme", **BESIDE | {"without": OF_RUST, "but": READMES}),
-    Command("integration/packages", **BESIDE | {"without": OF_RUST, "but": READMES}),
-    Command("rust/tests/interface", **BESIDE | {"without": OF_RUST, "but": READMES}),
-    Command("integration/rust apart", **BESIDE),
-    Command("integration/doc", **BESIDE | {"without": OF_RUST, "but": READMES}),
-    Command(".ci/refused-memory", **OVER | {"but": [".ci/refused-memory"]}),
-    Command("integration/port", **OVER | {"without": OF_RUST}, needs="an emulator of a PC"),
-    Command("integration/programs", **OVER),
-    Command("integration/web", **BESIDE | {"without": OF_THE_PAGE}, needs="what builds WebAssembly"),
-    Command("tools/eraser/mir/compare", **OVER),
-    Command("tools/c/emit --check driver", **OVER),
-    Command("tools/c/emit --check console", **OVER),
-    Command("tools/c/emit --check port", **OVER | {"after": [CODE_OF_C]}),
-    Command("tools/c/compare driver", **OVER | {"nice": 19}),
-    Command("tools/c/compare console", **OVER | {"nice": 19}),
-    Command("tools/c/compare port", **OVER | {"after": [C, CODE_OF_C], "nice": 19}),
+    beside("tools/eraser/erase test"),
+    beside("tools/eraser/erase corpus"),
+    beside("integration/readme", without=OF_RUST, but=READMES),
+    beside("integration/packages", without=OF_RUST, but=READMES),
+    beside("rust/tests/interface", without=OF_RUST, but=READMES),
+    beside("integration/rust apart"),
+    beside("integration/doc", without=OF_RUST, but=READMES),
+    over(".ci/refused-memory", but=[".ci/refused-memory"]),
+    over("integration/port", without=OF_RUST, needs="an emulator of a PC"),
+    over("integration/programs"),
+    beside("integration/web", without=OF_THE_PAGE, needs="what builds WebAssembly"),
+    over("tools/eraser/mir/compare"),
+    over("tools/c/emit --check driver"),
+    over("tools/c/emit --check console"),
+    over("tools/c/emit --check port", after=[CODE_OF_C]),
+    over("tools/c/compare driver", nice=19),
+    over("tools/c/compare console", nice=19),
+    over("tools/c/compare port", after=[C, CODE_OF_C], nice=19),
     # Nothing waits for these, and they take all cores.
     Command(".ci/wrong-bodies --after-ci --in-the-gate", after=[CI], always=True, nice=19),
-    Command("integration/c-kernels", **BESIDE | {"without": OF_RUST}, needs="compilers and emulators of its boards"),
-    Command("integration/census", **BESIDE | {"without": OF_RUST, "but": ["docs/CHIPS.md"]}),
-    Command("integration/boot-loaders u-boot", **BESIDE | {"without": OF_RUST}, needs="sources of U-Boot"),
-    Command("integration/c", **BESIDE | {"without": OF_USERS_OF_C, "but": ["docs/C.md", "integration/apt", "integration/c", "bench/callbacks.c"]}),
+    beside("integration/c-kernels", without=OF_RUST, needs="compilers and emulators of its boards"),
+    beside("integration/census", without=OF_RUST, but=["docs/CHIPS.md"]),
+    beside("integration/boot-loaders u-boot", without=OF_RUST, needs="sources of U-Boot"),
+    beside("integration/c", without=OF_USERS_OF_C, but=["docs/C.md", "integration/apt", "integration/c", "bench/callbacks.c"]),
     # It waits for the libraries below alone, and so runs beside what `rt ci` does last: that proves this crate too, and does not build it.
     Command(C, after=OF_C, always=True),
     # This one waits for all of `rt ci`, which removes what it finds of a library for C.
     Command(CODE_OF_C, after=[CI], always=True),
-    Command("integration/library", **OVER | {"after": [C], "nice": 19}),
-    Command("integration/rust compare", **OVER | {"after": [C], "nice": 19}),
+    over("integration/library", after=[C], nice=19),
+    over("integration/rust compare", after=[C], nice=19),
     # These wait for other machines as a person would. Each takes less than a core, so they run side by side, and nothing else beside them.
-    Command("integration/monitor", **OVER | {"without": OF_RUST}, needs="KVM, or an emulator that has it"),
-    Command("integration/linux", **OVER | {"without": OF_RUST}, needs="Debian's kernel and an emulator"),
+    over("integration/monitor", without=OF_RUST, needs="KVM, or an emulator that has it"),
+    over("integration/linux", without=OF_RUST, needs="Debian's kernel and an emulator"),
     # These wait for nothing, and take a core.
-    Command("integration/c-monitor", **BESIDE | {"without": OF_RUST}, needs="KVM, or an emulator that has it"),
-    Command("integration/guest", **OVER | {"without": OF_RUST}, needs="an emulator and Debian's kernel"),
+    beside("integration/c-monitor", without=OF_RUST, needs="KVM, or an emulator that has it"),
+    over("integration/guest", without=OF_RUST, needs="an emulator and Debian's kernel"),
 ]
 ALONE = 4
 for alone in COMMANDS[-ALONE:]:
@@ -147,8 +162,14 @@ def clear_libraries() -> None:
 
 def hand_over(what: str) -> None:
     """Has .ci/change know what passed here, so that it begins with that."""
-    ended = subprocess.run([gate.TOP / ".ci" / "change", "--keep", what], stdin=subprocess.DEVNULL, stdout=subprocess.PIPE,
-                           stderr=subprocess.STDOUT, text=True, check=False)
+    ended = subprocess.run(
+        [gate.TOP / ".ci" / "change", "--keep", what],
+        stdin=subprocess.DEVNULL,
+        stdout=subprocess.PIPE,
+        stderr=subprocess.STDOUT,
+        text=True,
+        check=False,
+    )
     if ended.returncode:
         say("note: .ci/change will not know of this run:", ended.stdout.rstrip("\n"))
 

@@ -16,6 +16,8 @@ import subprocess
 import sys
 import tempfile
 import tomllib
+from collections.abc import Iterator
+from typing import Any
 
 TOP = pathlib.Path(__file__).resolve().parent.parent
 LICENCES = ["LICENSE-APACHE", "LICENSE-MIT"]
@@ -43,28 +45,29 @@ class Refused(Exception):
 class Package:
     """A package of the workspace: its folder, and what its manifest says."""
 
-    def __init__(self, folder):
+    def __init__(self, folder: str) -> None:
         self.folder = folder
-        self.entries = tomllib.loads((TOP / folder / "Cargo.toml").read_text(encoding="utf-8"))
+        # What a manifest has: tables, lists and values.
+        self.entries: dict[str, Any] = tomllib.loads((TOP / folder / "Cargo.toml").read_text(encoding="utf-8"))
         self.about = self.entries["package"]
         self.name, self.version = self.about["name"], self.about.get("version")
         self.is_published = self.about.get("publish", True)
 
-    def uses(self):
+    def uses(self) -> Iterator[str]:
         """The folders of the packages that this one is compiled with."""
         for wanted in self.entries.get("dependencies", {}).values():
             if isinstance(wanted, dict) and "path" in wanted:
                 yield str((TOP / self.folder / wanted["path"]).resolve().relative_to(TOP))
 
 
-def packages():
+def packages() -> dict[str, Package]:
     """The published packages by folder, each behind those that it uses."""
     listed = subprocess.run(["git", "-C", TOP, "ls-files", "rust/*/Cargo.toml"], capture_output=True, text=True, check=True).stdout
     folders = [name.rpartition("/")[0] for name in listed.splitlines()]
     found = {folder: Package(folder) for folder in folders if "/tests/" not in folder}
-    ordered = {}
+    ordered: dict[str, Package] = {}
 
-    def add(folder):
+    def add(folder: str) -> None:
         if folder not in ordered:
             for below in found[folder].uses():
                 add(below)
@@ -76,12 +79,12 @@ def packages():
     return ordered
 
 
-def name_of(folder):
+def name_of(folder: str) -> str:
     """The name of the package in a folder, by the one rule that there is."""
     return folder.replace("rust/", "geesetrunk-", 1).replace("/", "-")
 
 
-def causes(found, is_release):
+def causes(found: dict[str, Package], is_release: bool) -> Iterator[str]:
     """Why these packages cannot be published."""
     changed = subprocess.run(["git", "-C", TOP, "status", "--porcelain"], capture_output=True, text=True, check=True).stdout
     if is_release and changed:
@@ -104,7 +107,7 @@ def causes(found, is_release):
             yield f"{folder}/CHANGELOG.md: the newest section is '{newest[1]}', and not {package.version} with a date"
 
 
-def replaced(name, pattern, new, text):
+def replaced(name: str, pattern: re.Pattern[str], new: str, text: str) -> str:
     """The text with what a pattern finds replaced, which must be there once."""
     text, count = pattern.subn(new, text)
     if count != 1:
@@ -112,12 +115,12 @@ def replaced(name, pattern, new, text):
     return text
 
 
-def with_version(package, text):
+def with_version(package: Package, text: str) -> str:
     """A page of a package that names the version in place of a checkout."""
     return BESIDE.sub("In the `Cargo.toml` of your program:", CHECKOUT.sub(f'version = "{package.version}"', text))
 
 
-def page_of_registry(package, text):
+def page_of_registry(package: Package, text: str) -> str:
     """A README as the page of a registry shows it, which has no rustdoc: code says that it is Rust, without the lines that are hidden, and
     what is in brackets leads to what docs.rs finds by that name."""
     lines, language = [], None
@@ -132,7 +135,7 @@ def page_of_registry(package, text):
     return "\n".join([*lines, *([""] if links else []), *links]) + "\n"
 
 
-def make(found, target):
+def make(found: dict[str, Package], target: pathlib.Path) -> None:
     """Makes what is in the folder."""
     listed = subprocess.run(["git", "-C", TOP, "ls-files", "-z", "Cargo.toml", "rust"], capture_output=True, text=True, check=True).stdout
     for name in filter(None, listed.split("\0")):
@@ -151,11 +154,11 @@ def make(found, target):
             text = (target / folder / README).read_text(encoding="utf-8")
             (target / folder / PAGE).write_text(page_of_registry(package, text), encoding="utf-8")
             manifest = target / folder / "Cargo.toml"
-            text = replaced(manifest, re.compile(f'(?m)^readme = "{README}"$'), f'readme = "{PAGE}"', manifest.read_text(encoding="utf-8"))
+            text = replaced(str(manifest), re.compile(f'(?m)^readme = "{README}"$'), f'readme = "{PAGE}"', manifest.read_text(encoding="utf-8"))
             manifest.write_text(text, encoding="utf-8")
 
 
-def main():
+def main() -> None:
     words = argparse.ArgumentParser(prog="rust/for_release.py", description="Makes the folder from which the packages are published.")
     words.add_argument("folder", type=pathlib.Path, help="the folder, which must not be there")
     words.add_argument("--unreleased", action="store_true", help="for a try: the address and the version may be missing")
