@@ -45,7 +45,7 @@ class Port:
             more = received.decode("ascii", "replace").replace("\r", "")
             self.unread += more
             print(more, end="")
-        text, self.unread = self.unread[:found.end()], self.unread[found.end():]
+        text, self.unread = self.unread[: found.end()], self.unread[found.end() :]
         return text
 
     def log_in(self) -> None:
@@ -73,8 +73,10 @@ def type_at(first: Port, second: Port, line: str) -> None:
     """Types all of it. Raises an AssertionError or an OSError that says what went wrong."""
     first.log_in()
     text, status = first.run(line.replace("2f8", "3f8"))
-    check(status == 5 and re.search(r"port 3f8 is in use: ttyS0 is open in process \d+; nothing was accessed", text) is not None,
-          "the port of the login is not refused")
+    check(
+        status == 5 and re.search(r"port 3f8 is in use: ttyS0 is open in process \d+; nothing was accessed", text) is not None,
+        "the port of the login is not refused",
+    )
     text, _ = first.run("echo the login goes o$((1))n")
     check("the login goes o1n" in text, "the login does not go on behind the refusal")
     # A process has opened and closed the second port, so the kernel's driver has set it up.
