@@ -6,8 +6,8 @@ Starts a machine whose serial port is at standard input and output. Waits for th
 last one. Then the machine has to end. Prints how long it took.
 
 The environment says more: STATUS is the status with which the machine has to end, FIRST what is typed behind the banner and
-does not come back, COUNT another number of bytes, or one for each line, BURSTS=1 that they are typed in bursts with pauses, and LAST what is typed in place
-of bytes before the last line, and does not come back either. A machine that sends nothing for a while is stopped.
+does not come back, COUNT another number of bytes, or one for each line, BURSTS=1 that they are typed in bursts with pauses, and LAST
+what is typed in place of bytes before the last line, and does not come back either. A machine that sends nothing for a while is stopped.
 """
 import os
 import random

@@ -153,7 +153,11 @@ def guarded(text):
         return f"{found[0]}    if ({test})\n        return{refused};\n"
 
     # An inline function of the header is one of a port alone.
-    return re.sub(r"(?m)^((?:static inline (?=[^\n]*\(const struct uart_port \*port\)))?(?!static)\w[\w ]*?(?:[ *]\*?|\n))(uart_\w+)\(([^(){};]*)\)\n\{\n", guard, text)
+    return re.sub(
+        r"(?m)^((?:static inline (?=[^\n]*\(const struct uart_port \*port\)))?(?!static)\w[\w ]*?(?:[ *]\*?|\n))(uart_\w+)\(([^(){};]*)\)\n\{\n",
+        guard,
+        text,
+    )
 
 
 def inlined(text):
@@ -204,7 +208,9 @@ def proved_of(library, name):
 
 def is_plain(definition):
     """Whether a definition says only how C has a value."""
-    return definition is not None and (definition[:2] in ((EXPORTS, "State"), (EXPORTS, "Queue"), (EXPORTS, "Port")) or definition[1:] == ("Bits", "flag"))
+    return definition is not None and (
+        definition[:2] in ((EXPORTS, "State"), (EXPORTS, "Queue"), (EXPORTS, "Port")) or definition[1:] == ("Bits", "flag")
+    )
 
 
 class Header:

@@ -449,7 +449,8 @@ def is_another_chip(session):
 
 def sleeps(session):
     """The machine suspends as far as its devices, and resumes."""
-    session.run("sleep 20 < /dev/ttyS1 & echo $! > /tmp/keeper; echo devices > /sys/power/pm_test; echo mem > /sys/power/state; kill $(cat /tmp/keeper)", 90)
+    session.run("sleep 20 < /dev/ttyS1 & echo $! > /tmp/keeper; echo devices > /sys/power/pm_test; echo mem > /sys/power/state; "
+                "kill $(cat /tmp/keeper)", 90)
     session.run("echo slept > /dev/ttyS1; echo slept > /dev/ttyS0")
     for port in session.ports:
         port.drain(0.5)
@@ -458,8 +459,8 @@ def sleeps(session):
 PARTS = (("login", logs_in), ("much", prints_much), ("kernel", prints_with_kernel), ("stty", changes_the_console),
          ("getty", suspends_getty), ("lines", changes_lines), ("break-out", sends_breaks), ("break-in", receives_breaks),
          ("speeds", sets_speeds), ("cycles", opens_and_closes), ("cts", waits_for_cts), ("rts", lowers_rts), ("xoff", obeys_xoff),
-         ("both-ways", transfers), ("slow", sends_to_a_slow_end), ("early", comes_too_early), ("loop", loops_back), ("hangup", hangs_up), ("chips", is_another_chip), ("suspend", sleeps), ("no-flow", has_no_flow_control),
-         ("crash", crashes))
+         ("both-ways", transfers), ("slow", sends_to_a_slow_end), ("early", comes_too_early), ("loop", loops_back), ("hangup", hangs_up),
+         ("chips", is_another_chip), ("suspend", sleeps), ("no-flow", has_no_flow_control), ("crash", crashes))
 
 
 # ---- what is written

@@ -35,8 +35,10 @@ function transmitPath(state, about) {
     done.style.width = `${100 - (100 * left) / about.ticks}%`;
     shifting = make("div", { class: "shifting" }, done, make("span", {}, `${character(byte)} · ${counted(left, "tick")} → wire`));
   }
-  const said = `transmit: ${counted(held.length, "character")}${held.length ? `: ${held.map((byte) => character(parseInt(byte, 16))).join(" ")}` : ""}`;
-  return make("div", { class: "path" }, make("span", {}, "transmit"), make("div", { class: "cells", role: "img", "aria-label": said }, ...row), shifting);
+  const shown = held.map((byte) => character(parseInt(byte, 16))).join(" ");
+  const said = `transmit: ${counted(held.length, "character")}${held.length ? `: ${shown}` : ""}`;
+  return make("div", { class: "path" }, make("span", {}, "transmit"), make("div", { class: "cells", role: "img", "aria-label": said }, ...row),
+      shifting);
 }
 
 function receivePath(state) {
@@ -50,7 +52,8 @@ function receivePath(state) {
   const room = state.fifo ? `trigger at ${state.trigger}` : "no FIFO: room for 1";
   const waiting = state.waiting.map(([byte, errors]) => character(byte) + (errors ? ` with ${namesOf("LSR", errors).join(", ")}` : ""));
   const said = `receive: ${counted(waiting.length, "character")}${waiting.length ? `: ${waiting.join(" ")}` : ""}`;
-  return make("div", { class: "path" }, make("span", {}, "receive"), make("div", { class: "cells", role: "img", "aria-label": said }, ...row), make("span", {}, room));
+  return make("div", { class: "path" }, make("span", {}, "receive"), make("div", { class: "cells", role: "img", "aria-label": said }, ...row),
+      make("span", {}, room));
 }
 
 // How many of the bytes that were sent are shown: the last ones.

@@ -21,7 +21,9 @@ class LiveTab {
     element("handle").onclick = () => this.act("live_handle", [], "the handler is called");
     element("anew").onclick = () => this.anew();
     for (const button of document.querySelectorAll("[data-ticks]")) button.onclick = () => this.act("live_ticks", [Number(button.dataset.ticks)]);
-    for (const input of document.querySelectorAll(".input")) input.onchange = () => this.act("live_lines", [checkedBits(".input")], "the modem inputs change");
+    for (const input of document.querySelectorAll(".input")) {
+      input.onchange = () => this.act("live_lines", [checkedBits(".input")], "the modem inputs change");
+    }
     element("terminal").onclick = () => element("keyboard").focus();
     element("keyboard").onkeydown = (event) => this.typed(event);
     element("keyboard").oninput = () => this.written();
@@ -45,7 +47,9 @@ class LiveTab {
       this.note(`${letter === "r" ? "read" : "write"} ${this.nameOf(letter, offset)} ${letter === "r" ? "→" : "←"} ${hex(value)}`);
       if (letter === "w" && offset === 3) this.isDlabSet = value > 127;
     }
-    for (const byte of told.sent) element("terminal").append(byte === 13 || byte === 10 ? "\n" : character(byte === 32 ? 0x20 : byte).replace("␣", " "));
+    for (const byte of told.sent) {
+      element("terminal").append(byte === 13 || byte === 10 ? "\n" : character(byte === 32 ? 0x20 : byte).replace("␣", " "));
+    }
     if (told.sent.length) element("terminal").scrollTop = element("terminal").scrollHeight;
     this.sent.push(...told.sent);
     this.state = told.state;

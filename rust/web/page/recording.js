@@ -171,7 +171,8 @@ class RecordingTab {
     return make(
       "div",
       { class: `finding ${first.kind}` },
-      make("small", {}, this.link(first.line, `line ${first.line}`), ` · ${first.judge} · ${first.kind} · ${first.name}${times > 1 ? ` · ${times} times` : ""}`),
+      make("small", {}, this.link(first.line, `line ${first.line}`),
+          ` · ${first.judge} · ${first.kind} · ${first.name}${times > 1 ? ` · ${times} times` : ""}`),
       make("p", {}, first.said),
       others.length ? make("small", {}, "also at ", ...others.map((line) => this.link(line, `${line}`))) : "",
       make("details", {}, make("summary", {}, "explain"), make("dl", {}, ...rows)),

@@ -82,7 +82,8 @@ class ScriptTab {
       const [name, ...rest] = line.split(" ");
       const marks = rest.join(" ");
       const isMarks = name === "marks" && marks !== "-";
-      const shownMarks = isMarks ? [...marks].map((mark) => make("span", { class: classes("mark", kindOfMark(mark)), title: MARKS[mark] }, mark)) : [marks];
+      const shownMarks = isMarks ? [...marks].map((mark) => make("span", { class: classes("mark", kindOfMark(mark)), title: MARKS[mark] }, mark))
+          : [marks];
       return make("div", {}, make("b", {}, name), ...shownMarks);
     });
     element("ends").replaceChildren(...rows);
@@ -204,8 +205,10 @@ function saysOf(run, step, before) {
     said.push(make("div", {}, make("b", {}, head), `${rest}.`));
   }
   if (step.times > 1) {
-    const group = { first: "This and what follows it in turn happen", middle: "It happens in turn with others", last: "It happens in turn with others" };
-    said.push(make("div", {}, `${group[step.place] || "It happens"} ${step.times} times, from tick ${step.from} to tick ${step.to}. The chip is shown as it is then.`));
+    const group = { first: "This and what follows it in turn happen", middle: "It happens in turn with others",
+        last: "It happens in turn with others" };
+    said.push(make("div", {},
+        `${group[step.place] || "It happens"} ${step.times} times, from tick ${step.from} to tick ${step.to}. The chip is shown as it is then.`));
   }
   const remembered = rememberedText(call, step);
   if (remembered) said.push(make("div", {}, remembered));
@@ -218,7 +221,8 @@ function arrivalText([byte, letters, mark]) {
   const errors = [...letters].map((letter) => ({ p: "a parity error", f: "a framing error", b: "a break" })[letter]);
   const withErrors = errors.length ? ` with ${errors.join(" and ")}` : "";
   const head = make("b", {}, literally(byte));
-  if (mark === "x") return make("div", {}, head, ` arrives${withErrors}, and `, make("span", { class: "bad" }, "it or the one before it is dropped"), ".");
+  if (mark === "x") return make("div", {}, head, ` arrives${withErrors}, and `, make("span", { class: "bad" }, "it or the one before it is dropped"),
+      ".");
   return make("div", {}, head, ` arrives${withErrors}. In the end it is: ${MARKS[mark] || "unknown"}.`);
 }
 

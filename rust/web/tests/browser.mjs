@@ -100,8 +100,10 @@ async function links(browser) {
   holds("two chips at a cable", await browser.until("/right \\d+: .* = ok 48656c6c6f/.test(document.querySelector('#linked').textContent)"));
   holds("their picture", await browser.until("document.querySelector('#linked-picture svg') !== null"));
   await browser.picture("link");
-  await browser.value("document.querySelector('#left').value = 'chip 16550a 4 64\\nsing\\n', document.querySelector('#left').dispatchEvent(new Event('input'))");
-  holds("a fault of the left script", await browser.until("document.querySelector('#linked').textContent.startsWith('left, line 2, column 1: unknown word')"));
+  await browser.value(
+      "document.querySelector('#left').value = 'chip 16550a 4 64\\nsing\\n', document.querySelector('#left').dispatchEvent(new Event('input'))");
+  holds("a fault of the left script",
+      await browser.until("document.querySelector('#linked').textContent.startsWith('left, line 2, column 1: unknown word')"));
 }
 
 async function recordings(browser) {
@@ -111,15 +113,20 @@ async function recordings(browser) {
   await browser.value("document.querySelector('.finding details').open = true, document.querySelector('.finding .go').click()");
   holds("its line is shown", await browser.until("document.querySelector('#log .current')?.dataset.line === '25'"));
   await browser.picture("recording");
-  await browser.drop("qemu.log", "serial_write write addr 0x03 val 0x83\nserial_write write addr 0x00 val 0x00\nserial_write write addr 0x01 val 0x00\nserial_write write addr 0x03 val 0x03\n");
+  await browser.drop("qemu.log", "serial_write write addr 0x03 val 0x83\nserial_write write addr 0x00 val 0x00\n"
+      + "serial_write write addr 0x01 val 0x00\nserial_write write addr 0x03 val 0x03\n");
   holds("a log that is dropped is judged", await browser.until("/divisor-zero/.test(document.querySelector('#found').textContent)"));
   holds("and its line marked", await browser.until("document.querySelectorAll('#log .warning').length === 1"));
-  await browser.drop("kvm.log", "  qemu-1 [000] 1.000001: kvm_pio: pio_write at 0x3fb size 1 count 1 val 0x83\n  qemu-1 [000] 1.000002: kvm_pio: pio_read at 0x3fd size 1 count 1 val 0x60\n");
+  await browser.drop("kvm.log", "  qemu-1 [000] 1.000001: kvm_pio: pio_write at 0x3fb size 1 count 1 val 0x83\n"
+      + "  qemu-1 [000] 1.000002: kvm_pio: pio_read at 0x3fd size 1 count 1 val 0x60\n");
   holds("a log of another tool is read", await browser.until("document.querySelector('#summary').textContent.includes('kvm.log, read as kvm')"));
-  const options = (text) => browser.value(`element("options").value = ${JSON.stringify(text)}, element("options").dispatchEvent(new Event("change"))`);
-  await browser.drop("memory.log", "memory_region_ops_write cpu 0 mr 0x1 addr 0x10000003 value 0x83 size 1 name 'serial'\nmemory_region_ops_read cpu 0 mr 0x1 addr 0x10000005 value 0x60 size 1 name 'serial'\n");
+  const options = (text) =>
+      browser.value(`element("options").value = ${JSON.stringify(text)}, element("options").dispatchEvent(new Event("change"))`);
+  await browser.drop("memory.log", "memory_region_ops_write cpu 0 mr 0x1 addr 0x10000003 value 0x83 size 1 name 'serial'\n"
+      + "memory_region_ops_read cpu 0 mr 0x1 addr 0x10000005 value 0x60 size 1 name 'serial'\n");
   await options("--base");
-  holds("an option that is refused", await browser.until("document.querySelector('#summary').textContent.includes('memory.log: a value is required')"));
+  holds("an option that is refused",
+      await browser.until("document.querySelector('#summary').textContent.includes('memory.log: a value is required')"));
   await options("--base 0x10000000");
   holds("options say where the chip is", await browser.until("document.querySelectorAll('#log div')[1]?.textContent.includes('r LSR 60')"));
   await options("");
@@ -127,7 +134,8 @@ async function recordings(browser) {
   holds("what is no text is named", await browser.until("document.querySelector('#summary').textContent.includes('compressed by bzip2')"));
   await browser.drop("bad.recording", "# <img src=x onerror=window.bad=1>\nr 5 60\nw 3 <b>\n");
   holds("a line that is none is named", await browser.until("document.querySelector('#summary').textContent.includes('log:3:5')"));
-  holds("what is dropped is no markup", await browser.value("[typeof window.bad, document.querySelectorAll('#log img, #summary b, #log b').length]"), ["undefined", 0]);
+  holds("what is dropped is no markup", await browser.value("[typeof window.bad, document.querySelectorAll('#log img, #summary b, #log b').length]"),
+      ["undefined", 0]);
 }
 
 // Each line of a long log can be gone to, and a name in the address that nothing has is no fault.
@@ -144,10 +152,13 @@ async function longRecordings(browser) {
   await browser.value("document.querySelector('#log button').click()");
   holds("and those before them can be gone to", await browser.until("Number(document.querySelector('#log [data-line]').dataset.line) < 19005"));
   for (const name of ["__proto__", "constructor", "nothing"]) {
-    holds(`#link=${name} shows an example`, await browser.open(`#link=${name}`) && (await browser.value("document.querySelector('#fault').textContent + document.querySelector('#links').value")), "hello");
+    holds(`#link=${name} shows an example`, await browser.open(`#link=${name}`)
+        && (await browser.value("document.querySelector('#fault').textContent + document.querySelector('#links').value")), "hello");
     await browser.open(`#recording=${name}`);
-    holds(`#recording=${name} shows an example`, await browser.until("document.querySelector('#summary').textContent.startsWith('wrong-driver, read as')"));
-    holds(`#example=${name} shows an example`, await browser.open(`#example=${name}`) && (await browser.value("document.querySelector('#examples').value")), "overrun");
+    holds(`#recording=${name} shows an example`, await browser.until(
+        "document.querySelector('#summary').textContent.startsWith('wrong-driver, read as')"));
+    holds(`#example=${name} shows an example`, await browser.open(`#example=${name}`)
+        && (await browser.value("document.querySelector('#examples').value")), "overrun");
   }
 }
 
@@ -158,13 +169,16 @@ async function addresses(browser) {
   await browser.value(`element("source").value = ${JSON.stringify(script)}, element("source").dispatchEvent(new Event("input"))`);
   holds("what is typed is in the address", await browser.until("location.hash.startsWith('#script=')"));
   await browser.reload();
-  holds("and there after a reload", await browser.until(`document.body?.dataset.ready === "true" && element("source").value === ${JSON.stringify(script)}`));
+  holds("and there after a reload",
+      await browser.until(`document.body?.dataset.ready === "true" && element("source").value === ${JSON.stringify(script)}`));
   await browser.value("element('tab-link').click()");
   holds("a tab is in the address", await browser.value("location.hash"), "#link=hello");
   await browser.value("element('left').value += '\\nlsr\\n', element('left').dispatchEvent(new Event('input'))");
   holds("and what is typed in it", await browser.until("location.hash.startsWith('#left=')"));
   await browser.reload();
-  holds("both ends are there after a reload", await browser.until("document.body?.dataset.ready === 'true' && /lsr/.test(element('left').value) && element('link').classList.contains('shown')"));
+  holds("both ends are there after a reload",
+      await browser.until(
+          "document.body?.dataset.ready === 'true' && /lsr/.test(element('left').value) && element('link').classList.contains('shown')"));
   await browser.value("element('tab-recording').click()");
   await browser.value("history.back()");
   holds("back is the tab before", await browser.until("element('link').classList.contains('shown')"));
@@ -175,14 +189,20 @@ async function keyboard(browser) {
   await browser.open("#example=overrun");
   await browser.value("element('tab-script').focus()");
   await browser.key("ArrowRight");
-  holds("the right arrow goes to the next tab", await browser.value("[document.activeElement.id, element('link').classList.contains('shown')]"), ["tab-link", true]);
+  holds("the right arrow goes to the next tab", await browser.value("[document.activeElement.id, element('link').classList.contains('shown')]"),
+      ["tab-link", true]);
   await browser.key("End");
-  holds("End goes to the last one", await browser.value("[document.activeElement.id, document.querySelectorAll('[role=tab][tabindex=\"0\"]').length]"), ["tab-live", 1]);
+  holds("End goes to the last one",
+      await browser.value("[document.activeElement.id, document.querySelectorAll('[role=tab][tabindex=\"0\"]').length]"), ["tab-live", 1]);
   await browser.key("ArrowRight");
   holds("and behind it is the first", await browser.value("document.activeElement.id"), "tab-script");
-  holds("each tab names its panel", await browser.value("[...document.querySelectorAll('[role=tab]')].every((tab) => element(tab.getAttribute('aria-controls')).getAttribute('role') === 'tabpanel')"));
+  holds("each tab names its panel",
+      await browser.value(
+          "[...document.querySelectorAll('[role=tab]')]"
+          + ".every((tab) => element(tab.getAttribute('aria-controls')).getAttribute('role') === 'tabpanel')"));
   holds("the page has one main part", await browser.value("document.querySelectorAll('main').length"), 1);
-  holds("a queue is told in words", await browser.value("/^receive: \\d+ character/.test(document.querySelectorAll('#view .cells')[1].getAttribute('aria-label'))"));
+  holds("a queue is told in words",
+      await browser.value("/^receive: \\d+ character/.test(document.querySelectorAll('#view .cells')[1].getAttribute('aria-label'))"));
   await browser.value("element('source').focus()");
   if (!(await hasFocus(browser, "that the editor shows its focus"))) return;
   holds("the editor shows that it has the focus", await browser.value("getComputedStyle(document.querySelector('.editor')).outlineStyle"), "solid");
@@ -194,12 +214,15 @@ async function phone(browser) {
   for (const fragment of ["#example=overrun-fifo&step=38", "#link=hello", "#recording=wrong-driver", "#live"]) {
     await browser.open(fragment);
     holds(`${fragment} is as wide as a phone`, await browser.value("document.documentElement.scrollWidth <= innerWidth && innerWidth <= 390"));
-    const outside = "[...document.querySelectorAll('.tab.shown .panel, .tab.shown input, .tab.shown button, .tab.shown select')].filter((one) => one.id !== 'keyboard' && one.getBoundingClientRect().right > innerWidth).length";
+    const outside = "[...document.querySelectorAll('.tab.shown .panel, .tab.shown input, .tab.shown button, .tab.shown select')]"
+      + ".filter((one) => one.id !== 'keyboard' && one.getBoundingClientRect().right > innerWidth).length";
     holds("nothing sticks out", await browser.value(outside), 0);
     await browser.picture(`phone-${fragment.slice(1, 5)}`);
   }
-  holds("a cell of a queue is wide enough for its byte", await browser.value("document.querySelector('#live-view .cell').getBoundingClientRect().width > 24"));
-  const clipped = "[...document.querySelectorAll('#live-view .bit')].filter((one) => one.scrollWidth > one.clientWidth).map((one) => one.textContent)";
+  holds("a cell of a queue is wide enough for its byte", await browser.value(
+      "document.querySelector('#live-view .cell').getBoundingClientRect().width > 24"));
+  const clipped = "[...document.querySelectorAll('#live-view .bit')].filter((one) => one.scrollWidth > one.clientWidth)"
+    + ".map((one) => one.textContent)";
   holds("no name of a bit is cut off", await browser.value(clipped), []);
   // What a keyboard of glass does: it writes into the field, and tells of no key.
   await browser.value("element('terminal').click()");
@@ -222,13 +245,16 @@ async function live(browser) {
 // What the program prints has no module, and shows the same.
 async function printed(browser) {
   holds("a run that the program printed", await browser.open("", printedRun));
-  holds("its answers", await browser.value("[...document.querySelectorAll('#answers div')].map((one) => one.textContent).filter(Boolean).pop()"), "ok 62");
+  holds("its answers", await browser.value("[...document.querySelectorAll('#answers div')].map((one) => one.textContent).filter(Boolean).pop()"),
+      "ok 62");
   await browser.key("End");
   holds("its steps", await browser.value("/returns 62.*remembers OE/.test(document.querySelector('#says').textContent)"));
   await browser.picture("printed-run");
   holds("a log that the program judged", await browser.open("", printedLog));
   holds("what was found in it", await browser.value("document.querySelector('#summary').textContent.includes('4 warnings of the driver')"));
-  holds("it says who printed it", await browser.value("getComputedStyle(document.querySelector('.printed')).display !== 'none' && getComputedStyle(document.querySelector('.runs')).display === 'none'"));
+  holds("it says who printed it", await browser.value(
+      "getComputedStyle(document.querySelector('.printed')).display !== 'none'"
+      + " && getComputedStyle(document.querySelector('.runs')).display === 'none'"));
   await browser.picture("printed-log");
 }
 
@@ -268,9 +294,12 @@ async function longestRecording(browser) {
   holds(`a log of ${MEGABYTES} MB is judged`, await browser.until("window.isJudged()", 900));
   holds("and the page has answered meanwhile", await browser.value("clearInterval(window.beat), window.beats > 20"));
   holds("its last finding is there", await browser.until("/divisor-zero/.test(element('found').textContent)"));
-  await browser.value("[...document.querySelectorAll('.finding.warning')].find((one) => /divisor-zero/.test(one.textContent)).querySelector('.go').click()");
+  await browser.value(
+      "[...document.querySelectorAll('.finding.warning')].find((one) => /divisor-zero/.test(one.textContent)).querySelector('.go').click()");
   holds("and its line is drawn", await browser.until("document.querySelector('#log .current')?.textContent.includes('w 3 03')", 300));
-  holds("it is near the last one", await browser.value("Number(document.querySelector('#log .current').dataset.line) > 1e6 || document.querySelector('#log .current').nextSibling !== null"));
+  holds("it is near the last one",
+      await browser.value(
+          "Number(document.querySelector('#log .current').dataset.line) > 1e6 || document.querySelector('#log .current').nextSibling !== null"));
   holds("the page keeps a thousand lines of it", await browser.value("document.querySelectorAll('#log [data-line]').length"), 1000);
 }
 
@@ -279,7 +308,8 @@ async function longestRecording(browser) {
 const FOUND = `(() => {
   const isShown = (one) => one.getClientRects().length > 0 && getComputedStyle(one).visibility !== "hidden";
   const named = (one) =>
-    one.getAttribute("aria-label") || [...(one.labels || [])].map((label) => label.textContent.trim()).join("") || one.getAttribute("title") || one.textContent.trim();
+    one.getAttribute("aria-label") || [...(one.labels || [])].map((label) => label.textContent.trim()).join("") || one.getAttribute("title")
+        || one.textContent.trim();
   const told = (one) => one.tagName.toLowerCase() + (one.id ? "#" + one.id : "." + one.className) + " " + one.textContent.slice(0, 20);
   const controls = [...document.querySelectorAll("button, input, select, textarea, summary, [tabindex]")].filter(isShown);
   const ids = [...document.querySelectorAll("[id]")].map((one) => one.id);
@@ -290,7 +320,8 @@ const FOUND = `(() => {
     return document.activeElement !== one || around.some((style) => style.outlineStyle !== "none" || style.boxShadow !== "none");
   };
   const scrolls = [...document.querySelectorAll("*")].filter(
-    (one) => isShown(one) && /auto|scroll/.test(getComputedStyle(one).overflowY) && one.scrollHeight > one.clientHeight + 1 && one !== document.documentElement,
+    (one) => isShown(one) && /auto|scroll/.test(getComputedStyle(one).overflowY) && one.scrollHeight > one.clientHeight + 1
+        && one !== document.documentElement,
   );
   return [
     ...bad("no name", controls.filter((one) => !named(one))),
@@ -341,7 +372,8 @@ browser.process.on("exit", () => {
   process.exit(counts.failed ? 1 : 0);
 });
 await browser.attach();
-const parts = [scripts, longRuns, links, recordings, longRecordings, longestRecording, addresses, keyboard, keysAlone, accessible, live, look, phone, printed, network];
+const parts = [scripts, longRuns, links, recordings, longRecordings, longestRecording, addresses, keyboard, keysAlone, accessible, live, look, phone,
+    printed, network];
 for (const part of parts) await part(browser);
 counts.isDone = true;
 browser.close();

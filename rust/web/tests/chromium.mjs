@@ -5,7 +5,8 @@ import { Driver } from "./driver.mjs";
 export class Chromium extends Driver {
   constructor(program, profile) {
     super();
-    const words = ["--headless", "--no-sandbox", "--disable-gpu", "--hide-scrollbars", "--window-size=1600,1080", "--remote-debugging-pipe", `--user-data-dir=${profile}`];
+    const words = ["--headless", "--no-sandbox", "--disable-gpu", "--hide-scrollbars", "--window-size=1600,1080", "--remote-debugging-pipe",
+        `--user-data-dir=${profile}`];
     this.process = spawn(program, words, { stdio: ["ignore", "ignore", "ignore", "pipe", "pipe"] });
     this.number = 0;
     this.waiting = new Map();
@@ -21,7 +22,8 @@ export class Chromium extends Driver {
   told(message) {
     const { id, method, params } = message;
     if (method === "Runtime.exceptionThrown") this.errors.push(params.exceptionDetails.exception?.description);
-    if (method === "Network.requestWillBeSent" && !/^(file|data|blob|about):/.test(params.request.url)) this.errors.push(`asked for ${params.request.url}`);
+    if (method === "Network.requestWillBeSent" && !/^(file|data|blob|about):/.test(params.request.url)) this.errors.push(
+        `asked for ${params.request.url}`);
     this.waiting.get(id)?.(message);
     this.waiting.delete(id);
   }
@@ -60,7 +62,8 @@ export class Chromium extends Driver {
 
   // Goes on to what gets the focus next.
   async tab() {
-    for (const type of ["rawKeyDown", "keyUp"]) await this.send("Input.dispatchKeyEvent", { type, key: "Tab", code: "Tab", windowsVirtualKeyCode: 9 });
+    for (const type of ["rawKeyDown", "keyUp"]) await this.send("Input.dispatchKeyEvent",
+        { type, key: "Tab", code: "Tab", windowsVirtualKeyCode: 9 });
   }
 
   // What a keyboard of glass does: it writes into the field, and tells of no key.

@@ -53,7 +53,8 @@ function same(what, input, found, wanted) {
     return;
   }
   counts.failed++;
-  if (counts.failed <= 5) console.log(`${what}: failed, for\n${input}\nthe page has\n${found.slice(0, 1000)}\nand the program\n${wanted.slice(0, 1000)}`);
+  if (counts.failed <= 5) console.log(
+      `${what}: failed, for\n${input}\nthe page has\n${found.slice(0, 1000)}\nand the program\n${wanted.slice(0, 1000)}`);
 }
 
 function run(words, input) {
@@ -83,7 +84,8 @@ function faulty(text, random) {
 
 const maybeFaulty = (text, random) => (random.below(3) ? text : faulty(text, random));
 
-const HEADS = ["chip 16550a 4 64", "chip 16450 4 64", "chip 16550a 1 3", "chip 16550a 9 70 cut", "chip 16450 16 0", "chip 16550a 100 65536", "chip 16750 4 64"];
+const HEADS = ["chip 16550a 4 64", "chip 16450 4 64", "chip 16550a 1 3", "chip 16550a 9 70 cut", "chip 16450 16 0", "chip 16550a 100 65536",
+    "chip 16750 4 64"];
 
 // What the page says of a script that is played, and whose chip it does not show.
 const NOT_SHOWN = "a page shows no chip with FIFOs of more than 16 characters";
@@ -131,7 +133,8 @@ function compareScript(script) {
 
 function compareLink([left, right], delay) {
   const { status, told } = module.ask("link", Buffer.concat([left, right]), left.length, delay, 0);
-  const wanted = spawnSync("bash", ["-c", '"$0" link --delay "$1" <(printf %s "$2") <(printf %s "$3")', program, String(delay), left.toString("latin1"), right.toString("latin1")]);
+  const wanted = spawnSync("bash", ["-c", '"$0" link --delay "$1" <(printf %s "$2") <(printf %s "$3")', program, String(delay),
+      left.toString("latin1"), right.toString("latin1")]);
   const shown = status ? String(status) : `0\n${told.toString("latin1")}`;
   same("link", `${left}--\n${right}`, shown, wanted.status ? String(wanted.status) : `0\n${wanted.stdout.toString("latin1")}`);
 }

@@ -7,7 +7,8 @@ import { join } from "node:path";
 import { Driver } from "./driver.mjs";
 
 // The names of keys that are no character, as WebDriver has them.
-const KEYS = { Tab: "\uE004", Enter: "\uE007", End: "\uE010", Home: "\uE011", ArrowLeft: "\uE012", ArrowUp: "\uE013", ArrowRight: "\uE014", ArrowDown: "\uE015" };
+const KEYS = { Tab: "\uE004", Enter: "\uE007", End: "\uE010", Home: "\uE011", ArrowLeft: "\uE012", ArrowUp: "\uE013", ArrowRight: "\uE014",
+    ArrowDown: "\uE015" };
 
 // Nothing is asked of the network by the browser itself.
 const PREFERENCES = {
@@ -33,7 +34,8 @@ class Socket {
     this.told = told;
     this.isOpen = new Promise((done) => {
       this.socket = connect(port, "127.0.0.1", () => {
-        const lines = ["GET /session HTTP/1.1", `Host: 127.0.0.1:${port}`, "Upgrade: websocket", "Connection: Upgrade", "Sec-WebSocket-Version: 13", `Sec-WebSocket-Key: ${randomBytes(16).toString("base64")}`];
+        const lines = ["GET /session HTTP/1.1", `Host: 127.0.0.1:${port}`, "Upgrade: websocket", "Connection: Upgrade", "Sec-WebSocket-Version: 13",
+            `Sec-WebSocket-Key: ${randomBytes(16).toString("base64")}`];
         this.socket.write(`${lines.join("\r\n")}\r\n\r\n`);
       });
       this.socket.on("error", () => this.socket.destroy());
@@ -93,8 +95,10 @@ export class Firefox extends Driver {
     super();
     const lines = Object.entries(PREFERENCES).map(([name, value]) => `user_pref(${JSON.stringify(name)}, ${JSON.stringify(value)});`);
     writeFileSync(join(profile, "user.js"), `${lines.join("\n")}\n`);
-    const words = ["--headless", "--no-remote", "--profile", profile, "--remote-debugging-port", "0", "--width", "1600", "--height", "1080", "about:blank"];
-    this.process = spawn(program, words, { stdio: ["ignore", "ignore", "pipe"], env: { ...process.env, HOME: profile, MOZ_DISABLE_CONTENT_SANDBOX: "1" } });
+    const words = ["--headless", "--no-remote", "--profile", profile, "--remote-debugging-port", "0", "--width", "1600", "--height", "1080",
+        "about:blank"];
+    this.process = spawn(program, words, { stdio: ["ignore", "ignore", "pipe"],
+        env: { ...process.env, HOME: profile, MOZ_DISABLE_CONTENT_SANDBOX: "1" } });
     this.number = 0;
     this.waiting = new Map();
     this.errors = [];
@@ -113,7 +117,8 @@ export class Firefox extends Driver {
     // What the page's policy refuses is an entry too, and one is to be refused.
     const isOfPage = method === "log.entryAdded" && params.level === "error" && !/^Content-Security-Policy/.test(params.text);
     if (isOfPage) this.errors.push(params.text);
-    if (method === "network.beforeRequestSent" && !/^(file|data|blob|about):/.test(params.request.url)) this.errors.push(`asked for ${params.request.url}`);
+    if (method === "network.beforeRequestSent" && !/^(file|data|blob|about):/.test(params.request.url)) this.errors.push(
+        `asked for ${params.request.url}`);
     this.waiting.get(id)?.(message);
     this.waiting.delete(id);
   }

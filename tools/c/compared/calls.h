@@ -534,7 +534,9 @@ static void call_settings(struct u16550 *u, uint32_t which)
 /* A text: bytes of all kinds, or well-formed UTF-8 with a mistake now and then. */
 static size_t fill_text(void)
 {
-    static const char *const pieces[10] = { "a", "\n", "\x08", "\x7f", "\xc3\xa4", "\xe2\x82\xac", "\xf0\x9f\x98\x80", "\r", "\xed\x9f\xbf", "\xf4\x8f\xbf\xbf" };
+    static const char *const pieces[10] = {
+        "a", "\n", "\x08", "\x7f", "\xc3\xa4", "\xe2\x82\xac", "\xf0\x9f\x98\x80", "\r", "\xed\x9f\xbf", "\xf4\x8f\xbf\xbf"
+    };
     static const char *const wrong[6] = { "\x80", "\xc0\x80", "\xe0\x80\x80", "\xed\xa0\x80", "\xf4\x90\x80\x80", "\xf0\x9f" };
     size_t len = 0, pieces_len = below(12);
     for (size_t i = 0; i < pieces_len; i++) {

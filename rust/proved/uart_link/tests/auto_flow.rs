@@ -1,5 +1,5 @@
-//! Flow control by the chips: runs in which no program does anything for it. With the trigger level 14 of 16 characters up to 3 may be under
-//! way after each call of the sender: with a fourth the FIFO would need room for 17. With 56 of 64 up to 9 may.
+//! Flow control by the chips: runs in which no program does anything for it. With the trigger level 14 of 16 characters up to 3 may be
+//! under way after each call of the sender: with a fourth the FIFO would need room for 17. With 56 of 64 up to 9 may.
 
 use geesetrunk_kit::ArrayVec;
 use geesetrunk_kit::alloc::Global;
@@ -47,8 +47,8 @@ fn make(link: &mut Link, side: Side, moments: &[Moment], call: RingCall) {
     run_link(link, &[call], &mut [RingAnswer::Done]);
 }
 
-/// Begins the next character at the left end in so many ticks. The driver takes the FIFOs for 16, and hands over as many as the last of them
-/// is begun.
+/// Begins the next character at the left end in so many ticks. The driver takes the FIFOs for 16, and hands over as many as the last of
+/// them is begun.
 fn begin(link: &mut Link, begun: usize, ticks: u16) {
     let moments = [Moment::Lines, Moment::Ticks(ticks)];
     make(link, Side::Left, &moments, RingCall::Next);

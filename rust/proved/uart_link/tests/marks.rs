@@ -1,6 +1,6 @@
-//! Which mark is the least with which flow control over a cable loses nothing: two runs that differ in the mark alone. At most one character
-//! is on the cable, and at most 14 arrive between two calls of `adjust_rts`. Sixteen more find room in the FIFO of the receiver, and up to
-//! 17 still come when RTS goes off: so the ring has to have room for one more than 1 + 14 then.
+//! Which mark is the least with which flow control over a cable loses nothing: two runs that differ in the mark alone. At most one
+//! character is on the cable, and at most 14 arrive between two calls of `adjust_rts`. Sixteen more find room in the FIFO of the receiver,
+//! and up to 17 still come when RTS goes off: so the ring has to have room for one more than 1 + 14 then.
 
 use geesetrunk_kit::ArrayVec;
 use geesetrunk_kit::alloc::Global;

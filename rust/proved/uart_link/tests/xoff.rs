@@ -1,7 +1,7 @@
-//! Which mark is the least with which flow control by XOFF over a cable loses nothing: runs that differ in the mark, or in whether the sender
-//! obeys. At most 14 characters arrive between two calls of `adjust_xoff`, and one is on the cable from XOFF on until the sender holds its
-//! transmit ring. Sixteen more find room in the FIFO of the receiver, and up to 17 still come then: so the ring has to have room for one more
-//! than 14 + 1 when XOFF is told. And both ends agree on the hold, unless the sender takes what it was told before it obeys.
+//! Which mark is the least with which flow control by XOFF over a cable loses nothing: runs that differ in the mark, or in whether the
+//! sender obeys. At most 14 characters arrive between two calls of `adjust_xoff`, and one is on the cable from XOFF on until the sender
+//! holds its transmit ring. Sixteen more find room in the FIFO of the receiver, and up to 17 still come then: so the ring has to have room
+//! for one more than 14 + 1 when XOFF is told. And both ends agree on the hold, unless the sender takes what it was told before it obeys.
 
 use geesetrunk_kit::ArrayVec;
 use geesetrunk_kit::alloc::Global;
@@ -99,8 +99,8 @@ fn obeys(link: &mut Link, told: u8) {
 /// No time passes at the accesses of a call.
 const AT_ONCE: [Moment; CALL_MOMENTS] = [Moment::Access; CALL_MOMENTS];
 
-/// Queues 40 characters at the left end, and lets the right end tell XOFF once 14 have arrived there. Its receive ring has room for so many,
-/// and it tells XOFF as soon as there is room for fewer. Then 8 wait in the ring of the left end, and 17 in its chip.
+/// Queues 40 characters at the left end, and lets the right end tell XOFF once 14 have arrived there. Its receive ring has room for so
+/// many, and it tells XOFF as soon as there is room for fewer. Then 8 wait in the ring of the left end, and 17 in its chip.
 fn told_xoff(room: usize) -> Link {
     let mut link = link(room);
     tells(&mut link, room, None);
@@ -278,8 +278,8 @@ fn made(link: &mut Link, side: Side, call: RingCall) -> RingAnswer {
     answer
 }
 
-/// Both programs in random order, at the least mark for random numbers: nothing is dropped, and both ends agree in the end. The left end lets
-/// no more characters leave from XOFF on than may, until it holds its ring.
+/// Both programs in random order, at the least mark for random numbers: nothing is dropped, and both ends agree in the end. The left end
+/// lets no more characters leave from XOFF on than may, until it holds its ring.
 #[test]
 fn at_the_least_mark_for_xoff_random_runs_drop_nothing() {
     let mut times_told = 0;

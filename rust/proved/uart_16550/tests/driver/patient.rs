@@ -29,8 +29,8 @@ impl Patience for Times {
     }
 }
 
-/// Makes a row: a new driver, with FIFOs that are taken to be on and a spin limit of 3, sends the bytes to a device whose reads return these
-/// answers. Its caller keeps waiting so many times. Returns how often it was asked.
+/// Makes a row: a new driver, with FIFOs that are taken to be on and a spin limit of 3, sends the bytes to a device whose reads return
+/// these answers. Its caller keeps waiting so many times. Returns how often it was asked.
 fn asked(
     answers: &'static [u8],
     bytes: &[u8],

@@ -139,8 +139,8 @@ fn a_burst_that_does_not_end_is_discarded() {
 
 #[test]
 fn bytes_and_errors_from_before() {
-    // An overrun that was noted before, and a parity error that the first wait shows, stay noted. A byte from before is taken and not counted,
-    // and its framing error goes with it.
+    // An overrun that was noted before, and a parity error that the first wait shows, stay noted. A byte from before is taken and not
+    // counted, and its framing error goes with it.
     let noted = DriverState {
         saved_lsr: LSR::from_bits_retain(0x02),
         ..new_state()
