@@ -148,9 +148,8 @@ class Body:
         if kind.kind == "unit":
             return None
         if kind.kind == "slice":
-            return Pair(
-                c.Variable(self.types.pointer(kind.parts[0]), None, False, local), c.Variable(c.Number(64, c.SIZE), None, False, local, hint="len")
-            )
+            return Pair(c.Variable(self.types.pointer(kind.parts[0]), None, False, local),
+                c.Variable(c.Number(64, c.SIZE), None, False, local, hint="len"))
         if of == "Ptr":
             return c.Variable(c.Pointer(self.item_behind(local)), None, False, local, of)
         return c.Variable(self.result if local == 0 else self.types.c(of), None, False, local, of)
@@ -506,9 +505,8 @@ class Body:
     def mostly_of(self, parts, of):
         """Another struct of this type of which most parts are, or None."""
         parts = [self.first_place(one) for one in parts]
-        found = [
-            Place(one.local, one.steps[:-1]) for order, one in enumerate(parts) if isinstance(one, Place) and one.steps[-1:] == (("Field", order),)
-        ]
+        found = [Place(one.local, one.steps[:-1]) for order, one in enumerate(parts) if isinstance(one, Place)
+            and one.steps[-1:] == (("Field", order),)]
         most = max(found, key=found.count, default=None)
         if most is None or 2 * found.count(most) <= len(parts):
             return None

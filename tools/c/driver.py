@@ -85,9 +85,8 @@ def wanted(library, text):
 def made(folder):
     """The texts of the header and of the source, and the library that was translated."""
     table.check(calls)
-    library = Library(
-        program_of(OWN, folder, "./prove uart_ring && ./prove uart_design_ware && ./prove uart_rs485"), names.Source(ROOT, OWN), PUBLIC, OWN, "U16550"
-    )
+    library = Library(program_of(OWN, folder, "./prove uart_ring && ./prove uart_design_ware && ./prove uart_rs485"), names.Source(ROOT, OWN),
+        PUBLIC, OWN, "U16550")
     for one in IN_HEADER:
         library.types.put_into_header(one)
     guards, by_hand = ("\n".join(text_of(f"layer_{one}.c") for one in which) for which in (GUARDS, BY_HAND))

@@ -27,9 +27,8 @@ def word(declared, before):
         return ("KEEP_WAITING", "CONTEXT")[CALLER.index(declared)]
     name = name.lstrip("*")
     if "*" in declared and not kind.startswith("const ") and name not in FILLED:
-        written = {"uint8_t": "BYTE_AT", "uint16_t": "SHORT_AT", "size_t": "SIZE_AT", "uint64_t": "NUMBER_AT"}.get(
-            kind
-        ) or f"{kind.removeprefix('struct u16550_').upper()}_AT"
+        written = {"uint8_t": "BYTE_AT", "uint16_t": "SHORT_AT", "size_t": "SIZE_AT", "uint64_t": "NUMBER_AT"}.get(kind) \
+            or f"{kind.removeprefix('struct u16550_').upper()}_AT"
         return f"OTHER_{written}" if written in before else written
     return "SPIN_LIMIT" if declared == "uint64_t limit" else name.upper()
 

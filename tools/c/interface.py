@@ -49,9 +49,8 @@ def switch(on, cases, otherwise):
     """A switch that returns a value for each case. The last case is that of all other numbers, if `otherwise` is none."""
     lines = [f"    switch ({on}) {{"]
     for at, (label, does) in enumerate(cases):
-        lines += (
-            [f"    case {label}:"] + (["    default:"] if otherwise is None and at == len(cases) - 1 else []) + [f"        {one}" for one in does]
-        )
+        lines += [f"    case {label}:"] + (["    default:"] if otherwise is None and at == len(cases) - 1 else []) + [f"        {one}"
+            for one in does]
     if otherwise is not None:
         lines += ["    default:", f"        {otherwise}"]
     return [*lines, "    }"]

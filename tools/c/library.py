@@ -117,17 +117,8 @@ class Written:
         one is declared as that is not to stand in the place of its calls, and `words` has what is said of some by their names."""
         body = c.lines(self.statements)
         is_short = len(body) <= (max(short, SHORT_IN_LOOP) if self.name in in_loops else short)
-        word = (
-            words[self.name]
-            if self.name in words
-            else ""
-            if self.is_public
-            else apart
-            if self.is_apart
-            else "static inline"
-            if is_short
+        word = words[self.name] if self.name in words else "" if self.is_public else apart if self.is_apart else "static inline" if is_short \
             else "static"
-        )
         first = top(word, self.result, self.name, [c.declared(one.of, one.name) for one in self.parameters])
         return "\n".join([self.comment + "\n".join(first), "{", *body, "}", ""])
 

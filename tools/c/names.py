@@ -196,12 +196,8 @@ class Source:
         if crate != path[0] and (path[0], of, path[-1]) in self.functions:
             found = self.functions[path[0], of, path[-1]]
             return found if found.comment else found.with_comment(trait.get(path[-1]))
-        for of in (
-            f"module {path[-2]}",
-            path[-2],
-            None,
-            re.sub(r"(Default|Clone|PartialEq|Flags|Backend|Read|Write|ReadReady|WriteReady)$", "", path[-2]),
-        ):
+        for of in (f"module {path[-2]}", path[-2], None, re.sub(r"(Default|Clone|PartialEq|Flags|Backend|Read|Write|ReadReady|WriteReady)$", "",
+                path[-2])):
             found = self.functions.get((path[0], of, path[-1]))
             if found:
                 return found

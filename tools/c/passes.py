@@ -255,13 +255,8 @@ def simpler_binary(one):
         if isinstance(right, c.Word) and right.name in ("true", "false"):
             return left if (right.name == "true") == (one.operator == "==") else simpler(c.Unary("!", left, c.BOOL))
         is_one_bit = isinstance(right, c.Literal) and right.value and right.value & (right.value - 1) == 0
-        if (
-            is_one_bit
-            and isinstance(left, c.Binary)
-            and left.operator == "&"
-            and isinstance(left.right, c.Literal)
-            and left.right.value == right.value
-        ):
+        if is_one_bit and isinstance(left, c.Binary) and left.operator == "&" and isinstance(left.right, c.Literal) \
+                and left.right.value == right.value:
             return c.Binary("!=" if one.operator == "==" else "==", left, c.Literal(0, right.of), c.BOOL)
         if isinstance(left, c.Literal) and isinstance(right, c.Literal):
             return c.Word("true" if (left.value == right.value) == (one.operator == "==") else "false", c.BOOL)
@@ -450,12 +445,8 @@ def is_stable_struct(facts, value, variable, statements):
         for expression in c.expressions(one):
             inside = {id(part.base) for part in c.every(expression) if isinstance(part, c.Field) and part.name in value.fields}
             for part in c.every(expression):
-                if (
-                    isinstance(part, c.Var)
-                    and part.variable is variable
-                    and id(part) not in inside
-                    and not (isinstance(one, c.Set) and part is one.to)
-                ):
+                if isinstance(part, c.Var) and part.variable is variable and id(part) not in inside \
+                        and not (isinstance(one, c.Set) and part is one.to):
                     return False
     return True
 
@@ -558,20 +549,14 @@ def is_only_read(statements, variable):
     if variable.is_parameter or not variable.of.text().startswith("struct "):
         return False
     for one in c.all_statements(statements):
-        if (
-            isinstance(one, c.Set)
-            and not isinstance(one.to, c.Var)
-            and any(isinstance(part, c.Var) and part.variable is variable for part in c.every(one.to))
-        ):
+        if isinstance(one, c.Set) and not isinstance(one.to, c.Var) and any(isinstance(part, c.Var) and part.variable is variable
+                for part in c.every(one.to)):
             return False
         for part in (part for whole in c.expressions(one) for part in c.every(whole)):
             if isinstance(part, c.AddressOf) and root(part.place) is variable:
                 return False
-            if (
-                isinstance(part, c.CallOf)
-                and part.name != "uart_same_bytes"
-                and any(is_start_of_array(each) and root(each) is variable for each in part.arguments)
-            ):
+            if isinstance(part, c.CallOf) and part.name != "uart_same_bytes" \
+                    and any(is_start_of_array(each) and root(each) is variable for each in part.arguments):
                 return False
     return True
 
@@ -682,12 +667,8 @@ def goes_into(facts, one, variable, value, with_names):
 def is_complement(one):
     """Whether a small number is all ones less something. gcc takes that for a mistake in a comparison, so it stays a variable."""
     inner = one.operand if isinstance(one, c.Cast) else None
-    return (
-        isinstance(inner, c.Binary)
-        and inner.operator == "-"
-        and isinstance(inner.left, c.Literal)
+    return isinstance(inner, c.Binary) and inner.operator == "-" and isinstance(inner.left, c.Literal) \
         and inner.left.value == (1 << inner.left.of.bits) - 1
-    )
 
 
 def path_to(expressions, variable):

@@ -440,9 +440,8 @@ def with_known_variants(statements):
 def joined_choices(first, rest):
     """The choice that the first and one behind it are, and how many statements of the rest are in it; or None."""
     made = [body[-1] if body else None for _, body in first.cases]
-    if not all(
-        isinstance(one, Assign) and isinstance(one.value, Aggregate) and one.value.parts and isinstance(one.value.parts[0], Int) for one in made
-    ):
+    if not all(isinstance(one, Assign) and isinstance(one.value, Aggregate) and one.value.parts and isinstance(one.value.parts[0], Int)
+            for one in made):
         return None
     names, count = {made[0].place}, 0
     if any(one.place != made[0].place or one.place.steps for one in made):
