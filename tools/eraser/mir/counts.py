@@ -9,6 +9,11 @@ often, whether it stands in a pattern, in a table or in a sum.
 """
 import collections
 import re
+from collections.abc import Iterator, Mapping
+from typing import NamedTuple
+
+from emitted import Function
+from translate import Node
 
 TOKEN = re.compile(r"\"\"|b?'(?:\\.|[^'\\])[^']*'|'\w+|\w+|::|->|=>|&&|\|\||\.\.=|\.\.|<<=|>>=|<<|[-+*/%&|^<>=!]=|.", re.DOTALL)
 # Words behind which no value ends.
@@ -19,8 +24,13 @@ NOT, PLACE = "a `!`", "a place of a list"
 NUMBER = re.compile(r"(0x[0-9a-fA-F_]+?|0b[01_]+?|[0-9][0-9_]*?)_?(?:[ui](?:8|16|32|64|size))?")
 # A character or a byte as a number, if it is written as itself.
 CHARACTER = re.compile(r"b?'([^\\'])'")
+
+
 # The last number of a range.
-Last = collections.namedtuple("Last", "number")
+class Last(NamedTuple):
+    number: int
+
+
 # How many bits a cast leaves. One to 64 bits leaves all of them: the MIR has none for a cast between `u64` and `usize`.
 BITS = {"u8": 8, "u16": 16, "u32": 32}
 # What takes a place of a list that has grown.
@@ -31,22 +41,26 @@ COMPARISONS, COMPARES, CALLED = ("==", "!=", "<=", ">="), ("Eq", "Ne", "Lt", "Le
 NOT_CALLED = ("len", "iter", "iter_mut", "enumerate", "filled")
 
 
+# How often each operation, call, number and so on is there.
+Counts = collections.Counter[int | str | Last]
+
+
 class Text:
     """The tokens of a body."""
 
-    def __init__(self, body):
-        self.tokens = [one for one in TOKEN.findall(without_guard(body)) if one.strip()]
+    def __init__(self, body: str) -> None:
+        self.tokens: list[str] = [one for one in TOKEN.findall(without_guard(body)) if one.strip()]
 
-    def word(self, at):
+    def word(self, at: int) -> str:
         return self.tokens[at] if 0 <= at < len(self.tokens) else ""
 
-    def ends_value(self, at):
+    def ends_value(self, at: int) -> bool:
         """Whether a value may end here, so that a sign behind it stands between two."""
         word = self.word(at)
         return word in (")", "]", "}", '""') or bool(re.match(r"\w", word)) and word not in NO_VALUE
 
-    def counts(self):
-        found, parameters = collections.Counter(), self.of_closures()
+    def counts(self) -> Counts:
+        found, parameters = Counts(), self.of_closures()
         for at, word in enumerate(self.tokens):
             operation = word.removesuffix("=") if word not in COMPARISONS else word
             # `>>` is two tokens here: types end so.
@@ -75,15 +89,15 @@ class Text:
                 found.update(self.number(at))
         return found
 
-    def number(self, at):
+    def number(self, at: int) -> Iterator[Last | int]:
         """The number at this index, if there is one: the last one of a range is told apart, since the MIR may have the one behind it."""
         number, character = NUMBER.fullmatch(self.tokens[at]), CHARACTER.fullmatch(self.tokens[at])
         # a field of a tuple is no number
         if character or number and self.word(at - 1) != ".":
-            value = ord(character[1]) if character else int(number[1].replace("_", ""), 0)
+            value = ord(character[1]) if character else int(number[1].replace("_", ""), 0) if number else 0
             yield Last(value) if self.word(at - 1) == "..=" else value
 
-    def inside(self, at):
+    def inside(self, at: int) -> list[str]:
         """The tokens in the brackets at this index, without those in brackets of their own."""
         depth, found = 0, []
         for word in self.tokens[at:]:
@@ -94,7 +108,7 @@ class Text:
                 found.append(word)
         return found
 
-    def arms(self, at):
+    def arms(self, at: int) -> int:
         """How many arms the `match` at this index has, without those that have a condition of their own, which is counted as one."""
         depth, opened = 0, at + 1
         while depth or self.word(opened) != "{":
@@ -110,13 +124,13 @@ class Text:
                 found -= 1
         return found
 
-    def is_spaced_shift(self, at):
+    def is_spaced_shift(self, at: int) -> bool:
         """Whether `> >` here is a shift, and not the end of two lists of types: a value stands in front, and a value behind."""
         return self.ends_value(at - 1) and self.word(at + 2) not in ("(", ")", ",", ";", "::", "{", ">", "=", "")
 
-    def of_closures(self):
+    def of_closures(self) -> set[int]:
         """The indices of the bars around the parameters of closures."""
-        found, at = set(), 0
+        found, at = set[int](), 0
         while at < len(self.tokens):
             if self.tokens[at] == "|" and not self.ends_value(at - 1):
                 end = next((here for here in range(at + 1, len(self.tokens)) if self.tokens[here] == "|"), at)
@@ -125,7 +139,7 @@ class Text:
             at += 1
         return found
 
-    def is_of_pattern(self, at):
+    def is_of_pattern(self, at: int) -> bool:
         """Whether a bar stands between two patterns: of a case, or of `matches!`."""
         depth, is_behind_comma = 0, False
         for here in range(at - 1, -1, -1):
@@ -152,7 +166,7 @@ class Text:
                 return False
         return False
 
-    def is_call(self, at):
+    def is_call(self, at: int) -> bool:
         if not re.fullmatch(r"[a-z_]\w*", self.tokens[at]) or self.tokens[at] in NO_VALUE or self.word(at - 1) == "fn":
             return False
         behind = at + 1
@@ -164,16 +178,16 @@ class Text:
         return self.word(behind) == "("
 
 
-def cast_to(bits):
+def cast_to(bits: int) -> str:
     return f"a cast to {bits} bits"
 
 
-def next_arm(words, at):
+def next_arm(words: list[str], at: int) -> int:
     """The index of the comma behind this index, or of the end."""
     return next((here for here in range(at, len(words)) if words[here] == ","), len(words)) + 1
 
 
-def without_guard(body):
+def without_guard(body: str) -> str:
     """A body without the guard at its start, which the source does not have: what it tests is compared where the contract is broken."""
     found = re.match(r"\{\s*assert!\(", body)
     if not found:
@@ -186,11 +200,11 @@ def without_guard(body):
     return body
 
 
-def of_mir(body):
+def of_mir(body: Node) -> Counts:
     """The same of a body of the MIR."""
-    found = collections.Counter()
+    found = Counts()
 
-    def walk(node):
+    def walk(node: Node) -> None:
         if isinstance(node, list):
             for one in node:
                 walk(one)
@@ -199,7 +213,7 @@ def of_mir(body):
                 count(kind, value)
                 walk(value)
 
-    def count(kind, value):
+    def count(kind: str, value: Node) -> None:
         if kind == "Op2":
             operation = value[0] if isinstance(value[0], str) else next(iter(value[0]))
             found[COMPARED if operation in COMPARES else PLACE if operation == "Offset" else operation] += 1
@@ -229,7 +243,7 @@ def of_mir(body):
     return found
 
 
-def with_closures(functions, name):
+def with_closures(functions: Mapping[str, Node], name: str) -> Counts:
     """The counts of a function of the MIR with the types of its locals, and of the closures in it."""
     found = of_mir([functions[name]["body"], functions[name]["locals"]])
     module, _, last = name.rpartition("::")
@@ -243,7 +257,7 @@ def with_closures(functions, name):
     return found
 
 
-def more(functions, pairs):
+def more(functions: Mapping[str, Node], pairs: dict[str, Function]) -> Iterator[str]:
     """Each pair of which the emitted body has more of a kind than its MIR, as a text. A method's name is not in a call of the MIR."""
     known = {name.split("::")[-1] for name in functions} - set(NOT_CALLED)
     kinds = {*OPERATIONS.values(), COMPARED, BRANCH, NOT, PLACE, *map(cast_to, BITS.values())}
@@ -251,9 +265,10 @@ def more(functions, pairs):
         if not function.body:
             continue
         made, proved = Text(function.body).counts(), with_closures(functions, name)
-        for kind, count in sorted(made.items(), key=str):
-            if isinstance(kind, Last):
-                kind, spare = kind.number, proved[kind.number + 1]
+        for told, count in sorted(made.items(), key=str):
+            kind = told.number if isinstance(told, Last) else told
+            if isinstance(told, Last):
+                spare = proved[told.number + 1]
             else:
                 spare = proved[METHOD] if kind == COMPARED or kind in known else 0
             is_number = isinstance(kind, int)

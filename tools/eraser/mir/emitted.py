@@ -6,12 +6,11 @@ import collections
 import dataclasses
 import pathlib
 import re
+from collections.abc import Iterable
 
 BLANK = re.compile(r'//[^\n]*|b?"(?:\\.|[^"\\])*"|b?\'(?:\\.|[^\'\\])\'', re.DOTALL)
 FUNCTION = re.compile(r"(?:^|\n)[ \t]*(pub(?:\([^)]*\))? )?(?:const )?fn (\w+)\s*(<[^(]*?>)?\s*\(", re.DOTALL)
-TYPE = re.compile(
-    r"((?:#\[[^\]]*\]\s*)*)(?:pub(?:\([^)]*\))? )?(struct|enum) (\w+)(<(?:[^<>]|<[^<>]*>)*>)?\s*(?:where[^{;]*)?([{(;])"
-)
+TYPE = re.compile(r"((?:#\[[^\]]*\]\s*)*)(?:pub(?:\([^)]*\))? )?(struct|enum) (\w+)(<(?:[^<>]|<[^<>]*>)*>)?\s*(?:where[^{;]*)?([{(;])")
 OWNER = re.compile(r"(?:^|\n)(impl|(?:pub(?:\([^)]*\))? )?trait)\b([^{;]*)\{")
 CONSTANT = re.compile(r"\n( *)((?:pub(?:\([^)]*\))? )?)const (\w+)\s*:\s*([^=;]+?)\s*[=;]")
 # A constant that stands in a list of parameters begins nothing.
@@ -22,6 +21,13 @@ CHARACTER = re.compile(r"\bb?'([^\\'])'")
 NUMBER = re.compile(r"\b(0x[0-9a-fA-F_]+|0b[01_]+|\d[\d_]*)(?:_?[ui](?:8|16|32|64|size))?\b")
 
 
+def begin(pattern: str, text: str) -> re.Match[str]:
+    """What a text begins with, that rustc takes."""
+    found = re.match(pattern, text)
+    assert found, f"{text[:60]!r} does not begin as {pattern}"
+    return found
+
+
 @dataclasses.dataclass
 class Type:
     """A struct or an enum. `parts` has the fields of the struct, or of each variant, as name and type; a name is a number in a tuple."""
@@ -30,11 +36,11 @@ class Type:
     module: str
     file: pathlib.Path
     is_enum: bool
-    parameters: list
-    variants: list
-    derives: list
+    parameters: list[str]
+    variants: list[tuple[str, list[tuple[str, str]]]]
+    derives: list[str]
 
-    def over(self, device):
+    def over(self, device: str) -> str:
         """The type, with the device for each parameter."""
         return f"{self.name}<{', '.join(device for _ in self.parameters)}>" if self.parameters else self.name
 
@@ -49,28 +55,30 @@ class Function:
     file: pathlib.Path
     is_public: bool
     generics: str
-    parameters: list
+    parameters: list[str]
     result: str
     owner: str = ""
     trait: str = ""
     is_declared: bool = False
     body: str = ""
 
-    def path(self):
+    def path(self) -> str:
         """The path that the eraser gives the function."""
-        owner = re.match(r"[\w:]+", self.owner)[0].split("::")[-1] if self.owner else self.trait
+        owner = begin(r"[\w:]+", self.owner)[0].split("::")[-1] if self.owner else self.trait
         return "::".join(one for one in (self.module, owner, self.name) if one)
 
 
 class Emitted:
     """The declarations of the files below a folder `proved`."""
 
-    def __init__(self, folder):
-        self.modules, self.types, self.functions, self.constants, self.numbers = {}, [], [], [], set()
+    def __init__(self, folder: pathlib.Path) -> None:
+        self.modules, self.types, self.functions = dict[pathlib.Path, str](), list[Type](), list[Function]()
+        self.constants, self.numbers = list[tuple[str, str, str, str, str]](), set[int]()
         # The numbers of the constants of each name.
-        self.values = {}
+        self.values: dict[str, set[int]] = {}
         # How many functions, types and constants each file begins, whatever is read of them; and what is read and left out.
-        self.begun, self.read_constants, self.left = {}, collections.Counter(), collections.Counter()
+        self.begun = dict[pathlib.Path, int]()
+        self.read_constants, self.left = collections.Counter[pathlib.Path](), collections.Counter[pathlib.Path]()
         for file in sorted(folder.rglob("*.rs")):
             parts = [one for one in file.relative_to(folder).with_suffix("").parts if one != "mod"]
             if parts and "by_hand" not in parts:
@@ -78,27 +86,29 @@ class Emitted:
                 self.read(file, "::".join(parts))
 
     @staticmethod
-    def numbers_in(text):
+    def numbers_in(text: str) -> set[int]:
         """The numbers in a text, and the characters."""
         found = {int(one[1].replace("_", ""), 0) for one in NUMBER.finditer(text)}
         return found | {ord(one) for one in CHARACTER.findall(text)}
 
-    def leave_out(self, patterns):
+    def leave_out(self, patterns: Iterable[str]) -> None:
         """Forgets what has one of these patterns in its path: it is not compared."""
-        def is_left(one):
+
+        def is_left(one: Type | Function) -> bool:
             return not any(re.search(pattern, f"{one.module}::{getattr(one, 'owner', '')} {one.name}") for pattern in patterns)
 
-        for name in ("types", "functions"):
-            declared = getattr(self, name)
-            self.left.update(one.file for one in declared if not is_left(one))
-            setattr(self, name, [one for one in declared if is_left(one)])
+        every: list[Type | Function] = [*self.types, *self.functions]
+        self.left.update(one.file for one in every if not is_left(one))
+        self.types = [one for one in self.types if is_left(one)]
+        self.functions = [one for one in self.functions if is_left(one)]
 
-    def missing(self):
+    def missing(self) -> list[str]:
         """What was not read: of each file that begins more functions, types and constants than were read, how many more."""
-        read = collections.Counter(one.file for one in [*self.functions, *self.types]) + self.read_constants + self.left
+        read = collections.Counter([*(one.file for one in self.functions), *(one.file for one in self.types)])
+        read += self.read_constants + self.left
         return [f"{count - read[file]} items of {self.modules[file]}" for file, count in self.begun.items() if count != read[file]]
 
-    def read(self, file, module):
+    def read(self, file: pathlib.Path, module: str) -> None:
         text = blank(file.read_text(encoding="ascii"))
         self.begun[file] = len(BEGINS.findall(text))
         self.numbers |= self.numbers_in(text)
@@ -116,12 +126,12 @@ class Emitted:
             self.constants.append((module, owner[2].strip() if owner else "", found[3], found[4], found[2].strip()))
 
 
-def blank(text):
+def blank(text: str) -> str:
     """A text without comments, and with nothing in its strings."""
     return BLANK.sub(lambda found: " " if found[0].startswith("/") else '""' if '"' in found[0] else found[0], text)
 
 
-def closing(text, at):
+def closing(text: str, at: int) -> int:
     """The offset of the bracket that closes the one here."""
     pairs = {"{": "}", "(": ")", ";": ";"}
     close, depth = pairs[text[at]], 0
@@ -134,7 +144,7 @@ def closing(text, at):
     raise ValueError("a bracket that is not closed")
 
 
-def split(text):
+def split(text: str) -> list[str]:
     """The parts of a list that commas separate."""
     parts, depth, part = [], 0, ""
     for at, letter in enumerate(text):
@@ -150,15 +160,16 @@ def split(text):
     return [one for one in [*parts, part.strip()] if one]
 
 
-def named(fields, is_tuple):
+def named(fields: str, is_tuple: bool) -> list[tuple[str, str]]:
     """Fields as name and type."""
-    fields = [re.sub(r"^(?:#\[[^\]]*\]\s*)*pub(?:\([^)]*\))?\s*", "", one) for one in split(fields)]
+    found = [re.sub(r"^(?:#\[[^\]]*\]\s*)*pub(?:\([^)]*\))?\s*", "", one) for one in split(fields)]
     if is_tuple:
-        return [(str(order), one) for order, one in enumerate(fields)]
-    return [tuple(part.strip() for part in one.split(":", 1)) for one in fields]
+        return [(str(order), one) for order, one in enumerate(found)]
+    parts = (one.partition(":") for one in found)
+    return [(name.strip(), of.strip()) for name, _, of in parts]
 
 
-def read_type(found, text, file, module):
+def read_type(found: re.Match[str], text: str, file: pathlib.Path, module: str) -> Type:
     close = closing(text, found.end() - 1)
     body = re.sub(r"#\[[^\]]*\]", "", text[found.end() : close])
     parameters = [re.sub(r"\s+=\s.*", "", one, flags=re.DOTALL) for one in split(found[4][1:-1])] if found[4] else []
@@ -168,19 +179,19 @@ def read_type(found, text, file, module):
         variants = []
         for one in split(body):
             inner = re.match(r"\w+\s*([({])(.*)[)}]", one, re.DOTALL)
-            variants.append((re.match(r"\w+", one)[0], named(inner[2], inner[1] == "(") if inner else []))
+            variants.append((begin(r"\w+", one)[0], named(inner[2], inner[1] == "(") if inner else []))
     derives = re.findall(r"\w+", " ".join(re.findall(r"derive\(([^)]*)\)", found[1])))
     return Type(found[3], module, file, found[2] == "enum", parameters, variants, derives)
 
 
-def body_of(text, at):
+def body_of(text: str, at: int) -> str:
     """The body that begins here, or nothing."""
     return text[at : closing(text, at) + 1] if text[at] == "{" else ""
 
 
-def read_function(found, text, file, module, owner):
+def read_function(found: re.Match[str], text: str, file: pathlib.Path, module: str, owner: re.Match[str] | None) -> Function:
     close = closing(text, found.end() - 1)
-    rest = re.match(r"\s*(?:->\s*([^{;]*?))?\s*(?:where[^{;]*)?[{;]", text[close + 1 :])
+    rest = begin(r"\s*(?:->\s*([^{;]*?))?\s*(?:where[^{;]*)?[{;]", text[close + 1 :])
     function = Function(
         name=found[2],
         module=module,
@@ -192,9 +203,9 @@ def read_function(found, text, file, module, owner):
         body=body_of(text, close + 1 + rest.end() - 1),
     )
     if owner and "trait" in owner[1]:
-        function.is_declared, function.trait = True, re.match(r"\s*\w+", owner[2])[0].strip()
+        function.is_declared, function.trait = True, begin(r"\s*\w+", owner[2])[0].strip()
     elif owner:
-        parts = re.match(r"(<(?:[^<>]|<[^<>]*>)*>)?\s*(.*?)\s*(?:\bwhere\b.*)?$", owner[2].strip(), re.DOTALL)
+        parts = begin(r"(?s)(<(?:[^<>]|<[^<>]*>)*>)?\s*(.*?)\s*(?:\bwhere\b.*)?$", owner[2].strip())
         function.generics += parts[1] or ""
         *trait, function.owner = re.split(r"\s+for\s+", parts[2])
         function.trait = trait[0] if trait else ""

@@ -5,7 +5,9 @@ text is read by the same reader. So a field or a function that is public in one 
 the library, such as a `static`.
 """
 import dataclasses
+import pathlib
 import re
+import types
 
 TOKEN = re.compile(r"'\w+(?!')|\w+|b?\"(?:\\.|[^\"\\])*\"|b?'(?:\\.|[^'\\])+'|::|->|=>|[^\s\w]")
 COMMENT = re.compile(r"//[^\n]*")
@@ -29,7 +31,7 @@ class Item:
 class Reader:
     """Reads the items of a text, of Rust or of a library."""
 
-    def __init__(self, text, module):
+    def __init__(self, text: str, module: str) -> None:
         self.words = TOKEN.findall(COMMENT.sub("", text))
         self.items = []
         self.words = self.without_clauses()
@@ -38,7 +40,7 @@ class Reader:
         self.items += [Item(module, "", f"{words} ..") for words in FORBIDDEN + RAW if f" {words} " in text]
         self.read(0, len(self.words), module, "")
 
-    def without_clauses(self):
+    def without_clauses(self) -> list[str]:
         """The words without the clauses and the ghost items of a library."""
         kept, at = [], 0
         while at < len(self.words):
@@ -51,7 +53,7 @@ class Reader:
             at += 1
         return kept
 
-    def end_of_ghost(self, at):
+    def end_of_ghost(self, at: int) -> int:
         """The index of the last word of a ghost item, which may have a proof, and a sign behind it."""
         if self.words[at + 1] == "use":
             return self.words.index(";", at)
@@ -60,7 +62,7 @@ class Reader:
             end = self.closing(end + 2)
         return end + (self.words[end + 1] in (";", ","))
 
-    def closing(self, at):
+    def closing(self, at: int) -> int:
         """The index of the bracket that closes the one at this index."""
         depth = 0
         for here in range(at, len(self.words)):
@@ -69,14 +71,14 @@ class Reader:
                 return here
         raise ValueError("a bracket that is not closed")
 
-    def end(self, at):
+    def end(self, at: int) -> int:
         """The index behind an item: of the `;` or of the braces that end it."""
         while at < len(self.words) and self.words[at] not in ("{", ";"):
             at = self.closing(at) if self.words[at] in ("(", "[") else at
             at += 1
         return at
 
-    def read(self, at, end, owner, inside):
+    def read(self, at: int, end: int, owner: str, inside: str) -> None:
         """Reads items from `at` to `end`. `inside` is the visibility of what has none of its own, of a trait."""
         derives, attributes, visibility = [], [], inside
         while at < end:
@@ -100,7 +102,7 @@ class Reader:
             else:
                 at += 1
 
-    def item(self, at, owner, visibility, attributes, derives):
+    def item(self, at: int, owner: str, visibility: str, attributes: list[str], derives: list[str]) -> int:
         """Reads the item at this index. Returns the index behind it."""
         word = self.words[at]
         is_const_fn = word == "const" and self.words[at + 1] == "fn"
@@ -113,9 +115,9 @@ class Reader:
             return end + 1
         if word in ("const", "static", "type"):
             end = self.words.index(";", at)
-            head = self.words[at:end]
-            head = head[: head.index("=")] if "=" in head and word != "type" else head
-            self.put(owner, head[1], visibility, marks + " ".join(head))
+            words = self.words[at:end]
+            words = words[: words.index("=")] if "=" in words and word != "type" else words
+            self.put(owner, words[1], visibility, marks + " ".join(words))
             return self.behind_value(at)
         close = self.closing(end) if self.words[end] == "{" else end
         if word == "impl":
@@ -138,14 +140,14 @@ class Reader:
             self.put(owner, self.words[at + 1], visibility, " ".join(self.words[at : at + 2]))
         return close + 1
 
-    def behind_value(self, at):
+    def behind_value(self, at: int) -> int:
         """The index behind the `;` that ends a constant, whose value may have some inside."""
         while self.words[at] != ";":
             at = self.closing(at) if self.words[at] in ("(", "[", "{") else at
             at += 1
         return at + 1
 
-    def uses(self, words, owner, visibility):
+    def uses(self, words: list[str], owner: str, visibility: str) -> None:
         if visibility != "pub":
             return
         text = " ".join(words)
@@ -153,11 +155,11 @@ class Reader:
         for one in [f"{found[1]} :: {name}" for name in found[2].split(" , ")] if found else [text]:
             self.put(owner, f"use {one}", visibility, "")
 
-    def put(self, owner, name, visibility, text):
+    def put(self, owner: str, name: str, visibility: str, text: str) -> None:
         self.items.append(Item(f"{owner}::{name}", visibility, text))
 
 
-def shortened(text):
+def shortened(text: str) -> str:
     """A head without what erasure leaves out, and without signs that mean nothing: a bound `Drop`, empty parameters, a last comma, how many
     items an array has, whose number the MIR has, and whether a parameter is changed inside."""
     text = re.sub(r" as \w+(?= |$)", "", text) if text.startswith("impl") else text
@@ -168,7 +170,7 @@ def shortened(text):
     return re.sub(r" ,(?= [)\]}>])", "", text).rstrip(";").strip()
 
 
-def behind_generics(text):
+def behind_generics(text: str) -> str:
     """The text behind the parameters with which it begins."""
     words, depth = text.split(" "), 0
     if words[0] != "<":
@@ -180,7 +182,7 @@ def behind_generics(text):
     return text
 
 
-def items(folder, ending):
+def items(folder: pathlib.Path, ending: str) -> list[Item]:
     """The items of the files below a folder. What is by hand, and what is a law, has no place in the other."""
     found = []
     for path in sorted(folder.rglob(f"*{ending}")):
@@ -193,10 +195,10 @@ def items(folder, ending):
 class Rules:
     """How an item of a library is emitted, as the tables of the eraser say."""
 
-    def __init__(self, table, crate):
+    def __init__(self, table: types.ModuleType, crate: str) -> None:
         self.table, self.crate = table, crate
 
-    def emitted(self, name, text):
+    def emitted(self, name: str, text: str) -> str | None:
         """The text of an item of the library as it is emitted, or None if it is not."""
         if re.search(r" Model for |::laws$", name) or re.fullmatch(r"fn \w+ \( \)", text):
             return None
@@ -214,13 +216,13 @@ class Rules:
             text = f"#[non_exhaustive] {text}"
         return f"const {text}" if path in self.table.CONSTANT else text
 
-    def is_of_pages(self, name, text):
+    def is_of_pages(self, name: str, text: str) -> bool:
         """Whether an item is a module of the pages of definitions, which hold documentation alone, or the pages of another crate there."""
         is_page = re.fullmatch(r"crate::proved(::\w+)*", name) and re.fullmatch(r"mod \w+", text)
         return bool(is_page or re.fullmatch(r"crate::proved::use \w+ :: proved as \w+", name))
 
 
-def differences(emitted, library, rules):
+def differences(emitted: pathlib.Path, library: pathlib.Path, rules: Rules) -> tuple[list[str], int]:
     """What an emitted crate exports otherwise than the library: texts, and how many items were compared."""
     found, ours, proved = [], {}, {}
     for one in items(emitted, ".rs"):

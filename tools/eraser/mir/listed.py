@@ -9,13 +9,13 @@ import re
 CRATES = (pathlib.Path(__file__).resolve().parents[3] / "crates.txt").read_text(encoding="utf-8")
 
 
-def crates_of(section):
+def crates_of(section: str) -> list[str]:
     """The crates below this heading of crates.txt. Each uses those above it."""
     text = CRATES.partition(f"# == {section} ==\n")[2].partition("# == ")[0]
     return re.findall(r"(?m)^(\w+)", text)
 
 
-def below(crate):
+def below(crate: str) -> list[str]:
     """The crates of this repository that a crate uses: its line has those below them too."""
     line = re.search(rf"(?m)^{crate}\b[^:#\n]*:(.*)$", CRATES)
     return [used for used in (line[1].split() if line else []) if re.search(rf"(?m)^{used}\b[^:#\n]*:", CRATES)]
@@ -24,7 +24,7 @@ def below(crate):
 # The packages: the crates of each, which have the MIR, the features that are compiled, and which of the crates are compared there.
 OF_DRIVER = crates_of("What ships")
 OF_CHIP = ["uart_spec", *crates_of("What models the hardware")]
-PACKAGES = {
+PACKAGES: dict[str, tuple[list[str], list[str], list[str]]] = {
     "uart_16550": (OF_DRIVER, ["alloc"], OF_DRIVER),
     "uart_16550_chip": (OF_CHIP, [], OF_CHIP),
 }
@@ -42,24 +42,24 @@ UNCOMPARED = {
 }
 # What is not compared in one package alone.
 UNCOMPARED_IN = {
-    "uart_16550_chip": {r"^uart_events::call::": "calls as data, which scripts are made of: scripts that are played by both sides compare it"},
+    "uart_16550_chip": {r"^uart_events::call::": "calls as data, which scripts are made of: scripts that are played by both sides compare it"}
 }
 
 
-def in_no_package(crates):
+def in_no_package(crates: list[str]) -> list[str]:
     """The crates of these that are in no package."""
     inside = {name for _, _, own in PACKAGES.values() for name in own}
     return [name for name in crates if name not in inside]
 
 
-def unneeded(used, uncounted):
+def unneeded(used: set[tuple[str, str]], uncounted: list[str]) -> list[tuple[str, str]]:
     """The entries, each with its table, that no name used. Of what bodies have more often than their MIR this is known if each crate was
     counted: an entry may be for one whose library is not there, and a type that it names need not name the crate."""
     tables = ["DIFFER", "SKIPPED", "NOT_IN_MIR", "NOT_EMITTED", "NOT_REACHED", "INPUTS", *([] if uncounted else ["COUNTED"])]
     return [(table, key) for table in tables for key in globals()[table] if (table, key) not in used]
 
 
-def uncompared(package):
+def uncompared(package: str) -> dict[str, str]:
     """The patterns of what is not compared in a package, with the reasons."""
     return UNCOMPARED | UNCOMPARED_IN.get(package, {})
 
@@ -110,7 +110,7 @@ SKIPPED = {
 }
 
 # Emitted functions that have no MIR: a pattern of the name, and why.
-NOT_IN_MIR = {}
+NOT_IN_MIR: dict[str, str] = {}
 
 # Functions of the MIR that are not emitted: a pattern of the name, and why.
 NOT_EMITTED = {
@@ -171,8 +171,7 @@ PRESCALER = "{}.is_some_and(|factor| factor > 15)"
 NOT_COMPUTABLE = "({0}.frequency == 0 || {0}.baud_rate.to_integer() == 0 || %s)" % PRESCALER.format("{0}.prescaler_division_factor")
 TWO_RATES = f"a0 == 0 || a1 == 0 || {PRESCALER.format('a2')}"
 CONTRACTS = {
-    "uart_spec::baud::calc_frequency": f"{TWO_RATES} || "
-    "16 * (u128::from(a2.unwrap_or(0)) + 1) * u128::from(a0) * u128::from(a1) >= 1 << 32",
+    "uart_spec::baud::calc_frequency": f"{TWO_RATES} || " "16 * (u128::from(a2.unwrap_or(0)) + 1) * u128::from(a0) * u128::from(a1) >= 1 << 32",
     "uart_spec::baud::calc_baud_rate": TWO_RATES,
     "uart_spec::baud::calc_divisor": TWO_RATES,
     "uart_spec::config::Config::nearest": NOT_COMPUTABLE.format("a0"),
@@ -228,7 +227,7 @@ OUTSIDE = {
 # it, or None. The functions are in run/inputs_of_CRATE.rs.
 TABLE, HEADER, WORD, BLOB, NAME = (f"crate::run::{name}(choices)" for name in ("table", "header", "word", "blob", "name"))
 PLACE, NODE = "crate::run::place(choices, a0.len())", "4 * choices.pick(160)"
-INPUTS = {
+INPUTS: dict[str, list[str | None]] = {
     r"^uart_discovery::tree::console::is_16550$": [WORD],
     # of numbers alone
     r"^uart_discovery::.*::(is_16550|rate_of_code|access_width|(hexadecimal|decimal)_digit|card_of|sum|aligned|translated)$": [],
@@ -265,7 +264,8 @@ MOST = {
     r"^uart_discovery::tree::blob::sum$": ("a0 as u128 + a1 as u128", IN_TREE),
     r"^uart_discovery::tree::blob::aligned$": ("a0 as u128 + 3", IN_TREE),
     r"^uart_discovery::tree::blob::Tree::token$": (
-        "field(a0.structure, a1.saturating_add(4)).map_or(0, |length| a1 as u128 + length as u128 + 15)", IN_TREE
+        "field(a0.structure, a1.saturating_add(4)).map_or(0, |length| a1 as u128 + length as u128 + 15)",
+        IN_TREE,
     ),
     r"^uart_spec::layout::check_spacing$": ("u128::from(a0 as u64) + u128::from(a2) * u128::from(a1)", CHECKED),
     r"^uart_spec::layout::check_layout$": ("u128::from(a0 as u64) + 7 * u128::from(a1.stride)", CHECKED),
@@ -275,7 +275,7 @@ MOST = {
 
 # Constructors of the types whose calls are also compared in sequence. Beside the public methods, a sequence has these steps, in Rust and in
 # the MIR, where a name in braces is that of the translated function.
-SEQUENCES = {
+SEQUENCES: dict[str, list[tuple[str, str]]] = {
     "uart_16550::driver::Uart16550::new_with_backend": [],
     "uart_design_ware::state::DesignWare::new": [],
     "uart_ring::ring::Uart16550Ring::new": [],
@@ -301,8 +301,7 @@ SEQUENCES = {
     "uart_virtual::port::VirtualPortWith+FIFO_SIZE::new": [
         # Data at random are those of no port.
         (
-            "if let Ok(made) = VirtualPort::from_data(&state.data(), state.output()) "
-            "{ Value::show(&made.todo, &mut out); state = made.port; }",
+            "if let Ok(made) = VirtualPort::from_data(&state.data(), state.output()) " "{ Value::show(&made.todo, &mut out); state = made.port; }",
             "let mut data = {uart_virtual::port::snapshot::VirtualPortWith+FIFO_SIZE::data}(&raw mut state as *mut u8); "
             "let output = {uart_virtual::port::VirtualPortWith::output}(&raw mut state as *mut u8); "
             "let made = {uart_virtual::port::snapshot::VirtualPortWith+FIFO_SIZE::from_data}(&raw mut data as *mut u8, output); "

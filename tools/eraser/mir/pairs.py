@@ -1,12 +1,16 @@
 """Pairs each emitted function with its MIR, and writes what compares the two: Rust text, behind the file of the function."""
 import dataclasses
 import json
+import pathlib
 import re
+from collections.abc import Callable, Collection, Iterable, Mapping, Sequence
 
 import listed
 import natives
 import witness
-from translate import Unknown
+from emitted import Emitted, Function, begin
+from emitted import Type as EmittedType
+from translate import Node, Translation, Type, Unknown
 from values import BY_HAND, without_lifetimes
 
 DEVICE = "crate::run::Device"
@@ -38,13 +42,13 @@ class Argument:
 class Names:
     """Which function of the MIR an emitted function is."""
 
-    def __init__(self, functions, crates):
-        self.functions, self.by_end = functions, {}
+    def __init__(self, functions: Mapping[str, Node], crates: Collection[str]) -> None:
+        self.functions, self.by_end = functions, dict[str, list[str]]()
         for name in functions:
             if name.split("::")[0] in crates:
                 self.by_end.setdefault(name.split("::")[-1], []).append(name)
 
-    def paired(self, declared, crates):
+    def paired(self, declared: list[Function], crates: Collection[str]) -> tuple[dict[str, Function], list[str]]:
         """The emitted functions of crates by the names of their MIR, and those that have none."""
         pairs, unpaired = {}, []
         for function in declared:
@@ -57,19 +61,19 @@ class Names:
                 pairs[name] = function
         return pairs, unpaired
 
-    def name_in_mir(self, function):
+    def name_in_mir(self, function: Function) -> str | None:
         """The name of the MIR of an emitted function, or None."""
         if not function.owner:
             name = "::".join(one for one in (function.module, function.trait, function.name) if one)
             return next((one for one in (name, f"{name}+decl") if one in self.functions), None)
-        whole = re.match(r"[\w:]+", re.sub(r"^&(mut )?", "", function.owner))[0]
+        whole = begin(r"[\w:]+", re.sub(r"^&(mut )?", "", function.owner))[0]
         owner = whole.split("::")[-1]
         crate = function.module.split("::")[0] + "::"
         found = [one for one in self.by_end.get(function.name, []) if one.startswith(crate)]
         if function.trait:
             # Two modules may have a type of one name: that of the function's own comes first.
             found.sort(key=lambda one: not one.startswith(f"{function.module}::"))
-            path = re.match(r"(?:::)?[\w:]+", function.trait)[0].split("::")[-1]
+            path = begin(r"(?:::)?[\w:]+", function.trait)[0].split("::")[-1]
             given = function.trait[function.trait.find("<") :] if "<" in function.trait else ""
             # A parameter of a parameter may be left out. Of a path each part begins with a large letter.
             listings = re.findall(r"\w+", given), [in_one_word(one) for one in re.findall(r"[\w:]+", given)]
@@ -80,19 +84,19 @@ class Names:
         inner = re.search(r"<(.*)>", function.owner)
         if len(found) > 1 and inner:
             is_nested = "<" in inner[1]
-            head = re.match(r"\w+", inner[1])[0]
+            head = begin(r"\w+", inner[1])[0]
             found = [one for one in found if ("+" in one.split("::")[-2]) == is_nested and (not is_nested or head in one)]
         if len(found) > 1:
             found = [one for one in found if one.startswith(function.module + "::")] or found
         return found[0] if len(found) == 1 else None
 
 
-def in_one_word(path):
+def in_one_word(path: str) -> str:
     """A path as the name of an implementation in the MIR has it."""
     return "".join(part[:1].upper() + part[1:] for part in path.split("::"))
 
 
-def title(function):
+def title(function: Function) -> str:
     owner = f"{function.trait} for {function.owner}" if function.trait and function.owner else function.trait or function.owner
     return "::".join(one for one in (function.module, re.sub(r"\s+", " ", owner), function.name) if one)
 
@@ -101,11 +105,20 @@ class Pairs:
     """The emitted functions with their MIR. `texts` has what is put behind each file, `calls` what runs it. `is_wanted` tells of a title
     whether it is compared: what is not, is not compiled."""
 
-    def __init__(self, declared, translation, crates, constants, is_wanted=lambda title: True):
+    def __init__(
+        self,
+        declared: Emitted,
+        translation: Translation,
+        crates: Collection[str],
+        constants: Iterable[tuple[str, str, str, str]],
+        is_wanted: Callable[[str], bool] = lambda title: True,
+    ) -> None:
         self.declared, self.translation, self.crates = declared, translation, crates
         self.types = [one for one in declared.types if one.module.split("::")[0] in crates]
-        self.texts, self.calls, self.compared, self.skipped = {}, [], {}, {}
-        self.methods, self.paths, self.is_wanted = {}, set(), is_wanted
+        self.texts, self.calls = dict[pathlib.Path, list[str]](), list[str]()
+        self.compared, self.skipped, self.paths = dict[str, str](), dict[str, str](), set[str]()
+        self.methods: dict[str, list[tuple[str, Function, list[str], str]]] = {}
+        self.is_wanted = is_wanted
         # The rings take the memory that they are given, and others that of the program.
         self.is_of_rings = "uart_ring" in crates
         self.pairs, self.unpaired = Names(translation.program.functions, crates).paired(declared.functions, crates)
@@ -118,10 +131,10 @@ class Pairs:
 
     # Arguments.
 
-    def put(self, file, text):
+    def put(self, file: pathlib.Path, text: str) -> None:
         self.texts.setdefault(file, []).append(text)
 
-    def over_device(self, function, text, number):
+    def over_device(self, function: Function, text: str, number: int | None) -> str:
         """A type of a signature, with the device for each parameter that is a way to reach one, a byte for one of which nothing is asked, and
         a number for one that is a number."""
         text = without_lifetimes(text)
@@ -136,7 +149,7 @@ class Pairs:
             text = re.sub(rf"\b{name}\b", f"u{OF_UNASKED[1]}", text)
         return text
 
-    def argument(self, order, text, of, least, given=None):
+    def argument(self, order: int, text: str, of: Type, least: int, given: str | None = None) -> Argument:
         """One argument, of this type in the signature, and of this type in the MIR. `given` is the text that makes it, if it is of INPUTS."""
         rust = self.translation.rust
         name, slot = f"a{order}", f"let mut a{order}"
@@ -175,30 +188,26 @@ class Pairs:
             return Argument(mine, theirs, name, name)
         return Argument(mine, theirs, f"&{reference[1] or ''}{name}", f"&raw mut {name} as *mut u8", bool(reference[1]))
 
-    def arguments(self, name, texts, types):
+    def arguments(self, name: str, texts: list[str], types: list[Type]) -> list[Argument]:
         least = 1 if name.split("::")[-1] in listed.NOT_EMPTY else 0
-        given = next((made for pattern, made in listed.INPUTS.items() if re.search(pattern, name)), [])
-        given = [*given, *[None] * (len(types) - len(given))]
+        listing = [made for pattern, made in listed.INPUTS.items() if re.search(pattern, name)][:1]
+        given = [one for made in listing for one in made]
+        given += [None] * (len(types) - len(given))
         return [self.argument(order, text, of, least, made) for order, (text, of, made) in enumerate(zip(texts, types, given))]
 
-    def instance(self, name, number=None):
+    def instance(self, name: str, number: int | None = None) -> tuple[str, list[Type], Type]:
         """The translated function over a device, or over a number, the types of its parameters, and that of its result."""
         function = self.translation.program.functions[name]
         asked = {one["Param"] for bound in function["generics"]["bounds"] for one in bound["types"] if "Param" in one}
         given = function["generics"]["types"]
-        types = tuple(
-            ("Num", number) if one["const_bits"] else natives.DEVICE if order in asked else OF_UNASKED for order, one in enumerate(given)
-        )
+        types = tuple(("Num", number) if one["const_bits"] else natives.DEVICE if order in asked else OF_UNASKED for order, one in enumerate(given))
         dictionaries = []
         for bound in function["generics"]["bounds"]:
-            found = natives.dictionary(bound["of"], tuple(self.translation.type(one, types) for one in bound["types"]))
-            if found is None:
-                raise Unknown(f"the bound {bound['of']}")
-            dictionaries.append(found)
+            dictionaries.append(natives.dictionary(bound["of"], tuple(self.translation.type(one, types) for one in bound["types"])))
         locals_ = [self.translation.type(one["ty"], types) for one in function["locals"][: function["params"] + 1]]
         return self.translation.instance(name, types, tuple(dictionaries)), locals_[1:], locals_[0]
 
-    def shown(self, of, name):
+    def shown(self, of: Type, name: str) -> str:
         """The statement that shows a result of the MIR."""
         if name.endswith("Clone::clone"):
             return 'match result.v0.f0 { 0 => Value::show(&{ result.v0.f1 }, &mut out), _ => panic!("no memory") }'
@@ -208,7 +217,9 @@ class Pairs:
 
     # Comparisons.
 
-    def compare(self, title, name, file, texts, call, path=None, number=None):
+    def compare(
+        self, title: str, name: str, file: pathlib.Path, texts: list[str], call: Callable[[list[str]], str], path: str = "", number: int | None = None
+    ) -> None:
         """Writes a comparison. `texts` has the types of the arguments as the signature has them, `call` gives the call of such arguments."""
         if not self.is_wanted(title):
             return
@@ -236,16 +247,16 @@ class Pairs:
         self.compared[title] = name
         self.calls.append(f"crate::proved::{self.declared.modules[file]}::compare_{order}(run);")
 
-    def own_numbers(self, body):
+    def own_numbers(self, body: str) -> list[int]:
         """The numbers in a body and those beside them, in order; a constant is in it by its name."""
         named = [value for name in re.findall(r"\b[A-Z][A-Z0-9_]+\b", body) for value in self.declared.values.get(name, ())]
         found = {*self.declared.numbers_in(body), *named}
         return sorted({at for one in found for at in (one - 1, one, one + 1) if 0 <= at < 1 << 64})
 
-    def skip(self, title, why):
+    def skip(self, title: str, why: object) -> None:
         self.skipped[title] = str(why)
 
-    def functions(self):
+    def functions(self) -> None:
         for name, function in self.pairs.items():
             for number in numbers(function):
                 try:
@@ -254,7 +265,7 @@ class Pairs:
                     # The cause is the same for each number.
                     self.skip(name, cause)
 
-    def one(self, name, function, number):
+    def one(self, name: str, function: Function, number: int | None) -> None:
         if name.endswith("+decl"):
             raise Unknown(DECLARATION)
         if re.search(r"impl |Formatter|dyn ", " ".join([*function.parameters, function.result])):
@@ -270,14 +281,12 @@ class Pairs:
         trait = self.over_device(function, function.trait, number)
         path = f"<{owner} as {trait}>::" if trait else f"<{owner}>::" if owner else ""
         called = f"{path}{function.name}"
-        self.compare(
-            with_number(name, number), name, function.file, texts, lambda passed: f"{called}({', '.join(passed)})", function.path(), number
-        )
+        self.compare(with_number(name, number), name, function.file, texts, calling(called), function.path(), number)
         is_method = texts and owner and texts[0] in (f"&{owner}", f"&mut {owner}")
         if is_method and function.is_public and listed.CONTRACTS.get(function.path(), OF_OFFSET) == OF_OFFSET:
             self.methods.setdefault(owner, []).append((name, function, texts, path))
 
-    def derived(self):
+    def derived(self) -> None:
         for one in self.types:
             for trait in one.derives:
                 method, count = DERIVED.get(trait, (None, 0))
@@ -293,12 +302,11 @@ class Pairs:
                 path = {"Clone": "Clone", "Default": "::core::default::Default"}.get(trait, f"::core::cmp::{trait}")
                 of = one.over(DEVICE)
                 try:
-                    call = f"<{of} as {path}>::{method}"
-                    self.compare(name, name, one.file, [f"&{of}"] * count, lambda passed, call=call: f"{call}({', '.join(passed)})")
+                    self.compare(name, name, one.file, [f"&{of}"] * count, calling(f"<{of} as {path}>::{method}"))
                 except (Unknown, KeyError) as cause:
                     self.skip(name, cause)
 
-    def printed(self):
+    def printed(self) -> None:
         for one in self.types:
             for trait, form in ((trait, form) for trait, forms in PRINTED.items() for form in forms):
                 name = f"{one.module}::{one.name}{trait}::fmt"
@@ -312,7 +320,7 @@ class Pairs:
                 except (Unknown, KeyError) as cause:
                     self.skip(title, cause)
 
-    def print_one(self, one, name, title, form):
+    def print_one(self, one: EmittedType, name: str, title: str, form: str) -> None:
         if not self.is_wanted(title):
             return
         # A value of a type that only borrows can be made if that is done by hand.
@@ -343,7 +351,7 @@ class Pairs:
         self.compared[title] = name
         self.calls.append(f"crate::proved::{self.declared.modules[one.file]}::compare_{order}(run);")
 
-    def constant(self, name, path, inside):
+    def constant(self, name: str, path: str, inside: str) -> None:
         """Writes a comparison of a constant with the function of the witness that returns it."""
         title = f"the constant {inside}"
         if not self.is_wanted(title):
@@ -358,14 +366,14 @@ class Pairs:
 
     # Sequences.
 
-    def sequences(self):
+    def sequences(self) -> None:
         """Writes a comparison of sequences of calls for each type that has a constructor in the list."""
         for constructor in listed.SEQUENCES:
             for number in numbers(self.pairs[constructor]) if constructor in self.pairs else []:
                 if self.is_wanted(title_of_sequences(constructor, number)):
                     self.sequence(constructor, number)
 
-    def sequence(self, constructor, number):
+    def sequence(self, constructor: str, number: int | None) -> None:
         function = self.pairs[constructor]
         owner = self.over_device(function, function.owner, number)
         texts = [self.over_device(function, one.split(":", 1)[1].strip().replace("Self", owner), number) for one in function.parameters]
@@ -409,7 +417,7 @@ class Pairs:
         self.compared[title] = constructor
         self.calls.append(f"crate::proved::{self.declared.modules[function.file]}::compare_{order}(run);")
 
-    def step(self, name, method, texts, path, owner, number, is_rust):
+    def step(self, name: str, method: Function, texts: list[str], path: str, owner: str, number: int | None, is_rust: bool) -> str:
         """One call of a sequence on one side: a helper in the file of the method, and the call of it."""
         order = f"{'rust' if is_rust else 'mir'}_step_{len(self.compared)}_{name.replace('::', '_').replace('+', '_')}"
         function, types, result = self.instance(name, number or listed.NUMBERS[0])
@@ -436,15 +444,19 @@ class Pairs:
         return f"crate::proved::{self.declared.modules[method.file]}::{order}({state}, choices, &mut out);"
 
 
-def numbers(function):
+def calling(called: str) -> Callable[[list[str]], str]:
+    return lambda passed: f"{called}({', '.join(passed)})"
+
+
+def numbers(function: Function) -> Sequence[int | None]:
     """What is given for the parameter of a function that is a number: nothing, if it has none."""
-    return listed.NUMBERS if NUMBER.search(function.generics) else [None]
+    return [*listed.NUMBERS] if NUMBER.search(function.generics) else [None]
 
 
-def with_number(title, number):
+def with_number(title: str, number: int | None) -> str:
     """A title of what is compared with a number for a parameter. The first one is the usual one."""
     return title if number in (None, listed.NUMBERS[0]) else f"{title} of {number}"
 
 
-def title_of_sequences(constructor, number):
+def title_of_sequences(constructor: str, number: int | None) -> str:
     return with_number(f"sequences of {constructor.rsplit('::', 1)[0]}", number)

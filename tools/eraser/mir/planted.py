@@ -17,10 +17,10 @@ class Plant(typing.NamedTuple):
     file: str
     old: str
     new: str
-    said: list
+    said: list[str]
     is_read: bool = True
 
-    def found_by(self):
+    def found_by(self) -> str:
         """What finds it beside the second reader, in words."""
         ways = dict.fromkeys(found[1] for one in self.said if (found := re.match(rf"\^({'|'.join(WAYS)}):", one)))
         if ways:
@@ -289,12 +289,12 @@ PLANTED = {
 }
 
 
-def is_wanted(title):
+def is_wanted(title: str) -> bool:
     """Whether something is to be said of the comparison with this title."""
     heads = [re.sub(r"^\^\w+: \.\*", "", pattern).split(": ")[0] for entries in PLANTED.values() for one in entries for pattern in one.said]
     return any(re.search(head, title) for head in heads)
 
 
-def every():
+def every() -> list[Plant]:
     """All that is planted."""
     return [one for entries in PLANTED.values() for one in entries] + OF_INTERFACES

@@ -6,7 +6,26 @@ in prefix order. Here a type is "Unit", "Bool", "Ptr", "Never", ("Int", bits), (
 trait, is (name, types, dictionaries).
 """
 import json
+import pathlib
 import sys
+from collections.abc import Callable, Mapping, Sequence
+from typing import Any
+
+# A node of the MIR, as JSON has it: `head` says which of many forms it is of.
+Node = Any
+# A type as above: a name, or a tuple whose first part says what the others are.
+Type = Any
+Types = tuple[Type, ...]
+# A dictionary, whose own dictionaries are as deep.
+Dictionary = tuple[str, Types, tuple[Any, ...]]
+Dictionaries = tuple[Dictionary, ...]
+# A function by its name; or what has no MIR: ("native", name, or an implementation with the index of its method).
+Key = Any
+# The types of the arguments, the type of the result, and the body.
+Made = tuple[list[str], str, str]
+Native = Callable[["Translation", Types], Made]
+# Of a struct or an enum: `fields` or `variants`, and of each variant the types of its fields and their names.
+Parts = tuple[str, list[list[tuple[Type, str]]]]
 
 # A body is as deep as its code is nested.
 sys.setrecursionlimit(100_000)
@@ -35,7 +54,7 @@ class Unknown(Exception):
     """A form of the MIR that is not translated."""
 
 
-def head(node):
+def head(node: Node) -> tuple[str, Node]:
     """The kind of a node, and what belongs to it."""
     if isinstance(node, str):
         return node, None
@@ -46,35 +65,37 @@ def head(node):
 class Program:
     """The functions, types and implementations of some crates."""
 
-    def __init__(self, paths):
-        self.functions, self.types, self.implementations = {}, {}, {}
+    def __init__(self, paths: Sequence[pathlib.Path]) -> None:
+        self.functions, self.types, self.implementations = dict[str, Node](), dict[str, Node](), dict[str, Node]()
         for path in paths:
             with open(path, encoding="utf-8") as file:
                 for name, function in json.load(file):
                     self.functions[name] = function
                     self.types |= {one["name"]: one for one in function["types"]}
                     self.implementations |= {one["name"]: one for one in function["generics"]["impls"]}
-        self.methods = {}
+        self.methods: dict[tuple[str, int], str] = {}
         for name, function in self.functions.items():
             of = function["generics"]["method_of"]
             if of and "Impl" in of:
-                self.methods[tuple(of["Impl"])] = name
+                self.methods[of["Impl"][0], of["Impl"][1]] = name
 
 
 class Translation:
     """A program, and what of it has become Rust. `natives` has what is written by hand: by function, or by implementation and index of the
     method, a function of the translation and the types that returns the types of the arguments, the type of the result, and the body."""
 
-    def __init__(self, program, natives, own):
+    def __init__(self, program: Program, natives: Mapping[Any, Native], own: Sequence[str]) -> None:
         self.program, self.natives, self.own = program, natives, own
-        self.instances, self.waiting, self.texts = {}, [], []
-        self.names_of_types, self.shapes = {}, {}
-        self.statics, self.places, self.types_of_statics = {}, {}, {}
-        self.unknown = []
+        self.instances: dict[tuple[Key, Types, Dictionaries], str] = {}
+        self.waiting, self.texts = list[tuple[Key, Types, Dictionaries]](), list[str]()
+        self.names_of_types, self.shapes = dict[Type, str](), dict[str, tuple[Type, Parts]]()
+        self.statics, self.types_of_statics = dict[str, tuple[str, str]](), dict[str, Type]()
+        self.places: dict[tuple[str, int, str], int] = {}
+        self.unknown: list[tuple[Key, str]] = []
 
     # Types.
 
-    def type(self, node, types):
+    def type(self, node: Node, types: Types) -> Type:
         """The type of a node, with these types for its parameters."""
         kind, value = head(node)
         if kind in ("Unit", "Bool", "Ptr", "Never"):
@@ -96,17 +117,17 @@ class Translation:
         return ("Other", json.dumps(node))
 
     @staticmethod
-    def number(node, types):
+    def number(node: Node, types: Types) -> int:
         kind, value = head(node)
         if kind == "Lit":
-            return value
+            return int(value)
         if kind == "Param":
-            return types[value][1]
+            return int(types[value][1])
         if kind == "Const":
             return int(value[1] if isinstance(value, list) else value)
         raise Unknown(f"a number {kind}")
 
-    def dictionary(self, node, types, dictionaries):
+    def dictionary(self, node: Node, types: Types, dictionaries: Dictionaries) -> Dictionary:
         kind, value = head(node)
         if kind == "Given":
             return dictionaries[value]
@@ -115,7 +136,7 @@ class Translation:
             return (value[0], tuple(self.type(one, types) for one in value[1]), inner)
         raise Unknown(f"a dictionary {kind}")
 
-    def rust(self, of):
+    def rust(self, of: Type) -> str:
         """The Rust type of a type."""
         if of in self.names_of_types:
             return self.names_of_types[of]
@@ -136,16 +157,16 @@ class Translation:
         self.names_of_types[of] = name
         return name
 
-    def rust_outside(self, of):
+    def rust_outside(self, of: Type) -> str:
         """The Rust type of a type, as another module names it."""
         name = self.rust(of)
         return f"crate::mir::{name}" if name[0] in "ST" else name
 
-    def shape(self, of):
+    def shape(self, of: Type) -> str:
         """The name of the Rust type of a struct or an enum, which has the same fields in the same order."""
         name = f"{of[0][0].replace('N', 'T')}{len(self.shapes)}"
         self.names_of_types[of] = name
-        self.shapes[name] = (of, None)
+        self.shapes[name] = (of, ("", []))
         if of[0] == "Struct":
             kind, parts = "fields", [of[2]]
         else:
@@ -159,7 +180,7 @@ class Translation:
         self.shapes[name] = (of, (kind, [[(one, self.rust(one)) for one in part] for part in parts]))
         return name
 
-    def layout(self, of):
+    def layout(self, of: Type) -> tuple[int, int]:
         """The bytes of a type and what they are aligned to, as the kit lays it out: an address has eight, whatever target is compiled for."""
         if of in ("Unit", "Never"):
             return 0, 1
@@ -179,13 +200,13 @@ class Translation:
             align = max([align, *(self.layout(one)[1] for one in fields)])
         return -(-size // align) * align, align
 
-    def variants(self, of):
+    def variants(self, of: Type) -> list[list[Type]]:
         """The types of the fields of a struct, or of each variant of an enum, whose first one is its number."""
         kind, parts = self.parts(of)
         number = [("Int", 8)] if kind == "variants" else []
         return [[*number, *(one for one, _ in part)] for part in parts]
 
-    def places_of_fields(self, fields):
+    def places_of_fields(self, fields: list[Type]) -> list[tuple[int, int]]:
         """Where each field begins, and how many bytes it has."""
         places, at = [], 0
         for one in fields:
@@ -195,7 +216,7 @@ class Translation:
             at += size
         return places
 
-    def declared(self, of, order):
+    def declared(self, of: Type, order: int) -> tuple[list[str], bool]:
         """The fields of a struct, or of the variant with this number, as Rust declares them, and whether there are bytes between them. They
         are where the kit has them: a number of 64 bits is aligned to eight bytes on each target, and an address has eight."""
         out, end, fields = [], 0, self.variants(of)[order]
@@ -211,11 +232,11 @@ class Translation:
             out.append(f"pub e: [u8; {whole - end}]")
         return out, len(out) > len(fields)
 
-    def rest(self, of, order=0):
+    def rest(self, of: Type, order: int = 0) -> str:
         """What a value of this struct or variant ends with behind its fields: the bytes between them."""
         return ", ..unsafe { core::mem::zeroed() }" if self.declared(of, order)[1] else ""
 
-    def at_byte(self, of, offset):
+    def at_byte(self, of: Type, offset: int) -> str:
         """The text behind a value of this type that names the part which begins at this byte."""
         if offset == 0:
             return ""
@@ -230,13 +251,13 @@ class Translation:
                 return f".f{order}{self.at_byte(fields[order], offset - start)}"
         raise Unknown(f"a byte behind {of}")
 
-    def parts(self, of):
+    def parts(self, of: Type) -> Parts:
         """What a struct or an enum has: `fields` or `variants`, and of each variant the types and their names."""
         return self.shapes[self.rust(of)][1]
 
     # Functions.
 
-    def instance(self, name, types=(), dictionaries=()):
+    def instance(self, name: Key, types: Types = (), dictionaries: Dictionaries = ()) -> str:
         """The Rust name of a function over concrete types."""
         key = (name, types, dictionaries)
         if key not in self.instances:
@@ -244,7 +265,7 @@ class Translation:
             self.waiting.append(key)
         return self.instances[key]
 
-    def method(self, dictionary, index, types, dictionaries):
+    def method(self, dictionary: Dictionary, index: int, types: Types, dictionaries: Dictionaries) -> str:
         key = (dictionary[0], index)
         if key in self.natives:
             return self.instance(("native", key), dictionary[1] + types)
@@ -258,11 +279,11 @@ class Translation:
             raise Unknown(f"the method {index} of {dictionary[0]}")
         return self.instance(name, dictionary[1] + types, dictionary[2] + dictionaries)
 
-    def place(self, function, order, label):
+    def place(self, function: str, order: int, label: str) -> int:
         """The number of a place of an own function: its entry, or a branch, which all instances share."""
         return self.places.setdefault((function, order, label), len(self.places))
 
-    def translate(self):
+    def translate(self) -> None:
         while self.waiting:
             key = self.waiting.pop()
             try:
@@ -270,7 +291,7 @@ class Translation:
             except (Unknown, KeyError) as cause:
                 self.unknown.append((key[0], repr(cause)))
 
-    def function(self, key):
+    def function(self, key: tuple[Key, Types, Dictionaries]) -> str:
         name, types, dictionaries = key
         native = self.natives.get(name[1] if isinstance(name, tuple) else name)
         if native or isinstance(name, tuple):
@@ -282,7 +303,7 @@ class Translation:
             return f"pub unsafe fn {self.instances[key]}({listed}) -> {result} {{ {body} }}"
         return Body(self, name, types, dictionaries).text(self.instances[key])
 
-    def module(self):
+    def module(self) -> str:
         """The text of the module: types, statics and functions."""
         out = [HEAD]
         for name, (of, (kind, parts)) in list(self.shapes.items()):
@@ -302,13 +323,13 @@ class Translation:
 class Body:
     """The body of one function, over concrete types, as Rust."""
 
-    def __init__(self, translation, name, types, dictionaries):
+    def __init__(self, translation: Translation, name: str, types: Types, dictionaries: Dictionaries) -> None:
         self.of, self.name, self.types, self.dictionaries = translation, name, types, dictionaries
         self.function = translation.program.functions[name]
         self.locals = [translation.type(one["ty"], types) for one in self.function["locals"]]
-        self.lines, self.at, self.labels, self.branches = [], 0, 0, 0
+        self.lines, self.at, self.labels, self.branches = list[str](), 0, 0, 0
 
-    def text(self, me):
+    def text(self, me: str) -> str:
         count, rust = self.function["params"], [self.of.rust(one) for one in self.locals]
         parameters = ", ".join(f"mut l{order + 1}: {rust[order + 1]}" for order in range(count))
         self.reach("entry")
@@ -320,7 +341,7 @@ class Body:
         comment = f"// {self.name}"
         return "\n".join([comment, f"pub unsafe fn {me}({parameters}) -> {rust[0]} {{", *start, *self.lines, "l0", "}"])
 
-    def reach(self, label):
+    def reach(self, label: str) -> None:
         """Notes that a place of an own function is reached."""
         if self.name.split("::")[0] in self.of.own:
             self.lines.append(f"crate::run::reach({self.of.place(self.name, self.branches, label)});")
@@ -328,7 +349,7 @@ class Body:
 
     # Statements.
 
-    def node(self, labels):
+    def node(self, labels: list[str]) -> None:
         statement = self.function["body"][self.at]
         self.at += 1
         kind, value = head(statement)
@@ -337,14 +358,14 @@ class Body:
             raise Unknown(f"a statement {kind}")
         write(value, labels)
 
-    def write_seq(self, _, labels):
+    def write_seq(self, _: Node, labels: list[str]) -> None:
         self.node(labels)
         self.node(labels)
 
-    def write_skip(self, _, labels):
+    def write_skip(self, _: Node, labels: list[str]) -> None:
         pass
 
-    def write_block(self, _, labels, word=""):
+    def write_block(self, _: Node, labels: list[str], word: str = "") -> None:
         self.labels += 1
         label = f"'b{self.labels}"
         self.lines.append(f"{label}: {word}{{")
@@ -353,19 +374,19 @@ class Body:
         self.node([label, *labels])
         self.lines.append("}")
 
-    def write_loop(self, value, labels):
+    def write_loop(self, value: Node, labels: list[str]) -> None:
         self.write_block(value, labels, "loop ")
 
-    def write_return(self, _, labels):
+    def write_return(self, _: Node, labels: list[str]) -> None:
         self.lines.append("return l0;")
 
-    def write_exit(self, value, labels):
+    def write_exit(self, value: Node, labels: list[str]) -> None:
         self.lines.append(f"break {labels[value]};")
 
-    def write_unreachable(self, _, labels):
+    def write_unreachable(self, _: Node, labels: list[str]) -> None:
         self.lines.append('panic!("unreachable in the MIR");')
 
-    def write_if(self, value, labels):
+    def write_if(self, value: Node, labels: list[str]) -> None:
         self.lines.append(f"if {self.operand(value)[0]} {{")
         self.reach("if")
         self.node(labels)
@@ -374,7 +395,7 @@ class Body:
         self.node(labels)
         self.lines.append("}")
 
-    def write_switch(self, value, labels):
+    def write_switch(self, value: Node, labels: list[str]) -> None:
         self.lines.append(f"match ({self.operand(value[0])[0]}) as u64 {{")
         for numbers in value[1]:
             self.lines.append(" | ".join(map(str, numbers)) + " => {")
@@ -390,17 +411,17 @@ class Body:
             self.lines.append('_ => panic!("no case in the MIR"),')
         self.lines.append("}")
 
-    def write_assign(self, value, labels):
+    def write_assign(self, value: Node, labels: list[str]) -> None:
         text, of = self.place(value[0])
         self.lines.append(f"{text} = {self.value(value[1], of)};")
 
-    def write_lendstatic(self, value, labels):
+    def write_lendstatic(self, value: Node, labels: list[str]) -> None:
         of, name = self.of.type(value[1], self.types), f"C{len(self.of.statics)}"
-        self.of.statics[name], self.of.types_of_statics[name] = None, of
+        self.of.statics[name], self.of.types_of_statics[name] = ("", ""), of
         self.of.statics[name] = (self.of.rust(of), self.constant(value[2], of, name))
         self.lines.append(f"{self.place(value[0])[0]} = &raw const {name} as P;")
 
-    def write_call(self, value, labels):
+    def write_call(self, value: Node, labels: list[str]) -> None:
         called, arguments, result = value
         kind, what = head(called)
         given = what[1] if kind == "Fn" else what[2] if kind == "Method" else None
@@ -419,7 +440,7 @@ class Body:
 
     # Places and values.
 
-    def place(self, node):
+    def place(self, node: Node) -> tuple[str, Type]:
         """The text of a place, and its type."""
         text, of = f"l{node['local']}", self.locals[node["local"]]
         for step in node["steps"]:
@@ -439,7 +460,7 @@ class Body:
                 raise Unknown(f"a step {kind}")
         return text, of
 
-    def operand(self, node):
+    def operand(self, node: Node) -> tuple[str, Type]:
         """The text of an operand, and its type."""
         kind, value = head(node)
         if kind in ("Copy", "Move"):
@@ -458,7 +479,7 @@ class Body:
             return f"{size if kind == 'SizeOf' else align}u64", ("Int", 64)
         raise Unknown(f"an operand {kind}")
 
-    def made(self, of, parts, tag):
+    def made(self, of: Type, parts: list[str], tag: int | None) -> str:
         """A struct of these parts, or the variant of this number."""
         name = self.of.rust(of)
         fields = ", ".join(f"f{order}: {one}" for order, one in enumerate(parts))
@@ -467,7 +488,7 @@ class Body:
             return f"{name} {{ {fields}{rest if fields else ''} }}"
         return f"{name} {{ v{tag}: {name}v{tag} {{ {fields}{rest} }} }}"
 
-    def aggregate(self, of, nodes, text):
+    def aggregate(self, of: Type, nodes: list[Node], text: Callable[[Node, Type], str]) -> str:
         """An array, a struct or a variant of these nodes, each of which `text` writes, given its type."""
         if of == "Unit":
             return "()"
@@ -480,7 +501,7 @@ class Body:
         rest = [text(one, part[0]) for one, part in zip(nodes[1:], parts[tag])]
         return self.made(of, [f"{tag}u8", *rest], tag)
 
-    def constant(self, node, of, static):
+    def constant(self, node: Node, of: Type, static: str) -> str:
         """The text of what a static is made of."""
         kind, value = head(node)
         if kind == "Int":
@@ -499,7 +520,7 @@ class Body:
             return self.aggregate(of, value, lambda one, part: self.constant(one, part, static))
         raise Unknown(f"a constant {kind}")
 
-    def value(self, node, of):
+    def value(self, node: Node, of: Type) -> str:
         """The text of what is assigned to a place of this type."""
         kind, value = head(node)
         if kind == "Opd":
@@ -522,7 +543,7 @@ class Body:
             return f"{lanes}.fold(0u64, |mask, (at, lane)| if *lane != 0 {{ mask | 1 << at }} else {{ mask }})"
         raise Unknown(f"a value {kind}")
 
-    def of_one(self, operation, text, of, to):
+    def of_one(self, operation: tuple[str, Node], text: str, of: Type, to: Type) -> str:
         kind, value = operation
         if kind == "Not":
             return f"!{text}"
@@ -538,7 +559,7 @@ class Body:
         raise Unknown(f"an operation {kind}")
 
     @staticmethod
-    def of_two(operation, first, second):
+    def of_two(operation: tuple[str, Node], first: tuple[str, Type], second: tuple[str, Type]) -> str:
         (kind, sign), (one, of), (other, _) = operation, first, second
         if kind == "Offset":
             return f"({one}).wrapping_add({other} as usize)"
@@ -557,4 +578,3 @@ class Body:
             raise Unknown(f"an operation {kind}")
         done = f"checked(({one}).checked_{kind.lower()}({other}))"
         return f"({done} as u{of[1]})" if sign == "Signed" else done
-

@@ -1,6 +1,10 @@
 """The text of `Value` for each type: of the emitted crate, and of the translated MIR. Both make a value of the same choices, field by field
 in the order of the source, and show it as the same words."""
 import re
+from collections.abc import Mapping
+
+from emitted import Type as EmittedType
+from translate import Translation, Type
 
 VALUE, CHOICES, WORDS = "crate::run::Value", "crate::run::Choices", "::std::vec::Vec<u64>"
 HEAD = f"fn show(&self, out: &mut {WORDS})"
@@ -11,7 +15,7 @@ ONE = f"{VALUE}::make(choices)"
 BY_HAND = {"ArrayVec", "ByteQueue", "Characters", "FixedFifo", "FixedWire", "KeptCharacters", "Path", "Tree"}
 
 
-def of_emitted(one):
+def of_emitted(one: EmittedType) -> str:
     """The text for a type of the emitted crate."""
     parameters, arguments = [], []
     for parameter in one.parameters:
@@ -64,10 +68,7 @@ OF_MIR = {
         "unsafe { let mut made: Self = zeroed(); made.f0.f0 = one.as_ptr() as *mut u8; made.f0.f1 = one.len() as u64; "
         "made.f1.f0 = other.as_ptr() as *mut u8; made.f1.f1 = other.len() as u64; made }",
     ),
-    "uart_discovery::tree::path::Path": (
-        "self.f0.show(out); out.push(self.f1);",
-        "let (f0, f1) = crate::run::nodes(choices); Self { f0, f1{rest} }",
-    ),
+    "uart_discovery::tree::path::Path": ("self.f0.show(out); out.push(self.f1);", "let (f0, f1) = crate::run::nodes(choices); Self { f0, f1{rest} }"),
     "arrayvec::array_vec::ArrayVec": (
         "self.f0.f0[..self.f1 as usize].show(out);",
         "unsafe { let mut made: Self = zeroed(); made.f1 = choices.pick(made.f0.f0.len() as u64 + 1); "
@@ -79,10 +80,7 @@ OF_MIR = {
         "made.f0.f0[..text.len()].copy_from_slice(&text); made }",
     ),
     # A sum of errors is no more than a queue has characters: what is above is left to no `usize` of 32 bits.
-    "uart_chip::characters::Characters": (
-        "self.f0.show(out); out.push(self.f1);",
-        "Self { f0: Value::make(choices), f1: choices.number(16){rest} }",
-    ),
+    "uart_chip::characters::Characters": ("self.f0.show(out); out.push(self.f1);", "Self { f0: Value::make(choices), f1: choices.number(16){rest} }"),
     "uart_live::fixed::FixedFifo": (
         "out.extend([self.f1, self.f2]); self.f0.show(out);",
         "let (f1, f2) = (choices.pick({number}), choices.pick({number} + 1)); Self { f0: Value::make(choices), f1, f2{rest} }",
@@ -94,10 +92,10 @@ OF_MIR = {
 }
 
 
-def of_mir(translation, by_hand=None):
+def of_mir(translation: Translation, by_hand: Mapping[str, tuple[str, str]] | None = None) -> str:
     """The text for all types of the translated MIR. What a reference points to is shown, and never made. `by_hand` has more types as OF_MIR has
     them."""
-    names, out = set(), []
+    names, out = set[str](), list[str]()
     while names != set(translation.shapes):
         for name in [one for one in translation.shapes if one not in names]:
             names.add(name)
@@ -114,7 +112,7 @@ LIST = (
 )
 
 
-def of_shape(translation, name, by_hand):
+def of_shape(translation: Translation, name: str, by_hand: Mapping[str, tuple[str, str]]) -> str:
     of, (kind, parts) = translation.shapes[name]
     mine = by_hand.get(of[1]) if of[0] == "Named" else None
     if mine:
@@ -149,7 +147,7 @@ def of_shape(translation, name, by_hand):
     )
 
 
-def field(translation, text, of):
+def field(translation: Translation, text: str, of: Type) -> str:
     """The text that shows a field, or what it points to."""
     if of == "Ptr" or of != "Unit" and of[0] == "Ref" and of[1] in ("Ptr", "Unit"):
         return ""
@@ -158,6 +156,6 @@ def field(translation, text, of):
     return f"{{ let field = {text}; field.show(out); }}"
 
 
-def without_lifetimes(text):
+def without_lifetimes(text: str) -> str:
     """A type without the names of lifetimes."""
     return re.sub(r"<'\w+>", "<'_>", re.sub(r"&'\w+ ", "&", text))

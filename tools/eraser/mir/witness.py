@@ -20,13 +20,14 @@ ITEM = re.compile(r"(?m)^pub (const|struct|enum|type) (\w+)")
 class Exports:
     """What crates export: `types` by crate and name, and `constants` by the module that declares them and the name, with the path outside."""
 
-    def __init__(self, folder, crates, declared):
-        self.folder, self.types, self.constants = folder, {}, {}
+    def __init__(self, folder: pathlib.Path, crates: list[str], declared: emitted.Emitted) -> None:
+        self.folder = folder
+        self.types, self.constants = dict[tuple[str, str], str](), dict[tuple[str, str], str]()
         self.names_of_types = {one.name for one in declared.types} | {"DATA", "SPR", "DLL", "DLM"}
         for crate in crates:
             self.walk((crate,))
 
-    def walk(self, module):
+    def walk(self, module: tuple[str, ...]) -> None:
         """Reads a public module, and those below it."""
         path = self.folder.joinpath(*module)
         file = path / "mod.rs" if (path / "mod.rs").exists() else path.with_suffix(".rs")
@@ -44,12 +45,12 @@ class Exports:
         for name in re.findall(r"(?m)^pub mod (\w+);", text):
             self.walk((*module, name))
 
-    def constant(self, module, name):
+    def constant(self, module: str, name: str) -> str | None:
         """The path outside of a constant that this module declares, or None. Modules above it may export it again."""
         found = [path for (origin, one), path in self.constants.items() if one == name and f"{module}::".startswith(f"{origin}::")]
         return found[0] if found else None
 
-    def export(self, module, origin, name, kind):
+    def export(self, module: tuple[str, ...], origin: tuple[str, ...], name: str, kind: str) -> None:
         outside = "::".join([*module, name])
         if kind != "const" and name in self.names_of_types:
             self.types.setdefault((module[0], name), outside)
@@ -57,7 +58,7 @@ class Exports:
             self.constants.setdefault(("::".join(origin), name), outside)
 
 
-def constants(declared, folder, crates):
+def constants(declared: emitted.Emitted, folder: pathlib.Path, crates: list[str]) -> list[tuple[str, str, str, str]]:
     """The public constants: a name for the function, the type and the path outside, and where each is in the emitted crate."""
     exports, found = Exports(folder, crates, declared), []
     for module, owner, name, of, visibility in declared.constants:
@@ -74,12 +75,14 @@ def constants(declared, folder, crates):
     return found
 
 
-def text_of(listed):
+def text_of(listed: list[tuple[str, str, str, str]]) -> str:
     functions = [f"/// Returns `{path}`.\npub fn {name}() -> {of} {{\n    {path}\n}}\n" for name, of, path, _ in listed]
     return HEAD + "\n" + "\n".join(functions)
 
 
-def prove(kit, rlibs, listed, out):
+def prove(
+    kit: pathlib.Path, rlibs: dict[str, pathlib.Path], listed: list[tuple[str, str, str, str]], out: pathlib.Path
+) -> tuple[pathlib.Path | None, str | None]:
     """Proves the crate, unless the same text was proved over the same libraries. Returns the file with its MIR, or what went wrong."""
     text = text_of(listed)
     inputs = [text.encode(), *((path / "toolchain" / "mir.json").read_bytes() for path in rlibs.values())]
@@ -88,8 +91,8 @@ def prove(kit, rlibs, listed, out):
     if mir.exists():
         return mir, None
     # `rt ci` takes no source that is in the repository and in no crate.
-    with tempfile.TemporaryDirectory() as folder:
-        folder = pathlib.Path(folder)
+    with tempfile.TemporaryDirectory() as room:
+        folder = pathlib.Path(room)
         (folder / "src").mkdir()
         (folder / "src" / "lib.rt").write_text(text, encoding="utf-8")
         words = [f"{kit}/bin/rattle", "build", "src/lib.rt", "--crate-name", NAME, "--jobs", "1"]
