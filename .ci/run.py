@@ -83,7 +83,7 @@ COMMANDS = [
     Command("tools/eraser/erase corpus", **BESIDE),
     Command("integration/readme", **BESIDE | {"without": OF_RUST, "but": READMES}),
     Command("integration/packages", **BESIDE | {"without": OF_RUST, "but": READMES}),
-    Command("rust/tests/interface", **BESIDE | {"without": OF_RUST, "but": READMES}),
+    Command("rust/tests/interface", **BESIDE | {"without": OF_RUST, "but": [*READMES, "CHANGELOG.md"]}),
     Command("integration/rust apart", **BESIDE),
     Command("integration/doc", **BESIDE | {"without": OF_RUST, "but": READMES}),
     Command(".ci/refused-memory", **OVER | {"but": [".ci/refused-memory"]}),
