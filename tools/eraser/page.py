@@ -1,4 +1,4 @@
-"""The tables of tools/eraser/README.md, which are the tables of the program."""
+"""The tables of the program, as `erase tables` prints them. tools/eraser/README.md shows two of them."""
 import re
 
 import attacks
@@ -6,7 +6,7 @@ import foreign
 import table
 
 NAME = "tools/eraser/README.md"
-BLOCK = re.compile(r"(<!-- eraser: ([a-z ]+) -->\n).*?(?=<!-- end -->\n)", re.DOTALL)
+BLOCK = re.compile(r"(<!-- eraser: ([a-z-]+) -->\n).*?(?=<!-- end -->\n)", re.DOTALL)
 
 
 def rows(head, lines):
@@ -50,7 +50,7 @@ def blocks():
         "guards": rows(["function", "requires", "in Rust", "why"], [guard(*one) for one in table.GUARDS.items()]),
         "attacks": rows(["attack", "found by"], attacks.table()),
         "constant": rows(["type", "`const fn` in Rust"], constant),
-        "let through": rows(
+        "let-through": rows(
             ["of its kind, only"],
             [
                 ["macros: " + ", ".join(code(f"{name}!") for name in table.MACROS)],
