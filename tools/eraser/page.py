@@ -6,6 +6,7 @@ import foreign
 import table
 
 NAME = "tools/eraser/README.md"
+NAMED = re.compile(r"`erase tables ([a-z-]+)`")
 BLOCK = re.compile(r"(<!-- eraser: ([a-z-]+) -->\n).*?(?=<!-- end -->\n)", re.DOTALL)
 
 
@@ -61,6 +62,11 @@ def blocks():
             ],
         ),
     }
+
+
+def unknown(text):
+    """The tables that the page names and that are none."""
+    return [name for name in NAMED.findall(text) if name not in blocks()]
 
 
 def written(text):
