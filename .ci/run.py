@@ -37,7 +37,7 @@ PAGES = ["CHANGELOG.md", "CONTRIBUTING.md", "SECURITY.md", "docs/*.md", ".ci/*",
 # Definitions are none of them: the eraser holds what it writes beside some of these.
 PROOFS = ["crates/*/proofs/*", "crates/*/wrong-bodies"]
 # The pages that commands compare with code, and what is in .ci and is such a command.
-C_PAGES = ["docs/C.md", "docs/C_INTERRUPTS.md", "docs/HARDWARE.md", "docs/MANUAL.md", "docs/AUDIT.md"]
+C_PAGES = ["docs/C.md", "docs/C_INTERRUPTS.md", "docs/HARDWARE.md", "docs/MANUAL.md", "docs/AUDIT.md", "docs/TROUBLE.md"]
 
 CI, C = "rt ci", "./prove --after-ci uart_c"
 # The code that is proved of that library, of which C is made too.
@@ -98,7 +98,7 @@ COMMANDS = [
     beside("tools/eraser/erase corpus"),
     beside("integration/readme", without=OF_RUST, but=READMES),
     beside("integration/packages", without=OF_RUST, but=READMES),
-    beside("rust/tests/interface", without=OF_RUST, but=READMES),
+    beside("rust/tests/interface", without=OF_RUST, but=[*READMES, "CHANGELOG.md"]),
     beside("integration/rust apart"),
     beside("integration/doc", without=OF_RUST, but=READMES),
     over(".ci/refused-memory", but=[".ci/refused-memory"]),

@@ -4,8 +4,8 @@
 FOLDER, which is made if it is not there, gets u16550-VERSION.tar.gz: the pairs of files, what builds and installs them, the example, the
 pages on how they are installed and used, and the licences. The same commit always gives the same bytes. Prints the path of the archive.
 
-The version is that of the packages of Rust. Refuses a checkout that has what is in no commit, a changelog of the driver whose newest section
-is not this version with a date, and an address that nobody has; `--unreleased` lets these be, as `integration/c` does, which tries all of
+The version is that of the packages of Rust. Refuses a checkout that has what is in no commit, a changelog whose newest section is not
+this version with a date, and an address that nobody has; `--unreleased` lets these be, as `integration/c` does, which tries all of
 this in the gate.
 """
 import argparse
@@ -23,7 +23,7 @@ TOP = pathlib.Path(__file__).resolve().parent.parent
 # What is beside the files of this folder. Links of its pages lead to what is in the archive, or out of it, into the repository.
 BESIDE = {"LICENSE-APACHE": "LICENSE-APACHE", "LICENSE-MIT": "LICENSE-MIT", "C.md": "docs/C.md"}
 NOT_SHIPPED = {"for_release.py"}
-CHANGES = "rust/uart_16550/CHANGELOG.md"
+CHANGES = "CHANGELOG.md"
 # The host of an address that nobody has: https://www.rfc-editor.org/rfc/rfc2606
 NOBODY = ".invalid"
 LINK = re.compile(r"\]\((?!https?:|#)([^)]*)\)")

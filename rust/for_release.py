@@ -34,7 +34,7 @@ BESIDE = re.compile(r"With a checkout of the repository beside (your program|it)
 README, PAGE = "README.md", "REGISTRY.md"
 RUST = ["", "rust", "no_run", "should_panic", "rust,no_run", "rust,should_panic"]
 HIDDEN = re.compile(r"# .*|#")
-SECTION = re.compile(r"^## (.*)$", re.M)
+CHANGES, SECTION = "CHANGELOG.md", re.compile(r"^## (.*)$", re.M)
 BRACKETS = re.compile(r"\[`([^`\]]+)`\](?![(:\[])")
 
 
@@ -92,6 +92,10 @@ def causes(found: dict[str, Package], is_release: bool) -> Iterator[str]:
     versions = {package.version for package in found.values()}
     if len(versions) != 1:
         yield f"the packages have several versions: {', '.join(sorted(versions))}"
+    newest = SECTION.search((TOP / CHANGES).read_text(encoding="utf-8")) if is_release else None
+    ours = "|".join(map(re.escape, versions))
+    if is_release and not (newest and re.fullmatch(rf"(?:{ours}), \d{{4}}-\d\d-\d\d", newest[1])):
+        yield f"{CHANGES}: the newest section is '{newest[1] if newest else ''}', and not {', '.join(sorted(versions))} with a date"
     addresses = {package.about.get(key, "") for package in found.values() for key in ("repository", "homepage")}
     yield from (f"{one}: nobody has this address" for one in sorted(addresses) if is_release and NOBODY in one)
     for folder, package in found.items():
@@ -101,10 +105,6 @@ def causes(found: dict[str, Package], is_release: bool) -> Iterator[str]:
         if package.name != name_of(folder):
             yield f"{at}: the name is not {name_of(folder)}"
         yield from (f"{at}: there is no `{key}`" for key in KEYS if not package.about.get(key))
-        changes = TOP / folder / "CHANGELOG.md"
-        newest = SECTION.search(changes.read_text(encoding="utf-8")) if is_release and changes.exists() else None
-        if newest and not re.fullmatch(rf"{re.escape(package.version)}, \d{{4}}-\d\d-\d\d", newest[1]):
-            yield f"{folder}/CHANGELOG.md: the newest section is '{newest[1]}', and not {package.version} with a date"
 
 
 def replaced(name: str, pattern: re.Pattern[str], new: str, text: str) -> str:

@@ -64,10 +64,12 @@ def cell(rule: Rule, row: Row) -> str:
     return f"**{row.value}**"
 
 
-def table(columns: dict[str, dict[str, Row]]) -> str:
-    """Returns the table of these columns, and below it how many rules each of them keeps."""
+def table(columns: dict[str, dict[str, Row]], is_of_differences: bool = False) -> str:
+    """Returns the table of these columns, and below it how many rules each of them keeps. That of differences leaves out each rule in which
+    none differs."""
     lines = ["| rule | " + " | ".join(columns) + " | listed |", "|---" * (len(columns) + 2) + "|"]
-    for rule in rules():
+    differing = [rule for rule in rules() if any(rows[rule.name].seen == "differs" for rows in columns.values())]
+    for rule in differing if is_of_differences else rules():
         cells = " | ".join(cell(rule, rows[rule.name]) for rows in columns.values())
         lines.append(f"| `{rule.name}` | {cells} | {rule.listed.lower().replace('_', ' ')} |")
     for seen, text in (("holds", "hold"), ("differs", "differ"), ("not-seen", "not seen")):

@@ -1,4 +1,4 @@
-"""Attacks on the way from a proof to a program that are known, by plain names, with what finds each. README.md shows them as a table.
+"""Attacks on the way from a proof to a program that are known, by plain names, with what finds each. `erase tables attacks` prints them.
 
 `FORMS` stands behind the code of uart_spec/src/backend.rt, with the cause for which the eraser refuses it. `AROUND` are edits of files by
 hand around what is emitted, with what `erase check` says. `erase test` tries both. What is planted in emitted text is in `mir/planted.py`:

@@ -1,4 +1,4 @@
-"""The tables of tools/eraser/README.md, which are the tables of the program."""
+"""The tables of the program, as `erase tables` prints them. tools/eraser/README.md shows two of them."""
 import re
 from collections.abc import Iterable, Sequence
 
@@ -7,7 +7,8 @@ import foreign
 import table
 
 NAME = "tools/eraser/README.md"
-BLOCK = re.compile(r"(<!-- eraser: ([a-z ]+) -->\n).*?(?=<!-- end -->\n)", re.DOTALL)
+NAMED = re.compile(r"`erase tables ([a-z-]+)`")
+BLOCK = re.compile(r"(<!-- eraser: ([a-z-]+) -->\n).*?(?=<!-- end -->\n)", re.DOTALL)
 
 
 def rows(head: list[str], lines: Iterable[Sequence[str]]) -> str:
@@ -51,7 +52,7 @@ def blocks() -> dict[str, str]:
         "guards": rows(["function", "requires", "in Rust", "why"], [guard(*one) for one in table.GUARDS.items()]),
         "attacks": rows(["attack", "found by"], attacks.table()),
         "constant": rows(["type", "`const fn` in Rust"], constant),
-        "let through": rows(
+        "let-through": rows(
             ["of its kind, only"],
             [
                 ["macros: " + ", ".join(code(f"{name}!") for name in table.MACROS)],
@@ -62,6 +63,11 @@ def blocks() -> dict[str, str]:
             ],
         ),
     }
+
+
+def unknown(text: str) -> list[str]:
+    """The tables that the page names and that are none."""
+    return [name for name in NAMED.findall(text) if name not in blocks()]
 
 
 def written(text: str) -> str:

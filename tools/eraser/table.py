@@ -1,4 +1,4 @@
-"""What the eraser knows of the crates. tools/eraser/README.md shows these tables."""
+"""What the eraser knows of the crates. `erase tables` prints these tables."""
 from typing import NamedTuple
 
 from examples import EXAMPLES  # noqa: F401

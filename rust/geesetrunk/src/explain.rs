@@ -1,7 +1,7 @@
 //! What a finding or an error means, what it costs, and what to do.
 //!
-//! The texts are those of the tables of docs/AUDIT.md and docs/TROUBLE.md, and the lines those of the recordings in which a kind is found.
-//! `explain/rows.txt` has them, so that the program has them with it. A test makes that file anew, and fails if it is another.
+//! `explain/rows.txt` has the texts, which are by hand, and behind each finding lines of the recording in which it is found. A test makes
+//! these lines anew, and fails if they are others.
 
 use crate::near::nearest;
 use std::fmt;

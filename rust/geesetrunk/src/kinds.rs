@@ -1,5 +1,5 @@
-//! The kinds of findings: what each is called, and what is printed for it. docs/AUDIT.md has a section
-//! for each name.
+//! The kinds of findings: what each is called, and what is printed for it. [`crate::explain`] says what
+//! each name means.
 
 use crate::has::Has;
 use crate::hints::Hint;

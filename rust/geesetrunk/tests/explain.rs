@@ -1,8 +1,9 @@
-//! What is explained is what the documents say: `src/explain/rows.txt` is made of their tables, and of recordings.
+//! What is explained: the texts of `src/explain/rows.txt` are by hand, and its lines of recordings are made.
 
 mod common;
 
 use common::{DOCS, EXAMPLES, GEESETRUNK, parts, run};
+use geesetrunk::explain::{Explanation, explained, explanations};
 use geesetrunk::heap;
 use geesetrunk::judging::{Found, Judge, judge_recording};
 use geesetrunk::known::Known;
@@ -16,107 +17,6 @@ const ROWS: &str = concat!(env!("CARGO_MANIFEST_DIR"), "/src/explain/rows.txt");
 
 // How many lines of a recording are shown.
 const LINES: usize = 5;
-
-// A row of a table, with the names in its first cell.
-struct Row {
-    names: Vec<String>,
-    section: String,
-    heads: Vec<String>,
-    cells: Vec<String>,
-}
-
-// Returns a text without the marks of a link, of code and of emphasis.
-fn plain(text: &str) -> String {
-    let mut plain = String::new();
-    let mut rest = text;
-    while let Some(start) = rest.find("](") {
-        let open = rest[..start].rfind('[').unwrap();
-        let close = start + rest[start..].find(')').unwrap();
-        plain += &rest[..open];
-        plain += &rest[open + 1..start];
-        rest = &rest[close + 1..];
-    }
-    (plain + rest).replace(['`', '*'], "")
-}
-
-fn names_in(cell: &str) -> Vec<String> {
-    let parts = cell.split('`').skip(1).step_by(2);
-    parts.map(String::from).collect()
-}
-
-fn cells_of(line: &str) -> Vec<String> {
-    let inner = line.trim_start_matches("| ").trim_end_matches(" |");
-    inner.split(" | ").map(String::from).collect()
-}
-
-// The rows of a document whose first cell has names.
-fn rows_of(document: &str) -> Vec<Row> {
-    let text = fs::read_to_string(Path::new(DOCS).join(document)).unwrap();
-    let (mut section, mut heads, mut rows) = (String::new(), Vec::new(), Vec::new());
-    for line in text.lines() {
-        if let Some(title) = line.strip_prefix("## ") {
-            section = title.into();
-        } else if line.starts_with("| name |") {
-            heads = cells_of(line);
-        } else if line.starts_with("| `") && !heads.is_empty() {
-            let cells = cells_of(line);
-            rows.push(Row {
-                names: names_in(&cells[0]),
-                section: section.clone(),
-                heads: heads.clone(),
-                cells: cells.iter().map(|cell| plain(cell)).collect(),
-            });
-        } else if !line.starts_with('|') {
-            heads.clear();
-        }
-    }
-    rows
-}
-
-impl Row {
-    fn cell(&self, head: &str) -> &str {
-        let place = self.heads.iter().position(|known| known == head);
-        place.map_or("", |place| self.cells[place].as_str())
-    }
-
-    // Returns the kind of what the section is about. Of another section the names are not explained.
-    fn kind(&self) -> Option<&'static str> {
-        match self.section.as_str() {
-            "Notes" | "Hints" => Some("note"),
-            "Warnings: the driver" => Some("warning"),
-            "Differences: the chip" => Some("difference"),
-            "Errors by name" => Some("error"),
-            _ => None,
-        }
-    }
-
-    fn what(&self) -> String {
-        let first = ["what happens", "what it says", "what it means"];
-        let text: String = first.iter().map(|head| self.cell(head)).collect();
-        match self.cell("registers") {
-            "" => text,
-            registers => format!("{registers}: {text}"),
-        }
-    }
-
-    // Returns the row of one of its names.
-    fn text(&self, name: &str, kind: &str, remedy_of_differences: &str) -> String {
-        let mut text = format!("{name}\nkind: {kind}\nwhat: {}\n", self.what());
-        let cost = self.cell("what it costs");
-        if !cost.is_empty() {
-            let _ = writeln!(text, "cost: {cost}");
-        }
-        let remedy = match self.cell("what to do") {
-            "" => remedy_of_differences,
-            remedy => remedy,
-        };
-        let _ = writeln!(text, "remedy: {remedy}");
-        if kind != "error" {
-            let _ = write!(text, "seen:\n{}", seen(name));
-        }
-        text
-    }
-}
 
 // Returns the line at which a finding is in its recording, and where it was found.
 fn place_of(name: &str, recording: &[u8]) -> u64 {
@@ -185,34 +85,76 @@ fn seen(name: &str) -> String {
     text
 }
 
-// Returns what is to be done about a difference, as the document says it.
-fn remedy_of_differences() -> String {
-    let text = fs::read_to_string(Path::new(DOCS).join("AUDIT.md")).unwrap();
-    let (_, rest) = text.split_once("What to do about a difference: ").unwrap();
-    let (paragraph, _) = rest.split_once("\n\n").unwrap();
-    plain(&paragraph.replace('\n', " "))
+// Returns a row with its lines made anew. An error has none.
+fn made_anew(row: &str) -> String {
+    let row = row.trim_end();
+    match row.split_once("\nseen:\n") {
+        Some((texts, _)) => {
+            let name = texts.lines().next().unwrap();
+            format!("{texts}\nseen:\n{}", seen(name))
+        }
+        None => format!("{row}\n"),
+    }
 }
 
 #[test]
-fn what_is_explained_is_what_the_documents_say() {
-    let remedy = remedy_of_differences();
-    let mut texts = Vec::new();
-    for row in rows_of("AUDIT.md").iter().chain(&rows_of("TROUBLE.md")) {
-        if let Some(kind) = row.kind() {
-            let of_name = |name: &String| row.text(name, kind, &remedy);
-            texts.extend(row.names.iter().map(of_name));
-        }
-    }
-    let made = texts.join("\n");
+fn the_lines_that_are_shown_are_those_of_recordings() {
+    let stored = fs::read_to_string(ROWS).unwrap();
+    let rows: Vec<_> = stored.split("\n\n").map(made_anew).collect();
+    let made = rows.join("\n");
     // With this the file is made anew.
     if std::env::var_os("GEESETRUNK_WRITE_ROWS").is_some() {
         fs::write(ROWS, &made).unwrap();
     }
-    let stored = fs::read_to_string(ROWS).unwrap();
     assert!(
         made == stored,
-        "src/explain/rows.txt is not of the documents: GEESETRUNK_WRITE_ROWS=1 makes it anew"
+        "src/explain/rows.txt is not of the recordings: GEESETRUNK_WRITE_ROWS=1 makes it anew"
     );
+}
+
+// What a row of each kind has. All differences have one remedy.
+#[test]
+fn each_row_has_its_parts() {
+    let mut remedies = Vec::new();
+    for Explanation {
+        name,
+        kind,
+        what,
+        cost,
+        remedy,
+        ..
+    } in explanations()
+    {
+        assert!(!what.is_empty() && !remedy.is_empty(), "{name}");
+        match kind {
+            "warning" => assert!(!cost.is_empty(), "{name}"),
+            "difference" => remedies.push(remedy),
+            _ => assert!(["note", "error"].contains(&kind), "{name}: {kind}"),
+        }
+    }
+    remedies.dedup();
+    assert_eq!(remedies.len(), 1);
+}
+
+// A name of a finding is words in lower case with hyphens between them. So is that of another program, which has no row.
+#[test]
+fn each_finding_that_the_pages_name_is_explained() {
+    for page in ["AUDIT.md", "TROUBLE.md"] {
+        let text = fs::read_to_string(Path::new(DOCS).join(page)).unwrap();
+        let quoted = text.split('`').skip(1).step_by(2);
+        let is_name = |word: &&str| {
+            let mut parts = word.split('-');
+            let are_words = parts
+                .all(|part| !part.is_empty() && part.bytes().all(|byte| byte.is_ascii_lowercase()));
+            word.contains('-') && are_words
+        };
+        let mut count = 0;
+        for name in quoted.filter(is_name).filter(|&name| name != "sigrok-cli") {
+            assert!(explained(name).is_ok(), "{page}: {name}");
+            count += 1;
+        }
+        assert!(count > 20, "{page}");
+    }
 }
 
 // Each name that the judges have is in the sources, in quotes.
