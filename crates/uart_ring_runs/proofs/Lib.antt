@@ -13,7 +13,9 @@ pub mod ThrSpared
 pub mod CheckArms
 pub mod DriverArms
 pub mod RingArming
+pub mod RingFollows
 pub mod RingSessions
+pub mod RingUnhindered
 pub mod RingPlain
 pub mod RingReady
 pub mod RingEdges

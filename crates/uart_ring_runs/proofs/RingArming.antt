@@ -1,7 +1,8 @@
 -- A ring call leaves the THR-empty interrupt armed over the chip.
-use Rattle.std.proofs.Common.{◌<◌, ◌⊎◌, ℕ, List, [], ◌∷◌, length, inl, inr, sym, ◌∙◌, subst, arith}
+use Rattle.std.proofs.Common.{◌<◌, ◌⊎◌, ℕ, List, [], ◌∷◌, length, inl, inr, refl, sym, ◌∙◌, subst, arith}
 use Rattle.uart_spec.specs.Access.{Path}
 use Rattle.uart_spec.specs.declared.access.Access.{Access}
+use Rattle.uart_spec.specs.declared.registers.offsets.TheConstants as offsets
 use Rattle.uart_events.specs.declared.call.Call.{Call}
 use Rattle.uart_chip.specs.Machine.{MachineState, MachineStep, at_mark}
 use Rattle.uart_chip.proofs.conservation.Went.{Modes, dlab-in, loopback-in}
@@ -22,7 +23,7 @@ use Rattle.uart_ring_runs.proofs.RingMeanings.{Meant, meaning_of}
 use Rattle.uart_ring_runs.specs.RingSession.{AllWithinRingSession}
 use Rattle.uart_ring_runs.proofs.DriverArms.{driver_arms}
 use Rattle.uart_ring_runs.proofs.RingLasts.{driver_step, first_within}
-use Rattle.uart_ring_runs.proofs.RingRts.{rts_leaves_lcr}
+use Rattle.uart_ring_runs.proofs.RingRts.{rts_leaves}
 use Rattle.uart_ring_runs.proofs.RingGoes.{ring_goes_call, in_session-gone}
 use Rattle.uart_ring_runs.proofs.RingDue.{Holds, IsDlabOff, path_holds, mark_holds}
 
@@ -69,7 +70,8 @@ pub call_leaves : (s t : RingState) (call : RingCall) (a : RingAnswer) → IsOfR
     IsDlabOff (ring_machine s) → RingCallStep s call a t → IsRingArmed s ⊎ RearmsRing call a → IsRingArmed t
 call_leaves s t (call.AdjustRts marks) a own unchecked off h armed =
     let wanted = rts_at marks (free (ring_fields s).receive) in
-    list_leaves s t h.did.list unchecked off h.did.path (rts_leaves_lcr wanted (ring_fields s) h.did.list (ring_fields t) h.did.does)
+    list_leaves s t h.did.list unchecked off h.did.path
+    (rts_leaves offsets.LCR refl wanted (ring_fields s) h.did.list (ring_fields t) h.did.does)
     (adjusts_leave marks (ring_fields s) h.did.list (ring_fields t) h.did.does) (none_accepted armed)
 call_leaves s t (call.Driver c) a own unchecked off h armed = absurd own
 call_leaves s t call.Next a own unchecked off h armed =
@@ -102,7 +104,7 @@ each_leaves s t (call.Driver c) a keeps unchecked ready h armed = driver_leaves 
 each_leaves s t other a keeps unchecked ready h armed = of_own s t other a tt unchecked ready h armed
 
 -- the calls of a session
-ready_in : (x : Modes) (s : RingState) → InSession x (under s) → Ready (under s)
+pub ready_in : (x : Modes) (s : RingState) → InSession x (under s) → Ready (under s)
 ready_in x s w = record {
   dlab = dlab-in x (ring_machine s).chip w.stands.modes ∙ w.open_modes.dlab;
   loopback = loopback-in x (ring_machine s).chip w.stands.modes ∙ w.open_modes.loopback;

@@ -3,7 +3,6 @@
 -- This is all that is shown anew over the chip. That nothing is lost between the rings and DATA is the law over any
 -- backend, and what the chip does with DATA is the law of blocks.
 use Rattle.std.proofs.Common.{◌≡◌, ◌==◌, ℕ, Bool, true, false, inl, inr, MatchBool, List, [], ◌∷◌, ◌++◌, take, refl, ◌∙◌, ap, subst}
-use Rattle.std.specs.List.{AllByRecursion}
 use Rattle.uart_spec.specs.declared.access.Access.{Access}
 use Rattle.uart_spec.specs.declared.access.Access.TheVariants.{Read, Write}
 use Rattle.uart_spec.specs.declared.errors.ByteSendError.TheVariants.{NoCapacity, RemoteNotClearToSend}
@@ -23,17 +22,17 @@ use Rattle.uart_chip.proofs.Lists.{each-append}
 use Rattle.uart_run.proofs.CallBlocks.{InBlocks, most_in, blocks_none, blocks_then, sends_blocks, receives_blocks}
 use Rattle.uart_run.proofs.CallKeeps.{plain_blocks, quiet_blocks, saving_keeps, enables_keeps, disables_keeps, takes_lsr_keeps}
 use Rattle.uart_run.proofs.CallKeeps.{takes_msr_keeps}
+use Rattle.uart_run.proofs.NeverSwitched.{LeavesRegister, NeverWrites}
 
 -- ---- lists that do not write LCR
 
 -- the access does not
 abbrev pub LeavesLcr : Access → Type 0
-LeavesLcr (Read offset answer) = Unit {0}
-LeavesLcr (Write offset value) = (offset == offsets.LCR) ≡ false
+LeavesLcr = LeavesRegister offsets.LCR
 
 -- none of these does
 abbrev pub AllLeaveLcr : List Access → Type 0
-AllLeaveLcr accesses = AllByRecursion LeavesLcr accesses
+AllLeaveLcr = NeverWrites offsets.LCR
 
 asks_leaves : (register bits : ℕ) (outcome : Bool) (s : Settings) (l : List Access) → Asks register bits outcome s l → AllLeaveLcr l
 asks_leaves register bits outcome s l t = rw t.is (tt, tt)

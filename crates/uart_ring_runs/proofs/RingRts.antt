@@ -1,5 +1,5 @@
 -- What the accesses of `adjust_rts` do in a session: they may write MCR, and so change the modes.
-use Rattle.std.proofs.Common.{◌≡◌, ℕ, Bool, true, false, List, [], ◌∷◌, Option, Some, None, refl, sym, ◌∙◌, subst}
+use Rattle.std.proofs.Common.{◌≡◌, ◌==◌, ℕ, Bool, true, false, List, [], ◌∷◌, Option, Some, None, refl, sym, ◌∙◌, subst}
 use Rattle.uart_spec.specs.Access.{Path}
 use Rattle.uart_spec.specs.Bits.{has, has_any}
 use Rattle.uart_spec.specs.declared.access.Access.{Access}
@@ -18,13 +18,14 @@ use Rattle.uart_run.specs.Wired.{IsWired, IsWiredChip}
 use Rattle.uart_16550.specs.Driver.{settings_of}
 use Rattle.uart_run.proofs.CallBlocks.{most_in, passed_in_blocks}
 use Rattle.uart_run.proofs.CallLaws.{InSession, session_room}
+use Rattle.uart_run.proofs.NeverSwitched.{NeverWrites}
 use Rattle.uart_run.proofs.Wired.{wired_step, passed_mcr}
 use Rattle.uart_ring.specs.Ring.{RingFields, ring_fields}
 use Rattle.uart_ring.specs.Receive.{write_if_other, MakesRtsIfAny}
 use Rattle.uart_ring.specs.Lossless.{data_written, data_read}
 use Rattle.uart_ring_runs.specs.RingRun.{RingState, under, ring_machine}
 use Rattle.uart_ring_runs.proofs.RingWalk as walk
-use Rattle.uart_ring_runs.proofs.RingBlocks.{MakesRingBlocks, AllLeaveLcr, MakesBlocks, in_blocks}
+use Rattle.uart_ring_runs.proofs.RingBlocks.{MakesRingBlocks, MakesBlocks, in_blocks}
 
 -- ---- modes in which only MCR changes
 
@@ -94,7 +95,7 @@ rts_written x m n mcr value o w wired off p =
     came x (kept_mcr f value) m n (Read offsets.MCR mcr ∷ Write offsets.MCR value ∷ []) [] []
     (record { dlab = o.dlab; loopback = still }) (nothing_taken z m n _ [] whole)
 
-abbrev rts_accesses : (shown on : Bool) (mcr value : ℕ) → List Access
+abbrev pub rts_accesses : (shown on : Bool) (mcr value : ℕ) → List Access
 rts_accesses shown on mcr value = Read offsets.MCR mcr ∷ write_if_other shown on (Write offsets.MCR value)
 
 rts_came : (x : Modes) (m n : MachineState) (shown on : Bool) (mcr value : ℕ) → IsOpen (with_mcr_of x m) →
@@ -130,15 +131,16 @@ came_rts x s t (Some on) l w wired (((mcr, is), saved), same) path =
     subst C (sym is) (rts_came x m n shown on mcr value w.open_modes w.stands wired (has_not 4 (switched on MCR.RTS.0 mcr) 239 refl)
     (path_as m n l (rts_accesses shown on mcr value) is path))
 
--- LCR is not written
-rts_leave : (shown on : Bool) (mcr value : ℕ) → AllLeaveLcr (rts_accesses shown on mcr value)
-rts_leave true true mcr value = (tt, tt)
-rts_leave false false mcr value = (tt, tt)
-rts_leave true false mcr value = (tt, (refl, tt))
-rts_leave false true mcr value = (tt, (refl, tt))
+-- no other register is written
+rts_leave : (register : ℕ) → (offsets.MCR == register) ≡ false → (shown on : Bool) (mcr value : ℕ) →
+    NeverWrites register (rts_accesses shown on mcr value)
+rts_leave register other true true mcr value = (tt, tt)
+rts_leave register other false false mcr value = (tt, tt)
+rts_leave register other true false mcr value = (tt, (other, tt))
+rts_leave register other false true mcr value = (tt, (other, tt))
 
-pub rts_leaves_lcr : (wanted : Option Bool) (f : RingFields) (l : List Access) (after : RingFields) → MakesRtsIfAny wanted f l after →
-    AllLeaveLcr l
-rts_leaves_lcr None f l after t = rw t.0 tt
-rts_leaves_lcr (Some on) f l after (((mcr, is), saved), same) =
-    rw is (rts_leave (has mcr MCR.RTS.0) on mcr (unlooped (switched on MCR.RTS.0 mcr)))
+pub rts_leaves : (register : ℕ) → (offsets.MCR == register) ≡ false → (wanted : Option Bool) (f : RingFields) (l : List Access)
+    (after : RingFields) → MakesRtsIfAny wanted f l after → NeverWrites register l
+rts_leaves register other None f l after t = rw t.0 tt
+rts_leaves register other (Some on) f l after (((mcr, is), saved), same) =
+    rw is (rts_leave register other (has mcr MCR.RTS.0) on mcr (unlooped (switched on MCR.RTS.0 mcr)))

@@ -6,13 +6,13 @@ use Rattle.uart_chip.specs.declared.receiver.Character.{Character}
 use Rattle.uart_chip.specs.Chip.{cut_of}
 use Rattle.uart_chip.specs.Sound.{IsSound}
 use Rattle.uart_chip.specs.Conserved.{out, waiting, kept, stands}
-use Rattle.uart_chip.proofs.conservation.Went.{Modes, dlab-in, loopback-in}
+use Rattle.uart_chip.proofs.conservation.Went.{Modes}
 use Rattle.uart_chip.proofs.conservation.SessionLaws.{received_kept}
 use Rattle.uart_run.specs.Chains.{RunOf}
 use Rattle.uart_run.specs.Uncut.{IsUncut}
 use Rattle.uart_run.proofs.Chains.{run_whole}
 use Rattle.uart_run.proofs.CallLaws.{InSession}
-use Rattle.uart_run.proofs.FrameLaws.{same_cut, same_fifo}
+use Rattle.uart_run.proofs.FrameLaws.{same_cut}
 use Rattle.uart_run.proofs.SessionCalls.{modes_of, in_session}
 use Rattle.uart_run.proofs.Sessions.{lasts_sound}
 use Rattle.uart_run.proofs.Uncuts.{whole_cut, entered_whole}
@@ -25,7 +25,8 @@ use Rattle.uart_ring_runs.proofs.RingLasts.{first_within, ring_lasts_chain, wire
 use Rattle.uart_ring_runs.proofs.RingPasses.{InLine}
 use Rattle.uart_ring_runs.proofs.RingGoes.{RingGoes, ring_goes_call, ring_goes_chain, in_session-gone, gone_taken}
 use Rattle.uart_ring_runs.proofs.RingTold.{ring_tells}
-use Rattle.uart_ring_runs.proofs.RingArming.{chain_leaves}
+use Rattle.uart_ring_runs.proofs.RingArming.{ready_in, chain_leaves}
+use Rattle.uart_ring_runs.proofs.RingFollows.{ring_follow_chain}
 
 -- ---- what is conserved
 
@@ -97,12 +98,7 @@ ring_conserves x s t links w within chain =
     (append_assoc (to_take s) g.read (waiting n) ∙
     ap (λ zs. to_take s ++ zs) (received_kept y m n g.made g.written g.read cuts g.passed))) in
     record {
-      ready = record {
-        dlab = dlab-in y n.chip went.modes ∙ g.open_modes.dlab;
-        loopback = loopback-in y n.chip went.modes ∙ g.open_modes.loopback;
-        fifo = went.modes.fifo ∙ (same_fifo x y g.same ∙ (sym w.fifo ∙ sym g.fifo));
-        fits = g.fits w.fits;
-      };
+      ready = ready_in y t (in_session-gone x _ _ _ _ s t _ w g);
       wired = λ wired. wired_chain s t links wired chain;
       sent = sent;
       in_line = chain_in_line x s t links w within chain;
@@ -123,6 +119,7 @@ ran_ring s t calls answers i all slots sound run =
     let r = run_whole RingCallStep s t calls answers i all slots run in
     record {
       run = r;
+      follows = ring_follow_chain s t r.links sound r.chain;
       sessions = λ front session rest a b parts before within after is.
           let whole = ring_lasts_chain s a front lasts_sound sound before in
           let x = modes_of (under a) in

@@ -2,7 +2,9 @@ pub mod RingRun
 pub mod RingBytes
 pub mod RingStatuses
 pub mod RingArmed
+pub mod RingFollows
 pub mod RingSession
+pub mod RingUnhindered
 pub mod OwnSession
 pub mod RingPlain
 pub mod Edges

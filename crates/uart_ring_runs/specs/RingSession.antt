@@ -4,7 +4,7 @@ use Rattle.uart_run.specs.Chains.{NoneIs}
 use Rattle.uart_ring_runs.specs.declared.call.RingCall.TheVariants as call
 use Rattle.uart_chip.specs.Chip.{cut_of}
 use Rattle.uart_chip.specs.Conserved.{out, waiting, kept}
-use Rattle.uart_run.specs.Chains.{RunOf}
+use Rattle.uart_run.specs.Chains.{EachLink, RunOf}
 use Rattle.uart_run.specs.Ready.{Ready}
 use Rattle.uart_run.specs.Session.{IsWithinSession, overflows}
 use Rattle.uart_run.specs.Progress.{IsUnchecked}
@@ -15,6 +15,7 @@ use Rattle.uart_ring_runs.specs.declared.call.RingAnswer.{RingAnswer}
 use Rattle.uart_ring_runs.specs.RingRun.{RingState, under, ring_machine, RingCallStep, RingLink, RingChain}
 use Rattle.uart_ring_runs.specs.RingBytes.{to_send, to_take, queued, taken, gone, to_send_with, AllKeepOrder}
 use Rattle.uart_ring_runs.specs.RingBytes.{AllTakeInTurn}
+use Rattle.uart_ring_runs.specs.RingFollows.{RingFollows}
 use Rattle.uart_ring_runs.specs.RingStatuses.{RingTells}
 use Rattle.uart_ring_runs.specs.RingArmed.{AllLeaveRingArmed}
 
@@ -84,10 +85,15 @@ pub record RingConserves (s : RingState) (links : List RingLink) (t : RingState)
   -- Where the chip controls the flow, it comes once CTS lets the transmitter go on
   pub armed : IsUnchecked (under s) → AllLeaveRingArmed links
 
--- these calls, with these answers, lead from s to t; and each session in them conserves: of ring calls, only those of
--- the driver end one
+-- each of these calls does what is said of a call by itself
+abbrev pub AllRingFollow : List RingLink → Type 0
+AllRingFollow = EachLink RingFollows
+
+-- these calls, with these answers, lead from s to t; each does what is said of it alone; and each session in them
+-- conserves: of ring calls, only those of the driver end one
 pub record RanRing (s : RingState) (calls : List RingCall) (answers : List RingAnswer) (t : RingState) : Type 0 where
   pub run : RunOf RingCallStep s calls answers t
+  pub follows : AllRingFollow run.links
   -- each session among the calls conserves
   pub sessions : (front session rest : List RingLink) (a b : RingState) →
       -- these calls are a part of the run

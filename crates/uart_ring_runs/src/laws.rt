@@ -44,12 +44,15 @@ ghost use Rattle.uart_ring_runs.specs.RingRun.{RingState, ring_machine, under};
 ghost use Rattle.uart_ring_runs.specs.OwnSession.{OwnConserves};
 ghost use Rattle.uart_ring_runs.specs.RingSession.{AllWithinRingSession, RingConserves};
 ghost use Rattle.uart_ring_runs.specs.RingStatuses.{NeitherIs};
+ghost use Rattle.uart_ring_runs.specs.RingUnhindered.{RingCallsSucceed, RingSessionsSucceed};
 ghost use Rattle.uart_ring_runs.specs.declared.call.RingAnswer.{RingAnswer};
 ghost use Rattle.uart_ring_runs.specs.declared.call.RingCall.{RingCall};
 ghost use Rattle.uart_ring_runs.specs.declared.call.RingCall.TheVariants.{Driver};
 ghost use Rattle.uart_run.specs.Chains.{NoneIs, calls_of};
+ghost use Rattle.uart_run.specs.Progress.{IsTimely};
 ghost use Rattle.uart_run.specs.Ready.{BurstsFit, Ready};
 ghost use Rattle.uart_run.specs.ReceivedErrors.{under_terminal};
+ghost use Rattle.uart_run.specs.Unhindered.{IsUnhindered};
 ghost use Rattle.uart_run.specs.Wired.{IsWired};
 ghost use Rattle.uart_spec.specs.Access.{Path};
 ghost use Rattle.uart_spec.specs.Bits.{has_any};
@@ -69,6 +72,10 @@ use uart_ring::{ErrorNotes, Uart16550Ring};
 /// put into rings then, or be in rings already, which may hold anything. It takes the FIFOs for no
 /// larger than they are, as each driver does that was told no size:
 /// [`smallest_size_fits`](uart_run::laws::smallest_size_fits).
+///
+/// If ticks come before the `init` and the limit is long enough, on a chip that has no automatic
+/// flow control, a call of the driver in that session is held up only for want of room on the wire
+/// or of CTS: [`ring_sessions_succeed`].
 ///
 /// # Examples
 ///
@@ -91,11 +98,49 @@ pub fn init_leaves_ready(uart: &Uart16550<Device16550>)
     ensures wired { (config : Config) (after : Uart16550 MachineState) (ring : RingState) →
         Did MachineStep (Inits {T = Unit {0}} config (Ok tt)) uart.now after →
         driver_of ring ≡ after → IsWired (under ring) }
+    // if: the chip has no automatic flow control
+    // if: the rings have the driver that the `init` left
+    ensures unhindered { (config : Config) (after : Uart16550 MachineState) (ring : RingState) →
+        BurstsFit (under_terminal uart.now) → IsTimely (under_terminal uart.now) →
+        (backend_of uart.now).chip.auto_flow ≡ false →
+        Did MachineStep (Inits {T = Unit {0}} config (Ok tt)) uart.now after →
+        driver_of ring ≡ after → IsUnhindered (under ring) }
 {
     // The law takes the driver before its `init`, since it needs that its machine is sound.
     // The contract of this call states that of every machine, so no caller has to bring it.
     let _fifo = uart.backend().fifo_enabled();
 }
+
+/// Calls of the driver through `inner_mut` succeed in the middle of a run of rings too. Take a
+/// state in which a session may begin, from which each access of the schedule has a tick before it,
+/// with a spin limit of at least n (t + 1) for characters of t ticks, of which the transmitter
+/// holds n, and a chip that has no automatic flow control. All of that holds after each later call
+/// of the run, whatever it is and whatever it answers. So with room on the wire for what the call
+/// is to send, none of these stalls: a `flush`, a `test_loopback`, a `set_frame_when_idle`, an
+/// `init` and an `init_with` that have a divisor, and without CTS checking the sends that wait.
+/// Calls of the rings themselves wait for nothing.
+///
+/// For a session that begins in such a state, the room is asked for where it begins: for what waits
+/// in the rings, and for all that its calls are to send or add to the rings. So is CTS checking.
+/// After it there is room for all that waits, so none of these calls stalls behind it either.
+pub fn ring_sessions_succeed()
+    // promise: calls of the driver succeed in the middle of a session of rings too, on a chip that
+    //   has no automatic flow control: ticks, the limit, the sizes and CTS checking last from call
+    //   to call, and room at its start for what waits in the rings and all that is to come is room
+    //   for each
+    // with: ring_sessions_succeed.calls, ring_sessions_succeed.sessions,
+    //   init_leaves_ready.unhindered, RingFollows.timely, RingFollows.flow, RingFollows.checks,
+    //   RingFollows.size, RingFollows.takes
+    // shown by: with_room_for_all_of_it_no_call_of_a_session_of_rings_stalls,
+    //   with_room_for_one_byte_less_a_session_of_rings_stalls
+    // refused: a_call_of_the_driver_keeps_the_size_always, an_urgent_byte_needs_no_room,
+    //   bytes_in_the_rings_need_no_room
+    // in the middle of a run of rings, the same calls of the driver end, made through `inner_mut`
+    ensures calls { RingCallsSucceed }
+    // of a session of rings it is enough that the wire has room at its beginning for what waits in
+    // the rings and for all that its calls are to send or add, and that CTS is not checked there
+    ensures sessions { RingSessionsSucceed }
+{}
 
 /// `handle`, `try_handle` and `retrigger` lose no edge, at a controller that calls the handler when
 /// the chip's interrupt line rises, whatever the schedule.

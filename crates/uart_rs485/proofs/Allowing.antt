@@ -1,21 +1,22 @@
 -- Lists of accesses that keep the direction, access by access.
 use Rattle.std.proofs.Common.{◌≡◌, ◌==◌, ◌&&◌, ℕ, Bool, true, false, not, if◌then◌else◌, List, [], ◌∷◌, ◌++◌, refl, subst}
 use Rattle.std.specs.Prelude.{⊤}
-use Rattle.uart_spec.specs.Bits.{has}
+use Rattle.uart_spec.specs.Bits.{has, has_any}
 use Rattle.uart_spec.specs.declared.access.Access.{Access}
 use Rattle.uart_spec.specs.declared.access.Access.TheVariants.{Read, Write}
 use Rattle.uart_spec.specs.declared.registers.line_status.TheConstants.LSR
+use Rattle.uart_spec.specs.declared.registers.modem_control.TheConstants.MCR
 use Rattle.uart_spec.specs.declared.registers.offsets.TheConstants as offsets
 use Rattle.uart_rs485.specs.Directions.{drives_itself, empty_after, empty_after_one, sends_after, sends_after_one, sends_by}
 use Rattle.uart_rs485.specs.Laws.{KeepsDirection}
 use Rattle.uart_rs485.specs.declared.direction.Direction.{Direction}
 
 -- an access that is allowed while the transceiver sends or not, and the transmitter is known to be empty or not
-abbrev Allows : Direction → (sends empty : Bool) → Access → Type 0
+abbrev pub Allows : Direction → (sends empty : Bool) → Access → Type 0
 Allows d sends empty (Read offset answer) = ⊤
 Allows d sends empty (Write offset value) =
     (offset ≡ offsets.DATA → sends ≡ true) × (offset ≡ offsets.MCR → sends_by d value ≡ false → empty ≡ true)
-    × (offset ≡ offsets.MCR → drives_itself d value ≡ false)
+    × (offset ≡ offsets.MCR → (drives_itself d value ≡ false) × (has_any value MCR.LOOP_BACK.0 ≡ false))
 
 abbrev pub AllowsAll : Direction → (sends empty : Bool) → List Access → Type 0
 AllowsAll d sends empty [] = ⊤
@@ -36,9 +37,15 @@ turns_allowed d sends empty (access ∷ before) behind mcr t off =
 
 own_allowed : (d : Direction) (sends empty : Bool) (before behind : List Access) (mcr : ℕ) →
     AllowsAll d sends empty (before ++ Write offsets.MCR mcr ∷ behind) → drives_itself d mcr ≡ false
-own_allowed d sends empty [] behind mcr t = t.0.2 refl
+own_allowed d sends empty [] behind mcr t = (t.0.2 refl).0
 own_allowed d sends empty (access ∷ before) behind mcr t =
     own_allowed d (sends_after_one d sends access) (empty_after_one empty access) before behind mcr t.1
+
+loopback_allowed : (d : Direction) (sends empty : Bool) (before behind : List Access) (mcr : ℕ) →
+    AllowsAll d sends empty (before ++ Write offsets.MCR mcr ∷ behind) → has_any mcr MCR.LOOP_BACK.0 ≡ false
+loopback_allowed d sends empty [] behind mcr t = (t.0.2 refl).1
+loopback_allowed d sends empty (access ∷ before) behind mcr t =
+    loopback_allowed d (sends_after_one d sends access) (empty_after_one empty access) before behind mcr t.1
 
 -- a list whose accesses are allowed keeps the direction
 pub keeps_all : (d : Direction) (sends : Bool) (l : List Access) → AllowsAll d sends false l → KeepsDirection d sends l
@@ -48,6 +55,7 @@ keeps_all d sends l t =
       bytes = λ before behind byte is. bytes_allowed d sends false before behind byte (subst P is t);
       turns = λ before behind mcr is off. turns_allowed d sends false before behind mcr (subst P is t) off;
       own = λ before behind mcr is. own_allowed d sends false before behind mcr (subst P is t);
+      loopback = λ before behind mcr is. loopback_allowed d sends false before behind mcr (subst P is t);
     }
 
 -- ---- one list after another

@@ -17,15 +17,15 @@ use Rattle.uart_rs485.specs.declared.errors.SendError.TheVariants.{NotSending, S
 use Rattle.uart_rs485.proofs.Allowing.{AllowsAll, allows_append, keeps_all, sends_after-append}
 use Rattle.uart_rs485.proofs.Quiet.{AllQuiet, quiet_allows, quiet_stays, idle_quiet, flush_quiet, sends_quiet, exact_quiet}
 use Rattle.uart_rs485.proofs.Quiet.{receives_quiet, receives_noted_quiet}
-use Rattle.uart_rs485.proofs.Turning.{switches_turn}
+use Rattle.uart_rs485.proofs.Turning.{switches_turn, unlooped_off}
 
 -- the accesses are allowed, and afterwards a bus is taken to be sending exactly if it is
-record Kept (d : Direction) (before : Bool) (l : List Access) (after : BusFields) : Type 0 where
-  allows : AllowsAll d before false l
-  sends : after.sends ≡ sends_after d before l
-  direction : after.direction ≡ d
+pub record Kept (d : Direction) (before : Bool) (l : List Access) (after : BusFields) : Type 0 where
+  pub allows : AllowsAll d before false l
+  pub sends : after.sends ≡ sends_after d before l
+  pub direction : after.direction ≡ d
 
-abbrev KeptFrom : BusFields → List Access → BusFields → Type 0
+abbrev pub KeptFrom : BusFields → List Access → BusFields → Type 0
 KeptFrom f l after = Kept f.direction f.sends l after
 
 -- no register but DATA is written, and that only while the transceiver sends
@@ -59,7 +59,7 @@ then_kept d before l m mid after p q =
 -- ---- the transceiver is switched
 
 -- what is written to MCR in this direction
-abbrev written : Direction → (sends : Bool) → ℕ → ℕ
+abbrev pub written : Direction → (sends : Bool) → ℕ → ℕ
 written d sends mcr = unlooped (turned d sends mcr)
 
 apart : offsets.MCR ≡ offsets.DATA → ⊥
@@ -68,7 +68,8 @@ apart same = absurd (omega arith)
 turn_allows : (d : Direction) (before empty sends : Bool) (mcr : ℕ) → (sends ≡ false → empty ≡ true) →
     AllowsAll d before empty (Read offsets.MCR mcr ∷ Write offsets.MCR (written d sends mcr) ∷ [])
 turn_allows d before empty sends mcr due =
-    let t = switches_turn d sends mcr in (tt, ((λ at. absurd (apart at), λ at off. due (sym t.0 ∙ off), λ at. t.1), tt))
+    let t = switches_turn d sends mcr in
+    (tt, ((λ at. absurd (apart at), λ at off. due (sym t.0 ∙ off), λ at. (t.1, unlooped_off (turned d sends mcr))), tt))
 
 never : (e : Bool) → true ≡ false → e ≡ true
 never e wrong = absurd cc
@@ -91,22 +92,37 @@ finished d before lsr mcr l shows is = rw is (
   (switches_turn d false mcr).0,
 )
 
-finishes_kept : (f : BusFields) (l : List Access) (after : BusFields) (before : Bool) → TriesToFinish {T = Unit {0}} (Ok tt) f l after →
-    Kept f.direction before l after
-finishes_kept f l after before t =
+-- the accesses of a look that shows this, and of a switch
+pub record Finish (d : Direction) (l : List Access) : Type 0 where
+  pub lsr : ℕ
+  pub mcr : ℕ
+  pub shows : has lsr LSR.TRANSMITTER_EMPTY.0 ≡ true
+  pub is : l ≡ Read offsets.LSR lsr ∷ Read offsets.MCR mcr ∷ Write offsets.MCR (written d false mcr) ∷ []
+
+pub finish_made : (f : BusFields) (l : List Access) (after : BusFields) → TriesToFinish {T = Unit {0}} (Ok tt) f l after →
+    Finish f.direction l
+finish_made f l after t =
     let looked = t.first.0.0 in
     let made = t.second.0.0 in
     let way : t.mid.direction ≡ f.direction = ap (λ (x : BusFields). x.direction) t.first.1 in
-    let is : l ≡ Read offsets.LSR looked.answer ∷ Read offsets.MCR made.0 ∷
-    Write offsets.MCR (written f.direction false made.0) ∷ [] =
-    t.whole ∙ (λ i. looked.is i ++ made.1 i)
-    ∙ ap (λ (d : Direction). Read offsets.LSR looked.answer ∷ Read offsets.MCR made.0 ∷
-    Write offsets.MCR (written d false made.0) ∷ []) way in
-    let done = finished f.direction before looked.answer made.0 l looked.shows is in
+    record {
+      lsr = looked.answer;
+      mcr = made.0;
+      shows = looked.shows;
+      is = t.whole ∙ (λ i. looked.is i ++ made.1 i)
+          ∙ ap (λ (d : Direction). Read offsets.LSR looked.answer ∷ Read offsets.MCR made.0 ∷
+          Write offsets.MCR (written d false made.0) ∷ []) way;
+    }
+
+finishes_kept : (f : BusFields) (l : List Access) (after : BusFields) (before : Bool) → TriesToFinish {T = Unit {0}} (Ok tt) f l after →
+    Kept f.direction before l after
+finishes_kept f l after before t =
+    let made = finish_made f l after t in
+    let done = finished f.direction before made.lsr made.mcr l made.shows made.is in
     record {
       allows = done.0;
       sends = ap (λ (x : BusFields). x.sends) t.second.1 ∙ sym done.1;
-      direction = ap (λ (x : BusFields). x.direction) t.second.1 ∙ way;
+      direction = ap (λ (x : BusFields). x.direction) t.second.1 ∙ ap (λ (x : BusFields). x.direction) t.first.1;
     }
 
 -- ---- each call, and all of them
@@ -140,7 +156,8 @@ call_kept (BusCall.receive_bytes slots) f l after (bytes, t) =
 call_kept (BusCall.receive_with_errors slots) f l after (items, t) =
     quiet_kept f l after (receives_noted_quiet f.sends slots items _ l t.0.0) t.1
 
-calls_kept : (calls : List BusCall) (f : BusFields) (l : List Access) (after : BusFields) → DoesCalls calls f l after → KeptFrom f l after
+pub calls_kept : (calls : List BusCall) (f : BusFields) (l : List Access) (after : BusFields) → DoesCalls calls f l after →
+    KeptFrom f l after
 calls_kept [] f l after t = stays_kept f l after t
 calls_kept (call ∷ calls) f l after t = rw t.whole (then_kept f.direction f.sends t.front t.back t.mid after
     (call_kept call f t.front t.mid t.first) (calls_kept calls t.mid t.back after t.second))

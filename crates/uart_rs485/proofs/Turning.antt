@@ -2,7 +2,8 @@
 use Rattle.std.proofs.Common.{◌≡◌, ◌==◌, ℕ, Bool, true, false, not, refl, ◌∙◌, ap, bit_and, if◌then◌else◌}
 use Rattle.std.proofs.lemmas.Nat.{and_assoc}
 use lib.Bits.{and_zero_r}
-use Rattle.uart_spec.specs.Bits.{has}
+use Rattle.uart_spec.specs.Bits.{has, has_any}
+use Rattle.uart_spec.specs.declared.registers.modem_control.TheConstants.MCR
 use Rattle.uart_16550.specs.Frame.{switched, unlooped}
 use Rattle.uart_16550.proofs.Switching.{changes_only}
 use Rattle.uart_rs485.specs.Directions.{turned}
@@ -53,6 +54,10 @@ unlooped_by Dtr set sends mcr t = (
   ap (λ (shown : Bool). if shown then set else not set) (through 1 239 mcr refl) ∙ t.0,
   ap (λ (n : ℕ). not (n == 0)) (and_zero_r (unlooped mcr)),
 )
+
+-- and loopback is off
+pub unlooped_off : (mcr : ℕ) → has_any (unlooped mcr) MCR.LOOP_BACK.0 ≡ false
+unlooped_off mcr = ap (λ (n : ℕ). not (n == 0)) (gone 16 239 mcr refl)
 
 pub switches_turn : SwitchesTurn
 switches_turn d sends mcr =

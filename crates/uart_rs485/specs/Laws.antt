@@ -1,9 +1,11 @@
 -- What all calls keep: the order of the accesses that switch the direction, write bytes, and look at the transmitter.
 use Rattle.std.specs.Prelude.{◌≡◌, ℕ, Bool, true, false, List, [], ◌∷◌, ◌++◌, Result, Ok}
+use Rattle.uart_spec.specs.Bits.{has_any}
 use Rattle.uart_spec.specs.declared.access.Access.{Access}
 use Rattle.uart_spec.specs.declared.access.Access.TheVariants.{Write}
 use Rattle.uart_spec.specs.declared.errors.StalledError.{StalledError}
 use Rattle.uart_spec.specs.declared.received.Received.{Received}
+use Rattle.uart_spec.specs.declared.registers.modem_control.TheConstants.MCR
 use Rattle.uart_spec.specs.declared.registers.offsets.TheConstants as offsets
 use Rattle.uart_16550.specs.Driver.{Fields, Next, Saving}
 use Rattle.uart_16550.specs.Frame.{ShowsIdle, unlooped}
@@ -20,7 +22,7 @@ use Rattle.uart_rs485.specs.declared.errors.SendError.{SendError}
 
 -- in this list, which begins while the transceiver sends or does not, each byte is written to DATA while it sends. And
 -- it is switched to receive only behind a look at LSR that showed an empty transmitter, with no byte written in
--- between. No write of MCR lets the chip drive the line itself
+-- between. No write of MCR lets the chip drive the line itself, or turns loopback on, in which all outputs are off
 pub record KeepsDirection (d : Direction) (sends : Bool) (l : List Access) : Type 0 where
   -- each byte is written to DATA while the transceiver sends
   pub bytes : (before behind : List Access) (byte : ℕ) →
@@ -39,6 +41,11 @@ pub record KeepsDirection (d : Direction) (sends : Bool) (l : List Access) : Typ
       -- MCR is written
       l ≡ before ++ Write offsets.MCR mcr ∷ behind →
       drives_itself d mcr ≡ false
+  -- loopback is off
+  pub loopback : (before behind : List Access) (mcr : ℕ) →
+      -- MCR is written
+      l ≡ before ++ Write offsets.MCR mcr ∷ behind →
+      has_any mcr MCR.LOOP_BACK.0 ≡ false
 
 -- the calls at a bus that make accesses
 pub data BusCall : Type 0 where

@@ -6,7 +6,8 @@ ghost use Rattle.uart_rs485.specs.Laws.{SwitchesTurn};
 
 /// Whatever calls are made, in whatever order: each byte is written while the direction is to send.
 /// And it is switched to receive only behind a look at LSR that showed an empty transmitter, with
-/// no byte written in between. No write lets the chip drive the line itself.
+/// no byte written in between. No write lets the chip drive the line itself, or turns loopback on,
+/// in which all outputs are off.
 ///
 /// Calls begin with those at a bus that is there, or with `new`, whatever the direction was before.
 pub fn direction_is_kept()
@@ -14,7 +15,7 @@ pub fn direction_is_kept()
     //   back only behind a look that showed an empty transmitter, whatever calls are made over
     //   whatever device
     // with: direction_is_kept.from_new, direction_is_kept.calls, KeepsDirection.bytes,
-    //   KeepsDirection.turns, KeepsDirection.own
+    //   KeepsDirection.turns, KeepsDirection.own, KeepsDirection.loopback
     // shown by: whatever_is_called_and_answered, calls_in_any_order_lose_no_byte,
     //   the_bus_loses_what_is_sent_in_the_other_direction,
     //   nothing_is_written_while_the_direction_is_not_to_send
