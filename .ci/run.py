@@ -85,6 +85,7 @@ COMMANDS = [
     Command("integration/packages", **BESIDE | {"without": OF_RUST, "but": READMES}),
     Command("rust/tests/interface", **BESIDE | {"without": OF_RUST, "but": READMES}),
     Command("integration/rust apart", **BESIDE),
+    Command("integration/original", **BESIDE | {"without": OF_RUST}, needs="the folder of the original crate, in ORIGINAL"),
     Command("integration/doc", **BESIDE | {"without": OF_RUST, "but": READMES}),
     Command(".ci/refused-memory", **OVER | {"but": [".ci/refused-memory"]}),
     Command("integration/port", **OVER | {"without": OF_RUST}, needs="an emulator of a PC"),
