@@ -100,6 +100,7 @@ COMMANDS = [
     beside("integration/packages", without=OF_RUST, but=READMES),
     beside("rust/tests/interface", without=OF_RUST, but=[*READMES, "CHANGELOG.md"]),
     beside("integration/rust apart"),
+    beside("integration/original", without=OF_RUST, needs="the folder of the original crate, in ORIGINAL"),
     beside("integration/doc", without=OF_RUST, but=READMES),
     over(".ci/refused-memory", but=[".ci/refused-memory"]),
     over("integration/port", without=OF_RUST, needs="an emulator of a PC"),

@@ -6,7 +6,7 @@
 use core::fmt::{self, Write as _};
 use core::num::{NonZeroU64, NonZeroUsize};
 use uart_16550::Flags;
-use uart_16550::discovery::{self, OptionError, PciError, PortDescription, TableError, TreeError};
+use uart_16550::discovery::{self, OptionError, PciError, PortDescription, TableError, TreeError, UnknownClockError};
 use uart_16550::native::backend::{
     self, Backend, ByteAccess, ByteOrder, InvalidLayoutError, MmioBackend, PioBackend, PortAccess,
     DesignWare, DesignWareFault, DesignWareMemory, DesignWareRegisters, RegisterLayout, RegisterWidth, VolatileMemory, WideMemory,
@@ -335,7 +335,7 @@ calls! {
     read_pci(header: &[u8], port: u8) -> Result<PortDescription, PciError> { discovery::read_pci(header, port) }
     read_device_tree(blob: &[u8], native: ByteOrder) -> Result<PortDescription, TreeError> { discovery::read_device_tree(blob, native) }
     read_tree_node(blob: &[u8], path: &[u8], native: ByteOrder) -> Result<PortDescription, TreeError> { discovery::read_tree_node(blob, path, native) }
-    config_of(port: &PortDescription) -> Config { discovery::config_of(port) }
+    config_of(port: &PortDescription) -> Result<Config, UnknownClockError> { discovery::config_of(port) }
     config_character_clocks(config: &Config) -> Result<u64, InvalidDivisorError> { config.character_clocks() }
     config_handler_clocks(config: &Config, size: FifoSize) -> Result<u64, InvalidDivisorError> { config.handler_clocks(size) }
     config_handler_budget(config: &Config, size: FifoSize, access: u64, before: u64) -> Result<Option<u64>, InvalidDivisorError> { config.handler_budget(size, access, before) }

@@ -16,6 +16,7 @@ BUS = 'rust/uart_16550_vmm/src/bus.rs'
 COUNTERS = 'rust/uart_16550_vmm/src/counters.rs'
 AROUND = 'rust/uart_16550_vmm/src/linux.rs'
 INPUT = 'rust/uart_16550_vmm/src/input.rs'
+LOSSY = 'rust/uart_16550_vmm/src/lossy.rs'
 
 LOAD = '''    barrier();
     // SAFETY: by the promise of the caller.
@@ -34,7 +35,7 @@ NOT_TIMEOUTS = 'if stringify!($event) != "timeout_to_come" { %s }'
 # What is wrong, the file, the text, what stands in its place, and what finds it: the packages' tests, the random machines of a monitor
 # alone, the thread sanitiser, or a look at the assembly for a target that needs barriers.
 NAMED = [
-    ('the second of two due tasks is not woken', SHARED, 'for waiter in [due.receive, due.transmit].into_iter().flatten() {', 'if let Some(waiter) = [due.receive, due.transmit].into_iter().flatten().next() {', 'tests'),
+    ('the second of two due tasks is not woken', SHARED, 'due.transmit.map(|waiter| waiter.waker)', 'due.transmit.filter(|_| due.receive.is_none()).map(|waiter| waiter.waker)', 'tests'),
     ('what was done before is not seen in the next call', EXCLUSIVE, 'Ordering::Acquire', 'Ordering::Relaxed', 'races'),
     ('what is done in a call is not seen after it', EXCLUSIVE, 'Ordering::Release', 'Ordering::Relaxed', 'races'),
     ('the sign is cleared before the call', EXCLUSIVE, 'let _in_use = InUse(', 'let _ = InUse(', 'tests'),
@@ -90,6 +91,15 @@ NAMED = [
     ('a general output is cleared', EMERGENCY, 'MCR::OUT_1.union(MCR::OUT_2_INT_ENABLE)', 'MCR::OUT_2_INT_ENABLE', 'tests'),
     ('interrupts are left enabled', EMERGENCY, '        uart.backend_mut().write(offset_of(offsets::IER), 0);\n', '', 'tests'),
     ('a stuck chip is waited for again and again', EMERGENCY, '            NonZeroU64::MIN\n', '            self.patience\n', 'tests'),
+    ('after a raw text that nobody got the next one waits as long', EMERGENCY, 'let sent = self.terminal.write_raw_text(text);\n        self.be_patient_if(sent.is_ok());', 'let sent = self.terminal.write_raw_text(text);', 'tests'),
+    ('one byte is nothing to read', BLOCKING, 'self.shared.with(|ring| ring.receive_len() > 0)', 'self.shared.with(|ring| ring.receive_len() > 1)', 'tests'),
+    ('a source that ended has ended for ever', INPUT, 'self.is_at_end = count == 0;', 'self.is_at_end |= count == 0;', 'tests'),
+    ('an output that says it took more is believed', LOSSY, '?.min(bytes.len())', '?', 'tests'),
+    ('of two failures the first is kept', BUS, 'self.failure = Some(failure);', 'self.failure.get_or_insert(failure);', 'tests'),
+    ('nobody waits until a terminal can be written', AROUND, 'events: READABLE | WRITABLE | BY_EDGE,', 'events: READABLE | BY_EDGE,', 'tests'),
+    ('what is there is news for ever', AROUND, 'events: READABLE | WRITABLE | BY_EDGE,', 'events: READABLE | WRITABLE,', 'tests'),
+    ('a register of 32 bits is read by a load of 8', ACCESS, 'u32::from_le(load(address.cast())) as u8,', 'load(address),', 'barriers'),
+    ('a barrier is for memory alone', ACCESS, '"fence iorw, iorw"', '"fence rw, rw"', 'barriers'),
     ('a load without its first barrier', ACCESS, LOAD, LOAD.replace(BARRIER, '', 1), 'barriers'),
     ('a load without its last barrier', ACCESS, LOAD, LOAD.removesuffix(BARRIER), 'barriers'),
     ('a store without its first barrier', ACCESS, STORE, STORE.replace(BARRIER, '', 1), 'barriers'),

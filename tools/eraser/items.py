@@ -64,6 +64,9 @@ class Form(NamedTuple):
 Attributes = list[tuple[str, int, int]]
 FORMATTER = re.compile(r"fn (\w+) < (\w+) : ((?:std :: )?)fmt :: Write > " r"\( & self , f : & mut \3fmt :: Formatter < \2 > \) -> ")
 
+# A result of which Rust does not warn by its type, and what says that a function changes something.
+RESULT = re.compile(r"\) -> (?!(\w+ :: )*Result\b)")
+CHANGES = re.compile(r"& ('\w+ )?mut\b")
 OPENING = {"(": ")", "[": "]", "{": "}"}
 ITEMS = ("fn", "impl", "mod", "trait", "struct", "enum", "use", "pub", "const", "type")
 VISIBILITIES = ("pub", "pub ( crate )", "pub ( super )")
@@ -476,6 +479,7 @@ class File:
             self.lemma(form, attributes)
         else:
             self.attribute(attributes, ("inline", "must_use"))
+            self.result(form, attributes)
             self.functions.append(Function(form.path, name, True, owner, form.requires, form.is_method))
             self.forms.append(form)
             self.signature(form)
@@ -551,6 +555,16 @@ class File:
             self.bounds(*form.generics)
         if form.path in self.table.CONSTANT:
             self.insert("const", self.code[form.start].start, "const ")
+
+    def result(self, form: Form, attributes: Attributes) -> None:
+        """Lets Rust warn of a caller that drops a result: who calls what changes nothing of the caller's wants that. Of a `Result` Rust
+        warns anyway."""
+        text = self.words(form.generics[1], form.behind)
+        is_marked = any(name == "must_use" for name, _, _ in attributes)
+        if form.visibility == "pub" and not is_marked and RESULT.search(text) and not CHANGES.search(text):
+            start = self.code[form.start - 1].start
+            indent = self.text[self.text.rfind("\n", 0, start) + 1 : start]
+            self.insert("result", start, f"#[must_use]\n{indent}")
 
     def contract(self, form: Form) -> None:
         """Drops what is between the signature and the body."""

@@ -282,7 +282,7 @@ ROOT = (
     r"|const _ : \( \) = assert ! \( usize :: BITS (== 64|>= 32) , \"[^\"]*\" \) ;"
 )
 ANYWHERE = (
-    r"use std :: fmt :: Write as _ ;|use std :: \{ [\w, ]+ \} ;|(pub )?mod by_hand ;|# \[ repr \( C \) \]"
+    r"use std :: fmt :: Write as _ ;|use std :: \{ [\w, ]+ \} ;|(pub )?mod by_hand ;|# \[ (repr \( C \)|must_use) \]"
     r"|# \[ (cfg_attr \( not \( feature = \"exhaustive\" \) , )?non_exhaustive( \))? \]"
 )
 GAINED = re.compile(rf"(?:{ANYWHERE})(?= |$)")

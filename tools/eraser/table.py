@@ -20,6 +20,7 @@ RULES = [
     ("debug", "`Debug` in the derive of a register", "nothing: by hand there is one with the names of the bits"),
     ("guard", "the body of a function in `GUARDS`", "the test of what its clause requires, then the body"),
     ("const", "a function in `CONSTANT`", "`const fn`"),
+    ("result", "a public function with a result that is no `Result`, and without `&mut`", "also `#[must_use]`"),
     ("order", "a struct in `IN_ORDER`", "also `#[repr(C)]`"),
     ("grows", "an enum in `MAY_GROW` or `IS_OPEN`", "also `#[non_exhaustive]`; in `MAY_GROW` only if the feature `exhaustive` is off"),
     ("formatter", "`fn fmt<W: fmt::Write>(&self, f: &mut fmt::Formatter<W>)`", "`fn fmt(&self, f: &mut fmt::Formatter<'_>)`"),

@@ -54,6 +54,20 @@ ACCEPTED = [
     "fn f(x: Vec<Vec<u8>>) -> Option<Option<u8>> {\n    Some(x.first()?.first().copied())\n}",
 ]
 
+# A function, and whether Rust is to warn of a caller that drops its result.
+RESULTS = [
+    ("pub fn f(x: u8) -> u8 {\n    x\n}", True),
+    ("#[must_use]\npub fn f(x: u8) -> u8 {\n    x\n}", True),
+    ("#[inline]\npub fn f<'a>(x: &'a [u8], y: u8) -> Option<&'a u8>\n    ensures { a }\n{\n    x.first()\n}", True),
+    ("fn f(x: u8) -> u8 {\n    x\n}", False),
+    ("pub(crate) fn f(x: u8) -> u8 {\n    x\n}", False),
+    ("pub fn f(x: u8) {}", False),
+    ("pub fn f(x: u8) -> Result<u8, u8> {\n    Ok(x)\n}", False),
+    ("use std::fmt;\npub fn f(x: fmt::Result) -> fmt::Result {\n    x\n}", False),
+    ("pub fn f(x: &mut u8) -> u8 {\n    *x\n}", False),
+    ("pub fn f<'a>(x: &'a mut u8) -> &'a u8 {\n    x\n}", False),
+]
+
 # A form behind the code of the same file, and the cause.
 FORMS = [
     # what a clause may not have
@@ -471,6 +485,14 @@ class Tests:
             cause = self.refused(name, f"{self.texts[name]}\n{form}\n")
             self.count(cause == "", f"refused: {form!r}: {cause}")
 
+    def results(self) -> None:
+        """Which functions get `#[must_use]`, once: no caller of one that has it by hand is told twice."""
+        name = "uart_spec/src/backend.rt"
+        for form, is_wanted in RESULTS:
+            made = crate.erase(crate.read(name, f"{self.texts[name]}\n{form}\n"))
+            found = made.removeprefix(crate.erase(crate.read(name, self.texts[name]))).count("#[must_use]")
+            self.count(found == int(is_wanted), f"{form!r}: {found} times `#[must_use]`")
+
     def forms(self, forms: Iterable[tuple[str, str]], name: str = "uart_spec/src/backend.rt") -> None:
         for form, cause in forms:
             found = self.refused(name, f"{self.texts[name]}\n{form}\n")
@@ -701,6 +723,7 @@ def is_expanded(data: bytes) -> bool:
 def run() -> bool:
     tests = Tests()
     tests.accepted()
+    tests.results()
     tests.forms(FORMS)
     tests.sources(SOURCES)
     tests.forms(deceptions.FORMS)

@@ -65,6 +65,8 @@ const TOLERANCE: u32 = 20;
 /// Why there is no console, or why it ended.
 pub enum Failure {
     NoRegisters,
+    #[cfg(any(found_by = "tree", found_by = "pci", found_by = "command line"))]
+    NoClock(discovery::UnknownClockError),
     NoDivisor(NearestDivisorError),
     NotInitialised(InitError),
     BrokenChip(LoopbackError),
@@ -96,6 +98,8 @@ impl fmt::Display for Failure {
     fn fmt(&self, f: &mut fmt::Formatter<'_>) -> fmt::Result {
         match self {
             Failure::NoRegisters => f.write_str("no registers"),
+            #[cfg(any(found_by = "tree", found_by = "pci", found_by = "command line"))]
+            Failure::NoClock(cause) => write!(f, "no clock: {cause}"),
             Failure::NoDivisor(cause) => write!(f, "no divisor: {cause}"),
             Failure::NotInitialised(cause) => write!(f, "not initialised: {cause}"),
             Failure::BrokenChip(cause) => write!(f, "broken: {cause}"),
@@ -204,7 +208,9 @@ fn found(port: &discovery::PortDescription) -> Result<Place, Failure> {
         base: usize::try_from(port.base).map_err(|_| Failure::NoRegisters)?,
         #[cfg(not(reached_by = "ports"))]
         layout: port.layout,
-        frequency: discovery::config_of(port).frequency,
+        frequency: discovery::config_of(port)
+            .map_err(Failure::NoClock)?
+            .frequency,
     })
 }
 

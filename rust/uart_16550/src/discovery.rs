@@ -13,22 +13,41 @@
 //! boot loader can call it on a small stack. How the bytes are found is the caller's: this crate looks
 //! at no memory by itself.
 //!
+//! # The clock
+//!
+//! A rate is the frequency of the clock over a divisor, so a port is set up by its clock. Most boards with
+//! a device tree have a controller of clocks, which the firmware has set, and then no bytes say the
+//! frequency: [`config_of`] returns [`UnknownClockError`], and takes no other one in its place. Who knows the
+//! frequency sets [`PortDescription::clock`]. Who does not keeps what the firmware has set, by
+//! [`attach`](crate::native::Uart16550::attach); and where a baud rate is known that the firmware has set,
+//! the clock is 16 times the divisor and that rate
+//! ([`checked_frequency`](crate::native::spec::checked_frequency)).
+//!
 //! # Examples
 //!
 //! ```no_run
 //! use core::num::NonZeroUsize;
 //! use uart_16550::discovery::{self, AddressSpace};
 //! use uart_16550::native::backend::{ByteOrder, WideMemory};
-//! use uart_16550::native::Uart16550;
+//! use uart_16550::native::{Uart16550, spec::checked_frequency};
 //!
 //! # fn start(tree: &'static [u8]) -> Result<(), Box<dyn std::error::Error>> {
-//! let port = discovery::read_device_tree(tree, ByteOrder::NATIVE)?;
+//! let mut port = discovery::read_device_tree(tree, ByteOrder::NATIVE)?;
 //! assert_eq!(port.space, AddressSpace::Memory);
 //! let base = NonZeroUsize::new(usize::try_from(port.base)?).ok_or("no address")?;
 //! // SAFETY: the firmware says that a 16550 is there, and nothing else accesses it.
 //! let registers = unsafe { WideMemory::from_address(base, port.layout) }?;
 //! let mut uart = Uart16550::new_with_backend(registers);
-//! uart.init(discovery::config_of(&port).nearest(20)?)?;
+//! match discovery::config_of(&port) {
+//!     Ok(config) => uart.init(config.nearest(20)?)?,
+//!     // The console goes on as the firmware left it.
+//!     Err(discovery::UnknownClockError) => {
+//!         let (dll, dlm) = uart.attach()?;
+//!         let divisor = u16::from_le_bytes([dll, dlm]).into();
+//!         // To set up another rate or frame, later.
+//!         port.clock = port.baud_rate.and_then(|rate| checked_frequency(rate, divisor, None));
+//!     }
+//! }
 //! # Ok(())
 //! # }
 //! ```
@@ -39,27 +58,60 @@ pub use uart_discovery::{
     read_tree_node,
 };
 
+use core::error::Error;
+use core::fmt;
 use uart_driver::{BaudRate, Config};
+use uart_spec::CLK_FREQUENCY_HZ;
 
-/// Returns a configuration with the clock and the baud rate of a port. What its description does not
-/// say is that of [`Config::DEFAULT`].
+/// The first port that ISA does not have: it decodes ten bits of an address.
+const END_OF_PC_PORTS: u64 = 0x400;
+
+/// Nothing says the frequency of the clock of a port, so no divisor gives a known baud rate.
+#[derive(Clone, Copy, Debug, PartialEq, Eq, Hash)]
+pub struct UnknownClockError;
+
+impl fmt::Display for UnknownClockError {
+    fn fmt(&self, f: &mut fmt::Formatter<'_>) -> fmt::Result {
+        f.write_str("the frequency of the clock is not known")
+    }
+}
+
+impl Error for UnknownClockError {}
+
+/// Returns a configuration with the clock and the baud rate of a port. What its description does not say is
+/// that of [`Config::DEFAULT`], but for the clock: that of a PC is taken for the I/O ports of a PC alone,
+/// which are below 400.
+///
+/// # Errors
+///
+/// If the clock is not known, or is 0.
 ///
 /// # Examples
 ///
 /// ```
-/// use uart_16550::discovery::{config_of, read_earlycon};
+/// use uart_16550::discovery::{UnknownClockError, config_of, read_earlycon};
 ///
-/// let port = read_earlycon(b"uart8250,io,0x3f8,115200n8")?;
-/// assert_eq!(config_of(&port).baud_rate.to_integer(), 115_200);
-/// # Ok::<(), uart_16550::discovery::OptionError>(())
+/// let mut port = read_earlycon(b"uart8250,mmio32,0xfe215040,115200n8")?;
+/// assert_eq!(config_of(&port).err(), Some(UnknownClockError));
+/// // The manual of the board says it.
+/// port.clock = Some(500_000_000);
+/// assert_eq!(config_of(&port)?.baud_rate.to_integer(), 115_200);
+/// # Ok::<(), Box<dyn core::error::Error>>(())
 /// ```
-#[must_use]
-pub fn config_of(port: &PortDescription) -> Config {
-    Config {
-        frequency: port.clock.unwrap_or(Config::DEFAULT.frequency),
+pub fn config_of(port: &PortDescription) -> Result<Config, UnknownClockError> {
+    // Cards of PCI have ports beyond those, and each its own clock.
+    let is_of_pc = port.space == AddressSpace::Ports && port.base < END_OF_PC_PORTS;
+    let frequency = match port.clock {
+        Some(0) => return Err(UnknownClockError),
+        Some(frequency) => frequency,
+        None if is_of_pc => CLK_FREQUENCY_HZ,
+        None => return Err(UnknownClockError),
+    };
+    Ok(Config {
+        frequency,
         baud_rate: port
             .baud_rate
             .map_or(Config::DEFAULT.baud_rate, BaudRate::from_integer),
         ..Config::DEFAULT
-    }
+    })
 }

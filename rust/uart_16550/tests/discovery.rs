@@ -2,12 +2,17 @@
 //! nobody meant as a table.
 #![allow(clippy::cast_possible_truncation)]
 
+mod common;
+
+use common::Chip;
 use uart_16550::discovery::{
     AddressSpace, Interrupt, OptionError, PciError, PortDescription, TableError, TableFault,
-    TreeError, config_of, read_console, read_dbg2, read_device_tree, read_earlycon, read_pci,
-    read_spcr, read_tree_node,
+    TreeError, UnknownClockError, config_of, read_console, read_dbg2, read_device_tree,
+    read_earlycon, read_pci, read_spcr, read_tree_node,
 };
+use uart_16550::native::Uart16550;
 use uart_16550::native::backend::{ByteOrder, RegisterLayout, RegisterWidth};
+use uart_16550::native::spec::checked_frequency;
 
 const BYTES: RegisterLayout = RegisterLayout {
     stride: 1,
@@ -389,9 +394,47 @@ fn pci_says_each_port() {
 #[test]
 fn a_description_becomes_a_configuration() {
     let port = read_earlycon(b"uart8250,io,0x3f8,9600n8,24000000").unwrap();
-    let config = config_of(&port);
+    let config = config_of(&port).unwrap();
     assert_eq!(config.frequency, 24_000_000);
     assert_eq!(config.baud_rate.to_integer(), 9_600);
+}
+
+/// A clock that nothing says is that of a PC at the ports of a PC alone.
+#[test]
+fn no_clock_is_guessed() {
+    let of = |text: &[u8]| read_earlycon(text).unwrap();
+    let frequency = |port: &PortDescription| config_of(port).map(|config| config.frequency);
+    assert_eq!(frequency(&of(b"uart,io,0x3f8")), Ok(1_843_200));
+    assert_eq!(frequency(&read_spcr(&spcr_of_a_pc()).unwrap()), Ok(1_843_200));
+    // A card of which nothing is known has such ports too, beyond those of a PC.
+    assert_eq!(frequency(&of(b"uart,io,0x3ff")), Ok(1_843_200));
+    assert_eq!(frequency(&of(b"uart,io,0x400")), Err(UnknownClockError));
+    let mut memory = of(b"uart8250,mmio32,0xfe215040,115200n8");
+    assert_eq!(frequency(&memory), Err(UnknownClockError));
+    assert_eq!(UnknownClockError.to_string(), "the frequency of the clock is not known");
+    memory.clock = Some(0);
+    assert_eq!(frequency(&memory), Err(UnknownClockError));
+    memory.clock = Some(500_000_000);
+    assert_eq!(frequency(&memory), Ok(500_000_000));
+}
+
+/// What the firmware has set is kept, and says the clock: the tree has no clock, and the command line a rate.
+#[test]
+fn a_clock_is_found_from_what_the_firmware_set() {
+    let mut port = read_device_tree(&tree_with(b"serial0:115200n8\0", &RANGES, &[]), ByteOrder::Little).unwrap();
+    assert_eq!(config_of(&port).err(), Some(UnknownClockError));
+    // The firmware knows that the clock has 24 MHz, and has taken the nearest divisor.
+    let mut uart = Uart16550::new_with_backend(Chip {
+        latch: [13, 0],
+        ..Chip::default()
+    });
+    let (dll, dlm) = uart.attach().unwrap();
+    let divisor = u16::from_le_bytes([dll, dlm]).into();
+    port.clock = port.baud_rate.and_then(|rate| checked_frequency(rate, divisor, None));
+    assert_eq!(port.clock, Some(23_961_600));
+    // The same rate has the same divisor.
+    uart.init(config_of(&port).unwrap()).unwrap();
+    assert_eq!(uart.backend().latch, [13, 0]);
 }
 
 /// A device tree, written token by token.

@@ -353,6 +353,14 @@ fn a_chip_that_is_stuck_ends_the_text_and_not_the_machine() {
     let accesses = cable.chip().accesses - before;
     assert!(accesses < 600, "{accesses} accesses");
     assert_eq!(console.send_bytes(b"abc"), Err(StalledError { done: 0 }));
+    // So it is if the first text that nobody gets is raw.
+    let mut console = take_over(&cable).unwrap();
+    let before = cable.chip().accesses;
+    for _line in 0..100 {
+        assert!(console.write_raw_text(b"a long text that nobody gets").is_err());
+    }
+    let accesses = cable.chip().accesses - before;
+    assert!(accesses < 600, "{accesses} accesses");
     cable.chip().is_stuck = false;
     while !cable.chip().transmit.is_empty() {
         cable.chip().pass();

@@ -281,7 +281,11 @@ fn a_wait_that_is_given_up_loses_nothing() {
     );
     assert_eq!(port.blocking(Turns(3)).read_ready(), Ok(false));
     assert_eq!(port.blocking(Turns(3)).read(&mut [0]), Err(cause));
-    cable.chip().received.extend(b"abc");
+    // One byte is enough.
+    cable.chip().received.extend(b"a");
+    handle(&port, &cable);
+    assert_eq!(port.blocking(Turns(3)).read_ready(), Ok(true));
+    cable.chip().received.extend(b"bc");
     handle(&port, &cable);
     let mut slots = [0; 4];
     let unfinished = port

@@ -189,6 +189,10 @@ fn failures_are_kept_for_the_monitor() {
         Some(Error::Trigger(failed)) => assert_eq!(failed.cause, "broken"),
         other => panic!("{other:?}"),
     }
+    // Of two failures the last one is kept. The device tells again in its next call what it could not tell.
+    com1.write(DATA, b"x");
+    com1.write(1, &[0x02]);
+    assert!(matches!(com1.take_failure(), Some(Error::Trigger(_))));
     is_broken.set(false);
     com1.serial_mut().set_lines(MSR::CTS).unwrap();
     assert!(com1.take_failure().is_none());

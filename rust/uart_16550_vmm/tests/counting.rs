@@ -198,13 +198,31 @@ fn lossy_output_holds_no_guest_back() {
     assert!(serial.into_parts().2.into_inner().0.is_err());
 }
 
+/// An output that says that it took more than there was has taken all.
+#[test]
+fn an_output_that_lies_drops_nothing() {
+    struct Liar;
+
+    impl Output for Liar {
+        type Error = Infallible;
+
+        fn write_bytes(&mut self, bytes: &[u8]) -> Result<usize, Infallible> {
+            Ok(bytes.len() + 1)
+        }
+    }
+
+    let mut output = Lossy::new(Liar);
+    assert_eq!(output.write_bytes(b"abc"), Ok(3));
+    assert_eq!(output.dropped(), 0);
+}
+
 /// Without that, the same host holds the guest back.
 #[test]
 fn a_stopped_host_holds_a_guest_back() {
     let trigger = TriggerBy(|| Ok::<(), Infallible>(()));
     let mut serial = Serial::new(trigger, Host(Ok(0)));
     let mut printed = 0;
-    while serial.read(5) & 0x20 != 0 {
+    while serial.read(5) & 0x20 != 0 && printed < 1_000 {
         serial.write(0, b'x').unwrap();
         printed += 1;
     }

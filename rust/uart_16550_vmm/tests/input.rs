@@ -140,6 +140,7 @@ fn a_source_may_have_nothing_be_interrupted_fail_and_end() {
             Err(ErrorKind::BrokenPipe),
             Ok(vec![3]),
             Ok(vec![]),
+            Ok(vec![4]),
         ]
         .into(),
     ));
@@ -150,7 +151,10 @@ fn a_source_may_have_nothing_be_interrupted_fail_and_end() {
     assert!(!input.is_at_end());
     assert_eq!(input.offer(&mut serial).unwrap(), 1);
     assert!(input.is_at_end());
-    assert_eq!([0; 4].map(|_: i32| serial.read(0)), [1, 2, 3, 3]);
+    // A file that grows is a source that goes on.
+    assert_eq!(input.offer(&mut serial).unwrap(), 1);
+    assert!(!input.is_at_end());
+    assert_eq!([0; 5].map(|_: i32| serial.read(0)), [1, 2, 3, 4, 4]);
 }
 
 #[test]

@@ -290,6 +290,11 @@ mod tests {
         let line = |rest: &str| format!("q 1 [000] 1.5:  kvm:kvm_mmio: mmio {rest}");
         let read = line("read len 4 gpa 0x10000014 val 0xab60");
         assert_eq!(rewritten(window, &read).unwrap(), "r 5 60 @1500000000");
+        let half = line("read len 2 gpa 0x10000014 val 0xab60");
+        assert_eq!(rewritten(window, &half).unwrap(), "r 5 60 @1500000000");
+        // A byte has no more than eight bits, and what has is no value of it.
+        let byte = line("read len 1 gpa 0x10000014 val 0x160");
+        assert!(rewritten(window, &byte).is_err());
         let unsatisfied = line("unsatisfied-read len 4 gpa 0x10000014 val 0x0");
         assert_eq!(rewritten(window, &unsatisfied).unwrap(), "");
         let refused = rewritten(window, &line("reads len 4")).unwrap_err();
@@ -316,6 +321,8 @@ mod tests {
     fn what_an_event_does_not_say_is_refused() {
         let window = Window::default();
         for (from, to, cause, column) in [
+            ("count 1", "count 0", "bad count", 93),
+            ("count 1", "count 2", "bad count", 93),
             ("count 1", "count 4", "bad count", 93),
             ("size 1", "size 2", "bad size", 85),
             ("val 0x1b ", "", "bad word", FTRACE.len() - 8),

@@ -115,6 +115,9 @@ mod tests {
             format!("13@17.000125:{serial}")
         );
         assert_eq!(rewritten(None, "kvm_vm_ioctl type 0x5").unwrap(), "");
+        // A register is the lowest byte of what is as wide as the bus.
+        let wide = read.replace("value 0x60 size 1", "value 0xab60 size 4");
+        assert_eq!(rewritten(Some(0x1000_0000), &wide).unwrap(), serial);
         let refusal = rewritten(None, "memory_region_ops_write addr 0x3f8 size 1").unwrap_err();
         assert_eq!(
             (refusal.cause, refusal.column),

@@ -109,6 +109,7 @@ impl<B: Backend> Uart16550<B> {
     /// ```
     ///
     /// </details>
+    #[must_use]
     pub const fn new_with_backend(backend: B) -> Self {
         Uart16550 {
             backend,
@@ -146,6 +147,7 @@ impl<B: Backend> Uart16550<B> {
     /// ```
     ///
     /// </details>
+    #[must_use]
     pub const fn backend(&self) -> &B {
         &self.backend
     }
@@ -220,6 +222,7 @@ impl<B: Backend> Uart16550<B> {
     /// ```
     ///
     /// </details>
+    #[must_use]
     pub const fn config(&self) -> &Config {
         &self.config
     }
@@ -255,6 +258,7 @@ impl<B: Backend> Uart16550<B> {
     /// ```
     ///
     /// </details>
+    #[must_use]
     pub const fn fifo_enabled(&self) -> bool {
         self.fifo_enabled
     }
@@ -286,6 +290,7 @@ impl<B: Backend> Uart16550<B> {
     /// ```
     ///
     /// </details>
+    #[must_use]
     pub const fn fifo_size(&self) -> FifoSize {
         self.fifo_size
     }
@@ -359,6 +364,7 @@ impl<B: Backend> Uart16550<B> {
     /// ```
     ///
     /// </details>
+    #[must_use]
     pub const fn spin_limit(&self) -> NonZeroU64 {
         self.spin_limit
     }

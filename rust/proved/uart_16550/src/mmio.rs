@@ -55,6 +55,7 @@ impl<M: ByteAccess> MmioBackend<M> {
     /// ```
     ///
     /// </details>
+    #[must_use]
     pub const fn base(&self) -> NonZeroUsize {
         self.base
     }
@@ -76,6 +77,7 @@ impl<M: ByteAccess> MmioBackend<M> {
     /// ```
     ///
     /// </details>
+    #[must_use]
     pub const fn stride(&self) -> NonZeroU8 {
         self.stride
     }
@@ -95,6 +97,7 @@ impl<M: ByteAccess> MmioBackend<M> {
     /// ```
     ///
     /// </details>
+    #[must_use]
     pub fn access(&self) -> &M {
         &self.access
     }

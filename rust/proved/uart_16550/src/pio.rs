@@ -41,6 +41,7 @@ impl<P: PortAccess> PioBackend<P> {
     /// ```
     ///
     /// </details>
+    #[must_use]
     pub const fn base(&self) -> u16 {
         self.base
     }
@@ -60,6 +61,7 @@ impl<P: PortAccess> PioBackend<P> {
     /// ```
     ///
     /// </details>
+    #[must_use]
     pub fn access(&self) -> &P {
         &self.access
     }

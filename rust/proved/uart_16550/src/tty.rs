@@ -300,6 +300,7 @@ impl<B: Backend> Uart16550Tty<B> {
     /// ```
     ///
     /// </details>
+    #[must_use]
     pub const fn from_inner(inner: Uart16550<B>) -> Self {
         Uart16550Tty { inner }
     }
@@ -329,6 +330,7 @@ impl<B: Backend> Uart16550Tty<B> {
     /// ```
     ///
     /// </details>
+    #[must_use]
     pub const fn inner(&self) -> &Uart16550<B> {
         &self.inner
     }
@@ -391,6 +393,7 @@ impl<B: Backend> Uart16550Tty<B> {
     /// ```
     ///
     /// </details>
+    #[must_use]
     pub fn into_inner(self) -> Uart16550<B> {
         let Uart16550Tty { inner: uart } = self;
         uart

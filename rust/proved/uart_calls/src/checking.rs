@@ -45,6 +45,7 @@ pub enum NextStep {
 
 /// Returns how many of these accesses the driver makes in this call, starting from this state, and
 /// what it does instead of the first that it does not make. Allocates no memory.
+#[must_use]
 pub fn follow<R: Recorded>(accesses: &[R], state: &DriverState, call: &Call) -> Followed {
     let mut uart = Uart16550Tty::from_inner(Uart16550::from_state(Tape::new(accesses), state));
     let answer = perform(&mut uart, call);
@@ -65,6 +66,7 @@ pub fn follow<R: Recorded>(accesses: &[R], state: &DriverState, call: &Call) -> 
 /// Returns whether these accesses are a list of this call, starting from this state: if so, what
 /// the call returned, and the state of the driver after it; `None` if they are not, whatever the
 /// call might have returned. Allocates no memory.
+#[must_use]
 pub fn check<R: Recorded>(accesses: &[R], state: &DriverState, call: &Call) -> Option<Returned> {
     match next(accesses, state, call) {
         NextStep::Done(returned) => Some(returned),
@@ -75,6 +77,7 @@ pub fn check<R: Recorded>(accesses: &[R], state: &DriverState, call: &Call) -> O
 
 /// Returns what the driver does next in this call, starting from this state, after it has made
 /// these accesses. Allocates no memory.
+#[must_use]
 pub fn next<R: Recorded>(made: &[R], state: &DriverState, call: &Call) -> NextStep {
     let Followed { kept, turn } = follow(made, state, call);
     if kept < made.len() {

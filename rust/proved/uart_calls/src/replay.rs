@@ -30,6 +30,7 @@ impl<'a> Replay<'a> {
     /// ```text
     /// let mut uart = Uart16550::new_with_backend(Replay::new(&[0x1e, 0x60, 0x0f]));
     /// ```
+    #[must_use]
     pub fn new(answers: &'a [u8]) -> Self {
         Replay {
             answers,
@@ -39,6 +40,7 @@ impl<'a> Replay<'a> {
     }
 
     /// Returns the accesses that were made, or `None` if there were more than `REPLAY_ROOM`.
+    #[must_use]
     pub fn accesses(&self) -> Option<&[Access]> {
         if self.is_whole {
             Some(self.accesses.as_slice())

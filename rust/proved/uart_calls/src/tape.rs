@@ -60,6 +60,7 @@ fn byte_of(access: Access) -> u8 {
 
 impl<'a, R: Recorded> Tape<'a, R> {
     /// Returns a tape that plays this list, from its first access on.
+    #[must_use]
     pub fn new(accesses: &'a [R]) -> Self {
         Tape {
             left: accesses,
@@ -69,11 +70,13 @@ impl<'a, R: Recorded> Tape<'a, R> {
     }
 
     /// Returns how many accesses of the list were not made.
+    #[must_use]
     pub fn left(&self) -> usize {
         self.left.len()
     }
 
     /// Returns the first request that is not the next access of the list, if there was one.
+    #[must_use]
     pub fn asked(&self) -> Option<Request> {
         self.asked
     }

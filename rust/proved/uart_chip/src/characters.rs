@@ -22,12 +22,14 @@ fn known<Q: Fifo<Character>>(queue: &Q, is_front_reported: bool) -> usize {
 
 impl<Q: Fifo<Character>> Characters<Q> {
     /// Returns no characters, over an empty queue.
+    #[must_use]
     pub fn new(queue: Q) -> Self {
         Characters { queue, errors: 0 }
     }
 
     /// Returns these characters, over an empty queue.
     // They fit: each FIFO has room for at least so many.
+    #[must_use]
     pub fn filled(queue: Q, items: &ArrayVec<Character, FIFO_SIZE>) -> Self {
         let mut characters = Characters::new(queue);
         for item in items.as_slice() {
@@ -37,12 +39,14 @@ impl<Q: Fifo<Character>> Characters<Q> {
     }
 
     /// Returns whether a character has errors.
+    #[must_use]
     pub fn has_errors(&self) -> bool {
         self.errors > 0
     }
 
     /// Returns whether a character has errors. Those of the front do not count if they were
     /// reported.
+    #[must_use]
     pub fn has_unreported_errors(&self, is_front_reported: bool) -> bool {
         self.errors > known(&self.queue, is_front_reported)
     }

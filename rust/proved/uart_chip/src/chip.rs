@@ -87,6 +87,7 @@ impl<
     ///
     /// A character takes `char_ticks` ticks to be sent, and characters are cut to the word length
     /// if `cuts` is set.
+    #[must_use]
     pub fn with_parts(
         bytes: B,
         wire: W,
@@ -117,6 +118,7 @@ impl<
 
     /// Returns the chip with these data, over empty queues of 16 and a wire that holds its bytes,
     /// without a schedule, and with nothing beyond a 16550A.
+    #[must_use]
     pub fn from_parts(bytes: B, wire: W, characters: C, journal: J, saved: &ChipData) -> Self {
         let receiver = Receiver::from_data(
             characters,
@@ -138,6 +140,7 @@ impl<
 
     /// Returns the chip as plain data, without the bytes on its wire and without its schedule. The
     /// data are those of a chip with FIFOs of 16 that has nothing beyond a 16550A.
+    #[must_use]
     pub fn data(&self) -> ChipData {
         ChipData {
             model: self.model,
@@ -151,36 +154,43 @@ impl<
     }
 
     /// Returns the transmitter.
+    #[must_use]
     pub fn transmitter(&self) -> &Transmitter<B, W> {
         &self.transmitter
     }
 
     /// Returns the receiver.
+    #[must_use]
     pub fn receiver(&self) -> &Receiver<C, J> {
         &self.receiver
     }
 
     /// Returns whether the FIFOs are on.
+    #[must_use]
     pub fn fifo(&self) -> bool {
         self.fifo
     }
 
     /// Returns whether what is sent comes back to the receiver.
+    #[must_use]
     pub fn is_loopback(&self) -> bool {
         is_loopback(self)
     }
 
     /// Returns whether DATA and IER are the divisor latch.
+    #[must_use]
     pub fn is_dlab_set(&self) -> bool {
         is_dlab_set(self)
     }
 
     /// Returns whether the chip asks the other end to send, by its output RTS.
+    #[must_use]
     pub fn rts_output(&self) -> bool {
         rts_output(self)
     }
 
     /// Returns the divisor in the divisor latch.
+    #[must_use]
     pub fn divisor(&self) -> u16 {
         divisor(self)
     }
@@ -211,6 +221,7 @@ impl<
     }
 
     /// Returns whether a reception timeout is due.
+    #[must_use]
     pub fn is_timed_out(&self) -> bool {
         is_timed_out(&self.receiver, self.fifo)
     }
@@ -221,6 +232,7 @@ impl<
     }
 
     /// Returns how many characters can be received before one is lost. In loopback that is 0.
+    #[must_use]
     pub fn receive_room(&self) -> usize {
         receive_room(self)
     }
@@ -248,6 +260,7 @@ impl<
     }
 
     /// Returns whether an interrupt is enabled and pending: whether the interrupt output is active.
+    #[must_use]
     pub fn is_interrupting(&self) -> bool {
         is_interrupting(self)
     }
@@ -266,6 +279,7 @@ impl<
 
     /// Returns whether a byte that is written to DATA can go onto the wire at once: outside of
     /// loopback, with nothing in the transmitter, which is not held off, and with room on the wire.
+    #[must_use]
     pub fn sends_at_once(&self) -> bool {
         sends_at_once(self)
     }
@@ -463,6 +477,7 @@ impl Uart<HeapFifo<u8>, HeapWire, HeapFifo<Character>, Marks, ChosenCapabilities
     }
 
     /// Returns the same chip with automatic flow control: MCR then keeps bit 5.
+    #[must_use]
     pub fn with_auto_flow(self) -> Self {
         let capabilities = ChosenCapabilities {
             auto_flow: true,

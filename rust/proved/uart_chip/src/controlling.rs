@@ -102,6 +102,7 @@ fn is_thr_empty(interrupt: Option<InterruptType>) -> bool {
 }
 
 /// Returns ISR without the bits that show the FIFO.
+#[must_use]
 pub fn identification(interrupt: Option<InterruptType>) -> ISR {
     match interrupt {
         None => ISR::INTERRUPT_STATUS,
@@ -132,22 +133,26 @@ fn cut_to(cuts: bool, lcr: LCR, byte: u8) -> u8 {
 }
 
 /// Returns a byte as it is sent and received: only its data bits if characters are cut.
+#[must_use]
 pub fn cut<P: ChipParts>(parts: &P, byte: u8) -> u8 {
     cut_to(parts.cuts(), parts.lcr(), byte)
 }
 
 /// Returns the divisor in the divisor latch.
+#[must_use]
 pub fn divisor<P: ChipParts>(parts: &P) -> u16 {
     let latches = parts.latches();
     latches.dlm as u16 * 256 + latches.dll as u16
 }
 
 /// Returns whether DATA and IER are the divisor latch.
+#[must_use]
 pub fn is_dlab_set<P: ChipParts>(parts: &P) -> bool {
     parts.lcr().intersects(LCR::DLAB)
 }
 
 /// Returns whether what leaves the transmitter comes back to the receiver.
+#[must_use]
 pub fn is_loopback<P: ChipParts>(parts: &P) -> bool {
     parts.mcr().intersects(MCR::LOOP_BACK)
 }
@@ -159,11 +164,13 @@ fn is_auto_flow<P: ChipParts>(parts: &P) -> bool {
 
 /// Returns whether the transmitter takes no next character: automatic flow control is on, and the
 /// other end is not ready to receive.
+#[must_use]
 pub fn is_held_off<P: ChipParts>(parts: &P) -> bool {
     is_auto_flow(parts) && !parts.is_clear_to_send()
 }
 
 /// Returns whether the chip asks the other end to send, by its output RTS.
+#[must_use]
 pub fn rts_output<P: ChipParts>(parts: &P) -> bool {
     let is_full = is_auto_flow(parts)
         && (parts.fifo() && is_data_pending(parts.receiver(), parts.fifo()));
@@ -224,6 +231,7 @@ pub fn arrive_live<P: ChipParts>(parts: &mut P, byte: u8, errors: u8) {
 }
 
 /// Returns how many characters can be received before one is lost. In loopback that is 0.
+#[must_use]
 pub fn receive_room<P: ChipParts>(parts: &P) -> usize {
     if is_loopback(parts) {
         0
@@ -276,6 +284,7 @@ fn pending_interrupt<P: ChipParts>(parts: &P) -> Option<InterruptType> {
 }
 
 /// Returns whether an interrupt is enabled and pending: whether the interrupt output is active.
+#[must_use]
 pub fn is_interrupting<P: ChipParts>(parts: &P) -> bool {
     !parts.ier().is_empty() && pending_interrupt(parts).is_some()
 }

@@ -230,6 +230,7 @@ impl Device16550 {
     /// ```
     // A real 16750 sets RTS again only once its FIFO is empty. This chip sets it as soon as fewer
     // characters wait than the trigger level, so that the output needs no memory.
+    #[must_use]
     pub fn with_auto_flow(self) -> Self {
         Self {
             uart: self.uart.with_auto_flow(),
@@ -246,6 +247,7 @@ impl Device16550 {
     /// ```
     // The contract of this observer, which says that the machine is sound, spares callers a
     // premise.
+    #[must_use]
     pub fn wire(&self) -> &[u8] {
         self.uart.transmitter().wire()
     }
@@ -257,6 +259,7 @@ impl Device16550 {
     /// ```text
     /// assert_eq!(rt; machine.held_len(), 3);
     /// ```
+    #[must_use]
     pub fn held_len(&self) -> usize {
         self.uart.transmitter().held_len()
     }
@@ -269,6 +272,7 @@ impl Device16550 {
     /// ```text
     /// assert_eq!(rt; machine.held_at(0), Some(3));
     /// ```
+    #[must_use]
     pub fn held_at(&self, i: usize) -> Option<u8> {
         self.uart.transmitter().held_at(i)
     }
@@ -280,6 +284,7 @@ impl Device16550 {
     /// ```text
     /// assert_eq!(rt; uart.backend().waiting_len(), 0);
     /// ```
+    #[must_use]
     pub fn waiting_len(&self) -> usize {
         self.uart.receiver().waiting_len()
     }
@@ -291,6 +296,7 @@ impl Device16550 {
     /// ```text
     /// assert_eq!(rt; uart.backend().waiting_at(0), Some(0x55));
     /// ```
+    #[must_use]
     pub fn waiting_at(&self, i: usize) -> Option<u8> {
         self.uart.receiver().waiting_at(i)
     }
@@ -307,6 +313,7 @@ impl Device16550 {
     ///     }
     /// }
     /// ```
+    #[must_use]
     pub fn arrivals(&self) -> usize {
         self.uart.receiver().arrivals()
     }
@@ -319,6 +326,7 @@ impl Device16550 {
     /// ```text
     /// assert_eq!(rt; uart.backend().mark(0), Some(ArrivalMark::Read));
     /// ```
+    #[must_use]
     pub fn mark(&self, i: usize) -> Option<ArrivalMark> {
         self.uart.receiver().mark(i)
     }
@@ -330,6 +338,7 @@ impl Device16550 {
     /// ```text
     /// assert!(rt; machine.fifo_enabled());
     /// ```
+    #[must_use]
     pub fn fifo_enabled(&self) -> bool {
         self.uart.fifo()
     }
@@ -341,6 +350,7 @@ impl Device16550 {
     /// ```text
     /// assert_eq!(rt; uart.backend().divisor(), 12);
     /// ```
+    #[must_use]
     pub fn divisor(&self) -> u16 {
         self.uart.divisor()
     }
@@ -353,6 +363,7 @@ impl Device16550 {
     /// ```text
     /// assert_eq!(rt; uart.backend().overflows(), 0);
     /// ```
+    #[must_use]
     pub fn overflows(&self) -> u64 {
         self.uart.transmitter().overflows()
     }

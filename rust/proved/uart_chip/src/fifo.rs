@@ -7,6 +7,7 @@ use uart_spec::{FIFO_SIZE, FifoSize};
 
 /// Returns the number of characters that a queue has room for, with a FIFO of this size. Without
 /// FIFO that is one, although it could hold more.
+#[must_use]
 pub fn room_of(fifo: bool, size: FifoSize) -> usize {
     if fifo { size.characters() } else { 1 }
 }
@@ -53,6 +54,7 @@ pub fn fill<T: Copy, Q: Fifo<T>>(queue: &mut Q, items: &ArrayVec<T, FIFO_SIZE>) 
 }
 
 /// Returns the items of a queue of 16, from the front.
+#[must_use]
 pub fn items_of<T: Copy + Default, Q: Fifo<T>>(queue: &Q) -> ArrayVec<T, FIFO_SIZE> {
     let mut items = ArrayVec::new();
     for i in 0..queue.len() {

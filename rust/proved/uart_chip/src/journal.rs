@@ -40,6 +40,7 @@ impl Marks {
     }
 
     /// Returns what became of the arrival with this number.
+    #[must_use]
     pub fn get(&self, i: usize) -> Option<ArrivalMark> {
         self.list.get(i).copied()
     }

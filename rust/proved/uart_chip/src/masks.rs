@@ -5,6 +5,7 @@ use bitflags::Flags;
 use uart_spec::registers::{IER, MCR};
 
 /// Returns what IER keeps of a write: the interrupts that the chip has.
+#[must_use]
 pub fn kept_interrupts(written: IER) -> IER {
     let receiver = IER::DATA_READY.union(IER::RECEIVER_LINE_STATUS);
     let others = IER::THR_EMPTY.union(IER::MODEM_STATUS);
@@ -12,6 +13,7 @@ pub fn kept_interrupts(written: IER) -> IER {
 }
 
 /// Returns what MCR keeps of a write: the outputs and loopback.
+#[must_use]
 pub fn kept_modem_control(written: MCR) -> MCR {
     let outputs = MCR::DTR
         .union(MCR::RTS)
@@ -21,6 +23,7 @@ pub fn kept_modem_control(written: MCR) -> MCR {
 }
 
 /// Returns what MCR keeps of a write on a chip that has automatic flow control, or has not.
+#[must_use]
 pub fn kept_modem_control_of(auto_flow: bool, written: MCR) -> MCR {
     let outputs = MCR::DTR
         .union(MCR::RTS)

@@ -41,6 +41,7 @@ fn lines_under(mcr: MCR, inputs: MSR) -> MSR {
 
 impl Modem {
     /// Returns modem lines that are all clear and have not changed.
+    #[must_use]
     pub fn new() -> Self {
         Self {
             inputs: MSR::empty(),
@@ -50,6 +51,7 @@ impl Modem {
     }
 
     /// Returns the modem lines with these data.
+    #[must_use]
     pub fn from_data(saved: ModemData) -> Self {
         Self {
             inputs: saved.inputs,
@@ -59,6 +61,7 @@ impl Modem {
     }
 
     /// Returns the modem lines as plain data.
+    #[must_use]
     pub fn data(&self) -> ModemData {
         ModemData {
             inputs: self.inputs,
@@ -88,11 +91,13 @@ impl Modem {
     }
 
     /// Returns whether MSR shows CTS: the other end is ready to receive.
+    #[must_use]
     pub fn is_clear_to_send(&self) -> bool {
         self.lines.intersects(MSR::CTS)
     }
 
     /// Returns whether a line has changed since the last read of MSR.
+    #[must_use]
     pub fn has_changes(&self) -> bool {
         !self.deltas.is_empty()
     }

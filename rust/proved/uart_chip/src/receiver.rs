@@ -61,6 +61,7 @@ pub struct Receiver<Q: Fifo<Character>, J: Journal> {
 
 impl Timeout {
     /// Returns whether the timeout is due.
+    #[must_use]
     pub fn is_due(self) -> bool {
         self.ticks == self.limit
     }
@@ -73,11 +74,13 @@ impl Character {
     }
 
     /// Returns whether the character has a parity error or a framing error, or is a break.
+    #[must_use]
     pub fn has_errors(&self) -> bool {
         LSR::from_bits_retain(self.errors).intersects(LSR::CHARACTER_ERRORS)
     }
 
     /// Returns 1 if the character has errors, else 0.
+    #[must_use]
     pub fn error_weight(&self) -> usize {
         if self.has_errors() { 1 } else { 0 }
     }
@@ -112,6 +115,7 @@ pub struct ReceiverData {
 
 impl<Q: Fifo<Character>, J: Journal> Receiver<Q, J> {
     /// Returns a receiver that has received nothing, over an empty queue, with this journal.
+    #[must_use]
     pub fn new(queue: Q, journal: J, char_ticks: u16) -> Self {
         Self {
             queue: Characters::new(queue),
@@ -132,6 +136,7 @@ impl<Q: Fifo<Character>, J: Journal> Receiver<Q, J> {
 
     /// Returns the receiver with these data, over an empty queue of 16, with this journal. None of
     /// its arrivals has arrived.
+    #[must_use]
     pub fn from_data(queue: Q, journal: J, char_ticks: u16, saved: &ReceiverData) -> Self {
         let queue = Characters::filled(queue, &saved.queue);
         let status = status_of(&queue, saved.is_overrun, saved.is_front_reported);
@@ -154,6 +159,7 @@ impl<Q: Fifo<Character>, J: Journal> Receiver<Q, J> {
 
     /// Returns the receiver as plain data, without its marks. The data are those of one with a FIFO
     /// of 16.
+    #[must_use]
     pub fn data(&self) -> ReceiverData {
         ReceiverData {
             queue: items_of(&self.queue),
@@ -194,16 +200,19 @@ impl<Q: Fifo<Character>, J: Journal> Receiver<Q, J> {
     }
 
     /// Returns the number of received bytes that have not been read.
+    #[must_use]
     pub fn waiting_len(&self) -> usize {
         self.queue.len()
     }
 
     /// Returns the received byte with this index, from the front.
+    #[must_use]
     pub fn waiting_at(&self, i: usize) -> Option<u8> {
         self.queue.get(i).map(|character| character.byte)
     }
 
     /// Returns the number of arrivals of the schedule, past and future.
+    #[must_use]
     pub fn arrivals(&self) -> usize {
         self.journal.len()
     }
@@ -211,6 +220,7 @@ impl<Q: Fifo<Character>, J: Journal> Receiver<Q, J> {
 
 impl<Q: Fifo<Character>> Receiver<Q, Marks> {
     /// Returns what became of the arrival with this number.
+    #[must_use]
     pub fn mark(&self, i: usize) -> Option<ArrivalMark> {
         self.journal.get(i)
     }

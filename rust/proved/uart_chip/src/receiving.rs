@@ -104,6 +104,7 @@ fn characters_of_16(level: FifoTriggerLevel) -> u8 {
 
 /// Returns the number of characters of a trigger level, for a FIFO of this size.
 // The levels have the names of their numbers for a 16550.
+#[must_use]
 pub fn characters_of(size: FifoSize, level: FifoTriggerLevel) -> u8 {
     match size {
         FifoSize::Sixteen => characters_of_16(level),
@@ -232,6 +233,7 @@ pub fn expire_timeout<R: ReceiverParts>(parts: &mut R) {
 }
 
 /// Returns whether there are as many characters as the trigger level, or without FIFO any.
+#[must_use]
 pub fn is_data_pending<R: ReceiverParts>(parts: &R, fifo: bool) -> bool {
     let waiting = parts.queue_len();
     // Mostly none wait, and each level is at least one character.
@@ -246,11 +248,13 @@ pub fn is_data_pending<R: ReceiverParts>(parts: &R, fifo: bool) -> bool {
 
 /// Returns whether there are characters in the FIFO, and none was received or read for four
 /// character times.
+#[must_use]
 pub fn is_timed_out<R: ReceiverParts>(parts: &R, fifo: bool) -> bool {
     fifo && parts.queue_len() > 0 && parts.timeout().is_due()
 }
 
 /// Returns how many characters can be received before one is lost.
+#[must_use]
 pub fn receive_room<R: ReceiverParts>(parts: &R, fifo: bool) -> usize {
     room_of(fifo, parts.size()).saturating_sub(parts.queue_len())
 }

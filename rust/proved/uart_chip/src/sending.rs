@@ -12,6 +12,7 @@ fn is_ready<T: TransmitterParts>(parts: &T) -> bool {
 
 /// Returns whether a byte that is written to DATA can go onto the wire at once: outside of
 /// loopback, with nothing in the transmitter, which is not held off, and with room on the wire.
+#[must_use]
 pub fn sends_at_once<P: ChipParts>(parts: &P) -> bool {
     !parts.lcr().intersects(LCR::DLAB)
         && (!is_loopback(parts) && (!is_held_off(parts) && is_ready(parts.transmitter())))

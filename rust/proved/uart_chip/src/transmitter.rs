@@ -58,6 +58,7 @@ fn status_of<Q: Fifo<u8>>(queue: &Q, shift_register: Option<Shifting>) -> LSR {
 
 impl<Q: Fifo<u8>, W: Wire> Transmitter<Q, W> {
     /// Returns a transmitter that has sent nothing, over an empty queue and an empty wire.
+    #[must_use]
     pub fn new(queue: Q, wire: W, char_ticks: u16) -> Self {
         Self {
             queue,
@@ -72,6 +73,7 @@ impl<Q: Fifo<u8>, W: Wire> Transmitter<Q, W> {
 
     /// Returns the transmitter with these data, over an empty queue of 16 and a wire that holds its
     /// bytes.
+    #[must_use]
     pub fn from_data(mut queue: Q, wire: W, saved: &TransmitterData) -> Self {
         fill(&mut queue, &saved.queue);
         let status = status_of(&queue, saved.shift_register);
@@ -88,6 +90,7 @@ impl<Q: Fifo<u8>, W: Wire> Transmitter<Q, W> {
 
     /// Returns the transmitter as plain data, without the bytes on its wire. The data are those of
     /// one with a FIFO of 16.
+    #[must_use]
     pub fn data(&self) -> TransmitterData {
         TransmitterData {
             queue: items_of(&self.queue),
@@ -107,6 +110,7 @@ impl<Q: Fifo<u8>, W: Wire> Transmitter<Q, W> {
     }
 
     /// Returns the bytes on the wire, from the first that was sent.
+    #[must_use]
     pub fn wire(&self) -> &[u8] {
         self.wire.as_slice()
     }
@@ -117,22 +121,26 @@ impl<Q: Fifo<u8>, W: Wire> Transmitter<Q, W> {
     }
 
     /// Returns how many more bytes the wire has room for.
+    #[must_use]
     pub fn wire_room(&self) -> usize {
         self.wire.room()
     }
 
     /// Returns how many bytes were written while there was no room. The count saturates.
+    #[must_use]
     pub fn overflows(&self) -> u64 {
         self.overflows
     }
 
     /// Returns the number of bytes that are still to be sent.
+    #[must_use]
     pub fn held_len(&self) -> usize {
         held_len(self)
     }
 
     /// Returns the byte with this index among those that are still to be sent: first the shift
     /// register, then the queue.
+    #[must_use]
     pub fn held_at(&self, i: usize) -> Option<u8> {
         match self.shift_register {
             None => self.queue.get(i),

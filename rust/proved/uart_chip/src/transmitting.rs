@@ -100,6 +100,7 @@ pub fn tick<T: TransmitterParts>(parts: &mut T, loopback: bool, held_off: bool) 
 
 /// Returns the ticks until a character enters or leaves the shift register: `None` if none can, as
 /// with a full wire.
+#[must_use]
 pub fn next_move<T: TransmitterParts>(parts: &T, loopback: bool, held_off: bool) -> Option<u16> {
     match parts.shifting() {
         None if held_off || parts.queue_len() == 0 => None,
@@ -145,6 +146,7 @@ pub fn load<T: TransmitterParts>(parts: &mut T, fifo: bool, byte: u8) {
 }
 
 /// Returns the number of bytes that are still to be sent.
+#[must_use]
 pub fn held_len<T: TransmitterParts>(parts: &T) -> usize {
     match parts.shifting() {
         None => parts.queue_len(),

@@ -22,6 +22,7 @@ const FIFO_MODE: u32 = 0x0001_0000;
 /// assert_eq!(fifo_size_of(0x0004_3f32), Some(FifoSize::SixtyFour));
 /// assert_eq!(fifo_size_of(0), None);
 /// ```
+#[must_use]
 ///
 /// # Proved
 ///

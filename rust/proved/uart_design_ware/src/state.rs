@@ -90,6 +90,7 @@ impl<R: DesignWareRegisters> DesignWare<R> {
     /// ```
     ///
     /// </details>
+    #[must_use]
     pub const fn new(registers: R, patience: NonZeroU64) -> Self {
         DesignWare {
             registers,

@@ -130,6 +130,7 @@ impl Call {
     /// ```
     ///
     /// </details>
+    #[must_use]
     pub fn is_runnable(&self) -> bool {
         match self {
             Call::Init(config)

@@ -68,6 +68,7 @@ impl Event {
 }
 
 /// Returns the number of arrivals among these events.
+#[must_use]
 ///
 /// # Proved
 ///
@@ -99,6 +100,7 @@ fn first_bad_lines(events: &[Event]) -> Option<usize> {
 
 /// Returns why no machine can be built, however much memory there is: the first reason in the order
 /// of [`BuildError`].
+#[must_use]
 ///
 /// # Proved
 ///

@@ -35,6 +35,7 @@ pub enum Cause {
 
 impl Cause {
     /// Returns the text that is printed for the cause.
+    #[must_use]
     pub fn text(self) -> &'static str {
         match self {
             Cause::BadByte => "bad byte",

@@ -23,53 +23,63 @@ pub struct Script {
 
 impl Script {
     /// Returns the model of the chip.
+    #[must_use]
     pub fn chip(&self) -> Chip {
         self.header.chip.model
     }
 
     /// Returns the size of the chip's FIFOs. Of a 16450 it is of no account. The driver takes them
     /// for those of [`driver_fifo_size`](Script::driver_fifo_size).
+    #[must_use]
     pub fn fifo_size(&self) -> FifoSize {
         self.header.chip.size
     }
 
     /// Returns whether the chip has automatic flow control.
+    #[must_use]
     pub fn has_auto_flow(&self) -> bool {
         self.header.chip.auto_flow
     }
 
     /// Returns the number of ticks that the chip takes to send a character.
+    #[must_use]
     pub fn ticks(&self) -> u16 {
         self.header.ticks
     }
 
     /// Returns the number of bytes that the wire has room for.
+    #[must_use]
     pub fn wire_capacity(&self) -> usize {
         self.header.wire_capacity
     }
 
     /// Returns the spin limit of the driver: how many unsuccessful polls in a row end a wait.
+    #[must_use]
     pub fn limit(&self) -> NonZeroU64 {
         self.limit
     }
 
     /// Returns the size that the driver takes the FIFOs for: 16, or what a line sets. The chip's
     /// may be another one.
+    #[must_use]
     pub fn driver_fifo_size(&self) -> FifoSize {
         self.driver_fifo_size
     }
 
     /// Returns whether the chip cuts characters to the word length.
+    #[must_use]
     pub fn cut(&self) -> bool {
         self.header.cuts
     }
 
     /// Returns the events that happen to the chip, in the order of the script.
+    #[must_use]
     pub fn events(&self) -> &[Event] {
         &self.events
     }
 
     /// Returns the calls, in the order of the script.
+    #[must_use]
     pub fn calls(&self) -> &[Call] {
         &self.calls
     }

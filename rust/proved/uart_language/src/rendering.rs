@@ -11,6 +11,7 @@ use uart_spec::{
 };
 
 /// Returns a digit below 16 as text, in lower case.
+#[must_use]
 pub fn hex_digit(digit: u8) -> u8 {
     if digit < 10 {
         b'0' + digit

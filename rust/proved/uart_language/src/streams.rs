@@ -53,6 +53,7 @@ pub struct Std<T> {
 
 impl<T> Std<T> {
     /// Returns the reader or writer, which has not failed.
+    #[must_use]
     pub fn new(inner: T) -> Self {
         Std {
             inner,

@@ -185,6 +185,7 @@ const WORDS: [Word; 54] = [
 
 impl Word {
     /// Returns the word as it is written in a script.
+    #[must_use]
     pub fn name(self) -> &'static [u8] {
         match self {
             Word::Chip => b"chip",
@@ -246,6 +247,7 @@ impl Word {
 }
 
 /// Returns whether a word is written like this.
+#[must_use]
 pub fn is_named(word: Word, text: &[u8]) -> bool {
     word.name() == text
 }
@@ -255,11 +257,13 @@ fn word_among(words: &[Word], text: &[u8]) -> Option<Word> {
 }
 
 /// Returns the word that is written like this.
+#[must_use]
 pub fn word_of(text: &[u8]) -> Option<Word> {
     word_among(&WORDS, text)
 }
 
 /// Returns whether a line with this word may have this number of words.
+#[must_use]
 pub fn has_count(word: Word, count: usize) -> bool {
     match word {
         Word::Chip => count == 4 || count == 5,
@@ -296,6 +300,7 @@ pub fn has_count(word: Word, count: usize) -> bool {
 impl Place {
     /// Returns the place of the line with this number, in a script whose line 2 starts with
     /// `limit`, or does not.
+    #[must_use]
     pub fn of(is_limited: bool, number: u32) -> Place {
         match number {
             1 => Place::First,
@@ -319,6 +324,7 @@ impl Place {
 }
 
 /// Returns whether the line at this place may start with this word.
+#[must_use]
 pub fn is_placed(place: Place, word: Option<Word>) -> bool {
     match word {
         Some(Word::Chip) => place.is_first(),

@@ -47,6 +47,7 @@ pub struct LinkCall {
 impl LinkCall {
     /// Returns whether the call can be made: there are at most [`uart_calls::CALL_BYTES`] slots,
     /// and the call is one of the rings themselves.
+    #[must_use]
     pub fn is_runnable(&self) -> bool {
         self.call.is_runnable() && self.call.is_of_rings()
     }

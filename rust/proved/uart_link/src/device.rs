@@ -200,6 +200,7 @@ impl CabledChip {
     /// let mut uart = Uart16550::new_with_backend(machine);
     /// uart.init(Config::DEFAULT)?;
     /// ```
+    #[must_use]
     pub fn with_auto_flow(self) -> Self {
         Self {
             uart: self.uart.with_auto_flow(),
@@ -293,6 +294,7 @@ impl CabledChip {
 
     /// Returns the modem lines that this chip gives to the other end: its RTS is CTS there, and its
     /// DTR is DSR and CD. In loopback its outputs are off.
+    #[must_use]
     pub fn lines(&self) -> MSR {
         if self.uart.is_loopback() {
             MSR::empty()
@@ -309,6 +311,7 @@ impl CabledChip {
     /// ```text
     /// assert!(rt; CabledChip::new(rt.alloc(), Chip::Uart16550A, 4, 64, 64)?.is_untouched());
     /// ```
+    #[must_use]
     pub fn is_untouched(&self) -> bool {
         if self.cursor < self.events.len() {
             return false;
@@ -317,32 +320,38 @@ impl CabledChip {
     }
 
     /// Returns the chip.
+    #[must_use]
     pub fn chip(&self) -> &Uart {
         &self.uart
     }
 
     /// Returns the bytes that have left the chip, in order.
+    #[must_use]
     pub fn wire(&self) -> &[u8] {
         self.uart.transmitter().wire()
     }
 
     /// Returns the number of bytes in the transmitter, which are still to be sent.
+    #[must_use]
     pub fn held_len(&self) -> usize {
         self.uart.transmitter().held_len()
     }
 
     /// Returns the number of received bytes that have not been read.
+    #[must_use]
     pub fn waiting_len(&self) -> usize {
         self.uart.receiver().waiting_len()
     }
 
     /// Returns the number of characters that may arrive at this chip, past and future.
+    #[must_use]
     pub fn arrivals(&self) -> usize {
         self.uart.receiver().arrivals()
     }
 
     /// Returns what became of an arrival. Arrivals are counted from 0. `None` if no more can
     /// arrive.
+    #[must_use]
     pub fn mark(&self, i: usize) -> Option<ArrivalMark> {
         self.uart.receiver().mark(i)
     }

@@ -29,6 +29,7 @@ const WIRE_PLACES: usize = 2 * WIRE_ROOM;
 // Of a const parameter the answer is known when the program is compiled. So a chip has no field for
 // its size, and tests none.
 #[inline]
+#[must_use]
 pub fn fifo_size(characters: usize) -> FifoSize {
     match characters {
         32 => FifoSize::ThirtyTwo,
@@ -55,6 +56,7 @@ pub fn fifo_size(characters: usize) -> FifoSize {
 ///
 /// </details>
 #[inline]
+#[must_use]
 pub fn is_size(characters: usize) -> bool {
     fifo_size(characters).characters() == characters
 }
@@ -86,6 +88,7 @@ impl<T: Copy, const FIFO: usize> FixedFifo<T, FIFO> {
     /// ```
     ///
     /// </details>
+    #[must_use]
     pub fn new(item: T) -> Self {
         FixedFifo {
             slots: [item; FIFO],
@@ -170,6 +173,7 @@ impl FixedWire {
     /// ```
     ///
     /// </details>
+    #[must_use]
     pub fn new(capacity: usize) -> Self {
         FixedWire {
             slots: [0; WIRE_PLACES],

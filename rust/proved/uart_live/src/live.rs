@@ -254,6 +254,7 @@ impl<const FIFO: usize> LiveChipWith<FIFO> {
     ///
     /// </details>
     #[inline]
+    #[must_use]
     pub fn sends_at_once(&self) -> bool {
         self.uart.sends_at_once()
     }
@@ -396,6 +397,7 @@ impl<const FIFO: usize> LiveChipWith<FIFO> {
     ///
     /// </details>
     #[inline]
+    #[must_use]
     pub fn cut(&self, value: u8) -> u8 {
         cut(&self.uart, value)
     }
@@ -462,6 +464,7 @@ impl<const FIFO: usize> LiveChipWith<FIFO> {
     ///
     /// </details>
     #[inline]
+    #[must_use]
     pub fn has_interrupts_on(&self) -> bool {
         !self.uart.ier().is_empty()
     }
@@ -485,6 +488,7 @@ impl<const FIFO: usize> LiveChipWith<FIFO> {
     ///
     /// </details>
     #[inline]
+    #[must_use]
     pub fn has_input_interrupt_on(&self) -> bool {
         self.uart.ier().intersects(IER::DATA_READY)
     }
@@ -784,6 +788,7 @@ impl<const FIFO: usize> LiveChipWith<FIFO> {
     ///
     /// </details>
     #[inline]
+    #[must_use]
     pub fn is_interrupting(&self) -> bool {
         self.uart.is_interrupting()
     }
@@ -814,6 +819,7 @@ impl<const FIFO: usize> LiveChipWith<FIFO> {
     /// ```
     ///
     /// </details>
+    #[must_use]
     pub fn wire(&self) -> &[u8] {
         self.uart.transmitter().wire()
     }
@@ -868,6 +874,7 @@ impl<const FIFO: usize> LiveChipWith<FIFO> {
     ///
     /// </details>
     #[inline]
+    #[must_use]
     pub fn wire_room(&self) -> usize {
         self.uart.transmitter().wire_room()
     }
@@ -887,6 +894,7 @@ impl<const FIFO: usize> LiveChipWith<FIFO> {
     /// ```
     ///
     /// </details>
+    #[must_use]
     pub fn is_loopback(&self) -> bool {
         self.uart.is_loopback()
     }
@@ -906,6 +914,7 @@ impl<const FIFO: usize> LiveChipWith<FIFO> {
     /// ```
     ///
     /// </details>
+    #[must_use]
     pub fn is_dlab_set(&self) -> bool {
         self.uart.is_dlab_set()
     }
@@ -928,6 +937,7 @@ impl<const FIFO: usize> LiveChipWith<FIFO> {
     /// ```
     ///
     /// </details>
+    #[must_use]
     pub fn is_breaking(&self) -> bool {
         self.uart.lcr().intersects(LCR::SET_BREAK)
     }
@@ -952,6 +962,7 @@ impl<const FIFO: usize> LiveChipWith<FIFO> {
     ///
     /// </details>
     #[inline]
+    #[must_use]
     pub fn fifo_size(&self) -> FifoSize {
         self.uart.transmitter().size()
     }
@@ -971,6 +982,7 @@ impl<const FIFO: usize> LiveChipWith<FIFO> {
     /// ```
     ///
     /// </details>
+    #[must_use]
     pub fn has_fifo_on(&self) -> bool {
         self.uart.fifo()
     }
@@ -1024,6 +1036,7 @@ impl<const FIFO: usize> LiveChipWith<FIFO> {
     /// ```
     ///
     /// </details>
+    #[must_use]
     pub fn receive_room(&self) -> usize {
         self.uart.receive_room()
     }
@@ -1044,6 +1057,7 @@ impl<const FIFO: usize> LiveChipWith<FIFO> {
     /// ```
     ///
     /// </details>
+    #[must_use]
     pub fn waiting_len(&self) -> usize {
         self.uart.receiver().waiting_len()
     }
@@ -1064,6 +1078,7 @@ impl<const FIFO: usize> LiveChipWith<FIFO> {
     /// ```
     ///
     /// </details>
+    #[must_use]
     pub fn held_len(&self) -> usize {
         self.uart.transmitter().held_len()
     }
@@ -1083,6 +1098,7 @@ impl<const FIFO: usize> LiveChipWith<FIFO> {
     /// ```
     ///
     /// </details>
+    #[must_use]
     pub fn divisor(&self) -> u16 {
         self.uart.divisor()
     }
@@ -1102,6 +1118,7 @@ impl<const FIFO: usize> LiveChipWith<FIFO> {
     /// ```
     ///
     /// </details>
+    #[must_use]
     pub fn overflows(&self) -> u64 {
         self.uart.transmitter().overflows()
     }

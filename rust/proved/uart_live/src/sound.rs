@@ -20,6 +20,7 @@ pub const TIMEOUT_CHARACTERS: u16 = 4;
 
 /// Returns whether a character may wait in a live chip: it is no arrival of a schedule, and has
 /// only errors of a character.
+#[must_use]
 ///
 /// # Proved
 ///
@@ -57,6 +58,7 @@ fn is_sound_receiver(saved: &ReceiverData, size: FifoSize, fifo: bool, char_tick
 
 /// Returns whether a character in the shift register has at least one tick left, and at most its
 /// whole time.
+#[must_use]
 ///
 /// # Proved
 ///
@@ -79,6 +81,7 @@ pub fn is_ticking(char_ticks: u16, shift_register: Option<Shifting>) -> bool {
 }
 
 /// Returns whether a character may take so many ticks.
+#[must_use]
 ///
 /// # Proved
 ///
@@ -106,6 +109,7 @@ fn is_sound_transmitter(saved: &TransmitterData, size: FifoSize, fifo: bool, wir
 }
 
 /// Returns whether inputs and lines have bits of lines alone, and changes bits of changes.
+#[must_use]
 ///
 /// # Proved
 ///
@@ -127,6 +131,7 @@ pub fn is_sound_modem(saved: ModemData) -> bool {
 }
 
 /// Returns whether the two latches that keep only some bits have no others.
+#[must_use]
 ///
 /// # Proved
 ///
@@ -150,6 +155,7 @@ pub fn is_sound_latches(latches: Latches) -> bool {
 
 /// Returns whether a chip of this model can have its FIFO as it is: only one that has a FIFO has it
 /// on.
+#[must_use]
 ///
 /// # Proved
 ///
@@ -187,6 +193,7 @@ fn are_sound(size: FifoSize, saved: &ChipData, wire: &[u8]) -> bool {
 
 /// Returns whether the data, and these bytes on the wire, are those of a live chip with FIFOs of
 /// this size.
+#[must_use]
 ///
 /// # Proved
 ///

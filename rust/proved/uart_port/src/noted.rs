@@ -20,6 +20,7 @@ pub struct NotedPorts<F, W> {
 
 impl<F: PortFile, W: Write> NotedPorts<F, W> {
     /// Returns the ports of this file. A trace has offsets from the base.
+    #[must_use]
     pub fn new(file: F, base: u16, trace: Option<Trace<W>>) -> Self {
         NotedPorts { file, base, trace }
     }

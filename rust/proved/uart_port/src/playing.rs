@@ -19,6 +19,7 @@ pub type Terminal<F> = Uart16550Tty<PioBackend<GuardedPorts<F>>>;
 
 /// Returns a new driver at the ports of a file, from this one on, with this spin limit and this
 /// size of FIFOs. If the chip's are smaller, bytes are lost.
+#[must_use]
 pub fn terminal_at<F: PortFile>(
     port: u16,
     limit: NonZeroU64,
@@ -47,6 +48,7 @@ fn is_driven(call: &Call) -> bool {
 
 impl<W: Write, T: Write> Report<W, T> {
     /// Returns a report that prints to this writer, and writes this trace.
+    #[must_use]
     pub fn new(alloc: Global, writer: W, trace: Option<Trace<T>>) -> Self {
         Report {
             alloc,

@@ -38,11 +38,13 @@ pub struct GuardedPorts<F> {
 
 impl<F: PortFile> GuardedPorts<F> {
     /// Returns access to the ports of this file, of which none has failed.
+    #[must_use]
     pub fn new(file: F) -> Self {
         GuardedPorts { file, fault: None }
     }
 
     /// Returns the first access that failed, if any did.
+    #[must_use]
     pub fn fault(&self) -> Option<&PortFault> {
         self.fault.as_ref()
     }

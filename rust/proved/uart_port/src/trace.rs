@@ -19,6 +19,7 @@ pub struct Trace<W> {
 
 impl<W: Write> Trace<W> {
     /// Returns a trace that is written to this output.
+    #[must_use]
     pub fn new(output: W) -> Self {
         Trace { output }
     }

@@ -175,6 +175,7 @@ impl<B: Backend> LinePort<B> {
     /// ```
     ///
     /// </details>
+    #[must_use]
     pub fn new(ring: Uart16550Ring<B>) -> Self {
         let handled = Handled {
             served: 0,

@@ -169,6 +169,7 @@ impl<B: Backend> ErrorNotes<B> {
     /// ```
     ///
     /// </details>
+    #[must_use]
     pub fn backend(&self) -> &B {
         &self.backend
     }

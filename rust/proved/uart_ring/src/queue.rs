@@ -60,6 +60,7 @@ impl ByteQueue {
     ///
     /// </details>
     #[inline]
+    #[must_use]
     pub fn len(&self) -> usize {
         self.len
     }
@@ -82,6 +83,7 @@ impl ByteQueue {
     ///
     /// </details>
     #[inline]
+    #[must_use]
     pub fn capacity(&self) -> usize {
         self.cells.as_slice().len()
     }
@@ -102,6 +104,7 @@ impl ByteQueue {
     ///
     /// </details>
     #[inline]
+    #[must_use]
     pub fn is_empty(&self) -> bool {
         self.len() == 0
     }
@@ -122,6 +125,7 @@ impl ByteQueue {
     ///
     /// </details>
     #[inline]
+    #[must_use]
     pub fn is_full(&self) -> bool {
         self.len() == self.capacity()
     }

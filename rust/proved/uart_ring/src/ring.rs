@@ -217,6 +217,7 @@ impl<B: Backend> Uart16550Ring<B> {
     /// ```
     ///
     /// </details>
+    #[must_use]
     pub fn transmit_len(&self) -> usize {
         self.transmit.len()
     }
@@ -248,6 +249,7 @@ impl<B: Backend> Uart16550Ring<B> {
     /// ```
     ///
     /// </details>
+    #[must_use]
     pub fn transmit_room(&self) -> usize {
         self.transmit.capacity() - self.transmit.len()
     }
@@ -279,6 +281,7 @@ impl<B: Backend> Uart16550Ring<B> {
     /// ```
     ///
     /// </details>
+    #[must_use]
     pub fn urgent(&self) -> Option<u8> {
         self.urgent
     }
@@ -310,6 +313,7 @@ impl<B: Backend> Uart16550Ring<B> {
     /// ```
     ///
     /// </details>
+    #[must_use]
     pub fn is_held(&self) -> bool {
         self.is_held
     }
@@ -342,6 +346,7 @@ impl<B: Backend> Uart16550Ring<B> {
     /// ```
     ///
     /// </details>
+    #[must_use]
     pub fn stuck(&self) -> Option<StuckError> {
         self.stuck
     }
@@ -376,6 +381,7 @@ impl<B: Backend> Uart16550Ring<B> {
     /// ```
     ///
     /// </details>
+    #[must_use]
     pub fn receive_len(&self) -> usize {
         self.receive.len()
     }
@@ -411,6 +417,7 @@ impl<B: Backend> Uart16550Ring<B> {
     /// ```
     ///
     /// </details>
+    #[must_use]
     pub fn is_paused(&self) -> bool {
         self.is_paused
     }
@@ -443,6 +450,7 @@ impl<B: Backend> Uart16550Ring<B> {
     /// ```
     ///
     /// </details>
+    #[must_use]
     pub fn inner(&self) -> &Uart16550<B> {
         &self.uart
     }
@@ -531,6 +539,7 @@ impl<B: Backend> Uart16550Ring<B> {
     /// ```
     ///
     /// </details>
+    #[must_use]
     pub fn into_inner(self) -> Uart16550<B> {
         self.uart
     }

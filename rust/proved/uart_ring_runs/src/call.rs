@@ -67,6 +67,7 @@ fn is_of_driver(call: &Call) -> bool {
 impl RingCall {
     /// Returns whether the call can be made: there are at most [`CALL_BYTES`] slots, and a call of
     /// the driver is one that can be made through `inner_mut`.
+    #[must_use]
     pub fn is_runnable(&self) -> bool {
         match self {
             RingCall::Take(slots) => *slots <= CALL_BYTES,
@@ -76,6 +77,7 @@ impl RingCall {
     }
 
     /// Returns whether the call is one of the rings themselves, and not of the driver under them.
+    #[must_use]
     pub fn is_of_rings(&self) -> bool {
         !matches!(self, RingCall::Driver(_))
     }

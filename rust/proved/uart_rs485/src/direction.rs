@@ -112,6 +112,7 @@ impl Direction {
     /// ```
     ///
     /// </details>
+    #[must_use]
     pub fn receiving(self, outputs: MCR) -> MCR {
         self.turned(false, outputs)
     }

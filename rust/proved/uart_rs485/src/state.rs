@@ -33,6 +33,7 @@ impl<B: Backend> HalfDuplex<B> {
     /// ```
     ///
     /// </details>
+    #[must_use]
     pub fn is_sending(&self) -> bool {
         self.is_sending
     }
@@ -64,6 +65,7 @@ impl<B: Backend> HalfDuplex<B> {
     /// ```
     ///
     /// </details>
+    #[must_use]
     pub fn direction(&self) -> Direction {
         self.direction
     }
@@ -94,6 +96,7 @@ impl<B: Backend> HalfDuplex<B> {
     /// ```
     ///
     /// </details>
+    #[must_use]
     pub fn inner(&self) -> &Uart16550<B> {
         &self.uart
     }
@@ -124,6 +127,7 @@ impl<B: Backend> HalfDuplex<B> {
     /// ```
     ///
     /// </details>
+    #[must_use]
     pub fn into_inner(self) -> Uart16550<B> {
         self.uart
     }

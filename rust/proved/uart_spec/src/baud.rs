@@ -28,6 +28,7 @@ pub const NUM_REGISTERS: usize = 8;
 /// # use uart_16550::native::{*, spec::*};
 /// assert_eq!(calc_frequency(9_600, 12, None), 1_843_200);
 /// ```
+#[must_use]
 ///
 /// # Proved
 ///

@@ -76,6 +76,7 @@ impl BaudRate {
     /// ```
     ///
     /// </details>
+    #[must_use]
     pub const fn to_integer(self) -> u32 {
         match self {
             BaudRate::Baud115200 => 115_200,
@@ -121,6 +122,7 @@ impl BaudRate {
     /// ```
     ///
     /// </details>
+    #[must_use]
     pub const fn from_integer(value: u32) -> Self {
         match value {
             115_200 => BaudRate::Baud115200,
@@ -257,6 +259,7 @@ impl Config {
     /// ```
     ///
     /// </details>
+    #[must_use]
     pub fn is_computable(&self) -> bool {
         self.frequency != 0
             && self.baud_rate.to_integer() != 0

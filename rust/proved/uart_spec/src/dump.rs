@@ -57,6 +57,7 @@ impl ConfigRegisterDump {
     /// ```
     ///
     /// </details>
+    #[must_use]
     pub const fn divisor(&self) -> u16 {
         256 * self.dlm as u16 + self.dll as u16
     }

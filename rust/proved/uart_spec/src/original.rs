@@ -77,6 +77,7 @@ impl std::fmt::Display for InitError {
 }
 
 /// Returns the error of the original for one of the driver's initialisation, or `None` for a stall.
+#[must_use]
 ///
 /// # Proved
 ///
@@ -160,6 +161,7 @@ impl std::fmt::Display for LoopbackError {
 }
 
 /// Returns the error of the original for one of the driver's loopback test, or `None` for a stall.
+#[must_use]
 ///
 /// # Proved
 ///

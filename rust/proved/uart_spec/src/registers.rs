@@ -54,6 +54,7 @@ pub type DLL = u8;
 pub type DLM = u8;
 
 /// Returns these bits if the condition holds, else none.
+#[must_use]
 ///
 /// # Proved
 ///

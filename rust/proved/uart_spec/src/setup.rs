@@ -107,6 +107,7 @@ impl FifoSize {
     /// ```
     ///
     /// </details>
+    #[must_use]
     pub fn characters(self) -> usize {
         match self {
             FifoSize::Sixteen => FIFO_SIZE,
@@ -142,6 +143,7 @@ impl FifoSize {
     /// ```
     ///
     /// </details>
+    #[must_use]
     pub fn largest_up_to(characters: usize) -> Option<FifoSize> {
         match characters {
             0..=15 => None,

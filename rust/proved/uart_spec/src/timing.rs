@@ -44,6 +44,7 @@ impl FifoTriggerLevel {
     /// ```
     ///
     /// </details>
+    #[must_use]
     pub fn characters(self, size: FifoSize) -> usize {
         let levels = match size {
             FifoSize::Sixteen => [1, 4, 8, 14],

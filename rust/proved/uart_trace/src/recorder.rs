@@ -16,6 +16,7 @@ pub struct Recorder<B, L> {
 
 impl<B, L> Recorder<B, L> {
     /// Returns a recorder that has made no access.
+    #[must_use]
     pub fn new(device: B, listener: L) -> Self {
         Recorder {
             device,

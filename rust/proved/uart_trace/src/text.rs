@@ -23,6 +23,7 @@ pub fn printable(alloc: Global, bytes: &[u8]) -> Result<String, AllocError> {
 }
 
 /// Returns the line of the bytes with this index.
+#[must_use]
 pub fn line_at(bytes: &[u8], index: usize) -> &[u8] {
     bytes.split(|b| *b == b'\n').nth(index).unwrap_or(&[])
 }

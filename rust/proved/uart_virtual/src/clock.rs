@@ -36,6 +36,7 @@ impl Clock {
     /// ```
     ///
     /// </details>
+    #[must_use]
     pub fn new() -> Self {
         Clock { is_owed: false }
     }

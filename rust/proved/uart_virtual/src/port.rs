@@ -112,6 +112,7 @@ pub struct Received {
 // Only a read of ISR is a look. With LSR and MSR, a handler that reads LSR before each byte, as
 // most do, would be signalled for each byte, as long as more wait. A handler that never reads ISR
 // is signalled each time that the line falls and rises, so it cannot wait for ever.
+#[must_use]
 pub fn kind_of_read(offset: u8) -> Kind {
     let offset = offset as usize;
     Kind {
@@ -123,6 +124,7 @@ pub fn kind_of_read(offset: u8) -> Kind {
 }
 
 /// Returns what the guest's write of this register is, as far as signals are concerned.
+#[must_use]
 ///
 /// # Proved
 ///
@@ -163,6 +165,7 @@ pub fn kind_of_write(offset: u8) -> Kind {
 ///
 /// </details>
 #[inline]
+#[must_use]
 pub fn settle_ticks(size: FifoSize) -> u16 {
     size.characters() as u16 + MORE_TICKS
 }
@@ -514,6 +517,7 @@ impl VirtualPortWith<FIFO_SIZE> {
     /// ```
     ///
     /// </details>
+    #[must_use]
     pub fn new(chip: Chip) -> Self {
         // With FIFOs of 16 a port is never refused: the contract of `try_new` says so, and the
         // check proves it here. A `Result` would give each caller an error that never comes.
@@ -768,6 +772,7 @@ impl<const FIFO: usize> VirtualPortWith<FIFO> {
     ///
     /// </details>
     #[inline]
+    #[must_use]
     pub fn passing(&self, value: u8) -> Option<u8> {
         if self.passes() {
             Some(self.chip.cut(value))
@@ -1125,6 +1130,7 @@ impl<const FIFO: usize> VirtualPortWith<FIFO> {
     ///
     /// </details>
     #[inline]
+    #[must_use]
     pub fn output(&self) -> &[u8] {
         self.chip.wire()
     }
@@ -1184,6 +1190,7 @@ impl<const FIFO: usize> VirtualPortWith<FIFO> {
     /// ```
     ///
     /// </details>
+    #[must_use]
     pub fn receive_room(&self) -> usize {
         self.chip.receive_room()
     }
@@ -1203,6 +1210,7 @@ impl<const FIFO: usize> VirtualPortWith<FIFO> {
     /// ```
     ///
     /// </details>
+    #[must_use]
     pub fn chip(&self) -> &LiveChipWith<FIFO> {
         &self.chip
     }
@@ -1240,6 +1248,7 @@ impl<const FIFO: usize> VirtualPortWith<FIFO> {
     /// ```
     ///
     /// </details>
+    #[must_use]
     pub fn level(&self) -> bool {
         self.chip.is_interrupting()
     }

@@ -43,6 +43,7 @@ impl Seen {
     /// ```
     ///
     /// </details>
+    #[must_use]
     pub fn of<B: Backend>(ring: &Uart16550Ring<B>) -> Self {
         Seen {
             received: ring.receive_len(),
@@ -67,6 +68,7 @@ impl Seen {
     /// ```
     ///
     /// </details>
+    #[must_use]
     pub fn has(&self, awaited: Awaited) -> bool {
         match awaited {
             Awaited::ReceivedByte => self.received > 0,
@@ -90,6 +92,7 @@ impl Seen {
     /// ```
     ///
     /// </details>
+    #[must_use]
     pub fn ends_wait(&self, awaited: Awaited) -> bool {
         self.has(awaited) || self.is_stuck
     }

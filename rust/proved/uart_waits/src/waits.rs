@@ -60,6 +60,7 @@ impl<W> Waits<W> {
     /// ```
     ///
     /// </details>
+    #[must_use]
     pub const fn new() -> Self {
         Waits {
             receive: None,

@@ -45,6 +45,7 @@ impl DriverState {
     /// ```
     ///
     /// </details>
+    #[must_use]
     pub fn new() -> Self {
         DriverState {
             config: Config::DEFAULT,
@@ -90,6 +91,7 @@ impl<B: Backend> Uart16550<B> {
     /// ```
     ///
     /// </details>
+    #[must_use]
     pub fn from_state(backend: B, state: &DriverState) -> Self {
         Uart16550 {
             backend,
@@ -129,6 +131,7 @@ impl<B: Backend> Uart16550<B> {
     /// ```
     ///
     /// </details>
+    #[must_use]
     pub fn state(&self) -> DriverState {
         DriverState {
             config: Config { ..self.config },

@@ -116,6 +116,7 @@ fn write_action(is_open: Option<bool>, offset: usize, value: u8) -> Action {
 
 impl Action {
     /// Returns what happens, while the divisor latch is open or not, or while that is not known.
+    #[must_use]
     pub fn new(is_open: Option<bool>, happening: Happening) -> Self {
         match happening {
             Happening::Access(Access::Read(offset, answer)) => read_action(is_open, offset, answer),

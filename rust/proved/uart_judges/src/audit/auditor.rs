@@ -127,6 +127,7 @@ pub type Findings = [Option<Finding>; 16];
 
 impl Auditor {
     /// Returns a judge that was given nothing.
+    #[must_use]
     pub fn new() -> Self {
         Auditor {
             setup: Setup::unknown(),

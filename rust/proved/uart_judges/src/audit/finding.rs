@@ -122,6 +122,7 @@ pub enum Finding {
 
 impl Finding {
     /// Returns whose fault this is.
+    #[must_use]
     pub fn severity(self) -> Severity {
         match self {
             Finding::SetUp(_)

@@ -569,6 +569,7 @@ pub(crate) fn line_up(a: &Auditor, s: &Step) -> Option<Finding> {
 
 impl Auditor {
     /// Returns the findings after the last entry, each in its place.
+    #[must_use]
     pub fn end(&self) -> [Option<Finding>; 2] {
         [
             when(is_open(self.setup.is_open), Finding::LatchLeftOpen),

@@ -146,6 +146,7 @@ impl Auditor {
 
 impl ChipAuditor {
     /// Returns a judge that was given nothing.
+    #[must_use]
     pub fn new() -> Self {
         ChipAuditor {
             seen: Auditor::new(),

@@ -78,11 +78,13 @@ fn end_before(byte: u8, word: &[u8]) -> usize {
 }
 
 /// Returns what is before the first such byte, or all.
+#[must_use]
 pub fn before(byte: u8, word: &[u8]) -> &[u8] {
     &word[..end_before(byte, word)]
 }
 
 /// Returns what is behind the first such byte, or nothing.
+#[must_use]
 pub fn after(byte: u8, word: &[u8]) -> &[u8] {
     match &word[end_before(byte, word)..] {
         [_, rest @ ..] => rest,

@@ -31,6 +31,7 @@ fn repeated(entry: Entry, line: u64, times: u64) -> Option<Entry> {
 
 impl Place {
     /// Returns the place before the first line.
+    #[must_use]
     pub fn new() -> Self {
         Place {
             number: 0,

@@ -73,6 +73,7 @@ impl<R: Read> Recording<R> {
     }
 
     /// Returns the number of lines that were read.
+    #[must_use]
     pub fn lines(&self) -> u64 {
         self.place.number
     }

@@ -98,6 +98,7 @@ fn waits_after(dlab: Option<bool>, waits: bool) -> bool {
 
 impl Known {
     /// Returns what is known at the start of a recording.
+    #[must_use]
     pub fn new(model: Chip, start: Start) -> Self {
         Self {
             model,
@@ -110,6 +111,7 @@ impl Known {
     }
 
     /// Returns whether the FIFOs may be on.
+    #[must_use]
     pub fn may_have_fifo(&self) -> bool {
         match self.fifo {
             None => true,
@@ -123,6 +125,7 @@ impl Known {
     }
 
     /// Returns what is known after a read of this register that returned this value.
+    #[must_use]
     pub fn after_read(self, offset: usize, value: u8) -> Self {
         let mut known = self;
         known.latches = self.latches.after_read(offset, value);
@@ -145,6 +148,7 @@ impl Known {
     }
 
     /// Returns what is known after a read of this register, whatever it returned.
+    #[must_use]
     pub fn after_asking(self, offset: usize) -> Self {
         match offset {
             offsets::DATA => Self {
@@ -157,6 +161,7 @@ impl Known {
     }
 
     /// Returns what is known after this value was written to this register.
+    #[must_use]
     pub fn after_write(self, offset: usize, value: u8) -> Self {
         let mut known = self;
         known.latches = self.latches.after_write(offset, value);

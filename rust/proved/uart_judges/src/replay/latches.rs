@@ -24,6 +24,7 @@ pub struct KnownLatches {
 
 impl KnownLatches {
     /// Returns what is known at the start of a recording: at power-on all are clear.
+    #[must_use]
     pub fn new(start: Start) -> Self {
         let each = match start {
             Start::Reset => Some(0),
@@ -40,6 +41,7 @@ impl KnownLatches {
     }
 
     /// Returns whether offsets 0 and 1 are the divisor latch.
+    #[must_use]
     pub fn dlab(&self) -> Option<bool> {
         match self.lcr {
             None => None,
@@ -58,6 +60,7 @@ impl KnownLatches {
 
     /// Returns what a read of this register returns, if it keeps what is written to it and that is
     /// known.
+    #[must_use]
     pub fn shown(&self, offset: usize) -> Option<u8> {
         match offset {
             offsets::DATA => self.under_dlab(self.dll, None),
@@ -70,6 +73,7 @@ impl KnownLatches {
     }
 
     /// Returns what is known after a read of this register that returned this value.
+    #[must_use]
     pub fn after_read(self, offset: usize, value: u8) -> Self {
         let known = Some(value);
         match (offset, self.dlab()) {
@@ -85,6 +89,7 @@ impl KnownLatches {
 
     /// Returns what is known after this value was written to this register: what the register keeps
     /// is known as after a read. If DLAB is not known, what may have been written is forgotten.
+    #[must_use]
     pub fn after_write(self, offset: usize, value: u8) -> Self {
         match (offset, self.dlab()) {
             (offsets::DATA, None) => Self { dll: None, ..self },

@@ -17,6 +17,7 @@ pub struct Replayer {
 
 impl Replayer {
     /// Returns a replayer at the start of a recording of a chip of this model.
+    #[must_use]
     pub fn new(model: Chip, start: Start) -> Self {
         Self {
             known: Known::new(model, start),

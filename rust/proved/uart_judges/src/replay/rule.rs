@@ -196,6 +196,7 @@ fn broken_msr(mcr: Option<u8>, msr: MSR) -> Option<Rule> {
 }
 
 /// Returns the first rule that a value breaks if a read of this register returns it.
+#[must_use]
 pub fn broken(known: &Known, offset: usize, value: u8) -> Option<Rule> {
     match offset {
         offsets::ISR => broken_isr(known, value),

@@ -39,6 +39,7 @@ fn remark_start(line: &[u8]) -> usize {
 }
 
 /// Returns a line without its remark, and without spaces at its end.
+#[must_use]
 pub fn before_remark(line: &[u8]) -> &[u8] {
     without_end(&line[..remark_start(line)])
 }

@@ -38,6 +38,7 @@ impl LiveChipWith<FIFO_SIZE> {
     /// ```
     ///
     /// </details>
+    #[must_use]
     pub fn data(&self) -> ChipData {
         self.uart.data()
     }

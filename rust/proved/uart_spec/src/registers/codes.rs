@@ -19,6 +19,7 @@ impl FifoTriggerLevel {
     /// ```
     ///
     /// </details>
+    #[must_use]
     pub const fn from_raw_bits(bits: u8) -> Self {
         match bits & 0b11 {
             0b00 => FifoTriggerLevel::One,
@@ -45,6 +46,7 @@ impl FifoTriggerLevel {
     /// ```
     ///
     /// </details>
+    #[must_use]
     pub const fn to_raw_bits(self) -> u8 {
         match self {
             FifoTriggerLevel::One => 0b00,
@@ -72,6 +74,7 @@ impl WordLength {
     /// ```
     ///
     /// </details>
+    #[must_use]
     pub const fn from_raw_bits(bits: u8) -> Self {
         match bits & 0b11 {
             0b00 => WordLength::FiveBits,
@@ -98,6 +101,7 @@ impl WordLength {
     /// ```
     ///
     /// </details>
+    #[must_use]
     pub const fn to_raw_bits(self) -> u8 {
         match self {
             WordLength::FiveBits => 0b00,
@@ -125,6 +129,7 @@ impl Parity {
     /// ```
     ///
     /// </details>
+    #[must_use]
     pub const fn from_raw_bits(bits: u8) -> Self {
         match bits & 0b111 {
             0b001 => Parity::Odd,
@@ -152,6 +157,7 @@ impl Parity {
     /// ```
     ///
     /// </details>
+    #[must_use]
     pub const fn to_raw_bits(self) -> u8 {
         match self {
             Parity::Disabled => 0b000,

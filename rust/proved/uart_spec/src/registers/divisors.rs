@@ -207,6 +207,7 @@ impl Divisor {
     /// ```
     ///
     /// </details>
+    #[must_use]
     pub fn number(self) -> u16 {
         self.discriminant()
     }

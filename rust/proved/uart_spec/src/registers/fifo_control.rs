@@ -27,6 +27,7 @@ impl FCR {
     /// ```
     ///
     /// </details>
+    #[must_use]
     pub const fn set_fifo_trigger_level(self, level: FifoTriggerLevel) -> Self {
         FCR((self.0 & 0b0011_1111) | (level.to_raw_bits() << 6))
     }
@@ -46,6 +47,7 @@ impl FCR {
     /// ```
     ///
     /// </details>
+    #[must_use]
     pub const fn fifo_trigger_level(self) -> FifoTriggerLevel {
         FifoTriggerLevel::from_raw_bits(self.0 >> 6)
     }

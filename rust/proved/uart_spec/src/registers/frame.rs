@@ -34,6 +34,7 @@ impl WordLength {
     /// ```
     ///
     /// </details>
+    #[must_use]
     pub const fn from_integer(bits: u8) -> Self {
         match bits {
             5 => WordLength::FiveBits,
@@ -58,6 +59,7 @@ impl WordLength {
     /// ```
     ///
     /// </details>
+    #[must_use]
     pub const fn to_integer(self) -> u32 {
         match self {
             WordLength::FiveBits => 5,

@@ -26,6 +26,7 @@ impl ISR {
     /// ```
     ///
     /// </details>
+    #[must_use]
     pub const fn interrupt_type(self) -> Option<InterruptType> {
         InterruptType::from_bits(self.0)
     }
@@ -46,6 +47,7 @@ impl ISR {
     /// ```
     ///
     /// </details>
+    #[must_use]
     pub const fn has_pending_interrupt(self) -> bool {
         !self.contains(ISR::INTERRUPT_STATUS)
     }
@@ -65,6 +67,7 @@ impl ISR {
     /// ```
     ///
     /// </details>
+    #[must_use]
     pub const fn fifo_enabled(self) -> bool {
         self.contains(ISR::FIFOS_ENABLED)
     }

@@ -38,6 +38,7 @@ impl InterruptType {
     /// ```
     ///
     /// </details>
+    #[must_use]
     pub const fn priority(self) -> u8 {
         match self {
             InterruptType::ReceiverLineStatus => 1,
@@ -67,6 +68,7 @@ impl InterruptType {
     /// ```
     ///
     /// </details>
+    #[must_use]
     pub const fn from_bits(isr_bits: u8) -> Option<Self> {
         match isr_bits & 0b1111 {
             0b0110 => Some(InterruptType::ReceiverLineStatus),
@@ -98,6 +100,7 @@ impl InterruptType {
     /// ```
     ///
     /// </details>
+    #[must_use]
     pub const fn to_bits(self) -> u8 {
         match self {
             InterruptType::ReceiverLineStatus => 0b0110,

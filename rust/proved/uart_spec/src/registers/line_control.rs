@@ -23,6 +23,7 @@ impl LCR {
     /// ```
     ///
     /// </details>
+    #[must_use]
     pub const fn word_length(self) -> WordLength {
         WordLength::from_raw_bits(self.0)
     }
@@ -47,6 +48,7 @@ impl LCR {
     /// ```
     ///
     /// </details>
+    #[must_use]
     pub const fn set_word_length(self, length: WordLength) -> Self {
         LCR((self.0 & 0b1111_1100) | length.to_raw_bits())
     }
@@ -66,6 +68,7 @@ impl LCR {
     /// ```
     ///
     /// </details>
+    #[must_use]
     pub const fn parity(self) -> Parity {
         Parity::from_raw_bits(self.0 >> 3)
     }
@@ -90,6 +93,7 @@ impl LCR {
     /// ```
     ///
     /// </details>
+    #[must_use]
     pub const fn set_parity(self, parity: Parity) -> Self {
         LCR((self.0 & 0b1100_0111) | (parity.to_raw_bits() << 3))
     }

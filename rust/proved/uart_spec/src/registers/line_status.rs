@@ -22,6 +22,7 @@ impl LSR {
     /// ```
     ///
     /// </details>
+    #[must_use]
     pub const fn has_error(self) -> bool {
         self.0 & LSR::ERRORS.0 != 0
     }

@@ -30,6 +30,7 @@ impl MSR {
     /// ```
     ///
     /// </details>
+    #[must_use]
     pub fn changes_since(self, before: MSR) -> MSR {
         let cts = flag(self.is_changed(before, MSR::CTS), MSR::DELTA_CTS);
         let dsr = flag(self.is_changed(before, MSR::DSR), MSR::DELTA_DSR);

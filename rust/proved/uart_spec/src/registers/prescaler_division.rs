@@ -20,6 +20,7 @@ impl PSD {
     /// ```
     ///
     /// </details>
+    #[must_use]
     pub const fn pdf(self) -> u8 {
         self.0 & 0b0000_1111
     }
@@ -51,6 +52,7 @@ impl PSD {
     /// ```
     ///
     /// </details>
+    #[must_use]
     pub const fn set_pdf(self, pdf: u8) -> Self {
         assert!(pdf <= 15, "a prescaler division factor above 15");
         PSD((self.0 & 0b1111_0000) | pdf)

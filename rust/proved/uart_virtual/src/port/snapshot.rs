@@ -71,6 +71,7 @@ impl VirtualPortWith<FIFO_SIZE> {
     /// ```
     ///
     /// </details>
+    #[must_use]
     pub fn data(&self) -> ChipData {
         self.chip.data()
     }
