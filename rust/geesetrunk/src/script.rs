@@ -12,7 +12,7 @@ use crate::rings::play_rings;
 use crate::streams::{Output, bytes_of, print, standard_output};
 use crate::table::write_table;
 use crate::terminal::Style;
-use crate::text::file_name;
+use crate::text::{counted, file_name};
 use crate::trace::{write_ring_trace, write_trace};
 use std::fs::File;
 use std::io::{self, Write};
@@ -60,7 +60,8 @@ fn name_of(chip: ChipKind) -> String {
 /// chip of its script.
 pub fn title(file: &str, script: &Script) -> String {
     let (name, chip) = (file_name(file), name_of(kind_of(script)));
-    format!("{name}: {chip}, {} ticks a character", script.ticks())
+    let ticks = counted(script.ticks().into(), "tick");
+    format!("{name}: {chip}, {ticks} a character")
 }
 
 // Returns how the program ends if a script that is accepted is not played to its end. If the output
