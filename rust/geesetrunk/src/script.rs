@@ -5,7 +5,7 @@ use crate::excerpt::Form;
 use crate::fault::Explanation;
 use crate::heap;
 use crate::history::History;
-use crate::page::{ONLY_SIXTEEN, page_of_run};
+use crate::page::page_of_run;
 use crate::picture::picture;
 use crate::ring_language::{AnyScript, parse};
 use crate::rings::play_rings;
@@ -47,8 +47,8 @@ pub fn kind_of(script: &Script) -> ChipKind {
     }
 }
 
-// Returns the name of a chip, with the size of its FIFOs if they are larger than those of its model.
-fn name_of(chip: ChipKind) -> String {
+/// Returns the name of a chip, with the size of its FIFOs if they are larger than those of its model.
+pub fn name_of(chip: ChipKind) -> String {
     match (chip.model, chip.size) {
         (Chip::Uart16450, _) => "16450".into(),
         (Chip::Uart16550A, FifoSize::Sixteen) => "16550A".into(),
@@ -111,10 +111,6 @@ fn write_output(
             }
             AnyScript::Rings(_) => write_ring_trace(script, text, &history(), out),
         },
-        Task::Page if script.plain().fifo_size() != FifoSize::Sixteen => {
-            let others = "take the picture, or --text";
-            Err(End::failed(format!("{file}: {ONLY_SIXTEEN}: {others}")))
-        }
         Task::Page => {
             let page = page_of_run(file_name(file), text);
             out.write_all(page.as_bytes()).map_err(End::unwritten)
